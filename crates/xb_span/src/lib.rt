@@ -1,0 +1,12 @@
+//! Places in a text, and the refusals that name them.
+//!
+//! Every reader and checker of the compiler answers one of these.
+#![tactic(auto)]
+
+mod limit;
+mod read_error;
+mod span;
+
+pub use limit::{Limit, What};
+pub use read_error::ReadError;
+pub use span::{Rule, Span};

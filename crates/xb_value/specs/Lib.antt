@@ -1,0 +1,3 @@
+pub mod Flat
+pub mod Typing
+pub mod Width

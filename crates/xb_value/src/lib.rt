@@ -1,0 +1,12 @@
+//! Types, values, their flat words and their texts.
+//!
+//! A type or a value is a plain tree to contracts: no capacity and no pointer shows in an equation.
+#![tactic(auto)]
+
+mod ty;
+mod value;
+
+/// A `Box` that contracts see as its value, a `Vec` that they see as its list, and a look-up in one.
+pub use sqlite_items::{Boxed, Items as Seq, at};
+pub use ty::Ty;
+pub use value::Value;
