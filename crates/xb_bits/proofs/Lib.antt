@@ -1,1 +1,3 @@
-pub mod Masks
+pub mod Joins
+pub mod Modulus
+pub mod PlaceLemmas

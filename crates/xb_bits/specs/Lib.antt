@@ -1,2 +1,9 @@
 pub mod Arithmetic
+pub mod Operations
+pub mod Order
+pub mod Parts
+pub mod Places
+pub mod Reduction
+pub mod Shift
+pub mod Sign
 pub mod Word
