@@ -1,0 +1,5 @@
+pub mod Contents
+pub mod Counts
+pub mod LoadError
+pub mod MemFile
+pub mod Written

@@ -1,0 +1,77 @@
+ghost use Rattle.std.specs.Prelude.{◌≡◌, ℕ, ◌+◌, ◌<◌, ◌≤◌, List, Option, Some, None, IfOk, IfErr, IfSome, IsSomeAnd, vec_len, length};
+ghost use Rattle.xb_io.specs.Counts.{HasRisen, HasRisenBy};
+ghost use Rattle.xb_io.specs.Contents.{Contents};
+ghost use Rattle.xb_io.specs.LoadError.{IfFailed, IfTooBig};
+
+use std::alloc::{AllocError, AllocFailed, Global};
+use std::error::Error;
+use std::fmt;
+
+/// The most bytes that a file may have.
+pub const FILE_LIMIT: usize = 4_194_304;
+
+/// Why a file was not loaded.
+#[derive(Clone, Copy, Debug, PartialEq, Eq)]
+pub enum LoadError {
+    OutOfMemory,
+    /// The file has more bytes than [`FILE_LIMIT`]. The number is that limit plus one: no more are counted.
+    TooBig(u64),
+    /// A fault of the outside: there is no such file, or it can't be read.
+    Failed,
+}
+
+impl fmt::Display for LoadError {
+    fn fmt<W: fmt::Write>(&self, f: &mut fmt::Formatter<W>) -> fmt::Result {
+        match self {
+            LoadError::OutOfMemory => write!(f, "out of memory"),
+            LoadError::TooBig(found) => write!(f, "a file of {found} bytes or more"),
+            LoadError::Failed => write!(f, "cannot read"),
+        }
+    }
+}
+
+impl Error for LoadError {}
+
+impl From<AllocError> for LoadError {
+    ghost use Rattle.xb_io.specs.declared.load.LoadError.TheVariants.{OutOfMemory};
+
+    ghost from_gives = { λ _ e. e ≡ OutOfMemory };
+
+    fn from(_error: AllocError) -> LoadError {
+        LoadError::OutOfMemory
+    }
+}
+
+/// Files by name.
+///
+/// The contract has three members for proofs alone: what the files hold, where that is told, and two
+/// counts, of faults and of bytes taken. A count never falls, and one that has reached `u64::MAX`
+/// stands still and counts as risen ever after.
+pub trait Files {
+    // What each name holds, where this is told. It never changes.
+    ghost told: { Self → Option Contents };
+
+    // The faults so far.
+    ghost faults: { Self → ℕ };
+
+    // The bytes taken so far.
+    ghost taken: { Self → ℕ };
+
+    /// The bytes of the file of that name, [`FILE_LIMIT`] at most.
+    fn load(&mut self, alloc: Global, name: &str) -> Result<Vec<u8>, LoadError>
+        ensures told_stays { told self.new ≡ told self.old }
+        ensures faults_never_fall { faults self.old ≤ faults self.new }
+        ensures taken_never_falls { taken self.old ≤ taken self.new }
+
+        ensures ok_within_limit { IfOk result (λ bytes. vec_len bytes ≤ FILE_LIMIT) }
+        ensures ok_as_told { IfOk result (λ bytes. IfSome (told self.old) (λ holds. holds name.now ≡ Some bytes.items)) }
+
+        // A load fails only by a fault, and a name without a file is one.
+        ensures failed { IfErr result (λ e. IfFailed e (HasRisen (faults self.old) (faults self.new))) }
+
+        // A file is too big only where it is past the limit.
+        ensures too_big { IfErr result (λ e. IfTooBig e (λ found. found ≡ FILE_LIMIT + 1)) }
+        ensures too_big_taken { IfErr result (λ e. IfTooBig e (λ _. HasRisenBy (FILE_LIMIT + 1) (taken self.old) (taken self.new))) }
+        ensures too_big_as_told { IfErr result (λ e. IfTooBig e (λ _.
+            IfSome (told self.old) (λ holds. IsSomeAnd (holds name.now) (λ bytes. FILE_LIMIT < length bytes)))) };
+}

@@ -1,0 +1,61 @@
+ghost use Rattle.std.specs.Prelude.{◌≡◌, ℕ, ◌+◌, ◌≤◌, [], ◌++◌, Some, IfOk, length, vec_len, vec_capacity};
+ghost use Rattle.xb_io.specs.Counts.{HasRisen};
+ghost use Rattle.xb_io.specs.Written.{Appends, AppendsFront};
+
+use crate::put::{Failed, Sink};
+use std::alloc::{AllocError, Global};
+
+/// A sink in memory, with a list of the calls of `put`, counted from 0, that are to fail. Its room is
+/// taken when it is made: a put past it fills it and is a fault. A call that is to fail takes nothing.
+#[derive(Drop)]
+pub struct MemSink {
+    bytes: Vec<u8>,
+    room: usize,
+    failing: Vec<u64>,
+    calls: u64,
+    faults: u64,
+    ghost within_room: { vec_len bytes ≤ room },
+    ghost has_room: { room ≤ vec_capacity bytes },
+}
+
+impl MemSink {
+    pub fn new(alloc: Global, room: usize, failing: Vec<u64>) -> Result<MemSink, AllocError>
+        ensures written { IfOk result (λ sink. ⟦<MemSink as Sink>⟧.written sink ≡ Some []) }
+        ensures faults { IfOk result (λ sink. ⟦<MemSink as Sink>⟧.faults sink ≡ 0) }
+    {
+        Ok(MemSink {
+            bytes: Vec::with_capacity(alloc, room)?,
+            room,
+            failing,
+            calls: 0,
+            faults: 0,
+        })
+    }
+
+    /// What was written so far.
+    pub fn bytes(&self) -> &[u8]
+        ensures { ⟦<MemSink as Sink>⟧.written self.now ≡ Some result.now }
+    {
+        &self.bytes
+    }
+}
+
+impl Sink for MemSink {
+    ghost written = { λ it. Some it.bytes.items };
+
+    ghost faults = { λ it. it.faults };
+
+    fn put(&mut self, piece: &[u8]) -> Result<(), Failed> {
+        let call = self.calls;
+        self.calls = call.saturating_add(1);
+        let fails = self.failing.contains(&call);
+        let free = self.room - self.bytes.len();
+        let front = if fails { 0 } else { piece.len().min(free) };
+        self.bytes.extend_from_slice(&piece[..front]).unwrap();
+        if front == piece.len() && !fails {
+            return Ok(());
+        }
+        self.faults = self.faults.saturating_add(1);
+        Err(Failed)
+    }
+}
