@@ -1,0 +1,414 @@
+ghost use Rattle.std.specs.Prelude.{None};
+
+use crate::xls_main;
+use std::alloc::Global;
+use std::process::Abort;
+use std::sync::Wait;
+use std::test::Fail;
+use std::thread::Threads;
+use xb_io::{FILE_LIMIT, Files, LoadError, MemFile, MemFiles, MemSink, OpenGate};
+
+const INC: &str = "proc Inc { a: chan<u8> in; b: chan<u8> out;
+  config(a: chan<u8> in, b: chan<u8> out) { (a, b) }
+  init { () }
+  next(s: ()) { let (t, x) = recv(join(), a); send(t, b, x + u8:1); } }
+";
+
+const WORDS: &str = "run inc.x in.txt --activations 5";
+
+/// What a call answered, and what it wrote.
+#[derive(Drop)]
+struct Answer {
+    status: u8,
+    out: MemSink,
+    err: MemSink,
+}
+
+/// The words, split at spaces.
+fn words_of(alloc: Global, words: &str) -> Result<Vec<String>, Fail> {
+    let mut all = Vec::new(alloc);
+    for word in words.split_whitespace() {
+        all.push(String::from_str(alloc, word)?)?;
+    }
+    Ok(all)
+}
+
+fn call<R: Threads + Wait + Sync + AllocGlobal, F: Files>(
+    rt: &R,
+    words: &str,
+    files: &mut F,
+    out_room: usize,
+    err_room: usize,
+) -> Result<Answer, Fail> {
+    let alloc = rt.alloc();
+    let words = words_of(alloc, words)?;
+    let mut out = MemSink::new(alloc, out_room, Vec::new(alloc))?;
+    let mut err = MemSink::new(alloc, err_room, Vec::new(alloc))?;
+    let status = xls_main(rt, alloc, &words, files, &mut out, &mut err, &OpenGate);
+    Ok(Answer { status, out, err })
+}
+
+/// A call over these two files, with room for all that is written.
+fn run<R: Threads + Wait + Sync + AllocGlobal>(
+    rt: &R,
+    words: &str,
+    design: &str,
+    inputs: &str,
+) -> Result<Answer, Fail> {
+    let alloc = rt.alloc();
+    let design = MemFile::new(alloc, "inc.x", design.as_bytes())?;
+    let inputs = MemFile::new(alloc, "in.txt", inputs.as_bytes())?;
+    let mut files = MemFiles::new(vec![in alloc; design, inputs]?, Vec::new(alloc));
+    call(rt, words, &mut files, 1000, 1000)
+}
+
+fn expect(
+    rt: &impl Abort,
+    answer: &Answer,
+    status: u8,
+    out: &str,
+    err: &str,
+    what: &str,
+) -> Result<(), Fail> {
+    assert_eq!(rt; str::from_utf8(answer.err.bytes())?, err, "{what}");
+    assert_eq!(rt; str::from_utf8(answer.out.bytes())?, out, "{what}");
+    assert_eq!(rt; answer.status, status, "{what}");
+    Ok(())
+}
+
+#[test]
+fn runs_write_the_outcome(rt: HostRuntime) -> Result<(), Fail> {
+    for (words, inputs, out) in [
+        (
+            "run inc.x in.txt --activations 5",
+            "chan a\n0x00\n0xff\n",
+            "in a 2: 0x00 0xff\nout b 2: 0x01 0x00\nproc Inc state () stalled 2 recv a\n",
+        ),
+        (
+            "run inc.x in.txt --activations 5",
+            "",
+            "in a 0:\nout b 0:\nproc Inc state () stalled 0 recv a\n",
+        ),
+        (
+            "run inc.x in.txt --activations 1",
+            "chan a\n0xF\n0x7\n0x8",
+            "in a 1: 0x0f\nout b 1: 0x10\nproc Inc state () done\n",
+        ),
+        (
+            "run inc.x in.txt --activations 1048576",
+            "chan a\n",
+            "in a 0:\nout b 0:\nproc Inc state () stalled 0 recv a\n",
+        ),
+    ] {
+        expect(&rt, &run(&rt, words, INC, inputs)?, 0, out, "", inputs)?;
+    }
+    Ok(())
+}
+
+#[test]
+fn names_and_the_constant_are_free(rt: HostRuntime) -> Result<(), Fail> {
+    let design = "// a comment, é\nproc u129{left:chan<u8>in;right:chan<u8>out;}";
+    expect(
+        &rt,
+        &run(&rt, WORDS, design, "")?,
+        6,
+        "",
+        "inc.x: syntax at 0\n",
+        "cut short",
+    )?;
+    let design =
+        "// a comment, é\nproc u129{left:chan<u8>in;r1:chan<u8>out;config(left:chan<u8>in,r1:chan<u8>out)
+\t{(left,r1)}init{()}next(_1:()){let(tok,word)=recv(join(),left);// another
+send(tok,r1,word+u8:00255);}}//";
+    let out = "in left 2: 0x00 0xff\nout r1 2: 0xff 0xfe\nproc u129 state () done\n";
+    let words = "run inc.x in.txt --activations 2";
+    expect(
+        &rt,
+        &run(&rt, words, design, "chan left\n0x00\n0xff\n0x10")?,
+        0,
+        out,
+        "",
+        "other names",
+    )
+}
+
+#[test]
+fn other_designs_are_refused(rt: HostRuntime) -> Result<(), Fail> {
+    for (old, new) in [
+        ("Inc", "a"),
+        ("Inc", "proc"),
+        ("Inc", "u8"),
+        ("Inc", "s128"),
+        ("Inc", "clz"),
+        ("Inc", "_"),
+        ("u8:1", "u8:256"),
+        ("u8:1", "u8:0x1"),
+        ("u8:1", "u8:1_0"),
+        ("u8:1", "u8:1u"),
+        ("u8:1", "u8:"),
+        ("x + u8", "x - u8"),
+        ("x + u8", "x ++ u8"),
+        ("x + u8", "y + u8"),
+        ("(a, b)", "(b, a)"),
+        ("(a, b)", "(a, b,)"),
+        ("s: ()", "s:: ()"),
+        ("; } }", "; } } proc"),
+        ("; } }", "; }"),
+        ("; } }", "; } } é"),
+        ("in;", "out;"),
+        ("// ", "/ "),
+    ] {
+        let mut design = String::from_str(rt.alloc(), "// \n")?;
+        let (front, back) = INC.split_once(old).unwrap_or((INC, ""));
+        design.push_str(front)?;
+        design.push_str(new)?;
+        design.push_str(back)?;
+        expect(
+            &rt,
+            &run(&rt, WORDS, design.as_str(), "")?,
+            6,
+            "",
+            "inc.x: syntax at 0\n",
+            new,
+        )?;
+    }
+    Ok(())
+}
+
+#[test]
+fn a_design_that_is_no_text_is_refused(rt: HostRuntime) -> Result<(), Fail> {
+    let alloc = rt.alloc();
+    let mut bytes = Vec::from_slice(alloc, INC.as_bytes())?;
+    bytes.extend_from_slice(b"// \xff\n")?;
+    let design = MemFile::new(alloc, "inc.x", &bytes)?;
+    let inputs = MemFile::new(alloc, "in.txt", b"")?;
+    let mut files = MemFiles::new(vec![in alloc; design, inputs]?, Vec::new(alloc));
+    let answer = call(&rt, WORDS, &mut files, 1000, 1000)?;
+    expect(&rt, &answer, 6, "", "inc.x: syntax at 0\n", "not UTF-8")
+}
+
+#[test]
+fn other_channel_files_are_refused(rt: HostRuntime) -> Result<(), Fail> {
+    for inputs in [
+        "chan b\n",
+        "chan a\n0x100\n",
+        "chan a\n0x\n",
+        "chan a\n0xg0\n",
+        "chan a\n00\n",
+        "chan a\n\n0x00\n",
+        "chan a\r\n",
+        "chan  a\n",
+        "chan a \n",
+        "# a comment\nchan a\n",
+        "\n",
+        "0x00\n",
+        "chan a\nchan a\n",
+        "chan a\n0x00 \n",
+    ] {
+        expect(
+            &rt,
+            &run(&rt, WORDS, INC, inputs)?,
+            10,
+            "",
+            "in.txt: input syntax at 0\n",
+            inputs,
+        )?;
+    }
+    Ok(())
+}
+
+#[test]
+fn other_words_are_refused(rt: HostRuntime) -> Result<(), Fail> {
+    let usage = "usage: xls check, ir, opt, schedule, verilog, run, sim or gen\n";
+    for words in [
+        "",
+        "run",
+        "run inc.x",
+        "run inc.x in.txt",
+        "run inc.x in.txt --activations",
+        "run inc.x in.txt --activations 0",
+        "run inc.x in.txt --activations 05",
+        "run inc.x in.txt --activations +5",
+        "run inc.x in.txt --activations 5x",
+        "run inc.x in.txt --activations 1048577",
+        "run inc.x in.txt --activations 99999999999999999999",
+        "run inc.x in.txt --activations 5 5",
+        "run inc.x in.txt -activations 5",
+        "run -x in.txt --activations 5",
+        "run inc.x -n --activations 5",
+        "check inc.x in.txt --activations 5",
+        "--help",
+    ] {
+        expect(&rt, &run(&rt, words, INC, "")?, 2, "", usage, words)?;
+    }
+    Ok(())
+}
+
+#[test]
+fn files_that_cannot_be_loaded_are_named(rt: HostRuntime) -> Result<(), Fail> {
+    let alloc = rt.alloc();
+    for (failing, err) in [(0, "cannot read inc.x\n"), (1, "cannot read in.txt\n")] {
+        let design = MemFile::new(alloc, "inc.x", INC.as_bytes())?;
+        let inputs = MemFile::new(alloc, "in.txt", b"")?;
+        let mut files = MemFiles::new(vec![in alloc; design, inputs]?, vec![in alloc; failing]?);
+        expect(
+            &rt,
+            &call(&rt, WORDS, &mut files, 1000, 1000)?,
+            4,
+            "",
+            err,
+            "a call that fails",
+        )?;
+    }
+    let words = "run other.x in.txt --activations 5";
+    expect(
+        &rt,
+        &run(&rt, words, INC, "")?,
+        4,
+        "",
+        "cannot read other.x\n",
+        "no such file",
+    )
+}
+
+#[test]
+fn files_past_the_limit_are_named(rt: HostRuntime) -> Result<(), Fail> {
+    let alloc = rt.alloc();
+    let line = "inc.x: limit file: 4194305, at most 4194304\n";
+    let big = vec![in alloc; b' '; FILE_LIMIT + 1]?;
+    let design = MemFile::new(alloc, "inc.x", &big)?;
+    let mut files = MemFiles::new(vec![in alloc; design]?, Vec::new(alloc));
+    let answer = call(&rt, WORDS, &mut files, 1000, 1000)?;
+    expect(
+        &rt,
+        &answer,
+        8,
+        "",
+        line,
+        "before the other file, which isn't there",
+    )
+}
+
+#[test]
+fn a_sink_that_fails_keeps_a_front(rt: HostRuntime) -> Result<(), Fail> {
+    let alloc = rt.alloc();
+    let design = MemFile::new(alloc, "inc.x", INC.as_bytes())?;
+    let inputs = MemFile::new(alloc, "in.txt", b"chan a\n0x00\n0xff\n")?;
+    let mut files = MemFiles::new(vec![in alloc; design, inputs]?, Vec::new(alloc));
+    let answer = call(&rt, WORDS, &mut files, 3, 1000)?;
+    expect(
+        &rt,
+        &answer,
+        5,
+        "in ",
+        "cannot write\n",
+        "room for three bytes",
+    )?;
+    let answer = call(&rt, WORDS, &mut files, 3, 2)?;
+    expect(
+        &rt,
+        &answer,
+        5,
+        "in ",
+        "ca",
+        "an error stream that fails changes nothing",
+    )?;
+    let answer = call(&rt, "", &mut files, 3, 0)?;
+    expect(
+        &rt,
+        &answer,
+        2,
+        "",
+        "",
+        "an error stream without room changes nothing",
+    )
+}
+
+/// Files that want of memory keeps from being loaded.
+#[derive(Drop)]
+struct NoMemory;
+
+impl Files for NoMemory {
+    ghost told = { λ _. None };
+
+    ghost faults = { λ _. 0 };
+
+    ghost taken = { λ _. 0 };
+
+    fn load(&mut self, _alloc: Global, _name: &str) -> Result<Vec<u8>, LoadError> {
+        Err(LoadError::OutOfMemory)
+    }
+}
+
+#[test]
+fn want_of_memory_has_its_status(rt: HostRuntime) -> Result<(), Fail> {
+    let answer = call(&rt, WORDS, &mut NoMemory, 1000, 1000)?;
+    expect(
+        &rt,
+        &answer,
+        3,
+        "",
+        "out of memory\n",
+        "a load without memory",
+    )
+}
+
+#[test]
+fn the_earlier_check_refuses(rt: HostRuntime) -> Result<(), Fail> {
+    let alloc = rt.alloc();
+    // Wrong words, before a file that isn't there.
+    let usage = "usage: xls check, ir, opt, schedule, verilog, run, sim or gen\n";
+    expect(
+        &rt,
+        &run(&rt, "run other.x", INC, "")?,
+        2,
+        "",
+        usage,
+        "words, file",
+    )?;
+    // The second file isn't there, before a design of no form.
+    let words = "run inc.x other.txt --activations 5";
+    expect(
+        &rt,
+        &run(&rt, words, "proc", "")?,
+        4,
+        "",
+        "cannot read other.txt\n",
+        "file, design",
+    )?;
+    // The second file is past the limit, before a design of no form.
+    let design = MemFile::new(alloc, "inc.x", b"proc")?;
+    let inputs = MemFile::new(alloc, "in.txt", &vec![in alloc; b' '; FILE_LIMIT + 1]?)?;
+    let mut files = MemFiles::new(vec![in alloc; design, inputs]?, Vec::new(alloc));
+    let line = "in.txt: limit file: 4194305, at most 4194304\n";
+    expect(
+        &rt,
+        &call(&rt, WORDS, &mut files, 1000, 1000)?,
+        8,
+        "",
+        line,
+        "limit, design",
+    )?;
+    // A design of no form, before a channel file of no form.
+    expect(
+        &rt,
+        &run(&rt, WORDS, "proc", "chan b")?,
+        6,
+        "",
+        "inc.x: syntax at 0\n",
+        "design, inputs",
+    )?;
+    // A channel file of no form, before a sink that fails.
+    let design = MemFile::new(alloc, "inc.x", INC.as_bytes())?;
+    let inputs = MemFile::new(alloc, "in.txt", b"chan b")?;
+    let mut files = MemFiles::new(vec![in alloc; design, inputs]?, Vec::new(alloc));
+    let line = "in.txt: input syntax at 0\n";
+    expect(
+        &rt,
+        &call(&rt, WORDS, &mut files, 0, 1000)?,
+        10,
+        "",
+        line,
+        "inputs, sink",
+    )
+}
