@@ -3,7 +3,7 @@
 
 ghost use Rattle.std.specs.Prelude.{◌≡◌, ℕ, ◌*◌, ◌≤◌, ◌++◌, List, length};
 ghost use Rattle.grammar.specs.Syntax.{Rule, Syntax, syntax_of};
-ghost use Rattle.grammar.specs.Derivation.{Derives, IsAlternative, IsDerivation, IsFirstFault, IsRule};
+ghost use Rattle.grammar.specs.Derivation.{Derives, IsAlternative, IsBeginning, IsDerivation, IsFirstFault, IsRule};
 ghost use Rattle.grammar.specs.Ll1.{IsLl1};
 ghost use Rattle.grammar.specs.Tree.{Forest, Grows, IsParseTree, productions_of, tokens_of};
 ghost use Rattle.grammar.specs.declared.table.Symbol.{Symbol};
@@ -15,6 +15,13 @@ pub fn one_derivation(grammar: &Grammar)
     requires { IsLl1 grammar.now }
     ensures { (ps qs ts : List ℕ) → IsDerivation (syntax_of grammar.now) ps ts
         → IsDerivation (syntax_of grammar.now) qs ts → ps ≡ qs }
+{}
+
+/// One list of productions leads to a front.
+pub fn one_beginning(grammar: &Grammar)
+    requires { IsLl1 grammar.now }
+    ensures { (ps qs ts : List ℕ) → IsBeginning (syntax_of grammar.now) ps ts
+        → IsBeginning (syntax_of grammar.now) qs ts → ps ≡ qs }
 {}
 
 /// A derivation has at most 32 productions for each token.

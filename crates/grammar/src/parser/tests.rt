@@ -145,8 +145,9 @@ fn derivations(rt: HostRuntime) -> Result<(), Fail> {
 
 #[test]
 fn faults(rt: HostRuntime) -> Result<(), Fail> {
-    // `(a, ())` with one token that can't stand there, at each place in turn: with the productions
-    // that lead to the tokens before it
+    // `(a, ())` with one token that can't stand there, at each place in turn: the place, and how many
+    // productions lead to the tokens before it
+    let derivation = [0, 1, 5, 3, 1, 6, 0, 2, 4];
     let cases = [
         ([NAME, NAME, COMMA, OPEN, CLOSE, CLOSE, END], 0, 0),
         ([OPEN, COMMA, COMMA, OPEN, CLOSE, CLOSE, END], 1, 1),
@@ -154,23 +155,31 @@ fn faults(rt: HostRuntime) -> Result<(), Fail> {
         ([OPEN, NAME, COMMA, COMMA, CLOSE, CLOSE, END], 3, 4),
         ([OPEN, NAME, COMMA, OPEN, COMMA, CLOSE, END], 4, 7),
         ([OPEN, NAME, COMMA, OPEN, CLOSE, OPEN, END], 5, 8),
-        // the end mark too late, and too early
-        ([OPEN, CLOSE, CLOSE, CLOSE, CLOSE, CLOSE, END], 2, 2),
+        ([OPEN, NAME, COMMA, OPEN, CLOSE, CLOSE, NAME], 6, 9),
+        // the end mark too early
         ([OPEN, NAME, COMMA, OPEN, CLOSE, END, END], 5, 8),
-        ([OPEN, CLOSE, END, END, END, END, END], 3, 2),
         ([END, OPEN, CLOSE, END, END, END, END], 0, 0),
         // a kind that the grammar doesn't have
         ([OPEN, NAME, COMMA, OPEN, CLOSE, 200, END], 5, 8),
     ];
-    let derivation = [0, 1, 5, 3, 1, 6, 0, 2];
-    for (kinds, place, length) in cases {
-        let (at, productions) = outcome(rt.alloc(), &kinds)?;
+    for (kinds, place, count) in cases {
+        assert!(rt; count <= derivation.len());
+        let mut ended = kinds.to_vec(rt.alloc())?;
+        ended.push(END)?;
+        let (at, productions) = outcome(rt.alloc(), &ended)?;
         assert_eq!(rt; at, place);
-        if place > 2 && length > 2 {
-            assert_eq!(rt; productions.as_slice(), &derivation[..length]);
-        }
-        assert_eq!(rt; productions.len(), length);
+        assert_eq!(rt; productions.as_slice(), &derivation[..count]);
     }
+
+    // the end mark too late: behind a whole text, and behind another mark
+    for kinds in [[OPEN, CLOSE, CLOSE, END], [OPEN, CLOSE, NAME, END]] {
+        let (at, productions) = outcome(rt.alloc(), &kinds)?;
+        assert_eq!(rt; at, 2);
+        assert_eq!(rt; productions.as_slice(), [0, 2].as_slice());
+    }
+    let (at, productions) = outcome(rt.alloc(), &[OPEN, CLOSE, END, END])?;
+    assert_eq!(rt; at, 3);
+    assert_eq!(rt; productions.as_slice(), [0, 2].as_slice());
     Ok(())
 }
 
