@@ -1,7 +1,7 @@
 #!/usr/bin/env python3
 """Writes the tables of a grammar from its text, for a crate over the crate `grammar`.
 
-usage: grammar_tables.py GRAMMAR FOLDER [--check]
+usage: grammar_tables.py GRAMMAR FOLDER [--kinds WHOLE] [--check]
 
 GRAMMAR has a line `name = symbols | symbols | ..` for each nonterminal, the start first. An alternative with no
 symbols derives nothing, `#` starts a comment, and an indented line goes on with the one above it. A symbol with no
@@ -9,9 +9,10 @@ line of its own is a kind of token. In FOLDER, the sources of a crate, it writes
 `production.rt`, which name the numbers, and `tables.rt`. With --check nothing is written, and the exit status says
 whether these files are what would be written.
 
-The kinds are numbered in the order of their names, with the mark at the end of each text, END, behind them. The
-nonterminals and the productions are numbered in the order of the text. Conflicts are reported, and fail. Nothing
-rests on this script: the prover tests the tables.
+The kinds are numbered in the order of their names, with the mark at the end of each text, END, behind them. With
+--kinds they have the numbers of another grammar, WHOLE, and `kind.rt` is not written: the module of the tables then
+brings in that grammar's `kind`. The nonterminals and the productions are numbered in the order of the text. Conflicts
+are reported, and fail. Nothing rests on this script: the prover tests the tables.
 """
 import os
 import sys
@@ -32,11 +33,13 @@ def read(path):
 
 
 class Grammar:
-    def __init__(self, productions):
+    def __init__(self, productions, kinds=None):
         self.productions = productions
         self.nonterminals = list(dict.fromkeys(head for head, _ in productions))
         names = {symbol for _, body in productions for symbol in body}
-        self.kinds = sorted(names - set(self.nonterminals)) + ['END']
+        self.kinds = kinds or sorted(names - set(self.nonterminals)) + ['END']
+        unknown = names - set(self.nonterminals) - set(self.kinds)
+        assert not unknown, 'neither nonterminals nor kinds: ' + ' '.join(sorted(unknown))
         self.nullable = set()
         self.first = {n: set() for n in self.nonterminals}
         self.follow = {n: set() for n in self.nonterminals}
@@ -113,7 +116,7 @@ def tables(grammar, source):
     bit = {name: i for i, name in enumerate(grammar.kinds)}
     heads = [head for head, _ in grammar.productions]
     out = ['//! The tables of the grammar in `%s`, written by `tools/grammar_tables.py`.' % source, '',
-           'use crate::{kind, nonterminal};', 'use grammar::Symbol::{Nonterminal, Terminal};',
+           'use super::{kind, nonterminal};', 'use grammar::Symbol::{Nonterminal, Terminal};',
            'use grammar::{Production, Span, Symbol};', '',
            '/// The bodies of the productions, one behind the other.',
            'pub static SYMBOLS: [Symbol; %d] = [' % sum(len(body) for _, body in grammar.productions)]
@@ -144,11 +147,12 @@ def tables(grammar, source):
     return '\n'.join(out + ['];', ''])
 
 
-def files(grammar, source):
+def files(grammar, source, own_kinds):
     names = production_names(grammar)
     rules = ['`%s = %s`' % (head, shown(body)) for head, body in grammar.productions]
+    kinds = constants('The kinds of token', 'u8', [(name, None) for name in grammar.kinds])
     return {
-        'kind.rt': constants('The kinds of token', 'u8', [(name, None) for name in grammar.kinds]),
+        **({'kind.rt': kinds} if own_kinds else {}),
         'nonterminal.rt': constants('The nonterminals', 'u8', [(name.upper(), None) for name in grammar.nonterminals]),
         'production.rt': constants('The productions', 'u16', list(zip(names, rules))),
         'tables.rt': tables(grammar, source),
@@ -156,13 +160,20 @@ def files(grammar, source):
 
 
 def main():
-    check = '--check' in sys.argv
-    source, folder = [word for word in sys.argv[1:] if word != '--check']
-    grammar = Grammar(read(source))
+    words = sys.argv[1:]
+    check = '--check' in words
+    words = [word for word in words if word != '--check']
+    kinds = None
+    if '--kinds' in words:
+        at = words.index('--kinds')
+        kinds = Grammar(read(words[at + 1])).kinds
+        del words[at:at + 2]
+    source, folder = words
+    grammar = Grammar(read(source), kinds)
     conflicts = grammar.conflicts()
     if conflicts:
         sys.exit('\n'.join(conflicts))
-    for name, text in files(grammar, source).items():
+    for name, text in files(grammar, os.path.basename(source), kinds is None).items():
         path = os.path.join(folder, name)
         if not check:
             open(path, 'w', encoding='utf-8').write(text)

@@ -7,9 +7,11 @@
 #![tactic(auto)]
 
 pub mod kind;
+mod laws;
 pub mod nonterminal;
 pub mod production;
 mod reader;
 mod tables;
 
+pub use laws::{linear_derivations, one_beginning, one_derivation};
 pub use reader::{grammar, parse, parse_tree};

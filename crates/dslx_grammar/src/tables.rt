@@ -1,11 +1,11 @@
-//! The tables of the grammar in `docs/dslx.grammar`, written by `tools/grammar_tables.py`.
+//! The tables of the grammar in `dslx.grammar`, written by `tools/grammar_tables.py`.
 
-use crate::{kind, nonterminal};
+use super::{kind, nonterminal};
 use grammar::Symbol::{Nonterminal, Terminal};
 use grammar::{Production, Span, Symbol};
 
 /// The bodies of the productions, one behind the other.
-pub static SYMBOLS: [Symbol; 476] = [
+pub static SYMBOLS: [Symbol; 477] = [
     // module = items
     Nonterminal(nonterminal::ITEMS),
     // items = item items
@@ -328,8 +328,10 @@ pub static SYMBOLS: [Symbol; 476] = [
     Terminal(kind::LPAREN),
     Nonterminal(nonterminal::TYPES),
     Terminal(kind::RPAREN),
-    // base_keyword = BITS
-    Terminal(kind::BITS),
+    // base_keyword = UNSIGNED
+    Terminal(kind::UNSIGNED),
+    // base_keyword = SIGNED
+    Terminal(kind::SIGNED),
     // base_keyword = WIDE LBRACKET expr RBRACKET
     Terminal(kind::WIDE),
     Terminal(kind::LBRACKET),
@@ -738,62 +740,62 @@ pub static SYMBOLS: [Symbol; 476] = [
 ];
 
 /// The productions, with the kinds before which each is taken.
-pub static PRODUCTIONS: [Production; 253] = [
+pub static PRODUCTIONS: [Production; 254] = [
     // module = items
     Production {
         head: nonterminal::MODULE,
         first: 0,
         end: 1,
-        chosen: 0x1120030000002210000,
+        chosen: 0x2120018000001108000,
     },
     // items = item items
     Production {
         head: nonterminal::ITEMS,
         first: 1,
         end: 3,
-        chosen: 0x120030000002210000,
+        chosen: 0x120018000001108000,
     },
     // items = (nothing)
     Production {
         head: nonterminal::ITEMS,
         first: 3,
         end: 3,
-        chosen: 0x1000000000000000000,
+        chosen: 0x2000000000000000000,
     },
     // item = PUB definition
     Production {
         head: nonterminal::ITEM,
         first: 3,
         end: 5,
-        chosen: 0x20000000000000,
+        chosen: 0x10000000000000,
     },
     // item = definition
     Production {
         head: nonterminal::ITEM,
         first: 5,
         end: 6,
-        chosen: 0x120010000002210000,
+        chosen: 0x120008000001108000,
     },
     // definition = function
     Production {
         head: nonterminal::DEFINITION,
         first: 6,
         end: 7,
-        chosen: 0x2000000,
+        chosen: 0x1000000,
     },
     // definition = proc
     Production {
         head: nonterminal::DEFINITION,
         first: 7,
         end: 8,
-        chosen: 0x10000000000000,
+        chosen: 0x8000000000000,
     },
     // definition = constant
     Production {
         head: nonterminal::DEFINITION,
         first: 8,
         end: 9,
-        chosen: 0x10000,
+        chosen: 0x8000,
     },
     // definition = alias
     Production {
@@ -814,14 +816,14 @@ pub static PRODUCTIONS: [Production; 253] = [
         head: nonterminal::DEFINITION,
         first: 11,
         end: 12,
-        chosen: 0x200000,
+        chosen: 0x100000,
     },
     // any_name = NAME
     Production {
         head: nonterminal::ANY_NAME,
         first: 12,
         end: 13,
-        chosen: 0x20000000000,
+        chosen: 0x10000000000,
     },
     // any_name = TYPENAME
     Production {
@@ -835,7 +837,7 @@ pub static PRODUCTIONS: [Production; 253] = [
         head: nonterminal::ANY_NAME,
         first: 14,
         end: 15,
-        chosen: 0x8000000,
+        chosen: 0x4000000,
     },
     // any_name = STRUCTNAME
     Production {
@@ -849,28 +851,28 @@ pub static PRODUCTIONS: [Production; 253] = [
         head: nonterminal::ANY_NAME,
         first: 16,
         end: 17,
-        chosen: 0x200,
+        chosen: 0x100,
     },
     // open_brace = LBRACE
     Production {
         head: nonterminal::OPEN_BRACE,
         first: 17,
         end: 18,
-        chosen: 0x200000000,
+        chosen: 0x100000000,
     },
     // open_brace = FIELDS
     Production {
         head: nonterminal::OPEN_BRACE,
         first: 18,
         end: 19,
-        chosen: 0x1000000,
+        chosen: 0x800000,
     },
     // open_angle = LT
     Production {
         head: nonterminal::OPEN_ANGLE,
         first: 19,
         end: 20,
-        chosen: 0x4000000000,
+        chosen: 0x2000000000,
     },
     // open_angle = ARGS
     Production {
@@ -884,7 +886,7 @@ pub static PRODUCTIONS: [Production; 253] = [
         head: nonterminal::FUNCTION,
         first: 21,
         end: 29,
-        chosen: 0x2000000,
+        chosen: 0x1000000,
     },
     // result_type = ARROW type
     Production {
@@ -898,42 +900,42 @@ pub static PRODUCTIONS: [Production; 253] = [
         head: nonterminal::RESULT_TYPE,
         first: 31,
         end: 31,
-        chosen: 0x200000000,
+        chosen: 0x100000000,
     },
     // parameters = open_angle parameter parameters_more GT
     Production {
         head: nonterminal::PARAMETERS,
         first: 31,
         end: 35,
-        chosen: 0x4000000004,
+        chosen: 0x2000000004,
     },
     // parameters = (nothing)
     Production {
         head: nonterminal::PARAMETERS,
         first: 35,
         end: 35,
-        chosen: 0x2201000000,
+        chosen: 0x1100800000,
     },
     // parameters_more = COMMA parameter parameters_more
     Production {
         head: nonterminal::PARAMETERS_MORE,
         first: 35,
         end: 38,
-        chosen: 0x2000,
+        chosen: 0x1000,
     },
     // parameters_more = (nothing)
     Production {
         head: nonterminal::PARAMETERS_MORE,
         first: 38,
         end: 38,
-        chosen: 0x20000000,
+        chosen: 0x10000000,
     },
     // parameter = any_name COLON type parameter_default
     Production {
         head: nonterminal::PARAMETER,
         first: 38,
         end: 42,
-        chosen: 0x240000020008000200,
+        chosen: 0x240000010004000100,
     },
     // parameter_default = ASSIGN LBRACE expr RBRACE
     Production {
@@ -947,56 +949,56 @@ pub static PRODUCTIONS: [Production; 253] = [
         head: nonterminal::PARAMETER_DEFAULT,
         first: 46,
         end: 46,
-        chosen: 0x20002000,
+        chosen: 0x10001000,
     },
     // arguments_declared = argument_declared arguments_declared_more
     Production {
         head: nonterminal::ARGUMENTS_DECLARED,
         first: 46,
         end: 48,
-        chosen: 0x240000020008000200,
+        chosen: 0x240000010004000100,
     },
     // arguments_declared = (nothing)
     Production {
         head: nonterminal::ARGUMENTS_DECLARED,
         first: 48,
         end: 48,
-        chosen: 0x240000000000000,
+        chosen: 0x120000000000000,
     },
     // arguments_declared_more = COMMA arguments_declared
     Production {
         head: nonterminal::ARGUMENTS_DECLARED_MORE,
         first: 48,
         end: 50,
-        chosen: 0x2000,
+        chosen: 0x1000,
     },
     // arguments_declared_more = (nothing)
     Production {
         head: nonterminal::ARGUMENTS_DECLARED_MORE,
         first: 50,
         end: 50,
-        chosen: 0x240000000000000,
+        chosen: 0x120000000000000,
     },
     // argument_declared = any_name COLON type
     Production {
         head: nonterminal::ARGUMENT_DECLARED,
         first: 50,
         end: 53,
-        chosen: 0x240000020008000200,
+        chosen: 0x240000010004000100,
     },
     // constant = CONST any_name constant_type ASSIGN expr SEMI
     Production {
         head: nonterminal::CONSTANT,
         first: 53,
         end: 59,
-        chosen: 0x10000,
+        chosen: 0x8000,
     },
     // constant_type = COLON type
     Production {
         head: nonterminal::CONSTANT_TYPE,
         first: 59,
         end: 61,
-        chosen: 0x1000,
+        chosen: 0x800,
     },
     // constant_type = (nothing)
     Production {
@@ -1024,203 +1026,203 @@ pub static PRODUCTIONS: [Production; 253] = [
         head: nonterminal::ENUMERATION,
         first: 71,
         end: 78,
-        chosen: 0x200000,
+        chosen: 0x100000,
     },
     // members = member members_more
     Production {
         head: nonterminal::MEMBERS,
         first: 78,
         end: 80,
-        chosen: 0x240000020008000200,
+        chosen: 0x240000010004000100,
     },
     // members = (nothing)
     Production {
         head: nonterminal::MEMBERS,
         first: 80,
         end: 80,
-        chosen: 0x40000000000000,
+        chosen: 0x20000000000000,
     },
     // members_more = COMMA members
     Production {
         head: nonterminal::MEMBERS_MORE,
         first: 80,
         end: 82,
-        chosen: 0x2000,
+        chosen: 0x1000,
     },
     // members_more = (nothing)
     Production {
         head: nonterminal::MEMBERS_MORE,
         first: 82,
         end: 82,
-        chosen: 0x40000000000000,
+        chosen: 0x20000000000000,
     },
     // member = any_name ASSIGN expr
     Production {
         head: nonterminal::MEMBER,
         first: 82,
         end: 85,
-        chosen: 0x240000020008000200,
+        chosen: 0x240000010004000100,
     },
     // proc = PROC any_name parameters open_brace proc_members parts RBRACE
     Production {
         head: nonterminal::PROC,
         first: 85,
         end: 92,
-        chosen: 0x10000000000000,
+        chosen: 0x8000000000000,
     },
     // proc_members = proc_member proc_members
     Production {
         head: nonterminal::PROC_MEMBERS,
         first: 92,
         end: 94,
-        chosen: 0x240000020008000200,
+        chosen: 0x240000010004000100,
     },
     // proc_members = (nothing)
     Production {
         head: nonterminal::PROC_MEMBERS,
         first: 94,
         end: 94,
-        chosen: 0x80100008000,
+        chosen: 0x40080004000,
     },
     // proc_member = any_name COLON end SEMI
     Production {
         head: nonterminal::PROC_MEMBER,
         first: 94,
         end: 98,
-        chosen: 0x240000020008000200,
+        chosen: 0x240000010004000100,
     },
     // end = CHAN LT type GT direction
     Production {
         head: nonterminal::END,
         first: 98,
         end: 103,
-        chosen: 0x800,
+        chosen: 0x400,
     },
     // direction = IN
     Production {
         head: nonterminal::DIRECTION,
         first: 103,
         end: 104,
-        chosen: 0x80000000,
+        chosen: 0x40000000,
     },
     // direction = OUT
     Production {
         head: nonterminal::DIRECTION,
         first: 104,
         end: 105,
-        chosen: 0x400000000000,
+        chosen: 0x200000000000,
     },
     // parts = config parts_init_next
     Production {
         head: nonterminal::PARTS,
         first: 105,
         end: 107,
-        chosen: 0x8000,
+        chosen: 0x4000,
     },
     // parts = init parts_config_next
     Production {
         head: nonterminal::PARTS,
         first: 107,
         end: 109,
-        chosen: 0x100000000,
+        chosen: 0x80000000,
     },
     // parts = next parts_config_init
     Production {
         head: nonterminal::PARTS,
         first: 109,
         end: 111,
-        chosen: 0x80000000000,
+        chosen: 0x40000000000,
     },
     // parts_init_next = init next
     Production {
         head: nonterminal::PARTS_INIT_NEXT,
         first: 111,
         end: 113,
-        chosen: 0x100000000,
+        chosen: 0x80000000,
     },
     // parts_init_next = next init
     Production {
         head: nonterminal::PARTS_INIT_NEXT,
         first: 113,
         end: 115,
-        chosen: 0x80000000000,
+        chosen: 0x40000000000,
     },
     // parts_config_next = config next
     Production {
         head: nonterminal::PARTS_CONFIG_NEXT,
         first: 115,
         end: 117,
-        chosen: 0x8000,
+        chosen: 0x4000,
     },
     // parts_config_next = next config
     Production {
         head: nonterminal::PARTS_CONFIG_NEXT,
         first: 117,
         end: 119,
-        chosen: 0x80000000000,
+        chosen: 0x40000000000,
     },
     // parts_config_init = config init
     Production {
         head: nonterminal::PARTS_CONFIG_INIT,
         first: 119,
         end: 121,
-        chosen: 0x8000,
+        chosen: 0x4000,
     },
     // parts_config_init = init config
     Production {
         head: nonterminal::PARTS_CONFIG_INIT,
         first: 121,
         end: 123,
-        chosen: 0x100000000,
+        chosen: 0x80000000,
     },
     // config = CONFIG LPAREN ends RPAREN LBRACE makings config_result RBRACE
     Production {
         head: nonterminal::CONFIG,
         first: 123,
         end: 131,
-        chosen: 0x8000,
+        chosen: 0x4000,
     },
     // ends = end_declared ends_more
     Production {
         head: nonterminal::ENDS,
         first: 131,
         end: 133,
-        chosen: 0x240000020008000200,
+        chosen: 0x240000010004000100,
     },
     // ends = (nothing)
     Production {
         head: nonterminal::ENDS,
         first: 133,
         end: 133,
-        chosen: 0x200000000000000,
+        chosen: 0x100000000000000,
     },
     // ends_more = COMMA ends
     Production {
         head: nonterminal::ENDS_MORE,
         first: 133,
         end: 135,
-        chosen: 0x2000,
+        chosen: 0x1000,
     },
     // ends_more = (nothing)
     Production {
         head: nonterminal::ENDS_MORE,
         first: 135,
         end: 135,
-        chosen: 0x200000000000000,
+        chosen: 0x100000000000000,
     },
     // end_declared = any_name COLON end
     Production {
         head: nonterminal::END_DECLARED,
         first: 135,
         end: 138,
-        chosen: 0x240000020008000200,
+        chosen: 0x240000010004000100,
     },
     // makings = channel makings
     Production {
         head: nonterminal::MAKINGS,
         first: 138,
         end: 140,
-        chosen: 0x1000000000,
+        chosen: 0x800000000,
     },
     // makings = spawn makings
     Production {
@@ -1234,42 +1236,42 @@ pub static PRODUCTIONS: [Production; 253] = [
         head: nonterminal::MAKINGS,
         first: 142,
         end: 142,
-        chosen: 0x40002000000000,
+        chosen: 0x20001000000000,
     },
     // channel = LET LPAREN any_name COMMA any_name RPAREN ASSIGN channel_made
     Production {
         head: nonterminal::CHANNEL,
         first: 142,
         end: 150,
-        chosen: 0x1000000000,
+        chosen: 0x800000000,
     },
     // channel_made = CHAN LT type channel_depth GT LPAREN STRING channel_end
     Production {
         head: nonterminal::CHANNEL_MADE,
         first: 150,
         end: 158,
-        chosen: 0x800,
+        chosen: 0x400,
     },
     // channel_end = RPAREN SEMI
     Production {
         head: nonterminal::CHANNEL_END,
         first: 158,
         end: 160,
-        chosen: 0x200000000000000,
+        chosen: 0x100000000000000,
     },
     // channel_depth = COMMA arg
     Production {
         head: nonterminal::CHANNEL_DEPTH,
         first: 160,
         end: 162,
-        chosen: 0x2000,
+        chosen: 0x1000,
     },
     // channel_depth = (nothing)
     Production {
         head: nonterminal::CHANNEL_DEPTH,
         first: 162,
         end: 162,
-        chosen: 0x20000000,
+        chosen: 0x10000000,
     },
     // spawn = SPAWN any_name spawn_args LPAREN names RPAREN SEMI
     Production {
@@ -1283,1232 +1285,1239 @@ pub static PRODUCTIONS: [Production; 253] = [
         head: nonterminal::SPAWN_ARGS,
         first: 169,
         end: 173,
-        chosen: 0x4000000004,
+        chosen: 0x2000000004,
     },
     // spawn_args = (nothing)
     Production {
         head: nonterminal::SPAWN_ARGS,
         first: 173,
         end: 173,
-        chosen: 0x2000000000,
+        chosen: 0x1000000000,
     },
     // config_result = LPAREN names RPAREN
     Production {
         head: nonterminal::CONFIG_RESULT,
         first: 173,
         end: 176,
-        chosen: 0x2000000000,
+        chosen: 0x1000000000,
     },
     // config_result = (nothing)
     Production {
         head: nonterminal::CONFIG_RESULT,
         first: 176,
         end: 176,
-        chosen: 0x40000000000000,
+        chosen: 0x20000000000000,
     },
     // names = any_name names_more
     Production {
         head: nonterminal::NAMES,
         first: 176,
         end: 178,
-        chosen: 0x240000020008000200,
+        chosen: 0x240000010004000100,
     },
     // names = (nothing)
     Production {
         head: nonterminal::NAMES,
         first: 178,
         end: 178,
-        chosen: 0x200000000000000,
+        chosen: 0x100000000000000,
     },
     // names_more = COMMA names
     Production {
         head: nonterminal::NAMES_MORE,
         first: 178,
         end: 180,
-        chosen: 0x2000,
+        chosen: 0x1000,
     },
     // names_more = (nothing)
     Production {
         head: nonterminal::NAMES_MORE,
         first: 180,
         end: 180,
-        chosen: 0x200000000000000,
+        chosen: 0x100000000000000,
     },
     // init = INIT block
     Production {
         head: nonterminal::INIT,
         first: 180,
         end: 182,
-        chosen: 0x100000000,
+        chosen: 0x80000000,
     },
     // next = NEXT LPAREN any_name COLON type RPAREN block
     Production {
         head: nonterminal::NEXT,
         first: 182,
         end: 189,
-        chosen: 0x80000000000,
+        chosen: 0x40000000000,
     },
     // args_more = COMMA arg args_more
     Production {
         head: nonterminal::ARGS_MORE,
         first: 189,
         end: 192,
-        chosen: 0x2000,
+        chosen: 0x1000,
     },
     // args_more = (nothing)
     Production {
         head: nonterminal::ARGS_MORE,
         first: 192,
         end: 192,
-        chosen: 0x20000000,
+        chosen: 0x10000000,
     },
     // arg = NUMBER
     Production {
         head: nonterminal::ARG,
         first: 192,
         end: 193,
-        chosen: 0x100000000000,
+        chosen: 0x80000000000,
     },
     // arg = base_keyword type_tail COLON signed
     Production {
         head: nonterminal::ARG,
         first: 193,
         end: 197,
-        chosen: 0x400000000000000180,
+        chosen: 0xc01000000000000080,
     },
     // arg = any_name arg_name
     Production {
         head: nonterminal::ARG,
         first: 197,
         end: 199,
-        chosen: 0x240000020008000200,
+        chosen: 0x240000010004000100,
     },
     // arg = LBRACE expr RBRACE
     Production {
         head: nonterminal::ARG,
         first: 199,
         end: 202,
-        chosen: 0x200000000,
+        chosen: 0x100000000,
     },
     // arg_name = COLON signed
     Production {
         head: nonterminal::ARG_NAME,
         first: 202,
         end: 204,
-        chosen: 0x1000,
+        chosen: 0x800,
     },
     // arg_name = LBRACKET expr RBRACKET type_tail COLON signed
     Production {
         head: nonterminal::ARG_NAME,
         first: 204,
         end: 210,
-        chosen: 0x400000000,
+        chosen: 0x200000000,
     },
     // arg_name = (nothing)
     Production {
         head: nonterminal::ARG_NAME,
         first: 210,
         end: 210,
-        chosen: 0x20002000,
+        chosen: 0x10001000,
     },
     // signed = MINUS NUMBER
     Production {
         head: nonterminal::SIGNED,
         first: 210,
         end: 212,
-        chosen: 0x10000000000,
+        chosen: 0x8000000000,
     },
     // signed = NUMBER
     Production {
         head: nonterminal::SIGNED,
         first: 212,
         end: 213,
-        chosen: 0x100000000000,
+        chosen: 0x80000000000,
     },
     // type = base type_tail
     Production {
         head: nonterminal::TYPE,
         first: 213,
         end: 215,
-        chosen: 0x640000022008000380,
+        chosen: 0xe41000011004000180,
     },
     // base = base_keyword
     Production {
         head: nonterminal::BASE,
         first: 215,
         end: 216,
-        chosen: 0x400000000000000180,
+        chosen: 0xc01000000000000080,
     },
     // base = any_name
     Production {
         head: nonterminal::BASE,
         first: 216,
         end: 217,
-        chosen: 0x240000020008000200,
+        chosen: 0x240000010004000100,
     },
     // base = LPAREN types RPAREN
     Production {
         head: nonterminal::BASE,
         first: 217,
         end: 220,
-        chosen: 0x2000000000,
+        chosen: 0x1000000000,
     },
-    // base_keyword = BITS
+    // base_keyword = UNSIGNED
     Production {
         head: nonterminal::BASE_KEYWORD,
         first: 220,
         end: 221,
-        chosen: 0x80,
+        chosen: 0x400000000000000000,
+    },
+    // base_keyword = SIGNED
+    Production {
+        head: nonterminal::BASE_KEYWORD,
+        first: 221,
+        end: 222,
+        chosen: 0x1000000000000000,
     },
     // base_keyword = WIDE LBRACKET expr RBRACKET
     Production {
         head: nonterminal::BASE_KEYWORD,
-        first: 221,
-        end: 225,
-        chosen: 0x400000000000000000,
+        first: 222,
+        end: 226,
+        chosen: 0x800000000000000000,
     },
     // base_keyword = BOOL
     Production {
         head: nonterminal::BASE_KEYWORD,
-        first: 225,
-        end: 226,
-        chosen: 0x100,
+        first: 226,
+        end: 227,
+        chosen: 0x80,
     },
     // type_tail = LBRACKET expr RBRACKET type_tail
     Production {
         head: nonterminal::TYPE_TAIL,
-        first: 226,
-        end: 230,
-        chosen: 0x400000000,
+        first: 227,
+        end: 231,
+        chosen: 0x200000000,
     },
     // type_tail = (nothing)
     Production {
         head: nonterminal::TYPE_TAIL,
-        first: 230,
-        end: 230,
-        chosen: 0xbfcf254ab1407433,
+        first: 231,
+        end: 231,
+        chosen: 0xafe792a558a03a33,
     },
     // types = type types_more
     Production {
         head: nonterminal::TYPES,
-        first: 230,
-        end: 232,
-        chosen: 0x640000022008000380,
+        first: 231,
+        end: 233,
+        chosen: 0xe41000011004000180,
     },
     // types = (nothing)
     Production {
         head: nonterminal::TYPES,
-        first: 232,
-        end: 232,
-        chosen: 0x200000000000000,
+        first: 233,
+        end: 233,
+        chosen: 0x100000000000000,
     },
     // types_more = COMMA types
     Production {
         head: nonterminal::TYPES_MORE,
-        first: 232,
-        end: 234,
-        chosen: 0x2000,
+        first: 233,
+        end: 235,
+        chosen: 0x1000,
     },
     // types_more = (nothing)
     Production {
         head: nonterminal::TYPES_MORE,
-        first: 234,
-        end: 234,
-        chosen: 0x200000000000000,
+        first: 235,
+        end: 235,
+        chosen: 0x100000000000000,
     },
     // block = LBRACE statements RBRACE
     Production {
         head: nonterminal::BLOCK,
-        first: 234,
-        end: 237,
-        chosen: 0x200000000,
+        first: 235,
+        end: 238,
+        chosen: 0x100000000,
     },
     // statements = LET let SEMI statements
     Production {
         head: nonterminal::STATEMENTS,
-        first: 237,
-        end: 241,
-        chosen: 0x1000000000,
+        first: 238,
+        end: 242,
+        chosen: 0x800000000,
     },
     // statements = expr statement_end
     Production {
         head: nonterminal::STATEMENTS,
-        first: 241,
-        end: 243,
-        chosen: 0x6c000013a64c8003c0,
+        first: 242,
+        end: 244,
+        chosen: 0xec100009d3264001c0,
     },
     // statements = (nothing)
     Production {
         head: nonterminal::STATEMENTS,
-        first: 243,
-        end: 243,
-        chosen: 0x40000000000000,
+        first: 244,
+        end: 244,
+        chosen: 0x20000000000000,
     },
     // statement_end = SEMI statements
     Production {
         head: nonterminal::STATEMENT_END,
-        first: 243,
-        end: 245,
-        chosen: 0x400000000000000,
+        first: 244,
+        end: 246,
+        chosen: 0x200000000000000,
     },
     // statement_end = (nothing)
     Production {
         head: nonterminal::STATEMENT_END,
-        first: 245,
-        end: 245,
-        chosen: 0x40000000000000,
+        first: 246,
+        end: 246,
+        chosen: 0x20000000000000,
     },
     // let = let_pattern ASSIGN expr
     Production {
         head: nonterminal::LET,
-        first: 245,
-        end: 248,
-        chosen: 0xec0000022008800380,
+        first: 246,
+        end: 249,
+        chosen: 0x1ec1000011004400180,
     },
     // let_pattern = plain_pattern let_type
     Production {
         head: nonterminal::LET_PATTERN,
-        first: 248,
-        end: 250,
-        chosen: 0xc80000002000800180,
+        first: 249,
+        end: 251,
+        chosen: 0x1c81000001000400080,
     },
     // let_pattern = any_name let_name
     Production {
         head: nonterminal::LET_PATTERN,
-        first: 250,
-        end: 252,
-        chosen: 0x240000020008000200,
+        first: 251,
+        end: 253,
+        chosen: 0x240000010004000100,
     },
     // let_name = PATH any_name let_type
     Production {
         head: nonterminal::LET_NAME,
-        first: 252,
-        end: 255,
-        chosen: 0x800000000000,
+        first: 253,
+        end: 256,
+        chosen: 0x400000000000,
     },
     // let_name = LBRACKET expr RBRACKET type_tail COLON signed let_type
     Production {
         head: nonterminal::LET_NAME,
-        first: 255,
-        end: 262,
-        chosen: 0x400000000,
+        first: 256,
+        end: 263,
+        chosen: 0x200000000,
     },
     // let_name = COLON let_colon
     Production {
         head: nonterminal::LET_NAME,
-        first: 262,
-        end: 264,
-        chosen: 0x1000,
+        first: 263,
+        end: 265,
+        chosen: 0x800,
     },
     // let_name = (nothing)
     Production {
         head: nonterminal::LET_NAME,
-        first: 264,
-        end: 264,
+        first: 265,
+        end: 265,
         chosen: 0x20,
     },
     // let_colon = signed let_type
     Production {
         head: nonterminal::LET_COLON,
-        first: 264,
-        end: 266,
-        chosen: 0x110000000000,
+        first: 265,
+        end: 267,
+        chosen: 0x88000000000,
     },
     // let_colon = type
     Production {
         head: nonterminal::LET_COLON,
-        first: 266,
-        end: 267,
-        chosen: 0x640000022008000380,
+        first: 267,
+        end: 268,
+        chosen: 0xe41000011004000180,
     },
     // let_type = COLON type
     Production {
         head: nonterminal::LET_TYPE,
-        first: 267,
-        end: 269,
-        chosen: 0x1000,
+        first: 268,
+        end: 270,
+        chosen: 0x800,
     },
     // let_type = (nothing)
     Production {
         head: nonterminal::LET_TYPE,
-        first: 269,
-        end: 269,
+        first: 270,
+        end: 270,
         chosen: 0x20,
     },
     // pattern = plain_pattern
     Production {
         head: nonterminal::PATTERN,
-        first: 269,
-        end: 270,
-        chosen: 0xc80000002000800180,
+        first: 270,
+        end: 271,
+        chosen: 0x1c81000001000400080,
     },
     // pattern = any_name pattern_name
     Production {
         head: nonterminal::PATTERN,
-        first: 270,
-        end: 272,
-        chosen: 0x240000020008000200,
+        first: 271,
+        end: 273,
+        chosen: 0x240000010004000100,
     },
     // plain_pattern = WILD
     Production {
         head: nonterminal::PLAIN_PATTERN,
-        first: 272,
-        end: 273,
-        chosen: 0x800000000000000000,
+        first: 273,
+        end: 274,
+        chosen: 0x1000000000000000000,
     },
     // plain_pattern = TRUE
     Production {
         head: nonterminal::PLAIN_PATTERN,
-        first: 273,
-        end: 274,
+        first: 274,
+        end: 275,
         chosen: 0x80000000000000000,
     },
     // plain_pattern = FALSE
     Production {
         head: nonterminal::PLAIN_PATTERN,
-        first: 274,
-        end: 275,
-        chosen: 0x800000,
+        first: 275,
+        end: 276,
+        chosen: 0x400000,
     },
     // plain_pattern = base_keyword type_tail COLON signed
     Production {
         head: nonterminal::PLAIN_PATTERN,
-        first: 275,
-        end: 279,
-        chosen: 0x400000000000000180,
+        first: 276,
+        end: 280,
+        chosen: 0xc01000000000000080,
     },
     // plain_pattern = LPAREN patterns RPAREN
     Production {
         head: nonterminal::PLAIN_PATTERN,
-        first: 279,
-        end: 282,
-        chosen: 0x2000000000,
+        first: 280,
+        end: 283,
+        chosen: 0x1000000000,
     },
     // pattern_name = PATH any_name
     Production {
         head: nonterminal::PATTERN_NAME,
-        first: 282,
-        end: 284,
-        chosen: 0x800000000000,
+        first: 283,
+        end: 285,
+        chosen: 0x400000000000,
     },
     // pattern_name = COLON signed
     Production {
         head: nonterminal::PATTERN_NAME,
-        first: 284,
-        end: 286,
-        chosen: 0x1000,
+        first: 285,
+        end: 287,
+        chosen: 0x800,
     },
     // pattern_name = LBRACKET expr RBRACKET type_tail COLON signed
     Production {
         head: nonterminal::PATTERN_NAME,
-        first: 286,
-        end: 292,
-        chosen: 0x400000000,
+        first: 287,
+        end: 293,
+        chosen: 0x200000000,
     },
     // pattern_name = (nothing)
     Production {
         head: nonterminal::PATTERN_NAME,
-        first: 292,
-        end: 292,
-        chosen: 0x202000000022000,
+        first: 293,
+        end: 293,
+        chosen: 0x101000000011000,
     },
     // patterns = pattern patterns_more
     Production {
         head: nonterminal::PATTERNS,
-        first: 292,
-        end: 294,
-        chosen: 0xec0000022008800380,
+        first: 293,
+        end: 295,
+        chosen: 0x1ec1000011004400180,
     },
     // patterns = (nothing)
     Production {
         head: nonterminal::PATTERNS,
-        first: 294,
-        end: 294,
-        chosen: 0x200000000000000,
+        first: 295,
+        end: 295,
+        chosen: 0x100000000000000,
     },
     // patterns_more = COMMA patterns
     Production {
         head: nonterminal::PATTERNS_MORE,
-        first: 294,
-        end: 296,
-        chosen: 0x2000,
+        first: 295,
+        end: 297,
+        chosen: 0x1000,
     },
     // patterns_more = (nothing)
     Production {
         head: nonterminal::PATTERNS_MORE,
-        first: 296,
-        end: 296,
-        chosen: 0x200000000000000,
+        first: 297,
+        end: 297,
+        chosen: 0x100000000000000,
     },
     // expr = operand operands
     Production {
         head: nonterminal::EXPR,
-        first: 296,
-        end: 298,
-        chosen: 0x6c000013a64c8003c0,
+        first: 297,
+        end: 299,
+        chosen: 0xec100009d3264001c0,
     },
     // operands = binary operand operands
     Production {
         head: nonterminal::OPERANDS,
-        first: 298,
-        end: 301,
-        chosen: 0xb807254830404403,
+        first: 299,
+        end: 302,
+        chosen: 0xac0392a418202203,
     },
     // operands = (nothing)
     Production {
         head: nonterminal::OPERANDS,
-        first: 301,
-        end: 301,
-        chosen: 0x7c8000200003000,
+        first: 302,
+        end: 302,
+        chosen: 0x3e4000100001800,
     },
     // binary = STAR
     Production {
         head: nonterminal::BINARY,
-        first: 301,
-        end: 302,
+        first: 302,
+        end: 303,
         chosen: 0x8000000000000000,
     },
     // binary = SLASH
     Production {
         head: nonterminal::BINARY,
-        first: 302,
-        end: 303,
+        first: 303,
+        end: 304,
         chosen: 0x2000000000000000,
     },
     // binary = PERCENT
     Production {
         head: nonterminal::BINARY,
-        first: 303,
-        end: 304,
-        chosen: 0x1000000000000,
+        first: 304,
+        end: 305,
+        chosen: 0x800000000000,
     },
     // binary = PLUS
     Production {
         head: nonterminal::BINARY,
-        first: 304,
-        end: 305,
-        chosen: 0x4000000000000,
+        first: 305,
+        end: 306,
+        chosen: 0x2000000000000,
     },
     // binary = MINUS
     Production {
         head: nonterminal::BINARY,
-        first: 305,
-        end: 306,
-        chosen: 0x10000000000,
+        first: 306,
+        end: 307,
+        chosen: 0x8000000000,
     },
     // binary = CONCAT
     Production {
         head: nonterminal::BINARY,
-        first: 306,
-        end: 307,
-        chosen: 0x4000,
+        first: 307,
+        end: 308,
+        chosen: 0x2000,
     },
     // binary = SHL
     Production {
         head: nonterminal::BINARY,
-        first: 307,
-        end: 308,
-        chosen: 0x800000000000000,
+        first: 308,
+        end: 309,
+        chosen: 0x400000000000000,
     },
     // binary = SHR
     Production {
         head: nonterminal::BINARY,
-        first: 308,
-        end: 309,
-        chosen: 0x1000000000000000,
+        first: 309,
+        end: 310,
+        chosen: 0x800000000000000,
     },
     // binary = AMP
     Production {
         head: nonterminal::BINARY,
-        first: 309,
-        end: 310,
+        first: 310,
+        end: 311,
         chosen: 0x1,
     },
     // binary = CARET
     Production {
         head: nonterminal::BINARY,
-        first: 310,
-        end: 311,
-        chosen: 0x400,
+        first: 311,
+        end: 312,
+        chosen: 0x200,
     },
     // binary = PIPE
     Production {
         head: nonterminal::BINARY,
-        first: 311,
-        end: 312,
-        chosen: 0x2000000000000,
+        first: 312,
+        end: 313,
+        chosen: 0x1000000000000,
     },
     // binary = EQ
     Production {
         head: nonterminal::BINARY,
-        first: 312,
-        end: 313,
-        chosen: 0x400000,
+        first: 313,
+        end: 314,
+        chosen: 0x200000,
     },
     // binary = NE
     Production {
         head: nonterminal::BINARY,
-        first: 313,
-        end: 314,
-        chosen: 0x40000000000,
+        first: 314,
+        end: 315,
+        chosen: 0x20000000000,
     },
     // binary = LT
     Production {
         head: nonterminal::BINARY,
-        first: 314,
-        end: 315,
-        chosen: 0x4000000000,
+        first: 315,
+        end: 316,
+        chosen: 0x2000000000,
     },
     // binary = LE
     Production {
         head: nonterminal::BINARY,
-        first: 315,
-        end: 316,
-        chosen: 0x800000000,
-    },
-    // binary = GT
-    Production {
-        head: nonterminal::BINARY,
         first: 316,
         end: 317,
-        chosen: 0x20000000,
+        chosen: 0x400000000,
     },
-    // binary = GE
+    // binary = GT
     Production {
         head: nonterminal::BINARY,
         first: 317,
         end: 318,
         chosen: 0x10000000,
     },
-    // binary = ANDAND
+    // binary = GE
     Production {
         head: nonterminal::BINARY,
         first: 318,
         end: 319,
+        chosen: 0x8000000,
+    },
+    // binary = ANDAND
+    Production {
+        head: nonterminal::BINARY,
+        first: 319,
+        end: 320,
         chosen: 0x2,
     },
     // binary = OROR
     Production {
         head: nonterminal::BINARY,
-        first: 319,
-        end: 320,
-        chosen: 0x200000000000,
+        first: 320,
+        end: 321,
+        chosen: 0x100000000000,
     },
     // operand = prefixes atom posts casts
     Production {
         head: nonterminal::OPERAND,
-        first: 320,
-        end: 324,
-        chosen: 0x6c000013a64c8003c0,
+        first: 321,
+        end: 325,
+        chosen: 0xec100009d3264001c0,
     },
     // prefixes = MINUS prefixes
     Production {
         head: nonterminal::PREFIXES,
-        first: 324,
-        end: 326,
-        chosen: 0x10000000000,
+        first: 325,
+        end: 327,
+        chosen: 0x8000000000,
     },
     // prefixes = BANG prefixes
     Production {
         head: nonterminal::PREFIXES,
-        first: 326,
-        end: 328,
+        first: 327,
+        end: 329,
         chosen: 0x40,
     },
     // prefixes = (nothing)
     Production {
         head: nonterminal::PREFIXES,
-        first: 328,
-        end: 328,
-        chosen: 0x6c000012a64c800380,
+        first: 329,
+        end: 329,
+        chosen: 0xec1000095326400180,
     },
     // casts = AS type casts
     Production {
         head: nonterminal::CASTS,
-        first: 328,
-        end: 331,
+        first: 329,
+        end: 332,
         chosen: 0x10,
     },
     // casts = (nothing)
     Production {
         head: nonterminal::CASTS,
-        first: 331,
-        end: 331,
-        chosen: 0xbfcf254a30407403,
+        first: 332,
+        end: 332,
+        chosen: 0xafe792a518203a03,
     },
     // posts = LBRACKET expr index_end posts
     Production {
         head: nonterminal::POSTS,
-        first: 331,
-        end: 335,
-        chosen: 0x400000000,
+        first: 332,
+        end: 336,
+        chosen: 0x200000000,
     },
     // posts = DOT part posts
     Production {
         head: nonterminal::POSTS,
-        first: 335,
-        end: 338,
-        chosen: 0x40000,
+        first: 336,
+        end: 339,
+        chosen: 0x20000,
     },
     // posts = (nothing)
     Production {
         head: nonterminal::POSTS,
-        first: 338,
-        end: 338,
-        chosen: 0xbfcf254a30407413,
+        first: 339,
+        end: 339,
+        chosen: 0xafe792a518203a13,
     },
     // index_end = RBRACKET
     Production {
         head: nonterminal::INDEX_END,
-        first: 338,
-        end: 339,
-        chosen: 0x80000000000000,
+        first: 339,
+        end: 340,
+        chosen: 0x40000000000000,
     },
     // index_end = COLON expr RBRACKET
     Production {
         head: nonterminal::INDEX_END,
-        first: 339,
-        end: 342,
-        chosen: 0x1000,
+        first: 340,
+        end: 343,
+        chosen: 0x800,
     },
     // index_end = PLUSCOLON type RBRACKET
     Production {
         head: nonterminal::INDEX_END,
-        first: 342,
-        end: 345,
-        chosen: 0x8000000000000,
+        first: 343,
+        end: 346,
+        chosen: 0x4000000000000,
     },
     // part = any_name
     Production {
         head: nonterminal::PART,
-        first: 345,
-        end: 346,
-        chosen: 0x240000020008000200,
+        first: 346,
+        end: 347,
+        chosen: 0x240000010004000100,
     },
     // part = NUMBER
     Production {
         head: nonterminal::PART,
-        first: 346,
-        end: 347,
-        chosen: 0x100000000000,
+        first: 347,
+        end: 348,
+        chosen: 0x80000000000,
     },
     // atom = NUMBER
     Production {
         head: nonterminal::ATOM,
-        first: 347,
-        end: 348,
-        chosen: 0x100000000000,
+        first: 348,
+        end: 349,
+        chosen: 0x80000000000,
     },
     // atom = base_keyword type_tail COLON typed
     Production {
         head: nonterminal::ATOM,
-        first: 348,
-        end: 352,
-        chosen: 0x400000000000000180,
+        first: 349,
+        end: 353,
+        chosen: 0xc01000000000000080,
     },
     // atom = TYPENAME type_tail COLON typed
     Production {
         head: nonterminal::ATOM,
-        first: 352,
-        end: 356,
+        first: 353,
+        end: 357,
         chosen: 0x200000000000000000,
     },
     // atom = elements
     Production {
         head: nonterminal::ATOM,
-        first: 356,
-        end: 357,
-        chosen: 0x400000000,
+        first: 357,
+        end: 358,
+        chosen: 0x200000000,
     },
     // atom = TRUE
     Production {
         head: nonterminal::ATOM,
-        first: 357,
-        end: 358,
+        first: 358,
+        end: 359,
         chosen: 0x80000000000000000,
     },
     // atom = FALSE
     Production {
         head: nonterminal::ATOM,
-        first: 358,
-        end: 359,
-        chosen: 0x800000,
+        first: 359,
+        end: 360,
+        chosen: 0x400000,
     },
     // atom = NAME name_tail
     Production {
         head: nonterminal::ATOM,
-        first: 359,
-        end: 361,
-        chosen: 0x20000000000,
+        first: 360,
+        end: 362,
+        chosen: 0x10000000000,
     },
     // atom = FUNNAME function_tail
     Production {
         head: nonterminal::ATOM,
-        first: 361,
-        end: 363,
-        chosen: 0x8000000,
+        first: 362,
+        end: 364,
+        chosen: 0x4000000,
     },
     // atom = STRUCTNAME struct_tail
     Production {
         head: nonterminal::ATOM,
-        first: 363,
-        end: 365,
+        first: 364,
+        end: 366,
         chosen: 0x40000000000000000,
     },
     // atom = BOTHNAME both_tail
     Production {
         head: nonterminal::ATOM,
-        first: 365,
-        end: 367,
-        chosen: 0x200,
+        first: 366,
+        end: 368,
+        chosen: 0x100,
     },
     // atom = LPAREN parenthesis
     Production {
         head: nonterminal::ATOM,
-        first: 367,
-        end: 369,
-        chosen: 0x2000000000,
+        first: 368,
+        end: 370,
+        chosen: 0x1000000000,
     },
     // atom = block
     Production {
         head: nonterminal::ATOM,
-        first: 369,
-        end: 370,
-        chosen: 0x200000000,
+        first: 370,
+        end: 371,
+        chosen: 0x100000000,
     },
     // atom = if
     Production {
         head: nonterminal::ATOM,
-        first: 370,
-        end: 371,
-        chosen: 0x40000000,
+        first: 371,
+        end: 372,
+        chosen: 0x20000000,
     },
     // atom = match
     Production {
         head: nonterminal::ATOM,
-        first: 371,
-        end: 372,
-        chosen: 0x8000000000,
+        first: 372,
+        end: 373,
+        chosen: 0x4000000000,
     },
     // atom = for
     Production {
         head: nonterminal::ATOM,
-        first: 372,
-        end: 373,
-        chosen: 0x4000000,
+        first: 373,
+        end: 374,
+        chosen: 0x2000000,
     },
     // typed = signed
     Production {
         head: nonterminal::TYPED,
-        first: 373,
-        end: 374,
-        chosen: 0x110000000000,
+        first: 374,
+        end: 375,
+        chosen: 0x88000000000,
     },
     // typed = elements
     Production {
         head: nonterminal::TYPED,
-        first: 374,
-        end: 375,
-        chosen: 0x400000000,
+        first: 375,
+        end: 376,
+        chosen: 0x200000000,
     },
     // name_tail = PATH any_name
     Production {
         head: nonterminal::NAME_TAIL,
-        first: 375,
-        end: 377,
-        chosen: 0x800000000000,
+        first: 376,
+        end: 378,
+        chosen: 0x400000000000,
     },
     // name_tail = call
     Production {
         head: nonterminal::NAME_TAIL,
-        first: 377,
-        end: 378,
-        chosen: 0x2000000000,
+        first: 378,
+        end: 379,
+        chosen: 0x1000000000,
     },
     // name_tail = (nothing)
     Production {
         head: nonterminal::NAME_TAIL,
-        first: 378,
-        end: 378,
-        chosen: 0xbfcf254e30447413,
+        first: 379,
+        end: 379,
+        chosen: 0xafe792a718223a13,
     },
     // function_tail = PATH any_name
     Production {
         head: nonterminal::FUNCTION_TAIL,
-        first: 378,
-        end: 380,
-        chosen: 0x800000000000,
+        first: 379,
+        end: 381,
+        chosen: 0x400000000000,
     },
     // function_tail = call
     Production {
         head: nonterminal::FUNCTION_TAIL,
-        first: 380,
-        end: 381,
-        chosen: 0x2000000000,
+        first: 381,
+        end: 382,
+        chosen: 0x1000000000,
     },
     // function_tail = call_with_args
     Production {
         head: nonterminal::FUNCTION_TAIL,
-        first: 381,
-        end: 382,
+        first: 382,
+        end: 383,
         chosen: 0x4,
     },
     // function_tail = (nothing)
     Production {
         head: nonterminal::FUNCTION_TAIL,
-        first: 382,
-        end: 382,
-        chosen: 0xbfcf254e30447413,
+        first: 383,
+        end: 383,
+        chosen: 0xafe792a718223a13,
     },
     // struct_tail = PATH any_name
     Production {
         head: nonterminal::STRUCT_TAIL,
-        first: 382,
-        end: 384,
-        chosen: 0x800000000000,
+        first: 383,
+        end: 385,
+        chosen: 0x400000000000,
     },
     // struct_tail = call
     Production {
         head: nonterminal::STRUCT_TAIL,
-        first: 384,
-        end: 385,
-        chosen: 0x2000000000,
+        first: 385,
+        end: 386,
+        chosen: 0x1000000000,
     },
     // struct_tail = fields
     Production {
         head: nonterminal::STRUCT_TAIL,
-        first: 385,
-        end: 386,
-        chosen: 0x1000000,
+        first: 386,
+        end: 387,
+        chosen: 0x800000,
     },
     // struct_tail = (nothing)
     Production {
         head: nonterminal::STRUCT_TAIL,
-        first: 386,
-        end: 386,
-        chosen: 0xbfcf254e30447413,
+        first: 387,
+        end: 387,
+        chosen: 0xafe792a718223a13,
     },
     // both_tail = PATH any_name
     Production {
         head: nonterminal::BOTH_TAIL,
-        first: 386,
-        end: 388,
-        chosen: 0x800000000000,
+        first: 387,
+        end: 389,
+        chosen: 0x400000000000,
     },
     // both_tail = call
     Production {
         head: nonterminal::BOTH_TAIL,
-        first: 388,
-        end: 389,
-        chosen: 0x2000000000,
+        first: 389,
+        end: 390,
+        chosen: 0x1000000000,
     },
     // both_tail = call_with_args
     Production {
         head: nonterminal::BOTH_TAIL,
-        first: 389,
-        end: 390,
+        first: 390,
+        end: 391,
         chosen: 0x4,
     },
     // both_tail = fields
     Production {
         head: nonterminal::BOTH_TAIL,
-        first: 390,
-        end: 391,
-        chosen: 0x1000000,
+        first: 391,
+        end: 392,
+        chosen: 0x800000,
     },
     // both_tail = (nothing)
     Production {
         head: nonterminal::BOTH_TAIL,
-        first: 391,
-        end: 391,
-        chosen: 0xbfcf254e30447413,
+        first: 392,
+        end: 392,
+        chosen: 0xafe792a718223a13,
     },
     // call = LPAREN exprs RPAREN
     Production {
         head: nonterminal::CALL,
-        first: 391,
-        end: 394,
-        chosen: 0x2000000000,
+        first: 392,
+        end: 395,
+        chosen: 0x1000000000,
     },
     // call_with_args = ARGS arg args_more GT LPAREN exprs RPAREN
     Production {
         head: nonterminal::CALL_WITH_ARGS,
-        first: 394,
-        end: 401,
+        first: 395,
+        end: 402,
         chosen: 0x4,
     },
     // exprs = expr exprs_more
     Production {
         head: nonterminal::EXPRS,
-        first: 401,
-        end: 403,
-        chosen: 0x6c000013a64c8003c0,
+        first: 402,
+        end: 404,
+        chosen: 0xec100009d3264001c0,
     },
     // exprs = (nothing)
     Production {
         head: nonterminal::EXPRS,
-        first: 403,
-        end: 403,
-        chosen: 0x200000000000000,
+        first: 404,
+        end: 404,
+        chosen: 0x100000000000000,
     },
     // exprs_more = COMMA exprs
     Production {
         head: nonterminal::EXPRS_MORE,
-        first: 403,
-        end: 405,
-        chosen: 0x2000,
+        first: 404,
+        end: 406,
+        chosen: 0x1000,
     },
     // exprs_more = (nothing)
     Production {
         head: nonterminal::EXPRS_MORE,
-        first: 405,
-        end: 405,
-        chosen: 0x200000000000000,
+        first: 406,
+        end: 406,
+        chosen: 0x100000000000000,
     },
     // fields = FIELDS field_list RBRACE
     Production {
         head: nonterminal::FIELDS,
-        first: 405,
-        end: 408,
-        chosen: 0x1000000,
+        first: 406,
+        end: 409,
+        chosen: 0x800000,
     },
     // field_list = any_name field_value field_more
     Production {
         head: nonterminal::FIELD_LIST,
-        first: 408,
-        end: 411,
-        chosen: 0x240000020008000200,
+        first: 409,
+        end: 412,
+        chosen: 0x240000010004000100,
     },
     // field_list = REST expr
     Production {
         head: nonterminal::FIELD_LIST,
-        first: 411,
-        end: 413,
-        chosen: 0x100000000000000,
+        first: 412,
+        end: 414,
+        chosen: 0x80000000000000,
     },
     // field_list = (nothing)
     Production {
         head: nonterminal::FIELD_LIST,
-        first: 413,
-        end: 413,
-        chosen: 0x40000000000000,
+        first: 414,
+        end: 414,
+        chosen: 0x20000000000000,
     },
     // field_value = COLON expr
     Production {
         head: nonterminal::FIELD_VALUE,
-        first: 413,
-        end: 415,
-        chosen: 0x1000,
+        first: 414,
+        end: 416,
+        chosen: 0x800,
     },
     // field_value = (nothing)
     Production {
         head: nonterminal::FIELD_VALUE,
-        first: 415,
-        end: 415,
-        chosen: 0x40000000002000,
+        first: 416,
+        end: 416,
+        chosen: 0x20000000001000,
     },
     // field_more = COMMA field_list
     Production {
         head: nonterminal::FIELD_MORE,
-        first: 415,
-        end: 417,
-        chosen: 0x2000,
+        first: 416,
+        end: 418,
+        chosen: 0x1000,
     },
     // field_more = (nothing)
     Production {
         head: nonterminal::FIELD_MORE,
-        first: 417,
-        end: 417,
-        chosen: 0x40000000000000,
+        first: 418,
+        end: 418,
+        chosen: 0x20000000000000,
     },
     // parenthesis = RPAREN
     Production {
         head: nonterminal::PARENTHESIS,
-        first: 417,
-        end: 418,
-        chosen: 0x200000000000000,
+        first: 418,
+        end: 419,
+        chosen: 0x100000000000000,
     },
     // parenthesis = expr parenthesis_end
     Production {
         head: nonterminal::PARENTHESIS,
-        first: 418,
-        end: 420,
-        chosen: 0x6c000013a64c8003c0,
+        first: 419,
+        end: 421,
+        chosen: 0xec100009d3264001c0,
     },
     // parenthesis_end = RPAREN
     Production {
         head: nonterminal::PARENTHESIS_END,
-        first: 420,
-        end: 421,
-        chosen: 0x200000000000000,
+        first: 421,
+        end: 422,
+        chosen: 0x100000000000000,
     },
     // parenthesis_end = COMMA exprs RPAREN
     Production {
         head: nonterminal::PARENTHESIS_END,
-        first: 421,
-        end: 424,
-        chosen: 0x2000,
+        first: 422,
+        end: 425,
+        chosen: 0x1000,
     },
     // elements = LBRACKET expr elements_more RBRACKET
     Production {
         head: nonterminal::ELEMENTS,
-        first: 424,
-        end: 428,
-        chosen: 0x400000000,
+        first: 425,
+        end: 429,
+        chosen: 0x200000000,
     },
     // elements_more = COMMA elements_next
     Production {
         head: nonterminal::ELEMENTS_MORE,
-        first: 428,
-        end: 430,
-        chosen: 0x2000,
+        first: 429,
+        end: 431,
+        chosen: 0x1000,
     },
     // elements_more = (nothing)
     Production {
         head: nonterminal::ELEMENTS_MORE,
-        first: 430,
-        end: 430,
-        chosen: 0x80000000000000,
+        first: 431,
+        end: 431,
+        chosen: 0x40000000000000,
     },
     // elements_next = expr elements_more
     Production {
         head: nonterminal::ELEMENTS_NEXT,
-        first: 430,
-        end: 432,
-        chosen: 0x6c000013a64c8003c0,
+        first: 431,
+        end: 433,
+        chosen: 0xec100009d3264001c0,
     },
     // elements_next = DOTS elements_end
     Production {
         head: nonterminal::ELEMENTS_NEXT,
-        first: 432,
-        end: 434,
-        chosen: 0x80000,
+        first: 433,
+        end: 435,
+        chosen: 0x40000,
     },
     // elements_next = (nothing)
     Production {
         head: nonterminal::ELEMENTS_NEXT,
-        first: 434,
-        end: 434,
-        chosen: 0x80000000000000,
+        first: 435,
+        end: 435,
+        chosen: 0x40000000000000,
     },
     // elements_end = COMMA
     Production {
         head: nonterminal::ELEMENTS_END,
-        first: 434,
-        end: 435,
-        chosen: 0x2000,
+        first: 435,
+        end: 436,
+        chosen: 0x1000,
     },
     // elements_end = (nothing)
     Production {
         head: nonterminal::ELEMENTS_END,
-        first: 435,
-        end: 435,
-        chosen: 0x80000000000000,
+        first: 436,
+        end: 436,
+        chosen: 0x40000000000000,
     },
     // if = IF expr block ELSE else
     Production {
         head: nonterminal::IF,
-        first: 435,
-        end: 440,
-        chosen: 0x40000000,
+        first: 436,
+        end: 441,
+        chosen: 0x20000000,
     },
     // else = block
     Production {
         head: nonterminal::ELSE,
-        first: 440,
-        end: 441,
-        chosen: 0x200000000,
+        first: 441,
+        end: 442,
+        chosen: 0x100000000,
     },
     // else = if
     Production {
         head: nonterminal::ELSE,
-        first: 441,
-        end: 442,
-        chosen: 0x40000000,
+        first: 442,
+        end: 443,
+        chosen: 0x20000000,
     },
     // match = MATCH expr LBRACE arms RBRACE
     Production {
         head: nonterminal::MATCH,
-        first: 442,
-        end: 447,
-        chosen: 0x8000000000,
+        first: 443,
+        end: 448,
+        chosen: 0x4000000000,
     },
     // arms = arm arms_more
     Production {
         head: nonterminal::ARMS,
-        first: 447,
-        end: 449,
-        chosen: 0xec0000022008800380,
+        first: 448,
+        end: 450,
+        chosen: 0x1ec1000011004400180,
     },
     // arms = (nothing)
     Production {
         head: nonterminal::ARMS,
-        first: 449,
-        end: 449,
-        chosen: 0x40000000000000,
+        first: 450,
+        end: 450,
+        chosen: 0x20000000000000,
     },
     // arms_more = COMMA arms
     Production {
         head: nonterminal::ARMS_MORE,
-        first: 449,
-        end: 451,
-        chosen: 0x2000,
+        first: 450,
+        end: 452,
+        chosen: 0x1000,
     },
     // arms_more = (nothing)
     Production {
         head: nonterminal::ARMS_MORE,
-        first: 451,
-        end: 451,
-        chosen: 0x40000000000000,
+        first: 452,
+        end: 452,
+        chosen: 0x20000000000000,
     },
     // arm = pattern alternatives DARROW expr
     Production {
         head: nonterminal::ARM,
-        first: 451,
-        end: 455,
-        chosen: 0xec0000022008800380,
+        first: 452,
+        end: 456,
+        chosen: 0x1ec1000011004400180,
     },
     // alternatives = PIPE pattern alternatives
     Production {
         head: nonterminal::ALTERNATIVES,
-        first: 455,
-        end: 458,
-        chosen: 0x2000000000000,
+        first: 456,
+        end: 459,
+        chosen: 0x1000000000000,
     },
     // alternatives = (nothing)
     Production {
         head: nonterminal::ALTERNATIVES,
-        first: 458,
-        end: 458,
-        chosen: 0x20000,
+        first: 459,
+        end: 459,
+        chosen: 0x10000,
     },
     // for = FOR LPAREN pattern COMMA pattern RPAREN for_type for_range
     Production {
         head: nonterminal::FOR,
-        first: 458,
-        end: 466,
-        chosen: 0x4000000,
+        first: 459,
+        end: 467,
+        chosen: 0x2000000,
     },
     // for_type = COLON type
     Production {
         head: nonterminal::FOR_TYPE,
-        first: 466,
-        end: 468,
-        chosen: 0x1000,
+        first: 467,
+        end: 469,
+        chosen: 0x800,
     },
     // for_type = (nothing)
     Production {
         head: nonterminal::FOR_TYPE,
-        first: 468,
-        end: 468,
-        chosen: 0x80000000,
+        first: 469,
+        end: 469,
+        chosen: 0x40000000,
     },
     // for_range = IN expr REST expr block LPAREN expr RPAREN
     Production {
         head: nonterminal::FOR_RANGE,
-        first: 468,
-        end: 476,
-        chosen: 0x80000000,
+        first: 469,
+        end: 477,
+        chosen: 0x40000000,
     },
 ];
 
@@ -2630,281 +2639,281 @@ pub static SPANS: [Span; 111] = [
     // base_keyword
     Span {
         first: 102,
-        end: 105,
+        end: 106,
     },
     // type_tail
     Span {
-        first: 105,
-        end: 107,
+        first: 106,
+        end: 108,
     },
     // types
     Span {
-        first: 107,
-        end: 109,
+        first: 108,
+        end: 110,
     },
     // types_more
     Span {
-        first: 109,
-        end: 111,
+        first: 110,
+        end: 112,
     },
     // block
     Span {
-        first: 111,
-        end: 112,
+        first: 112,
+        end: 113,
     },
     // statements
     Span {
-        first: 112,
-        end: 115,
+        first: 113,
+        end: 116,
     },
     // statement_end
     Span {
-        first: 115,
-        end: 117,
+        first: 116,
+        end: 118,
     },
     // let
     Span {
-        first: 117,
-        end: 118,
+        first: 118,
+        end: 119,
     },
     // let_pattern
     Span {
-        first: 118,
-        end: 120,
+        first: 119,
+        end: 121,
     },
     // let_name
     Span {
-        first: 120,
-        end: 124,
+        first: 121,
+        end: 125,
     },
     // let_colon
     Span {
-        first: 124,
-        end: 126,
+        first: 125,
+        end: 127,
     },
     // let_type
     Span {
-        first: 126,
-        end: 128,
+        first: 127,
+        end: 129,
     },
     // pattern
     Span {
-        first: 128,
-        end: 130,
+        first: 129,
+        end: 131,
     },
     // plain_pattern
     Span {
-        first: 130,
-        end: 135,
+        first: 131,
+        end: 136,
     },
     // pattern_name
     Span {
-        first: 135,
-        end: 139,
+        first: 136,
+        end: 140,
     },
     // patterns
     Span {
-        first: 139,
-        end: 141,
+        first: 140,
+        end: 142,
     },
     // patterns_more
     Span {
-        first: 141,
-        end: 143,
+        first: 142,
+        end: 144,
     },
     // expr
     Span {
-        first: 143,
-        end: 144,
+        first: 144,
+        end: 145,
     },
     // operands
     Span {
-        first: 144,
-        end: 146,
+        first: 145,
+        end: 147,
     },
     // binary
     Span {
-        first: 146,
-        end: 165,
+        first: 147,
+        end: 166,
     },
     // operand
     Span {
-        first: 165,
-        end: 166,
+        first: 166,
+        end: 167,
     },
     // prefixes
     Span {
-        first: 166,
-        end: 169,
+        first: 167,
+        end: 170,
     },
     // casts
     Span {
-        first: 169,
-        end: 171,
+        first: 170,
+        end: 172,
     },
     // posts
     Span {
-        first: 171,
-        end: 174,
+        first: 172,
+        end: 175,
     },
     // index_end
     Span {
-        first: 174,
-        end: 177,
+        first: 175,
+        end: 178,
     },
     // part
     Span {
-        first: 177,
-        end: 179,
+        first: 178,
+        end: 180,
     },
     // atom
     Span {
-        first: 179,
-        end: 194,
+        first: 180,
+        end: 195,
     },
     // typed
     Span {
-        first: 194,
-        end: 196,
+        first: 195,
+        end: 197,
     },
     // name_tail
     Span {
-        first: 196,
-        end: 199,
+        first: 197,
+        end: 200,
     },
     // function_tail
     Span {
-        first: 199,
-        end: 203,
+        first: 200,
+        end: 204,
     },
     // struct_tail
     Span {
-        first: 203,
-        end: 207,
+        first: 204,
+        end: 208,
     },
     // both_tail
     Span {
-        first: 207,
-        end: 212,
-    },
-    // call
-    Span {
-        first: 212,
+        first: 208,
         end: 213,
     },
-    // call_with_args
+    // call
     Span {
         first: 213,
         end: 214,
     },
-    // exprs
+    // call_with_args
     Span {
         first: 214,
-        end: 216,
+        end: 215,
+    },
+    // exprs
+    Span {
+        first: 215,
+        end: 217,
     },
     // exprs_more
     Span {
-        first: 216,
-        end: 218,
+        first: 217,
+        end: 219,
     },
     // fields
     Span {
-        first: 218,
-        end: 219,
+        first: 219,
+        end: 220,
     },
     // field_list
     Span {
-        first: 219,
-        end: 222,
+        first: 220,
+        end: 223,
     },
     // field_value
     Span {
-        first: 222,
-        end: 224,
+        first: 223,
+        end: 225,
     },
     // field_more
     Span {
-        first: 224,
-        end: 226,
+        first: 225,
+        end: 227,
     },
     // parenthesis
     Span {
-        first: 226,
-        end: 228,
+        first: 227,
+        end: 229,
     },
     // parenthesis_end
     Span {
-        first: 228,
-        end: 230,
+        first: 229,
+        end: 231,
     },
     // elements
     Span {
-        first: 230,
-        end: 231,
+        first: 231,
+        end: 232,
     },
     // elements_more
     Span {
-        first: 231,
-        end: 233,
+        first: 232,
+        end: 234,
     },
     // elements_next
     Span {
-        first: 233,
-        end: 236,
+        first: 234,
+        end: 237,
     },
     // elements_end
     Span {
-        first: 236,
-        end: 238,
+        first: 237,
+        end: 239,
     },
     // if
     Span {
-        first: 238,
-        end: 239,
+        first: 239,
+        end: 240,
     },
     // else
     Span {
-        first: 239,
-        end: 241,
+        first: 240,
+        end: 242,
     },
     // match
     Span {
-        first: 241,
-        end: 242,
+        first: 242,
+        end: 243,
     },
     // arms
     Span {
-        first: 242,
-        end: 244,
+        first: 243,
+        end: 245,
     },
     // arms_more
     Span {
-        first: 244,
-        end: 246,
+        first: 245,
+        end: 247,
     },
     // arm
     Span {
-        first: 246,
-        end: 247,
+        first: 247,
+        end: 248,
     },
     // alternatives
     Span {
-        first: 247,
-        end: 249,
+        first: 248,
+        end: 250,
     },
     // for
     Span {
-        first: 249,
-        end: 250,
+        first: 250,
+        end: 251,
     },
     // for_type
     Span {
-        first: 250,
-        end: 252,
+        first: 251,
+        end: 253,
     },
     // for_range
     Span {
-        first: 252,
-        end: 253,
+        first: 253,
+        end: 254,
     },
 ];

@@ -22,23 +22,23 @@ fn place_of(alloc: Global, kinds: &[u8]) -> Result<usize, Fail> {
 fn texts(rt: HostRuntime) -> Result<(), Fail> {
     let alloc = rt.alloc();
     // const A = u8:1;
-    let kinds = [CONST, NAME, ASSIGN, BITS, COLON, NUMBER, SEMI, END];
+    let kinds = [CONST, NAME, ASSIGN, UNSIGNED, COLON, NUMBER, SEMI, END];
     assert_eq!(rt; place_of(alloc, &kinds)?, 8);
 
     // fn f(x: u8) -> u8 { if x == 1 { x } else { f(x - 1)[0:2] } }
     let kinds = [
-        FN, FUNNAME, LPAREN, NAME, COLON, BITS, RPAREN, ARROW, BITS, LBRACE, IF, NAME, EQ, NUMBER,
-        LBRACE, NAME, RBRACE, ELSE, LBRACE, FUNNAME, LPAREN, NAME, MINUS, NUMBER, RPAREN, LBRACKET,
-        NUMBER, COLON, NUMBER, RBRACKET, RBRACE, RBRACE, END,
+        FN, FUNNAME, LPAREN, NAME, COLON, UNSIGNED, RPAREN, ARROW, UNSIGNED, LBRACE, IF, NAME, EQ,
+        NUMBER, LBRACE, NAME, RBRACE, ELSE, LBRACE, FUNNAME, LPAREN, NAME, MINUS, NUMBER, RPAREN,
+        LBRACKET, NUMBER, COLON, NUMBER, RBRACKET, RBRACE, RBRACE, END,
     ];
     assert_eq!(rt; place_of(alloc, &kinds)?, 33);
 
     // proc p { c: chan<u8> in; config(c: chan<u8> in) { (c) } init { u8:0 } next(s: u8) { s } }
     let kinds = [
-        PROC, FUNNAME, LBRACE, NAME, COLON, CHAN, LT, BITS, GT, IN, SEMI, CONFIG, LPAREN, NAME,
-        COLON, CHAN, LT, BITS, GT, IN, RPAREN, LBRACE, LPAREN, NAME, RPAREN, RBRACE, INIT, LBRACE,
-        BITS, COLON, NUMBER, RBRACE, NEXT, LPAREN, NAME, COLON, BITS, RPAREN, LBRACE, NAME, RBRACE,
-        RBRACE, END,
+        PROC, FUNNAME, LBRACE, NAME, COLON, CHAN, LT, UNSIGNED, GT, IN, SEMI, CONFIG, LPAREN, NAME,
+        COLON, CHAN, LT, UNSIGNED, GT, IN, RPAREN, LBRACE, LPAREN, NAME, RPAREN, RBRACE, INIT,
+        LBRACE, UNSIGNED, COLON, NUMBER, RBRACE, NEXT, LPAREN, NAME, COLON, UNSIGNED, RPAREN,
+        LBRACE, NAME, RBRACE, RBRACE, END,
     ];
     assert_eq!(rt; place_of(alloc, &kinds)?, 43);
     Ok(())
@@ -58,7 +58,8 @@ fn faults(rt: HostRuntime) -> Result<(), Fail> {
     assert_eq!(rt; place_of(alloc, &kinds)?, 9);
     // type T = u8; const A = T + 1;
     let kinds = [
-        TYPE, TYPENAME, ASSIGN, BITS, SEMI, CONST, NAME, ASSIGN, TYPENAME, PLUS, NUMBER, SEMI, END,
+        TYPE, TYPENAME, ASSIGN, UNSIGNED, SEMI, CONST, NAME, ASSIGN, TYPENAME, PLUS, NUMBER, SEMI,
+        END,
     ];
     assert_eq!(rt; place_of(alloc, &kinds)?, 9);
     Ok(())
