@@ -1,0 +1,29 @@
+//! What holds of DSLX's grammar: the laws of the crate `grammar`, each the contract of a function that
+//! makes one call.
+
+ghost use Rattle.std.specs.Prelude.{◌≡◌, ℕ, ◌*◌, ◌≤◌, List, length};
+ghost use Rattle.grammar.specs.Derivation.{IsBeginning, IsDerivation};
+ghost use Rattle.dslx_grammar.specs.Dslx.{dslx};
+
+use crate::reader::grammar;
+
+/// A list of tokens has at most one derivation.
+pub fn one_derivation()
+    ensures { (ps qs ts : List ℕ) → IsDerivation dslx ps ts → IsDerivation dslx qs ts → ps ≡ qs }
+{
+    grammar::one_derivation(&grammar());
+}
+
+/// One list of productions leads to a front.
+pub fn one_beginning()
+    ensures { (ps qs ts : List ℕ) → IsBeginning dslx ps ts → IsBeginning dslx qs ts → ps ≡ qs }
+{
+    grammar::one_beginning(&grammar());
+}
+
+/// A derivation has at most 32 productions for each token.
+pub fn linear_derivations()
+    ensures { (ps ts : List ℕ) → IsDerivation dslx ps ts → length ps ≤ 32 * length ts }
+{
+    grammar::linear_derivations(&grammar());
+}

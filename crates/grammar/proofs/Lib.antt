@@ -1,0 +1,9 @@
+pub mod Sets
+pub mod Valid
+pub mod Deriving
+pub mod Reading
+pub mod Tested
+pub mod Choosing
+pub mod Stepping
+pub mod LawProofs
+pub mod Trees
