@@ -1,3 +1,4 @@
 pub mod Flat
 pub mod Typing
+pub mod Unflat
 pub mod Width

@@ -1,0 +1,4 @@
+pub mod Saturation
+pub mod Types
+pub mod Widths
+pub mod Words
