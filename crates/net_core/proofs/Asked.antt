@@ -24,12 +24,11 @@ use Rattle.net_core.proofs.Events.{IsAtSite, receive_shows, send_shows, end_show
 
 module _ (run : Run) (cut : Cut) (config : Config) (sh : Shows run cut config) (p : ℕ) (proc : Proc) (proc_is : slice_get run.procs p ≡ Some proc)
     (active : (position_in run cut p proc).ends < run.activations) where
-
-  event_stands : (e : Event) → EventAt proc.behavior (position_in run cut p proc).state (position_in run cut p proc).got e → IsStandingFor config p e
-  event_stands _ (receives_at i site place stands turn) =
+  event_stands : (e : Event) → EventAt proc.behavior (position_in run cut p proc).state (position_in run cut p proc).got (position_in run cut p proc).done e → IsStandingFor config p e
+  event_stands _ (receives_at i site later place stands turn) =
       let fits = site_fits run cut config sh p proc proc_is i site place in
       (progress_of run cut p proc, site.chan, channel_of run cut site.chan fits.chan, stands_at run cut config sh p proc proc_is i site place fits.chan fits.chan_is)
-  event_stands _ (sends_at i site w place stands turn) =
+  event_stands _ (sends_at i site w later place stands turn) =
       let fits = site_fits run cut config sh p proc proc_is i site place in
       (progress_of run cut p proc, site.chan, channel_of run cut site.chan fits.chan, stands_at run cut config sh p proc proc_is i site place fits.chan fits.chan_is)
   event_stands _ (ends_with stands) =
@@ -42,15 +41,15 @@ module _ (run : Run) (cut : Cut) (config : Config) (sh : Shows run cut config) (
   turn_fits i site turn place stands e =
       subst (λ t. TurnFits proc.behavior site t) e ((sh.run_fits.keeps_types p proc proc_is).turns (position_in run cut p proc).state (position_in run cut p proc).got i site stands place)
 
-  event_can : (e : Event) → EventAt proc.behavior (position_in run cut p proc).state (position_in run cut p proc).got e
+  event_can : (e : Event) → EventAt proc.behavior (position_in run cut p proc).state (position_in run cut p proc).got (position_in run cut p proc).done e
       → next_of proc.behavior (position_in run cut p proc) ≡ e → (can : Bool) → CanMake config p e can → can ≡ goes_by run cut p (Some proc)
-  event_can _ (receives_at i site place stands turn) next can made =
+  event_can _ (receives_at i site later place stands turn) next can made =
       let fits = site_fits run cut config sh p proc proc_is i site place in
       let at = stands_at run cut config sh p proc proc_is i site place fits.chan fits.chan_is in
       let ours = fits.receives (turn_fits i site Receive place stands turn) in
       made (progress_of run cut p proc) site.chan (channel_of run cut site.chan fits.chan) at
       ∙ sym (goes_receive run cut config sh p proc proc_is i site place fits.chan ours active next)
-  event_can _ (sends_at i site w place stands turn) next can made =
+  event_can _ (sends_at i site w later place stands turn) next can made =
       let fits = site_fits run cut config sh p proc proc_is i site place in
       let at = stands_at run cut config sh p proc proc_is i site place fits.chan fits.chan_is in
       let sends = (turn_fits i site (Give w) place stands turn).0 in
@@ -87,17 +86,17 @@ module _ (run : Run) (cut : Cut) (config : Config) (sh : Shows run cut config) (
       let h = goes ∙ t.0 in
       (sym h, subst (λ (c : Cut). Shows run c new) (sym (stepped_stays run cut p proc proc_is h)) (shows_unchanged run cut config new sh t.1))
 
-  event_tried : (new : Config) (e : Event) → EventAt proc.behavior (position_in run cut p proc).state (position_in run cut p proc).got e
+  event_tried : (new : Config) (e : Event) → EventAt proc.behavior (position_in run cut p proc).state (position_in run cut p proc).got (position_in run cut p proc).done e
       → next_of proc.behavior (position_in run cut p proc) ≡ e → (made : Bool) → TriesEvent config new p e made
       → (made ≡ goes_by run cut p (Some proc)) × Shows run (stepped run cut p) new
-  event_tried new _ (receives_at i site place stands turn) next made t =
+  event_tried new _ (receives_at i site later place stands turn) next made t =
       let fits = site_fits run cut config sh p proc proc_is i site place in
       let at = stands_at run cut config sh p proc proc_is i site place fits.chan fits.chan_is in
       let ours = fits.receives (turn_fits i site Receive place stands turn) in
       receive_tried new i site fits.chan (record { proc_is = proc_is; place = place; chan_is = fits.chan_is; width = fits.width; stands = stands }) turn
       (goes_receive run cut config sh p proc proc_is i site place fits.chan ours active next) ours next made
       (t (progress_of run cut p proc) site.chan (channel_of run cut site.chan fits.chan) at)
-  event_tried new _ (sends_at i site w place stands turn) next made t =
+  event_tried new _ (sends_at i site w later place stands turn) next made t =
       let fits = site_fits run cut config sh p proc proc_is i site place in
       let at = stands_at run cut config sh p proc proc_is i site place fits.chan fits.chan_is in
       let turns = turn_fits i site (Give w) place stands turn in

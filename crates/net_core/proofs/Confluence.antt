@@ -42,6 +42,7 @@ step_cases run cut p P c same more = go (slice_get run.procs p) refl
         → P (cond b (with_event cut p (next_of proc.behavior (position_in run cut p proc))) cut)
     by_test proc e true h = more (next_of proc.behavior (position_in run cut p proc)) (goes_extends run cut p proc e (c p) h)
     by_test proc e false h = same
+
     go : (o : Option Proc) → slice_get run.procs p ≡ o → P (stepped_by run cut p o)
     go None e = unfold stepped_by in same
     go (Some proc) e = unfold stepped_by in by_test proc e (goes_by run cut p (Some proc)) refl

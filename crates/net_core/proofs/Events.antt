@@ -35,7 +35,6 @@ use Rattle.net_core.proofs.Shown.{stepped_is, chan_at-there, within_sites}
 -- what every event leaves: the parts of `Shows` that don't depend on which event it is
 module _ (run : Run) (cut : Cut) (old : Config) (sh : Shows run cut old) (p : ℕ) (proc : Proc) (proc_is : slice_get run.procs p ≡ Some proc)
     (event : Event) (next : next_of proc.behavior (position_in run cut p proc) ≡ event) (goes : goes_by run cut p (Some proc) ≡ true) where
-
   more_is : stepped run cut p ≡ with_event cut p event
   more_is = stepped_is run cut p proc proc_is goes ∙ ap (λ e. with_event cut p e) next
 
@@ -157,13 +156,13 @@ receive_shows run cut old new p proc i site chan word sh at_site turn ours next 
     let chan_here = chan_at-there b.sites i site at_site.place in
     let words_same = λ (c : ℕ). words_at-receive run cut p i c in
     let got_is : take 1 (words_after b.sites (cut p) (words_at run more) (chan_at b.sites i)) ≡ word ∷ [] =
-        ap (λ c. take 1 (words_after b.sites (cut p) (words_at run more) c)) chan_here
-        ∙ (ap (λ xs. take 1 xs) (words_after-drop b.sites site.chan (cut p) (words_at run more))
-        ∙ (ap (λ xs. take 1 (drop (count_received b.sites site.chan (cut p)) xs)) (words_same site.chan)
-        ∙ (ap (λ k. take 1 (drop k (words_at run cut site.chan))) (sym (received_at-by run cut p site.chan proc at_site.proc_is ours))
-        ∙ take_there (words_at run cut site.chan) (received_at run cut site.chan) word made.word_is))) in
+    ap (λ c. take 1 (words_after b.sites (cut p) (words_at run more) c)) chan_here
+    ∙ (ap (λ xs. take 1 xs) (words_after-drop b.sites site.chan (cut p) (words_at run more))
+    ∙ (ap (λ xs. take 1 (drop (count_received b.sites site.chan (cut p)) xs)) (words_same site.chan)
+    ∙ (ap (λ k. take 1 (drop k (words_at run cut site.chan))) (sym (received_at-by run cut p site.chan proc at_site.proc_is ours))
+    ∙ take_there (words_at run cut site.chan) (received_at run cut site.chan) word made.word_is))) in
     let stands_is : position_in run more p proc ≡ record { state = at.state; got = at.got ++ word ∷ []; done = suc i; ends = at.ends } =
-        own_stands run cut old sh p proc at_site.proc_is (Recv i) next goes ∙ ap (λ xs. record { state = at.state; got = at.got ++ xs; done = suc i; ends = at.ends }) got_is in
+    own_stands run cut old sh p proc at_site.proc_is (Recv i) next goes ∙ ap (λ xs. record { state = at.state; got = at.got ++ xs; done = suc i; ends = at.ends }) got_is in
     let is_word = subst (λ k. IsWordOf k word) (sym at_site.width) (sh.words site.chan chan at_site.chan_is (received_at run cut site.chan) word made.word_is) in
     let open_now = open_receive b at.state at.got i site word at_site.stands at_site.place turn is_word in
     let received_here = received_at-receive run cut p i site.chan proc at_site.proc_is ours chan_here in
@@ -212,7 +211,7 @@ send_shows run cut old new p proc i site chan word sh at_site turn is_word ours 
     let words_here = words_at-send run cut p i site.chan word proc chan at_site.proc_is at_site.chan_is no_input ours chan_here in
     let words_other = λ (c : ℕ) (h : c ≢ site.chan). words_at-send_other run cut p i c word proc at_site.proc_is (λ e. h (sym e ∙ chan_here)) in
     let stands_is : position_in run more p proc ≡ record { state = at.state; got = at.got; done = suc i; ends = at.ends } =
-        own_stands run cut old sh p proc at_site.proc_is (Send i word) next goes in
+    own_stands run cut old sh p proc at_site.proc_is (Send i word) next goes in
     let open_now = open_send b at.state at.got i site word at_site.stands at_site.place turn in
     let received_same = λ (c : ℕ). received_at-send run cut p i c word in
     record {
@@ -234,6 +233,7 @@ send_shows run cut old new p proc i site chan word sh at_site turn is_word ours 
     by_place : (v : Word) (k : ℕ) → (slice_get (words_at run cut site.chan) k ≡ Some v) ⊎ (v ≡ word) → IsWordOf (width_of chan.ty) v
     by_place v k (inl f) = sh.words site.chan chan at_site.chan_is k v f
     by_place v k (inr f) = subst (λ (x : Word). IsWordOf (width_of chan.ty) x) (sym f) (subst (λ m. IsWordOf m word) at_site.width is_word)
+
     words_fit : (c : ℕ) (ch : Chan) → slice_get run.chans c ≡ Some ch → (c ≡ site.chan) ⊎ (c ≢ site.chan) → AreWordsOf (width_of ch.ty) (words_at run (with_event cut p (Send i word)) c)
     words_fit c ch e (inl h) = λ k v get.
         let chan_here = chan_at-there proc.behavior.sites i site at_site.place in
@@ -259,7 +259,7 @@ end_shows run cut old new p proc s sh proc_is typed next goes made =
     let words_same = λ (c : ℕ). words_at-end run cut p c s in
     let received_same = λ (c : ℕ). received_at-end run cut p c s in
     let stands_is : position_in run more p proc ≡ record { state = s; got = []; done = 0; ends = suc at.ends } =
-        own_stands run cut old sh p proc proc_is (End s) next goes in
+    own_stands run cut old sh p proc proc_is (End s) next goes in
     record {
       run_fits = sh.run_fits;
       activations = made.activations ∙ sh.activations;

@@ -12,5 +12,6 @@ pub mod Indexed
 pub mod Shown
 pub mod Events
 pub mod Asked
+pub mod Falls
 pub mod Starts
 pub mod Stalls

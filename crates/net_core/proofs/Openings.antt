@@ -21,9 +21,9 @@ NextWords b site words Receive new = (w : Word) × (new ≡ words ++ w ∷ []) �
 unfoldable pub AtTurn : Behavior → Value → List Word → ℕ → Site → List Site → List Word → Turn → Type 0
 AtTurn b s got i site sites words turn =
     elim turn [
-      Skip ↦ Takes b s got (suc i) sites words
-    | Receive ↦ ((w : Word) × (rest : List Word) × (words ≡ w ∷ rest) × IsWordOf (b.width site.chan) w × Takes b s (got ++ w ∷ []) (suc i) sites rest)
-    | Give w ↦ Takes b s got (suc i) sites words
+      | Skip ↦ Takes b s got (suc i) sites words
+      | Receive ↦ ((w : Word) × (rest : List Word) × (words ≡ w ∷ rest) × IsWordOf (b.width site.chan) w × Takes b s (got ++ w ∷ []) (suc i) sites rest)
+      | Give w ↦ Takes b s got (suc i) sites words
     ]
 
 last_site : (b : Behavior) (s : Value) (got words new : List Word) (i : ℕ) (site : Site) (turn : Turn) → words ≡ [] → NextWords b site words turn new → AtTurn b s got i site [] new turn
@@ -109,11 +109,11 @@ pub open_receive : (b : Behavior) (s : Value) (got : List Word) (i : ℕ) (site 
 unfolding NextWords
 open_receive b s got i site w o e t h = open_past b s got (got ++ w ∷ []) i site Receive o e t (w, refl, h)
 
--- what the next event is, by what the proc does at its site
-pub data EventAt (b : Behavior) (s : Value) (got : List Word) : Event → Type 0 where
-  receives_at : (i : ℕ) (site : Site) → slice_get b.sites i ≡ Some site → IsOpen b s got i → b.turn s got i ≡ Receive → EventAt b s got (Recv i)
-  sends_at : (i : ℕ) (site : Site) (w : Word) → slice_get b.sites i ≡ Some site → IsOpen b s got i → b.turn s got i ≡ Give w → EventAt b s got (Send i w)
-  ends_with : IsOpen b s got (length b.sites) → EventAt b s got (End (b.next_state s got))
+-- what the next event is, by what the proc does at its site, which isn't past
+pub data EventAt (b : Behavior) (s : Value) (got : List Word) (done : ℕ) : Event → Type 0 where
+  receives_at : (i : ℕ) (site : Site) → done ≤ i → slice_get b.sites i ≡ Some site → IsOpen b s got i → b.turn s got i ≡ Receive → EventAt b s got done (Recv i)
+  sends_at : (i : ℕ) (site : Site) (w : Word) → done ≤ i → slice_get b.sites i ≡ Some site → IsOpen b s got i → b.turn s got i ≡ Give w → EventAt b s got done (Send i w)
+  ends_with : IsOpen b s got (length b.sites) → EventAt b s got done (End (b.next_state s got))
 
 drop_end : (all : List Site) (i : ℕ) → i ≤ length all → drop i all ≡ [] → i ≡ length all
 drop_end [] zero h e = refl
@@ -121,25 +121,25 @@ drop_end [] (suc i) h e = absurd (omega (arith, h))
 drop_end (x ∷ xs) zero h e = cc
 drop_end (x ∷ xs) (suc i) h e = ap suc (drop_end xs i (omega (arith, h)) e)
 
-event_by_turn : (b : Behavior) (s : Value) (got : List Word) (site : Site) (sites : List Site) (i : ℕ) (turn : Turn) → IsSplit b.sites i site sites → IsOpen b s got i
-    → b.turn s got i ≡ turn → (IsOpen b s got (suc i) → EventAt b s got (event_from b s got (suc i) sites)) → EventAt b s got (event_turn b s got i sites turn)
+event_by_turn : (b : Behavior) (s : Value) (got : List Word) (done : ℕ) (site : Site) (sites : List Site) (i : ℕ) (turn : Turn) → done ≤ i → IsSplit b.sites i site sites → IsOpen b s got i
+    → b.turn s got i ≡ turn → (IsOpen b s got (suc i) → EventAt b s got done (event_from b s got (suc i) sites)) → EventAt b s got done (event_turn b s got i sites turn)
 unfolding event_turn
-event_by_turn b s got site sites i Skip split o e ih = ih (open_skip b s got i site o split.here e)
-event_by_turn b s got site sites i Receive split o e ih = receives_at i site split.here o e
-event_by_turn b s got site sites i (Give w) split o e ih = sends_at i site w split.here o e
+event_by_turn b s got done site sites i Skip l split o e ih = ih (open_skip b s got i site o split.here e)
+event_by_turn b s got done site sites i Receive l split o e ih = receives_at i site l split.here o e
+event_by_turn b s got done site sites i (Give w) l split o e ih = sends_at i site w l split.here o e
 
-event_at : (b : Behavior) (s : Value) (got : List Word) (sites : List Site) (i : ℕ) → drop i b.sites ≡ sites → IsOpen b s got i → EventAt b s got (event_from b s got i sites)
-event_at b s got [] i e o =
+event_at : (b : Behavior) (s : Value) (got : List Word) (done : ℕ) (sites : List Site) (i : ℕ) → done ≤ i → drop i b.sites ≡ sites → IsOpen b s got i → EventAt b s got done (event_from b s got i sites)
+event_at b s got done [] i l e o =
     let h = drop_end b.sites i o.within e in
     unfold event_from in ends_with (subst (λ k. IsOpen b s got k) h o)
-event_at b s got (site ∷ sites) i e o =
+event_at b s got done (site ∷ sites) i l e o =
     let split = split_at b.sites i site sites e in
-    rw (event_site b s got i site sites) (event_by_turn b s got site sites i (b.turn s got i) split o refl (λ o'. event_at b s got sites (suc i) split.rest o'))
+    rw (event_site b s got i site sites) (event_by_turn b s got done site sites i (b.turn s got i) l split o refl (λ o'. event_at b s got done sites (suc i) (omega (arith, l)) split.rest o'))
 
 -- the next event of an activation that stands somewhere
-pub next_at : (b : Behavior) (s : Value) (got : List Word) (done : ℕ) → IsOpen b s got done → EventAt b s got (next_event b s got done)
+pub next_at : (b : Behavior) (s : Value) (got : List Word) (done : ℕ) → IsOpen b s got done → EventAt b s got done (next_event b s got done)
 unfolding next_event
-next_at b s got done o = event_at b s got (drop done b.sites) done refl o
+next_at b s got done o = event_at b s got done (drop done b.sites) done (omega arith) refl o
 
 -- an activation stands before its first site
 pub open_first : (b : Behavior) (s : Value) → IsOfType b.state s → IsOpen b s [] 0

@@ -57,6 +57,7 @@ words_by_grow run cut more c (Some chan) f = go chan.kind
   where
     sent : IsFront (words_sent (sites_at run (sender run c)) c (cut (sender run c))) (words_sent (sites_at run (sender run c)) c (more (sender run c)))
     sent = words_sent_grow _ c _ _ (f (sender run c))
+
     go : (kind : Kind) → IsFront
         (elim kind as (λ _. List Word) [ Input ↦ get_or run.inputs c [] | Output ↦ words_sent (sites_at run (sender run c)) c (cut (sender run c)) | Inner ↦ words_sent (sites_at run (sender run c)) c (cut (sender run c)) ])
         (elim kind as (λ _. List Word) [ Input ↦ get_or run.inputs c [] | Output ↦ words_sent (sites_at run (sender run c)) c (more (sender run c)) | Inner ↦ words_sent (sites_at run (sender run c)) c (more (sender run c)) ])

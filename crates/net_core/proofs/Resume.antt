@@ -38,8 +38,8 @@ split_at (x ∷ xs) (suc i) site sites e =
 unfoldable pub behind_receive : Behavior → (Value → Histories → List Event) → Value → List Word → Histories → ℕ → List Word → List Event
 behind_receive b after s got words i here =
     elim here [
-      [] ↦ []
-    | w ∷ _ ↦ Recv i ∷ events_from b after s (got ++ w ∷ []) (without_first words (chan_at b.sites i)) (suc i) (drop (suc i) b.sites)
+      | [] ↦ []
+      | w ∷ _ ↦ Recv i ∷ events_from b after s (got ++ w ∷ []) (without_first words (chan_at b.sites i)) (suc i) (drop (suc i) b.sites)
     ]
 
 -- the events of an activation from its next one on
@@ -52,9 +52,9 @@ from_event b after s got words (End s') = End s' ∷ after s' words
 unfoldable pub event_turn : Behavior → Value → List Word → ℕ → List Site → Turn → Event
 event_turn b s got i sites turn =
     elim turn [
-      Skip ↦ event_from b s got (suc i) sites
-    | Receive ↦ Recv i
-    | Give w ↦ Send i w
+      | Skip ↦ event_from b s got (suc i) sites
+      | Receive ↦ Recv i
+      | Give w ↦ Send i w
     ]
 
 pub event_site : (b : Behavior) (s : Value) (got : List Word) (i : ℕ) (site : Site) (sites : List Site) → event_from b s got i (site ∷ sites) ≡ event_turn b s got i sites (b.turn s got i)
@@ -128,7 +128,7 @@ from_active b n k at words e = rw e (events_next b (trace b k) at.state at.got w
 
 receive_goes : (b : Behavior) (k i : ℕ) (at : Position) (words : Histories) (here : List Word) → is_left here ≡ true
     → behind_receive b (trace b k) at.state at.got words i here
-      ≡ Recv i ∷ rest_from b (suc k) (record { state = at.state; got = at.got ++ take 1 here; done = suc i; ends = at.ends }) (without_first words (chan_at b.sites i))
+    ≡ Recv i ∷ rest_from b (suc k) (record { state = at.state; got = at.got ++ take 1 here; done = suc i; ends = at.ends }) (without_first words (chan_at b.sites i))
 unfolding behind_receive rest_from
 receive_goes b k i at words [] h = cc
 receive_goes b k i at words (w ∷ ws) h = refl
@@ -154,7 +154,9 @@ pub goes_on : (b : Behavior) (n : ℕ) (at : Position) (words : Histories) → a
 goes_on b n at words l h =
     let e : n - at.ends ≡ suc (n - suc at.ends) = omega arith in
     record {
-      active = l; next = refl; found = h;
+      active = l;
+      next = refl;
+      found = h;
       rest = from_active b n (n - suc at.ends) at words e ∙ event_goes b n (n - suc at.ends) at words e (next_of b at) h;
     }
 

@@ -52,7 +52,6 @@ total_bound n (proc ∷ procs) cut small =
 
 module _ (run : Run) (next : Cut → Cut) (grows : (cut more : Cut) → IsWithin cut more → IsWithin (next cut) (next more))
     (small : (cut : Cut) (p : ℕ) → length (next cut p) ≤ size_of run.activations (slice_get run.procs p)) where
-
   rounds_grow : (k : ℕ) → IsWithin (rounds next k) (rounds next (suc k))
   rounds_grow zero p = tt
   rounds_grow (suc k) p = grows (rounds next k) (rounds next (suc k)) (λ q. rounds_grow k q) p

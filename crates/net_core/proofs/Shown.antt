@@ -80,7 +80,6 @@ and_true false = refl
 
 -- what is known of a proc that stands in a configuration
 module _ (run : Run) (cut : Cut) (config : Config) (sh : Shows run cut config) (p : ℕ) (proc : Proc) (proc_is : slice_get run.procs p ≡ Some proc) where
-
   pub progress_is : slice_get config.procs.items p ≡ Some (progress_of run cut p proc)
   progress_is = sh.procs p ∙ ap (λ o. option_map (progress_of run cut p) o) proc_is
 
@@ -91,12 +90,14 @@ module _ (run : Run) (cut : Cut) (config : Config) (sh : Shows run cut config) (
       → StandsAt config p i (progress_of run cut p proc) site.chan (channel_of run cut site.chan chan)
   stands_at i site place chan chan_is =
       record {
-        proc = progress_is; at = site; site_is = place; chan_is = refl;
+        proc = progress_is;
+        at = site;
+        site_is = place;
+        chan_is = refl;
         small = omega (arith, within_sites proc.behavior.sites i site place, sh.run_fits.few_sites p proc proc_is);
         channel_is = sh.channels site.chan ∙ ap (λ o. option_map (channel_of run cut site.chan) o) chan_is;
         received = sh.received site.chan;
       }
-
 
   -- a receive can be made where there is a word
   pub goes_receive : (i : ℕ) (site : Site) → slice_get proc.behavior.sites i ≡ Some site → (chan : Chan) → receiver run site.chan ≡ p

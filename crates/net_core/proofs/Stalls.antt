@@ -99,8 +99,8 @@ stream_is run cut c (Some chan) = refl
 pub streams_are : (run : Run) (cut : Cut) (config : Config) → Shows run cut config → map stream_in config.channels.items ≡ indexed (stream_of run cut) 0 run.chans
 streams_are run cut config sh =
     same_by_get _ _ (λ k.
-        get_map stream_in config.channels.items k
-        ∙ (ap (λ o. option_map stream_in o) (sh.channels k) ∙ (stream_is run cut k (slice_get run.chans k) ∙ sym (indexed_get (stream_of run cut) 0 k k run.chans (omega arith)))))
+    get_map stream_in config.channels.items k
+    ∙ (ap (λ o. option_map stream_in o) (sh.channels k) ∙ (stream_is run cut k (slice_get run.chans k) ∙ sym (indexed_get (stream_of run cut) 0 k k run.chans (omega arith)))))
 
 end_is : (run : Run) (cut : Cut) (k : ℕ) (stalls : List (Option Stall)) (o : Option Proc) → slice_get stalls k ≡ option_map (stall_in run cut k) o
     → option_map (end_with stalls k) (option_map (progress_of run cut k) o) ≡ option_map (end_of run cut k) o
@@ -113,6 +113,6 @@ pub ends_are : (run : Run) (cut : Cut) (config : Config) (stalls : List (Option 
     → indexed (end_with stalls) 0 config.procs.items ≡ indexed (end_of run cut) 0 run.procs
 ends_are run cut config stalls sh e =
     same_by_get _ _ (λ k.
-        let stall = ap (λ ss. slice_get ss k) e ∙ indexed_get (stall_in run cut) 0 k k run.procs (omega arith) in
-        indexed_get (end_with stalls) 0 k k config.procs.items (omega arith)
-        ∙ (ap (λ o. option_map (end_with stalls k) o) (sh.procs k) ∙ (end_is run cut k stalls (slice_get run.procs k) stall ∙ sym (indexed_get (end_of run cut) 0 k k run.procs (omega arith)))))
+    let stall = ap (λ ss. slice_get ss k) e ∙ indexed_get (stall_in run cut) 0 k k run.procs (omega arith) in
+    indexed_get (end_with stalls) 0 k k config.procs.items (omega arith)
+    ∙ (ap (λ o. option_map (end_with stalls k) o) (sh.procs k) ∙ (end_is run cut k stalls (slice_get run.procs k) stall ∙ sym (indexed_get (end_of run cut) 0 k k run.procs (omega arith)))))

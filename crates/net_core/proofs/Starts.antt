@@ -18,7 +18,7 @@ use Rattle.net_core.specs.declared.config.Channel.{Channel}
 use Rattle.net_core.specs.Behavior.{Behavior, IsOpen, IsWordOf}
 use Rattle.net_core.specs.Cuts.{Proc, Run, Cut, empty_cut, place_of, sends_on, receives_on, sender, receiver, words_sent, count_received, words_by, words_at, received_at}
 use Rattle.net_core.specs.Machine.{Position, opened, position_after, position_in}
-use Rattle.net_core.specs.WellFormed.{IsNet, IsSiteOf, IsInputs, AreWordsOf, IsBehaviorFor, AreBehaviorsOf, procs_of, run_of, IsRun, IsSiteIn, SiteFits}
+use Rattle.net_core.specs.WellFormed.{IsNet, IsSiteOf, IsInputs, AreWordsOf, IsBehaviorFor, AreBehaviorsOf, EachKeepsTypes, procs_of, run_of, IsRun, IsSiteIn, SiteFits}
 use Rattle.net_core.specs.Outcomes.{indexed}
 use Rattle.net_core.specs.Shows.{Shows, progress_at, progress_of, channel_of}
 use Rattle.net_core.specs.Making.{opened_progress, filled_channel}
@@ -106,9 +106,8 @@ not_true false h = refl
 not_false : (a : Bool) → a ≡ false → not a ≡ true
 not_false a h = ap not h
 
-module _ (net : Net) (well : IsNet net) (bs : List Behavior) (fit : AreBehaviorsOf net bs) (inputs : List (List Word)) (given : IsInputs net inputs)
+module _ (net : Net) (well : IsNet net) (bs : List Behavior) (fit : AreBehaviorsOf net bs) (keep : EachKeepsTypes bs) (inputs : List (List Word)) (given : IsInputs net inputs)
     (n : ℕ) (small : n < 2 ^ 32) (depths : List ℕ) where
-
   behavior_fits : (p : ℕ) (proc : Proc) (z : IsZipped net.procs bs p proc) → IsBehaviorFor net z.head proc.behavior
   behavior_fits p proc z = fit.each p z.head proc.behavior z.head_is z.behavior_is
 
@@ -124,9 +123,9 @@ module _ (net : Net) (well : IsNet net) (bs : List Behavior) (fit : AreBehaviors
       place_there (sends_on site.chan) (procs_of net.procs bs) p proc e
       (any_there (λ (x : Site). x.sends && eqb x.chan site.chan) proc.behavior.sites i site f (and_made site.sends (eqb site.chan site.chan) s (eqb-itself site.chan site.chan refl)))
       (λ q other g t.
-          let found = some_there (λ (x : Site). x.sends && eqb x.chan site.chan) other.behavior.sites t in
-          let both = and_both _ _ found.3 in
-          well.one_proc q p found.0 i found.1 site (site_of q found.0 other found.1 g found.2) (site_of p i proc site e f) (eqb-same found.1.chan site.chan both.1) (both.0 ∙ sym s))
+      let found = some_there (λ (x : Site). x.sends && eqb x.chan site.chan) other.behavior.sites t in
+      let both = and_both _ _ found.3 in
+      well.one_proc q p found.0 i found.1 site (site_of q found.0 other found.1 g found.2) (site_of p i proc site e f) (eqb-same found.1.chan site.chan both.1) (both.0 ∙ sym s))
 
   is_receiver : (p i : ℕ) (proc : Proc) (site : Site) → slice_get (procs_of net.procs bs) p ≡ Some proc → slice_get proc.behavior.sites i ≡ Some site
       → site.sends ≡ false → receiver (run_of net bs inputs n depths) site.chan ≡ p
@@ -134,32 +133,32 @@ module _ (net : Net) (well : IsNet net) (bs : List Behavior) (fit : AreBehaviors
       place_there (receives_on site.chan) (procs_of net.procs bs) p proc e
       (any_there (λ (x : Site). not x.sends && eqb x.chan site.chan) proc.behavior.sites i site f (and_made (not site.sends) (eqb site.chan site.chan) (not_false site.sends s) (eqb-itself site.chan site.chan refl)))
       (λ q other g t.
-          let found = some_there (λ (x : Site). not x.sends && eqb x.chan site.chan) other.behavior.sites t in
-          let both = and_both _ _ found.3 in
-          well.one_proc q p found.0 i found.1 site (site_of q found.0 other found.1 g found.2) (site_of p i proc site e f) (eqb-same found.1.chan site.chan both.1) (not_true found.1.sends both.0 ∙ sym s))
+      let found = some_there (λ (x : Site). not x.sends && eqb x.chan site.chan) other.behavior.sites t in
+      let both = and_both _ _ found.3 in
+      well.one_proc q p found.0 i found.1 site (site_of q found.0 other found.1 g found.2) (site_of p i proc site e f) (eqb-same found.1.chan site.chan both.1) (not_true found.1.sends both.0 ∙ sym s))
 
   run_fits : IsRun (run_of net bs inputs n depths)
   run_fits = record {
-      activations = small;
-      few_procs = omega (arith, length-procs_of net.procs bs, well.few_procs);
-      few_sites = λ p proc e.
-          let z = zipped net.procs bs p proc e in
-          omega (arith, well.few_sites p z.head z.head_is, ap length (behavior_fits p proc z).sites);
-      keeps_types = λ p proc e. (behavior_fits p proc (zipped net.procs bs p proc e)).keeps_types;
-      sites = λ p i proc site at.
-          let z = zipped net.procs bs p proc at.proc_is in
-          let in_net = site_of p i proc site at.proc_is at.place in
-          let chan = get_within net.chans site.chan (well.site p i site in_net) in
-          record {
-            chan = chan.0;
-            chan_is = chan.1;
-            width = (behavior_fits p proc z).widths site.chan chan.0 chan.1;
-            sends = λ s. is_sender p i proc site at.proc_is at.place s;
-            no_send = λ s. well.no_send p i site chan.0 in_net s chan.1;
-            receives = λ s. is_receiver p i proc site at.proc_is at.place s;
-            no_receive = λ s. well.no_receive p i site chan.0 in_net s chan.1;
-          };
-    }
+    activations = small;
+    few_procs = omega (arith, length-procs_of net.procs bs, well.few_procs);
+    few_sites = λ p proc e.
+        let z = zipped net.procs bs p proc e in
+        omega (arith, well.few_sites p z.head z.head_is, ap length (behavior_fits p proc z).sites);
+    keeps_types = λ p proc e. keep p proc.behavior (zipped net.procs bs p proc e).behavior_is;
+    sites = λ p i proc site at.
+        let z = zipped net.procs bs p proc at.proc_is in
+        let in_net = site_of p i proc site at.proc_is at.place in
+        let chan = get_within net.chans site.chan (well.site p i site in_net) in
+        record {
+          chan = chan.0;
+          chan_is = chan.1;
+          width = (behavior_fits p proc z).widths site.chan chan.0 chan.1;
+          sends = λ s. is_sender p i proc site at.proc_is at.place s;
+          no_send = λ s. well.no_send p i site chan.0 in_net s chan.1;
+          receives = λ s. is_receiver p i proc site at.proc_is at.place s;
+          no_receive = λ s. well.no_receive p i site chan.0 in_net s chan.1;
+        };
+  }
 
   start_kind : (kind : Kind) (outside : List Word) → (kind ≢ Input → outside ≡ [])
       → ◌≡◌ {A = List Word} (elim kind as (λ _. List Word) [ Input ↦ outside | Output ↦ [] | Inner ↦ [] ]) outside

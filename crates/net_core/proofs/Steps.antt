@@ -38,7 +38,6 @@ can_go b n at words room t =
 
 module _ (b : Behavior) (n : ℕ) (start : Position) (words : Histories) (room : ℕ → ℕ → Bool) (t : List Event)
     (within : IsFront t (longest_fit b.sites room [] (trace_from b n start words))) where
-
   resumed : longest_fit b.sites room [] (trace_from b n start words)
       ≡ t ++ longest_fit b.sites room t (trace_from b n (position_after b.sites start t words) (words_after b.sites t words))
   resumed =
@@ -58,7 +57,7 @@ module _ (b : Behavior) (n : ℕ) (start : Position) (words : Histories) (room :
       let on = goes_on b n at (words_after b.sites t words) l (found_by_count b.sites words t (next_of b at) ∙ found) in
       let rest = trace_from b n (moved b.sites at (next_of b at) (words_after b.sites t words)) (left_after b.sites (next_of b at) (words_after b.sites t words)) in
       let e : longest_fit b.sites room [] (trace_from b n start words) ≡ t ++ next_of b at ∷ longest_fit b.sites room (t ++ next_of b at ∷ []) rest =
-          resumed ∙ ap (λ xs. t ++ xs) (ap (λ xs. longest_fit b.sites room t xs) on.rest ∙ (longest_fit_step b.sites room t (next_of b at) rest ∙ ap (λ c. cond c (next_of b at ∷ longest_fit b.sites room (t ++ next_of b at ∷ []) rest) []) fits)) in
+      resumed ∙ ap (λ xs. t ++ xs) (ap (λ xs. longest_fit b.sites room t xs) on.rest ∙ (longest_fit_step b.sites room t (next_of b at) rest ∙ ap (λ c. cond c (next_of b at ∷ longest_fit b.sites room (t ++ next_of b at ∷ []) rest) []) fits)) in
       rw e (IsFront-append_both t (next_of b at ∷ []) _ (refl, tt))
 
   -- one that can't has come as far as it can

@@ -30,17 +30,17 @@ longer_without words more c f d = front_if (eqb c d) _ _ _ _ (IsFront-drop _ _ (
 unfoldable pub on_word : Behavior → (Value → Histories → List Event) → Value → List Word → Histories → ℕ → Site → List Site → List Word → List Event
 on_word b after s got words i site sites here =
     elim here [
-      [] ↦ []
-    | w ∷ _ ↦ Recv i ∷ events_from b after s (got ++ w ∷ []) (without_first words site.chan) (suc i) sites
+      | [] ↦ []
+      | w ∷ _ ↦ Recv i ∷ events_from b after s (got ++ w ∷ []) (without_first words site.chan) (suc i) sites
     ]
 
 -- the events at a site, by what it does there
 unfoldable pub at_turn : Behavior → (Value → Histories → List Event) → Value → List Word → Histories → ℕ → Site → List Site → Turn → List Event
 at_turn b after s got words i site sites turn =
     elim turn [
-      Skip ↦ events_from b after s got words (suc i) sites
-    | Receive ↦ on_word b after s got words i site sites (words site.chan)
-    | Give w ↦ Send i w ∷ events_from b after s got words (suc i) sites
+      | Skip ↦ events_from b after s got words (suc i) sites
+      | Receive ↦ on_word b after s got words i site sites (words site.chan)
+      | Give w ↦ Send i w ∷ events_from b after s got words (suc i) sites
     ]
 
 pub at_site : (b : Behavior) (after : Value → Histories → List Event) (s : Value) (got : List Word) (words : Histories) (i : ℕ) (site : Site) (sites : List Site) → events_from b after s got words i (site ∷ sites) ≡ at_turn b after s got words i site sites (b.turn s got i)

@@ -38,9 +38,9 @@ unfoldable pub event_from : Behavior → Value → List Word → ℕ → List Si
 event_from b s got i [] = End (b.next_state s got)
 event_from b s got i (site ∷ sites) =
     elim (b.turn s got i) [
-      Skip ↦ event_from b s got (suc i) sites
-    | Receive ↦ Recv i
-    | Give w ↦ Send i w
+      | Skip ↦ event_from b s got (suc i) sites
+      | Receive ↦ Recv i
+      | Give w ↦ Send i w
     ]
 
 -- the next event of an activation from a state, past its first `done` sites, at which it received these words
@@ -57,9 +57,9 @@ abbrev pub Takes : Behavior → Value → List Word → ℕ → List Site → Li
 Takes b s got i [] words = words ≡ []
 Takes b s got i (site ∷ sites) words =
     elim (b.turn s got i) [
-      Skip ↦ Takes b s got (suc i) sites words
-    | Receive ↦ ((w : Word) × (rest : List Word) × (words ≡ w ∷ rest) × IsWordOf (b.width site.chan) w × Takes b s (got ++ w ∷ []) (suc i) sites rest)
-    | Give w ↦ Takes b s got (suc i) sites words
+      | Skip ↦ Takes b s got (suc i) sites words
+      | Receive ↦ ((w : Word) × (rest : List Word) × (words ≡ w ∷ rest) × IsWordOf (b.width site.chan) w × Takes b s (got ++ w ∷ []) (suc i) sites rest)
+      | Give w ↦ Takes b s got (suc i) sites words
     ]
 
 -- an activation can stand there: its state is of the type, and its first `done` sites received exactly these words

@@ -80,9 +80,9 @@ unfoldable pub words_by : Run → Cut → ℕ → Option Chan → List Word
 words_by run cut c None = []
 words_by run cut c (Some chan) =
     elim chan.kind [
-      Input ↦ get_or run.inputs c []
-    | Output ↦ words_sent (sites_at run (sender run c)) c (cut (sender run c))
-    | Inner ↦ words_sent (sites_at run (sender run c)) c (cut (sender run c))
+      | Input ↦ get_or run.inputs c []
+      | Output ↦ words_sent (sites_at run (sender run c)) c (cut (sender run c))
+      | Inner ↦ words_sent (sites_at run (sender run c)) c (cut (sender run c))
     ]
 
 unfoldable pub words_at : Run → Cut → Histories
@@ -97,9 +97,9 @@ unfoldable pub room_by : Run → Cut → ℕ → ℕ → Option Chan → Bool
 room_by run cut c j None = true
 room_by run cut c j (Some chan) =
     elim chan.kind [
-      Input ↦ true
-    | Output ↦ true
-    | Inner ↦ nat_lt j (received_at run cut c + get_or run.depths c 0)
+      | Input ↦ true
+      | Output ↦ true
+      | Inner ↦ nat_lt j (received_at run cut c + get_or run.depths c 0)
     ]
 
 unfoldable pub room_at : Run → Cut → ℕ → ℕ → Bool

@@ -33,9 +33,9 @@ end_with stalls p progress = record { state = progress.state; ends = progress.en
 abbrev pub stream_in : Channel → Stream
 stream_in channel =
     elim channel.kind [
-      Input ↦ record { words = take channel.received channel.words; received = channel.received }
-    | Output ↦ record { words = channel.words; received = 0 }
-    | Inner ↦ record { words = channel.words; received = channel.received }
+      | Input ↦ record { words = take channel.received channel.words; received = channel.received }
+      | Output ↦ record { words = channel.words; received = 0 }
+      | Inner ↦ record { words = channel.words; received = channel.received }
     ]
 
 -- a channel has a word that wasn't received
@@ -46,9 +46,9 @@ has_word channel = nat_lt channel.received (length channel.words)
 abbrev pub has_room : Channel → Bool
 has_room channel =
     elim channel.kind [
-      Input ↦ true
-    | Output ↦ true
-    | Inner ↦ nat_lt (length channel.words) (channel.received + channel.depth)
+      | Input ↦ true
+      | Output ↦ true
+      | Inner ↦ nat_lt (length channel.words) (channel.received + channel.depth)
     ]
 
 -- the place of a proc, its site and that site's channel, in the machine's data

@@ -23,9 +23,9 @@ indexed f i (x ∷ xs) = f i x ∷ indexed f (suc i) xs
 unfoldable pub stream_of : Run → Cut → ℕ → Chan → Stream
 stream_of run cut c chan =
     elim chan.kind [
-      Input ↦ record { words = take (received_at run cut c) (words_at run cut c); received = received_at run cut c }
-    | Output ↦ record { words = words_at run cut c; received = 0 }
-    | Inner ↦ record { words = words_at run cut c; received = received_at run cut c }
+      | Input ↦ record { words = take (received_at run cut c) (words_at run cut c); received = received_at run cut c }
+      | Output ↦ record { words = words_at run cut c; received = 0 }
+      | Inner ↦ record { words = words_at run cut c; received = received_at run cut c }
     ]
 
 -- what a proc with these sites waits for in an activation, by its next event. An end waits for nothing

@@ -1,5 +1,5 @@
 -- What a configuration of the machine shows: a cut of its run.
-use Rattle.std.specs.Prelude.{◌≡◌, ◌≤◌, ℕ, zero, suc, Bool, true, false, List, [], ◌∷◌, length, get_or, slice_get, option_map, Option, Some, None}
+use Rattle.std.specs.Prelude.{◌≡◌, ◌≤◌, ◌-◌, ◌*◌, ℕ, zero, suc, Bool, true, false, List, [], ◌∷◌, length, get_or, slice_get, option_map, sum_by, Option, Some, None}
 use Rattle.xb_bits.specs.Word.{Word}
 use Rattle.xb_value.specs.Width.{width_of}
 use Rattle.net_core.specs.declared.net.Chan.{Chan}
@@ -49,3 +49,11 @@ pub record IsUnchanged (old new : Config) : Type 0 where
   pub activations : new.activations ≡ old.activations
   pub procs : new.procs.items ≡ old.procs.items
   pub channels : new.channels.items ≡ old.channels.items
+
+-- how many events a proc may still make, at most
+abbrev pub progress_left : ℕ → Progress → ℕ
+progress_left n progress = (n - progress.ends) * suc (length progress.sites) - progress.done
+
+-- how many events may still be made, at most
+unfoldable pub events_left : Config → ℕ
+events_left config = sum_by (progress_left config.activations) config.procs.items

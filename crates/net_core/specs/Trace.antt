@@ -21,12 +21,12 @@ unfoldable pub events_from : Behavior → (Value → Histories → List Event) �
 events_from b after s got words i [] = End (b.next_state s got) ∷ after (b.next_state s got) words
 events_from b after s got words i (site ∷ sites) =
     elim (b.turn s got i) [
-      Skip ↦ events_from b after s got words (suc i) sites
-    | Receive ↦ (elim (words site.chan) [
-        [] ↦ []
-      | w ∷ _ ↦ Recv i ∷ events_from b after s (got ++ w ∷ []) (without_first words site.chan) (suc i) sites
+      | Skip ↦ events_from b after s got words (suc i) sites
+      | Receive ↦ (elim (words site.chan) [
+        | [] ↦ []
+        | w ∷ _ ↦ Recv i ∷ events_from b after s (got ++ w ∷ []) (without_first words site.chan) (suc i) sites
       ])
-    | Give w ↦ Send i w ∷ events_from b after s got words (suc i) sites
+      | Give w ↦ Send i w ∷ events_from b after s got words (suc i) sites
     ]
 
 -- the events of n activations, one after another, from a state: at each site that is on a receive or a send,

@@ -3,7 +3,7 @@ use Rattle.std.specs.Prelude.{◌≡◌, ◌≢◌, ℕ, zero, suc, ◌<◌, ◌
 use Rattle.xb_bits.specs.Word.{Word}
 use Rattle.xb_value.specs.declared.value.Value.{Value}
 use Rattle.xb_value.specs.Typing.{IsOfType}
-use Rattle.xb_value.specs.Width.{width_of}
+use Rattle.xb_value.specs.Width.{width_of, HasWidths}
 use Rattle.net_core.specs.declared.net.Net.{Net}
 use Rattle.net_core.specs.declared.net.ProcHead.{ProcHead}
 use Rattle.net_core.specs.declared.net.Chan.{Chan}
@@ -26,6 +26,9 @@ pub record IsNet (net : Net) : Type 0 where
   pub few_sites : (p : ℕ) (head : ProcHead) → slice_get net.procs p ≡ Some head → length head.sites < 2 ^ 30
   -- each proc opens with a state of its type
   pub opening : (p : ℕ) (head : ProcHead) → slice_get net.procs p ≡ Some head → IsOfType head.state head.init
+  -- the bits in its types are 1 to 128 wide
+  pub state_widths : (p : ℕ) (head : ProcHead) → slice_get net.procs p ≡ Some head → HasWidths head.state
+  pub chan_widths : (c : ℕ) (chan : Chan) → slice_get net.chans c ≡ Some chan → HasWidths chan.ty
   -- a site's channel is there, and no proc sends on an input or receives from an output
   pub site : (p i : ℕ) (site : Site) → IsSiteOf net p i site → site.chan < length net.chans
   pub no_send : (p i : ℕ) (site : Site) (chan : Chan) → IsSiteOf net p i site → site.sends ≡ true → slice_get net.chans site.chan ≡ Some chan → chan.kind ≢ Input
@@ -57,12 +60,15 @@ pub record IsBehaviorFor (net : Net) (head : ProcHead) (b : Behavior) : Type 0 w
   pub state : b.state ≡ head.state
   pub sites : b.sites ≡ head.sites
   pub widths : (c : ℕ) (chan : Chan) → slice_get net.chans c ≡ Some chan → b.width c ≡ width_of chan.ty
-  pub keeps_types : KeepsTypes b
 
 -- what each proc of a network does, in order
 pub record AreBehaviorsOf (net : Net) (behaviors : List Behavior) : Type 0 where
   pub count : length behaviors ≡ length net.procs
   pub each : (p : ℕ) (head : ProcHead) (b : Behavior) → slice_get net.procs p ≡ Some head → slice_get behaviors p ≡ Some b → IsBehaviorFor net head b
+
+-- each keeps its types
+abbrev pub EachKeepsTypes : List Behavior → Type 0
+EachKeepsTypes behaviors = (p : ℕ) (b : Behavior) → slice_get behaviors p ≡ Some b → KeepsTypes b
 
 -- procs with their opening states
 abbrev pub procs_of : List ProcHead → List Behavior → List Proc

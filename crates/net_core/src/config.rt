@@ -168,7 +168,7 @@ impl Channel {
 }
 
 impl Config {
-    ghost use Rattle.std.specs.Prelude.{List, ◌≡◌, ◌<◌, ◌≤◌, ◌+◌, ◌^◌, ℕ, IsTrue, OnOk, OnErr, IfOk, length, map, slice_get, Some};
+    ghost use Rattle.std.specs.Prelude.{List, ◌≡◌, ◌<◌, ◌≤◌, ◌+◌, ◌^◌, ℕ, IsTrue, OnOk, OnErr, IfOk, length, map, slice_get, Some, MatchBool};
     ghost use Rattle.xb_bits.specs.Word.{Word};
     ghost use Rattle.net_core.specs.declared.net.Site.{Site};
     ghost use Rattle.net_core.specs.declared.config.Progress.{Progress};
@@ -177,9 +177,9 @@ impl Config {
     ghost use Rattle.net_core.specs.Outcomes.{indexed, outcome_of, stall_in, stall_for, behaviors_of};
     ghost use Rattle.net_core.specs.Behavior.{Behavior};
     ghost use Rattle.net_core.specs.Cuts.{Run, Cut, empty_cut};
-    ghost use Rattle.net_core.specs.WellFormed.{IsNet, IsInputs, IsDepths, AreBehaviorsOf, run_of};
+    ghost use Rattle.net_core.specs.WellFormed.{IsNet, IsInputs, IsDepths, AreBehaviorsOf, EachKeepsTypes, run_of};
     ghost use Rattle.net_core.specs.Machine.{goes, stepped};
-    ghost use Rattle.net_core.specs.Shows.{Shows, IsAskedWith, IsBehaviorOf, IsUnchanged};
+    ghost use Rattle.net_core.specs.Shows.{Shows, IsAskedWith, IsBehaviorOf, IsUnchanged, events_left};
 
     /// The run of a network before its first event, with at most `n` activations of each proc.
     ///
@@ -194,17 +194,12 @@ impl Config {
         requires net { IsNet net.now }
         requires inputs { IsInputs net.now inputs.now.words }
         requires depths { IsDepths net.now depths.now }
-        ensures { IfOk result (λ config. (behaviors : List Behavior) → AreBehaviorsOf net.now behaviors →
+        ensures { IfOk result (λ config. (behaviors : List Behavior) → AreBehaviorsOf net.now behaviors → EachKeepsTypes behaviors →
             Shows (run_of net.now behaviors inputs.now.words n depths.now) empty_cut config) }
     {
         Ok(Config {
             procs: opened(alloc, net.procs.as_slice())?,
-            channels: filled(
-                alloc,
-                net.chans.as_slice(),
-                inputs.words.as_slice(),
-                depths,
-            )?,
+            channels: filled(alloc, net.chans.as_slice(), inputs.words.as_slice(), depths)?,
             activations: n,
         })
     }
@@ -218,7 +213,12 @@ impl Config {
         if progress.ends >= self.activations {
             return Ok(false);
         }
-        let event = body.next(alloc, &progress.state, progress.got.as_slice(), progress.done)?;
+        let event = body.next(
+            alloc,
+            &progress.state,
+            progress.got.as_slice(),
+            progress.done,
+        )?;
         Ok(self.can_make(p as usize, &event))
     }
 
@@ -230,13 +230,19 @@ impl Config {
         requires { IsAskedWith self.old p (B.behavior body.now) }
         ensures ok { IfOk result (λ made. (run : Run) (cut : Cut) → Shows run cut self.old → IsBehaviorOf run p (B.behavior body.now) →
             (made ≡ goes run cut p) × Shows run (stepped run cut p) self.new) }
+        ensures falls { IfOk result (λ made. MatchBool made (events_left self.new < events_left self.old) (IsUnchanged self.old self.new)) }
         ensures err { OnErr result (IsUnchanged self.old self.new) }
     {
         let progress = &self.procs[p as usize];
         if progress.ends >= self.activations {
             return Ok(false);
         }
-        let event = body.next(alloc, &progress.state, progress.got.as_slice(), progress.done)?;
+        let event = body.next(
+            alloc,
+            &progress.state,
+            progress.got.as_slice(),
+            progress.done,
+        )?;
         self.try_event(alloc, p as usize, event)
     }
 
@@ -269,12 +275,7 @@ impl Config {
     }
 
     /// What a proc waits for, unless it is done.
-    fn stall<B: Body>(
-        &self,
-        alloc: Global,
-        p: usize,
-        body: &B,
-    ) -> Result<Option<Stall>, AllocError>
+    fn stall<B: Body>(&self, alloc: Global, p: usize, body: &B) -> Result<Option<Stall>, AllocError>
         requires { IsAskedWith self.now p (B.behavior body.now) }
         ensures { IfOk result (λ stall. (run : Run) (cut : Cut) → Shows run cut self.now → (is : IsBehaviorOf run p (B.behavior body.now)) → stall ≡ stall_in run cut p is.0) }
     {
@@ -282,7 +283,12 @@ impl Config {
         if progress.ends >= self.activations {
             return Ok(None);
         }
-        let event = body.next(alloc, &progress.state, progress.got.as_slice(), progress.done)?;
+        let event = body.next(
+            alloc,
+            &progress.state,
+            progress.got.as_slice(),
+            progress.done,
+        )?;
         Ok(self.stall_at(p, &event))
     }
 

@@ -14,7 +14,7 @@ ends-requires g c =
     let stalls = c.in_ok-stalls.ensures r.0 r.1 r.2 r.3 in
     let procs = procs_are r.0 r.1 c.args.self r.2 in
     let count : length c.in_ok-stalls.stalls.items ≡ length c.args.self.procs.items =
-        ap length stalls ∙ (length-indexed (stall_in r.0 r.1) 0 r.0.procs ∙ (sym (length-indexed (progress_of r.0 r.1) 0 r.0.procs) ∙ sym (ap length procs))) in
+    ap length stalls ∙ (length-indexed (stall_in r.0 r.1) 0 r.0.procs ∙ (sym (length-indexed (progress_of r.0 r.1) 0 r.0.procs) ∙ sym (ap length procs))) in
     ap length c.as_slice.ensures.value ∙ count
 
 pub returns : goal.returns
