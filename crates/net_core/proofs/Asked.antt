@@ -1,23 +1,20 @@
 -- What a configuration answers when a proc is to go.
-use Rattle.std.proofs.Common.{◌≡◌, ◌≢◌, ℕ, suc, ◌+◌, ◌<◌, ◌≤◌, ◌^◌, List, length, get_or, refl, sym, ap, ◌∙◌, subst, arith, true, false, Bool, Some, None, Option, inl, inr}
-use Rattle.std.specs.Prelude.{slice_get, ◌⊎◌}
-use Rattle.std.proofs.lemmas.Bool.{cases_lt}
+use Rattle.std.proofs.Common.{◌≡◌, ◌≢◌, ℕ, ◌<◌, ◌≤◌, get_or, refl, sym, ap, ◌∙◌, subst, arith, true, false, Bool, Some}
+use Rattle.std.specs.Prelude.{slice_get}
 use Rattle.xb_bits.specs.Word.{Word}
-use Rattle.xb_value.specs.declared.value.Value.{Value}
 use Rattle.net_core.specs.declared.net.Site.{Site}
 use Rattle.net_core.specs.declared.net.Chan.{Chan}
 use Rattle.net_core.specs.declared.net.Kind.TheVariants.{Input}
 use Rattle.net_core.specs.declared.event.Event.{Event}
-use Rattle.net_core.specs.declared.event.Event.TheVariants.{Recv, Send, End}
+use Rattle.net_core.specs.declared.event.Event.TheVariants.{Recv, Send}
 use Rattle.net_core.specs.declared.config.Config.{Config}
-use Rattle.net_core.specs.Behavior.{Behavior, Turn, Skip, Receive, Give, IsOpen, IsWordOf, TurnFits, KeepsTypes, next_event}
+use Rattle.net_core.specs.Behavior.{Behavior, Turn, Receive, Give, IsOpen, IsWordOf, TurnFits, next_event}
 use Rattle.net_core.specs.Cuts.{Proc, Run, Cut, sender, receiver}
-use Rattle.net_core.specs.Machine.{Position, position_in, next_of, goes_by, goes, with_event, stepped}
-use Rattle.net_core.specs.WellFormed.{SiteFits}
+use Rattle.net_core.specs.Machine.{position_in, next_of, goes_by, goes, with_event, stepped}
 use Rattle.net_core.specs.declared.config.Progress.{Progress}
-use Rattle.net_core.specs.Shows.{Shows, progress_of, channel_of, IsBehaviorOf, IsUnchanged}
+use Rattle.net_core.specs.Shows.{Shows, progress_of, channel_of, IsBehaviorOf}
 use Rattle.net_core.proofs.Places.{read_is}
-use Rattle.net_core.specs.Making.{has_word, has_room, StandsAt, Receives, Sends, Ends, TriesReceive, TriesSend, IsStandingFor, CanMake, TriesEvent}
+use Rattle.net_core.specs.Making.{has_word, has_room, TriesReceive, TriesSend, IsStandingFor, CanMake, TriesEvent}
 use Rattle.net_core.proofs.Openings.{EventAt, receives_at, sends_at, ends_with, next_at}
 use Rattle.net_core.proofs.Shown.{shows_unchanged, stepped_is, stepped_stays, progress_is, site_fits, stands_at, goes_receive, goes_send, goes_end, goes_done}
 use Rattle.net_core.proofs.Events.{IsAtSite, receive_shows, send_shows, end_shows}

@@ -1,26 +1,24 @@
 -- After an event that a proc makes, the configuration shows the cut with that event.
-use Rattle.std.proofs.Common.{◌≡◌, ◌≢◌, ℕ, zero, suc, ◌+◌, ◌<◌, ◌≤◌, ◌^◌, List, [], ◌∷◌, ◌++◌, length, drop, take, get_or, refl, sym, ap, ◌∙◌, subst, arith, true, false, Bool, cond, eqb, Some, None, Option, inl, inr}
-use Rattle.std.specs.Prelude.{slice_get, slice_set, option_map, nat_lt, ◌⊎◌, ◌&&◌}
+use Rattle.std.proofs.Common.{◌≡◌, ◌≢◌, ℕ, zero, suc, ◌<◌, ◌≤◌, List, [], ◌∷◌, ◌++◌, length, drop, take, get_or, refl, sym, ap, ◌∙◌, subst, arith, true, Some, None, Option, inl, inr}
+use Rattle.std.specs.Prelude.{slice_get, slice_set, option_map, ◌⊎◌}
 use Rattle.std.proofs.lemmas.Bool.{cases_eq}
-use Rattle.std.proofs.lemmas.Bool.Decides.{nat_tests}
 use Rattle.xb_bits.specs.Word.{Word}
 use Rattle.xb_value.specs.declared.value.Value.{Value}
 use Rattle.xb_value.specs.Width.{width_of}
 use Rattle.net_core.specs.declared.net.Site.{Site}
 use Rattle.net_core.specs.declared.net.Chan.{Chan}
-use Rattle.net_core.specs.declared.net.Kind.TheVariants.{Input, Output, Inner}
+use Rattle.net_core.specs.declared.net.Kind.TheVariants.{Input}
 use Rattle.net_core.specs.declared.event.Event.{Event}
 use Rattle.net_core.specs.declared.event.Event.TheVariants.{Recv, Send, End}
 use Rattle.net_core.specs.declared.config.Config.{Config}
 use Rattle.net_core.specs.declared.config.Progress.{Progress}
 use Rattle.net_core.specs.declared.config.Channel.{Channel}
-use Rattle.net_core.specs.Behavior.{Behavior, Turn, Receive, Give, chan_at, IsOpen, IsWordOf, KeepsTypes}
-use Rattle.net_core.specs.Trace.{Histories}
-use Rattle.net_core.specs.Cuts.{Proc, Run, Cut, sender, receiver, IsFront, IsWithin, sites_of, sites_at, words_sent, count_received, words_at, received_at, round, final_cut}
-use Rattle.net_core.specs.Machine.{Position, opened, moved, position_after, position_in, next_of, goes_by, with_event, stepped_by, stepped}
-use Rattle.net_core.specs.WellFormed.{IsRun, IsSiteIn, SiteFits, AreWordsOf}
-use Rattle.net_core.specs.Shows.{Shows, progress_at, progress_of, channel_of, IsUnchanged}
-use Rattle.net_core.specs.Making.{has_word, has_room, StandsAt, Receives, Sends, Ends}
+use Rattle.net_core.specs.Behavior.{Receive, Give, chan_at, IsOpen, IsWordOf}
+use Rattle.net_core.specs.Cuts.{Proc, Run, Cut, sender, receiver, IsWithin, count_received, words_at, received_at, round, final_cut}
+use Rattle.net_core.specs.Machine.{Position, opened, moved, position_after, position_in, next_of, goes_by, with_event, stepped}
+use Rattle.net_core.specs.WellFormed.{AreWordsOf}
+use Rattle.net_core.specs.Shows.{Shows, progress_at, progress_of, channel_of}
+use Rattle.net_core.specs.Making.{Receives, Sends, Ends}
 use Rattle.net_core.proofs.Fronts.{IsFront-length}
 use Rattle.net_core.proofs.Reach.{words_at_grow}
 use Rattle.xb_value.specs.Typing.{IsOfType}
@@ -30,7 +28,7 @@ use Rattle.net_core.proofs.Confluence.{final_fixed, step_grows, step_consistent,
 use Rattle.net_core.proofs.Openings.{open_send, open_receive, open_first}
 use Rattle.net_core.proofs.Flows.{words_at-receive, words_at-end, words_at-send_other, words_at-send, received_at-send, received_at-end, received_at-receive_other, received_at-receive, received_at-by, with_event-here, with_event-other}
 use Rattle.net_core.proofs.Places.{slice_get-set, slice_get-set_other, same_there}
-use Rattle.net_core.proofs.Shown.{stepped_is, chan_at-there, within_sites}
+use Rattle.net_core.proofs.Shown.{stepped_is, chan_at-there}
 
 -- what every event leaves: the parts of `Shows` that don't depend on which event it is
 module _ (run : Run) (cut : Cut) (old : Config) (sh : Shows run cut old) (p : ℕ) (proc : Proc) (proc_is : slice_get run.procs p ≡ Some proc)

@@ -1,18 +1,16 @@
 -- An event leaves fewer events to be made.
-use Rattle.std.proofs.Common.{◌≡◌, ℕ, zero, suc, ◌+◌, ◌-◌, ◌*◌, ◌<◌, ◌≤◌, List, [], ◌∷◌, ◌++◌, length, get_or, set, refl, sym, ap, ◌∙◌, subst, arith, true, false, Bool, Some, Option, MatchBool}
+use Rattle.std.proofs.Common.{◌≡◌, ℕ, zero, suc, ◌-◌, ◌*◌, ◌<◌, ◌≤◌, List, [], ◌∷◌, length, set, sym, ap, ◌∙◌, subst, arith, true, false, Bool, Some, MatchBool}
 use Rattle.std.specs.Prelude.{slice_get, slice_set, sum_by}
 use Rattle.std.proofs.lemmas.List.Sums.{sum_by-set}
 use Rattle.xb_bits.specs.Word.{Word}
-use Rattle.xb_value.specs.declared.value.Value.{Value}
 use Rattle.net_core.specs.declared.net.Site.{Site}
 use Rattle.net_core.specs.declared.event.Event.{Event}
-use Rattle.net_core.specs.declared.event.Event.TheVariants.{Recv, Send, End}
 use Rattle.net_core.specs.declared.config.Config.{Config}
 use Rattle.net_core.specs.declared.config.Progress.{Progress}
 use Rattle.net_core.specs.declared.config.Channel.{Channel}
 use Rattle.net_core.specs.Behavior.{Behavior}
 use Rattle.net_core.specs.Cuts.{Proc, Run, Cut}
-use Rattle.net_core.specs.Machine.{Position, position_in, next_of}
+use Rattle.net_core.specs.Machine.{position_in, next_of}
 use Rattle.net_core.specs.Shows.{Shows, progress_of, channel_of, IsBehaviorOf, IsUnchanged, progress_left, events_left}
 use Rattle.net_core.specs.Making.{TriesReceive, TriesSend, TriesEvent}
 use Rattle.net_core.proofs.Places.{get_or-there}
@@ -43,7 +41,6 @@ left_set n xs p x y e l =
 
 module _ (run : Run) (cut : Cut) (config : Config) (sh : Shows run cut config) (p : ℕ) (proc : Proc) (proc_is : slice_get run.procs p ≡ Some proc)
     (active : (position_in run cut p proc).ends < run.activations) where
-
   -- a configuration in which the proc alone has moved on
   moved_falls : (new : Config) (progress : Progress) → new.activations ≡ config.activations → new.procs.items ≡ slice_set config.procs.items p progress
       → progress_left config.activations progress < progress_left config.activations (progress_of run cut p proc) → events_left new < events_left config

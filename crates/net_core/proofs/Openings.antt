@@ -1,5 +1,5 @@
 -- Where an activation can stand: past its first sites, with exactly the words that they received.
-use Rattle.std.proofs.Common.{◌≡◌, ℕ, zero, suc, ◌+◌, ◌<◌, ◌≤◌, List, [], ◌∷◌, ◌++◌, length, drop, take, refl, sym, ap, ◌∙◌, subst, arith, true, false, Bool, Some, None, Option, append_assoc}
+use Rattle.std.proofs.Common.{◌≡◌, ℕ, zero, suc, ◌+◌, ◌≤◌, List, [], ◌∷◌, ◌++◌, length, drop, take, refl, sym, ap, ◌∙◌, subst, arith, Some, append_assoc}
 use Rattle.std.specs.Prelude.{slice_get}
 use Rattle.std.proofs.lemmas.List.{append-nil}
 use Rattle.xb_bits.specs.Word.{Word}
@@ -8,7 +8,7 @@ use Rattle.xb_value.specs.Typing.{IsOfType}
 use Rattle.net_core.specs.declared.net.Site.{Site}
 use Rattle.net_core.specs.declared.event.Event.{Event}
 use Rattle.net_core.specs.declared.event.Event.TheVariants.{Recv, Send, End}
-use Rattle.net_core.specs.Behavior.{Behavior, Turn, Skip, Receive, Give, chan_at, event_from, next_event, IsWordOf, Takes, IsOpen, TurnFits, KeepsTypes}
+use Rattle.net_core.specs.Behavior.{Behavior, Turn, Skip, Receive, Give, event_from, next_event, IsWordOf, Takes, IsOpen}
 use Rattle.net_core.proofs.Resume.{IsSplit, split_at, event_turn, event_site}
 
 -- what the words of one site more are, by what the proc does there

@@ -1,20 +1,19 @@
 -- How far a proc can come by itself: further in a larger cut, and one event further where it can go.
-use Rattle.std.proofs.Common.{◌≡◌, ℕ, zero, suc, ◌+◌, ◌-◌, ◌<◌, ◌≤◌, List, [], ◌∷◌, ◌++◌, length, drop, take, refl, sym, ap, ◌∙◌, subst, arith, rules, cond, true, false, Bool, eqb, Some, None, Option, append_assoc}
-use Rattle.std.specs.Prelude.{slice_get, nat_lt, get_or, ◌&&◌}
+use Rattle.std.proofs.Common.{◌≡◌, ℕ, suc, ◌+◌, ◌≤◌, List, [], ◌∷◌, ◌++◌, refl, sym, ap, ◌∙◌, subst, arith, cond, true, false, Bool, eqb, Some, None, Option, append_assoc}
+use Rattle.std.specs.Prelude.{slice_get, nat_lt, get_or}
 use Rattle.std.proofs.lemmas.Bool.Decides.{nat_tests}
 use Rattle.std.proofs.lemmas.List.{append-nil}
 use Rattle.xb_bits.specs.Word.{Word}
-use Rattle.xb_value.specs.declared.value.Value.{Value}
 use Rattle.net_core.specs.declared.net.Site.{Site}
 use Rattle.net_core.specs.declared.net.Chan.{Chan}
 use Rattle.net_core.specs.declared.net.Kind.{Kind}
 use Rattle.net_core.specs.declared.net.Kind.TheVariants.{Input, Output, Inner}
 use Rattle.net_core.specs.declared.event.Event.{Event}
 use Rattle.net_core.specs.declared.event.Event.TheVariants.{Recv, Send, End}
-use Rattle.net_core.specs.Behavior.{Behavior, chan_at}
-use Rattle.net_core.specs.Trace.{Histories, trace}
+use Rattle.net_core.specs.Behavior.{chan_at}
+use Rattle.net_core.specs.Trace.{Histories}
 use Rattle.net_core.specs.Cuts.{Proc, Run, Cut, IsFront, IsWithin, sites_at, sender, receiver, words_sent, count_received, words_by, words_at, received_at, room_by, room_at, fits_after, longest_fit, trace_of, reach}
-use Rattle.net_core.proofs.Fronts.{IsFront-refl, IsFront-trans}
+use Rattle.net_core.proofs.Fronts.{IsFront-refl}
 use Rattle.net_core.proofs.Traces.{IsLonger, trace_grows}
 
 -- what is sent and received grows with the events

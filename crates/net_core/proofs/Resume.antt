@@ -1,6 +1,6 @@
 -- A trace goes on where its front ends, from the position there.
-use Rattle.std.proofs.Common.{◌≡◌, ℕ, zero, suc, ◌+◌, ◌-◌, ◌<◌, ◌≤◌, List, [], ◌∷◌, ◌++◌, length, drop, take, refl, sym, ap, ◌∙◌, subst, arith, rules, cond, true, false, Bool, eqb, ltb, Some, None, Option}
-use Rattle.std.specs.Prelude.{slice_get, nat_lt, ◌⊎◌}
+use Rattle.std.proofs.Common.{◌≡◌, ℕ, zero, suc, ◌+◌, ◌-◌, ◌<◌, ◌≤◌, List, [], ◌∷◌, ◌++◌, length, drop, take, refl, sym, ap, ◌∙◌, subst, arith, cond, true, false, Bool, eqb, Some}
+use Rattle.std.specs.Prelude.{slice_get, ◌⊎◌}
 use Rattle.std.proofs.Common.{inl, inr}
 use Rattle.std.proofs.lemmas.Bool.{cases_lt}
 use Rattle.std.proofs.lemmas.List.{drop-drop}
@@ -13,7 +13,6 @@ use Rattle.net_core.specs.Behavior.{Behavior, Turn, Skip, Receive, Give, chan_at
 use Rattle.net_core.specs.Trace.{Histories, without_first, events_from, trace}
 use Rattle.net_core.specs.Cuts.{IsFront, count_received, Proc}
 use Rattle.net_core.specs.Machine.{Position, opened, moved, left_after, position_after, next_of}
-use Rattle.net_core.proofs.Fronts.{IsFront-refl}
 use Rattle.net_core.proofs.Traces.{IsLonger, longer_without, at_turn, on_word, at_site}
 
 -- the site of a place, and the sites behind it

@@ -1,5 +1,5 @@
 -- Rounds come to a cut that they no longer change.
-use Rattle.std.proofs.Common.{◌≡◌, ℕ, zero, suc, ◌+◌, ◌-◌, ◌*◌, ◌<◌, ◌≤◌, List, [], ◌∷◌, ◌++◌, length, refl, sym, ap, ◌∙◌, subst, arith, cond, true, false, Bool, Some, None, Option, inl, inr}
+use Rattle.std.proofs.Common.{◌≡◌, ℕ, zero, suc, ◌+◌, ◌*◌, ◌<◌, ◌≤◌, List, [], ◌∷◌, ◌++◌, length, sym, ap, arith, Some, None, Option, inl, inr}
 use Rattle.std.specs.Prelude.{slice_get, ◌⊎◌, sum_by}
 use Rattle.std.proofs.lemmas.Bool.{cases_lt}
 use Rattle.std.proofs.lemmas.List.Sums.{sum_by-cons}
@@ -11,8 +11,8 @@ use Rattle.net_core.specs.declared.net.Site.{Site}
 use Rattle.net_core.specs.declared.event.Event.{Event}
 use Rattle.net_core.specs.Behavior.{Behavior, Turn, Skip, Receive, Give}
 use Rattle.net_core.specs.Trace.{Histories, without_first, events_from, trace}
-use Rattle.net_core.specs.Cuts.{Proc, Run, Cut, IsFront, IsWithin, empty_cut, trace_of, longest_fit, reach, round, unbounded_round, rounds, most_events, final_cut, unbounded_cut, sites_at, room_at, words_at}
-use Rattle.net_core.proofs.Fronts.{IsFront-length, IsFront-same, IsFront-refl, IsFront-trans}
+use Rattle.net_core.specs.Cuts.{Proc, Run, Cut, IsWithin, trace_of, reach, round, unbounded_round, rounds, most_events, final_cut, unbounded_cut, sites_at, room_at, words_at}
+use Rattle.net_core.proofs.Fronts.{IsFront-length, IsFront-same}
 use Rattle.net_core.proofs.Traces.{at_turn, on_word, at_site}
 use Rattle.net_core.proofs.Reach.{reach_grows, trace_of_reach_grows, longest_fit-front}
 

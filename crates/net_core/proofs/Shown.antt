@@ -1,33 +1,22 @@
 -- A configuration that shows a cut shows, after an event, the cut with that event.
-use Rattle.std.proofs.Common.{◌≡◌, ◌≢◌, ℕ, zero, suc, ◌+◌, ◌<◌, ◌≤◌, ◌^◌, List, [], ◌∷◌, ◌++◌, length, drop, take, get_or, refl, sym, ap, ◌∙◌, subst, arith, true, false, Bool, cond, eqb, Some, None, Option, inl, inr}
-use Rattle.std.specs.Prelude.{slice_get, slice_set, option_map, nat_lt, ◌⊎◌, ◌&&◌}
-use Rattle.std.proofs.lemmas.Bool.{cases_eq}
+use Rattle.std.proofs.Common.{◌≡◌, ◌≢◌, ℕ, zero, suc, ◌+◌, ◌<◌, ◌≤◌, List, [], ◌∷◌, length, get_or, refl, sym, ap, ◌∙◌, arith, true, false, Bool, cond, Some}
+use Rattle.std.specs.Prelude.{slice_get, option_map, nat_lt, ◌&&◌}
 use Rattle.std.proofs.lemmas.Bool.Decides.{nat_tests}
 use Rattle.xb_bits.specs.Word.{Word}
 use Rattle.xb_value.specs.declared.value.Value.{Value}
-use Rattle.xb_value.specs.Width.{width_of}
 use Rattle.net_core.specs.declared.net.Site.{Site}
 use Rattle.net_core.specs.declared.net.Chan.{Chan}
 use Rattle.net_core.specs.declared.net.Kind.{Kind}
 use Rattle.net_core.specs.declared.net.Kind.TheVariants.{Input, Output, Inner}
-use Rattle.net_core.specs.declared.event.Event.{Event}
 use Rattle.net_core.specs.declared.event.Event.TheVariants.{Recv, Send, End}
 use Rattle.net_core.specs.declared.config.Config.{Config}
-use Rattle.net_core.specs.declared.config.Progress.{Progress}
-use Rattle.net_core.specs.declared.config.Channel.{Channel}
-use Rattle.net_core.specs.Behavior.{Behavior, Turn, Receive, Give, chan_at, IsOpen, IsWordOf, KeepsTypes}
-use Rattle.net_core.specs.Cuts.{Proc, Run, Cut, sender, receiver, IsFront, IsWithin, sites_of, sites_at, words_sent, count_received, words_at, received_at, room_by, room_at, fits_after, round, final_cut}
-use Rattle.net_core.specs.Machine.{Position, opened, moved, position_after, position_in, next_of, finds_word, goes_by, goes, with_event, stepped_by, stepped}
-use Rattle.net_core.specs.WellFormed.{IsRun, IsSiteIn, SiteFits, AreWordsOf}
-use Rattle.net_core.specs.Shows.{Shows, progress_at, progress_of, channel_of, IsUnchanged}
-use Rattle.net_core.specs.Making.{has_word, has_room, StandsAt, Receives, Sends, Ends}
-use Rattle.net_core.proofs.Fronts.{IsFront-refl}
-use Rattle.net_core.proofs.Resume.{words_after, words_after-drop, position_after-push}
-use Rattle.net_core.proofs.Steps.{position_stays}
-use Rattle.net_core.proofs.Confluence.{final_fixed, step_grows, step_consistent, step_below}
-use Rattle.net_core.proofs.Openings.{EventAt, receives_at, sends_at, ends_with, next_at, open_send, open_receive, open_first}
-use Rattle.net_core.proofs.Flows.{words_at-receive, words_at-end, words_at-send_other, words_at-send, words_at-sent, received_at-by, received_at-send, received_at-end, received_at-receive_other, received_at-receive, with_event-here, with_event-other}
-use Rattle.net_core.proofs.Places.{slice_get-set, slice_get-set_other, same_there}
+use Rattle.net_core.specs.Behavior.{chan_at}
+use Rattle.net_core.specs.Cuts.{Proc, Run, Cut, sender, receiver, words_sent, count_received, words_at, received_at, room_by, room_at, fits_after}
+use Rattle.net_core.specs.Machine.{position_in, next_of, finds_word, goes_by, with_event, stepped_by, stepped}
+use Rattle.net_core.specs.WellFormed.{SiteFits}
+use Rattle.net_core.specs.Shows.{Shows, progress_of, channel_of, IsUnchanged}
+use Rattle.net_core.specs.Making.{has_word, has_room, StandsAt}
+use Rattle.net_core.proofs.Flows.{words_at-sent, received_at-by}
 
 pub chan_at-there : (sites : List Site) (i : ℕ) (site : Site) → slice_get sites i ≡ Some site → chan_at sites i ≡ site.chan
 chan_at-there [] i site e = cc

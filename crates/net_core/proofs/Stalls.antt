@@ -1,8 +1,8 @@
 -- The outcome that is read off a configuration is that of the cut that it shows.
-use Rattle.std.proofs.Common.{◌≡◌, ◌≢◌, ℕ, zero, suc, ◌+◌, ◌<◌, ◌≤◌, List, [], ◌∷◌, ◌++◌, length, map, get_or, take, refl, sym, ap, ◌∙◌, subst, arith, true, false, Bool, cond, Some, None, Option}
+use Rattle.std.proofs.Common.{◌≡◌, ℕ, zero, suc, ◌<◌, ◌≤◌, List, [], ◌∷◌, length, map, get_or, refl, sym, ap, ◌∙◌, arith, true, false, Bool, cond, Some, None, Option}
 use Rattle.std.specs.Prelude.{slice_get, option_map, nat_lt}
 use Rattle.std.proofs.lemmas.Bool.Decides.{nat_tests}
-use Rattle.std.proofs.lemmas.List.{take_all, length-map}
+use Rattle.std.proofs.lemmas.List.{length-map}
 use Rattle.net_core.specs.declared.net.Site.{Site}
 use Rattle.net_core.specs.declared.net.Chan.{Chan}
 use Rattle.net_core.specs.declared.net.Kind.{Kind}
@@ -10,18 +10,16 @@ use Rattle.net_core.specs.declared.net.Kind.TheVariants.{Input, Output, Inner}
 use Rattle.net_core.specs.declared.event.Event.{Event}
 use Rattle.net_core.specs.declared.outcome.Stall.{Stall}
 use Rattle.net_core.specs.declared.outcome.Stream.{Stream}
-use Rattle.net_core.specs.declared.outcome.ProcEnd.{ProcEnd}
 use Rattle.net_core.specs.declared.config.Config.{Config}
 use Rattle.net_core.specs.declared.config.Progress.{Progress}
-use Rattle.net_core.specs.declared.config.Channel.{Channel}
 use Rattle.net_core.specs.Behavior.{Behavior, chan_at}
 use Rattle.net_core.specs.Cuts.{Proc, Run, Cut}
-use Rattle.net_core.specs.Machine.{Position, position_in, next_of}
+use Rattle.net_core.specs.Machine.{position_in, next_of}
 use Rattle.net_core.specs.Outcomes.{indexed, stream_of, stall_for, stall_in, end_of, behaviors_of}
 use Rattle.net_core.specs.Shows.{Shows, progress_of, channel_of, IsBehaviorOf}
 use Rattle.net_core.specs.Making.{end_with, stream_in}
-use Rattle.net_core.proofs.Indexed.{indexed_get, same_by_get, length-indexed}
-use Rattle.net_core.proofs.Places.{read_is, get_or-there}
+use Rattle.net_core.proofs.Indexed.{indexed_get, same_by_get}
+use Rattle.net_core.proofs.Places.{get_or-there}
 use Rattle.net_core.proofs.Shown.{progress_is, chan_at-there}
 
 -- a stall at a site's channel

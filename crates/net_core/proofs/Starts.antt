@@ -1,8 +1,7 @@
 -- A new configuration shows the empty cut.
-use Rattle.std.proofs.Common.{◌≡◌, ◌≢◌, ℕ, zero, suc, ◌+◌, ◌<◌, ◌≤◌, ◌^◌, List, [], ◌∷◌, ◌++◌, length, map, get_or, refl, sym, ap, ◌∙◌, subst, arith, true, false, Bool, eqb, not, Some, None, Option, inl, inr}
+use Rattle.std.proofs.Common.{◌≡◌, ◌≢◌, ℕ, zero, suc, ◌<◌, ◌≤◌, ◌^◌, List, [], ◌∷◌, length, map, get_or, refl, sym, ap, ◌∙◌, subst, arith, true, false, Bool, eqb, not, Some, None, Option, inl, inr}
 use Rattle.std.specs.Prelude.{slice_get, option_map, ◌⊎◌, ◌&&◌, ◌||◌, cond}
 use Rattle.std.specs.List.{list_any}
-use Rattle.std.proofs.lemmas.Bool.Decides.{nat_tests}
 use Rattle.xb_bits.specs.Word.{Word}
 use Rattle.xb_value.specs.Width.{width_of}
 use Rattle.xb_value.specs.Typing.{IsOfType}
@@ -13,12 +12,10 @@ use Rattle.net_core.specs.declared.net.Chan.{Chan}
 use Rattle.net_core.specs.declared.net.Kind.{Kind}
 use Rattle.net_core.specs.declared.net.Kind.TheVariants.{Input, Output, Inner}
 use Rattle.net_core.specs.declared.config.Config.{Config}
-use Rattle.net_core.specs.declared.config.Progress.{Progress}
-use Rattle.net_core.specs.declared.config.Channel.{Channel}
-use Rattle.net_core.specs.Behavior.{Behavior, IsOpen, IsWordOf}
-use Rattle.net_core.specs.Cuts.{Proc, Run, Cut, empty_cut, place_of, sends_on, receives_on, sender, receiver, words_sent, count_received, words_by, words_at, received_at}
-use Rattle.net_core.specs.Machine.{Position, opened, position_after, position_in}
-use Rattle.net_core.specs.WellFormed.{IsNet, IsSiteOf, IsInputs, AreWordsOf, IsBehaviorFor, AreBehaviorsOf, EachKeepsTypes, procs_of, run_of, IsRun, IsSiteIn, SiteFits}
+use Rattle.net_core.specs.Behavior.{Behavior, IsOpen}
+use Rattle.net_core.specs.Cuts.{Proc, empty_cut, place_of, sends_on, receives_on, sender, receiver, words_sent, count_received, words_by, words_at, received_at}
+use Rattle.net_core.specs.Machine.{opened, position_after, position_in}
+use Rattle.net_core.specs.WellFormed.{IsNet, IsSiteOf, IsInputs, AreWordsOf, IsBehaviorFor, AreBehaviorsOf, EachKeepsTypes, procs_of, run_of, IsRun}
 use Rattle.net_core.specs.Outcomes.{indexed}
 use Rattle.net_core.specs.Shows.{Shows, progress_at, progress_of, channel_of}
 use Rattle.net_core.specs.Making.{opened_progress, filled_channel}

@@ -1,7 +1,6 @@
 -- One step of the machine: it makes the event that stands in the proc's reach behind those that it made.
-use Rattle.std.proofs.Common.{◌≡◌, ℕ, zero, suc, ◌+◌, ◌-◌, ◌<◌, ◌≤◌, List, [], ◌∷◌, ◌++◌, length, drop, take, refl, sym, ap, ◌∙◌, subst, arith, rules, cond, true, false, Bool, eqb, Some, None, Option, inl, inr}
-use Rattle.std.specs.Prelude.{slice_get, nat_lt, ◌⊎◌, ◌&&◌}
-use Rattle.std.proofs.lemmas.Bool.{cases_lt}
+use Rattle.std.proofs.Common.{◌≡◌, ℕ, zero, suc, ◌<◌, ◌≤◌, List, [], ◌∷◌, ◌++◌, length, drop, refl, ap, ◌∙◌, subst, arith, cond, true, false, Bool, Some, None}
+use Rattle.std.specs.Prelude.{slice_get, nat_lt, ◌&&◌}
 use Rattle.std.proofs.lemmas.Bool.Decides.{nat_tests}
 use Rattle.std.proofs.lemmas.List.{append-nil}
 use Rattle.xb_bits.specs.Word.{Word}
@@ -9,12 +8,11 @@ use Rattle.net_core.specs.declared.net.Site.{Site}
 use Rattle.net_core.specs.declared.event.Event.{Event}
 use Rattle.net_core.specs.declared.event.Event.TheVariants.{Recv, Send, End}
 use Rattle.net_core.specs.Behavior.{Behavior, chan_at}
-use Rattle.net_core.specs.Trace.{Histories, trace}
-use Rattle.net_core.specs.Cuts.{Proc, Run, Cut, IsFront, IsWithin, sites_of, sites_at, count_received, words_at, room_at, fits_after, longest_fit, trace_of, reach, round}
-use Rattle.net_core.specs.Machine.{Position, opened, moved, left_after, position_after, position_in, next_of, finds_word, goes_by, goes, with_event, stepped_by, stepped}
-use Rattle.net_core.proofs.Fronts.{IsFront-refl, IsFront-trans, IsFront-append, IsFront-append_both}
-use Rattle.net_core.proofs.Traces.{IsLonger}
-use Rattle.net_core.proofs.Resume.{trace_from, trace_opened, has_word, is_left, GoesOn, goes_on, ends_done, ends_waiting, trace_resumes, words_after, words_after-drop, position_grows}
+use Rattle.net_core.specs.Trace.{Histories}
+use Rattle.net_core.specs.Cuts.{Proc, Run, Cut, IsFront, IsWithin, sites_of, count_received, words_at, room_at, fits_after, longest_fit, trace_of, reach}
+use Rattle.net_core.specs.Machine.{Position, opened, moved, left_after, position_after, position_in, next_of, finds_word, goes_by}
+use Rattle.net_core.proofs.Fronts.{IsFront-trans, IsFront-append_both}
+use Rattle.net_core.proofs.Resume.{trace_from, trace_opened, has_word, is_left, goes_on, ends_done, ends_waiting, trace_resumes, words_after, words_after-drop, position_grows}
 use Rattle.net_core.proofs.Reach.{longest_fit-front, longest_fit_resumes, longest_fit_step, words_at_grow}
 
 left_by_count : (xs : List Word) (k : ℕ) → is_left (drop k xs) ≡ nat_lt k (length xs)

@@ -1,14 +1,13 @@
 -- The trace of a proc: longer histories give longer traces, and a trace goes on where its front ends.
-use Rattle.std.proofs.Common.{◌≡◌, ℕ, zero, suc, ◌+◌, ◌-◌, ◌<◌, ◌≤◌, List, [], ◌∷◌, ◌++◌, length, drop, take, refl, sym, ap, ◌∙◌, subst, arith, rules, cond, true, false, Bool, eqb}
+use Rattle.std.proofs.Common.{◌≡◌, ℕ, zero, suc, List, [], ◌∷◌, ◌++◌, drop, refl, subst, cond, true, false, Bool, eqb}
 use Rattle.xb_bits.specs.Word.{Word}
 use Rattle.xb_value.specs.declared.value.Value.{Value}
 use Rattle.net_core.specs.declared.net.Site.{Site}
 use Rattle.net_core.specs.declared.event.Event.{Event}
-use Rattle.net_core.specs.declared.event.Event.TheVariants.{Recv, Send, End}
+use Rattle.net_core.specs.declared.event.Event.TheVariants.{Recv, Send}
 use Rattle.net_core.specs.Behavior.{Behavior, Turn, Skip, Receive, Give}
 use Rattle.net_core.specs.Trace.{Histories, without_first, events_from, trace}
 use Rattle.net_core.specs.Cuts.{IsFront}
-use Rattle.net_core.proofs.Fronts.{IsFront-refl}
 
 -- every channel has at least these words
 abbrev pub IsLonger : Histories → Histories → Type 0

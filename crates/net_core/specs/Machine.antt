@@ -1,5 +1,5 @@
 -- The machine that makes the events of a run one at a time: what it shows at any moment is a cut.
-use Rattle.std.specs.Prelude.{◌≡◌, ℕ, zero, suc, ◌+◌, Bool, true, false, ◌&&◌, List, [], ◌∷◌, ◌++◌, length, take, slice_get, nat_lt, if◌then◌else◌, ◌==◌, Option, Some, None}
+use Rattle.std.specs.Prelude.{ℕ, suc, Bool, true, false, ◌&&◌, List, [], ◌∷◌, ◌++◌, length, take, slice_get, nat_lt, if◌then◌else◌, ◌==◌, Option, Some, None}
 use Rattle.xb_bits.specs.Word.{Word}
 use Rattle.xb_value.specs.declared.value.Value.{Value}
 use Rattle.net_core.specs.declared.net.Site.{Site}
@@ -7,7 +7,7 @@ use Rattle.net_core.specs.declared.event.Event.{Event}
 use Rattle.net_core.specs.declared.event.Event.TheVariants.{Recv, Send, End}
 use Rattle.net_core.specs.Behavior.{Behavior, chan_at, next_event}
 use Rattle.net_core.specs.Trace.{Histories, without_first}
-use Rattle.net_core.specs.Cuts.{Proc, Run, Cut, empty_cut, sites_of, count_received, words_at, room_at, fits_after}
+use Rattle.net_core.specs.Cuts.{Proc, Run, Cut, count_received, words_at, room_at, fits_after}
 
 -- where a proc stands: the state of the open activation, the words that it received in it, how many of its sites are
 -- past, and how many activations ended before

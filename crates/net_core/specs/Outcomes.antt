@@ -1,8 +1,7 @@
 -- What a cut leaves: the stream of each channel, and where each proc stands.
-use Rattle.std.specs.Prelude.{ℕ, zero, suc, Bool, true, false, List, [], ◌∷◌, take, map, if◌then◌else◌, nat_lt, Option, Some, None}
+use Rattle.std.specs.Prelude.{ℕ, suc, true, false, List, [], ◌∷◌, take, map, if◌then◌else◌, nat_lt, Option, Some, None}
 use Rattle.net_core.specs.declared.net.Chan.{Chan}
 use Rattle.net_core.specs.declared.net.Site.{Site}
-use Rattle.net_core.specs.declared.net.Kind.{Kind}
 use Rattle.net_core.specs.declared.net.Kind.TheVariants.{Input, Output, Inner}
 use Rattle.net_core.specs.declared.event.Event.{Event}
 use Rattle.net_core.specs.declared.event.Event.TheVariants.{Recv, Send, End}
@@ -12,7 +11,7 @@ use Rattle.net_core.specs.declared.outcome.ProcEnd.{ProcEnd}
 use Rattle.net_core.specs.declared.outcome.Stall.{Stall}
 use Rattle.net_core.specs.Behavior.{Behavior, chan_at}
 use Rattle.net_core.specs.Cuts.{Proc, Run, Cut, words_at, received_at}
-use Rattle.net_core.specs.Machine.{Position, position_in, next_of}
+use Rattle.net_core.specs.Machine.{position_in, next_of}
 
 -- a function of each element and its place, from place i on
 abbrev pub indexed : {A B : Type 0} → (ℕ → A → B) → ℕ → List A → List B

@@ -1,6 +1,5 @@
 -- What a configuration of the machine shows: a cut of its run.
-use Rattle.std.specs.Prelude.{◌≡◌, ◌≤◌, ◌-◌, ◌*◌, ℕ, zero, suc, Bool, true, false, List, [], ◌∷◌, length, get_or, slice_get, option_map, sum_by, Option, Some, None}
-use Rattle.xb_bits.specs.Word.{Word}
+use Rattle.std.specs.Prelude.{◌≡◌, ◌≤◌, ◌-◌, ◌*◌, ℕ, suc, length, get_or, slice_get, option_map, sum_by, Some}
 use Rattle.xb_value.specs.Width.{width_of}
 use Rattle.net_core.specs.declared.net.Chan.{Chan}
 use Rattle.net_core.specs.declared.config.Config.{Config}

@@ -5,7 +5,7 @@ use Rattle.xb_value.specs.declared.value.Value.{Value}
 use Rattle.net_core.specs.declared.net.Site.{Site}
 use Rattle.net_core.specs.declared.event.Event.{Event}
 use Rattle.net_core.specs.declared.event.Event.TheVariants.{Recv, Send, End}
-use Rattle.net_core.specs.Behavior.{Behavior, Turn, Skip, Receive, Give}
+use Rattle.net_core.specs.Behavior.{Behavior, Skip, Receive, Give}
 
 -- the words of each channel, by its number: all that a proc will ever find there
 abbrev pub Histories : Type 0

@@ -1,15 +1,13 @@
 -- Which networks, bodies, inputs and depths belong together.
-use Rattle.std.specs.Prelude.{◌≡◌, ◌≢◌, ℕ, zero, suc, ◌<◌, ◌≤◌, ◌^◌, Bool, true, false, List, [], ◌∷◌, length, get_or, slice_get, Option, Some, None}
+use Rattle.std.specs.Prelude.{◌≡◌, ◌≢◌, ℕ, ◌<◌, ◌≤◌, ◌^◌, true, false, List, [], ◌∷◌, length, get_or, slice_get, Some}
 use Rattle.xb_bits.specs.Word.{Word}
-use Rattle.xb_value.specs.declared.value.Value.{Value}
 use Rattle.xb_value.specs.Typing.{IsOfType}
 use Rattle.xb_value.specs.Width.{width_of, HasWidths}
 use Rattle.net_core.specs.declared.net.Net.{Net}
 use Rattle.net_core.specs.declared.net.ProcHead.{ProcHead}
 use Rattle.net_core.specs.declared.net.Chan.{Chan}
 use Rattle.net_core.specs.declared.net.Site.{Site}
-use Rattle.net_core.specs.declared.net.Kind.{Kind}
-use Rattle.net_core.specs.declared.net.Kind.TheVariants.{Input, Output, Inner}
+use Rattle.net_core.specs.declared.net.Kind.TheVariants.{Input, Output}
 use Rattle.net_core.specs.Behavior.{Behavior, KeepsTypes, IsWordOf}
 use Rattle.net_core.specs.Cuts.{Proc, Run, sender, receiver}
 

@@ -209,15 +209,15 @@ impl Config {
         requires { IsAskedWith self.now p (B.behavior body.now) }
         ensures { IfOk result (λ can. (run : Run) (cut : Cut) → Shows run cut self.now → IsBehaviorOf run p (B.behavior body.now) → can ≡ goes run cut p) }
     {
-        let progress = &self.procs[p as usize];
-        if progress.ends >= self.activations {
+        let proc = &self.procs[p as usize];
+        if proc.ends >= self.activations {
             return Ok(false);
         }
         let event = body.next(
             alloc,
-            &progress.state,
-            progress.got.as_slice(),
-            progress.done,
+            &proc.state,
+            proc.got.as_slice(),
+            proc.done,
         )?;
         Ok(self.can_make(p as usize, &event))
     }
@@ -279,15 +279,15 @@ impl Config {
         requires { IsAskedWith self.now p (B.behavior body.now) }
         ensures { IfOk result (λ stall. (run : Run) (cut : Cut) → Shows run cut self.now → (is : IsBehaviorOf run p (B.behavior body.now)) → stall ≡ stall_in run cut p is.0) }
     {
-        let progress = &self.procs[p];
-        if progress.ends >= self.activations {
+        let proc = &self.procs[p];
+        if proc.ends >= self.activations {
             return Ok(None);
         }
         let event = body.next(
             alloc,
-            &progress.state,
-            progress.got.as_slice(),
-            progress.done,
+            &proc.state,
+            proc.got.as_slice(),
+            proc.done,
         )?;
         Ok(self.stall_at(p, &event))
     }

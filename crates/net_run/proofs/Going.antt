@@ -1,23 +1,21 @@
 -- What a configuration shows while procs are let go one after another.
-use Rattle.std.proofs.Common.{◌≡◌, ℕ, zero, suc, refl, ◌+◌, ◌<◌, ◌≤◌, List, [], ◌++◌, ◌∷◌, length, map, sym, ap, ◌∙◌, subst, arith, true, false, Bool, MatchBool, Some, inl, inr}
-use Rattle.std.specs.Prelude.{slice_get, sum_by, ◌⊎◌}
+use Rattle.std.proofs.Common.{◌≡◌, ℕ, zero, suc, refl, ◌+◌, ◌<◌, List, [], ◌++◌, ◌∷◌, length, map, sym, ap, ◌∙◌, subst, arith, true, false, Bool, MatchBool, inl, inr}
+use Rattle.std.specs.Prelude.{sum_by, ◌⊎◌}
 use Rattle.std.proofs.lemmas.Bool.{cases_eq}
 use Rattle.std.proofs.lemmas.List.{append_cancel_left}
 use mathlib.Core.Path.{fun_ext}
 use Rattle.xb_value.specs.declared.value.Value.{Value}
 use Rattle.xb_bits.specs.Word.{Word}
 use Rattle.net_core.specs.declared.event.Event.{Event}
-use Rattle.net_core.specs.declared.event.Event.TheVariants.{Recv, Send, End}
 use Rattle.net_core.specs.declared.config.Config.{Config}
-use Rattle.net_core.specs.declared.config.Progress.{Progress}
-use Rattle.net_core.specs.Behavior.{Behavior, Turn, Receive, Give, TurnFits, IsOpen, KeepsTypes, next_event}
+use Rattle.net_core.specs.Behavior.{Behavior, TurnFits, IsOpen, KeepsTypes, next_event}
 use Rattle.net_core.specs.declared.net.ProcHead.{ProcHead}
 use Rattle.net_core.specs.WellFormed.{EachKeepsTypes, procs_of}
 use Rattle.net_core.specs.Trace.{Histories}
 use Rattle.net_core.specs.Cuts.{Proc, Run, Cut, IsFront, final_cut}
-use Rattle.net_core.specs.Machine.{Position, opened, goes, stepped, next_of, position_after}
-use Rattle.net_core.specs.Shows.{Shows, IsBehaviorOf, IsUnchanged, events_left, progress_left}
-use Rattle.net_core.proofs.Fronts.{IsFront-append, rest_of}
+use Rattle.net_core.specs.Machine.{opened, goes, stepped, next_of, position_after}
+use Rattle.net_core.specs.Shows.{Shows, IsUnchanged, events_left, progress_left}
+use Rattle.net_core.proofs.Fronts.{IsFront-append}
 use Rattle.net_core.proofs.Resume.{trace_from, trace_resumes, front_goes, words_after}
 use Rattle.net_core.proofs.Confluence.{stuck_is_final}
 use Rattle.net_core.proofs.Openings.{EventAt, receives_at, sends_at, ends_with, next_at}

@@ -59,14 +59,19 @@ fn round<B: Body>(alloc: Global, config: &mut Config, bodies: &[B]) -> Result<bo
 }
 
 /// A proc makes all events that it can, and the answer is whether there was one.
-fn advance<B: Body>(alloc: Global, config: &mut Config, p: u32, body: &B) -> Result<bool, AllocError>
+fn advance<B: Body>(
+    alloc: Global,
+    config: &mut Config,
+    p: u32,
+    body: &B,
+) -> Result<bool, AllocError>
     requires { IsAskedWith config.old p (B.behavior body.now) }
     ensures advances { IfOk result (λ moved. (run : Run) (cut : Cut) → Shows run cut config.old → IsBehaviorOf run p (B.behavior body.now) → Advances run cut p config.new moved) }
     ensures falls { IfOk result (λ moved. MatchBool moved (events_left config.new < events_left config.old) (events_left config.new ≡ events_left config.old)) }
 {
-    let mut moved = false;
+    let mut went = false;
     while config.step(alloc, p, body)? {
-        moved = true;
+        went = true;
     }
-    Ok(moved)
+    Ok(went)
 }

@@ -1,7 +1,6 @@
-use Rattle.std.proofs.Common.{◌≡◌, ◌+◌, ◌∙◌, ap, subst, sym, List, ◌++◌, ◌∷◌, [], length, arith}
+use Rattle.std.proofs.Common.{◌∙◌, ap, sym, List, ◌++◌, ◌∷◌, [], arith}
 use Rattle.std.proofs.lemmas.List.{length_push}
 use Rattle.net_core.specs.declared.outcome.ProcEnd.{ProcEnd}
-use Rattle.net_core.specs.Outcomes.{indexed}
 use Rattle.net_core.specs.Making.{end_with}
 use Rattle.net_core.proofs.Indexed.{indexed_push}
 use Rattle.net_core.proofs.config.ends.Goals as goal

@@ -1,4 +1,4 @@
-use Rattle.std.proofs.Common.{◌≡◌, ◌<◌, ◌∙◌, ap, sym, ◌++◌, ◌∷◌, [], List, get_or, length, take, arith}
+use Rattle.std.proofs.Common.{◌<◌, ◌∙◌, ap, sym, ◌++◌, ◌∷◌, [], List, get_or, length, take, arith}
 use Rattle.std.proofs.lemmas.List.{get_or_read}
 use Rattle.xb_bits.specs.Word.{Word}
 use Rattle.net_core.specs.declared.config.Channel.{Channel}

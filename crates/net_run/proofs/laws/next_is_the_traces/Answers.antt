@@ -1,4 +1,4 @@
-use Rattle.std.proofs.Common.{◌≡◌, ◌∙◌, sym}
+use Rattle.std.proofs.Common.{◌∙◌, sym}
 use Rattle.net_core.proofs.Resume.{trace_opened}
 use Rattle.net_run.proofs.Going.{next_after}
 use Rattle.net_run.proofs.laws.next_is_the_traces.Goals as goal

@@ -1,4 +1,4 @@
-use Rattle.std.proofs.Common.{◌≡◌, ◌<◌, ◌∙◌, subst, sym, length, true, false}
+use Rattle.std.proofs.Common.{subst, length}
 use Rattle.net_core.proofs.Stalls.{count_behaviors}
 use Rattle.net_run.specs.Rounds.{Passes}
 use Rattle.net_run.proofs.Going.{passes_some, round_ends}

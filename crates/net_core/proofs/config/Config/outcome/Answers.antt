@@ -1,8 +1,8 @@
-use Rattle.std.proofs.Common.{◌≡◌, ◌∙◌, ap, subst, sym, List, length}
+use Rattle.std.proofs.Common.{◌≡◌, ◌∙◌, ap, sym, List, length}
 use Rattle.net_core.specs.declared.outcome.Outcome.{Outcome}
 use Rattle.net_core.specs.declared.outcome.Stream.{Stream}
 use Rattle.net_core.specs.declared.outcome.ProcEnd.{ProcEnd}
-use Rattle.net_core.specs.Outcomes.{indexed, stall_in, stream_of, end_of}
+use Rattle.net_core.specs.Outcomes.{indexed, stall_in, stream_of}
 use Rattle.net_core.specs.Shows.{progress_of}
 use Rattle.net_core.proofs.Indexed.{length-indexed}
 use Rattle.net_core.proofs.Stalls.{procs_are, streams_are, ends_are}

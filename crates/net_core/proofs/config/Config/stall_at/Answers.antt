@@ -1,9 +1,6 @@
-use Rattle.std.proofs.Common.{◌≡◌, ◌∙◌, ap, sym, subst, Some, true, false, ℕ}
+use Rattle.std.proofs.Common.{◌≡◌, ap, subst, Some, true, false}
 use Rattle.std.specs.Prelude.{slice_get}
-use Rattle.net_core.specs.declared.net.Site.{Site}
 use Rattle.net_core.specs.declared.config.Progress.{Progress}
-use Rattle.net_core.specs.declared.event.Event.{Event}
-use Rattle.net_core.specs.Outcomes.{stall_for}
 use Rattle.net_core.proofs.Places.{read_is, same_there}
 use Rattle.net_core.proofs.Stalls.{stall_arm}
 use Rattle.net_core.proofs.config.Config.stall_at.Goals as goal

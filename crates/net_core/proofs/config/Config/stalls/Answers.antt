@@ -1,4 +1,4 @@
-use Rattle.std.proofs.Common.{◌≡◌, ◌<◌, ◌≤◌, ◌∙◌, ap, subst, sym, List, ◌++◌, ◌∷◌, [], length, take, arith, Option}
+use Rattle.std.proofs.Common.{◌<◌, ◌≤◌, ◌∙◌, ap, sym, List, ◌++◌, ◌∷◌, [], length, take, arith, Option}
 use Rattle.std.proofs.lemmas.List.{take_all}
 use Rattle.net_core.specs.declared.outcome.Stall.{Stall}
 use Rattle.net_core.specs.Outcomes.{indexed, stall_in}

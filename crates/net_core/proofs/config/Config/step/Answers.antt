@@ -1,4 +1,4 @@
-use Rattle.std.proofs.Common.{◌≡◌, ◌∙◌, ap, subst, sym, List}
+use Rattle.std.proofs.Common.{◌∙◌, ap, subst, sym, List}
 use Rattle.std.proofs.lemmas.Result.{IfOk-weaker}
 use Rattle.xb_bits.specs.Word.{Word}
 use Rattle.net_core.specs.Behavior.{IsOpen, next_event}
@@ -46,6 +46,6 @@ returns-clause-falls g c =
     let here = progress_here r.0 r.1 c.args.self.now r.2 c.args.p _ r.3 progress c.index-progress.ensures in
     let event = c.in_ok-event.ensures ∙ ap (λ (got : List Word). next_event (g.B.Body.behavior c.args.body.now) progress.state got progress.done) c.as_slice.ensures in
     IfOk-weaker c.try_event.result _ _ (λ made tried.
-        asked_falls r.0 r.1 c.args.self.now c.try_event.new.self r.2 c.args.p _ r.3 c.in_ok-event.event made
-        (asked_active r.0 r.1 c.args.self.now r.2 c.args.p _ r.3 progress here c.if-progress-self.false)
-        (asked_next r.0 r.1 c.args.p _ r.3 progress c.in_ok-event.event here event) tried) c.try_event.ensures.ok
+    asked_falls r.0 r.1 c.args.self.now c.try_event.new.self r.2 c.args.p _ r.3 c.in_ok-event.event made
+    (asked_active r.0 r.1 c.args.self.now r.2 c.args.p _ r.3 progress here c.if-progress-self.false)
+    (asked_next r.0 r.1 c.args.p _ r.3 progress c.in_ok-event.event here event) tried) c.try_event.ensures.ok

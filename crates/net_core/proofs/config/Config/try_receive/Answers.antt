@@ -1,5 +1,4 @@
-use Rattle.std.proofs.Common.{◌≡◌, ℕ, true, Bool, sym, ◌∙◌, ap, subst}
-use Rattle.net_core.specs.declared.config.Channel.{Channel}
+use Rattle.std.proofs.Common.{◌≡◌, true, sym, ◌∙◌, ap, subst}
 use Rattle.net_core.specs.Making.{has_word, StandsAt, Receives}
 use Rattle.net_core.proofs.Places.{read_is}
 use Rattle.net_core.proofs.config.Config.try_receive.Goals as goal
