@@ -1,4 +1,9 @@
+pub mod FlatBack
+pub mod FlatLaws
 pub mod Saturation
+pub mod TypedLaws
 pub mod Types
+pub mod TypingLemmas
+pub mod Values
 pub mod Widths
 pub mod Words
