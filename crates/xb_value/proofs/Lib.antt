@@ -1,3 +1,4 @@
+pub mod Digits
 pub mod FlatBack
 pub mod FlatLaws
 pub mod Saturation

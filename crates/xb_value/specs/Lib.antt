@@ -1,4 +1,5 @@
 pub mod Flat
+pub mod Text
 pub mod Typing
 pub mod Unflat
 pub mod Width
