@@ -1,7 +1,12 @@
+pub mod Classes
 pub mod Digits
 pub mod FlatBack
 pub mod FlatLaws
+pub mod Faults
+pub mod Found
 pub mod Saturation
+pub mod Sound
+pub mod Taken
 pub mod TypedLaws
 pub mod Types
 pub mod TypingLemmas

@@ -1,5 +1,5 @@
 -- The flat word of a value of a type is as wide as the type, and what is taken at a type is of the type.
-use Rattle.std.proofs.Common.{◌≡◌, ℕ, zero, suc, ◌+◌, ◌*◌, ◌%◌, ◌^◌, ◌<◌, ◌≤◌, ◌==◌, nat_lt, nat_le, List, [], ◌∷◌, map, sum, length, Bool, true, false, ◌&&◌, IsTrue, refl, sym, ap, ap₂, subst, ◌∙◌, arith}
+use Rattle.std.proofs.Common.{◌≡◌, ℕ, zero, suc, ◌+◌, ◌*◌, ◌%◌, ◌^◌, ◌<◌, ◌≤◌, ◌==◌, nat_lt, nat_le, List, [], ◌∷◌, map, sum, length, Bool, IsTrue, refl, sym, ap, ap₂, subst, ◌∙◌, arith}
 use Rattle.std.specs.List.{list_all}
 use Rattle.std.proofs.lemmas.List.Sums.{sum_by-cons}
 use Rattle.std.proofs.lemmas.Nat.{mod_below, pow_pos}
@@ -17,7 +17,7 @@ use Rattle.xb_value.proofs.Types as types
 use Rattle.xb_value.proofs.Types.{EachHas, ty_induction}
 use Rattle.xb_value.proofs.TypingLemmas.{bits_of_type, tuple_of_type, array_of_type, fits-Bits, fits-Tuple, fits-Array}
 use Rattle.xb_value.proofs.Values.{flat_of-Bits, flat_of-Tuple, flat_of-Array}
-use Rattle.xb_value.proofs.Widths.{both_true}
+use Rattle.xb_value.proofs.Widths.{both_true, and_true}
 
 -- ---- how wide
 
@@ -58,10 +58,6 @@ as_wide = ty_induction IsAsWide
 
 abbrev pub GivesTyped : Ty → Type 0
 GivesTyped t = HasWidths t → (n : ℕ) → IsOfType t (taken_low t n).0
-
-and_true : (a b : Bool) → IsTrue a → IsTrue b → IsTrue (a && b)
-and_true true b h k = k
-and_true false b h k = absurd (cc)
 
 word_fits : (w n : ℕ) → 1 ≤ w → w ≤ 128 → IsTrue (is_word_of w (word w (n % 2 ^ w)))
 word_fits w n some most =

@@ -4,6 +4,8 @@
 #![tactic(auto)]
 
 mod flat_word;
+mod scan;
+mod token;
 mod ty;
 mod unflat_word;
 mod value;
