@@ -9,6 +9,10 @@ both_true true true h = (refl, refl)
 both_true true false h = absurd (cc)
 both_true false b h = absurd (cc)
 
+pub and_true : (a b : Bool) → IsTrue a → IsTrue b → IsTrue (a && b)
+and_true true b h k = k
+and_true false b h k = absurd (cc)
+
 -- each of the types has widths
 pub HasWidths-at : (ts : List Ty) (i : ℕ) (t : Ty) → HasAllWidths ts → i < length ts → t ≡ get_or ts i t → HasWidths t
 HasWidths-at [] i t all h is = absurd (omega arith)

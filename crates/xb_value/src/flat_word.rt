@@ -1,15 +1,13 @@
-//! The flat word of a value, and back: the first element has the high places.
+//! The flat word of a value: the first element has the high places.
 
-ghost use Rattle.std.specs.Prelude.{◌≡◌, ◌+◌, ◌-◌, ◌*◌, ◌/◌, ◌%◌, ◌^◌, ◌<◌, ◌≤◌, IfOk, map};
-ghost use Rattle.xb_bits.specs.Word.{word};
+ghost use Rattle.std.specs.Prelude.{◌≡◌, ◌+◌, ◌*◌, ◌^◌, ◌<◌, ◌≤◌, map};
 ghost use Rattle.xb_value.specs.Flat.{flat_of, joined};
-ghost use Rattle.xb_value.specs.Unflat.{taken_low, unflat_of};
-ghost use Rattle.xb_value.specs.Width.{width_of, HasWidths};
+ghost use Rattle.xb_value.specs.Typing.{IsOfType};
+ghost use Rattle.xb_value.specs.Unflat.{unflat_of};
+ghost use Rattle.xb_value.specs.Width.{width_of};
+ghost use Rattle.xb_value.specs.declared.ty.Ty.{Ty};
 
-use crate::ty::Ty;
 use crate::value::Value;
-use sqlite_items::Items as Seq;
-use std::alloc::{AllocError, Global};
 use xb_bits::{Bits, concat};
 
 /// A number and how many bits of it are in use.
@@ -23,7 +21,10 @@ struct Packed {
 pub fn flat(value: &Value) -> Bits
     requires some_width { 1 ≤ (flat_of value.now).width }
     requires most_width { (flat_of value.now).width ≤ 128 }
-    ensures { result ≡ flat_of value.now }
+    ensures value { result ≡ flat_of value.now }
+    // As wide as the type of the value, and the value comes back from it.
+    ensures width { (t : Ty) → IsOfType t value.now → result.width ≡ width_of t }
+    ensures back { (t : Ty) → IsOfType t value.now → unflat_of t result.value ≡ value.now }
 {
     let packed = pack(
         value,

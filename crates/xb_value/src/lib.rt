@@ -4,9 +4,12 @@
 #![tactic(auto)]
 
 mod flat_word;
+mod scan;
+mod token;
 mod ty;
 mod unflat_word;
 mod value;
+mod writer;
 
 /// A `Box` that contracts see as its value, a `Vec` that they see as its list, and a look-up in one.
 pub use flat_word::flat;
@@ -14,3 +17,4 @@ pub use sqlite_items::{Boxed, Items as Seq, at};
 pub use ty::Ty;
 pub use unflat_word::unflat;
 pub use value::Value;
+pub use writer::value_text;

@@ -32,6 +32,8 @@ pub fn unflat(alloc: Global, ty: &Ty, bits: Bits) -> Result<Value, AllocError>
     requires widths { HasWidths ty.now }
     requires fits { width_of ty.now ≡ bits.width }
     ensures value { IfOk result (λ v. v ≡ unflat_of ty.now bits.value) }
+    ensures of_type { IfOk result (IsOfType ty.now) }
+    ensures flat { IfOk result (λ v. flat_of v ≡ bits) }
 {
     Ok(take_low(alloc, ty, bits.value())?.value)
 }
