@@ -1,3 +1,9 @@
 pub mod Flat
+pub mod Form
+pub mod Scanned
+pub mod Scanner
+pub mod ScannerState
+pub mod Text
 pub mod Typing
+pub mod Unflat
 pub mod Width

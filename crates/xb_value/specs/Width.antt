@@ -1,5 +1,6 @@
 -- How wide a type is, and how many leaves it has.
-use Rattle.std.specs.Prelude.{ℕ, ◌*◌, sum}
+use Rattle.std.specs.Prelude.{ℕ, ◌*◌, sum, map, List, Bool, nat_le, ◌&&◌, IsTrue}
+use Rattle.std.specs.List.{list_all}
 use Rattle.xb_value.specs.declared.ty.Ty.{Ty, fold-Ty}
 use Rattle.xb_value.specs.declared.ty.Ty.TheOpen.{Ty-F}
 
@@ -20,3 +21,15 @@ leaves_step (Ty-F.Array n m) = m * n
 -- how many bit types the type has, arrays multiplied out
 abbrev pub leaf_count : Ty → ℕ
 leaf_count = fold-Ty ℕ leaves_step
+
+abbrev pub widths_step : Ty-F Bool → Bool
+widths_step (Ty-F.Bits w) = nat_le 1 w && nat_le w 128
+widths_step (Ty-F.Tuple bs) = list_all (λ b. b) bs
+widths_step (Ty-F.Array b n) = b
+
+-- the bits of the type are 1 to 128 wide, as those of every type of a program
+abbrev pub HasWidths : Ty → Type 0
+HasWidths t = IsTrue (fold-Ty Bool widths_step t)
+
+abbrev pub HasAllWidths : List Ty → Type 0
+HasAllWidths ts = IsTrue (list_all (λ b. b) (map (fold-Ty Bool widths_step) ts))

@@ -24,12 +24,15 @@ impl Ty {
             Ty::Bits(width) => Ok(Ty::Bits(*width)),
             Ty::Tuple(parts) => {
                 let mut copies = Vec::new(alloc);
-                for part in parts.as_slice() {
+                'parts: for part in parts.as_slice() {
                     copies.push(part.copy(alloc)?)?;
                 }
                 Ok(Ty::Tuple(Seq::from_vec(copies)))
             }
-            Ty::Array(part, count) => Ok(Ty::Array(Boxed::new(alloc, part.get().copy(alloc)?)?, *count)),
+            Ty::Array(part, count) => Ok(Ty::Array(
+                Boxed::new(alloc, part.get().copy(alloc)?)?,
+                *count,
+            )),
         }
     }
 
@@ -41,7 +44,8 @@ impl Ty {
         match (self, other) {
             (Ty::Bits(width), Ty::Bits(others)) => width == others,
             (Ty::Tuple(parts), Ty::Tuple(others)) => are(parts.as_slice(), others.as_slice()),
-            (Ty::Array(part, count), Ty::Array(others, others_count)) => count == others_count && part.get().is(others.get()),
+            (Ty::Array(part, count), Ty::Array(others, others_count)) => count == others_count
+                && part.get().is(others.get()),
             _ => false,
         }
     }
@@ -54,12 +58,29 @@ impl Ty {
             Ty::Bits(width) => *width,
             Ty::Tuple(parts) => {
                 let mut width = 0u64;
-                for part in parts.as_slice() {
+                'parts: for part in parts.as_slice() {
                     width = width.saturating_add(part.width());
                 }
                 width
             }
             Ty::Array(part, count) => part.get().width().saturating_mul(*count),
+        }
+    }
+
+    /// How many bit types the type has, arrays multiplied out, or `2^64 - 1` where they are more.
+    pub fn leaves(&self) -> u64
+        ensures { result ≡ min (leaf_count self.now) (2 ^ 64 - 1) }
+    {
+        match self {
+            Ty::Bits(_) => 1,
+            Ty::Tuple(parts) => {
+                let mut leaves = 0u64;
+                'parts: for part in parts.as_slice() {
+                    leaves = leaves.saturating_add(part.leaves());
+                }
+                leaves
+            }
+            Ty::Array(part, count) => part.get().leaves().saturating_mul(*count),
         }
     }
 }
@@ -72,7 +93,7 @@ fn are(parts: &[Ty], others: &[Ty]) -> bool
     if parts.len() != others.len() {
         return false;
     }
-    for i in 0..parts.len() {
+    'parts: for i in 0..parts.len() {
         if !parts[i].is(&others[i]) {
             return false;
         }

@@ -1,9 +1,9 @@
 use Rattle.std.proofs.Common.{◌≡◌, ◌↔◌, length, drop}
 use Rattle.xb_value.proofs.ty.+ty_is.Given as goal
 
-abbrev pub invariant-are-loop-i : goal.invariant-are-loop-i
-invariant-are-loop-i l =
+abbrev pub invariant-are-parts : goal.invariant-are-parts
+invariant-are-parts l =
     record {
       same_length : length l.parts ≡ length l.others;
-      same_rest : (l.parts ≡ l.others) ↔ (drop l.i l.parts ≡ drop l.i l.others)
+      same_rest : (l.parts ≡ l.others) ↔ (drop l.i l.parts ≡ drop l.i l.others);
     }

@@ -1,0 +1,17 @@
+pub mod Fronts
+pub mod Traces
+pub mod Resume
+pub mod Reach
+pub mod Rounds
+pub mod Steps
+pub mod Confluence
+pub mod Openings
+pub mod Flows
+pub mod Places
+pub mod Indexed
+pub mod Shown
+pub mod Events
+pub mod Asked
+pub mod Falls
+pub mod Starts
+pub mod Stalls

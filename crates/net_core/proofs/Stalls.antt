@@ -1,0 +1,116 @@
+-- The outcome that is read off a configuration is that of the cut that it shows.
+use Rattle.std.proofs.Common.{◌≡◌, ℕ, zero, suc, ◌<◌, ◌≤◌, List, [], ◌∷◌, length, map, get_or, refl, sym, ap, ◌∙◌, arith, true, false, Bool, cond, Some, None, Option}
+use Rattle.std.specs.Prelude.{slice_get, option_map, nat_lt}
+use Rattle.std.proofs.lemmas.Bool.Decides.{nat_tests}
+use Rattle.std.proofs.lemmas.List.{length-map}
+use Rattle.net_core.specs.declared.net.Site.{Site}
+use Rattle.net_core.specs.declared.net.Chan.{Chan}
+use Rattle.net_core.specs.declared.net.Kind.{Kind}
+use Rattle.net_core.specs.declared.net.Kind.TheVariants.{Input, Output, Inner}
+use Rattle.net_core.specs.declared.event.Event.{Event}
+use Rattle.net_core.specs.declared.outcome.Stall.{Stall}
+use Rattle.net_core.specs.declared.outcome.Stream.{Stream}
+use Rattle.net_core.specs.declared.config.Config.{Config}
+use Rattle.net_core.specs.declared.config.Progress.{Progress}
+use Rattle.net_core.specs.Behavior.{Behavior, chan_at}
+use Rattle.net_core.specs.Cuts.{Proc, Run, Cut}
+use Rattle.net_core.specs.Machine.{position_in, next_of}
+use Rattle.net_core.specs.Outcomes.{indexed, stream_of, stall_for, stall_in, end_of, behaviors_of}
+use Rattle.net_core.specs.Shows.{Shows, progress_of, channel_of, IsBehaviorOf}
+use Rattle.net_core.specs.Making.{end_with, stream_in}
+use Rattle.net_core.proofs.Indexed.{indexed_get, same_by_get}
+use Rattle.net_core.proofs.Places.{get_or-there}
+use Rattle.net_core.proofs.Shown.{progress_is, chan_at-there}
+
+-- a stall at a site's channel
+pub stall_arm : (sites : List Site) (i : ℕ) (at : Site) (ends activation chan : ℕ) (sends : Bool) → slice_get sites i ≡ Some at → chan ≡ at.chan → activation ≡ ends
+    → ◌≡◌ {A = Option Stall} (Some (record { activation = activation; sends = sends; chan = chan })) (Some (record { activation = ends; sends = sends; chan = chan_at sites i }))
+stall_arm sites i at ends activation chan sends place e f =
+    let c = e ∙ sym (chan_at-there sites i at place) in
+    ap (λ a. Some (record { activation = a; sends = sends; chan = chan })) f ∙ ap (λ k. Some (record { activation = ends; sends = sends; chan = k })) c
+
+stall_active : (run : Run) (cut : Cut) (p : ℕ) (proc : Proc) → (position_in run cut p proc).ends < run.activations
+    → stall_in run cut p proc ≡ stall_for proc.behavior.sites (position_in run cut p proc).ends (next_of proc.behavior (position_in run cut p proc))
+unfolding stall_in
+stall_active run cut p proc l =
+    let t : nat_lt (position_in run cut p proc).ends run.activations ≡ true = grind (arith, nat_tests) in
+    ap (λ (b : Bool). cond b (stall_for proc.behavior.sites (position_in run cut p proc).ends (next_of proc.behavior (position_in run cut p proc))) None) t
+
+pub asked_stall : (run : Run) (cut : Cut) (config : Config) → Shows run cut config → (p : ℕ) (b : Behavior) (is : IsBehaviorOf run p b) (event : Event) (stall : Option Stall)
+    → (position_in run cut p is.0).ends < run.activations → next_of is.0.behavior (position_in run cut p is.0) ≡ event
+    → ((progress : Progress) → slice_get config.procs.items p ≡ Some progress → stall ≡ stall_for progress.sites progress.ends event) → stall ≡ stall_in run cut p is.0
+asked_stall run cut config sh p b is event stall active next made =
+    made (progress_of run cut p is.0) (progress_is run cut config sh p is.0 is.1)
+    ∙ (ap (λ e. stall_for is.0.behavior.sites (position_in run cut p is.0).ends e) (sym next) ∙ sym (stall_active run cut p is.0 active))
+
+pub asked_no_stall : (run : Run) (cut : Cut) (config : Config) → Shows run cut config → (p : ℕ) (b : Behavior) (is : IsBehaviorOf run p b) (progress : Progress)
+    → progress ≡ progress_of run cut p is.0 → config.activations ≤ progress.ends → ◌≡◌ {A = Option Stall} None (stall_in run cut p is.0)
+unfolding stall_in
+asked_no_stall run cut config sh p b is progress e l =
+    let f = ap (λ (x : Progress). x.ends) e in
+    let done : run.activations ≤ (position_in run cut p is.0).ends = omega (arith, l, f, sh.activations) in
+    let t : nat_lt (position_in run cut p is.0).ends run.activations ≡ false = grind (arith, nat_tests) in
+    sym (ap (λ (b : Bool). cond b (stall_for is.0.behavior.sites (position_in run cut p is.0).ends (next_of is.0.behavior (position_in run cut p is.0))) None) t)
+
+get_map : {A B : Type 0} (f : A → B) (xs : List A) (k : ℕ) → slice_get (map f xs) k ≡ option_map f (slice_get xs k)
+get_map f [] k = refl
+get_map f (x ∷ xs) zero = refl
+get_map f (x ∷ xs) (suc k) = get_map f xs k
+
+get_there : {A : Type 0} (xs : List A) (k : ℕ) (x : A) → k < length xs → x ≡ get_or xs k x → slice_get xs k ≡ Some x
+get_there [] k x l e = absurd (omega (arith, l))
+get_there (y ∷ ys) zero x l e = ap Some (sym e)
+get_there (y ∷ ys) (suc k) x l e = get_there ys k x (omega (arith, l)) e
+
+has_behavior : (o : Option Proc) (b : Behavior) → option_map (λ (proc : Proc). proc.behavior) o ≡ Some b → (proc : Proc) × (o ≡ Some proc) × (proc.behavior ≡ b)
+has_behavior None b e = cc
+has_behavior (Some proc) b e = (proc, refl, cc)
+
+-- the body of a place has the behavior of the proc of that place
+pub behavior_there : {X : Type 0} (behavior : X → Behavior) (run : Run) (bodies : List X) (p : ℕ) (body : X) → behaviors_of run ≡ map behavior bodies
+    → p < length bodies → body ≡ get_or bodies p body → IsBehaviorOf run p (behavior body)
+behavior_there behavior run bodies p body e l read =
+    let there = get_there bodies p body l read in
+    has_behavior (slice_get run.procs p) (behavior body)
+    (sym (get_map (λ (proc : Proc). proc.behavior) run.procs p) ∙ (ap (λ bs. slice_get bs p) e ∙ (get_map behavior bodies p ∙ ap (λ o. option_map behavior o) there)))
+
+pub count_behaviors : {X : Type 0} (behavior : X → Behavior) (run : Run) (bodies : List X) → behaviors_of run ≡ map behavior bodies → length run.procs ≡ length bodies
+count_behaviors behavior run bodies e =
+    sym (length-map run.procs (λ (proc : Proc). proc.behavior)) ∙ (ap length e ∙ length-map bodies behavior)
+
+pub procs_are : (run : Run) (cut : Cut) (config : Config) → Shows run cut config → config.procs.items ≡ indexed (progress_of run cut) 0 run.procs
+procs_are run cut config sh =
+    same_by_get _ _ (λ k. sh.procs k ∙ sym (indexed_get (progress_of run cut) 0 k k run.procs (omega arith)))
+
+pub channels_are : (run : Run) (cut : Cut) (config : Config) → Shows run cut config → config.channels.items ≡ indexed (channel_of run cut) 0 run.chans
+channels_are run cut config sh =
+    same_by_get _ _ (λ k. sh.channels k ∙ sym (indexed_get (channel_of run cut) 0 k k run.chans (omega arith)))
+
+kind_stream : (kind : Kind) (x y z : Stream) → ◌≡◌ {A = Stream} (elim kind as (λ _. Stream) [ Input ↦ x | Output ↦ y | Inner ↦ z ]) (elim kind as (λ _. Stream) [ Input ↦ x | Output ↦ y | Inner ↦ z ])
+kind_stream kind x y z = refl
+
+stream_is : (run : Run) (cut : Cut) (c : ℕ) (o : Option Chan) → option_map stream_in (option_map (channel_of run cut c) o) ≡ option_map (stream_of run cut c) o
+unfolding stream_of
+stream_is run cut c None = refl
+stream_is run cut c (Some chan) = refl
+
+pub streams_are : (run : Run) (cut : Cut) (config : Config) → Shows run cut config → map stream_in config.channels.items ≡ indexed (stream_of run cut) 0 run.chans
+streams_are run cut config sh =
+    same_by_get _ _ (λ k.
+    get_map stream_in config.channels.items k
+    ∙ (ap (λ o. option_map stream_in o) (sh.channels k) ∙ (stream_is run cut k (slice_get run.chans k) ∙ sym (indexed_get (stream_of run cut) 0 k k run.chans (omega arith)))))
+
+end_is : (run : Run) (cut : Cut) (k : ℕ) (stalls : List (Option Stall)) (o : Option Proc) → slice_get stalls k ≡ option_map (stall_in run cut k) o
+    → option_map (end_with stalls k) (option_map (progress_of run cut k) o) ≡ option_map (end_of run cut k) o
+end_is run cut k stalls None e = refl
+end_is run cut k stalls (Some proc) e =
+    let s = get_or-there stalls k (stall_in run cut k proc) None e in
+    ap (λ x. Some (record { state = (position_in run cut k proc).state; ends = (position_in run cut k proc).ends; stall = x })) s
+
+pub ends_are : (run : Run) (cut : Cut) (config : Config) (stalls : List (Option Stall)) → Shows run cut config → stalls ≡ indexed (stall_in run cut) 0 run.procs
+    → indexed (end_with stalls) 0 config.procs.items ≡ indexed (end_of run cut) 0 run.procs
+ends_are run cut config stalls sh e =
+    same_by_get _ _ (λ k.
+    let stall = ap (λ ss. slice_get ss k) e ∙ indexed_get (stall_in run cut) 0 k k run.procs (omega arith) in
+    indexed_get (end_with stalls) 0 k k config.procs.items (omega arith)
+    ∙ (ap (λ o. option_map (end_with stalls k) o) (sh.procs k) ∙ (end_is run cut k stalls (slice_get run.procs k) stall ∙ sym (indexed_get (end_of run cut) 0 k k run.procs (omega arith)))))

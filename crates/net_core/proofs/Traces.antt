@@ -1,0 +1,85 @@
+-- The trace of a proc: longer histories give longer traces, and a trace goes on where its front ends.
+use Rattle.std.proofs.Common.{◌≡◌, ℕ, zero, suc, List, [], ◌∷◌, ◌++◌, drop, refl, subst, cond, true, false, Bool, eqb}
+use Rattle.xb_bits.specs.Word.{Word}
+use Rattle.xb_value.specs.declared.value.Value.{Value}
+use Rattle.net_core.specs.declared.net.Site.{Site}
+use Rattle.net_core.specs.declared.event.Event.{Event}
+use Rattle.net_core.specs.declared.event.Event.TheVariants.{Recv, Send}
+use Rattle.net_core.specs.Behavior.{Behavior, Turn, Skip, Receive, Give}
+use Rattle.net_core.specs.Trace.{Histories, without_first, events_from, trace}
+use Rattle.net_core.specs.Cuts.{IsFront}
+
+-- every channel has at least these words
+abbrev pub IsLonger : Histories → Histories → Type 0
+IsLonger words more = (c : ℕ) → IsFront (words c) (more c)
+
+IsFront-drop : {A : Type 0} (xs ys : List A) → IsFront xs ys → IsFront (drop 1 xs) (drop 1 ys)
+IsFront-drop [] ys f = tt
+IsFront-drop (x ∷ xs) [] f = absurd f
+IsFront-drop (x ∷ xs) (y ∷ ys) f = f.1
+
+front_if : {A : Type 0} (b : Bool) (xs ys zs ws : List A) → IsFront xs zs → IsFront ys ws → IsFront (cond b xs ys) (cond b zs ws)
+front_if true xs ys zs ws f g = f
+front_if false xs ys zs ws f g = g
+
+pub longer_without : (words more : Histories) (c : ℕ) → IsLonger words more → IsLonger (without_first words c) (without_first more c)
+longer_without words more c f d = front_if (eqb c d) _ _ _ _ (IsFront-drop _ _ (f d)) (f d)
+
+-- the events behind a receive, by the words that are there
+unfoldable pub on_word : Behavior → (Value → Histories → List Event) → Value → List Word → Histories → ℕ → Site → List Site → List Word → List Event
+on_word b after s got words i site sites here =
+    elim here [
+      | [] ↦ []
+      | w ∷ _ ↦ Recv i ∷ events_from b after s (got ++ w ∷ []) (without_first words site.chan) (suc i) sites
+    ]
+
+-- the events at a site, by what it does there
+unfoldable pub at_turn : Behavior → (Value → Histories → List Event) → Value → List Word → Histories → ℕ → Site → List Site → Turn → List Event
+at_turn b after s got words i site sites turn =
+    elim turn [
+      | Skip ↦ events_from b after s got words (suc i) sites
+      | Receive ↦ on_word b after s got words i site sites (words site.chan)
+      | Give w ↦ Send i w ∷ events_from b after s got words (suc i) sites
+    ]
+
+pub at_site : (b : Behavior) (after : Value → Histories → List Event) (s : Value) (got : List Word) (words : Histories) (i : ℕ) (site : Site) (sites : List Site) → events_from b after s got words i (site ∷ sites) ≡ at_turn b after s got words i site sites (b.turn s got i)
+unfolding events_from at_turn on_word
+at_site b after s got words i site sites = refl
+
+-- what comes after grows with the words
+abbrev GrowsWith : (Value → Histories → List Event) → Type 0
+GrowsWith after = (s : Value) (words more : Histories) → IsLonger words more → IsFront (after s words) (after s more)
+
+word_grows : (b : Behavior) (after : Value → Histories → List Event) (s : Value) (got : List Word) (i : ℕ) (site : Site) (sites : List Site) (words more : Histories)
+    → ((got' : List Word) (words' more' : Histories) (j : ℕ) → IsLonger words' more' → IsFront (events_from b after s got' words' j sites) (events_from b after s got' more' j sites))
+    → IsLonger words more → (here there : List Word) → IsFront here there
+    → IsFront (on_word b after s got words i site sites here) (on_word b after s got more i site sites there)
+unfolding on_word
+word_grows b after s got i site sites words more ih f [] there g = tt
+word_grows b after s got i site sites words more ih f (w ∷ ws) [] g = absurd g
+word_grows b after s got i site sites words more ih f (w ∷ ws) (v ∷ vs) g =
+    let step = ih (got ++ w ∷ []) (without_first words site.chan) (without_first more site.chan) (suc i) (longer_without words more site.chan f) in
+    (refl, subst (λ u. IsFront (events_from b after s (got ++ w ∷ []) (without_first words site.chan) (suc i) sites) (events_from b after s (got ++ u ∷ []) (without_first more site.chan) (suc i) sites)) g.0 step)
+
+turn_grows : (b : Behavior) (after : Value → Histories → List Event) (s : Value) (got : List Word) (i : ℕ) (site : Site) (sites : List Site) (words more : Histories)
+    → ((got' : List Word) (words' more' : Histories) (j : ℕ) → IsLonger words' more' → IsFront (events_from b after s got' words' j sites) (events_from b after s got' more' j sites))
+    → IsLonger words more → (turn : Turn)
+    → IsFront (at_turn b after s got words i site sites turn) (at_turn b after s got more i site sites turn)
+unfolding at_turn
+turn_grows b after s got i site sites words more ih f Skip = ih got words more (suc i) f
+turn_grows b after s got i site sites words more ih f Receive = word_grows b after s got i site sites words more ih f (words site.chan) (more site.chan) (f site.chan)
+turn_grows b after s got i site sites words more ih f (Give w) = (refl, ih got words more (suc i) f)
+
+events_grow : (b : Behavior) (after : Value → Histories → List Event) → GrowsWith after → (sites : List Site) (s : Value) (got : List Word) (words more : Histories) (i : ℕ)
+    → IsLonger words more → IsFront (events_from b after s got words i sites) (events_from b after s got more i sites)
+unfolding events_from
+events_grow b after h [] s got words more i f = (refl, h (b.next_state s got) words more f)
+events_grow b after h (site ∷ sites) s got words more i f =
+    let step = turn_grows b after s got i site sites words more (λ got' words' more' j g. events_grow b after h sites s got' words' more' j g) f (b.turn s got i) in
+    rw (at_site b after s got words i site sites, at_site b after s got more i site sites) step
+
+-- longer histories give a longer trace
+pub trace_grows : (b : Behavior) (n : ℕ) (s : Value) (words more : Histories) → IsLonger words more → IsFront (trace b n s words) (trace b n s more)
+unfolding trace
+trace_grows b zero s words more f = tt
+trace_grows b (suc n) s words more f = events_grow b (trace b n) (λ s' words' more' g. trace_grows b n s' words' more' g) b.sites s [] words more 0 f

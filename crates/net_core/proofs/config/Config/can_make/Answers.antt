@@ -1,0 +1,7 @@
+use Rattle.net_core.proofs.config.Config.can_make.Goals as goal
+
+pub has_room_at-requires : goal.has_room_at-requires
+has_room_at-requires c = rw c.in-Send.is at c.requires
+
+pub returns-in-Send : goal.returns-in-Send
+returns-in-Send c = rw c.in-Send.is c.has_room_at.ensures

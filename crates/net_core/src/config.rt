@@ -1,0 +1,437 @@
+ghost use Rattle.std.specs.Prelude.{◌≡◌, map, length, take, IfOk};
+ghost use Rattle.net_core.specs.Outcomes.{indexed};
+ghost use Rattle.net_core.specs.Making.{opened_progress, filled_channel, end_with, stream_in};
+
+use crate::body::Body;
+use crate::event::Event;
+use crate::net::{Chan, Inputs, Kind, Net, ProcHead, Site};
+use crate::outcome::{Outcome, ProcEnd, Stall, Stream};
+use std::alloc::{AllocError, Global};
+use xb_bits::Bits;
+use xb_value::{Seq, Value};
+
+/// A run at a moment: where each proc stands, and what went over each channel so far.
+///
+/// It keeps the words of each channel, as the outcome needs them, and counts of the rest, so that a step costs the same
+/// however much came before.
+#[derive(Drop)]
+pub struct Config {
+    procs: Vec<Progress>,
+    channels: Vec<Channel>,
+    activations: u32,
+}
+
+/// Where a proc stands: the state of its open activation, the words that it received there, how many of its sites are
+/// past, and how many activations ended.
+#[derive(Drop)]
+struct Progress {
+    sites: Seq<Site>,
+    state: Value,
+    got: Seq<Bits>,
+    done: u32,
+    ends: u32,
+}
+
+/// All words that were sent on a channel, those of an input from the start, and how many were received.
+#[derive(Drop)]
+struct Channel {
+    kind: Kind,
+    depth: u32,
+    words: Seq<Bits>,
+    received: u64,
+}
+
+/// Each proc before its first activation.
+fn opened(alloc: Global, heads: &[ProcHead]) -> Result<Vec<Progress>, AllocError>
+    ensures { IfOk result (λ procs. procs.items ≡ map opened_progress heads.now) }
+{
+    let mut procs = Vec::new(alloc);
+    for head in heads {
+        procs.push(Progress {
+            sites: Seq::from_slice(alloc, head.sites.as_slice())?,
+            state: head.init.copy(alloc)?,
+            got: Seq::new(alloc),
+            done: 0,
+            ends: 0,
+        })?;
+    }
+    Ok(procs)
+}
+
+/// Each channel with the words that the outside sends, of which none was received.
+fn filled(
+    alloc: Global,
+    chans: &[Chan],
+    inputs: &[Seq<Bits>],
+    depths: &[u32],
+) -> Result<Vec<Channel>, AllocError>
+    requires inputs { length inputs.now ≡ length chans.now }
+    requires depths { length depths.now ≡ length chans.now }
+    ensures { IfOk result (λ channels. channels.items ≡ indexed (filled_channel inputs.now depths.now) 0 chans.now) }
+{
+    let mut channels = Vec::new(alloc);
+    for (c, chan) in chans.iter().enumerate() {
+        channels.push(Channel {
+            kind: chan.kind,
+            depth: depths[c],
+            words: Seq::from_slice(alloc, inputs[c].as_slice())?,
+            received: 0,
+        })?;
+    }
+    Ok(channels)
+}
+
+/// Where each proc stands, with what it waits for.
+fn ends(
+    alloc: Global,
+    procs: Vec<Progress>,
+    stalls: &[Option<Stall>],
+) -> Result<Seq<ProcEnd>, AllocError>
+    requires { length stalls.now ≡ length procs.items }
+    ensures { IfOk result (λ ends. ends ≡ indexed (end_with stalls.now) 0 procs.items) }
+{
+    let mut ends = Vec::new(alloc);
+    let mut p = 0;
+    for progress in procs {
+        ends.push(ProcEnd {
+            state: progress.state,
+            ends: progress.ends,
+            stall: stalls[p],
+        })?;
+        p += 1;
+    }
+    Ok(Seq::from_vec(ends))
+}
+
+/// What went over each channel.
+fn streams(alloc: Global, channels: Vec<Channel>) -> Result<Seq<Stream>, AllocError>
+    ensures { IfOk result (λ streams. streams ≡ map stream_in channels.items) }
+{
+    let mut streams = Vec::new(alloc);
+    for channel in channels {
+        streams.push(channel.into_stream())?;
+    }
+    Ok(Seq::from_vec(streams))
+}
+
+/// The first `count` words.
+fn front(mut words: Seq<Bits>, count: u64) -> Seq<Bits>
+    ensures { result ≡ take count words }
+{
+    while words.len() as u64 > count {
+        words.pop();
+    }
+    words
+}
+
+impl Channel {
+    ghost use Rattle.std.specs.Prelude.{◌≡◌, ◌≤◌, length};
+    ghost use Rattle.net_core.specs.Making.{has_word, has_room, stream_in};
+
+    /// What went over the channel: of an input the words that were received.
+    fn into_stream(self) -> Stream
+        ensures { result ≡ stream_in self }
+    {
+        let Channel {
+            kind,
+            depth: _,
+            words,
+            received,
+        } = self;
+        match kind {
+            Kind::Input => Stream {
+                words: front(words, received),
+                received,
+            },
+            Kind::Output => Stream { words, received: 0 },
+            Kind::Inner => Stream { words, received },
+        }
+    }
+
+    /// A word is there that wasn't received.
+    fn has_word(&self) -> bool
+        ensures { result ≡ has_word self.now }
+    {
+        self.received < self.words.len() as u64
+    }
+
+    /// One more word may be sent.
+    fn has_room(&self) -> bool
+        requires { self.now.received ≤ length self.now.words }
+        ensures { result ≡ has_room self.now }
+    {
+        match self.kind {
+            Kind::Input | Kind::Output => true,
+            Kind::Inner => self.words.len() as u64 - self.received < u64::from(self.depth),
+        }
+    }
+}
+
+impl Config {
+    ghost use Rattle.std.specs.Prelude.{List, ◌≡◌, ◌<◌, ◌≤◌, ◌+◌, ◌^◌, ℕ, IsTrue, OnOk, OnErr, IfOk, length, map, slice_get, Some, MatchBool};
+    ghost use Rattle.xb_bits.specs.Word.{Word};
+    ghost use Rattle.net_core.specs.declared.net.Site.{Site};
+    ghost use Rattle.net_core.specs.declared.config.Progress.{Progress};
+    ghost use Rattle.net_core.specs.declared.config.Channel.{Channel};
+    ghost use Rattle.net_core.specs.Making.{has_word, has_room, StandsAt, Receives, Sends, Ends, TriesReceive, TriesSend, IsStandingFor, CanMake, TriesEvent};
+    ghost use Rattle.net_core.specs.Outcomes.{indexed, outcome_of, stall_in, stall_for, behaviors_of};
+    ghost use Rattle.net_core.specs.Behavior.{Behavior};
+    ghost use Rattle.net_core.specs.Cuts.{Run, Cut, empty_cut};
+    ghost use Rattle.net_core.specs.WellFormed.{IsNet, IsInputs, IsDepths, AreBehaviorsOf, EachKeepsTypes, run_of};
+    ghost use Rattle.net_core.specs.Machine.{goes, stepped};
+    ghost use Rattle.net_core.specs.Shows.{Shows, IsAskedWith, IsBehaviorOf, IsUnchanged, events_left};
+
+    /// The run of a network before its first event, with at most `n` activations of each proc.
+    ///
+    /// It takes time and memory as the network and the inputs are large.
+    pub fn new(
+        alloc: Global,
+        net: &Net,
+        inputs: &Inputs,
+        n: u32,
+        depths: &[u32],
+    ) -> Result<Config, AllocError>
+        requires net { IsNet net.now }
+        requires inputs { IsInputs net.now inputs.now.words }
+        requires depths { IsDepths net.now depths.now }
+        ensures { IfOk result (λ config. (behaviors : List Behavior) → AreBehaviorsOf net.now behaviors → EachKeepsTypes behaviors →
+            Shows (run_of net.now behaviors inputs.now.words n depths.now) empty_cut config) }
+    {
+        Ok(Config {
+            procs: opened(alloc, net.procs.as_slice())?,
+            channels: filled(alloc, net.chans.as_slice(), inputs.words.as_slice(), depths)?,
+            activations: n,
+        })
+    }
+
+    /// Whether a step of proc `p`, whose body this is, would make an event.
+    pub fn can<B: Body>(&self, alloc: Global, p: u32, body: &B) -> Result<bool, AllocError>
+        requires { IsAskedWith self.now p (B.behavior body.now) }
+        ensures { IfOk result (λ can. (run : Run) (cut : Cut) → Shows run cut self.now → IsBehaviorOf run p (B.behavior body.now) → can ≡ goes run cut p) }
+    {
+        let proc = &self.procs[p as usize];
+        if proc.ends >= self.activations {
+            return Ok(false);
+        }
+        let event = body.next(
+            alloc,
+            &proc.state,
+            proc.got.as_slice(),
+            proc.done,
+        )?;
+        Ok(self.can_make(p as usize, &event))
+    }
+
+    /// Makes the next event of proc `p`, whose body this is, if it can go, and says whether it did.
+    ///
+    /// It answers false exactly where the proc is done or its next event waits. After want of memory nothing has
+    /// changed. It costs one call of `next`, and no more where much came before.
+    pub fn step<B: Body>(&mut self, alloc: Global, p: u32, body: &B) -> Result<bool, AllocError>
+        requires { IsAskedWith self.old p (B.behavior body.now) }
+        ensures ok { IfOk result (λ made. (run : Run) (cut : Cut) → Shows run cut self.old → IsBehaviorOf run p (B.behavior body.now) →
+            (made ≡ goes run cut p) × Shows run (stepped run cut p) self.new) }
+        ensures falls { IfOk result (λ made. MatchBool made (events_left self.new < events_left self.old) (IsUnchanged self.old self.new)) }
+        ensures err { OnErr result (IsUnchanged self.old self.new) }
+    {
+        let progress = &self.procs[p as usize];
+        if progress.ends >= self.activations {
+            return Ok(false);
+        }
+        let event = body.next(
+            alloc,
+            &progress.state,
+            progress.got.as_slice(),
+            progress.done,
+        )?;
+        self.try_event(alloc, p as usize, event)
+    }
+
+    /// What the run has come to, with the bodies of its procs in order.
+    pub fn outcome<B: Body>(self, alloc: Global, bodies: &[B]) -> Result<Outcome, AllocError>
+        requires { (run : Run) × (cut : Cut) × Shows run cut self × (behaviors_of run ≡ map B.behavior bodies.now) }
+        ensures { IfOk result (λ outcome. (run : Run) (cut : Cut) → Shows run cut self → behaviors_of run ≡ map B.behavior bodies.now → outcome ≡ outcome_of run cut) }
+    {
+        let stalls = self.stalls(alloc, bodies)?;
+        let Config {
+            procs,
+            channels,
+            activations: _,
+        } = self;
+        let procs = ends(alloc, procs, stalls.as_slice())?;
+        let streams = streams(alloc, channels)?;
+        Ok(Outcome { streams, procs })
+    }
+
+    /// What each proc waits for.
+    fn stalls<B: Body>(&self, alloc: Global, bodies: &[B]) -> Result<Vec<Option<Stall>>, AllocError>
+        requires { (run : Run) × (cut : Cut) × Shows run cut self.now × (behaviors_of run ≡ map B.behavior bodies.now) }
+        ensures { IfOk result (λ stalls. (run : Run) (cut : Cut) → Shows run cut self.now → behaviors_of run ≡ map B.behavior bodies.now → stalls.items ≡ indexed (stall_in run cut) 0 run.procs) }
+    {
+        let mut stalls = Vec::new(alloc);
+        for (p, body) in bodies.iter().enumerate() {
+            stalls.push(self.stall(alloc, p, body)?)?;
+        }
+        Ok(stalls)
+    }
+
+    /// What a proc waits for, unless it is done.
+    fn stall<B: Body>(&self, alloc: Global, p: usize, body: &B) -> Result<Option<Stall>, AllocError>
+        requires { IsAskedWith self.now p (B.behavior body.now) }
+        ensures { IfOk result (λ stall. (run : Run) (cut : Cut) → Shows run cut self.now → (is : IsBehaviorOf run p (B.behavior body.now)) → stall ≡ stall_in run cut p is.0) }
+    {
+        let proc = &self.procs[p];
+        if proc.ends >= self.activations {
+            return Ok(None);
+        }
+        let event = body.next(
+            alloc,
+            &proc.state,
+            proc.got.as_slice(),
+            proc.done,
+        )?;
+        Ok(self.stall_at(p, &event))
+    }
+
+    /// What a proc waits for at this event.
+    fn stall_at(&self, p: usize, event: &Event) -> Option<Stall>
+        requires { IsStandingFor self.now p event.now }
+        ensures { (progress : Progress) → slice_get self.now.procs.items p ≡ Some progress → result ≡ stall_for progress.sites progress.ends event.now }
+    {
+        let activation = self.procs[p].ends;
+        match event {
+            Event::Recv(site) => Some(Stall {
+                activation,
+                sends: false,
+                chan: self.chan_of(p, *site),
+            }),
+            Event::Send(site, _) => Some(Stall {
+                activation,
+                sends: true,
+                chan: self.chan_of(p, *site),
+            }),
+            Event::End(_) => None,
+        }
+    }
+
+    /// Whether a proc can make this event.
+    fn can_make(&self, p: usize, event: &Event) -> bool
+        requires { IsStandingFor self.now p event.now }
+        ensures { CanMake self.now p event.now result }
+    {
+        match event {
+            Event::Recv(site) => self.has_word_at(p, *site),
+            Event::Send(site, _) => self.has_room_at(p, *site),
+            Event::End(_) => true,
+        }
+    }
+
+    /// A proc makes this event, if it can.
+    fn try_event(&mut self, alloc: Global, p: usize, event: Event) -> Result<bool, AllocError>
+        requires { IsStandingFor self.old p event }
+        ensures ok { IfOk result (λ made. TriesEvent self.old self.new p event made) }
+        ensures err { OnErr result (IsUnchanged self.old self.new) }
+    {
+        match event {
+            Event::Recv(site) => self.try_receive(p, site),
+            Event::Send(site, word) => self.try_send(p, site, word),
+            Event::End(state) => {
+                self.end(alloc, p, state);
+                Ok(true)
+            }
+        }
+    }
+
+    /// There is a word for a proc's site.
+    fn has_word_at(&self, p: usize, site: u32) -> bool
+        requires { (progress : Progress) × (chan : ℕ) × (channel : Channel) × StandsAt self.now p site progress chan channel }
+        ensures { (progress : Progress) (chan : ℕ) (channel : Channel) → StandsAt self.now p site progress chan channel → result ≡ has_word channel }
+    {
+        let chan = self.chan_of(p, site) as usize;
+        self.channels[chan].has_word()
+    }
+
+    /// There is room for a word of a proc's site.
+    fn has_room_at(&self, p: usize, site: u32) -> bool
+        requires { (progress : Progress) × (chan : ℕ) × (channel : Channel) × StandsAt self.now p site progress chan channel }
+        ensures { (progress : Progress) (chan : ℕ) (channel : Channel) → StandsAt self.now p site progress chan channel → result ≡ has_room channel }
+    {
+        let chan = self.chan_of(p, site) as usize;
+        self.channels[chan].has_room()
+    }
+
+    /// The channel of a proc's site.
+    fn chan_of(&self, p: usize, site: u32) -> u32
+        requires { (progress : Progress) × (at : Site) × (slice_get self.now.procs.items p ≡ Some progress) × (slice_get progress.sites site ≡ Some at) }
+        ensures { (progress : Progress) (at : Site) → slice_get self.now.procs.items p ≡ Some progress → slice_get progress.sites site ≡ Some at → result ≡ at.chan }
+    {
+        self.procs[p].sites.as_slice()[site as usize].chan
+    }
+
+    /// A proc receives the next word of its site's channel.
+    fn receive(&mut self, p: usize, site: u32, chan: usize) -> Result<(), AllocError>
+        requires { (progress : Progress) × (channel : Channel) × StandsAt self.old p site progress chan channel × IsTrue (has_word channel) }
+        ensures ok { OnOk result ((progress : Progress) (channel : Channel) → StandsAt self.old p site progress chan channel → (word : Word) × Receives self.old self.new p site progress chan channel word) }
+        ensures err { OnErr result (IsUnchanged self.old self.new) }
+    {
+        let progress = &mut self.procs[p];
+        let channel = &mut self.channels[chan];
+        let word = channel.words.as_slice()[channel.received as usize];
+        progress.got.push(word)?;
+        progress.done = site + 1;
+        channel.received += 1;
+        Ok(())
+    }
+
+    /// A proc receives at a site, if there is a word.
+    fn try_receive(&mut self, p: usize, site: u32) -> Result<bool, AllocError>
+        requires { (progress : Progress) × (chan : ℕ) × (channel : Channel) × StandsAt self.old p site progress chan channel }
+        ensures ok { IfOk result (λ made. (progress : Progress) (chan : ℕ) (channel : Channel) → StandsAt self.old p site progress chan channel → TriesReceive self.old self.new p site progress chan channel made) }
+        ensures err { OnErr result (IsUnchanged self.old self.new) }
+    {
+        let chan = self.chan_of(p, site) as usize;
+        if !self.channels[chan].has_word() {
+            return Ok(false);
+        }
+        self.receive(p, site, chan)?;
+        Ok(true)
+    }
+
+    /// A proc sends a word at a site.
+    fn send(&mut self, p: usize, site: u32, chan: usize, word: Bits) -> Result<(), AllocError>
+        requires { (progress : Progress) × (channel : Channel) × StandsAt self.old p site progress chan channel }
+        ensures ok { OnOk result ((progress : Progress) (channel : Channel) → StandsAt self.old p site progress chan channel → Sends self.old self.new p site progress chan channel word) }
+        ensures err { OnErr result (IsUnchanged self.old self.new) }
+    {
+        let channel = &mut self.channels[chan];
+        channel.words.push(word)?;
+        let progress = &mut self.procs[p];
+        progress.done = site + 1;
+        Ok(())
+    }
+
+    /// A proc sends a word at a site, if there is room.
+    fn try_send(&mut self, p: usize, site: u32, word: Bits) -> Result<bool, AllocError>
+        requires { (progress : Progress) × (chan : ℕ) × (channel : Channel) × StandsAt self.old p site progress chan channel }
+        ensures ok { IfOk result (λ made. (progress : Progress) (chan : ℕ) (channel : Channel) → StandsAt self.old p site progress chan channel → TriesSend self.old self.new p site progress chan channel word made) }
+        ensures err { OnErr result (IsUnchanged self.old self.new) }
+    {
+        let chan = self.chan_of(p, site) as usize;
+        if !self.channels[chan].has_room() {
+            return Ok(false);
+        }
+        self.send(p, site, chan, word)?;
+        Ok(true)
+    }
+
+    /// An activation of a proc ends with a state, and its next one begins.
+    fn end(&mut self, alloc: Global, p: usize, state: Value)
+        requires { (progress : Progress) × (slice_get self.old.procs.items p ≡ Some progress) × (progress.ends + 1 < 2 ^ 32) }
+        ensures { (progress : Progress) → slice_get self.old.procs.items p ≡ Some progress → Ends self.old self.new p progress state }
+    {
+        let progress = &mut self.procs[p];
+        progress.state = state;
+        progress.got = Seq::new(alloc);
+        progress.done = 0;
+        progress.ends += 1;
+    }
+}

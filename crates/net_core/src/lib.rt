@@ -1,0 +1,16 @@
+//! Networks of procs, the outcome of a run, and the machine that makes the events of a run one at a time.
+#![tactic(auto)]
+
+mod body;
+mod config;
+mod event;
+mod name;
+mod net;
+mod outcome;
+
+pub use body::Body;
+pub use config::Config;
+pub use event::Event;
+pub use name::Name;
+pub use net::{Chan, Inputs, Kind, Net, ProcHead, Site};
+pub use outcome::{Outcome, ProcEnd, Stall, Stream};

@@ -1,0 +1,15 @@
+pub mod Classes
+pub mod Digits
+pub mod FlatBack
+pub mod FlatLaws
+pub mod Faults
+pub mod Found
+pub mod Saturation
+pub mod Sound
+pub mod Taken
+pub mod TypedLaws
+pub mod Types
+pub mod TypingLemmas
+pub mod Values
+pub mod Widths
+pub mod Words

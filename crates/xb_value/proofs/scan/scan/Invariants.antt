@@ -1,0 +1,12 @@
+use Rattle.std.proofs.Common.{◌≡◌, take}
+use Rattle.xb_value.specs.ScannerState.{state_of, IsSound}
+use Rattle.xb_value.proofs.Faults.{StandsBehind}
+use Rattle.xb_value.proofs.scan.scan.Given as goal
+
+abbrev pub invariant-bytes : goal.invariant-bytes
+invariant-bytes l =
+    record {
+      place : l.at ≡ l.byte-index;
+      sound : IsSound l.scanner.mode;
+      stands : StandsBehind (state_of l.scanner) (take l.byte-index l.text);
+    }

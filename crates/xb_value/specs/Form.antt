@@ -1,0 +1,101 @@
+-- How values are spelled: the texts that are read.
+use Rattle.std.specs.Prelude.{ℕ, ◌+◌, ◌-◌, ◌*◌, ◌<◌, ◌≤◌, ◌≡◌, take, List, [], ◌∷◌, ◌++◌, length, replicate, Bool, true, ◌&&◌, ◌||◌, nat_le, if◌then◌else◌, IsTrue}
+use Rattle.std.specs.List.{list_all}
+use Rattle.xb_value.specs.declared.token.Bracket.{Bracket}
+use Rattle.xb_value.specs.declared.token.Bracket.TheVariants.{Round, Square}
+use Rattle.xb_value.specs.declared.token.Token.{Token}
+use Rattle.xb_value.specs.declared.token.Token.TheVariants as token
+
+mutual
+  -- a number's digits, brackets with only spaces in them, or brackets round items
+  pub data Form : Type 0 where
+    number : List ℕ → Form
+    empty : Bracket → ℕ → Form
+    group : Bracket → Items → Form
+
+  -- spaces, a form and spaces; commas stand between items
+  pub data Items : Type 0 where
+    last : ℕ → Form → ℕ → Items
+    next : ℕ → Form → ℕ → Items → Items
+
+abbrev pub opening : Bracket → ℕ
+opening Round = 40
+opening Square = 91
+
+abbrev pub closing : Bracket → ℕ
+closing Round = 41
+closing Square = 93
+
+abbrev pub spaces : ℕ → List ℕ
+spaces k = replicate k 32
+
+-- ---- the text
+
+abbrev mutual
+  pub form_text : Form → List ℕ
+  form_text (number ds) = 48 ∷ 120 ∷ ds
+  form_text (empty b k) = opening b ∷ (spaces k ++ closing b ∷ [])
+  form_text (group b is) = opening b ∷ (items_text is ++ closing b ∷ [])
+
+  pub items_text : Items → List ℕ
+  items_text (last k f m) = spaces k ++ (form_text f ++ spaces m)
+  items_text (next k f m is) = spaces k ++ (form_text f ++ (spaces m ++ 44 ∷ items_text is))
+
+-- ---- digits
+
+abbrev pub is_hex : ℕ → Bool
+is_hex b = nat_le 48 b && nat_le b 57 || nat_le 65 b && nat_le b 70 || nat_le 97 b && nat_le b 102
+
+-- the value of a digit of either case
+abbrev pub hex_value : ℕ → ℕ
+hex_value b = if nat_le b 57 then b - 48 else (if nat_le b 70 then b - 55 else (b - 87))
+
+-- the number that the digits go on with, from `v`
+abbrev pub number_from : ℕ → List ℕ → ℕ
+number_from v [] = v
+number_from v (d ∷ ds) = number_from (v * 16 + hex_value d) ds
+
+-- 1 to 32 digits in each number
+abbrev mutual
+  pub is_form : Form → Bool
+  is_form (number ds) = list_all is_hex ds && nat_le 1 (length ds) && nat_le (length ds) 32
+  is_form (empty b k) = true
+  is_form (group b is) = are_forms is
+
+  pub are_forms : Items → Bool
+  are_forms (last k f m) = is_form f
+  are_forms (next k f m is) = is_form f && are_forms is
+
+-- ---- numbers and brackets, with their places
+
+abbrev mutual
+  pub form_tokens : ℕ → Form → List Token
+  form_tokens at (number ds) = token.Number at (number_from 0 ds) ∷ []
+  form_tokens at (empty b k) = token.Open at b ∷ token.Close ∷ []
+  form_tokens at (group b is) = token.Open at b ∷ (items_tokens (at + 1) is ++ token.Close ∷ [])
+
+  pub items_tokens : ℕ → Items → List Token
+  items_tokens at (last k f m) = form_tokens (at + k) f
+  items_tokens at (next k f m is) =
+      form_tokens (at + k) f ++ items_tokens (at + k + length (form_text f) + m + 1) is
+
+-- ---- which texts
+
+-- some value text begins with the text
+abbrev pub Begins : List ℕ → Type 0
+Begins t = (f : Form) × IsTrue (is_form f) × ((rest : List ℕ) × (form_text f ≡ t ++ rest))
+
+-- no value text begins with the text
+abbrev pub NeverBegins : List ℕ → Type 0
+NeverBegins t = (f : Form) (rest : List ℕ) → IsTrue (is_form f) → form_text f ≡ t ++ rest → ⊥
+
+-- the text is a value text, with these numbers and brackets
+abbrev pub Spells : List ℕ → List Token → Type 0
+Spells t ts = (f : Form) × IsTrue (is_form f) × (form_text f ≡ t) × (form_tokens 0 f ≡ ts)
+
+-- the first byte with which the text is the front of no value text, or its end
+pub record IsFirstFault (t : List ℕ) (at : ℕ) : Type 0 where
+  pub within : at ≤ length t
+  pub before : Begins (take at t)
+  pub never : at < length t → NeverBegins (take (at + 1) t)
+  pub none : (f : Form) → IsTrue (is_form f) → form_text f ≡ t → ⊥
