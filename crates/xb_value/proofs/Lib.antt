@@ -1,9 +1,12 @@
 pub mod Classes
 pub mod Digits
+pub mod Fits
 pub mod FlatBack
 pub mod FlatLaws
 pub mod Faults
 pub mod Found
+pub mod ReadTyped
+pub mod Readers
 pub mod Saturation
 pub mod Sound
 pub mod Taken

@@ -1,5 +1,7 @@
 pub mod Flat
 pub mod Form
+pub mod Reading
+pub mod Refusal
 pub mod Scanned
 pub mod Scanner
 pub mod ScannerState

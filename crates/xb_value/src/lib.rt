@@ -4,6 +4,7 @@
 #![tactic(auto)]
 
 mod flat_word;
+mod reader;
 mod scan;
 mod token;
 mod ty;
@@ -13,6 +14,7 @@ mod writer;
 
 /// A `Box` that contracts see as its value, a `Vec` that they see as its list, and a look-up in one.
 pub use flat_word::flat;
+pub use reader::{ValueError, read_value};
 pub use sqlite_items::{Boxed, Items as Seq, at};
 pub use ty::Ty;
 pub use unflat_word::unflat;
