@@ -5,9 +5,12 @@ pub mod FlatBack
 pub mod FlatLaws
 pub mod Faults
 pub mod Found
+pub mod ReadSaid
+pub mod ReadSays
 pub mod ReadTyped
 pub mod Readers
 pub mod Saturation
+pub mod Shapes
 pub mod Sound
 pub mod Taken
 pub mod TypedLaws

@@ -5,6 +5,7 @@ pub mod Refusal
 pub mod Scanned
 pub mod Scanner
 pub mod ScannerState
+pub mod Shape
 pub mod Text
 pub mod Typing
 pub mod Unflat

@@ -84,8 +84,13 @@ read_step (Ty-F.Array r k) ts = read_array r k ts
 abbrev pub read_as : Ty → Reader
 read_as = fold-Ty Reader read_step
 
+-- the value behind which nothing stands
+abbrev pub whole : Value → List Token → Result Value ℕ
+whole v [] = Ok v
+whole v (t ∷ ts) = Err 0
+
 abbrev pub value_in : Answer → Result Value ℕ
-value_in (Ok r) = Ok r.0
+value_in (Ok r) = whole r.0 r.1
 value_in (Err at) = Err at
 
 -- the value that the numbers and brackets say at the type, or the place of the first that is no value of its part of it

@@ -5,7 +5,9 @@ ghost use Rattle.xb_bits.specs.Word.{word};
 ghost use Rattle.xb_value.specs.Form.{Spells};
 ghost use Rattle.xb_value.specs.Reading.{Reads, reading, read_as, read_each, read_times, read_bits, read_tuple, read_array, parts_at};
 ghost use Rattle.xb_value.specs.Refusal.{IsRefusal, IsAnswer, IsFault, IsNoBracket, IsUnclosed};
+ghost use Rattle.xb_value.specs.Shape.{Says};
 ghost use Rattle.xb_value.specs.Typing.{IsOfType, is_word_of};
+ghost use Rattle.xb_value.specs.declared.value.Value.{Value};
 ghost use Rattle.xb_value.specs.declared.token.Token.{Token};
 
 use crate::scan::{Scanned, scan};
@@ -251,8 +253,12 @@ fn count_parts(tokens: &[Token]) -> u64
 fn read_tokens(alloc: Global, ty: &Ty, tokens: &[Token]) -> Result<Value, ValueError>
     ensures answer { IsAnswer result (reading ty.now tokens.now) }
     ensures of_type { IfOk result (IsOfType ty.now) }
+    ensures says { IfOk result (Says tokens.now) }
 {
     let taken = take_value(alloc, ty, tokens)?;
+    if !taken.rest.is_empty() {
+        return Err(ValueError::Shape(0));
+    }
     Ok(taken.value)
 }
 
@@ -265,6 +271,10 @@ pub fn read_value(alloc: Global, text: &str, ty: &Ty) -> Result<Value, ValueErro
     ensures answer { MatchResult result (Reads text.now ty.now) (IsRefusal text.now ty.now) }
     ensures every { (ts : List Token) → Spells text.now ts → IsAnswer result (reading ty.now ts) }
     ensures of_type { IfOk result (IsOfType ty.now) }
+
+    // The value is the one of the type that has the text's numbers and brackets.
+    ensures says { IfOk result (λ v. (ts : List Token) → Spells text.now ts → Says ts v) }
+    ensures said { (v : Value) (ts : List Token) → IsOfType ty.now v → Spells text.now ts → Says ts v → IsAnswer result (Ok v) }
 {
     match scan(alloc, text.as_bytes())? {
         Scanned::Tokens(tokens) => read_tokens(alloc, ty, tokens.as_slice()),
