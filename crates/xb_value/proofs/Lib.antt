@@ -19,3 +19,4 @@ pub mod TypingLemmas
 pub mod Values
 pub mod Widths
 pub mod Words
+pub mod Written

@@ -1,15 +1,15 @@
 -- Tokens that are those of a value of the type read as that value.
-use Rattle.std.proofs.Common.{◌≡◌, ℕ, zero, suc, ◌+◌, ◌^◌, ◌<◌, ◌≤◌, ◌==◌, nat_eq, nat_le, nat_lt, List, [], ◌∷◌, ◌++◌, append_assoc, length, map, Bool, true, false, ◌&&◌, if◌then◌else◌, IsTrue, Result, Ok, Err, refl, sym, ap, ap₂, subst, ◌∙◌, arith}
+use Rattle.std.proofs.Common.{◌≡◌, ℕ, suc, ◌^◌, ◌<◌, ◌≤◌, ◌==◌, nat_le, nat_lt, List, [], ◌∷◌, ◌++◌, append_assoc, length, map, true, if◌then◌else◌, IsTrue, Ok, Err, refl, sym, ap, ◌∙◌, arith}
 use Rattle.std.specs.List.{list_all}
 use Rattle.std.proofs.lemmas.Bool.Decides.{nat_tests}
-use Rattle.xb_bits.specs.Word.{Word, word}
+use Rattle.xb_bits.specs.Word.{word}
 use Rattle.xb_value.specs.declared.ty.Ty.{Ty}
 use Rattle.xb_value.specs.declared.ty.Ty as ty
 use Rattle.xb_value.specs.declared.token.Bracket.TheVariants.{Round, Square}
 use Rattle.xb_value.specs.declared.token.Token.{Token}
 use Rattle.xb_value.specs.declared.token.Token.TheVariants.{Number, Open, Close}
 use Rattle.xb_value.specs.declared.value.Value.{Value, Bits, Tuple, Array}
-use Rattle.xb_value.specs.Reading.{Answer, Answers, Reader, and_more, more_than, read_each, read_times, read_bits, read_tuple, read_array, read_as, read_step, bracketed, parts_at}
+use Rattle.xb_value.specs.Reading.{Answer, Answers, Reader, and_more, more_than, read_each, read_times, read_as, read_step, bracketed, parts_at}
 use Rattle.xb_value.specs.Shape.{unplaced, shape_of, all_of, Says}
 use Rattle.xb_value.specs.Typing.{IsOfType, fits, is_word_of, each_passes}
 use Rattle.xb_value.proofs.Shapes.{parted, number_of, group_of, counts_values}
@@ -89,6 +89,7 @@ reads_said = ty_induction ReadsSaid bits tuple array
         ∙ ap (λ c. if c then (Ok (Bits (word w x.value), us)) else (Err number.at)) (is_word w x.value b.some_width b.most_width b.in_range)
         ∙ ap (λ k. Ok (Bits (word k x.value), us)) (sym b.width)
         ∙ ap (λ u. Ok (u, us)) (sym b.is)
+
     tuple : (ps : List Ty) → EachHas ReadsSaid ps → ReadsSaid (ty.Tuple ps)
     tuple ps each v of ts us says =
         let b = tuple_of_type ps v of in
@@ -97,9 +98,10 @@ reads_said = ty_induction ReadsSaid bits tuple array
         ap (read_as (ty.Tuple ps)) (behind ts group.inner us (Open group.at Round) group.is)
         ∙ ap (λ (r : Reader). r (Open group.at Round ∷ inner)) (types.fold-Tuple Reader read_step ps)
         ∙ chosen (bracketed group.at Tuple (read_each (map read_as ps) inner)) group.at (parts_at 0 inner) (length (map read_as ps))
-            (counts_values b.parts group.inner us group.inside ∙ same_length ps b.parts b.each)
+        (counts_values b.parts group.inner us group.inside ∙ same_length ps b.parts b.each)
         ∙ ap (bracketed group.at Tuple) (said_each ps b.parts each b.each group.inner (Close ∷ us) group.inside)
         ∙ ap (λ u. Ok (u, us)) (sym b.is)
+
     array : (t : Ty) (n : ℕ) → ReadsSaid t → ReadsSaid (ty.Array t n)
     array t n said v of ts us says =
         let b = array_of_type t n v of in

@@ -1,16 +1,15 @@
 -- What is read has the numbers and brackets that were taken.
-use Rattle.std.proofs.Common.{◌≡◌, ℕ, zero, suc, ◌==◌, nat_eq, List, [], ◌∷◌, ◌++◌, append_assoc, append-nil, length, map, Bool, true, false, if◌then◌else◌, IsTrue, Result, Ok, Err, refl, sym, ap, ap₂, subst, ◌∙◌, arith}
+use Rattle.std.proofs.Common.{◌≡◌, ℕ, zero, suc, ◌==◌, List, [], ◌∷◌, ◌++◌, append_assoc, append-nil, length, map, Bool, true, false, if◌then◌else◌, Result, Ok, Err, refl, sym, ap, ap₂, subst, ◌∙◌, arith}
 use Rattle.std.proofs.lemmas.Bool.Decides.{nat_tests}
 use Rattle.std.proofs.lemmas.List.{map-append}
 use Rattle.xb_bits.specs.Word.{word}
 use Rattle.xb_value.specs.declared.ty.Ty.{Ty}
-use Rattle.xb_value.specs.declared.ty.Ty as ty
 use Rattle.xb_value.specs.declared.token.Bracket.{Bracket}
 use Rattle.xb_value.specs.declared.token.Bracket.TheVariants.{Round, Square}
 use Rattle.xb_value.specs.declared.token.Token.{Token}
 use Rattle.xb_value.specs.declared.token.Token.TheVariants.{Number, Open, Close}
 use Rattle.xb_value.specs.declared.value.Value.{Value, Bits, Tuple, Array}
-use Rattle.xb_value.specs.Reading.{Answer, Answers, Reader, more_than, and_more, read_each, read_times, read_bits, read_tuple, read_array, read_as, read_step, left, bracketed, parts_at, reading, whole, value_in}
+use Rattle.xb_value.specs.Reading.{Answer, Answers, Reader, more_than, and_more, read_each, read_times, read_bits, read_tuple, read_array, read_as, read_step, left, bracketed, parts_at, reading, value_in}
 use Rattle.xb_value.specs.Shape.{unplaced, shape_of, all_of, Says}
 use Rattle.xb_value.specs.Typing.{IsOfType, is_word_of}
 use Rattle.xb_value.proofs.ReadSaid.{reads_said}

@@ -1,10 +1,10 @@
 -- Tokens that are those of values.
-use Rattle.std.proofs.Common.{◌≡◌, ℕ, zero, suc, ◌+◌, List, [], ◌∷◌, ◌++◌, append_assoc, length, map, refl, sym, ap, ap₂, subst, ◌∙◌, arith}
+use Rattle.std.proofs.Common.{◌≡◌, ℕ, suc, ◌+◌, List, [], ◌∷◌, ◌++◌, append_assoc, length, map, refl, ap, ap₂, ◌∙◌, arith}
 use Rattle.xb_value.specs.declared.token.Bracket.{Bracket}
 use Rattle.xb_value.specs.declared.token.Bracket.TheVariants.{Round, Square}
 use Rattle.xb_value.specs.declared.token.Token.{Token}
 use Rattle.xb_value.specs.declared.token.Token.TheVariants.{Number, Open, Close}
-use Rattle.xb_value.specs.declared.value.Value.{Value, Bits, Tuple, Array}
+use Rattle.xb_value.specs.declared.value.Value.{Value}
 use Rattle.xb_value.specs.Reading.{parts_at}
 use Rattle.xb_value.specs.Shape.{unplaced, shape_of, all_of, Says}
 use Rattle.xb_value.proofs.Types.{EachHas}
@@ -27,8 +27,11 @@ parted (t ∷ ts) (a ∷ xs) bs h =
     let first : unplaced t ≡ a = (cc) in
     let later = parted ts xs bs same in
     record {
-      front = t ∷ later.front; back = later.back; is = ap (λ us. t ∷ us) later.is;
-      front_is = ap₂ (λ x ys. x ∷ ys) first later.front_is; back_is = later.back_is
+      front = t ∷ later.front;
+      back = later.back;
+      is = ap (λ us. t ∷ us) later.is;
+      front_is = ap₂ (λ x ys. x ∷ ys) first later.front_is;
+      back_is = later.back_is;
     }
 
 pub record IsNumber (ts : List Token) (n : ℕ) : Type 0 where
@@ -64,9 +67,10 @@ group_of (Open at k ∷ ts) b xs h =
     let later : map unplaced ts ≡ xs ++ Close ∷ [] = (cc) in
     let parts = parted ts xs (Close ∷ []) later in
     record {
-      at = at; inner = parts.front;
+      at = at;
+      inner = parts.front;
       is = ap₂ (λ j us. Open at j ∷ us) same (parts.is ∙ ap (λ us. parts.front ++ us) (alone_close parts.back parts.back_is));
-      inside = parts.front_is
+      inside = parts.front_is;
     }
 
 -- ---- how many values
@@ -88,11 +92,11 @@ counts_all (v ∷ vs) each ts h =
     let later = counts_all vs each.1 parts.back parts.back_is in
     record {
       here = λ us.
-        ap (λ xs. parts_at 0 (xs ++ us)) parts.is ∙ ap (parts_at 0) (append_assoc parts.front parts.back us)
-        ∙ one.here (parts.back ++ us) ∙ ap (λ k. 1 + k) (later.here us) ∙ omega arith;
+          ap (λ xs. parts_at 0 (xs ++ us)) parts.is ∙ ap (parts_at 0) (append_assoc parts.front parts.back us)
+          ∙ one.here (parts.back ++ us) ∙ ap (λ k. 1 + k) (later.here us) ∙ omega arith;
       deeper = λ d us.
-        ap (λ xs. parts_at (suc d) (xs ++ us)) parts.is ∙ ap (parts_at (suc d)) (append_assoc parts.front parts.back us)
-        ∙ one.deeper d (parts.back ++ us) ∙ later.deeper d us
+          ap (λ xs. parts_at (suc d) (xs ++ us)) parts.is ∙ ap (parts_at (suc d)) (append_assoc parts.front parts.back us)
+          ∙ one.deeper d (parts.back ++ us) ∙ later.deeper d us;
     }
 
 counts_group : (b : Bracket) (vs : List Value) → EachHas CountsOne vs → (ts : List Token) → map unplaced ts ≡ Open 0 b ∷ (all_of (map shape_of vs) ++ Close ∷ []) → Counts ts 1
@@ -101,21 +105,21 @@ counts_group b vs each ts h =
     let inner = counts_all vs each group.inner group.inside in
     record {
       here = λ us.
-        ap (λ xs. parts_at 0 (xs ++ us)) group.is ∙ ap (λ xs. suc (parts_at 1 xs)) (append_assoc group.inner (Close ∷ []) us)
-        ∙ ap suc (inner.deeper 0 (Close ∷ us)) ∙ omega arith;
+          ap (λ xs. parts_at 0 (xs ++ us)) group.is ∙ ap (λ xs. suc (parts_at 1 xs)) (append_assoc group.inner (Close ∷ []) us)
+          ∙ ap suc (inner.deeper 0 (Close ∷ us)) ∙ omega arith;
       deeper = λ d us.
-        ap (λ xs. parts_at (suc d) (xs ++ us)) group.is ∙ ap (λ xs. parts_at (suc (suc d)) xs) (append_assoc group.inner (Close ∷ []) us)
-        ∙ inner.deeper (suc d) (Close ∷ us)
+          ap (λ xs. parts_at (suc d) (xs ++ us)) group.is ∙ ap (λ xs. parts_at (suc (suc d)) xs) (append_assoc group.inner (Close ∷ []) us)
+          ∙ inner.deeper (suc d) (Close ∷ us);
     }
 
 counts_one : (v : Value) → CountsOne v
 counts_one = value_induction CountsOne
     (λ x ts h.
-        let number = number_of ts x.value (h ∙ shape_of-Bits x) in
-        record {
-          here = λ us. ap (λ xs. parts_at 0 (xs ++ us)) number.is ∙ omega arith;
-          deeper = λ d us. ap (λ xs. parts_at (suc d) (xs ++ us)) number.is
-        })
+    let number = number_of ts x.value (h ∙ shape_of-Bits x) in
+    record {
+      here = λ us. ap (λ xs. parts_at 0 (xs ++ us)) number.is ∙ omega arith;
+      deeper = λ d us. ap (λ xs. parts_at (suc d) (xs ++ us)) number.is;
+    })
     (λ vs each ts h. counts_group Round vs each ts (h ∙ shape_of-Tuple vs))
     (λ vs each ts h. counts_group Square vs each ts (h ∙ shape_of-Array vs))
 

@@ -1,4 +1,4 @@
-use Rattle.std.proofs.Common.{◌≡◌, ℕ, List, Result, Ok, Err, IfOk, subst, sym, ◌∙◌}
+use Rattle.std.proofs.Common.{◌≡◌, ℕ, List, Result, Ok, Err, IfOk, subst, ◌∙◌}
 use Rattle.xb_value.specs.declared.reader.ValueError.{ValueError}
 use Rattle.xb_value.specs.declared.scan.Scanned.{Scanned}
 use Rattle.xb_value.specs.declared.scan.Scanned.TheVariants.{Tokens}
