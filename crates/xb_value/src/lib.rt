@@ -16,7 +16,7 @@ pub use flat_word::flat;
 pub use reader::{ValueError, read_value};
 /// A `Box` that contracts see as its value, a `Vec` that they see as its list, and a look-up in one.
 pub use sqlite_items::{Boxed, Items as Seq, at};
-pub use ty::Ty;
+pub use ty::{Ty, leaves};
 pub use unflat_word::unflat;
 pub use value::Value;
 pub use writer::value_text;

@@ -226,12 +226,12 @@ fn misfits_inside(rt: HostRuntime) -> Result<(), Fail> {
 #[test]
 fn counts_that_stop(rt: HostRuntime) -> Result<(), Fail> {
     let ty = mixed(rt.alloc())?;
-    assert_eq!(rt; ty.leaves(), 4);
+    assert_eq!(rt; leaves(&ty), 4);
     assert_eq!(rt; ty.width(), 19);
     let row = Ty::Array(Boxed::new(rt.alloc(), ty)?, 1 << 40);
-    assert_eq!(rt; row.leaves(), 1 << 42);
+    assert_eq!(rt; leaves(&row), 1 << 42);
     let rows = Ty::Array(Boxed::new(rt.alloc(), row)?, 1 << 40);
-    assert_eq!(rt; rows.leaves(), u64::MAX);
+    assert_eq!(rt; leaves(&rows), u64::MAX);
     assert_eq!(rt; rows.width(), u64::MAX);
     Ok(())
 }
