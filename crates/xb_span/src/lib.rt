@@ -10,3 +10,6 @@ mod span;
 pub use limit::{Limit, What};
 pub use read_error::ReadError;
 pub use span::{Rule, Span};
+
+#[cfg(test)]
+mod tests;

@@ -90,28 +90,3 @@ impl fmt::Display for Limit {
         write!(f, "limit {what}: {found}, at most {most}")
     }
 }
-
-#[cfg(test)]
-mod tests {
-    use super::*;
-    use std::test::Fail;
-
-    #[test]
-    fn limits_are_printed(rt: HostRuntime) -> Result<(), Fail> {
-        for (what, found, most, text) in [
-            (What::Turns, 1025, 1024, "limit turns: 1025, at most 1024"),
-            (What::Word, 129, 128, "limit word: 129, at most 128"),
-            (
-                What::File,
-                4_194_305,
-                4_194_304,
-                "limit file: 4194305, at most 4194304",
-            ),
-            (What::Depth, 65, 64, "limit depth: 65, at most 64"),
-        ] {
-            let limit = Limit { what, found, most };
-            assert_eq!(rt; limit.to_string(rt.alloc())?.as_str(), text);
-        }
-        Ok(())
-    }
-}

@@ -1,10 +1,16 @@
 pub mod Classes
 pub mod Digits
+pub mod Fits
 pub mod FlatBack
 pub mod FlatLaws
 pub mod Faults
 pub mod Found
+pub mod ReadSaid
+pub mod ReadSays
+pub mod ReadTyped
+pub mod Readers
 pub mod Saturation
+pub mod Shapes
 pub mod Sound
 pub mod Taken
 pub mod TypedLaws
@@ -13,3 +19,4 @@ pub mod TypingLemmas
 pub mod Values
 pub mod Widths
 pub mod Words
+pub mod Written

@@ -21,7 +21,7 @@ abbrev pub EachHas : {X : Type 0} → (X → Type 0) → List X → Type 0
 EachHas P [] = Unit {0}
 EachHas P (x ∷ xs) = P x × EachHas P xs
 
-each_of : {X : Type 0} (P : X → Type 0) → (es : List ((x : X) × P x)) → EachHas P (map (λ e. e.0) es)
+pub each_of : {X : Type 0} (P : X → Type 0) → (es : List ((x : X) × P x)) → EachHas P (map (λ e. e.0) es)
 each_of P [] = tt
 each_of P (e ∷ es) = (e.1, each_of P es)
 

@@ -1,8 +1,11 @@
 pub mod Flat
 pub mod Form
+pub mod Reading
+pub mod Refusal
 pub mod Scanned
 pub mod Scanner
 pub mod ScannerState
+pub mod Shape
 pub mod Text
 pub mod Typing
 pub mod Unflat

@@ -4,6 +4,7 @@
 #![tactic(auto)]
 
 mod flat_word;
+mod reader;
 mod scan;
 mod token;
 mod ty;
@@ -11,10 +12,14 @@ mod unflat_word;
 mod value;
 mod writer;
 
-/// A `Box` that contracts see as its value, a `Vec` that they see as its list, and a look-up in one.
 pub use flat_word::flat;
+pub use reader::{ValueError, read_value};
+/// A `Box` that contracts see as its value, a `Vec` that they see as its list, and a look-up in one.
 pub use sqlite_items::{Boxed, Items as Seq, at};
-pub use ty::Ty;
+pub use ty::{Ty, leaves};
 pub use unflat_word::unflat;
 pub use value::Value;
 pub use writer::value_text;
+
+#[cfg(test)]
+mod tests;

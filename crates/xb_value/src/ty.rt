@@ -66,22 +66,22 @@ impl Ty {
             Ty::Array(part, count) => part.get().width().saturating_mul(*count),
         }
     }
+}
 
-    /// How many bit types the type has, arrays multiplied out, or `2^64 - 1` where they are more.
-    pub fn leaves(&self) -> u64
-        ensures { result ≡ min (leaf_count self.now) (2 ^ 64 - 1) }
-    {
-        match self {
-            Ty::Bits(_) => 1,
-            Ty::Tuple(parts) => {
-                let mut leaves = 0u64;
-                'parts: for part in parts.as_slice() {
-                    leaves = leaves.saturating_add(part.leaves());
-                }
-                leaves
+/// How many bit types the type has, arrays multiplied out, or `2^64 - 1` where they are more.
+pub fn leaves(ty: &Ty) -> u64
+    ensures { result ≡ min (leaf_count ty.now) (2 ^ 64 - 1) }
+{
+    match ty {
+        Ty::Bits(_) => 1,
+        Ty::Tuple(parts) => {
+            let mut total = 0u64;
+            'parts: for part in parts.as_slice() {
+                total = total.saturating_add(leaves(part));
             }
-            Ty::Array(part, count) => part.get().leaves().saturating_mul(*count),
+            total
         }
+        Ty::Array(part, count) => leaves(part.get()).saturating_mul(*count),
     }
 }
 

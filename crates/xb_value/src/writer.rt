@@ -1,6 +1,9 @@
 //! Values as texts.
 
 ghost use Rattle.std.specs.Prelude.{◌≡◌, ◌<◌, ◌≤◌, ◌+◌, ◌++◌, ◌∷◌, [], OnOk, IfOk, map, string_bytes, codes, ◌*◌, ◌/◌, ◌%◌, ◌^◌};
+ghost use Rattle.xb_value.specs.Reading.{Reads};
+ghost use Rattle.xb_value.specs.Typing.{IsOfType};
+ghost use Rattle.xb_value.specs.declared.ty.Ty.{Ty};
 ghost use Rattle.xb_value.specs.Text.{text_of, listed, digit_char, hex_digits};
 
 use crate::value::Value;
@@ -9,7 +12,9 @@ use std::alloc::{AllocError, Global};
 /// The text of a value: `0x` and lower-case digits for bits, as many as the width needs, `(0x01, 0x02)` for a tuple and
 /// `[0x01, 0x02]` for an array. It takes time and memory as the text is long.
 pub fn value_text(alloc: Global, value: &Value) -> Result<String, AllocError>
-    ensures { IfOk result (λ s. string_bytes s ≡ text_of value.now) }
+    ensures text { IfOk result (λ s. string_bytes s ≡ text_of value.now) }
+    // It reads as the value, at each type that the value has.
+    ensures reads_back { IfOk result (λ s. (t : Ty) → IsOfType t value.now → Reads (string_bytes s) t value.now) }
 {
     let mut text = String::new(alloc);
     write_value(value, &mut text)?;
