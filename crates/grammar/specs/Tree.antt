@@ -82,6 +82,13 @@ pub record Stands (rules : List Rule) (productions tokens : List ℕ) (head plac
   pub here : drop place productions ≡ number ∷ (productions_of below ++ others)
   pub more : List ℕ
   pub reads : drop start tokens ≡ tokens_of below ++ more
+  pub within : start ≤ length tokens
+
+-- A tree from these places on has a production, and ends within the lists.
+pub record IsExtent (productions tokens : List ℕ) (place start : ℕ) (n : Node) : Type 0 where
+  pub some : place < n.end
+  pub end : n.end ≤ length productions
+  pub stop : start + n.tokens ≤ length tokens
 
 -- Where the trees of the symbols stand, side by side from these places on up to those: each token where the one before
 -- ends, and each tree where the nodes say that the one before ends. At symbols that are written out it computes to a

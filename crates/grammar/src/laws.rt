@@ -1,11 +1,11 @@
 //! Laws, each the contract of a function that does nothing: of each grammar that one token of lookahead
 //! decides, and of context-free grammars at large.
 
-ghost use Rattle.std.specs.Prelude.{◌≡◌, ℕ, ◌+◌, ◌*◌, ◌≤◌, ◌++◌, List, length, Some, slice_get};
+ghost use Rattle.std.specs.Prelude.{◌≡◌, ℕ, ◌+◌, ◌*◌, ◌<◌, ◌≤◌, ◌++◌, List, length, Some, slice_get};
 ghost use Rattle.grammar.specs.Syntax.{Rule, Syntax, syntax_of};
 ghost use Rattle.grammar.specs.Derivation.{Derives, IsAlternative, IsBeginning, IsDerivation, IsFirstFault, IsRule};
 ghost use Rattle.grammar.specs.Ll1.{IsLl1};
-ghost use Rattle.grammar.specs.Tree.{AreLaid, AreNodes, Forest, Grows, IsParseTree, Stands, productions_of, tokens_of};
+ghost use Rattle.grammar.specs.Tree.{AreLaid, AreNodes, Forest, Grows, IsExtent, IsParseTree, Stands, productions_of, tokens_of};
 ghost use Rattle.grammar.specs.declared.table.Symbol.{Symbol};
 ghost use Rattle.grammar.specs.declared.tree.Node.{Node};
 
@@ -53,10 +53,18 @@ pub fn one_tree()
 {}
 
 /// What a builder of trees goes by, which takes the places of a tree among the productions and the tokens:
-/// where the tree of a derivation stands, and from the node of a tree where each symbol of its body does.
+/// where the tree of a derivation stands, which production it begins with, how far it goes, and where each
+/// symbol of its body stands.
 pub fn children()
     ensures whole { (y : Syntax) (ps ts : List ℕ) → IsDerivation y ps ts
         → (number : ℕ) × (below : Forest) × Stands y.rules ps ts 0 0 0 number below }
+    ensures first { (rules : List Rule) (ps ts : List ℕ) (head place start number : ℕ) (below : Forest)
+        → Stands rules ps ts head place start number below
+        → (place < length ps) × (slice_get ps place ≡ Some number) }
+    ensures extent { (rules : List Rule) (ps ts : List ℕ) (nodes : List Node) (n : Node)
+        (head place start number : ℕ) (below : Forest)
+        → AreNodes rules ps nodes → slice_get nodes place ≡ Some n
+        → Stands rules ps ts head place start number below → IsExtent ps ts place start n }
     ensures below { (rules : List Rule) (ps ts : List ℕ) (nodes : List Node) (n : Node)
         (head place start number : ℕ) (below : Forest) (body : List Symbol)
         → AreNodes rules ps nodes → slice_get nodes place ≡ Some n
