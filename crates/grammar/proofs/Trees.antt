@@ -9,7 +9,7 @@ use Rattle.grammar.specs.declared.tree.Node.{Node}
 use Rattle.grammar.specs.Syntax.{Rule, Syntax}
 use Rattle.grammar.specs.Derivation.{IsRule, IsDerivation, Derives}
 use Rattle.grammar.specs.Derivation.Derives.{done, shift, expand}
-use Rattle.grammar.specs.Tree.{Forest, nothing, token, node, Grows, productions_of, tokens_of, IsNode, HasTree, AreNodesFrom, IsParseTree}
+use Rattle.grammar.specs.Tree.{Forest, nothing, token, node, Grows, productions_of, tokens_of, IsNode, HasTree, AreNodes, AreNodesFrom, IsParseTree, Stands, IsExtent, AreLaid}
 use Rattle.grammar.specs.Tree.Grows.{empty, leaf, branch}
 use Rattle.grammar.proofs.Deriving.{IsRule-body, Derives-append}
 use Rattle.grammar.proofs.Tested.{get-within}
@@ -364,3 +364,122 @@ pub parse-tree : (y : Syntax) (ps ts : List ℕ) → IsDerivation y ps ts → (f
 parse-tree y ps ts d =
     let x = tree-of d in
     (x.forest, record { grows = x.grows; productions = x.productions; tokens = x.tokens })
+
+-- ---- the children of a node
+
+record NodeLaid (rules : List Rule) (productions tokens : List ℕ) (nodes : List Node) (n number : ℕ) (below right : Forest) (place start : ℕ) (others more : List ℕ) : Type 0 where
+  pub child : Node
+  pub at : slice_get nodes place ≡ Some child
+  pub ends : child.end ≡ place + suc (length (productions_of below))
+  pub counts : child.tokens ≡ length (tokens_of below)
+  pub stands : Stands rules productions tokens n place start number below
+  pub next : drop child.end productions ≡ productions_of right ++ others
+  pub reads : drop (start + child.tokens) tokens ≡ tokens_of right ++ more
+
+node-laid : (rules : List Rule) (productions tokens : List ℕ) (nodes : List Node) → AreNodes rules productions nodes → (p n : ℕ) (b : List Symbol) (below right : Forest) → IsRule rules p n b → Grows rules b below → (place start : ℕ) (others more : List ℕ) → drop place productions ≡ productions_of (node p below right) ++ others → drop start tokens ≡ tokens_of (node p below right) ++ more → start ≤ length tokens → NodeLaid rules productions tokens nodes n p below right place start others more
+node-laid rules productions tokens nodes known p n b below right e g place start others more here reads inside =
+    let d : Node = record { end = 0; tokens = 0 } in
+    let lt = within-drop productions place p ((productions_of below ++ productions_of right) ++ others) here in
+    let all = known.all in
+    let got = get-within nodes place d (omega (arith, lt, all)) in
+    let c = known.each place (slice_index_or nodes place d) got in
+    let heads : c.number ≡ p = let h = sym c.here ∙ here in cc in
+    let tails : productions_of c.below ++ c.rest ≡ (productions_of below ++ productions_of right) ++ others = let h = sym c.here ∙ here in cc in
+    let bodies : c.body ≡ b = IsRule-body rules p c.head n c.body b (subst (λ i. IsRule rules i c.head c.body) heads c.rule) e in
+    let both = same-forest (subst (λ x. Grows rules x c.below) bodies c.grows) g c.rest (productions_of right ++ others) (tails ∙ append_assoc (productions_of below) (productions_of right) others) in
+    let reads' : drop start tokens ≡ tokens_of below ++ (tokens_of right ++ more) = reads ∙ append_assoc (tokens_of below) (tokens_of right) more in
+    let count : (slice_index_or nodes place d).tokens ≡ length (tokens_of below) = c.counts ∙ ap (λ f. length (tokens_of f)) both.0 in
+    record {
+      child = slice_index_or nodes place d;
+      at = got;
+      ends = c.ends ∙ ap (λ f. place + suc (length (productions_of f))) both.0;
+      counts = count;
+      stands = record {
+        body = b;
+        rule = e;
+        grows = g;
+        others = productions_of right ++ others;
+        here = here ∙ ap (λ l. p ∷ l) (append_assoc (productions_of below) (productions_of right) others);
+        more = tokens_of right ++ more;
+        reads = reads';
+        within = inside;
+      };
+      next = ap (λ i. drop i productions) c.ends ∙ sym (drop-drop (suc (length (productions_of c.below))) place productions) ∙ ap (drop (suc (length (productions_of c.below)))) c.here ∙ drop_at (productions_of c.below) c.rest (length (productions_of c.below)) refl ∙ both.1;
+      reads = ap (λ i. drop (start + i) tokens) count ∙ sym (drop-drop (length (tokens_of below)) start tokens) ∙ ap (drop (length (tokens_of below))) reads' ∙ drop_at (tokens_of below) (tokens_of right ++ more) (length (tokens_of below)) refl;
+    }
+
+get-drop : (xs : List ℕ) (i x : ℕ) (ys : List ℕ) → drop i xs ≡ x ∷ ys → slice_get xs i ≡ Some x
+get-drop [] zero x ys e = cc
+get-drop [] (suc i) x ys e = cc
+get-drop (y ∷ xs) zero x ys e = let h : y ≡ x = cc in ap (λ z. Some z) h
+get-drop (y ∷ xs) (suc i) x ys e = get-drop xs i x ys e
+
+room : (xs : List ℕ) (i : ℕ) (ys zs : List ℕ) → drop i xs ≡ ys ++ zs → i ≤ length xs → i + length ys ≤ length xs
+room xs i ys zs e le =
+    let l : length xs - i ≡ length ys + length zs = sym (length-drop i xs) ∙ ap length e ∙ length-append ys zs in
+    omega (arith, l, le)
+
+pub laid : {rules : List Rule} {s : List Symbol} {f : Forest} → Grows rules s f → (productions tokens : List ℕ) (nodes : List Node) → AreNodes rules productions nodes → (place start end stop : ℕ) (others more : List ℕ) → drop place productions ≡ productions_of f ++ others → drop start tokens ≡ tokens_of f ++ more → place + length (productions_of f) ≡ end → start + length (tokens_of f) ≡ stop → start ≤ length tokens → AreLaid rules productions tokens nodes s f place start end stop
+laid empty productions tokens nodes known place start end stop others more here reads e h inside = (refl, omega arith, omega arith)
+laid (leaf {t = t} {f = right} g) productions tokens nodes known place start end stop others more here reads e h inside =
+    let lt = within-drop tokens start t (tokens_of right ++ more) reads in
+    (right, refl, get-drop tokens start t (tokens_of right ++ more) reads, laid g productions tokens nodes known place (start + 1) end stop others more here (sym (drop-drop 1 start tokens) ∙ ap (drop 1) reads) e (omega arith) (omega (arith, lt)))
+laid {rules} (branch {p = p} {n = n} b {below = below} {right = right} r g h) productions tokens nodes known place start end stop others more here reads e j inside =
+    let x = node-laid rules productions tokens nodes known p n b below right r g place start others more here reads inside in
+    let far : x.child.end ≡ place + suc (length (productions_of below)) = x.ends in
+    let count : x.child.tokens ≡ length (tokens_of below) = x.counts in
+    let wide = room tokens start (tokens_of below) (tokens_of right ++ more) (reads ∙ append_assoc (tokens_of below) (tokens_of right) more) inside in
+    (p, below, right, x.child, refl, x.at, x.stands, laid h productions tokens nodes known x.child.end (start + x.child.tokens) end stop others more x.next x.reads (omega (arith, far, length-append (productions_of below) (productions_of right))) (omega (arith, count, length-append (tokens_of below) (tokens_of right))) (omega (arith, wide, count)))
+
+-- what is below a tree
+pub laid-below : (rules : List Rule) (productions tokens : List ℕ) (nodes : List Node) (n : Node) (head place start number : ℕ) (below : Forest) (body : List Symbol) → AreNodes rules productions nodes → slice_get nodes place ≡ Some n → Stands rules productions tokens head place start number below → IsRule rules number head body → AreLaid rules productions tokens nodes body below (place + 1) start n.end (start + n.tokens)
+laid-below rules productions tokens nodes n head place start number below body known at s r =
+    let bodies : s.body ≡ body = IsRule-body rules number head head s.body body s.rule r in
+    let c = known.each place n at in
+    let heads : c.number ≡ number = let h = sym c.here ∙ s.here in cc in
+    let tails : productions_of c.below ++ c.rest ≡ productions_of below ++ s.others = let h = sym c.here ∙ s.here in cc in
+    let same : c.body ≡ s.body = IsRule-body rules number c.head head c.body s.body (subst (λ i. IsRule rules i c.head c.body) heads c.rule) s.rule in
+    let both = same-forest (subst (λ b. Grows rules b c.below) same c.grows) s.grows c.rest s.others tails in
+    let far : n.end ≡ place + suc (length (productions_of below)) = c.ends ∙ ap (λ f. place + suc (length (productions_of f))) both.0 in
+    let count : n.tokens ≡ length (tokens_of below) = c.counts ∙ ap (λ f. length (tokens_of f)) both.0 in
+    subst (λ b. AreLaid rules productions tokens nodes b below (place + 1) start n.end (start + n.tokens)) bodies
+    (laid s.grows productions tokens nodes known (place + 1) start n.end (start + n.tokens) s.others s.more (sym (drop-drop 1 place productions) ∙ ap (drop 1) s.here) s.reads (omega (arith, far)) (omega (arith, count)) s.within)
+
+-- the tree of a whole derivation
+pub stands-whole : (y : Syntax) (ps ts : List ℕ) → IsDerivation y ps ts → (number : ℕ) × (below : Forest) × Stands y.rules ps ts 0 0 0 number below
+stands-whole y ps ts d =
+    let x = tree-of d in
+    let f = node-first x.grows in (
+      f.number,
+      f.below,
+      record {
+        body = f.body;
+        rule = f.rule;
+        grows = f.grows_below;
+        others = productions_of f.right;
+        here = sym x.productions ∙ ap productions_of f.is;
+        more = tokens_of f.right;
+        reads = sym x.tokens ∙ ap tokens_of f.is;
+        within = omega arith;
+      },
+    )
+
+-- how far a tree goes
+pub stands-extent : (rules : List Rule) (productions tokens : List ℕ) (nodes : List Node) (n : Node) (head place start number : ℕ) (below : Forest) → AreNodes rules productions nodes → slice_get nodes place ≡ Some n → Stands rules productions tokens head place start number below → IsExtent productions tokens place start n
+stands-extent rules productions tokens nodes n head place start number below known at s =
+    let c = known.each place n at in
+    let heads : c.number ≡ number = let h = sym c.here ∙ s.here in cc in
+    let tails : productions_of c.below ++ c.rest ≡ productions_of below ++ s.others = let h = sym c.here ∙ s.here in cc in
+    let same : c.body ≡ s.body = IsRule-body rules number c.head head c.body s.body (subst (λ i. IsRule rules i c.head c.body) heads c.rule) s.rule in
+    let both = same-forest (subst (λ b. Grows rules b c.below) same c.grows) s.grows c.rest s.others tails in
+    let far : n.end ≡ place + suc (length (productions_of below)) = c.ends ∙ ap (λ f. place + suc (length (productions_of f))) both.0 in
+    let count : n.tokens ≡ length (tokens_of below) = c.counts ∙ ap (λ f. length (tokens_of f)) both.0 in
+    let lt = within-drop productions place number (productions_of below ++ s.others) s.here in
+    let long = room productions place (number ∷ productions_of below) s.others s.here (omega (arith, lt)) in
+    let wide = room tokens start (tokens_of below) s.more s.reads s.within in
+    record { some = omega (arith, far); end = omega (arith, far, long); stop = omega (arith, count, wide) }
+
+-- where a tree's production is
+pub stands-within : (rules : List Rule) (productions tokens : List ℕ) (head place start number : ℕ) (below : Forest) → Stands rules productions tokens head place start number below → (place < length productions) × (slice_get productions place ≡ Some number)
+stands-within rules productions tokens head place start number below s =
+    (within-drop productions place number (productions_of below ++ s.others) s.here, get-drop productions place number (productions_of below ++ s.others) s.here)

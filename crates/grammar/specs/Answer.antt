@@ -1,5 +1,5 @@
 -- What a reader answers.
-use Rattle.std.specs.Prelude.{◌≡◌, ℕ, ◌-◌, List, length, Result, Ok, Err, Some, slice_get}
+use Rattle.std.specs.Prelude.{◌≡◌, ℕ, ◌-◌, List, length, Result, Ok, Err, Some, slice_get, codes}
 use Rattle.grammar.specs.declared.parser.Fault.{Fault}
 use Rattle.grammar.specs.declared.parser.ParseError.{ParseError}
 use Rattle.grammar.specs.declared.parser.ParseError.TheVariants as errors
@@ -13,3 +13,8 @@ IfFault (Err (errors.Fault fault)) P = P fault
 -- The last one of the list is this.
 abbrev pub EndsWith : List ℕ → ℕ → Type 0
 EndsWith xs x = slice_get xs (length xs - 1) ≡ Some x
+
+-- what an error is printed as
+abbrev pub error_text : ParseError → List ℕ
+error_text errors.OutOfMemory = codes "out of memory"
+error_text (errors.Fault fault) = codes "no sentence of the grammar"

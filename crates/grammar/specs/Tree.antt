@@ -71,3 +71,31 @@ pub record IsParseTree (y : Syntax) (numbers kinds : List ℕ) (f : Forest) : Ty
   pub grows : Grows y.rules (whole y) f
   pub productions : productions_of f ≡ numbers
   pub tokens : tokens_of f ≡ kinds
+
+-- At this place among the productions, and at this one among the tokens, stands a tree of the nonterminal: its rule
+-- has this number, and these trees are below it.
+pub record Stands (rules : List Rule) (productions tokens : List ℕ) (head place start number : ℕ) (below : Forest) : Type 0 where
+  pub body : List Symbol
+  pub rule : IsRule rules number head body
+  pub grows : Grows rules body below
+  pub others : List ℕ
+  pub here : drop place productions ≡ number ∷ (productions_of below ++ others)
+  pub more : List ℕ
+  pub reads : drop start tokens ≡ tokens_of below ++ more
+  pub within : start ≤ length tokens
+
+-- A tree from these places on has a production, and ends within the lists.
+pub record IsExtent (productions tokens : List ℕ) (place start : ℕ) (n : Node) : Type 0 where
+  pub some : place < n.end
+  pub end : n.end ≤ length productions
+  pub stop : start + n.tokens ≤ length tokens
+
+-- Where the trees of the symbols stand, side by side from these places on up to those: each token where the one before
+-- ends, and each tree where the nodes say that the one before ends. At symbols that are written out it computes to a
+-- fact for each.
+abbrev pub AreLaid : List Rule → List ℕ → List ℕ → List Node → List Symbol → Forest → ℕ → ℕ → ℕ → ℕ → Type 0
+AreLaid rules productions tokens nodes [] f place start end stop = (f ≡ nothing) × (place ≡ end) × (start ≡ stop)
+AreLaid rules productions tokens nodes (Terminal t ∷ s) f place start end stop =
+    (right : Forest) × (f ≡ token t right) × (slice_get tokens start ≡ Some t) × AreLaid rules productions tokens nodes s right place (start + 1) end stop
+AreLaid rules productions tokens nodes (Nonterminal n ∷ s) f place start end stop =
+    (number : ℕ) × (below right : Forest) × (child : Node) × (f ≡ node number below right) × (slice_get nodes place ≡ Some child) × Stands rules productions tokens n place start number below × AreLaid rules productions tokens nodes s right child.end (start + child.tokens) end stop

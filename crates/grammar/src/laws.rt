@@ -1,12 +1,13 @@
 //! Laws, each the contract of a function that does nothing: of each grammar that one token of lookahead
 //! decides, and of context-free grammars at large.
 
-ghost use Rattle.std.specs.Prelude.{◌≡◌, ℕ, ◌*◌, ◌≤◌, ◌++◌, List, length};
+ghost use Rattle.std.specs.Prelude.{◌≡◌, ℕ, ◌+◌, ◌*◌, ◌<◌, ◌≤◌, ◌++◌, List, length, Some, slice_get};
 ghost use Rattle.grammar.specs.Syntax.{Rule, Syntax, syntax_of};
 ghost use Rattle.grammar.specs.Derivation.{Derives, IsAlternative, IsBeginning, IsDerivation, IsFirstFault, IsRule};
 ghost use Rattle.grammar.specs.Ll1.{IsLl1};
-ghost use Rattle.grammar.specs.Tree.{Forest, Grows, IsParseTree, productions_of, tokens_of};
+ghost use Rattle.grammar.specs.Tree.{AreLaid, AreNodes, Forest, Grows, IsExtent, IsParseTree, Stands, productions_of, tokens_of};
 ghost use Rattle.grammar.specs.declared.table.Symbol.{Symbol};
+ghost use Rattle.grammar.specs.declared.tree.Node.{Node};
 
 use crate::table::Grammar;
 
@@ -49,6 +50,26 @@ pub fn one_tree()
     ensures one { (rules : List Rule) (s : List Symbol) (f g : Forest) (xs ys : List ℕ)
         → Grows rules s f → Grows rules s g
         → productions_of f ++ xs ≡ productions_of g ++ ys → (f ≡ g) × (xs ≡ ys) }
+{}
+
+/// What a builder of trees goes by, which takes the places of a tree among the productions and the tokens:
+/// where the tree of a derivation stands, which production it begins with, how far it goes, and where each
+/// symbol of its body stands.
+pub fn children()
+    ensures whole { (y : Syntax) (ps ts : List ℕ) → IsDerivation y ps ts
+        → (number : ℕ) × (below : Forest) × Stands y.rules ps ts 0 0 0 number below }
+    ensures first { (rules : List Rule) (ps ts : List ℕ) (head place start number : ℕ) (below : Forest)
+        → Stands rules ps ts head place start number below
+        → (place < length ps) × (slice_get ps place ≡ Some number) }
+    ensures extent { (rules : List Rule) (ps ts : List ℕ) (nodes : List Node) (n : Node)
+        (head place start number : ℕ) (below : Forest)
+        → AreNodes rules ps nodes → slice_get nodes place ≡ Some n
+        → Stands rules ps ts head place start number below → IsExtent ps ts place start n }
+    ensures below { (rules : List Rule) (ps ts : List ℕ) (nodes : List Node) (n : Node)
+        (head place start number : ℕ) (below : Forest) (body : List Symbol)
+        → AreNodes rules ps nodes → slice_get nodes place ≡ Some n
+        → Stands rules ps ts head place start number below → IsRule rules number head body
+        → AreLaid rules ps ts nodes body below (place + 1) start n.end (start + n.tokens) }
 {}
 
 /// A rule of a nonterminal is one of those that the list of the rules has for it.

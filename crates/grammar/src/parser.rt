@@ -1,11 +1,11 @@
 //! Reading a list of tokens by a grammar.
 
-ghost use Rattle.std.specs.Prelude.{◌≡◌, ℕ, List, [], ◌∷◌, ◌++◌, take, reverse, IfOk, OnOk, MatchResult};
+ghost use Rattle.std.specs.Prelude.{◌≡◌, ℕ, List, [], ◌∷◌, ◌++◌, take, reverse, Some, IfOk, OnOk, MatchResult};
 ghost use Rattle.std.specs.Bool.{OnTrue, OnFalse};
 ghost use Rattle.grammar.specs.Syntax.{rules_of, syntax_of};
 ghost use Rattle.grammar.specs.Derivation.{IsDerivation, IsFirstFault, IsBeginning, BeginsWith, IsLeft, ReadsOne, ReadsNone};
 ghost use Rattle.grammar.specs.Ll1.{IsLl1};
-ghost use Rattle.grammar.specs.Answer.{IfFault, EndsWith};
+ghost use Rattle.grammar.specs.Answer.{IfFault, EndsWith, error_text};
 ghost use Rattle.grammar.specs.declared.parser.ParseError.TheVariants.{OutOfMemory};
 
 use crate::table::{Grammar, Symbol};
@@ -32,13 +32,12 @@ pub struct Fault {
 }
 
 impl fmt::Display for ParseError {
+    ghost output = { λ e. Some (error_text e) };
+
     fn fmt<W: fmt::Write>(&self, f: &mut fmt::Formatter<W>) -> fmt::Result {
         match self {
             ParseError::OutOfMemory => write!(f, "out of memory"),
-            ParseError::Fault(fault) => {
-                let place = fault.place;
-                write!(f, "no sentence goes on with token {place}")
-            }
+            ParseError::Fault(_) => write!(f, "no sentence of the grammar"),
         }
     }
 }
