@@ -21,6 +21,10 @@ pub enum LoadError {
 }
 
 impl fmt::Display for LoadError {
+    ghost use Rattle.xb_io.specs.LoadErrorText.{load_error_text};
+
+    ghost output = { λ e. Some (load_error_text e) };
+
     fn fmt<W: fmt::Write>(&self, f: &mut fmt::Formatter<W>) -> fmt::Result {
         match self {
             LoadError::OutOfMemory => write!(f, "out of memory"),

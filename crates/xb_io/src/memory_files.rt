@@ -30,18 +30,16 @@ impl MemFile {
 /// isn't listed has no file.
 #[derive(Drop)]
 pub struct MemFiles {
-    files: Vec<MemFile>,
-    failing: Vec<u64>,
-    calls: u64,
-    faults: u64,
-    taken: u64,
+    pub files: Vec<MemFile>,
+    pub failing: Vec<u64>,
+    pub calls: u64,
+    pub faults: u64,
+    pub taken: u64,
 }
 
 impl MemFiles {
     pub fn new(files: Vec<MemFile>, failing: Vec<u64>) -> MemFiles
-        ensures told { ⟦<MemFiles as Files>⟧.told result ≡ Some (contents_of files.items) }
-        ensures faults { ⟦<MemFiles as Files>⟧.faults result ≡ 0 }
-        ensures taken { ⟦<MemFiles as Files>⟧.taken result ≡ 0 }
+        ensures { result ≡ record { files = files; failing = failing; calls = 0; faults = 0; taken = 0 } }
     {
         MemFiles {
             files,
@@ -76,14 +74,13 @@ impl Files for MemFiles {
 /// Files in memory without any fault: a name that isn't listed holds an empty file.
 #[derive(Drop)]
 pub struct FaultFreeFiles {
-    files: Vec<MemFile>,
-    taken: u64,
+    pub files: Vec<MemFile>,
+    pub taken: u64,
 }
 
 impl FaultFreeFiles {
     pub fn new(files: Vec<MemFile>) -> FaultFreeFiles
-        ensures told { ⟦<FaultFreeFiles as Files>⟧.told result ≡ Some (contents_or_empty files.items) }
-        ensures taken { ⟦<FaultFreeFiles as Files>⟧.taken result ≡ 0 }
+        ensures { result ≡ record { files = files; taken = 0 } }
     {
         FaultFreeFiles { files, taken: 0 }
     }

@@ -9,19 +9,21 @@ use std::alloc::{AllocError, Global};
 /// taken when it is made: a put past it fills it and is a fault. A call that is to fail takes nothing.
 #[derive(Drop)]
 pub struct MemSink {
-    bytes: Vec<u8>,
-    room: usize,
-    failing: Vec<u64>,
-    calls: u64,
-    faults: u64,
+    pub bytes: Vec<u8>,
+    pub room: usize,
+    pub failing: Vec<u64>,
+    pub calls: u64,
+    pub faults: u64,
     ghost within_room: { vec_len bytes ≤ room },
     ghost has_room: { room ≤ vec_capacity bytes },
 }
 
 impl MemSink {
     pub fn new(alloc: Global, room: usize, failing: Vec<u64>) -> Result<MemSink, AllocError>
-        ensures written { IfOk result (λ sink. ⟦<MemSink as Sink>⟧.written sink ≡ Some []) }
-        ensures faults { IfOk result (λ sink. ⟦<MemSink as Sink>⟧.faults sink ≡ 0) }
+        ensures empty { IfOk result (λ sink. sink.bytes.items ≡ []) }
+        ensures room { IfOk result (λ sink. sink.room ≡ room) }
+        ensures failing { IfOk result (λ sink. sink.failing ≡ failing) }
+        ensures counts { IfOk result (λ sink. (sink.calls ≡ 0) × (sink.faults ≡ 0)) }
     {
         Ok(MemSink {
             bytes: Vec::with_capacity(alloc, room)?,
@@ -30,13 +32,6 @@ impl MemSink {
             calls: 0,
             faults: 0,
         })
-    }
-
-    /// What was written so far.
-    pub fn bytes(&self) -> &[u8]
-        ensures { ⟦<MemSink as Sink>⟧.written self.now ≡ Some result.now }
-    {
-        &self.bytes
     }
 }
 

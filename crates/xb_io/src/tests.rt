@@ -64,7 +64,7 @@ fn a_sink_in_memory_takes_what_it_has_room_for(rt: HostRuntime) -> Result<(), Fa
     assert_eq!(rt; sink.put(b"abc"), Ok(()));
     assert_eq!(rt; sink.put(b"x"), Err(Failed), "the call that is to fail");
     assert_eq!(rt; sink.put(b"def"), Err(Failed), "past the room");
-    assert_eq!(rt; sink.bytes(), b"abcde".as_slice());
+    assert_eq!(rt; sink.bytes.as_slice(), b"abcde".as_slice());
     assert_eq!(rt; sink.put(b""), Ok(()));
     Ok(())
 }

@@ -70,8 +70,8 @@ fn expect(
     err: &str,
     what: &str,
 ) -> Result<(), Fail> {
-    assert_eq!(rt; str::from_utf8(answer.err.bytes())?, err, "{what}");
-    assert_eq!(rt; str::from_utf8(answer.out.bytes())?, out, "{what}");
+    assert_eq!(rt; str::from_utf8(&answer.err.bytes)?, err, "{what}");
+    assert_eq!(rt; str::from_utf8(&answer.out.bytes)?, out, "{what}");
     assert_eq!(rt; answer.status, status, "{what}");
     Ok(())
 }
