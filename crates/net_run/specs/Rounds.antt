@@ -7,10 +7,6 @@ use Rattle.net_core.specs.Machine.{goes}
 use Rattle.net_core.specs.Outcomes.{behaviors_of}
 use Rattle.net_core.specs.Shows.{Shows}
 
--- the configuration is one of a run in which the procs do this
-abbrev pub IsRunWith : Config → List Behavior → Type 0
-IsRunWith config behaviors = (run : Run) × (cut : Cut) × Shows run cut config × (behaviors_of run ≡ behaviors)
-
 -- a proc was let go: where it made no event, it can't go and the cut is the same
 abbrev pub Advances : Run → Cut → ℕ → Config → Bool → Type 0
 Advances run cut p new true = (next : Cut) × Shows run next new
