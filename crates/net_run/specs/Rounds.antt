@@ -1,10 +1,8 @@
 -- What going round the procs does to a configuration.
-use Rattle.std.specs.Prelude.{◌≡◌, ◌<◌, ℕ, Bool, true, false, List}
+use Rattle.std.specs.Prelude.{◌≡◌, ◌<◌, ℕ, Bool, true, false}
 use Rattle.net_core.specs.declared.config.Config.{Config}
-use Rattle.net_core.specs.Behavior.{Behavior}
 use Rattle.net_core.specs.Cuts.{Run, Cut}
 use Rattle.net_core.specs.Machine.{goes}
-use Rattle.net_core.specs.Outcomes.{behaviors_of}
 use Rattle.net_core.specs.Shows.{Shows}
 
 -- a proc was let go: where it made no event, it can't go and the cut is the same

@@ -10,6 +10,7 @@ ghost use Rattle.net_core.specs.Cuts.{Proc, Run, Cut, IsFront, IsWithin, empty_c
 ghost use Rattle.net_core.specs.Machine.{goes, opened, next_of, position_after, after_steps};
 ghost use Rattle.net_core.specs.Shows.{Shows};
 ghost use Rattle.net_core.specs.declared.config.Config.{Config};
+ghost use Rattle.net_run.specs.Counted.{IsCounted};
 ghost use Rattle.net_run.specs.Typed.{EventFits};
 
 /// A round no longer changes the final cut, nor the unbounded one.
@@ -35,6 +36,15 @@ pub fn stuck_shows_the_final_cut()
     ensures { (run : Run) (cut : Cut) (config : Config) → Shows run cut config →
         ((p : ℕ) → p < length run.procs → goes run cut p ≡ false) →
         Shows run (final_cut run) config }
+{}
+
+/// A cut in which no proc can go is the final cut also where no order of the events is known, and only this: each proc
+/// has made a front of its trace over the words of the final cut, has sent no more than there, has received only what
+/// was sent, and has sent only what had room.
+pub fn counted_cuts_end_at_the_final_cut()
+    ensures { (run : Run) (cut : Cut) → IsCounted run cut →
+        ((p : ℕ) → p < length run.procs → goes run cut p ≡ false) →
+        cut ≡ final_cut run }
 {}
 
 /// Longer histories give a longer trace.
