@@ -218,7 +218,7 @@ front_take [] ys f h = cc
 front_take (x ∷ xs) [] f h = absurd f
 front_take (x ∷ xs) (y ∷ ys) f h = ap (λ z. z ∷ []) f.0
 
-moved_grows : (sites : List Site) (at : Position) (e : Event) (words more : Histories) → IsLonger words more → has_word sites words e ≡ true
+pub moved_grows : (sites : List Site) (at : Position) (e : Event) (words more : Histories) → IsLonger words more → has_word sites words e ≡ true
     → moved sites at e words ≡ moved sites at e more
 unfolding has_word
 moved_grows sites at (Recv i) words more f h = let e = front_take _ _ (f (chan_at sites i)) h in rw e

@@ -1,4 +1,15 @@
 -- Networks with bounded channels: how far each proc comes, whatever the order of their events.
+--
+-- By hand: P and Q make two activations each, over channels c and d of depth 1. P sends its number i on c, then on d if
+-- i is odd, and goes from 0 to 1 to 2. Q receives from d in its activation 0 alone, then from c.
+--   round 1: P makes Send c 0, End 1. The next send on c would be the second: one word sent, none received, depth 1.
+--            Q makes nothing, since no word was sent on d.
+--   round 2: the same. So this is the final cut: P waits in activation 1 to send on c, Q in activation 0 to receive
+--            from d; c has sent 0, and nothing was received.
+-- With depth 2:
+--   round 1: P makes Send c 0, End 1, Send c 1, Send d 1, End 2.
+--   round 2: Q makes Recv d, Recv c, End 1, Recv c, End 0.
+--   round 3: the same. c has sent 0 and 1, d has sent 1, all was received, and both are done.
 use Rattle.std.specs.Prelude.{◌≡◌, ℕ, zero, suc, ◌+◌, ◌*◌, Bool, true, ◌&&◌, not, List, [], ◌∷◌, ◌++◌, length, get_or, slice_get, nat_lt, if◌then◌else◌, ◌==◌, sum_by, Option, Some, None}
 use Rattle.std.specs.List.{list_any}
 use Rattle.xb_bits.specs.Word.{Word}

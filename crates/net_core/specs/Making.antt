@@ -60,6 +60,33 @@ pub record StandsAt (config : Config) (p site : ℕ) (progress : Progress) (chan
   pub channel_is : slice_get config.channels.items chan ≡ Some channel
   pub received : channel.received ≤ length channel.words
 
+-- a proc stands at a site
+abbrev pub IsPlaced : Config → ℕ → ℕ → Type 0
+IsPlaced config p site = (progress : Progress) × (chan : ℕ) × (channel : Channel) × StandsAt config p site progress chan channel
+
+-- what holds of the proc, the channel's number and the channel there
+abbrev pub AtPlace : Config → ℕ → ℕ → (Progress → ℕ → Channel → Type 0) → Type 0
+AtPlace config p site claim = (progress : Progress) (chan : ℕ) (channel : Channel) → StandsAt config p site progress chan channel → claim progress chan channel
+
+-- the same where the channel's number is known
+abbrev pub IsPlacedOn : Config → ℕ → ℕ → ℕ → (Channel → Type 0) → Type 0
+IsPlacedOn config p site chan claim = (progress : Progress) × (channel : Channel) × StandsAt config p site progress chan channel × claim channel
+
+abbrev pub AtPlaceOn : Config → ℕ → ℕ → ℕ → (Progress → Channel → Type 0) → Type 0
+AtPlaceOn config p site chan claim = (progress : Progress) (channel : Channel) → StandsAt config p site progress chan channel → claim progress channel
+
+-- what holds of a proc's data
+abbrev pub OfProc : Config → ℕ → (Progress → Type 0) → Type 0
+OfProc config p claim = (progress : Progress) → slice_get config.procs.items p ≡ Some progress → claim progress
+
+-- a proc's data and one of its sites
+abbrev pub HasSite : Config → ℕ → ℕ → Type 0
+HasSite config p site = (progress : Progress) × (at : Site) × (slice_get config.procs.items p ≡ Some progress) × (slice_get progress.sites site ≡ Some at)
+
+abbrev pub OfSite : Config → ℕ → ℕ → (Site → Type 0) → Type 0
+OfSite config p site claim =
+    (progress : Progress) (at : Site) → slice_get config.procs.items p ≡ Some progress → slice_get progress.sites site ≡ Some at → claim at
+
 -- the next word of a channel is received at a site
 pub record Receives (old new : Config) (p site : ℕ) (progress : Progress) (chan : ℕ) (channel : Channel) (word : Word) : Type 0 where
   pub word_is : slice_get channel.words channel.received ≡ Some word

@@ -1,5 +1,5 @@
 -- What a configuration of the machine shows: a cut of its run.
-use Rattle.std.specs.Prelude.{◌≡◌, ◌≤◌, ◌-◌, ◌*◌, ℕ, suc, length, get_or, slice_get, option_map, sum_by, Some}
+use Rattle.std.specs.Prelude.{List, ◌≡◌, ◌≤◌, ◌-◌, ◌*◌, ℕ, suc, length, get_or, slice_get, option_map, sum_by, Some}
 use Rattle.xb_value.specs.Width.{width_of}
 use Rattle.net_core.specs.declared.net.Chan.{Chan}
 use Rattle.net_core.specs.declared.config.Config.{Config}
@@ -8,6 +8,7 @@ use Rattle.net_core.specs.declared.config.Channel.{Channel}
 use Rattle.net_core.specs.Behavior.{Behavior, IsOpen}
 use Rattle.net_core.specs.Cuts.{Proc, Run, Cut, IsWithin, words_at, received_at, round, final_cut}
 use Rattle.net_core.specs.Machine.{Position, position_in}
+use Rattle.net_core.specs.Outcomes.{behaviors_of}
 use Rattle.net_core.specs.WellFormed.{IsRun, AreWordsOf}
 
 -- where a proc stands in a cut, as the machine keeps it
@@ -42,6 +43,18 @@ IsBehaviorOf run p b = (proc : Proc) × (slice_get run.procs p ≡ Some proc) ×
 -- the configuration is one of a run in which proc p has this behavior
 abbrev pub IsAskedWith : Config → ℕ → Behavior → Type 0
 IsAskedWith config p b = (run : Run) × (cut : Cut) × Shows run cut config × IsBehaviorOf run p b
+
+-- what holds of each run and cut that the configuration shows, in which proc p has this behavior
+abbrev pub WhereAsked : Config → ℕ → Behavior → (Run → Cut → Type 0) → Type 0
+WhereAsked config p b claim = (run : Run) (cut : Cut) → Shows run cut config → IsBehaviorOf run p b → claim run cut
+
+-- the configuration is one of a run in which the procs have these behaviors
+abbrev pub IsRunWith : Config → List Behavior → Type 0
+IsRunWith config behaviors = (run : Run) × (cut : Cut) × Shows run cut config × (behaviors_of run ≡ behaviors)
+
+-- what holds of each run and cut that the configuration shows, in which the procs have these behaviors
+abbrev pub WhereRun : Config → List Behavior → (Run → Cut → Type 0) → Type 0
+WhereRun config behaviors claim = (run : Run) (cut : Cut) → Shows run cut config → behaviors_of run ≡ behaviors → claim run cut
 
 -- nothing that a configuration shows has changed
 pub record IsUnchanged (old new : Config) : Type 0 where

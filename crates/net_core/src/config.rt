@@ -67,7 +67,8 @@ fn filled(
 ) -> Result<Vec<Channel>, AllocError>
     requires inputs { length inputs.now ≡ length chans.now }
     requires depths { length depths.now ≡ length chans.now }
-    ensures { IfOk result (λ channels. channels.items ≡ indexed (filled_channel inputs.now depths.now) 0 chans.now) }
+    ensures { IfOk result (λ channels.
+        channels.items ≡ indexed (filled_channel inputs.now depths.now) 0 chans.now) }
 {
     let mut channels = Vec::new(alloc);
     for (c, chan) in chans.iter().enumerate() {
@@ -168,18 +169,19 @@ impl Channel {
 }
 
 impl Config {
-    ghost use Rattle.std.specs.Prelude.{List, ◌≡◌, ◌<◌, ◌≤◌, ◌+◌, ◌^◌, ℕ, IsTrue, OnOk, OnErr, IfOk, length, map, slice_get, Some, MatchBool};
+    ghost use Rattle.std.specs.Prelude.{List, ◌≡◌, ◌<◌, ◌≤◌, ◌+◌, ◌^◌, ℕ, IsTrue, OnOk, OnErr, IfOk, length, map, slice_get, Some, MatchBool, ⊤};
     ghost use Rattle.xb_bits.specs.Word.{Word};
     ghost use Rattle.net_core.specs.declared.net.Site.{Site};
     ghost use Rattle.net_core.specs.declared.config.Progress.{Progress};
     ghost use Rattle.net_core.specs.declared.config.Channel.{Channel};
-    ghost use Rattle.net_core.specs.Making.{has_word, has_room, StandsAt, Receives, Sends, Ends, TriesReceive, TriesSend, IsStandingFor, CanMake, TriesEvent};
+    ghost use Rattle.net_core.specs.Making.{has_word, has_room, IsPlaced, AtPlace, IsPlacedOn, AtPlaceOn, OfProc, HasSite, OfSite};
+    ghost use Rattle.net_core.specs.Making.{Receives, Sends, Ends, TriesReceive, TriesSend, IsStandingFor, CanMake, TriesEvent};
     ghost use Rattle.net_core.specs.Outcomes.{indexed, outcome_of, stall_in, stall_for, behaviors_of};
     ghost use Rattle.net_core.specs.Behavior.{Behavior};
     ghost use Rattle.net_core.specs.Cuts.{Run, Cut, empty_cut};
     ghost use Rattle.net_core.specs.WellFormed.{IsNet, IsInputs, IsDepths, AreBehaviorsOf, EachKeepsTypes, run_of};
     ghost use Rattle.net_core.specs.Machine.{goes, stepped};
-    ghost use Rattle.net_core.specs.Shows.{Shows, IsAskedWith, IsBehaviorOf, IsUnchanged, events_left};
+    ghost use Rattle.net_core.specs.Shows.{Shows, IsAskedWith, IsBehaviorOf, WhereAsked, IsRunWith, WhereRun, IsUnchanged, events_left};
 
     /// The run of a network before its first event, with at most `n` activations of each proc.
     ///
@@ -194,7 +196,8 @@ impl Config {
         requires net { IsNet net.now }
         requires inputs { IsInputs net.now inputs.now.words }
         requires depths { IsDepths net.now depths.now }
-        ensures { IfOk result (λ config. (behaviors : List Behavior) → AreBehaviorsOf net.now behaviors → EachKeepsTypes behaviors →
+        ensures { IfOk result (λ config. (behaviors : List Behavior) →
+            AreBehaviorsOf net.now behaviors → EachKeepsTypes behaviors →
             Shows (run_of net.now behaviors inputs.now.words n depths.now) empty_cut config) }
     {
         Ok(Config {
@@ -207,18 +210,13 @@ impl Config {
     /// Whether a step of proc `p`, whose body this is, would make an event.
     pub fn can<B: Body>(&self, alloc: Global, p: u32, body: &B) -> Result<bool, AllocError>
         requires { IsAskedWith self.now p (B.behavior body.now) }
-        ensures { IfOk result (λ can. (run : Run) (cut : Cut) → Shows run cut self.now → IsBehaviorOf run p (B.behavior body.now) → can ≡ goes run cut p) }
+        ensures { IfOk result (λ can. WhereAsked self.now p (B.behavior body.now) (λ run cut. can ≡ goes run cut p)) }
     {
         let proc = &self.procs[p as usize];
         if proc.ends >= self.activations {
             return Ok(false);
         }
-        let event = body.next(
-            alloc,
-            &proc.state,
-            proc.got.as_slice(),
-            proc.done,
-        )?;
+        let event = body.next(alloc, &proc.state, proc.got.as_slice(), proc.done)?;
         Ok(self.can_make(p as usize, &event))
     }
 
@@ -228,9 +226,10 @@ impl Config {
     /// changed. It costs one call of `next`, and no more where much came before.
     pub fn step<B: Body>(&mut self, alloc: Global, p: u32, body: &B) -> Result<bool, AllocError>
         requires { IsAskedWith self.old p (B.behavior body.now) }
-        ensures ok { IfOk result (λ made. (run : Run) (cut : Cut) → Shows run cut self.old → IsBehaviorOf run p (B.behavior body.now) →
-            (made ≡ goes run cut p) × Shows run (stepped run cut p) self.new) }
-        ensures falls { IfOk result (λ made. MatchBool made (events_left self.new < events_left self.old) (IsUnchanged self.old self.new)) }
+        ensures ok { IfOk result (λ made. WhereAsked self.old p (B.behavior body.now) (λ run cut.
+            (made ≡ goes run cut p) × Shows run (stepped run cut p) self.new)) }
+        ensures falls { IfOk result (λ made.
+            MatchBool made (events_left self.new < events_left self.old) (IsUnchanged self.old self.new)) }
         ensures err { OnErr result (IsUnchanged self.old self.new) }
     {
         let progress = &self.procs[p as usize];
@@ -248,8 +247,8 @@ impl Config {
 
     /// What the run has come to, with the bodies of its procs in order.
     pub fn outcome<B: Body>(self, alloc: Global, bodies: &[B]) -> Result<Outcome, AllocError>
-        requires { (run : Run) × (cut : Cut) × Shows run cut self × (behaviors_of run ≡ map B.behavior bodies.now) }
-        ensures { IfOk result (λ outcome. (run : Run) (cut : Cut) → Shows run cut self → behaviors_of run ≡ map B.behavior bodies.now → outcome ≡ outcome_of run cut) }
+        requires { IsRunWith self (map B.behavior bodies.now) }
+        ensures { IfOk result (λ outcome. WhereRun self (map B.behavior bodies.now) (λ run cut. outcome ≡ outcome_of run cut)) }
     {
         let stalls = self.stalls(alloc, bodies)?;
         let Config {
@@ -264,8 +263,9 @@ impl Config {
 
     /// What each proc waits for.
     fn stalls<B: Body>(&self, alloc: Global, bodies: &[B]) -> Result<Vec<Option<Stall>>, AllocError>
-        requires { (run : Run) × (cut : Cut) × Shows run cut self.now × (behaviors_of run ≡ map B.behavior bodies.now) }
-        ensures { IfOk result (λ stalls. (run : Run) (cut : Cut) → Shows run cut self.now → behaviors_of run ≡ map B.behavior bodies.now → stalls.items ≡ indexed (stall_in run cut) 0 run.procs) }
+        requires { IsRunWith self.now (map B.behavior bodies.now) }
+        ensures { IfOk result (λ stalls. WhereRun self.now (map B.behavior bodies.now) (λ run cut.
+            stalls.items ≡ indexed (stall_in run cut) 0 run.procs)) }
     {
         let mut stalls = Vec::new(alloc);
         for (p, body) in bodies.iter().enumerate() {
@@ -277,25 +277,21 @@ impl Config {
     /// What a proc waits for, unless it is done.
     fn stall<B: Body>(&self, alloc: Global, p: usize, body: &B) -> Result<Option<Stall>, AllocError>
         requires { IsAskedWith self.now p (B.behavior body.now) }
-        ensures { IfOk result (λ stall. (run : Run) (cut : Cut) → Shows run cut self.now → (is : IsBehaviorOf run p (B.behavior body.now)) → stall ≡ stall_in run cut p is.0) }
+        ensures { IfOk result (λ stall. (run : Run) (cut : Cut) → Shows run cut self.now →
+            (is : IsBehaviorOf run p (B.behavior body.now)) → stall ≡ stall_in run cut p is.0) }
     {
         let proc = &self.procs[p];
         if proc.ends >= self.activations {
             return Ok(None);
         }
-        let event = body.next(
-            alloc,
-            &proc.state,
-            proc.got.as_slice(),
-            proc.done,
-        )?;
+        let event = body.next(alloc, &proc.state, proc.got.as_slice(), proc.done)?;
         Ok(self.stall_at(p, &event))
     }
 
     /// What a proc waits for at this event.
     fn stall_at(&self, p: usize, event: &Event) -> Option<Stall>
         requires { IsStandingFor self.now p event.now }
-        ensures { (progress : Progress) → slice_get self.now.procs.items p ≡ Some progress → result ≡ stall_for progress.sites progress.ends event.now }
+        ensures { OfProc self.now p (λ progress. result ≡ stall_for progress.sites progress.ends event.now) }
     {
         let activation = self.procs[p].ends;
         match event {
@@ -343,8 +339,8 @@ impl Config {
 
     /// There is a word for a proc's site.
     fn has_word_at(&self, p: usize, site: u32) -> bool
-        requires { (progress : Progress) × (chan : ℕ) × (channel : Channel) × StandsAt self.now p site progress chan channel }
-        ensures { (progress : Progress) (chan : ℕ) (channel : Channel) → StandsAt self.now p site progress chan channel → result ≡ has_word channel }
+        requires { IsPlaced self.now p site }
+        ensures { AtPlace self.now p site (λ progress chan channel. result ≡ has_word channel) }
     {
         let chan = self.chan_of(p, site) as usize;
         self.channels[chan].has_word()
@@ -352,8 +348,8 @@ impl Config {
 
     /// There is room for a word of a proc's site.
     fn has_room_at(&self, p: usize, site: u32) -> bool
-        requires { (progress : Progress) × (chan : ℕ) × (channel : Channel) × StandsAt self.now p site progress chan channel }
-        ensures { (progress : Progress) (chan : ℕ) (channel : Channel) → StandsAt self.now p site progress chan channel → result ≡ has_room channel }
+        requires { IsPlaced self.now p site }
+        ensures { AtPlace self.now p site (λ progress chan channel. result ≡ has_room channel) }
     {
         let chan = self.chan_of(p, site) as usize;
         self.channels[chan].has_room()
@@ -361,16 +357,17 @@ impl Config {
 
     /// The channel of a proc's site.
     fn chan_of(&self, p: usize, site: u32) -> u32
-        requires { (progress : Progress) × (at : Site) × (slice_get self.now.procs.items p ≡ Some progress) × (slice_get progress.sites site ≡ Some at) }
-        ensures { (progress : Progress) (at : Site) → slice_get self.now.procs.items p ≡ Some progress → slice_get progress.sites site ≡ Some at → result ≡ at.chan }
+        requires { HasSite self.now p site }
+        ensures { OfSite self.now p site (λ at. result ≡ at.chan) }
     {
         self.procs[p].sites.as_slice()[site as usize].chan
     }
 
     /// A proc receives the next word of its site's channel.
     fn receive(&mut self, p: usize, site: u32, chan: usize) -> Result<(), AllocError>
-        requires { (progress : Progress) × (channel : Channel) × StandsAt self.old p site progress chan channel × IsTrue (has_word channel) }
-        ensures ok { OnOk result ((progress : Progress) (channel : Channel) → StandsAt self.old p site progress chan channel → (word : Word) × Receives self.old self.new p site progress chan channel word) }
+        requires { IsPlacedOn self.old p site chan (λ channel. IsTrue (has_word channel)) }
+        ensures ok { OnOk result (AtPlaceOn self.old p site chan (λ progress channel.
+            ((word : Word) × Receives self.old self.new p site progress chan channel word))) }
         ensures err { OnErr result (IsUnchanged self.old self.new) }
     {
         let progress = &mut self.procs[p];
@@ -384,8 +381,9 @@ impl Config {
 
     /// A proc receives at a site, if there is a word.
     fn try_receive(&mut self, p: usize, site: u32) -> Result<bool, AllocError>
-        requires { (progress : Progress) × (chan : ℕ) × (channel : Channel) × StandsAt self.old p site progress chan channel }
-        ensures ok { IfOk result (λ made. (progress : Progress) (chan : ℕ) (channel : Channel) → StandsAt self.old p site progress chan channel → TriesReceive self.old self.new p site progress chan channel made) }
+        requires { IsPlaced self.old p site }
+        ensures ok { IfOk result (λ made. AtPlace self.old p site (λ progress chan channel.
+            TriesReceive self.old self.new p site progress chan channel made)) }
         ensures err { OnErr result (IsUnchanged self.old self.new) }
     {
         let chan = self.chan_of(p, site) as usize;
@@ -398,8 +396,9 @@ impl Config {
 
     /// A proc sends a word at a site.
     fn send(&mut self, p: usize, site: u32, chan: usize, word: Bits) -> Result<(), AllocError>
-        requires { (progress : Progress) × (channel : Channel) × StandsAt self.old p site progress chan channel }
-        ensures ok { OnOk result ((progress : Progress) (channel : Channel) → StandsAt self.old p site progress chan channel → Sends self.old self.new p site progress chan channel word) }
+        requires { IsPlacedOn self.old p site chan (λ _. ⊤) }
+        ensures ok { OnOk result (AtPlaceOn self.old p site chan (λ progress channel.
+            Sends self.old self.new p site progress chan channel word)) }
         ensures err { OnErr result (IsUnchanged self.old self.new) }
     {
         let channel = &mut self.channels[chan];
@@ -411,8 +410,9 @@ impl Config {
 
     /// A proc sends a word at a site, if there is room.
     fn try_send(&mut self, p: usize, site: u32, word: Bits) -> Result<bool, AllocError>
-        requires { (progress : Progress) × (chan : ℕ) × (channel : Channel) × StandsAt self.old p site progress chan channel }
-        ensures ok { IfOk result (λ made. (progress : Progress) (chan : ℕ) (channel : Channel) → StandsAt self.old p site progress chan channel → TriesSend self.old self.new p site progress chan channel word made) }
+        requires { IsPlaced self.old p site }
+        ensures ok { IfOk result (λ made. AtPlace self.old p site (λ progress chan channel.
+            TriesSend self.old self.new p site progress chan channel word made)) }
         ensures err { OnErr result (IsUnchanged self.old self.new) }
     {
         let chan = self.chan_of(p, site) as usize;
@@ -426,7 +426,7 @@ impl Config {
     /// An activation of a proc ends with a state, and its next one begins.
     fn end(&mut self, alloc: Global, p: usize, state: Value)
         requires { (progress : Progress) × (slice_get self.old.procs.items p ≡ Some progress) × (progress.ends + 1 < 2 ^ 32) }
-        ensures { (progress : Progress) → slice_get self.old.procs.items p ≡ Some progress → Ends self.old self.new p progress state }
+        ensures { OfProc self.old p (λ progress. Ends self.old self.new p progress state) }
     {
         let progress = &mut self.procs[p];
         progress.state = state;

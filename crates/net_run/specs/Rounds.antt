@@ -1,15 +1,9 @@
 -- What going round the procs does to a configuration.
-use Rattle.std.specs.Prelude.{◌≡◌, ◌<◌, ℕ, Bool, true, false, List}
+use Rattle.std.specs.Prelude.{◌≡◌, ◌<◌, ℕ, Bool, true, false}
 use Rattle.net_core.specs.declared.config.Config.{Config}
-use Rattle.net_core.specs.Behavior.{Behavior}
 use Rattle.net_core.specs.Cuts.{Run, Cut}
 use Rattle.net_core.specs.Machine.{goes}
-use Rattle.net_core.specs.Outcomes.{behaviors_of}
 use Rattle.net_core.specs.Shows.{Shows}
-
--- the configuration is one of a run in which the procs do this
-abbrev pub IsRunWith : Config → List Behavior → Type 0
-IsRunWith config behaviors = (run : Run) × (cut : Cut) × Shows run cut config × (behaviors_of run ≡ behaviors)
 
 -- a proc was let go: where it made no event, it can't go and the cut is the same
 abbrev pub Advances : Run → Cut → ℕ → Config → Bool → Type 0

@@ -10,6 +10,7 @@ ghost use Rattle.net_core.specs.Cuts.{Proc, Run, Cut, IsFront, IsWithin, empty_c
 ghost use Rattle.net_core.specs.Machine.{goes, opened, next_of, position_after, after_steps};
 ghost use Rattle.net_core.specs.Shows.{Shows};
 ghost use Rattle.net_core.specs.declared.config.Config.{Config};
+ghost use Rattle.net_run.specs.Counted.{IsCounted};
 ghost use Rattle.net_run.specs.Typed.{EventFits};
 
 /// A round no longer changes the final cut, nor the unbounded one.
@@ -25,19 +26,31 @@ pub fn steps_stay_within()
 
 /// Steps after which no proc can go have come to the final cut, whatever their order.
 pub fn steps_end_at_the_final_cut()
-    ensures { (run : Run) (steps : List ℕ) → ((p : ℕ) → p < length run.procs → goes run (after_steps run empty_cut steps) p ≡ false) →
+    ensures { (run : Run) (steps : List ℕ) →
+        ((p : ℕ) → p < length run.procs → goes run (after_steps run empty_cut steps) p ≡ false) →
         after_steps run empty_cut steps ≡ final_cut run }
 {}
 
 /// A configuration in which no proc can go shows the final cut.
 pub fn stuck_shows_the_final_cut()
-    ensures { (run : Run) (cut : Cut) (config : Config) → Shows run cut config → ((p : ℕ) → p < length run.procs → goes run cut p ≡ false) →
+    ensures { (run : Run) (cut : Cut) (config : Config) → Shows run cut config →
+        ((p : ℕ) → p < length run.procs → goes run cut p ≡ false) →
         Shows run (final_cut run) config }
+{}
+
+/// A cut in which no proc can go is the final cut also where no order of the events is known, and only this: each proc
+/// has made a front of its trace over the words of the final cut, has sent no more than there, has received only what
+/// was sent, and has sent only what had room.
+pub fn counted_cuts_end_at_the_final_cut()
+    ensures { (run : Run) (cut : Cut) → IsCounted run cut →
+        ((p : ℕ) → p < length run.procs → goes run cut p ≡ false) →
+        cut ≡ final_cut run }
 {}
 
 /// Longer histories give a longer trace.
 pub fn traces_grow()
-    ensures { (b : Behavior) (n : ℕ) (state : Value) (words more : Histories) → ((c : ℕ) → IsFront (words c) (more c)) →
+    ensures { (b : Behavior) (n : ℕ) (state : Value) (words more : Histories) →
+        ((c : ℕ) → IsFront (words c) (more c)) →
         IsFront (trace b n state words) (trace b n state more) }
 {}
 
@@ -51,5 +64,6 @@ pub fn next_is_the_traces()
 /// A body's next event is at a site of that direction, what it sends has its channel's width, and the next state has
 /// the type of the states.
 pub fn next_keeps_types()
-    ensures { (b : Behavior) → KeepsTypes b → (state : Value) (got : List Word) (done : ℕ) → IsOpen b state got done → EventFits b (next_event b state got done) }
+    ensures { (b : Behavior) → KeepsTypes b → (state : Value) (got : List Word) (done : ℕ) →
+        IsOpen b state got done → EventFits b (next_event b state got done) }
 {}

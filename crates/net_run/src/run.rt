@@ -3,8 +3,8 @@ ghost use Rattle.net_core.specs.Cuts.{Run, Cut, final_cut};
 ghost use Rattle.net_core.specs.Machine.{goes};
 ghost use Rattle.net_core.specs.Outcomes.{behaviors_of, outcome_of};
 ghost use Rattle.net_core.specs.WellFormed.{IsNet, IsInputs, IsDepths, AreBehaviorsOf, run_of};
-ghost use Rattle.net_core.specs.Shows.{Shows, IsAskedWith, IsBehaviorOf, events_left};
-ghost use Rattle.net_run.specs.Rounds.{IsRunWith, Advances, Passes};
+ghost use Rattle.net_core.specs.Shows.{Shows, IsAskedWith, WhereAsked, IsRunWith, WhereRun, events_left};
+ghost use Rattle.net_run.specs.Rounds.{Advances, Passes};
 
 use net_core::{Body, Config, Inputs, Net, Outcome};
 use std::alloc::{AllocError, Global};
@@ -37,7 +37,7 @@ pub fn run_one<B: Body>(
 /// Goes round the procs until a round makes no event.
 fn run_to_end<B: Body>(alloc: Global, config: &mut Config, bodies: &[B]) -> Result<(), AllocError>
     requires { IsRunWith config.old (map B.behavior bodies.now) }
-    ensures { OnOk result ((run : Run) (cut : Cut) → Shows run cut config.old → behaviors_of run ≡ map B.behavior bodies.now → Shows run (final_cut run) config.new) }
+    ensures { OnOk result (WhereRun config.old (map B.behavior bodies.now) (λ run cut. Shows run (final_cut run) config.new)) }
 {
     while round(alloc, config, bodies)? {}
     Ok(())
@@ -46,8 +46,10 @@ fn run_to_end<B: Body>(alloc: Global, config: &mut Config, bodies: &[B]) -> Resu
 /// Each proc in turn makes all events that it can, and the answer is whether there was one.
 fn round<B: Body>(alloc: Global, config: &mut Config, bodies: &[B]) -> Result<bool, AllocError>
     requires { IsRunWith config.old (map B.behavior bodies.now) }
-    ensures passes { IfOk result (λ moved. (run : Run) (cut : Cut) → Shows run cut config.old → behaviors_of run ≡ map B.behavior bodies.now → Passes run cut (length bodies.now) config.new moved) }
-    ensures falls { IfOk result (λ moved. MatchBool moved (events_left config.new < events_left config.old) (events_left config.new ≡ events_left config.old)) }
+    ensures passes { IfOk result (λ moved. WhereRun config.old (map B.behavior bodies.now) (λ run cut.
+        Passes run cut (length bodies.now) config.new moved)) }
+    ensures falls { IfOk result (λ moved.
+        MatchBool moved (events_left config.new < events_left config.old) (events_left config.new ≡ events_left config.old)) }
 {
     let mut moved = false;
     for (p, body) in bodies.iter().enumerate() {
@@ -66,8 +68,10 @@ fn advance<B: Body>(
     body: &B,
 ) -> Result<bool, AllocError>
     requires { IsAskedWith config.old p (B.behavior body.now) }
-    ensures advances { IfOk result (λ moved. (run : Run) (cut : Cut) → Shows run cut config.old → IsBehaviorOf run p (B.behavior body.now) → Advances run cut p config.new moved) }
-    ensures falls { IfOk result (λ moved. MatchBool moved (events_left config.new < events_left config.old) (events_left config.new ≡ events_left config.old)) }
+    ensures advances { IfOk result (λ moved. WhereAsked config.old p (B.behavior body.now) (λ run cut.
+        Advances run cut p config.new moved)) }
+    ensures falls { IfOk result (λ moved.
+        MatchBool moved (events_left config.new < events_left config.old) (events_left config.new ≡ events_left config.old)) }
 {
     let mut went = false;
     while config.step(alloc, p, body)? {

@@ -8,7 +8,7 @@ send-requires c =
     let st = c.requires.3 in
     let chan = c.chan_of-chan.ensures c.requires.0 st.at st.proc st.site_is in
     let here = sym (chan ∙ st.chan_is) in
-    (c.requires.0, c.requires.2, subst (λ k. StandsAt c.args.self.now c.args.p c.args.site c.requires.0 k c.requires.2) here st)
+    (c.requires.0, c.requires.2, subst (λ k. StandsAt c.args.self.now c.args.p c.args.site c.requires.0 k c.requires.2) here st, tt)
 
 pub returns-clause-ok : goal.returns-clause-ok
 returns-clause-ok c progress chan channel st =

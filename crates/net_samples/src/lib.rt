@@ -1,0 +1,13 @@
+//! Small procs made of data, for the tests of whatever runs networks.
+#![tactic(auto)]
+
+mod asking;
+mod body;
+mod checks;
+mod sample;
+#[cfg(test)]
+mod tests;
+
+pub use asking::ask_and_step;
+pub use checks::{bodies_fit, depths_fit, inputs_fit, net_fits};
+pub use sample::{Port, Sample, Source, Step, When};
