@@ -21,6 +21,8 @@ Reader = List Token → Answer
 abbrev pub Answers : Type 0
 Answers = Result (List Value × List Token) ℕ
 
+-- Numbers and brackets are read from the front. What no text spells, as a bracket that closes nothing, has the fault 0.
+
 -- how many values stand before the bracket that closes, `depth` brackets being open
 abbrev pub parts_at : ℕ → List Token → ℕ
 parts_at depth [] = 0
