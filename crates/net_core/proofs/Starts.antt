@@ -149,7 +149,7 @@ module _ (net : Net) (well : IsNet net) (bs : List Behavior) (fit : AreBehaviors
         record {
           chan = chan.0;
           chan_is = chan.1;
-          width = (behavior_fits p proc z).widths site.chan chan.0 chan.1;
+          width = (behavior_fits p proc z).widths i site chan.0 (ap (λ ss. slice_get ss i) (sym (behavior_fits p proc z).sites) ∙ at.place) chan.1;
           sends = λ s. is_sender p i proc site at.proc_is at.place s;
           no_send = λ s. well.no_send p i site chan.0 in_net s chan.1;
           receives = λ s. is_receiver p i proc site at.proc_is at.place s;

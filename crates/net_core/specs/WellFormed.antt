@@ -57,7 +57,7 @@ pub record IsDepths (net : Net) (depths : List ℕ) : Type 0 where
 pub record IsBehaviorFor (net : Net) (head : ProcHead) (b : Behavior) : Type 0 where
   pub state : b.state ≡ head.state
   pub sites : b.sites ≡ head.sites
-  pub widths : (c : ℕ) (chan : Chan) → slice_get net.chans c ≡ Some chan → b.width c ≡ width_of chan.ty
+  pub widths : (i : ℕ) (site : Site) (chan : Chan) → slice_get head.sites i ≡ Some site → slice_get net.chans site.chan ≡ Some chan → b.width site.chan ≡ width_of chan.ty
 
 -- what each proc of a network does, in order
 pub record AreBehaviorsOf (net : Net) (behaviors : List Behavior) : Type 0 where

@@ -275,7 +275,7 @@ are_behaviors net samples chans h =
           let fits : IsBehaviorFor net head (behavior_of at.0) = record {
             state = sym (width_type at.0.step) ∙ sym (bits_at head.state (width_after at.0.step) t.0);
             sites = sites_same head.sites at.0.ports t.1;
-            widths = λ c chan g. sym (chan_is chan (all_at chan_fits net.chans c chan chans g)).0;
+            widths = λ i site chan place g. sym (chan_is chan (all_at chan_fits net.chans site.chan chan chans g)).0;
           } in
           subst (λ (x : Behavior). IsBehaviorFor net head x) at.1 fits;
     }
