@@ -1,4 +1,5 @@
-ghost use Rattle.std.specs.Prelude.{◌≡◌, ℕ, ◌+◌, ◌≤◌, [], ◌++◌, Some, IfOk, length, vec_len, vec_capacity};
+ghost use Rattle.std.specs.Prelude.{◌≡◌, ℕ, ◌+◌, ◌≤◌, [], ◌++◌, Some, IfOk, IsOk, OnOk, OnErr, false, ◌==◌, length, vec_len, vec_capacity};
+ghost use Rattle.std.specs.List.{list_any};
 ghost use Rattle.xb_io.specs.Counts.{HasRisen};
 ghost use Rattle.xb_io.specs.Written.{Appends, AppendsFront};
 
@@ -40,16 +41,26 @@ impl Sink for MemSink {
 
     ghost faults = { λ it. it.faults };
 
-    fn put(&mut self, piece: &[u8]) -> Result<(), Failed> {
+    fn put(&mut self, piece: &[u8]) -> Result<(), Failed>
+        ensures faults_never_fall { self.old.faults ≤ self.new.faults }
+        ensures ok { OnOk result (Appends (Some self.old.bytes.items) (Some self.new.bytes.items) piece.now) }
+        ensures failed { OnErr result (AppendsFront (Some self.old.bytes.items) (Some self.new.bytes.items) piece.now) }
+        ensures failed_by_fault { OnErr result (HasRisen self.old.faults self.new.faults) }
+
+        // What has room is taken, but by a call that is to fail.
+        ensures takes_what_fits { list_any (λ call. call == self.old.calls) self.old.failing.items ≡ false →
+            vec_len self.old.bytes + length piece.now ≤ self.old.room → IsOk result }
+    {
         let call = self.calls;
         self.calls = call.saturating_add(1);
         let fails = self.failing.contains(&call);
         let free = self.room - self.bytes.len();
-        let front = if fails { 0 } else { piece.len().min(free) };
-        self.bytes.extend_from_slice(&piece[..front]).unwrap();
-        if front == piece.len() && !fails {
+        if !fails && piece.len() <= free {
+            self.bytes.extend_from_slice(piece).unwrap();
             return Ok(());
         }
+        let front = if fails { 0 } else { free };
+        self.bytes.extend_from_slice(&piece[..front]).unwrap();
         self.faults = self.faults.saturating_add(1);
         Err(Failed)
     }
