@@ -1,0 +1,6 @@
+-- one list stands at the front of another
+pub mod Front
+-- the first place at which a list leaves a language
+pub mod Fault
+-- a function of each element and its place
+pub mod Indexed
