@@ -4,7 +4,7 @@ use Rattle.std.specs.Prelude.{not}
 use Rattle.std.specs.List.{list_all}
 use Rattle.std.proofs.lemmas.Bool.{and_parts, cond-true, cond-false, eq-eqb, not-true}
 use Rattle.std.proofs.lemmas.List.{length-drop, length-take-le}
-use Rattle.texts.specs.inner.Split.{IsSplit}
+use Rattle.texts.specs.Inner.Split.{IsSplit}
 use Rattle.texts.specs.Lines.{lines_of, before_lines, placed}
 
 -- bytes without LF

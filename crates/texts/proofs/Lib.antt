@@ -1,3 +1,3 @@
-pub mod Laws
+pub mod Lemmas
 pub mod Cuts
 pub mod Digits

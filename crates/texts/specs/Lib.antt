@@ -5,4 +5,4 @@ pub mod Hexadecimal
 -- words of letters, digits and `_`
 pub mod Words
 -- contracts of private functions
-pub mod inner
+pub mod Inner

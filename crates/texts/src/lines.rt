@@ -2,7 +2,7 @@
 
 ghost use Rattle.std.specs.Prelude.{◌≡◌, ◌∷◌, [], MatchOption};
 ghost use Rattle.texts.specs.Lines.{lines_of, placed};
-ghost use Rattle.texts.specs.inner.Split.{IsSplit};
+ghost use Rattle.texts.specs.Inner.Split.{IsSplit};
 
 use std::marker::Model;
 
@@ -23,7 +23,7 @@ pub struct Lines<'a> {
 impl<'a> Model for Lines<'a> {
     ghost use Rattle.std.specs.Prelude.{◌+◌, ◌<◌, ◌^◌, List, ℕ, length};
     ghost use Rattle.texts.specs.Lines.{lines_of, placed};
-    ghost use Rattle.texts.specs.inner.Split.{IsSplit};
+    ghost use Rattle.texts.specs.Inner.Split.{IsSplit};
 
     ghost Value = { List (ℕ × List ℕ) };
 

@@ -1,7 +1,7 @@
 use Rattle.std.proofs.Common.{◌≡◌, ◌≢◌, ◌+◌, true, take, length, arith, [], subst, sym, ◌∙◌}
 use Rattle.std.proofs.lemmas.Grind.{common_steps}
 use Rattle.std.proofs.lemmas.List.{take_rest, take_all, drop_all}
-use Rattle.texts.specs.inner.Split.{IsSplit}
+use Rattle.texts.specs.Inner.Split.{IsSplit}
 use Rattle.texts.proofs.Cuts.{is_one_line, cut_at, cut_whole}
 use Rattle.texts.proofs.lines.split_line.Goals as goal
 
