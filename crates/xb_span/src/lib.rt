@@ -3,6 +3,7 @@
 //! Every reader and checker of the compiler answers one of these.
 #![tactic(auto)]
 
+pub mod laws;
 mod limit;
 mod read_error;
 mod span;

@@ -1,10 +1,10 @@
 ghost use Rattle.std.specs.Prelude.{◌≡◌, Some};
-ghost use Rattle.xb_span.specs.Limit.{word_of};
+ghost use Rattle.xb_span.specs.Limit.{place_of, word_of};
 
 use std::fmt;
 
 /// What a limit counts, in the order in which limits at one place are looked at.
-#[derive(Clone, Copy, Debug, PartialEq, Eq, PartialOrd, Ord, Hash)]
+#[derive(Clone, Copy, Debug, PartialEq, Eq, Hash)]
 pub enum What {
     /// Bytes of a file.
     File,
@@ -37,6 +37,13 @@ pub enum What {
 }
 
 impl What {
+    /// Its place among the limits: of those that one end passes, the first is named.
+    pub fn place(self) -> u8
+        ensures { result ≡ place_of self }
+    {
+        self as u8
+    }
+
     /// The word that messages name it by.
     pub fn word(self) -> &'static str
         ensures { result.now ≡ word_of self }
@@ -70,14 +77,14 @@ impl fmt::Display for What {
 }
 
 /// A quantity that passed its limit: `found` of it, where at most `most` are taken.
-#[derive(Clone, Copy, Debug, PartialEq, Eq, PartialOrd, Ord, Hash)]
+#[derive(Clone, Copy, Debug, PartialEq, Eq, Hash)]
 pub struct Limit {
     pub what: What,
     pub found: u64,
     pub most: u64,
 }
 
-/// `limit WHAT: FOUND, at most MOST`
+/// `limit WHAT: FOUND, at most MOST`; an error means that the writer refused.
 impl fmt::Display for Limit {
     ghost use Rattle.xb_span.specs.LimitText.{limit_text};
 

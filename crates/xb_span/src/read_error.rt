@@ -1,10 +1,11 @@
-ghost use Rattle.std.specs.Prelude.{◌≡◌};
+ghost use Rattle.std.specs.Prelude.{◌≡◌, Some};
 ghost use Rattle.xb_span.specs.declared.read_error.ReadError.{ReadError};
 ghost use Rattle.xb_span.specs.declared.read_error.ReadError.TheVariants.{OutOfMemory};
 
 use crate::limit::Limit;
 use crate::span::{Rule, Span};
-use std::alloc::AllocError;
+use std::alloc::{AllocError, AllocFailed};
+use std::fmt;
 
 /// Why a text is refused.
 #[derive(Clone, Copy, Debug, PartialEq, Eq)]
@@ -24,5 +25,30 @@ impl From<AllocError> for ReadError {
 
     fn from(_error: AllocError) -> ReadError {
         ReadError::OutOfMemory
+    }
+}
+
+impl<T: Drop> From<AllocFailed<T>> for ReadError {
+    ghost from_gives = { λ _ e. e ≡ ReadError.OutOfMemory };
+
+    fn from(_error: AllocFailed<T>) -> ReadError {
+        ReadError::OutOfMemory
+    }
+}
+
+/// What a message says behind the file's name: `syntax at AT`, `rule R at FROM..TO`, `limit WHAT: FOUND, at most MOST`
+/// or `out of memory`. An error means that the writer refused.
+impl fmt::Display for ReadError {
+    ghost use Rattle.xb_span.specs.RefusalText.{refusal_text};
+
+    ghost output = { λ e. Some (refusal_text e) };
+
+    fn fmt<W: fmt::Write>(&self, f: &mut fmt::Formatter<W>) -> fmt::Result {
+        match self {
+            ReadError::Syntax(at) => write!(f, "syntax at {at}"),
+            ReadError::Broken(rule, span) => write!(f, "{rule} at {span}"),
+            ReadError::Over(limit) => write!(f, "{limit}"),
+            ReadError::OutOfMemory => f.write_str("out of memory"),
+        }
     }
 }

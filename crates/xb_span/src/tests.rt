@@ -2,6 +2,7 @@
 
 use super::*;
 use std::alloc::AllocError;
+use std::fmt::{self, Write};
 use std::test::Fail;
 
 #[test]
@@ -26,10 +27,29 @@ fn what_prints_its_word(rt: HostRuntime) -> Result<(), Fail> {
 }
 
 #[test]
-fn limits_stand_in_their_order(rt: HostRuntime) {
-    assert!(rt; What::File < What::Nesting);
-    assert!(rt; What::Levels < What::Word);
-    assert!(rt; What::Channels < What::Cycles);
+fn refusals_print_their_lines(rt: HostRuntime) -> Result<(), Fail> {
+    let place = Span { from: 59, to: 71 };
+    let broken = ReadError::Broken(Rule(12), place);
+    let syntax = ReadError::Syntax(6);
+    let text = format!(in rt.alloc(); "{syntax}, {broken}")?;
+    assert_eq!(rt; text.as_str(), "syntax at 6, rule 12 at 59..71");
+    Ok(())
+}
+
+/// A writer that refuses.
+#[derive(Drop)]
+struct Refuses;
+
+impl Write for Refuses {
+    fn write_str(&mut self, _text: &str) -> fmt::Result {
+        Err(fmt::Error)
+    }
+}
+
+#[test]
+fn a_writer_that_refuses_is_told(rt: HostRuntime) {
+    let memory = ReadError::OutOfMemory;
+    assert!(rt; write!(Refuses, "{memory}").is_err());
 }
 
 #[test]
