@@ -1,6 +1,7 @@
+-- What is printed of an error.
 use Rattle.std.specs.Prelude.{ℕ, List, ◌++◌, codes, decimal}
-use Rattle.xb_io.specs.declared.load.LoadError.{LoadError}
-use Rattle.xb_io.specs.declared.load.LoadError.TheVariants.{OutOfMemory, TooBig, Failed}
+use Rattle.xb_io.specs.declared.files.LoadError.{LoadError}
+use Rattle.xb_io.specs.declared.files.LoadError.TheVariants.{OutOfMemory, TooBig, Failed}
 
 -- what is printed of an error
 abbrev pub load_error_text : LoadError → List ℕ

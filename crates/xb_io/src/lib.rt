@@ -3,23 +3,28 @@
 //!
 //! Each is a trait whose contract says what a caller may rely on, and which faults it has to expect.
 //! There are two kinds of implementation: in memory, where the contract tells the content, and over the
-//! real file system and streams, where it tells nothing but when a call fails.
+//! real file system and streams, where it tells what was asked for and when a call fails.
 //!
 //! Cost: a load and a put are linear in the bytes that they move.
 #![tactic(auto)]
 
-mod enter;
-mod host;
-mod load;
+mod asked;
+mod failing;
+mod files;
+mod gate;
+mod host_files;
 mod memory_files;
 mod memory_sink;
-mod put;
+mod sink;
+mod stream_sink;
 #[cfg(test)]
 mod tests;
 
-pub use enter::{Gate, OpenGate};
-pub use host::{HostFiles, StreamSink};
-pub use load::{FILE_LIMIT, Files, LoadError};
+pub use asked::Asked;
+pub use files::{FILE_LIMIT, Files, LoadError};
+pub use gate::{Gate, OpenGate};
+pub use host_files::HostFiles;
 pub use memory_files::{FaultFreeFiles, MemFile, MemFiles};
 pub use memory_sink::MemSink;
-pub use put::{Failed, Sink};
+pub use sink::{Failed, Sink};
+pub use stream_sink::StreamSink;

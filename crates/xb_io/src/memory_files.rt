@@ -1,10 +1,13 @@
-ghost use Rattle.std.specs.Prelude.{◌≡◌, ℕ, ◌+◌, ◌<◌, ◌≤◌, Some, None, IfOk, IfErr, OnOk, length, vec_len, string_bytes};
+ghost use Rattle.std.specs.Prelude.{◌≡◌, ℕ, ◌+◌, ◌<◌, ◌≤◌, ◌==◌, ◌∷◌, ◌++◌, [], true, false, Some, None, Ok, Err, IfOk, IfErr, IfSome, OnOk, OnErr, IsSomeAnd, length, vec_len, string_bytes};
 ghost use Rattle.std.specs.Option.{option_map};
-ghost use Rattle.xb_io.specs.Counts.{HasRisenBy};
-ghost use Rattle.xb_io.specs.LoadError.{IfFailed, IfTooBig};
+ghost use Rattle.xb_io.specs.Failing.{is_listed};
+ghost use Rattle.xb_io.specs.Counts.{HasRisen, HasRisenBy, raised_by};
+ghost use Rattle.xb_io.specs.LoadError.{IfFailed, IfTooBig, UnlessFailed};
 ghost use Rattle.xb_io.specs.MemFile.{contents_of, contents_or_empty};
 
-use crate::load::{FILE_LIMIT, Files, LoadError};
+use crate::asked::Asked;
+use crate::failing::is_listed;
+use crate::files::{FILE_LIMIT, Files, LoadError};
 use std::alloc::{AllocError, Global};
 
 /// A file in memory.
@@ -33,18 +36,23 @@ pub struct MemFiles {
     pub files: Vec<MemFile>,
     pub failing: Vec<u64>,
     pub calls: u64,
+    pub asked: Asked,
     pub faults: u64,
     pub taken: u64,
 }
 
 impl MemFiles {
     pub fn new(files: Vec<MemFile>, failing: Vec<u64>) -> MemFiles
-        ensures { result ≡ record { files = files; failing = failing; calls = 0; faults = 0; taken = 0 } }
+        ensures files { result.files ≡ files }
+        ensures failing { result.failing ≡ failing }
+        ensures asked { result.asked.names ≡ [] }
+        ensures counts { (result.calls ≡ 0) × (result.faults ≡ 0) × (result.taken ≡ 0) }
     {
         MemFiles {
             files,
             failing,
             calls: 0,
+            asked: Asked::new(),
             faults: 0,
             taken: 0,
         }
@@ -54,20 +62,47 @@ impl MemFiles {
 impl Files for MemFiles {
     ghost told = { λ it. Some (contents_of it.files.items) };
 
+    ghost asked = { λ it. it.asked.names };
+
     ghost faults = { λ it. it.faults };
 
     ghost taken = { λ it. it.taken };
 
-    fn load(&mut self, alloc: Global, name: &str) -> Result<Vec<u8>, LoadError> {
+    fn load(&mut self, alloc: Global, name: &str) -> Result<Vec<u8>, LoadError>
+        ensures told_stays { Some (contents_of self.new.files.items) ≡ Some (contents_of self.old.files.items) }
+        ensures asks { self.new.asked.names ≡ self.old.asked.names ++ name.now ∷ [] }
+        ensures faults_never_fall { self.old.faults ≤ self.new.faults }
+        ensures taken_never_falls { self.old.taken ≤ self.new.taken }
+
+        ensures ok_within_limit { IfOk result (λ bytes. vec_len bytes ≤ FILE_LIMIT) }
+        ensures ok_as_told { IfOk result (λ bytes. IfSome (Some (contents_of self.old.files.items)) (λ holds. holds name.now ≡ Some bytes.items)) }
+        ensures ok_taken { IfOk result (λ bytes. self.new.taken ≡ raised_by (vec_len bytes) self.old.taken) }
+        ensures ok_without_fault { OnOk result (self.new.faults ≡ self.old.faults) }
+        ensures failed { IfErr result (λ e. IfFailed e (HasRisen self.old.faults self.new.faults)) }
+        ensures unless_failed { IfErr result (λ e. UnlessFailed e (self.new.faults ≡ self.old.faults)) }
+        ensures too_big { IfErr result (λ e. IfTooBig e (λ found. found ≡ FILE_LIMIT + 1)) }
+        ensures too_big_taken { IfErr result (λ e. IfTooBig e (λ _. HasRisenBy (FILE_LIMIT + 1) self.old.taken self.new.taken)) }
+        ensures too_big_as_told { IfErr result (λ e. IfTooBig e (λ _.
+            IfSome (Some (contents_of self.old.files.items)) (λ holds. IsSomeAnd (holds name.now) (λ bytes. FILE_LIMIT < length bytes)))) }
+
+        // Each call counts. A listed one fails, and no other call for a file that is there does.
+        ensures calls { self.new.calls ≡ raised_by 1 self.old.calls }
+        ensures failing_stays { self.new.failing ≡ self.old.failing }
+        ensures listed_fails { is_listed self.old.failing.items self.old.calls ≡ true → result ≡ Err LoadError.Failed }
+        ensures held_is_given { is_listed self.old.failing.items self.old.calls ≡ false →
+            IfSome (contents_of self.old.files.items name.now) (λ _. IfErr result (λ e. IfFailed e ⊥)) }
+        ensures failed_takes_nothing { IfErr result (λ e. IfFailed e (self.new.taken ≡ self.old.taken)) }
+    {
         let call = self.calls;
         self.calls = call.saturating_add(1);
-        if !self.failing.contains(&call)
-            && let Some(file) = find(&self.files, name)
-        {
-            return copy_within_limit(alloc, &file.bytes, &mut self.taken);
+        self.asked.note(name.as_bytes());
+        if is_listed(&self.failing, call) {
+            return Err(fault(&mut self.faults));
         }
-        self.faults = self.faults.saturating_add(1);
-        Err(LoadError::Failed)
+        match find(&self.files, name) {
+            Some(file) => copy_within_limit(alloc, &file.bytes, &mut self.taken),
+            None => Err(fault(&mut self.faults)),
+        }
     }
 }
 
@@ -75,28 +110,38 @@ impl Files for MemFiles {
 #[derive(Drop)]
 pub struct FaultFreeFiles {
     pub files: Vec<MemFile>,
+    pub asked: Asked,
     pub taken: u64,
 }
 
 impl FaultFreeFiles {
     pub fn new(files: Vec<MemFile>) -> FaultFreeFiles
-        ensures { result ≡ record { files = files; taken = 0 } }
+        ensures files { result.files ≡ files }
+        ensures asked { result.asked.names ≡ [] }
+        ensures taken { result.taken ≡ 0 }
     {
-        FaultFreeFiles { files, taken: 0 }
+        FaultFreeFiles {
+            files,
+            asked: Asked::new(),
+            taken: 0,
+        }
     }
 }
 
 impl Files for FaultFreeFiles {
     ghost told = { λ it. Some (contents_or_empty it.files.items) };
 
+    ghost asked = { λ it. it.asked.names };
+
     ghost faults = { λ _. 0 };
 
     ghost taken = { λ it. it.taken };
 
     fn load(&mut self, alloc: Global, name: &str) -> Result<Vec<u8>, LoadError> {
+        self.asked.note(name.as_bytes());
         match find(&self.files, name) {
             Some(file) => copy_within_limit(alloc, &file.bytes, &mut self.taken),
-            None => Ok(Vec::new(alloc)),
+            None => copy_within_limit(alloc, &[], &mut self.taken),
         }
     }
 }
@@ -113,10 +158,21 @@ fn find<'a>(files: &'a [MemFile], name: &str) -> Option<&'a MemFile>
     None
 }
 
+/// A fault of the outside, which is counted.
+fn fault(faults: &mut u64) -> LoadError
+    ensures result_is { result ≡ LoadError.Failed }
+    ensures counted { faults.new ≡ raised_by 1 faults.old }
+    ensures never_falls { faults.old ≤ faults.new }
+{
+    *faults = faults.saturating_add(1);
+    LoadError::Failed
+}
+
 /// A copy of a file's bytes, which counts those that it takes.
 fn copy_within_limit(alloc: Global, bytes: &[u8], taken: &mut u64) -> Result<Vec<u8>, LoadError>
     ensures copy { IfOk result (λ copy. copy.items ≡ bytes.now) }
     ensures within_limit { OnOk result (length bytes.now ≤ FILE_LIMIT) }
+    ensures ok_taken { OnOk result (taken.new ≡ raised_by (length bytes.now) taken.old) }
     ensures taken_never_falls { taken.old ≤ taken.new }
     ensures not_failed { IfErr result (λ e. IfFailed e ⊥) }
     ensures too_big { IfErr result (λ e. IfTooBig e (λ found.

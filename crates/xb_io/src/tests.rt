@@ -4,6 +4,7 @@ use crate::{
 };
 use std::alloc::Global;
 use std::fs;
+use std::io::{self, Write};
 use std::test::Fail;
 
 fn two_files(alloc: Global) -> Result<Vec<MemFile>, Fail> {
@@ -82,22 +83,62 @@ fn real_files_are_read(rt: HostRuntime) -> Result<(), Fail> {
     fs::write(&rt, path, vec![in alloc; b' '; FILE_LIMIT + 1]?)?;
     assert_eq!(rt;
         files.load(alloc, path).err(),
-        Some(LoadError::TooBig(4_194_305))
+        Some(LoadError::TooBig(FILE_LIMIT as u64 + 1))
     );
     fs::remove_file(&rt, path)?;
     assert_eq!(rt; files.load(alloc, path).err(), Some(LoadError::Failed));
     Ok(())
 }
 
+/// A stream that takes a few bytes at a time, and keeps them back until it is flushed.
+#[derive(Drop)]
+struct SlowStream {
+    at_a_time: usize,
+    kept_back: Vec<u8>,
+    bytes: Vec<u8>,
+}
+
+impl Write for SlowStream {
+    fn write(&mut self, buf: &[u8]) -> io::Result<usize> {
+        let count = self.at_a_time.min(buf.len());
+        self.kept_back.extend_from_slice(&buf[..count])?;
+        Ok(count)
+    }
+
+    fn flush(&mut self) -> io::Result<()> {
+        self.bytes.extend_from_slice(&self.kept_back)?;
+        self.kept_back.clear();
+        Ok(())
+    }
+}
+
+fn slow_stream(alloc: Global, at_a_time: usize) -> SlowStream {
+    SlowStream {
+        at_a_time,
+        kept_back: Vec::new(alloc),
+        bytes: Vec::new(alloc),
+    }
+}
+
 #[test]
-fn real_streams_are_written(rt: HostRuntime) -> Result<(), Fail> {
-    let alloc = rt.alloc();
-    let path = "/tmp/xb_io_real_streams_are_written";
-    let mut sink = StreamSink::new(fs::create(&rt, path)?);
+fn a_stream_that_takes_a_byte_at_a_time_gets_all(rt: HostRuntime) {
+    let mut stream = slow_stream(rt.alloc(), 1);
+    let mut sink = StreamSink::new(&mut stream);
     assert_eq!(rt; sink.put(b"some "), Ok(()));
     assert_eq!(rt; sink.put(b"bytes"), Ok(()));
-    assert_eq!(rt; fs::read(&rt, path)?.as_slice(), b"some bytes".as_slice());
-    fs::remove_file(&rt, path)?;
+    assert_eq!(rt; stream.bytes.as_slice(), b"some bytes".as_slice());
+}
+
+#[test]
+fn a_stream_that_takes_nothing_is_a_fault(rt: HostRuntime) {
+    let mut stream = slow_stream(rt.alloc(), 0);
+    let mut sink = StreamSink::new(&mut stream);
+    assert_eq!(rt; sink.put(b""), Ok(()));
+    assert_eq!(rt; sink.put(b"x"), Err(Failed));
+}
+
+#[test]
+fn a_full_device_is_a_fault(rt: HostRuntime) -> Result<(), Fail> {
     let mut full = StreamSink::new(fs::create(&rt, "/dev/full")?);
     assert_eq!(rt; full.put(b"x"), Err(Failed));
     Ok(())

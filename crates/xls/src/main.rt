@@ -7,10 +7,11 @@ use std::process::ExitCode;
 use xb_io::{HostFiles, OpenGate, StreamSink};
 use xls_cmd::xls_main;
 
-fn main(rt: HostRuntime) -> io::Result<ExitCode> {
+fn main(rt: HostRuntime) -> ExitCode {
     let Ok(words) = words(&rt) else {
-        eprintln!(rt; "out of memory")?;
-        return Ok(ExitCode::from(3));
+        // The status says it too, where standard error can't be written.
+        let _ = eprintln!(rt; "out of memory");
+        return ExitCode::from(3);
     };
     let (stdout, stderr) = (rt.stdout(), rt.stderr());
     let mut files = HostFiles::new(&rt);
@@ -25,7 +26,7 @@ fn main(rt: HostRuntime) -> io::Result<ExitCode> {
         &mut err,
         &OpenGate,
     );
-    Ok(ExitCode::from(status))
+    ExitCode::from(status)
 }
 
 /// The words behind the program's name; none, which is no command, where one isn't UTF-8. It fails for

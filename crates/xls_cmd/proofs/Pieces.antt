@@ -1,9 +1,9 @@
 -- A line that is put in pieces.
 use Rattle.std.proofs.Common.{◌≡◌, ◌<◌, ◌≤◌, ◌+◌, ℕ, zero, suc, min, List, [], ◌∷◌, ◌++◌, take, length, get_or, Option, Some, None, refl, ap, sym, ◌∙◌, subst, arith, inr}
 use Rattle.std.specs.Prelude.{flat_map}
-use Rattle.std.specs.Option.{option_map}
 use Rattle.std.proofs.lemmas.List.{append_assoc, take-append-le, take_min}
-use Rattle.xb_io.specs.Written.{Appends, AppendsFront}
+use Rattle.std.specs.Io.KnownBytes.{Appends}
+use Rattle.xb_io.specs.Sink.{AppendsFront}
 use Rattle.xb_io.specs.Counts.{HasRisen}
 use Rattle.xls_cmd.specs.ErrorLine.{PutsLine}
 
@@ -26,10 +26,12 @@ take_behind (c ∷ cs) piece rest n =
 
 -- a front, and then a front of the piece behind it
 pub appends_then_front : (old mid new : Option (List ℕ)) (front piece rest : List ℕ) → Appends old mid front → AppendsFront mid new piece → AppendsFront old new (front ++ (piece ++ rest))
-appends_then_front None mid new front piece rest first then = (0, then.1 ∙ ap (option_map (λ b. b ++ take then.0 piece)) first)
-appends_then_front (Some bytes) mid new front piece rest first then = (
+appends_then_front None mid new front piece rest first then = (0, tt)
+appends_then_front (Some bytes) None new front piece rest first then = absurd first
+appends_then_front (Some bytes) (Some more) None front piece rest first then = absurd then.1
+appends_then_front (Some bytes) (Some more) (Some all) front piece rest first then = (
   length front + min then.0 (length piece),
-  then.1 ∙ ap (option_map (λ b. b ++ take then.0 piece)) first ∙ ap Some (append_assoc bytes front (take then.0 piece) ∙ ap (λ t. bytes ++ t) (take_behind front piece rest then.0)),
+  then.1 ∙ ap (λ b. b ++ take then.0 piece) first ∙ append_assoc bytes front (take then.0 piece) ∙ ap (λ t. bytes ++ t) (take_behind front piece rest then.0),
 )
 
 -- the line as far as a piece that failed

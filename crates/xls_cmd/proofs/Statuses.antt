@@ -3,7 +3,7 @@ use Rattle.std.proofs.Common.{◌≡◌, ◌≢◌, ℕ, List, [], ◌⊎◌, �
 use Rattle.std.specs.Prelude.{IfSome}
 use Rattle.std.proofs.lemmas.List.{append-nil}
 use Rattle.xb_io.specs.Contents.{Contents}
-use Rattle.xb_io.specs.Written.{Appends}
+use Rattle.std.specs.Io.KnownBytes.{Appends}
 use Rattle.xls_cmd.specs.declared.refusal.Refusal.{Refusal}
 use Rattle.xls_cmd.specs.declared.refusal.Refusal.TheVariants.{Usage, OutOfMemory, ReadFault, FileLimit, Syntax, Input}
 use Rattle.xls_cmd.specs.Answers.{IsUsage, IsRun, IsDue, usage_due, limit_due, syntax_due, input_due, run_due, IsOutside}
@@ -95,5 +95,5 @@ refused_line words faulty took_many told (Input name) old new before after cause
 
 -- nothing put is the empty line
 pub nothing_put : (old : Option (List ℕ)) → Appends old old []
-nothing_put None = refl
-nothing_put (Some bytes) = ap Some (sym (append-nil bytes))
+nothing_put None = tt
+nothing_put (Some bytes) = sym (append-nil bytes)

@@ -1,7 +1,8 @@
 -- The line on the error stream.
 use Rattle.std.specs.Prelude.{◌⊎◌, ℕ, List, [], ◌++◌, Option, codes}
 use Rattle.xb_io.specs.Counts.{HasRisen}
-use Rattle.xb_io.specs.Written.{Appends, AppendsFront}
+use Rattle.std.specs.Io.KnownBytes.{Appends}
+use Rattle.xb_io.specs.Sink.{AppendsFront}
 use Rattle.xls_cmd.specs.Answers.{NamesDesign, NamesFile, NamesInputs}
 use Rattle.xls_cmd.specs.Refusal.{usage_line}
 

@@ -1,5 +1,6 @@
 ghost use Rattle.std.specs.Prelude.{◌≡◌, ◌≤◌, flat_map, map};
-ghost use Rattle.xb_io.specs.Written.{Appends, AppendsFront};
+ghost use Rattle.std.specs.Io.KnownBytes.{Appends};
+ghost use Rattle.xb_io.specs.Sink.{AppendsFront};
 ghost use Rattle.xls_cmd.specs.ErrorLine.{PutsLine};
 ghost use Rattle.xls_cmd.specs.Refusal.{line_of, status_of};
 

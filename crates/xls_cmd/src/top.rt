@@ -1,6 +1,7 @@
 ghost use Rattle.std.specs.Prelude.{◌≡◌, ◌≢◌, ◌+◌, ◌≤◌, ◌⊎◌, ◌↔◌, ℕ, List, map, string_bytes, IfOk, IfErr, IfSome};
 ghost use Rattle.xb_io.specs.Counts.{HasRisen, HasRisenBy};
-ghost use Rattle.xb_io.specs.Written.{Appends, AppendsFront};
+ghost use Rattle.std.specs.Io.KnownBytes.{Appends};
+ghost use Rattle.xb_io.specs.Sink.{AppendsFront};
 ghost use Rattle.xls_cmd.specs.Answers.{IsUsage, IsLoaded, IsRun, IsDue, IsOutside};
 ghost use Rattle.xls_cmd.specs.CommandLine.{RunCommand, IsCommandLine};
 ghost use Rattle.xls_cmd.specs.ErrorLine.{IsErrorLine, PutsLine};

@@ -1,6 +1,6 @@
 use Rattle.std.proofs.Common.{◌≤◌, take}
 use Rattle.std.specs.Prelude.{flat_map}
-use Rattle.xb_io.specs.Written.{Appends}
+use Rattle.std.specs.Io.KnownBytes.{Appends}
 use Rattle.xls_cmd.proofs.refusal.put_line.Given as goal
 
 abbrev pub invariant-loop-piece : goal.invariant-loop-piece

@@ -1,6 +1,6 @@
 use Rattle.std.proofs.Common.{[], map, string_bytes, inl}
 use Rattle.xb_io.specs.Counts.{HasRisen, HasRisenBy}
-use Rattle.xb_io.specs.Written.{AppendsFront}
+use Rattle.xb_io.specs.Sink.{AppendsFront}
 use Rattle.xls_cmd.specs.ErrorLine.{done, write_fault}
 use Rattle.xls_cmd.proofs.Statuses.{ran_only, ran_text, always_from_only, refused_only, refused_complete, refused_line, nothing_put}
 use Rattle.xls_cmd.proofs.top.xls_main.Goals as goal

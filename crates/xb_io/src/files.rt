@@ -1,7 +1,7 @@
-ghost use Rattle.std.specs.Prelude.{◌≡◌, ℕ, ◌+◌, ◌<◌, ◌≤◌, List, Option, Some, None, IfOk, IfErr, IfSome, IsSomeAnd, vec_len, length};
-ghost use Rattle.xb_io.specs.Counts.{HasRisen, HasRisenBy};
+ghost use Rattle.std.specs.Prelude.{◌≡◌, ℕ, ◌+◌, ◌<◌, ◌≤◌, List, [], ◌∷◌, ◌++◌, Option, Some, None, IfOk, IfErr, OnOk, IfSome, IsSomeAnd, vec_len, length};
+ghost use Rattle.xb_io.specs.Counts.{HasRisen, HasRisenBy, raised_by};
 ghost use Rattle.xb_io.specs.Contents.{Contents};
-ghost use Rattle.xb_io.specs.LoadError.{IfFailed, IfTooBig};
+ghost use Rattle.xb_io.specs.LoadError.{IfFailed, IfTooBig, UnlessFailed};
 
 use std::alloc::{AllocError, AllocFailed, Global};
 use std::error::Error;
@@ -37,7 +37,7 @@ impl fmt::Display for LoadError {
 impl Error for LoadError {}
 
 impl From<AllocError> for LoadError {
-    ghost use Rattle.xb_io.specs.declared.load.LoadError.TheVariants.{OutOfMemory};
+    ghost use Rattle.xb_io.specs.declared.files.LoadError.TheVariants.{OutOfMemory};
 
     ghost from_gives = { λ _ e. e ≡ OutOfMemory };
 
@@ -48,12 +48,15 @@ impl From<AllocError> for LoadError {
 
 /// Files by name.
 ///
-/// The contract has three members for proofs alone: what the files hold, where that is told, and two
-/// counts, of faults and of bytes taken. A count never falls, and one that has reached `u64::MAX`
-/// stands still and counts as risen ever after.
+/// The contract has four members for proofs alone: what the files hold, where that is told, the names
+/// that were asked for, and two counts, of faults and of bytes taken. A count never falls, and one that
+/// has reached `u64::MAX` stands still and counts as risen ever after.
 pub trait Files {
     // What each name holds, where this is told. It never changes.
     ghost told: { Self → Option Contents };
+
+    // The names of all loads so far, in their order.
+    ghost asked: { Self → List (List ℕ) };
 
     // The faults so far.
     ghost faults: { Self → ℕ };
@@ -64,14 +67,18 @@ pub trait Files {
     /// The bytes of the file of that name, [`FILE_LIMIT`] at most.
     fn load(&mut self, alloc: Global, name: &str) -> Result<Vec<u8>, LoadError>
         ensures told_stays { told self.new ≡ told self.old }
+        ensures asks { asked self.new ≡ asked self.old ++ name.now ∷ [] }
         ensures faults_never_fall { faults self.old ≤ faults self.new }
         ensures taken_never_falls { taken self.old ≤ taken self.new }
 
         ensures ok_within_limit { IfOk result (λ bytes. vec_len bytes ≤ FILE_LIMIT) }
         ensures ok_as_told { IfOk result (λ bytes. IfSome (told self.old) (λ holds. holds name.now ≡ Some bytes.items)) }
+        ensures ok_taken { IfOk result (λ bytes. taken self.new ≡ raised_by (vec_len bytes) (taken self.old)) }
+        ensures ok_without_fault { OnOk result (faults self.new ≡ faults self.old) }
 
-        // A load fails only by a fault, and a name without a file is one.
+        // A load fails only by a fault, a name without a file is one, and nothing else is.
         ensures failed { IfErr result (λ e. IfFailed e (HasRisen (faults self.old) (faults self.new))) }
+        ensures unless_failed { IfErr result (λ e. UnlessFailed e (faults self.new ≡ faults self.old)) }
 
         // A file is too big only where it is past the limit.
         ensures too_big { IfErr result (λ e. IfTooBig e (λ found. found ≡ FILE_LIMIT + 1)) }

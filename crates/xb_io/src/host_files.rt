@@ -1,26 +1,29 @@
-ghost use Rattle.std.specs.Prelude.{◌≡◌, None, ◌≤◌};
+ghost use Rattle.std.specs.Prelude.{◌≡◌, ◌≤◌, [], None};
 
-use crate::load::{FILE_LIMIT, Files, LoadError};
-use crate::put::{Failed, Sink};
+use crate::asked::Asked;
+use crate::files::{FILE_LIMIT, Files, LoadError};
 use std::alloc::Global;
-use std::io::{self, ErrorKind, Read, Write};
+use std::io::{self, ErrorKind, Read};
 use std::{fs, rt};
 
 /// The files of the real file system. It tells nothing of what they hold.
 #[derive(Drop)]
 pub struct HostFiles<'a, R: rt::Files> {
     rt: &'a R,
+    asked: Asked,
     faults: u64,
     taken: u64,
 }
 
 impl<'a, R: rt::Files> HostFiles<'a, R> {
     pub fn new(rt: &'a R) -> HostFiles<'a, R>
+        ensures asked { ⟦<HostFiles<'a, R> as Files>⟧.asked result ≡ [] }
         ensures faults { ⟦<HostFiles<'a, R> as Files>⟧.faults result ≡ 0 }
         ensures taken { ⟦<HostFiles<'a, R> as Files>⟧.taken result ≡ 0 }
     {
         HostFiles {
             rt,
+            asked: Asked::new(),
             faults: 0,
             taken: 0,
         }
@@ -38,11 +41,14 @@ impl<'a, R: rt::Files> HostFiles<'a, R> {
 impl<R: rt::Files> Files for HostFiles<'_, R> {
     ghost told = { λ _. None };
 
+    ghost asked = { λ it. it.asked.names };
+
     ghost faults = { λ it. it.faults };
 
     ghost taken = { λ it. it.taken };
 
     fn load(&mut self, alloc: Global, name: &str) -> Result<Vec<u8>, LoadError> {
+        self.asked.note(name.as_bytes());
         match self.read(alloc, name) {
             Ok(bytes) => {
                 self.taken = self.taken.saturating_add(bytes.len() as u64);
@@ -58,41 +64,4 @@ impl<R: rt::Files> Files for HostFiles<'_, R> {
             }
         }
     }
-}
-
-/// A stream that is written to, such as the standard output. It tells nothing of what was written.
-#[derive(Drop)]
-pub struct StreamSink<W: Write> {
-    stream: W,
-    faults: u64,
-}
-
-impl<W: Write> StreamSink<W> {
-    pub fn new(stream: W) -> StreamSink<W>
-        ensures { ⟦<StreamSink<W> as Sink>⟧.faults result ≡ 0 }
-    {
-        StreamSink { stream, faults: 0 }
-    }
-}
-
-impl<W: Write> Sink for StreamSink<W> {
-    ghost written = { λ _. None };
-
-    ghost faults = { λ it. it.faults };
-
-    fn put(&mut self, piece: &[u8]) -> Result<(), Failed> {
-        match write(&mut self.stream, piece) {
-            Ok(()) => Ok(()),
-            Err(_) => {
-                self.faults = self.faults.saturating_add(1);
-                Err(Failed)
-            }
-        }
-    }
-}
-
-/// Writes the whole piece, and leaves none of it in a buffer.
-fn write(stream: &mut impl Write, piece: &[u8]) -> io::Result<()> {
-    stream.write_all(piece)?;
-    stream.flush()
 }

@@ -1,6 +1,7 @@
 ghost use Rattle.std.specs.Prelude.{◌≡◌, ℕ, ◌≤◌, List, Option, Some, codes, OnOk, OnErr};
+ghost use Rattle.std.specs.Io.KnownBytes.{Appends};
 ghost use Rattle.xb_io.specs.Counts.{HasRisen};
-ghost use Rattle.xb_io.specs.Written.{Appends, AppendsFront};
+ghost use Rattle.xb_io.specs.Sink.{AppendsFront};
 
 use std::error::Error;
 use std::fmt;
@@ -21,11 +22,11 @@ impl Error for Failed {}
 
 /// A place that takes bytes, in order.
 ///
-/// The contract has two members for proofs alone: what was written so far, where that is told, and a
+/// The contract has two members for proofs alone: what was written so far, where that is known, and a
 /// count of faults, which never falls; one that has reached `u64::MAX` stands still and counts as
 /// risen ever after.
 pub trait Sink {
-    // What was written so far, where this is told.
+    // What was written so far, where this is known.
     ghost written: { Self → Option (List ℕ) };
 
     // The faults so far.
@@ -36,6 +37,7 @@ pub trait Sink {
     fn put(&mut self, piece: &[u8]) -> Result<(), Failed>
         ensures faults_never_fall { faults self.old ≤ faults self.new }
         ensures ok { OnOk result (Appends (written self.old) (written self.new) piece.now) }
+        ensures ok_without_fault { OnOk result (faults self.new ≡ faults self.old) }
         ensures failed { OnErr result (AppendsFront (written self.old) (written self.new) piece.now) }
         ensures failed_by_fault { OnErr result (HasRisen (faults self.old) (faults self.new)) };
 }
