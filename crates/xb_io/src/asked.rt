@@ -3,7 +3,8 @@ ghost use Rattle.std.specs.Borrow.{ftrue};
 
 use std::marker::{Model, PhantomData};
 
-/// The names that were asked for, in their order: a list for proofs alone, which has no bytes.
+/// The names that were asked for, in their order: a list for proofs alone, which has no bytes. Whoever implements
+/// [`Files`](crate::Files) keeps one.
 #[derive(Drop)]
 pub struct Asked {
     marker: PhantomData<u8>,
@@ -15,7 +16,7 @@ impl Model for Asked {
 }
 
 impl Asked {
-    pub(crate) fn new() -> Asked
+    pub fn new() -> Asked
         ensures { result.names ≡ [] }
     {
         Asked {
@@ -24,7 +25,7 @@ impl Asked {
     }
 
     /// The name was asked for.
-    pub(crate) fn note(&mut self, _name: &[u8])
+    pub fn note(&mut self, _name: &[u8])
         ensures { self.new.names ≡ self.old.names ++ _name.now ∷ [] }
     {}
 }

@@ -2,5 +2,7 @@
 pub mod Limit
 -- the line of a passed limit
 pub mod LimitText
+-- what a piece of a message says
+pub mod PieceText
 -- the line of each refusal
 pub mod RefusalText

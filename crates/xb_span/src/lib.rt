@@ -5,10 +5,12 @@
 
 pub mod laws;
 mod limit;
+mod piece;
 mod read_error;
 mod span;
 
 pub use limit::{Limit, What};
+pub use piece::Piece;
 pub use read_error::ReadError;
 pub use span::{Rule, Span};
 

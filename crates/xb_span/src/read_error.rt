@@ -1,8 +1,11 @@
-ghost use Rattle.std.specs.Prelude.{◌≡◌, Some};
+ghost use Rattle.std.specs.Prelude.{◌≡◌, Some, flat_map};
+ghost use Rattle.xb_span.specs.PieceText.{piece_text};
+ghost use Rattle.xb_span.specs.RefusalText.{refusal_text};
 ghost use Rattle.xb_span.specs.declared.read_error.ReadError.{ReadError};
 ghost use Rattle.xb_span.specs.declared.read_error.ReadError.TheVariants.{OutOfMemory};
 
 use crate::limit::Limit;
+use crate::piece::Piece;
 use crate::span::{Rule, Span};
 use std::alloc::{AllocError, AllocFailed};
 use std::fmt;
@@ -18,6 +21,38 @@ pub enum ReadError {
     Over(Limit),
     /// There was no memory to answer.
     OutOfMemory,
+}
+
+impl ReadError {
+    /// The same message as its `Display`, in pieces.
+    pub fn pieces(self) -> [Piece<'static>; 6]
+        ensures { flat_map piece_text result ≡ refusal_text self }
+    {
+        let none = Piece::Text("");
+        match self {
+            ReadError::Syntax(at) => {
+                let at = Piece::Number(at as u64);
+                [Piece::Text("syntax at "), at, none, none, none, none]
+            }
+            ReadError::Broken(rule, span) => [
+                Piece::Text("rule "),
+                Piece::Number(rule.0 as u64),
+                Piece::Text(" at "),
+                Piece::Number(span.from as u64),
+                Piece::Text(".."),
+                Piece::Number(span.to as u64),
+            ],
+            ReadError::Over(limit) => [
+                Piece::Text("limit "),
+                Piece::Text(limit.what.word()),
+                Piece::Text(": "),
+                Piece::Number(limit.found),
+                Piece::Text(", at most "),
+                Piece::Number(limit.most),
+            ],
+            ReadError::OutOfMemory => [Piece::Text("out of memory"), none, none, none, none, none],
+        }
+    }
 }
 
 impl From<AllocError> for ReadError {
@@ -39,8 +74,6 @@ impl<T: Drop> From<AllocFailed<T>> for ReadError {
 /// What a message says behind the file's name: `syntax at AT`, `rule R at FROM..TO`, `limit WHAT: FOUND, at most MOST`
 /// or `out of memory`. An error means that the writer refused.
 impl fmt::Display for ReadError {
-    ghost use Rattle.xb_span.specs.RefusalText.{refusal_text};
-
     ghost output = { λ e. Some (refusal_text e) };
 
     fn fmt<W: fmt::Write>(&self, f: &mut fmt::Formatter<W>) -> fmt::Result {

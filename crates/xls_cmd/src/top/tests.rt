@@ -6,7 +6,7 @@ use std::process::Abort;
 use std::sync::Wait;
 use std::test::Fail;
 use std::thread::Threads;
-use xb_io::{FILE_LIMIT, Files, LoadError, MemFile, MemFiles, MemSink, OpenGate};
+use xb_io::{Asked, FILE_LIMIT, Files, LoadError, MemFile, MemFiles, MemSink, OpenGate};
 
 const INC: &str = "proc Inc { a: chan<u8> in; b: chan<u8> out;
   config(a: chan<u8> in, b: chan<u8> out) { (a, b) }
@@ -326,23 +326,36 @@ fn a_sink_that_fails_keeps_a_front(rt: HostRuntime) -> Result<(), Fail> {
 
 /// Files that want of memory keeps from being loaded.
 #[derive(Drop)]
-struct NoMemory;
+struct NoMemory {
+    asked: Asked,
+}
 
 impl Files for NoMemory {
     ghost told = { λ _. None };
+
+    ghost asked = { λ it. it.asked.names };
 
     ghost faults = { λ _. 0 };
 
     ghost taken = { λ _. 0 };
 
-    fn load(&mut self, _alloc: Global, _name: &str) -> Result<Vec<u8>, LoadError> {
+    fn load(&mut self, _alloc: Global, name: &str) -> Result<Vec<u8>, LoadError> {
+        self.asked.note(name.as_bytes());
         Err(LoadError::OutOfMemory)
     }
 }
 
 #[test]
 fn want_of_memory_has_its_status(rt: HostRuntime) -> Result<(), Fail> {
-    let answer = call(&rt, WORDS, &mut NoMemory, 1000, 1000)?;
+    let answer = call(
+        &rt,
+        WORDS,
+        &mut NoMemory {
+            asked: Asked::new(),
+        },
+        1000,
+        1000,
+    )?;
     expect(
         &rt,
         &answer,
