@@ -8,7 +8,7 @@ use Rattle.net_core.specs.declared.net.Kind.TheVariants.{Input}
 use Rattle.net_core.specs.declared.event.Event.{Event}
 use Rattle.net_core.specs.declared.event.Event.TheVariants.{Recv, Send}
 use Rattle.net_core.specs.declared.config.Config.{Config}
-use Rattle.net_core.specs.Behavior.{Behavior, Turn, Receive, Give, IsOpen, IsWordOf, TurnFits, next_event}
+use Rattle.net_core.specs.Behavior.{Behavior, Turn, Receive, Give, IsOpen, IsWordOf, IsInDirection, TurnFits, next_event}
 use Rattle.net_core.specs.Cuts.{Proc, Run, Cut, sender, receiver}
 use Rattle.net_core.specs.Machine.{position_in, next_of, goes_by, goes, with_event, stepped}
 use Rattle.net_core.specs.declared.config.Progress.{Progress}
@@ -38,18 +38,23 @@ module _ (run : Run) (cut : Cut) (config : Config) (sh : Shows run cut config) (
   turn_fits i site turn place stands e =
       subst (λ t. TurnFits proc.behavior site t) e ((sh.run_fits.keeps_types p proc proc_is).turns (position_in run cut p proc).state (position_in run cut p proc).got i site stands place)
 
+  in_direction : (i : ℕ) (site : Site) (turn : Turn) → slice_get proc.behavior.sites i ≡ Some site
+      → proc.behavior.turn (position_in run cut p proc).state (position_in run cut p proc).got i ≡ turn → IsInDirection site turn
+  in_direction i site turn place e =
+      subst (λ t. IsInDirection site t) e ((sh.run_fits.keeps_types p proc proc_is).directions (position_in run cut p proc).state (position_in run cut p proc).got i site place)
+
   event_can : (e : Event) → EventAt proc.behavior (position_in run cut p proc).state (position_in run cut p proc).got (position_in run cut p proc).done e
       → next_of proc.behavior (position_in run cut p proc) ≡ e → (can : Bool) → CanMake config p e can → can ≡ goes_by run cut p (Some proc)
   event_can _ (receives_at i site later place stands turn) next can made =
       let fits = site_fits run cut config sh p proc proc_is i site place in
       let at = stands_at run cut config sh p proc proc_is i site place fits.chan fits.chan_is in
-      let ours = fits.receives (turn_fits i site Receive place stands turn) in
+      let ours = fits.receives (in_direction i site Receive place turn) in
       made (progress_of run cut p proc) site.chan (channel_of run cut site.chan fits.chan) at
       ∙ sym (goes_receive run cut config sh p proc proc_is i site place fits.chan ours active next)
   event_can _ (sends_at i site w later place stands turn) next can made =
       let fits = site_fits run cut config sh p proc proc_is i site place in
       let at = stands_at run cut config sh p proc proc_is i site place fits.chan fits.chan_is in
-      let sends = (turn_fits i site (Give w) place stands turn).0 in
+      let sends = in_direction i site (Give w) place turn in
       made (progress_of run cut p proc) site.chan (channel_of run cut site.chan fits.chan) at
       ∙ sym (goes_send run cut config sh p proc proc_is i site w place fits.chan fits.chan_is (fits.no_send sends) (fits.sends sends) active next)
   event_can _ (ends_with stands) next can made = made ∙ sym (goes_end run cut config sh p proc proc_is _ active next)
@@ -89,17 +94,17 @@ module _ (run : Run) (cut : Cut) (config : Config) (sh : Shows run cut config) (
   event_tried new _ (receives_at i site later place stands turn) next made t =
       let fits = site_fits run cut config sh p proc proc_is i site place in
       let at = stands_at run cut config sh p proc proc_is i site place fits.chan fits.chan_is in
-      let ours = fits.receives (turn_fits i site Receive place stands turn) in
+      let ours = fits.receives (in_direction i site Receive place turn) in
       receive_tried new i site fits.chan (record { proc_is = proc_is; place = place; chan_is = fits.chan_is; width = fits.width; stands = stands }) turn
       (goes_receive run cut config sh p proc proc_is i site place fits.chan ours active next) ours next made
       (t (progress_of run cut p proc) site.chan (channel_of run cut site.chan fits.chan) at)
   event_tried new _ (sends_at i site w later place stands turn) next made t =
       let fits = site_fits run cut config sh p proc proc_is i site place in
       let at = stands_at run cut config sh p proc proc_is i site place fits.chan fits.chan_is in
-      let turns = turn_fits i site (Give w) place stands turn in
+      let sends = in_direction i site (Give w) place turn in
       send_tried new i site w fits.chan (record { proc_is = proc_is; place = place; chan_is = fits.chan_is; width = fits.width; stands = stands }) turn
-      turns.1 (fits.sends turns.0) (fits.no_send turns.0)
-      (goes_send run cut config sh p proc proc_is i site w place fits.chan fits.chan_is (fits.no_send turns.0) (fits.sends turns.0) active next) next made
+      (turn_fits i site (Give w) place stands turn) (fits.sends sends) (fits.no_send sends)
+      (goes_send run cut config sh p proc proc_is i site w place fits.chan fits.chan_is (fits.no_send sends) (fits.sends sends) active next) next made
       (t (progress_of run cut p proc) site.chan (channel_of run cut site.chan fits.chan) at)
   event_tried new _ (ends_with stands) next made t =
       let h = goes_end run cut config sh p proc proc_is _ active next in

@@ -14,4 +14,10 @@ pub mod Events
 pub mod Asked
 pub mod Falls
 pub mod Starts
+pub mod Bodies
 pub mod Stalls
+pub mod Receives
+pub mod Nexts
+pub mod Counted
+pub mod Final
+pub mod Lemmas

@@ -1,8 +1,7 @@
 -- The outcome that is read off a configuration is that of the cut that it shows.
-use Rattle.std.proofs.Common.{◌≡◌, ℕ, zero, suc, ◌<◌, ◌≤◌, List, [], ◌∷◌, length, map, get_or, refl, sym, ap, ◌∙◌, arith, true, false, Bool, cond, Some, None, Option}
+use Rattle.std.proofs.Common.{◌≡◌, ℕ, ◌<◌, ◌≤◌, List, map, refl, sym, ap, ◌∙◌, arith, true, false, Bool, cond, Some, None, Option}
 use Rattle.std.specs.Prelude.{slice_get, option_map, nat_lt}
 use Rattle.std.proofs.lemmas.Bool.Decides.{nat_tests}
-use Rattle.std.proofs.lemmas.List.{length-map}
 use Rattle.net_core.specs.declared.net.Site.{Site}
 use Rattle.net_core.specs.declared.net.Chan.{Chan}
 use Rattle.net_core.specs.declared.net.Kind.{Kind}
@@ -15,11 +14,12 @@ use Rattle.net_core.specs.declared.config.Progress.{Progress}
 use Rattle.net_core.specs.Behavior.{Behavior, chan_at}
 use Rattle.net_core.specs.Cuts.{Proc, Run, Cut}
 use Rattle.net_core.specs.Machine.{position_in, next_of}
-use Rattle.net_core.specs.Outcomes.{indexed, stream_of, stall_for, stall_in, end_of, behaviors_of}
+use Rattle.net_core.specs.Outcomes.{indexed, stream_of, stall_for, stall_in, end_of}
 use Rattle.net_core.specs.Shows.{Shows, progress_of, channel_of, IsBehaviorOf}
 use Rattle.net_core.specs.Making.{end_with, stream_in}
 use Rattle.net_core.proofs.Indexed.{indexed_get, same_by_get}
 use Rattle.net_core.proofs.Places.{get_or-there}
+use Rattle.net_core.proofs.Bodies.{get_map}
 use Rattle.net_core.proofs.Shown.{progress_is, chan_at-there}
 
 -- a stall at a site's channel
@@ -29,7 +29,7 @@ stall_arm sites i at ends activation chan sends place e f =
     let c = e ∙ sym (chan_at-there sites i at place) in
     ap (λ a. Some (record { activation = a; sends = sends; chan = chan })) f ∙ ap (λ k. Some (record { activation = ends; sends = sends; chan = k })) c
 
-stall_active : (run : Run) (cut : Cut) (p : ℕ) (proc : Proc) → (position_in run cut p proc).ends < run.activations
+pub stall_active : (run : Run) (cut : Cut) (p : ℕ) (proc : Proc) → (position_in run cut p proc).ends < run.activations
     → stall_in run cut p proc ≡ stall_for proc.behavior.sites (position_in run cut p proc).ends (next_of proc.behavior (position_in run cut p proc))
 unfolding stall_in
 stall_active run cut p proc l =
@@ -51,32 +51,6 @@ asked_no_stall run cut config sh p b is progress e l =
     let done : run.activations ≤ (position_in run cut p is.0).ends = omega (arith, l, f, sh.activations) in
     let t : nat_lt (position_in run cut p is.0).ends run.activations ≡ false = grind (arith, nat_tests) in
     sym (ap (λ (b : Bool). cond b (stall_for is.0.behavior.sites (position_in run cut p is.0).ends (next_of is.0.behavior (position_in run cut p is.0))) None) t)
-
-get_map : {A B : Type 0} (f : A → B) (xs : List A) (k : ℕ) → slice_get (map f xs) k ≡ option_map f (slice_get xs k)
-get_map f [] k = refl
-get_map f (x ∷ xs) zero = refl
-get_map f (x ∷ xs) (suc k) = get_map f xs k
-
-get_there : {A : Type 0} (xs : List A) (k : ℕ) (x : A) → k < length xs → x ≡ get_or xs k x → slice_get xs k ≡ Some x
-get_there [] k x l e = absurd (omega (arith, l))
-get_there (y ∷ ys) zero x l e = ap Some (sym e)
-get_there (y ∷ ys) (suc k) x l e = get_there ys k x (omega (arith, l)) e
-
-has_behavior : (o : Option Proc) (b : Behavior) → option_map (λ (proc : Proc). proc.behavior) o ≡ Some b → (proc : Proc) × (o ≡ Some proc) × (proc.behavior ≡ b)
-has_behavior None b e = cc
-has_behavior (Some proc) b e = (proc, refl, cc)
-
--- the body of a place has the behavior of the proc of that place
-pub behavior_there : {X : Type 0} (behavior : X → Behavior) (run : Run) (bodies : List X) (p : ℕ) (body : X) → behaviors_of run ≡ map behavior bodies
-    → p < length bodies → body ≡ get_or bodies p body → IsBehaviorOf run p (behavior body)
-behavior_there behavior run bodies p body e l read =
-    let there = get_there bodies p body l read in
-    has_behavior (slice_get run.procs p) (behavior body)
-    (sym (get_map (λ (proc : Proc). proc.behavior) run.procs p) ∙ (ap (λ bs. slice_get bs p) e ∙ (get_map behavior bodies p ∙ ap (λ o. option_map behavior o) there)))
-
-pub count_behaviors : {X : Type 0} (behavior : X → Behavior) (run : Run) (bodies : List X) → behaviors_of run ≡ map behavior bodies → length run.procs ≡ length bodies
-count_behaviors behavior run bodies e =
-    sym (length-map run.procs (λ (proc : Proc). proc.behavior)) ∙ (ap length e ∙ length-map bodies behavior)
 
 pub procs_are : (run : Run) (cut : Cut) (config : Config) → Shows run cut config → config.procs.items ≡ indexed (progress_of run cut) 0 run.procs
 procs_are run cut config sh =

@@ -22,7 +22,7 @@ left_by_count (x ∷ xs) zero = grind (arith, nat_tests)
 left_by_count (x ∷ xs) (suc k) = left_by_count xs k ∙ grind (arith, nat_tests)
 
 -- what is found behind the events that were made is what is found first in the words that are left
-found_by_count : (sites : List Site) (words : Histories) (t : List Event) (e : Event) → has_word sites (words_after sites t words) e ≡ finds_word sites words t e
+pub found_by_count : (sites : List Site) (words : Histories) (t : List Event) (e : Event) → has_word sites (words_after sites t words) e ≡ finds_word sites words t e
 unfolding has_word finds_word
 found_by_count sites words t (Recv i) =
     ap is_left (words_after-drop sites (chan_at sites i) t words) ∙ left_by_count (words (chan_at sites i)) (count_received sites (chan_at sites i) t)

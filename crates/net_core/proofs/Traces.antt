@@ -1,5 +1,5 @@
--- The trace of a proc: longer histories give longer traces, and a trace goes on where its front ends.
-use Rattle.std.proofs.Common.{◌≡◌, ℕ, zero, suc, List, [], ◌∷◌, ◌++◌, drop, refl, subst, cond, true, false, Bool, eqb}
+-- The trace of a proc: longer histories and more activations give longer traces.
+use Rattle.std.proofs.Common.{◌≡◌, ℕ, zero, suc, ◌≤◌, List, [], ◌∷◌, ◌++◌, drop, refl, subst, arith, cond, true, false, Bool, eqb}
 use Rattle.xb_bits.specs.Word.{Word}
 use Rattle.xb_value.specs.declared.value.Value.{Value}
 use Rattle.net_core.specs.declared.net.Site.{Site}
@@ -46,40 +46,45 @@ pub at_site : (b : Behavior) (after : Value → Histories → List Event) (s : V
 unfolding events_from at_turn on_word
 at_site b after s got words i site sites = refl
 
--- what comes after grows with the words
-abbrev GrowsWith : (Value → Histories → List Event) → Type 0
-GrowsWith after = (s : Value) (words more : Histories) → IsLonger words more → IsFront (after s words) (after s more)
+-- what the one makes of some words is the front of what the other makes of more
+abbrev GrowsInto : (Value → Histories → List Event) → (Value → Histories → List Event) → Type 0
+GrowsInto after beyond = (s : Value) (words more : Histories) → IsLonger words more → IsFront (after s words) (beyond s more)
 
-word_grows : (b : Behavior) (after : Value → Histories → List Event) (s : Value) (got : List Word) (i : ℕ) (site : Site) (sites : List Site) (words more : Histories)
-    → ((got' : List Word) (words' more' : Histories) (j : ℕ) → IsLonger words' more' → IsFront (events_from b after s got' words' j sites) (events_from b after s got' more' j sites))
+word_grows : (b : Behavior) (after beyond : Value → Histories → List Event) (s : Value) (got : List Word) (i : ℕ) (site : Site) (sites : List Site) (words more : Histories)
+    → ((got' : List Word) (words' more' : Histories) (j : ℕ) → IsLonger words' more' → IsFront (events_from b after s got' words' j sites) (events_from b beyond s got' more' j sites))
     → IsLonger words more → (here there : List Word) → IsFront here there
-    → IsFront (on_word b after s got words i site sites here) (on_word b after s got more i site sites there)
+    → IsFront (on_word b after s got words i site sites here) (on_word b beyond s got more i site sites there)
 unfolding on_word
-word_grows b after s got i site sites words more ih f [] there g = tt
-word_grows b after s got i site sites words more ih f (w ∷ ws) [] g = absurd g
-word_grows b after s got i site sites words more ih f (w ∷ ws) (v ∷ vs) g =
+word_grows b after beyond s got i site sites words more ih f [] there g = tt
+word_grows b after beyond s got i site sites words more ih f (w ∷ ws) [] g = absurd g
+word_grows b after beyond s got i site sites words more ih f (w ∷ ws) (v ∷ vs) g =
     let step = ih (got ++ w ∷ []) (without_first words site.chan) (without_first more site.chan) (suc i) (longer_without words more site.chan f) in
-    (refl, subst (λ u. IsFront (events_from b after s (got ++ w ∷ []) (without_first words site.chan) (suc i) sites) (events_from b after s (got ++ u ∷ []) (without_first more site.chan) (suc i) sites)) g.0 step)
+    (refl, subst (λ u. IsFront (events_from b after s (got ++ w ∷ []) (without_first words site.chan) (suc i) sites) (events_from b beyond s (got ++ u ∷ []) (without_first more site.chan) (suc i) sites)) g.0 step)
 
-turn_grows : (b : Behavior) (after : Value → Histories → List Event) (s : Value) (got : List Word) (i : ℕ) (site : Site) (sites : List Site) (words more : Histories)
-    → ((got' : List Word) (words' more' : Histories) (j : ℕ) → IsLonger words' more' → IsFront (events_from b after s got' words' j sites) (events_from b after s got' more' j sites))
+turn_grows : (b : Behavior) (after beyond : Value → Histories → List Event) (s : Value) (got : List Word) (i : ℕ) (site : Site) (sites : List Site) (words more : Histories)
+    → ((got' : List Word) (words' more' : Histories) (j : ℕ) → IsLonger words' more' → IsFront (events_from b after s got' words' j sites) (events_from b beyond s got' more' j sites))
     → IsLonger words more → (turn : Turn)
-    → IsFront (at_turn b after s got words i site sites turn) (at_turn b after s got more i site sites turn)
+    → IsFront (at_turn b after s got words i site sites turn) (at_turn b beyond s got more i site sites turn)
 unfolding at_turn
-turn_grows b after s got i site sites words more ih f Skip = ih got words more (suc i) f
-turn_grows b after s got i site sites words more ih f Receive = word_grows b after s got i site sites words more ih f (words site.chan) (more site.chan) (f site.chan)
-turn_grows b after s got i site sites words more ih f (Give w) = (refl, ih got words more (suc i) f)
+turn_grows b after beyond s got i site sites words more ih f Skip = ih got words more (suc i) f
+turn_grows b after beyond s got i site sites words more ih f Receive = word_grows b after beyond s got i site sites words more ih f (words site.chan) (more site.chan) (f site.chan)
+turn_grows b after beyond s got i site sites words more ih f (Give w) = (refl, ih got words more (suc i) f)
 
-events_grow : (b : Behavior) (after : Value → Histories → List Event) → GrowsWith after → (sites : List Site) (s : Value) (got : List Word) (words more : Histories) (i : ℕ)
-    → IsLonger words more → IsFront (events_from b after s got words i sites) (events_from b after s got more i sites)
+events_grow : (b : Behavior) (after beyond : Value → Histories → List Event) → GrowsInto after beyond → (sites : List Site) (s : Value) (got : List Word) (words more : Histories) (i : ℕ)
+    → IsLonger words more → IsFront (events_from b after s got words i sites) (events_from b beyond s got more i sites)
 unfolding events_from
-events_grow b after h [] s got words more i f = (refl, h (b.next_state s got) words more f)
-events_grow b after h (site ∷ sites) s got words more i f =
-    let step = turn_grows b after s got i site sites words more (λ got' words' more' j g. events_grow b after h sites s got' words' more' j g) f (b.turn s got i) in
-    rw (at_site b after s got words i site sites, at_site b after s got more i site sites) step
+events_grow b after beyond h [] s got words more i f = (refl, h (b.next_state s got) words more f)
+events_grow b after beyond h (site ∷ sites) s got words more i f =
+    let step = turn_grows b after beyond s got i site sites words more (λ got' words' more' j g. events_grow b after beyond h sites s got' words' more' j g) f (b.turn s got i) in
+    rw (at_site b after s got words i site sites, at_site b beyond s got more i site sites) step
 
--- longer histories give a longer trace
-pub trace_grows : (b : Behavior) (n : ℕ) (s : Value) (words more : Histories) → IsLonger words more → IsFront (trace b n s words) (trace b n s more)
+-- longer histories and more activations give a longer trace
+pub longer_trace : (b : Behavior) (m n : ℕ) → m ≤ n → (s : Value) (words more : Histories) → IsLonger words more → IsFront (trace b m s words) (trace b n s more)
 unfolding trace
-trace_grows b zero s words more f = tt
-trace_grows b (suc n) s words more f = events_grow b (trace b n) (λ s' words' more' g. trace_grows b n s' words' more' g) b.sites s [] words more 0 f
+longer_trace b zero n l s words more f = tt
+longer_trace b (suc m) zero l s words more f = absurd (omega (arith, l))
+longer_trace b (suc m) (suc n) l s words more f =
+    events_grow b (trace b m) (trace b n) (λ s' words' more' g. longer_trace b m n (omega (arith, l)) s' words' more' g) b.sites s [] words more 0 f
+
+pub trace_grows : (b : Behavior) (n : ℕ) (s : Value) (words more : Histories) → IsLonger words more → IsFront (trace b n s words) (trace b n s more)
+trace_grows b n s words more f = longer_trace b n n (omega arith) s words more f

@@ -68,13 +68,21 @@ pub record IsOpen (b : Behavior) (s : Value) (got : List Word) (done : ℕ) : Ty
   pub state : IsOfType b.state s
   pub words : Takes b s [] 0 (take done b.sites) got
 
--- a site that receives sends nothing, one that sends receives nothing, and a word has its channel's width
+-- a site that receives never sends, and one that sends never receives
+abbrev pub IsInDirection : Site → Turn → Type 0
+IsInDirection site Skip = Unit {0}
+IsInDirection site Receive = site.sends ≡ false
+IsInDirection site (Give w) = site.sends ≡ true
+
+-- a word that is sent has its channel's width
 abbrev pub TurnFits : Behavior → Site → Turn → Type 0
 TurnFits b site Skip = Unit {0}
-TurnFits b site Receive = site.sends ≡ false
-TurnFits b site (Give w) = (site.sends ≡ true) × IsWordOf (b.width site.chan) w
+TurnFits b site Receive = Unit {0}
+TurnFits b site (Give w) = IsWordOf (b.width site.chan) w
 
--- what is sent has its channel's width, and the next state has the type of the states
+-- each site keeps its direction, whatever the state and the words; from states of the type and words of their channels'
+-- widths, what is sent has its channel's width, and the next state has the type of the states
 pub record KeepsTypes (b : Behavior) : Type 0 where
+  pub directions : (s : Value) (got : List Word) (i : ℕ) (site : Site) → slice_get b.sites i ≡ Some site → IsInDirection site (b.turn s got i)
   pub turns : (s : Value) (got : List Word) (i : ℕ) (site : Site) → IsOpen b s got i → slice_get b.sites i ≡ Some site → TurnFits b site (b.turn s got i)
   pub state : (s : Value) (got : List Word) → IsOpen b s got (length b.sites) → IsOfType b.state (b.next_state s got)

@@ -6,3 +6,5 @@ pub mod Outcomes
 pub mod WellFormed
 pub mod Shows
 pub mod Making
+pub mod Nexts
+pub mod Counted

@@ -4,6 +4,7 @@
 mod body;
 mod config;
 mod event;
+pub mod laws;
 mod name;
 mod net;
 mod outcome;

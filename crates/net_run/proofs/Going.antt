@@ -1,27 +1,13 @@
 -- What a configuration shows while procs are let go one after another.
-use Rattle.std.proofs.Common.{◌≡◌, ℕ, zero, suc, refl, ◌+◌, ◌<◌, List, [], ◌++◌, ◌∷◌, length, map, sym, ap, ◌∙◌, subst, arith, true, false, Bool, MatchBool, inl, inr}
+use Rattle.std.proofs.Common.{◌≡◌, ℕ, ◌+◌, ◌<◌, length, sym, ap, ◌∙◌, arith, true, false, Bool, MatchBool, inl, inr}
 use Rattle.std.specs.Prelude.{sum_by, ◌⊎◌}
 use Rattle.std.proofs.lemmas.Bool.{cases_eq}
-use Rattle.std.proofs.lemmas.List.{append_cancel_left}
-use mathlib.Core.Path.{fun_ext}
-use Rattle.xb_value.specs.declared.value.Value.{Value}
-use Rattle.xb_bits.specs.Word.{Word}
-use Rattle.net_core.specs.declared.event.Event.{Event}
 use Rattle.net_core.specs.declared.config.Config.{Config}
-use Rattle.net_core.specs.Behavior.{Behavior, TurnFits, IsOpen, KeepsTypes, next_event}
-use Rattle.net_core.specs.declared.net.ProcHead.{ProcHead}
-use Rattle.net_core.specs.WellFormed.{EachKeepsTypes, procs_of}
-use Rattle.net_core.specs.Trace.{Histories}
-use Rattle.net_core.specs.Cuts.{Proc, Run, Cut, IsFront, final_cut}
-use Rattle.net_core.specs.Machine.{opened, goes, stepped, next_of, position_after}
+use Rattle.net_core.specs.Cuts.{Run, Cut, final_cut}
+use Rattle.net_core.specs.Machine.{goes, stepped}
 use Rattle.net_core.specs.Shows.{Shows, IsUnchanged, events_left, progress_left}
-use Rattle.net_core.proofs.Fronts.{IsFront-append}
-use Rattle.net_core.proofs.Resume.{trace_from, trace_resumes, front_goes, words_after}
-use Rattle.net_core.proofs.Confluence.{stuck_is_final}
-use Rattle.net_core.proofs.Openings.{EventAt, receives_at, sends_at, ends_with, next_at}
-use Rattle.net_core.proofs.Shown.{shows_unchanged}
+use Rattle.net_core.proofs.Lemmas.{stuck_shows_the_final_cut, shows_unchanged}
 use Rattle.net_run.specs.Rounds.{Advances, Passes, ShowsSince}
-use Rattle.net_run.specs.Typed.{EventFits}
 
 -- some cut is shown
 pub shows_some : (run : Run) (cut : Cut) (config : Config) (moved : Bool) → ShowsSince run cut config moved → (next : Cut) × Shows run next config
@@ -78,38 +64,4 @@ passes_stayed run cut p old new false s h =
 -- a round in which no proc could go shows the final cut
 pub round_ends : (run : Run) (cut : Cut) (count : ℕ) (new : Config) → Passes run cut count new false → length run.procs ≡ count → Shows run (final_cut run) new
 round_ends run cut count new s e =
-    subst (λ (x : Cut). Shows run x new) (fun_ext (stuck_is_final run cut (s.0).consistent (s.0).below (λ p l. s.1 p (omega (arith, l, e))))) s.0
-
--- the event behind the front of a trace is the next one there
-pub next_after : (proc : Proc) (n : ℕ) (words : Histories) (made rest : List Event) (event : Event) → trace_from proc.behavior n (opened proc) words ≡ made ++ event ∷ rest
-    → event ≡ next_of proc.behavior (position_after proc.behavior.sites (opened proc) made words)
-next_after proc n words made rest event e =
-    let b = proc.behavior in
-    let front = subst (λ xs. IsFront made xs) (sym e) (IsFront-append made (event ∷ rest)) in
-    let resumed = trace_resumes b n made (opened proc) words front in
-    let here = append_cancel_left made _ _ (sym resumed ∙ e) in
-    let first = subst (λ xs. IsFront (event ∷ []) xs) (sym here) (IsFront-append (event ∷ []) rest) in
-    (front_goes b n (position_after b.sites (opened proc) made words) (words_after b.sites made words) event [] first).0.next
-
-fits_at : (b : Behavior) → KeepsTypes b → (s : Value) (got : List Word) (done : ℕ) (e : Event) → EventAt b s got done e → EventFits b e
-fits_at b keep s got done _ (receives_at i site later place stands turn) =
-    (site, place, subst (λ t. TurnFits b site t) turn (keep.turns s got i site stands place))
-fits_at b keep s got done _ (sends_at i site w later place stands turn) =
-    let fits = subst (λ t. TurnFits b site t) turn (keep.turns s got i site stands place) in
-    (site, place, fits.0, fits.1)
-fits_at b keep s got done _ (ends_with stands) = keep.state s got stands
-
-pub event_fits : (b : Behavior) → KeepsTypes b → (s : Value) (got : List Word) (done : ℕ) → IsOpen b s got done → EventFits b (next_event b s got done)
-event_fits b keep s got done o = fits_at b keep s got done _ (next_at b s got done o)
-
-pub each_keeps : {X : Type 0} (behavior : X → Behavior) → ((x : X) → KeepsTypes (behavior x)) → (bodies : List X) → EachKeepsTypes (map behavior bodies)
-each_keeps behavior keep [] p b e = cc
-each_keeps behavior keep (x ∷ xs) zero b e = let same : behavior x ≡ b = cc in subst (λ (y : Behavior). KeepsTypes y) same (keep x)
-each_keeps behavior keep (x ∷ xs) (suc p) b e = each_keeps behavior keep xs p b e
-
--- the procs of a run do what they were given to do
-pub behaviors_zipped : (heads : List ProcHead) (bs : List Behavior) → length bs ≡ length heads → map (λ (proc : Proc). proc.behavior) (procs_of heads bs) ≡ bs
-behaviors_zipped [] [] e = refl
-behaviors_zipped [] (b ∷ bs) e = absurd (omega (arith, e))
-behaviors_zipped (h ∷ heads) [] e = absurd (omega (arith, e))
-behaviors_zipped (h ∷ heads) (b ∷ bs) e = ap (λ xs. b ∷ xs) (behaviors_zipped heads bs (omega (arith, e)))
+    stuck_shows_the_final_cut run cut new s.0 (λ p l. s.1 p (omega (arith, l, e)))

@@ -1,7 +1,7 @@
-//! Runs of networks in one thread, and the laws by which the order of their events doesn't matter.
+//! Runs of networks in one thread.
 #![tactic(auto)]
 
-pub mod laws;
 mod run;
 
+pub use net_core::laws;
 pub use run::run_one;

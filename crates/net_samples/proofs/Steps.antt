@@ -8,11 +8,12 @@ use Rattle.net_core.specs.declared.net.Site.{Site}
 use Rattle.net_core.specs.declared.event.Event.{Event}
 use Rattle.net_core.specs.declared.event.Event.TheVariants.{End}
 use Rattle.net_core.specs.Behavior.{event_from}
-use Rattle.net_core.proofs.Resume.{event_turn, event_site}
+use Rattle.net_core.proofs.Lemmas.{event_turn, event_site}
 use Rattle.net_samples.specs.declared.sample.Port.{Port}
 use Rattle.net_samples.specs.declared.sample.Sample.{Sample}
 use Rattle.net_samples.specs.Samples.{number_of, last_number, is_on, event_at, state_after}
-use Rattle.net_samples.specs.Behaviors.{behavior_of, turn_at, port_turn, get_site}
+use Rattle.net_samples.specs.Behaviors.{behavior_of, turn_at, port_turn}
+use Rattle.net_samples.specs.Inner.Keeps.{get_site}
 
 drop_site : (sites : List Site) (i : ℕ) (site : Site) → slice_get sites i ≡ Some site → drop i sites ≡ site ∷ drop (suc i) sites
 drop_site [] i site e = cc

@@ -1,3 +1,4 @@
 pub mod Samples
 pub mod Behaviors
 pub mod Checks
+pub mod Inner

@@ -80,7 +80,8 @@ impl Step {
 }
 
 impl Body for Sample {
-    ghost use Rattle.net_samples.specs.Behaviors.{behavior_of, sample_keeps_types};
+    ghost use Rattle.net_samples.specs.Behaviors.{behavior_of};
+    ghost use Rattle.net_samples.specs.Inner.Keeps.{sample_keeps_types};
 
     ghost behavior = { behavior_of };
 

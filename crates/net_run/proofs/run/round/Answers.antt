@@ -1,7 +1,7 @@
 use Rattle.std.proofs.Common.{◌≡◌, ◌+◌, ◌<◌, subst, sym, arith, length, MatchBool}
 use Rattle.std.proofs.lemmas.Bool.{MatchBool-at_true, MatchBool-at_false}
 use Rattle.net_core.specs.Shows.{events_left}
-use Rattle.net_core.proofs.Stalls.{behavior_there}
+use Rattle.net_core.proofs.Lemmas.{behavior_there}
 use Rattle.net_run.specs.Rounds.{Passes, Advances}
 use Rattle.net_run.proofs.Going.{passes_some, passes_moved, passes_stayed, falls_on, falls_same}
 use Rattle.net_run.proofs.run.round.Goals as goal

@@ -2,7 +2,7 @@ use Rattle.std.proofs.Common.{map}
 use Rattle.std.proofs.lemmas.Result.{IfOk-weaker}
 use Rattle.net_core.specs.Cuts.{empty_cut, final_cut}
 use Rattle.net_core.specs.WellFormed.{run_of}
-use Rattle.net_run.proofs.Going.{each_keeps, behaviors_zipped}
+use Rattle.net_core.proofs.Lemmas.{each_keeps, behaviors_zipped}
 use Rattle.net_run.proofs.run.run_one.Goals as goal
 
 pub run_to_end-requires : goal.run_to_end-requires

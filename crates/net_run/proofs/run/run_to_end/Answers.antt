@@ -1,5 +1,5 @@
 use Rattle.std.proofs.Common.{subst, length}
-use Rattle.net_core.proofs.Stalls.{count_behaviors}
+use Rattle.net_core.proofs.Lemmas.{count_behaviors}
 use Rattle.net_run.specs.Rounds.{Passes}
 use Rattle.net_run.proofs.Going.{passes_some, round_ends}
 use Rattle.net_run.proofs.run.run_to_end.Goals as goal

@@ -1,9 +1,9 @@
 use Rattle.std.proofs.Common.{◌∙◌, sym, map}
 use Rattle.net_core.specs.Cuts.{empty_cut}
 use Rattle.net_core.specs.WellFormed.{run_of}
-use Rattle.net_core.proofs.Stalls.{behavior_there}
-use Rattle.net_run.proofs.Going.{each_keeps, behaviors_zipped}
-use Rattle.net_samples.specs.Behaviors.{behavior_of, sample_keeps_types}
+use Rattle.net_core.proofs.Lemmas.{behavior_there, each_keeps, behaviors_zipped}
+use Rattle.net_samples.specs.Behaviors.{behavior_of}
+use Rattle.net_samples.specs.Inner.Keeps.{sample_keeps_types}
 use Rattle.net_samples.proofs.asking.ask_and_step.Goals as goal
 
 pub can-requires : goal.can-requires

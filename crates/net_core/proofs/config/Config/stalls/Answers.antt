@@ -4,7 +4,7 @@ use Rattle.net_core.specs.declared.outcome.Stall.{Stall}
 use Rattle.net_core.specs.Outcomes.{indexed, stall_in}
 use Rattle.net_core.proofs.Indexed.{indexed_more}
 use Rattle.net_core.proofs.Places.{get_or-there}
-use Rattle.net_core.proofs.Stalls.{behavior_there, count_behaviors}
+use Rattle.net_core.proofs.Bodies.{behavior_there, count_behaviors}
 use Rattle.net_core.proofs.config.Config.stalls.Goals as goal
 
 pub stall-requires : goal.stall-requires
