@@ -1,0 +1,5 @@
+use Rattle.delay_model.proofs.Naming.{named_by_name}
+use Rattle.delay_model.proofs.laws.named_by_name.Goals as goal
+
+pub returns : goal.returns
+returns c = named_by_name
