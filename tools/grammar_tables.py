@@ -1,18 +1,18 @@
 #!/usr/bin/env python3
 """Writes the tables of a grammar from its text, for a crate over the crate `grammar`.
 
-usage: grammar_tables.py GRAMMAR FOLDER [--kinds WHOLE] [--check]
+usage: grammar_tables.py GRAMMAR CRATE [--kinds WHOLE OWNER] [--check]
 
 GRAMMAR has a line `name = symbols | symbols | ..` for each nonterminal, the start first. An alternative with no
 symbols derives nothing, `#` starts a comment, and an indented line goes on with the one above it. A symbol with no
-line of its own is a kind of token. In FOLDER, the sources of a crate, it writes `kind.rt`, `nonterminal.rt` and
-`production.rt`, which name the numbers, and `tables.rt`. With --check nothing is written, and the exit status says
-whether these files are what would be written.
+line of its own is a kind of token. In CRATE, the folder of a crate, it writes src/generated/: `kind.rt`,
+`nonterminal.rt` and `production.rt`, which name the numbers, and `tables.rt`; and specs/Rules.antt, the rules by these
+names. With --check nothing is written, and the exit status says whether these files are what would be written.
 
 The kinds are numbered in the order of their names, with the mark at the end of each text, END, behind them. With
---kinds they have the numbers of another grammar, WHOLE, and `kind.rt` is not written: the module of the tables then
-brings in that grammar's `kind`. The nonterminals and the productions are numbered in the order of the text. Conflicts
-are reported, and fail. Nothing rests on this script: the prover tests the tables.
+--kinds they are those of another grammar, WHOLE, in the crate OWNER, and `kind.rt` is not written. The nonterminals
+and the productions are numbered in the order of the text. Conflicts are reported, and fail. Nothing but
+specs/Rules.antt rests on this script: the prover tests the tables and the names against the rules there.
 """
 import os
 import sys
@@ -101,9 +101,13 @@ def production_names(grammar):
     return names
 
 
-def constants(about, kind, rows):
+def first_line(source):
+    return 'Written by tools/grammar_tables.py from %s.' % source
+
+
+def constants(about, source, kind, rows):
     """A file of numbers: of each row a name, and a line about it where there is one."""
-    out = ['//! %s, written by `tools/grammar_tables.py`.' % about, '']
+    out = ['//! ' + first_line(source), '//!', '//! %s.' % about, '']
     for number, (name, line) in enumerate(rows):
         out += ['/// %s' % line] if line else []
         out += ['pub const %s: %s = %d;' % (name, kind, number)]
@@ -111,13 +115,13 @@ def constants(about, kind, rows):
     return '\n'.join(out) + '\n'
 
 
-def tables(grammar, source):
+def tables(grammar, source, owner):
     kinds = set(grammar.kinds)
     bit = {name: i for i, name in enumerate(grammar.kinds)}
     heads = [head for head, _ in grammar.productions]
-    out = ['//! The tables of the grammar in `%s`, written by `tools/grammar_tables.py`.' % source, '',
-           'use super::{kind, nonterminal};', 'use grammar::Symbol::{Nonterminal, Terminal};',
-           'use grammar::{Production, Span, Symbol};', '',
+    names = ['use super::nonterminal;', 'use %s::kind;' % owner] if owner else ['use super::{kind, nonterminal};']
+    out = ['//! ' + first_line(source), '//!', '//! The tables of the grammar.', '', *names, 'use grammar::Symbol::{Nonterminal, Terminal};',
+            'use grammar::{Production, Span, Symbol};', '',
            '/// The bodies of the productions, one behind the other.',
            'pub static SYMBOLS: [Symbol; %d] = [' % sum(len(body) for _, body in grammar.productions)]
     for head, body in grammar.productions:
@@ -147,15 +151,45 @@ def tables(grammar, source):
     return '\n'.join(out + ['];', ''])
 
 
-def files(grammar, source, own_kinds):
+def rules(grammar, names, source, crate, owner):
+    """The rules by their names, as a definition for the prover."""
+    declared = 'use Rattle.%s.specs.declared.generated.%s.TheConstants as %s'
+    out = ['-- ' + first_line(source),
+           '-- The rules of the grammar by their names.',
+           'use Rattle.std.specs.Prelude.{ℕ, List, [], ◌∷◌}',
+           'use Rattle.grammar.specs.Syntax.{NamedRule, named}',
+           'use Rattle.grammar.specs.declared.table.Symbol.TheVariants.{Terminal, Nonterminal}',
+           declared % (owner or crate, 'kind', 'kind'),
+           declared % (crate, 'nonterminal', 'nonterminal'),
+           declared % (crate, 'production', 'production'), '']
+    if not owner:
+        out += ['-- the kinds of token by their names, in the order of these names, with the end mark behind them',
+                'unfoldable pub kinds : List ℕ',
+                'kinds = %s ∷ []' % ' ∷ '.join('kind.' + name for name in grammar.kinds), '']
+    out += ['-- the nonterminals by their names, the start first',
+            'unfoldable pub nonterminals : List ℕ',
+            'nonterminals = %s ∷ []' % ' ∷ '.join('nonterminal.' + n.upper() for n in grammar.nonterminals), '',
+            '-- of each rule the name, the nonterminal, and what it may be rewritten to',
+            'unfoldable pub named_rules : List NamedRule', 'named_rules =']
+    for (head, body), name in zip(grammar.productions, names):
+        symbols = ['Nonterminal nonterminal.' + s.upper() if s in grammar.first else 'Terminal kind.' + s for s in body]
+        symbols = '(%s ∷ [])' % ' ∷ '.join(symbols) if body else '[]'
+        out += ['    named production.%s nonterminal.%s %s ∷' % (name, head.upper(), symbols)]
+    return '\n'.join(out + ['    []', ''])
+
+
+def files(grammar, source, crate, owner):
     names = production_names(grammar)
-    rules = ['`%s = %s`' % (head, shown(body)) for head, body in grammar.productions]
-    kinds = constants('The kinds of token', 'u8', [(name, None) for name in grammar.kinds])
+    shown_rules = ['`%s = %s`' % (head, shown(body)) for head, body in grammar.productions]
+    kinds = constants('The kinds of token', source, 'u8', [(name, None) for name in grammar.kinds])
+    heads = [(name.upper(), None) for name in grammar.nonterminals]
+    generated = 'src/generated/'
     return {
-        **({'kind.rt': kinds} if own_kinds else {}),
-        'nonterminal.rt': constants('The nonterminals', 'u8', [(name.upper(), None) for name in grammar.nonterminals]),
-        'production.rt': constants('The productions', 'u16', list(zip(names, rules))),
-        'tables.rt': tables(grammar, source),
+        **({} if owner else {generated + 'kind.rt': kinds}),
+        generated + 'nonterminal.rt': constants('The nonterminals', source, 'u8', heads),
+        generated + 'production.rt': constants('The productions', source, 'u16', list(zip(names, shown_rules))),
+        generated + 'tables.rt': tables(grammar, source, owner),
+        'specs/Rules.antt': rules(grammar, names, source, crate, owner),
     }
 
 
@@ -163,19 +197,21 @@ def main():
     words = sys.argv[1:]
     check = '--check' in words
     words = [word for word in words if word != '--check']
-    kinds = None
+    kinds = owner = None
     if '--kinds' in words:
         at = words.index('--kinds')
-        kinds = Grammar(read(words[at + 1])).kinds
-        del words[at:at + 2]
+        kinds, owner = Grammar(read(words[at + 1])).kinds, words[at + 2]
+        del words[at:at + 3]
     source, folder = words
     grammar = Grammar(read(source), kinds)
     conflicts = grammar.conflicts()
     if conflicts:
         sys.exit('\n'.join(conflicts))
-    for name, text in files(grammar, os.path.basename(source), kinds is None).items():
+    crate = os.path.basename(os.path.normpath(folder))
+    for name, text in files(grammar, 'docs/' + os.path.basename(source), crate, owner).items():
         path = os.path.join(folder, name)
         if not check:
+            os.makedirs(os.path.dirname(path), exist_ok=True)
             open(path, 'w', encoding='utf-8').write(text)
         elif open(path, encoding='utf-8').read() != text:
             sys.exit('%s is not what %s gives' % (path, source))

@@ -1,8 +1,8 @@
--- The grammar of DSLX, as docs/dslx.grammar has it.
+-- The grammar of DSLX: the rules of docs/dslx.grammar, and the end mark.
 use Rattle.std.specs.Prelude.{map}
-use Rattle.grammar.specs.Syntax.{Syntax, rule_of}
-use Rattle.dslx_grammar.specs.declared.kind.TheConstants.{END}
-use Rattle.dslx_grammar.specs.declared.tables.TheConstants.{SYMBOLS, PRODUCTIONS}
+use Rattle.grammar.specs.Syntax.{Syntax}
+use Rattle.dslx_grammar.specs.declared.generated.kind.TheConstants.{END}
+use Rattle.dslx_grammar.specs.Rules.{named_rules}
 
 unfoldable pub dslx : Syntax
-dslx = record { rules = map (rule_of SYMBOLS) PRODUCTIONS; end = END }
+dslx = record { rules = map (λ r. r.rule) named_rules; end = END }

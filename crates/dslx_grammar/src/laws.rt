@@ -1,11 +1,21 @@
-//! What holds of DSLX's grammar: the laws of the crate `grammar`, each the contract of a function that
-//! makes one call.
+//! What holds of DSLX's grammar: of its names, and the laws of the crate `grammar`, each the contract of a
+//! function that makes one call.
 
-ghost use Rattle.std.specs.Prelude.{◌≡◌, ℕ, ◌*◌, ◌≤◌, List, length};
+ghost use Rattle.std.specs.Prelude.{◌≡◌, ℕ, ◌*◌, ◌≤◌, List, length, map};
 ghost use Rattle.grammar.specs.Derivation.{IsBeginning, IsDerivation};
+ghost use Rattle.grammar.specs.Syntax.{AreInOrder};
 ghost use Rattle.dslx_grammar.specs.Dslx.{dslx};
+ghost use Rattle.dslx_grammar.specs.Rules.{kinds, named_rules, nonterminals};
 
 use crate::reader::grammar;
+
+/// Different kinds of token have different numbers, and so have the nonterminals; the start is number 0. The
+/// name of a production stands for the place of its rule.
+pub fn names()
+    ensures kinds { AreInOrder kinds }
+    ensures nonterminals { AreInOrder nonterminals }
+    ensures productions { AreInOrder (map (λ r. r.number) named_rules) }
+{}
 
 /// A list of tokens has at most one derivation.
 pub fn one_derivation()

@@ -1,21 +1,22 @@
 //! Reading the kinds of a DSLX text's tokens.
 
-ghost use Rattle.std.specs.Prelude.{◌≡◌, ℕ, ◌++◌, List, take, IfOk, MatchResult};
+ghost use Rattle.std.specs.Prelude.{◌≡◌, ℕ, ◌<◌, ◌++◌, List, length, take, IfOk, MatchResult};
 ghost use Rattle.grammar.specs.Answer.{EndsWith, IfFault};
-ghost use Rattle.grammar.specs.Derivation.{BeginsWith, IsBeginning, IsDerivation, IsFirstFault};
+ghost use Rattle.grammar.specs.Derivation.{BeginsWith, IsBeginning, IsDerivation, IsSentence};
 ghost use Rattle.grammar.specs.Ll1.{IsLl1};
 ghost use Rattle.grammar.specs.Syntax.{syntax_of};
 ghost use Rattle.grammar.specs.Tree.{AreNodes};
 ghost use Rattle.grammar.specs.declared.parser.ParseError.TheVariants.{OutOfMemory};
+ghost use Rattle.lists.specs.Fault.{IsFirstFault};
 ghost use Rattle.dslx_grammar.specs.Dslx.{dslx};
 
-use crate::kind::END;
-use crate::tables;
+use crate::generated::kind::END;
+use crate::generated::tables;
 use grammar::{Grammar, Node, ParseError};
 use std::alloc::{AllocError, Global};
 
 /// The grammar of DSLX.
-#[tactic(auto, unfolding(crate::specs::Dslx::dslx))]
+#[tactic(auto, unfolding(crate::specs::Dslx::dslx, crate::specs::Rules::named_rules))]
 pub fn grammar() -> Grammar<'static>
     ensures valid { IsLl1 result }
     ensures syntax { syntax_of result ≡ dslx }
@@ -35,7 +36,8 @@ pub fn parse(alloc: Global, kinds: &[u8]) -> Result<Vec<u16>, ParseError>
     ensures found { IfOk result (λ found. IsDerivation dslx found.items kinds.now) }
     ensures only { (ps : List ℕ) → IsDerivation dslx ps kinds.now
         → MatchResult result (λ found. found.items ≡ ps) (λ e. e ≡ OutOfMemory) }
-    ensures place { IfFault result (λ fault. IsFirstFault dslx kinds.now fault.place) }
+    ensures place { IfFault result (λ fault. IsFirstFault (IsSentence dslx) kinds.now fault.place) }
+    ensures within { IfFault result (λ fault. fault.place < length kinds.now) }
     ensures so_far { IfFault result
         (λ fault. IsBeginning dslx fault.productions.items (take fault.place kinds.now)) }
     ensures forced { IfFault result (λ fault. (more ps : List ℕ)

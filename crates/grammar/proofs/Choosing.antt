@@ -8,7 +8,8 @@ use Rattle.grammar.specs.declared.table.Span.{Span}
 use Rattle.grammar.specs.declared.table.Grammar.{Grammar}
 use Rattle.grammar.specs.Syntax.{Rule, rule_of, rules_of}
 use Rattle.grammar.specs.Derivation.{IsRule}
-use Rattle.grammar.specs.Ll1.{IsLl1, IsTakenBefore, IsChoice, IsNoChoice}
+use Rattle.grammar.specs.Ll1.{IsLl1}
+use Rattle.grammar.specs.Inner.Choosing.{IsTakenBefore, IsChoice, IsNoChoice}
 use Rattle.grammar.proofs.Sets.{Has}
 use Rattle.grammar.proofs.Tested.{tables, map-get, rule-at, chosen-at, get-within}
 

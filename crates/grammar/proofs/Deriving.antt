@@ -3,9 +3,9 @@ use Rattle.std.proofs.Common.{◌≡◌, ℕ, List, [], ◌∷◌, ◌++◌, ap,
 use Rattle.grammar.specs.declared.table.Symbol.{Symbol}
 use Rattle.grammar.specs.declared.table.Symbol.TheVariants.{Terminal, Nonterminal}
 use Rattle.grammar.specs.Syntax.{Rule}
-use Rattle.grammar.specs.Derivation.{IsRule, Derives, Reads}
+use Rattle.grammar.specs.Derivation.{IsRule, Derives, ReadsTo}
 use Rattle.grammar.specs.Derivation.Derives.{done, shift, expand}
-use Rattle.grammar.specs.Derivation.Reads.{stop, read, rewrite}
+use Rattle.grammar.specs.Derivation.ReadsTo.{stop, read, rewrite}
 
 -- what a derivation begins with, by its first symbol
 pub Derives-nothing : {rules : List Rule} {ps ts : List ℕ} → Derives rules [] ps ts → (ps ≡ []) × (ts ≡ [])
@@ -24,12 +24,12 @@ IsRule-body rules p n m b c r q =
     ap (λ (x : Rule). x.body) same
 
 -- Nothing was read.
-pub Reads-none : {rules : List Rule} {s left : List Symbol} {ps : List ℕ} → Reads rules s ps [] left → left ≡ s
-Reads-none stop = refl
+pub ReadsTo-none : {rules : List Rule} {s left : List Symbol} {ps : List ℕ} → ReadsTo rules s ps [] left → left ≡ s
+ReadsTo-none stop = refl
 
 -- Nothing can be read of no symbols.
-pub Reads-nothing : {rules : List Rule} {left : List Symbol} {ps ts : List ℕ} {t : ℕ} → Reads rules [] ps (t ∷ ts) left → ⊥
-Reads-nothing r = elim r [ ]
+pub ReadsTo-nothing : {rules : List Rule} {left : List Symbol} {ps ts : List ℕ} {t : ℕ} → ReadsTo rules [] ps (t ∷ ts) left → ⊥
+ReadsTo-nothing r = elim r [ ]
 
 pub record Expansion (rules : List Rule) (n : ℕ) (s : List Symbol) (ps ts : List ℕ) : Type 0 where
   pub number : ℕ
@@ -49,12 +49,12 @@ Derives-append {rules} (expand b {s = a} {ps = ps} {ts = ts} r d) {s = s} {qs = 
     expand b r (subst (λ x. Derives rules x (ps ++ qs) (ts ++ us)) (append_assoc b a s) (Derives-append d e))
 
 -- what was read, and then the rest
-pub Reads-derives : {rules : List Rule} {s left : List Symbol} {ps ts : List ℕ} → Reads rules s ps ts left → {qs us : List ℕ} → Derives rules left qs us → Derives rules s (ps ++ qs) (ts ++ us)
-Reads-derives stop d = d
-Reads-derives (read r) d = shift (Reads-derives r d)
-Reads-derives (rewrite b e r) d = expand b e (Reads-derives r d)
+pub ReadsTo-derives : {rules : List Rule} {s left : List Symbol} {ps ts : List ℕ} → ReadsTo rules s ps ts left → {qs us : List ℕ} → Derives rules left qs us → Derives rules s (ps ++ qs) (ts ++ us)
+ReadsTo-derives stop d = d
+ReadsTo-derives (read r) d = shift (ReadsTo-derives r d)
+ReadsTo-derives (rewrite b e r) d = expand b e (ReadsTo-derives r d)
 
-pub Reads-append : {rules : List Rule} {s mid : List Symbol} {ps ts : List ℕ} → Reads rules s ps ts mid → {left : List Symbol} {qs us : List ℕ} → Reads rules mid qs us left → Reads rules s (ps ++ qs) (ts ++ us) left
-Reads-append stop d = d
-Reads-append (read r) d = read (Reads-append r d)
-Reads-append (rewrite b e r) d = rewrite b e (Reads-append r d)
+pub ReadsTo-append : {rules : List Rule} {s mid : List Symbol} {ps ts : List ℕ} → ReadsTo rules s ps ts mid → {left : List Symbol} {qs us : List ℕ} → ReadsTo rules mid qs us left → ReadsTo rules s (ps ++ qs) (ts ++ us) left
+ReadsTo-append stop d = d
+ReadsTo-append (read r) d = read (ReadsTo-append r d)
+ReadsTo-append (rewrite b e r) d = rewrite b e (ReadsTo-append r d)

@@ -1,16 +1,15 @@
--- The laws of derivations and faults.
-use Rattle.std.proofs.Common.{◌≡◌, ℕ, zero, suc, Bool, true, false, eqb, MatchBool, ◌⊎◌, ◌+◌, ◌*◌, ◌<◌, ◌≤◌, inl, inr, List, [], ◌∷◌, ◌++◌, length, take, drop, slice_index, sym, ap, ◌∙◌, subst, refl, append_assoc, arith}
-use Rattle.std.proofs.lemmas.Bool.{cases_order, eq-eqb}
-use Rattle.std.proofs.lemmas.List.{take-append-drop, take-take}
+-- The laws of derivations.
+use Rattle.std.proofs.Common.{◌≡◌, ℕ, zero, suc, Bool, true, false, eqb, MatchBool, ◌⊎◌, ◌+◌, ◌*◌, ◌≤◌, inl, inr, List, [], ◌∷◌, ◌++◌, length, slice_index, sym, ap, ◌∙◌, subst, refl, arith}
+use Rattle.std.proofs.lemmas.Bool.{eq-eqb}
 use Rattle.grammar.specs.declared.table.Grammar.{Grammar}
 use Rattle.grammar.specs.declared.table.Symbol.{Symbol}
 use Rattle.grammar.specs.declared.table.Symbol.TheVariants.{Terminal, Nonterminal}
-use Rattle.grammar.specs.Syntax.{Rule, Syntax, rules_of, syntax_of}
-use Rattle.grammar.specs.Derivation.{IsAlternative, IsBeginning, IsDerivation, IsRule, IsFront, IsFirstFault, Reads}
-use Rattle.grammar.specs.Derivation.Reads.{stop, read, rewrite}
+use Rattle.grammar.specs.Syntax.{Rule, rules_of, syntax_of}
+use Rattle.grammar.specs.Derivation.{IsAlternative, IsBeginning, IsDerivation, IsRule, ReadsTo}
+use Rattle.grammar.specs.Derivation.ReadsTo.{stop, read, rewrite}
 use Rattle.grammar.specs.Ll1.{IsLl1, chosen_of}
 use Rattle.grammar.proofs.Sets.{Has}
-use Rattle.grammar.proofs.Deriving.{IsRule-body, Reads-derives}
+use Rattle.grammar.proofs.Deriving.{IsRule-body, ReadsTo-derives}
 use Rattle.grammar.proofs.Reading.{Good, AllIn, Good-rewrite, AllIn-rewrite, AllIn-left, completes, taken, derives-reads, few}
 use Rattle.grammar.proofs.Tested.{facts}
 use Rattle.grammar.proofs.Stepping.{valid-of, pending-whole, good-whole, all_in-whole, derivation-only}
@@ -24,26 +23,6 @@ derivation-short g h ps ts d =
     let most = few (rules_of g) (chosen_of g) (facts g) g.end (length g.spans.now) (valid-of g h) d in
     let start = (valid-of g h).start_cost in
     omega (arith, most, start)
-
-front-take : (y : Syntax) (ts : List ℕ) (m n : ℕ) → m ≤ n → IsFront y (take n ts) → IsFront y (take m ts)
-front-take y ts m n le front =
-    let parts : take n ts ≡ take m ts ++ drop m (take n ts) = sym (take-append-drop m (take n ts)) ∙ ap (λ x. x ++ drop m (take n ts)) (take-take m n ts le) in
-    let whole : take n ts ++ front.0 ≡ take m ts ++ (drop m (take n ts) ++ front.0) = ap (λ x. x ++ front.0) parts ∙ append_assoc (take m ts) (drop m (take n ts)) front.0 in
-    (drop m (take n ts) ++ front.0, (front.1.0, subst (λ x. IsDerivation y front.1.0 x) whole front.1.1))
-
-fault-order : (y : Syntax) (ts : List ℕ) (i j : ℕ) → IsFirstFault y ts i → IsFirstFault y ts j → i < j → ⊥
-fault-order y ts i j f k lt = f.none (front-take y ts (i + 1) j (omega arith) k.before)
-
-pub fault-unique : (y : Syntax) (ts : List ℕ) (i j : ℕ) → IsFirstFault y ts i → IsFirstFault y ts j → i ≡ j
-fault-unique y ts i j f k =
-    elim (cases_order i j) [
-      | inl same ↦ same
-      | inr o ↦ elim o [ inl lt ↦ absurd (fault-order y ts i j f k lt) | inr lt ↦ absurd (fault-order y ts j i k f lt) ]
-    ]
-
-pub no-fault : (y : Syntax) (ps ts : List ℕ) (i : ℕ) → IsDerivation y ps ts → IsFirstFault y ts i → ⊥
-no-fault y ps ts i d f =
-    f.none (drop (i + 1) ts, (ps, subst (λ x. IsDerivation y ps x) (sym (take-append-drop (i + 1) ts)) d))
 
 -- a rule is one of its nonterminal's
 pub rule-alternative : (rules : List Rule) (from place head : ℕ) (body : List Symbol) → IsRule rules place head body → IsAlternative from rules head (from + place) body
@@ -72,15 +51,15 @@ record Rewriting (rules : List Rule) (n : ℕ) (s left : List Symbol) (ps : List
   pub others : List ℕ
   pub is : ps ≡ number ∷ others
   pub rule : IsRule rules number n body
-  pub reads : Reads rules (body ++ s) others ts left
+  pub reads : ReadsTo rules (body ++ s) others ts left
 
-rewriting-of : {rules : List Rule} {n t : ℕ} {s left : List Symbol} {ps ts : List ℕ} → Reads rules (Nonterminal n ∷ s) ps (t ∷ ts) left → Rewriting rules n s left ps (t ∷ ts)
+rewriting-of : {rules : List Rule} {n t : ℕ} {s left : List Symbol} {ps ts : List ℕ} → ReadsTo rules (Nonterminal n ∷ s) ps (t ∷ ts) left → Rewriting rules n s left ps (t ∷ ts)
 rewriting-of (rewrite {p = p} b {ps = others} e r) = record { number = p; body = b; others = others; is = refl; rule = e; reads = r }
 
-reading-of : {rules : List Rule} {t u : ℕ} {s left : List Symbol} {ps ts : List ℕ} → Reads rules (Terminal t ∷ s) ps (u ∷ ts) left → Reads rules s ps ts left
+reading-of : {rules : List Rule} {t u : ℕ} {s left : List Symbol} {ps ts : List ℕ} → ReadsTo rules (Terminal t ∷ s) ps (u ∷ ts) left → ReadsTo rules s ps ts left
 reading-of (read r) = r
 
-nothing-read : {rules : List Rule} {s left : List Symbol} {ps : List ℕ} → Reads rules s ps [] left → ps ≡ []
+nothing-read : {rules : List Rule} {s left : List Symbol} {ps : List ℕ} → ReadsTo rules s ps [] left → ps ≡ []
 nothing-read stop = refl
 
 module _ (g : Grammar) (h : IsLl1 g) where
@@ -89,9 +68,9 @@ module _ (g : Grammar) (h : IsLl1 g) where
       let v = valid-of g h in
       let within = AllIn-rewrite (rules_of g) (chosen_of g) (facts g) g.end (length g.spans.now) v x.number n x.body s x.rule inside in
       let c = completes (rules_of g) (chosen_of g) (facts g) g.end (length g.spans.now) v left (AllIn-left (rules_of g) (chosen_of g) (facts g) g.end (length g.spans.now) v x.reads within) in
-      taken (rules_of g) (chosen_of g) (facts g) g.end (length g.spans.now) v x.number n t x.body s x.rule good (Reads-derives x.reads c.2)
+      taken (rules_of g) (chosen_of g) (facts g) g.end (length g.spans.now) v x.number n t x.body s x.rule good (ReadsTo-derives x.reads c.2)
 
-  reads-unique : {s left : List Symbol} {ps ts : List ℕ} → Reads (rules_of g) s ps ts left → Good (facts g) s → AllIn (length g.spans.now) s → {qs : List ℕ} {other : List Symbol} → Reads (rules_of g) s qs ts other → ps ≡ qs
+  reads-unique : {s left : List Symbol} {ps ts : List ℕ} → ReadsTo (rules_of g) s ps ts left → Good (facts g) s → AllIn (length g.spans.now) s → {qs : List ℕ} {other : List Symbol} → ReadsTo (rules_of g) s qs ts other → ps ≡ qs
   reads-unique stop good inside r = sym (nothing-read r)
   reads-unique (read a) good inside r = reads-unique a good inside (reading-of r)
   reads-unique (rewrite {p = p} {n = n} {t = t} b {s = s} {left = left} {ps = ps} {ts = ts} e a) good inside {qs = qs} {other = other} r =
@@ -100,7 +79,7 @@ module _ (g : Grammar) (h : IsLl1 g) where
       let own = taken-by n t s left (p ∷ ps) ts good inside.1 (record { number = p; body = b; others = ps; is = refl; rule = e; reads = a }) in
       let same : p ≡ x.number = v.apart p x.number n t b x.body e x.rule own (taken-by n t s other qs ts good inside.1 x) in
       let bodies : x.body ≡ b = IsRule-body (rules_of g) p n n x.body b (subst (λ i. IsRule (rules_of g) i n x.body) (sym same) x.rule) e in
-      let rest = reads-unique a (Good-rewrite (rules_of g) (chosen_of g) (facts g) g.end (length g.spans.now) v p n b s e good) (AllIn-rewrite (rules_of g) (chosen_of g) (facts g) g.end (length g.spans.now) v p n b s e inside.1) (subst (λ c. Reads (rules_of g) (c ++ s) x.others (t ∷ ts) other) bodies x.reads) in
+      let rest = reads-unique a (Good-rewrite (rules_of g) (chosen_of g) (facts g) g.end (length g.spans.now) v p n b s e good) (AllIn-rewrite (rules_of g) (chosen_of g) (facts g) g.end (length g.spans.now) v p n b s e inside.1) (subst (λ c. ReadsTo (rules_of g) (c ++ s) x.others (t ∷ ts) other) bodies x.reads) in
       let front : p ∷ ps ≡ x.number ∷ x.others = cc in
       front ∙ sym x.is
 

@@ -5,13 +5,13 @@ use Rattle.std.proofs.lemmas.List.{append-nil}
 use Rattle.grammar.specs.declared.table.Symbol.{Symbol}
 use Rattle.grammar.specs.declared.table.Symbol.TheVariants.{Terminal, Nonterminal}
 use Rattle.grammar.specs.Syntax.{Rule}
-use Rattle.grammar.specs.Derivation.{IsRule, Derives, Reads}
+use Rattle.grammar.specs.Derivation.{IsRule, Derives, ReadsTo}
 use Rattle.grammar.specs.Derivation.Derives.{done, shift, expand}
-use Rattle.grammar.specs.Derivation.Reads.{stop, read, rewrite}
+use Rattle.grammar.specs.Derivation.ReadsTo.{stop, read, rewrite}
 use Rattle.grammar.specs.Ll1.{Facts, is_nullable, all_nullable, begins, front_cost, total_cost, total_yield, keeps_follow, is_inner, ranks_below, top_rank}
 use Rattle.grammar.proofs.Sets.{Has, within-has, has-or, has-left, has-right, has-pow, has-cond, cond-has}
 use Rattle.grammar.proofs.Valid.{Valid}
-use Rattle.grammar.proofs.Deriving.{Derives-nothing, Expansion, Derives-nonterminal, Derives-append, Derives-rest, IsRule-body, Reads-none, Reads-nothing, Reads-derives}
+use Rattle.grammar.proofs.Deriving.{Derives-nothing, Expansion, Derives-nonterminal, Derives-append, Derives-rest, IsRule-body, ReadsTo-none, ReadsTo-nothing, ReadsTo-derives}
 
 module _ (nullable : List Bool) (first : List ℕ) where
   pub begins-append : (a s : List Symbol) (k : ℕ) → begins nullable first k (a ++ s) ≡ begins nullable first (begins nullable first k s) a
@@ -127,12 +127,12 @@ module _ (rules : List Rule) (chosen : List ℕ) (f : Facts) (end count : ℕ) (
   pub Pending-rewrite : (p n : ℕ) (b s : List Symbol) → IsRule rules p n b → Pending end s → Pending end (b ++ s)
   Pending-rewrite p n b s r h = Pending-append end count b s (v.fine p n b r).inner h
 
-  pub Good-left : {s left : List Symbol} {ps ts : List ℕ} → Reads rules s ps ts left → Good f s → Good f left
+  pub Good-left : {s left : List Symbol} {ps ts : List ℕ} → ReadsTo rules s ps ts left → Good f s → Good f left
   Good-left stop g = g
   Good-left (read r) g = Good-left r g
   Good-left (rewrite {p = p} {n = n} b {s = s} e r) g = Good-left r (Good-rewrite p n b s e g)
 
-  pub AllIn-left : {s left : List Symbol} {ps ts : List ℕ} → Reads rules s ps ts left → AllIn count s → AllIn count left
+  pub AllIn-left : {s left : List Symbol} {ps ts : List ℕ} → ReadsTo rules s ps ts left → AllIn count s → AllIn count left
   AllIn-left stop g = g
   AllIn-left (read r) g = AllIn-left r g
   AllIn-left (rewrite {p = p} {n = n} b {s = s} e r) g = AllIn-left r (AllIn-rewrite p n b s e g.1)
@@ -212,40 +212,40 @@ module _ (rules : List Rule) (chosen : List ℕ) (f : Facts) (end count : ℕ) (
       (x.others, x.is ∙ ap (λ j. j ∷ x.others) (sym same), subst (λ y. Derives rules (y ++ s) x.others (k ∷ us)) bodies x.derives)
 
   -- What was read begins each derivation of these tokens and more, and what is left derives the rest.
-  pub splits : {s left : List Symbol} {qs ts : List ℕ} → Reads rules s qs ts left → Good f s → AllIn count s → {ps : List ℕ} (more : List ℕ) → Derives rules s ps (ts ++ more) → (rest : List ℕ) × (ps ≡ qs ++ rest) × Derives rules left rest more
+  pub splits : {s left : List Symbol} {qs ts : List ℕ} → ReadsTo rules s qs ts left → Good f s → AllIn count s → {ps : List ℕ} (more : List ℕ) → Derives rules s ps (ts ++ more) → (rest : List ℕ) × (ps ≡ qs ++ rest) × Derives rules left rest more
   splits stop g i {ps = ps} more d = (ps, refl, d)
   splits (read r) g i more d = splits r g i more (Derives-rest d).1
   splits (rewrite {p = p} {n = n} {t = t} b {s = s} e r) g i more d =
       let inside = AllIn-rewrite rules chosen f end count v p n b s e i.1 in
       let c = completes _ (AllIn-left rules chosen f end count v r inside) in
-      let x = expansion n t s g p b e (Reads-derives r c.2) d in
+      let x = expansion n t s g p b e (ReadsTo-derives r c.2) d in
       let rest = splits r (Good-rewrite rules chosen f end count v p n b s e g) inside more x.2 in
       (rest.0, x.1 ∙ ap (λ l. p ∷ l) rest.1, rest.2)
 
-  ends_read : (t : ℕ) (s left : List Symbol) (ps ts : List ℕ) → Reads rules s ps ts left → (Pending end s → LastIs ts end → left ≡ []) → Pending end (Terminal t ∷ s) → LastIs (t ∷ ts) end → left ≡ []
-  ends_read t s left ps [] r rest (inl e) l = Reads-none r ∙ e.1
+  ends_read : (t : ℕ) (s left : List Symbol) (ps ts : List ℕ) → ReadsTo rules s ps ts left → (Pending end s → LastIs ts end → left ≡ []) → Pending end (Terminal t ∷ s) → LastIs (t ∷ ts) end → left ≡ []
+  ends_read t s left ps [] r rest (inl e) l = ReadsTo-none r ∙ e.1
   ends_read t s left ps [] r rest (inr e) l = absurd (e.0 l)
-  ends_read t s left ps (u ∷ us) r rest (inl e) l = absurd (Reads-nothing (subst (λ x. Reads rules x ps (u ∷ us) left) e.1 r))
+  ends_read t s left ps (u ∷ us) r rest (inl e) l = absurd (ReadsTo-nothing (subst (λ x. ReadsTo rules x ps (u ∷ us) left) e.1 r))
   ends_read t s left ps (u ∷ us) r rest (inr e) l = rest e.1 l
 
   -- Where the last token read is the end mark, nothing is left.
-  pub ends : {s left : List Symbol} {qs ts : List ℕ} → Reads rules s qs ts left → Pending end s → LastIs ts end → left ≡ []
+  pub ends : {s left : List Symbol} {qs ts : List ℕ} → ReadsTo rules s qs ts left → Pending end s → LastIs ts end → left ≡ []
   ends stop p l = absurd l
   ends (read {t = t} {s = s} {left = left} {ps = ps} {ts = ts} r) p l = ends_read t s left ps ts r (λ a b. ends r a b) p l
   ends (rewrite {p = p} {n = n} b {s = s} e r) h l = ends r (Pending-rewrite rules chosen f end count v p n b s e h) l
 
-  read_on : (p n : ℕ) (b s : List Symbol) → IsRule rules p n b → Pending end (b ++ s) → {ps : List ℕ} (ts : List ℕ) → Reads rules (b ++ s) ps ts [] → Reads rules (Nonterminal n ∷ s) (p ∷ ps) ts []
-  read_on p n b s e h [] r = absurd (subst (λ x. Pending end x) (sym (Reads-none r)) h)
+  read_on : (p n : ℕ) (b s : List Symbol) → IsRule rules p n b → Pending end (b ++ s) → {ps : List ℕ} (ts : List ℕ) → ReadsTo rules (b ++ s) ps ts [] → ReadsTo rules (Nonterminal n ∷ s) (p ∷ ps) ts []
+  read_on p n b s e h [] r = absurd (subst (λ x. Pending end x) (sym (ReadsTo-none r)) h)
   read_on p n b s e h (t ∷ ts) r = rewrite b e r
 
-  shift_on : (t : ℕ) (s : List Symbol) {ps ts : List ℕ} → Derives rules s ps ts → (Pending end s → Reads rules s ps ts []) → Pending end (Terminal t ∷ s) → Reads rules (Terminal t ∷ s) ps (t ∷ ts) []
+  shift_on : (t : ℕ) (s : List Symbol) {ps ts : List ℕ} → Derives rules s ps ts → (Pending end s → ReadsTo rules s ps ts []) → Pending end (Terminal t ∷ s) → ReadsTo rules (Terminal t ∷ s) ps (t ∷ ts) []
   shift_on t s {ps} {ts} d rest (inl e) =
       let q = Derives-nothing (subst (λ x. Derives rules x ps ts) e.1 d) in
-      read (subst (λ x. Reads rules x ps ts []) (sym e.1) (subst (λ x. Reads rules [] x ts []) (sym q.0) (subst (λ x. Reads rules [] [] x []) (sym q.1) stop)))
+      read (subst (λ x. ReadsTo rules x ps ts []) (sym e.1) (subst (λ x. ReadsTo rules [] x ts []) (sym q.0) (subst (λ x. ReadsTo rules [] [] x []) (sym q.1) stop)))
   shift_on t s d rest (inr e) = read (rest e.1)
 
   -- A derivation up to the end mark reads its tokens and leaves nothing.
-  pub derives-reads : {s : List Symbol} {ps ts : List ℕ} → Derives rules s ps ts → Pending end s → Reads rules s ps ts []
+  pub derives-reads : {s : List Symbol} {ps ts : List ℕ} → Derives rules s ps ts → Pending end s → ReadsTo rules s ps ts []
   derives-reads done h = absurd h
   derives-reads (shift {t = t} {s = s} d) h = shift_on t s d (λ p. derives-reads d p) h
   derives-reads (expand {p = p} {n = n} b {s = s} {ts = ts} e d) h =
@@ -253,7 +253,7 @@ module _ (rules : List Rule) (chosen : List ℕ) (f : Facts) (end count : ℕ) (
       read_on p n b s e p' ts (derives-reads d p')
 
   -- what is read to the end, and left nothing, is the one derivation
-  pub only_one : {s : List Symbol} {qs ts : List ℕ} → Reads rules s qs ts [] → Good f s → AllIn count s → (ps : List ℕ) → Derives rules s ps ts → ps ≡ qs
+  pub only_one : {s : List Symbol} {qs ts : List ℕ} → ReadsTo rules s qs ts [] → Good f s → AllIn count s → (ps : List ℕ) → Derives rules s ps ts → ps ≡ qs
   only_one {s} {qs} {ts} r g i ps d =
       let x = splits r g i [] (subst (λ y. Derives rules s ps y) (sym (append-nil ts)) d) in
       x.1 ∙ ap (λ y. qs ++ y) (Derives-nothing x.2).0 ∙ append-nil qs
@@ -300,7 +300,7 @@ module _ (rules : List Rule) (chosen : List ℕ) (f : Facts) (end count : ℕ) (
 pub record Leads (rules : List Rule) (f : Facts) (count kind : ℕ) (old s : List Symbol) (before after : List ℕ) : Type 0 where
   pub numbers : List ℕ
   pub grown : after ≡ before ++ numbers
-  pub reads : (qs : List ℕ) (left : List Symbol) → Reads rules s qs (kind ∷ []) left → Reads rules old (numbers ++ qs) (kind ∷ []) left
+  pub reads : (qs : List ℕ) (left : List Symbol) → ReadsTo rules s qs (kind ∷ []) left → ReadsTo rules old (numbers ++ qs) (kind ∷ []) left
   pub passes : (ps ts : List ℕ) → Derives rules old ps (kind ∷ ts) → (rest : List ℕ) × Derives rules s rest (kind ∷ ts)
   pub good : Good f s
   pub all_in : AllIn count s
@@ -327,7 +327,7 @@ module _ (rules : List Rule) (chosen : List ℕ) (f : Facts) (end count : ℕ) (
   Leads-rewrite kind old s n p b before after l e has = record {
     numbers = l.numbers ++ p ∷ [];
     grown = ap (λ x. x ++ p ∷ []) l.grown ∙ append_assoc before l.numbers (p ∷ []);
-    reads = λ qs left r. subst (λ x. Reads rules old x (kind ∷ []) left) (sym (append_assoc l.numbers (p ∷ []) qs)) (l.reads (p ∷ qs) left (rewrite b e r));
+    reads = λ qs left r. subst (λ x. ReadsTo rules old x (kind ∷ []) left) (sym (append_assoc l.numbers (p ∷ []) qs)) (l.reads (p ∷ qs) left (rewrite b e r));
     passes = λ ps ts d. same_expansion p n kind b s e has l.good ts (Derives-nonterminal (l.passes ps ts d).1);
     good = Good-rewrite rules chosen f end count v p n b s e l.good;
     all_in = AllIn-rewrite rules chosen f end count v p n b s e l.all_in.1;

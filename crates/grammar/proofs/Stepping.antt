@@ -8,13 +8,16 @@ use Rattle.grammar.specs.declared.table.Symbol.{Symbol}
 use Rattle.grammar.specs.declared.table.Symbol.TheVariants.{Terminal, Nonterminal}
 use Rattle.grammar.specs.declared.table.Grammar.{Grammar}
 use Rattle.grammar.specs.Syntax.{rules_of, syntax_of}
-use Rattle.grammar.specs.Derivation.{IsRule, Derives, Reads, whole, IsDerivation, IsFront, IsFirstFault, IsLeft, ReadsOne, ReadsNone, BeginsWith}
+use Rattle.grammar.specs.Derivation.{IsRule, Derives, ReadsTo, start_of, IsDerivation, IsSentence, BeginsWith}
+use Rattle.lists.specs.Fault.{Begins, IsFirstFault}
+use Rattle.grammar.specs.Inner.Reading.{IsLeft, ReadsOne, ReadsNone}
 use Rattle.grammar.specs.Derivation.Derives.{done}
-use Rattle.grammar.specs.Derivation.Reads.{stop, read}
-use Rattle.grammar.specs.Ll1.{IsLl1, IsChoice, IsNoChoice, chosen_of, front_cost}
+use Rattle.grammar.specs.Derivation.ReadsTo.{stop, read}
+use Rattle.grammar.specs.Ll1.{IsLl1, chosen_of, front_cost}
+use Rattle.grammar.specs.Inner.Choosing.{IsChoice, IsNoChoice}
 use Rattle.grammar.proofs.Sets.{within-has}
 use Rattle.grammar.proofs.Valid.{Valid}
-use Rattle.grammar.proofs.Deriving.{IsRule-body, Reads-derives, Reads-append}
+use Rattle.grammar.proofs.Deriving.{IsRule-body, ReadsTo-derives, ReadsTo-append}
 use Rattle.grammar.proofs.Reading.{Good, AllIn, Pending, LastIs, Good-left, AllIn-left, Leads, Leads-start, Leads-rewrite, Leads-none, none-empty, none-other, none-chosen, front_cost-rewrite, completes, splits, ends, only_one}
 use Rattle.grammar.proofs.Tested.{facts, tables}
 
@@ -25,13 +28,13 @@ LeadsIn g kind old s before after = Leads (rules_of g) (facts g) (length g.spans
 pub valid-of : (g : Grammar) → IsLl1 g → Valid (rules_of g) (chosen_of g) (facts g) g.end (length g.spans.now)
 valid-of g h = (tables g h).valid
 
-pub good-whole : (g : Grammar) → IsLl1 g → Good (facts g) (whole (syntax_of g))
+pub good-whole : (g : Grammar) → IsLl1 g → Good (facts g) (start_of (syntax_of g))
 good-whole g h = (λ k has. within-has _ _ k (valid-of g h).start_follow has, tt)
 
-pub all_in-whole : (g : Grammar) → IsLl1 g → AllIn (length g.spans.now) (whole (syntax_of g))
+pub all_in-whole : (g : Grammar) → IsLl1 g → AllIn (length g.spans.now) (start_of (syntax_of g))
 all_in-whole g h = ((valid-of g h).some, tt)
 
-pub pending-whole : (g : Grammar) → Pending g.end (whole (syntax_of g))
+pub pending-whole : (g : Grammar) → Pending g.end (start_of (syntax_of g))
 pending-whole g = inl (refl, refl)
 
 pub leads-start : (g : Grammar) → IsLl1 g → (kind : ℕ) (old : List Symbol) (before : List ℕ) → IsLeft (syntax_of g) old → LeadsIn g kind old old before before
@@ -52,7 +55,7 @@ reads-here g kind wanted old s left before after l e same =
     record {
       numbers = l.numbers;
       grown = l.grown;
-      reads = subst (λ x. Reads (rules_of g) old x (kind ∷ []) left) (append-nil l.numbers) (l.reads [] left (subst (λ x. Reads (rules_of g) x [] (kind ∷ []) left) (sym e') (read stop)));
+      reads = subst (λ x. ReadsTo (rules_of g) old x (kind ∷ []) left) (append-nil l.numbers) (l.reads [] left (subst (λ x. ReadsTo (rules_of g) x [] (kind ∷ []) left) (sym e') (read stop)));
     }
 
 pub none-here : (g : Grammar) (kind : ℕ) (old s : List Symbol) (before after : List ℕ) → LeadsIn g kind old s before after → ((ps ts : List ℕ) → Derives (rules_of g) s ps (kind ∷ ts) → ⊥) → IsLl1 g → ReadsNone (rules_of g) kind old before after
@@ -96,25 +99,25 @@ cost-less g h kind n p head s left b next e choice r e' =
 
 -- ---- the loop over the tokens
 
-pub read-more : (g : Grammar) (kinds : List ℕ) (place kind : ℕ) (old new : List Symbol) (before after : List ℕ) → Reads (rules_of g) (whole (syntax_of g)) before (take place kinds) old → ReadsOne (rules_of g) kind old new before after → take (place + 1) kinds ≡ take place kinds ++ kind ∷ [] → Reads (rules_of g) (whole (syntax_of g)) after (take (place + 1) kinds) new
+pub read-more : (g : Grammar) (kinds : List ℕ) (place kind : ℕ) (old new : List Symbol) (before after : List ℕ) → ReadsTo (rules_of g) (start_of (syntax_of g)) before (take place kinds) old → ReadsOne (rules_of g) kind old new before after → take (place + 1) kinds ≡ take place kinds ++ kind ∷ [] → ReadsTo (rules_of g) (start_of (syntax_of g)) after (take (place + 1) kinds) new
 read-more g kinds place kind old new before after r one e =
-    subst (λ x. Reads (rules_of g) (whole (syntax_of g)) x (take (place + 1) kinds) new) (sym one.grown)
-    (subst (λ x. Reads (rules_of g) (whole (syntax_of g)) (before ++ one.numbers) x new) (sym e) (Reads-append r one.reads))
+    subst (λ x. ReadsTo (rules_of g) (start_of (syntax_of g)) x (take (place + 1) kinds) new) (sym one.grown)
+    (subst (λ x. ReadsTo (rules_of g) (start_of (syntax_of g)) (before ++ one.numbers) x new) (sym e) (ReadsTo-append r one.reads))
 
 -- what is read begins some sentence
-pub is-front : (g : Grammar) → IsLl1 g → (ps ts : List ℕ) (left : List Symbol) → Reads (rules_of g) (whole (syntax_of g)) ps ts left → IsFront (syntax_of g) ts
+pub is-front : (g : Grammar) → IsLl1 g → (ps ts : List ℕ) (left : List Symbol) → ReadsTo (rules_of g) (start_of (syntax_of g)) ps ts left → Begins (IsSentence (syntax_of g)) ts
 is-front g h ps ts left r =
     let v = valid-of g h in
     let c = completes (rules_of g) (chosen_of g) (facts g) g.end (length g.spans.now) v left (AllIn-left (rules_of g) (chosen_of g) (facts g) g.end (length g.spans.now) v r (all_in-whole g h)) in
-    (c.1, (ps ++ c.0, Reads-derives r c.2))
+    (c.1, (ps ++ c.0, ReadsTo-derives r c.2))
 
 -- what was read begins each derivation of a sentence with this front
-pub forced-by : (g : Grammar) → IsLl1 g → (qs ts : List ℕ) (left : List Symbol) → Reads (rules_of g) (whole (syntax_of g)) qs ts left → (more ps : List ℕ) → IsDerivation (syntax_of g) ps (ts ++ more) → (rest : List ℕ) × (ps ≡ qs ++ rest) × Derives (rules_of g) left rest more
+pub forced-by : (g : Grammar) → IsLl1 g → (qs ts : List ℕ) (left : List Symbol) → ReadsTo (rules_of g) (start_of (syntax_of g)) qs ts left → (more ps : List ℕ) → IsDerivation (syntax_of g) ps (ts ++ more) → (rest : List ℕ) × (ps ≡ qs ++ rest) × Derives (rules_of g) left rest more
 forced-by g h qs ts left r more ps d =
     splits (rules_of g) (chosen_of g) (facts g) g.end (length g.spans.now) (valid-of g h) r (good-whole g h) (all_in-whole g h) more d
 
 -- no sentence goes on with a kind that can't be read
-pub no-front : (g : Grammar) → IsLl1 g → (kinds : List ℕ) (place kind : ℕ) (numbers : List ℕ) (stack : List Symbol) → Reads (rules_of g) (whole (syntax_of g)) numbers (take place kinds) stack → ((ps ts : List ℕ) → Derives (rules_of g) stack ps (kind ∷ ts) → ⊥) → take (place + 1) kinds ≡ take place kinds ++ kind ∷ [] → IsFront (syntax_of g) (take (place + 1) kinds) → ⊥
+pub no-front : (g : Grammar) → IsLl1 g → (kinds : List ℕ) (place kind : ℕ) (numbers : List ℕ) (stack : List Symbol) → ReadsTo (rules_of g) (start_of (syntax_of g)) numbers (take place kinds) stack → ((ps ts : List ℕ) → Derives (rules_of g) stack ps (kind ∷ ts) → ⊥) → take (place + 1) kinds ≡ take place kinds ++ kind ∷ [] → Begins (IsSentence (syntax_of g)) (take (place + 1) kinds) → ⊥
 no-front g h kinds place kind numbers stack r none e front =
     let front' : take (place + 1) kinds ++ front.0 ≡ take place kinds ++ (kind ∷ front.0) = ap (λ x. x ++ front.0) e ∙ append_assoc (take place kinds) (kind ∷ []) front.0 in
     let x = forced-by g h numbers (take place kinds) stack r (kind ∷ front.0) front.1.0 (subst (λ y. IsDerivation (syntax_of g) front.1.0 y) front' front.1.1) in
@@ -129,55 +132,56 @@ last-is (y ∷ z ∷ ys) x e =
     last-is (z ∷ ys) x (subst (λ i. slice_get (z ∷ ys) i ≡ Some x) (sym there) (subst (λ i. slice_get (y ∷ z ∷ ys) i ≡ Some x) here e))
 
 -- At the end mark nothing is left.
-pub read-all : (g : Grammar) → IsLl1 g → (kinds numbers : List ℕ) (stack : List Symbol) → slice_get kinds (length kinds - 1) ≡ Some g.end → Reads (rules_of g) (whole (syntax_of g)) numbers kinds stack → Reads (rules_of g) (whole (syntax_of g)) numbers kinds []
+pub read-all : (g : Grammar) → IsLl1 g → (kinds numbers : List ℕ) (stack : List Symbol) → slice_get kinds (length kinds - 1) ≡ Some g.end → ReadsTo (rules_of g) (start_of (syntax_of g)) numbers kinds stack → ReadsTo (rules_of g) (start_of (syntax_of g)) numbers kinds []
 read-all g h kinds numbers stack e r =
-    subst (λ x. Reads (rules_of g) (whole (syntax_of g)) numbers kinds x) (ends (rules_of g) (chosen_of g) (facts g) g.end (length g.spans.now) (valid-of g h) r (pending-whole g) (last-is kinds g.end e)) r
+    subst (λ x. ReadsTo (rules_of g) (start_of (syntax_of g)) numbers kinds x) (ends (rules_of g) (chosen_of g) (facts g) g.end (length g.spans.now) (valid-of g h) r (pending-whole g) (last-is kinds g.end e)) r
 
 -- ---- in the names of the code
 
-pub start-read : (g : Grammar) (kinds numbers : List ℕ) (first second : List Symbol) → numbers ≡ [] → first ≡ [] ++ Terminal g.end ∷ [] → second ≡ first ++ Nonterminal 0 ∷ [] → Reads (rules_of g) (whole (syntax_of g)) numbers (take 0 kinds) (reverse second)
+pub start-read : (g : Grammar) (kinds numbers : List ℕ) (first second : List Symbol) → numbers ≡ [] → first ≡ [] ++ Terminal g.end ∷ [] → second ≡ first ++ Nonterminal 0 ∷ [] → ReadsTo (rules_of g) (start_of (syntax_of g)) numbers (take 0 kinds) (reverse second)
 start-read g kinds numbers first second e f s =
-    let both : reverse second ≡ whole (syntax_of g) = ap reverse (s ∙ ap (λ x. x ++ Nonterminal 0 ∷ []) f) in
-    subst (λ x. Reads (rules_of g) (whole (syntax_of g)) x [] (reverse second)) (sym e) (subst (λ x. Reads (rules_of g) (whole (syntax_of g)) [] [] x) (sym both) stop)
+    let both : reverse second ≡ start_of (syntax_of g) = ap reverse (s ∙ ap (λ x. x ++ Nonterminal 0 ∷ []) f) in
+    subst (λ x. ReadsTo (rules_of g) (start_of (syntax_of g)) x [] (reverse second)) (sym e) (subst (λ x. ReadsTo (rules_of g) (start_of (syntax_of g)) [] [] x) (sym both) stop)
 
 -- where the token at a place can't be read: what was read before it, and that nothing goes on with it
 pub record Stops (g : Grammar) (kinds : List ℕ) (place : ℕ) (numbers : List ℕ) : Type 0 where
   pub stack : List Symbol
-  pub reads : Reads (rules_of g) (whole (syntax_of g)) numbers (take place kinds) stack
-  pub none : IsFront (syntax_of g) (take (place + 1) kinds) → ⊥
+  pub reads : ReadsTo (rules_of g) (start_of (syntax_of g)) numbers (take place kinds) stack
+  pub none : Begins (IsSentence (syntax_of g)) (take (place + 1) kinds) → ⊥
 
-pub stops-at : (g : Grammar) → IsLl1 g → (kinds : List ℕ) (place kind known : ℕ) (stack : List Symbol) (before after cut : List ℕ) → Reads (rules_of g) (whole (syntax_of g)) before (take place kinds) stack → ReadsNone (rules_of g) kind stack before after → cut ≡ take known after → known ≡ length before → take (place + 1) kinds ≡ take place kinds ++ kind ∷ [] → Stops g kinds place cut
+pub stops-at : (g : Grammar) → IsLl1 g → (kinds : List ℕ) (place kind known : ℕ) (stack : List Symbol) (before after cut : List ℕ) → ReadsTo (rules_of g) (start_of (syntax_of g)) before (take place kinds) stack → ReadsNone (rules_of g) kind stack before after → cut ≡ take known after → known ≡ length before → take (place + 1) kinds ≡ take place kinds ++ kind ∷ [] → Stops g kinds place cut
 stops-at g h kinds place kind known stack before after cut r stuck e n t =
     let same : cut ≡ before = e ∙ ap (λ i. take i after) n ∙ stuck.kept in
     record {
       stack = stack;
-      reads = subst (λ x. Reads (rules_of g) (whole (syntax_of g)) x (take place kinds) stack) (sym same) r;
+      reads = subst (λ x. ReadsTo (rules_of g) (start_of (syntax_of g)) x (take place kinds) stack) (sym same) r;
       none = no-front g h kinds place kind before stack r stuck.none t;
     }
-
-pub first-fault : (g : Grammar) → IsLl1 g → (kinds : List ℕ) (place : ℕ) (numbers : List ℕ) → place < length kinds → Stops g kinds place numbers → IsFirstFault (syntax_of g) kinds place
-first-fault g h kinds place numbers lt s = record {
-  within = lt;
-  before = is-front g h numbers (take place kinds) s.stack s.reads;
-  none = s.none;
-}
 
 pub no-sentence : (g : Grammar) (kinds : List ℕ) (place : ℕ) (numbers : List ℕ) → Stops g kinds place numbers → (ps : List ℕ) → IsDerivation (syntax_of g) ps kinds → ⊥
 no-sentence g kinds place numbers s ps d =
     s.none (drop (place + 1) kinds, (ps, subst (λ x. IsDerivation (syntax_of g) ps x) (sym (take-append-drop (place + 1) kinds)) d))
 
+pub first-fault : (g : Grammar) → IsLl1 g → (kinds : List ℕ) (place : ℕ) (numbers : List ℕ) → place < length kinds → Stops g kinds place numbers → IsFirstFault (IsSentence (syntax_of g)) kinds place
+first-fault g h kinds place numbers lt s = record {
+  within = omega (arith, lt);
+  before = is-front g h numbers (take place kinds) s.stack s.reads;
+  never = λ _. s.none;
+  none = λ d. no-sentence g kinds place numbers s d.0 d.1;
+}
+
 pub forced-at : (g : Grammar) → IsLl1 g → (kinds : List ℕ) (place : ℕ) (numbers : List ℕ) → Stops g kinds place numbers → (more ps : List ℕ) → IsDerivation (syntax_of g) ps (take place kinds ++ more) → BeginsWith ps numbers
 forced-at g h kinds place numbers s more ps d = let x = forced-by g h numbers (take place kinds) s.stack s.reads more ps d in (x.0, x.1)
 
 -- where all tokens were read
-pub reads-end : (g : Grammar) → IsLl1 g → (kinds numbers : List ℕ) (place : ℕ) (stack : List Symbol) → slice_get kinds (length kinds - 1) ≡ Some g.end → length kinds ≤ place → Reads (rules_of g) (whole (syntax_of g)) numbers (take place kinds) stack → Reads (rules_of g) (whole (syntax_of g)) numbers kinds []
+pub reads-end : (g : Grammar) → IsLl1 g → (kinds numbers : List ℕ) (place : ℕ) (stack : List Symbol) → slice_get kinds (length kinds - 1) ≡ Some g.end → length kinds ≤ place → ReadsTo (rules_of g) (start_of (syntax_of g)) numbers (take place kinds) stack → ReadsTo (rules_of g) (start_of (syntax_of g)) numbers kinds []
 reads-end g h kinds numbers place stack e le r =
-    read-all g h kinds numbers stack e (subst (λ x. Reads (rules_of g) (whole (syntax_of g)) numbers x stack) (take_all place kinds le) r)
+    read-all g h kinds numbers stack e (subst (λ x. ReadsTo (rules_of g) (start_of (syntax_of g)) numbers x stack) (take_all place kinds le) r)
 
-pub derivation-found : (g : Grammar) (kinds numbers : List ℕ) → Reads (rules_of g) (whole (syntax_of g)) numbers kinds [] → IsDerivation (syntax_of g) numbers kinds
+pub derivation-found : (g : Grammar) (kinds numbers : List ℕ) → ReadsTo (rules_of g) (start_of (syntax_of g)) numbers kinds [] → IsDerivation (syntax_of g) numbers kinds
 derivation-found g kinds numbers r =
-    subst (λ x. IsDerivation (syntax_of g) x kinds) (append-nil numbers) (subst (λ x. IsDerivation (syntax_of g) (numbers ++ []) x) (append-nil kinds) (Reads-derives r done))
+    subst (λ x. IsDerivation (syntax_of g) x kinds) (append-nil numbers) (subst (λ x. IsDerivation (syntax_of g) (numbers ++ []) x) (append-nil kinds) (ReadsTo-derives r done))
 
-pub derivation-only : (g : Grammar) → IsLl1 g → (kinds numbers : List ℕ) → Reads (rules_of g) (whole (syntax_of g)) numbers kinds [] → (ps : List ℕ) → IsDerivation (syntax_of g) ps kinds → numbers ≡ ps
+pub derivation-only : (g : Grammar) → IsLl1 g → (kinds numbers : List ℕ) → ReadsTo (rules_of g) (start_of (syntax_of g)) numbers kinds [] → (ps : List ℕ) → IsDerivation (syntax_of g) ps kinds → numbers ≡ ps
 derivation-only g h kinds numbers r ps d =
     sym (only_one (rules_of g) (chosen_of g) (facts g) g.end (length g.spans.now) (valid-of g h) r (good-whole g h) (all_in-whole g h) ps d)

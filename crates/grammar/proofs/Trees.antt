@@ -9,13 +9,14 @@ use Rattle.grammar.specs.declared.tree.Node.{Node}
 use Rattle.grammar.specs.Syntax.{Rule, Syntax}
 use Rattle.grammar.specs.Derivation.{IsRule, IsDerivation, Derives}
 use Rattle.grammar.specs.Derivation.Derives.{done, shift, expand}
-use Rattle.grammar.specs.Tree.{Forest, nothing, token, node, Grows, productions_of, tokens_of, IsNode, HasTree, AreNodes, AreNodesFrom, IsParseTree, Stands, IsExtent, AreLaid}
+use Rattle.grammar.specs.Tree.{Forest, nothing, token, node, Grows, productions_of, leaves_of, IsNode, AreNodes, IsParseTree, Derived, Place, Tree, Stands, IsExtent, AreLaid, beginning, below_of, behind}
+use Rattle.grammar.specs.Inner.Nodes.{HasTree, AreNodesFrom}
 use Rattle.grammar.specs.Tree.Grows.{empty, leaf, branch}
 use Rattle.grammar.proofs.Deriving.{IsRule-body, Derives-append}
 use Rattle.grammar.proofs.Tested.{get-within}
 
 -- what grows has a derivation
-pub Grows-derives : {rules : List Rule} {s : List Symbol} {f : Forest} → Grows rules s f → Derives rules s (productions_of f) (tokens_of f)
+pub Grows-derives : {rules : List Rule} {s : List Symbol} {f : Forest} → Grows rules s f → Derives rules s (productions_of f) (leaves_of f)
 Grows-derives empty = done
 Grows-derives (leaf g) = shift (Grows-derives g)
 Grows-derives (branch b e g h) = expand b e (Derives-append (Grows-derives g) (Grows-derives h))
@@ -27,13 +28,13 @@ pub record Parts (rules : List Rule) (a s : List Symbol) (ps ts : List ℕ) : Ty
   pub grows_left : Grows rules a left
   pub grows_right : Grows rules s right
   pub productions : productions_of left ++ productions_of right ≡ ps
-  pub tokens : tokens_of left ++ tokens_of right ≡ ts
+  pub tokens : leaves_of left ++ leaves_of right ≡ ts
 
-pub record Tree (rules : List Rule) (s : List Symbol) (ps ts : List ℕ) : Type 0 where
+pub record Grown (rules : List Rule) (s : List Symbol) (ps ts : List ℕ) : Type 0 where
   pub forest : Forest
   pub grows : Grows rules s forest
   pub productions : productions_of forest ≡ ps
-  pub tokens : tokens_of forest ≡ ts
+  pub tokens : leaves_of forest ≡ ts
 
 with-token : {rules : List Rule} {a s : List Symbol} {ps ts : List ℕ} (t : ℕ) → Parts rules a s ps ts → Parts rules (Terminal t ∷ a) s ps (t ∷ ts)
 with-token t x = record {
@@ -45,22 +46,22 @@ with-token t x = record {
   tokens = ap (λ l. t ∷ l) x.tokens;
 }
 
-with-node : {rules : List Rule} {a s : List Symbol} {ps ts : List ℕ} (p n : ℕ) (b : List Symbol) (below : Forest) → IsRule rules p n b → Grows rules b below → Parts rules a s ps ts → Parts rules (Nonterminal n ∷ a) s (p ∷ (productions_of below ++ ps)) (tokens_of below ++ ts)
+with-node : {rules : List Rule} {a s : List Symbol} {ps ts : List ℕ} (p n : ℕ) (b : List Symbol) (below : Forest) → IsRule rules p n b → Grows rules b below → Parts rules a s ps ts → Parts rules (Nonterminal n ∷ a) s (p ∷ (productions_of below ++ ps)) (leaves_of below ++ ts)
 with-node p n b below e g x = record {
   left = node p below x.left;
   right = x.right;
   grows_left = branch b e g x.grows_left;
   grows_right = x.grows_right;
   productions = ap (λ l. p ∷ l) (append_assoc (productions_of below) (productions_of x.left) (productions_of x.right) ∙ ap (λ l. productions_of below ++ l) x.productions);
-  tokens = append_assoc (tokens_of below) (tokens_of x.left) (tokens_of x.right) ∙ ap (λ l. tokens_of below ++ l) x.tokens;
+  tokens = append_assoc (leaves_of below) (leaves_of x.left) (leaves_of x.right) ∙ ap (λ l. leaves_of below ++ l) x.tokens;
 }
 
-parts : {rules : List Rule} (a s : List Symbol) {f : Forest} → Grows rules (a ++ s) f → Parts rules a s (productions_of f) (tokens_of f)
+parts : {rules : List Rule} (a s : List Symbol) {f : Forest} → Grows rules (a ++ s) f → Parts rules a s (productions_of f) (leaves_of f)
 parts [] s {f = f} g = record { left = nothing; right = f; grows_left = empty; grows_right = g; productions = refl; tokens = refl }
 parts (Terminal t ∷ a) s (leaf g) = with-token t (parts a s g)
 parts (Nonterminal n ∷ a) s (branch {p = p} b {below = below} e g h) = with-node p n b below e g (parts a s h)
 
-grown : {rules : List Rule} {s : List Symbol} {ps ts : List ℕ} (p n : ℕ) (b : List Symbol) → IsRule rules p n b → Parts rules b s ps ts → Tree rules (Nonterminal n ∷ s) (p ∷ ps) ts
+grown : {rules : List Rule} {s : List Symbol} {ps ts : List ℕ} (p n : ℕ) (b : List Symbol) → IsRule rules p n b → Parts rules b s ps ts → Grown rules (Nonterminal n ∷ s) (p ∷ ps) ts
 grown p n b e x = record {
   forest = node p x.left x.right;
   grows = branch b e x.grows_left x.grows_right;
@@ -68,12 +69,12 @@ grown p n b e x = record {
   tokens = x.tokens;
 }
 
-parts-of : {rules : List Rule} (a s : List Symbol) {ps ts : List ℕ} → Tree rules (a ++ s) ps ts → Parts rules a s ps ts
+parts-of : {rules : List Rule} (a s : List Symbol) {ps ts : List ℕ} → Grown rules (a ++ s) ps ts → Parts rules a s ps ts
 parts-of {rules} a s {ps} {ts} x =
     subst (λ l. Parts rules a s l ts) x.productions (subst (λ l. Parts rules a s (productions_of x.forest) l) x.tokens (parts a s x.grows))
 
 -- each derivation has a tree
-pub tree-of : {rules : List Rule} {s : List Symbol} {ps ts : List ℕ} → Derives rules s ps ts → Tree rules s ps ts
+pub tree-of : {rules : List Rule} {s : List Symbol} {ps ts : List ℕ} → Derives rules s ps ts → Grown rules s ps ts
 tree-of done = record { forest = nothing; grows = empty; productions = refl; tokens = refl }
 tree-of (shift {t = t} d) =
     let x = tree-of d in
@@ -106,7 +107,7 @@ record TreeAt (rules : List Rule) (most : ℕ) (here : List ℕ) : Type 0 where
   pub rule : IsRule rules number head body
   pub grows : Grows rules body below
   pub is : here ≡ number ∷ (productions_of below ++ rest)
-  pub counted : length (tokens_of below) ≤ most
+  pub counted : length (leaves_of below) ≤ most
 
 tree-more : {rules : List Rule} {m n : ℕ} {here : List ℕ} → m ≤ n → TreeAt rules m here → TreeAt rules n here
 tree-more le t = record {
@@ -128,7 +129,7 @@ drop-past (x ∷ xs) ys (suc k) le =
     let same : k - length xs ≡ suc k - suc (length xs) = omega arith in
     drop-past xs ys k (omega arith) ∙ ap (λ i. drop i ys) same
 
-tree-at : {rules : List Rule} {s : List Symbol} {f : Forest} → Grows rules s f → (rest : List ℕ) (k : ℕ) → k < length (productions_of f) → TreeAt rules (length (tokens_of f)) (drop k (productions_of f ++ rest))
+tree-at : {rules : List Rule} {s : List Symbol} {f : Forest} → Grows rules s f → (rest : List ℕ) (k : ℕ) → k < length (productions_of f) → TreeAt rules (length (leaves_of f)) (drop k (productions_of f ++ rest))
 tree-at empty rest k lt = absurd (omega arith)
 tree-at (leaf {f = f} g) rest k lt = tree-more (omega arith) (tree-at g rest k lt)
 tree-at {rules} (branch {p = p} {n = n} b {below = l} {right = r} e g h) rest zero lt = record {
@@ -140,23 +141,23 @@ tree-at {rules} (branch {p = p} {n = n} b {below = l} {right = r} e g h) rest ze
   rule = e;
   grows = g;
   is = ap (λ x. p ∷ x) (append_assoc (productions_of l) (productions_of r) rest);
-  counted = omega (arith, length-append (tokens_of l) (tokens_of r));
+  counted = omega (arith, length-append (leaves_of l) (leaves_of r));
 }
 tree-at {rules} (branch {p = p} {n = n} b {below = l} {right = r} e g h) rest (suc k) lt =
     elim (cases_lt k (length (productions_of l))) [
       | inl inside ↦
-          tree-more (omega (arith, length-append (tokens_of l) (tokens_of r)))
-          (subst (λ x. TreeAt rules (length (tokens_of l)) (drop k x)) (sym (append_assoc (productions_of l) (productions_of r) rest)) (tree-at g (productions_of r ++ rest) k inside))
+          tree-more (omega (arith, length-append (leaves_of l) (leaves_of r)))
+          (subst (λ x. TreeAt rules (length (leaves_of l)) (drop k x)) (sym (append_assoc (productions_of l) (productions_of r) rest)) (tree-at g (productions_of r ++ rest) k inside))
       | inr behind ↦
           let fewer : k - length (productions_of l) < length (productions_of r) = omega (arith, length-append (productions_of l) (productions_of r)) in
-          tree-more (omega (arith, length-append (tokens_of l) (tokens_of r)))
-          (subst (λ x. TreeAt rules (length (tokens_of r)) x) (sym (ap (drop k) (append_assoc (productions_of l) (productions_of r) rest) ∙ drop-past (productions_of l) (productions_of r ++ rest) k behind)) (tree-at h rest (k - length (productions_of l)) fewer))
+          tree-more (omega (arith, length-append (leaves_of l) (leaves_of r)))
+          (subst (λ x. TreeAt rules (length (leaves_of r)) x) (sym (ap (drop k) (append_assoc (productions_of l) (productions_of r) rest) ∙ drop-past (productions_of l) (productions_of r ++ rest) k behind)) (tree-at h rest (k - length (productions_of l)) fewer))
     ]
 
 pub has-tree : {rules : List Rule} {s : List Symbol} {ps ts : List ℕ} → Derives rules s ps ts → (k : ℕ) → k < length ps → length ts < 2 ^ 64 → HasTree rules ps k
 has-tree {rules} {s} {ps} {ts} d k lt small = from (tree-of d)
   where
-    from : Tree rules s ps ts → HasTree rules ps k
+    from : Grown rules s ps ts → HasTree rules ps k
     from x =
         let whole = x.productions in
         let at = tree-at x.grows [] k (subst (λ l. k < length l) (sym whole) lt) in
@@ -183,7 +184,7 @@ pub record Walk (rules : List Rule) (productions : List ℕ) (place : ℕ) (left
   pub here : drop n.end productions ≡ productions_of forest ++ rest
   pub behind : place + 1 ≤ n.end
   pub ends : n.end + length (productions_of forest) ≡ place + suc (length (productions_of tree.below))
-  pub counts : n.tokens + length (tokens_of forest) ≡ length (tokens_of tree.below)
+  pub counts : n.tokens + length (leaves_of forest) ≡ length (leaves_of tree.below)
 
 -- the first of what is left is what stands there
 pub index-drop : (xs : List ℕ) (k a : ℕ) (ys : List ℕ) → drop k xs ≡ a ∷ ys → slice_index xs k ≡ a
@@ -246,7 +247,7 @@ pub walk-token : (rules : List Rule) (productions : List ℕ) (place t : ℕ) (s
 walk-token rules productions place t s end tokens w =
     let x = token-first w.grows in
     let ps : productions_of w.forest ≡ productions_of x.right = ap productions_of x.is in
-    let ts : length (tokens_of w.forest) ≡ suc (length (tokens_of x.right)) = ap (λ f. length (tokens_of f)) x.is in
+    let ts : length (leaves_of w.forest) ≡ suc (length (leaves_of x.right)) = ap (λ f. length (leaves_of f)) x.is in
     record {
       tree = w.tree;
       forest = x.right;
@@ -281,9 +282,9 @@ walk-node rules productions place n s end tokens child w c =
     let bodies : c.body ≡ x.body = IsRule-body rules x.number c.head n c.body x.body (subst (λ i. IsRule rules i c.head c.body) heads c.rule) x.rule in
     let both = same-forest (subst (λ b. Grows rules b c.below) bodies c.grows) x.grows_below c.rest (productions_of x.right ++ w.rest) (tails ∙ append_assoc (productions_of x.below) (productions_of x.right) w.rest) in
     let long : length (productions_of w.forest) ≡ suc (length (productions_of x.below) + length (productions_of x.right)) = ap (λ f. length (productions_of f)) x.is ∙ ap suc (length-append (productions_of x.below) (productions_of x.right)) in
-    let many : length (tokens_of w.forest) ≡ length (tokens_of x.below) + length (tokens_of x.right) = ap (λ f. length (tokens_of f)) x.is ∙ length-append (tokens_of x.below) (tokens_of x.right) in
+    let many : length (leaves_of w.forest) ≡ length (leaves_of x.below) + length (leaves_of x.right) = ap (λ f. length (leaves_of f)) x.is ∙ length-append (leaves_of x.below) (leaves_of x.right) in
     let same_long : length (productions_of c.below) ≡ length (productions_of x.below) = ap (λ f. length (productions_of f)) both.0 in
-    let same_many : length (tokens_of c.below) ≡ length (tokens_of x.below) = ap (λ f. length (tokens_of f)) both.0 in
+    let same_many : length (leaves_of c.below) ≡ length (leaves_of x.below) = ap (λ f. length (leaves_of f)) both.0 in
     let far : child.end ≡ end + suc (length (productions_of c.below)) = c.ends in
     record {
       tree = w.tree;
@@ -305,7 +306,7 @@ walk-end rules productions place n w = done_at (no-more w.grows)
     done_at : w.forest ≡ nothing → IsNode rules productions place n
     done_at e =
         let l = ap (λ f. length (productions_of f)) e in
-        let k = ap (λ f. length (tokens_of f)) e in
+        let k = ap (λ f. length (leaves_of f)) e in
         let h = w.ends in
         let j = w.counts in
         record {
@@ -371,12 +372,12 @@ record NodeLaid (rules : List Rule) (productions tokens : List ℕ) (nodes : Lis
   pub child : Node
   pub at : slice_get nodes place ≡ Some child
   pub ends : child.end ≡ place + suc (length (productions_of below))
-  pub counts : child.tokens ≡ length (tokens_of below)
-  pub stands : Stands rules productions tokens n place start number below
+  pub counts : child.tokens ≡ length (leaves_of below)
+  pub stands : Stands (record { rules = rules; productions = productions; tokens = tokens }) (record { production = place; token = start }) n (record { number = number; below = below })
   pub next : drop child.end productions ≡ productions_of right ++ others
-  pub reads : drop (start + child.tokens) tokens ≡ tokens_of right ++ more
+  pub reads : drop (start + child.tokens) tokens ≡ leaves_of right ++ more
 
-node-laid : (rules : List Rule) (productions tokens : List ℕ) (nodes : List Node) → AreNodes rules productions nodes → (p n : ℕ) (b : List Symbol) (below right : Forest) → IsRule rules p n b → Grows rules b below → (place start : ℕ) (others more : List ℕ) → drop place productions ≡ productions_of (node p below right) ++ others → drop start tokens ≡ tokens_of (node p below right) ++ more → start ≤ length tokens → NodeLaid rules productions tokens nodes n p below right place start others more
+node-laid : (rules : List Rule) (productions tokens : List ℕ) (nodes : List Node) → AreNodes rules productions nodes → (p n : ℕ) (b : List Symbol) (below right : Forest) → IsRule rules p n b → Grows rules b below → (place start : ℕ) (others more : List ℕ) → drop place productions ≡ productions_of (node p below right) ++ others → drop start tokens ≡ leaves_of (node p below right) ++ more → start ≤ length tokens → NodeLaid rules productions tokens nodes n p below right place start others more
 node-laid rules productions tokens nodes known p n b below right e g place start others more here reads inside =
     let d : Node = record { end = 0; tokens = 0 } in
     let lt = within-drop productions place p ((productions_of below ++ productions_of right) ++ others) here in
@@ -387,8 +388,8 @@ node-laid rules productions tokens nodes known p n b below right e g place start
     let tails : productions_of c.below ++ c.rest ≡ (productions_of below ++ productions_of right) ++ others = let h = sym c.here ∙ here in cc in
     let bodies : c.body ≡ b = IsRule-body rules p c.head n c.body b (subst (λ i. IsRule rules i c.head c.body) heads c.rule) e in
     let both = same-forest (subst (λ x. Grows rules x c.below) bodies c.grows) g c.rest (productions_of right ++ others) (tails ∙ append_assoc (productions_of below) (productions_of right) others) in
-    let reads' : drop start tokens ≡ tokens_of below ++ (tokens_of right ++ more) = reads ∙ append_assoc (tokens_of below) (tokens_of right) more in
-    let count : (slice_index_or nodes place d).tokens ≡ length (tokens_of below) = c.counts ∙ ap (λ f. length (tokens_of f)) both.0 in
+    let reads' : drop start tokens ≡ leaves_of below ++ (leaves_of right ++ more) = reads ∙ append_assoc (leaves_of below) (leaves_of right) more in
+    let count : (slice_index_or nodes place d).tokens ≡ length (leaves_of below) = c.counts ∙ ap (λ f. length (leaves_of f)) both.0 in
     record {
       child = slice_index_or nodes place d;
       at = got;
@@ -400,12 +401,12 @@ node-laid rules productions tokens nodes known p n b below right e g place start
         grows = g;
         others = productions_of right ++ others;
         here = here ∙ ap (λ l. p ∷ l) (append_assoc (productions_of below) (productions_of right) others);
-        more = tokens_of right ++ more;
+        more = leaves_of right ++ more;
         reads = reads';
         within = inside;
       };
       next = ap (λ i. drop i productions) c.ends ∙ sym (drop-drop (suc (length (productions_of c.below))) place productions) ∙ ap (drop (suc (length (productions_of c.below)))) c.here ∙ drop_at (productions_of c.below) c.rest (length (productions_of c.below)) refl ∙ both.1;
-      reads = ap (λ i. drop (start + i) tokens) count ∙ sym (drop-drop (length (tokens_of below)) start tokens) ∙ ap (drop (length (tokens_of below))) reads' ∙ drop_at (tokens_of below) (tokens_of right ++ more) (length (tokens_of below)) refl;
+      reads = ap (λ i. drop (start + i) tokens) count ∙ sym (drop-drop (length (leaves_of below)) start tokens) ∙ ap (drop (length (leaves_of below))) reads' ∙ drop_at (leaves_of below) (leaves_of right ++ more) (length (leaves_of below)) refl;
     }
 
 get-drop : (xs : List ℕ) (i x : ℕ) (ys : List ℕ) → drop i xs ≡ x ∷ ys → slice_get xs i ≡ Some x
@@ -419,67 +420,81 @@ room xs i ys zs e le =
     let l : length xs - i ≡ length ys + length zs = sym (length-drop i xs) ∙ ap length e ∙ length-append ys zs in
     omega (arith, l, le)
 
-pub laid : {rules : List Rule} {s : List Symbol} {f : Forest} → Grows rules s f → (productions tokens : List ℕ) (nodes : List Node) → AreNodes rules productions nodes → (place start end stop : ℕ) (others more : List ℕ) → drop place productions ≡ productions_of f ++ others → drop start tokens ≡ tokens_of f ++ more → place + length (productions_of f) ≡ end → start + length (tokens_of f) ≡ stop → start ≤ length tokens → AreLaid rules productions tokens nodes s f place start end stop
+pub laid : {rules : List Rule} {s : List Symbol} {f : Forest} → Grows rules s f → (productions tokens : List ℕ) (nodes : List Node) → AreNodes rules productions nodes → (place start end stop : ℕ) (others more : List ℕ) → drop place productions ≡ productions_of f ++ others → drop start tokens ≡ leaves_of f ++ more → place + length (productions_of f) ≡ end → start + length (leaves_of f) ≡ stop → start ≤ length tokens → AreLaid (record { rules = rules; productions = productions; tokens = tokens }) nodes s f (record { production = place; token = start }) (record { production = end; token = stop })
 laid empty productions tokens nodes known place start end stop others more here reads e h inside = (refl, omega arith, omega arith)
 laid (leaf {t = t} {f = right} g) productions tokens nodes known place start end stop others more here reads e h inside =
-    let lt = within-drop tokens start t (tokens_of right ++ more) reads in
-    (right, refl, get-drop tokens start t (tokens_of right ++ more) reads, laid g productions tokens nodes known place (start + 1) end stop others more here (sym (drop-drop 1 start tokens) ∙ ap (drop 1) reads) e (omega arith) (omega (arith, lt)))
+    let lt = within-drop tokens start t (leaves_of right ++ more) reads in
+    (right, refl, get-drop tokens start t (leaves_of right ++ more) reads, laid g productions tokens nodes known place (start + 1) end stop others more here (sym (drop-drop 1 start tokens) ∙ ap (drop 1) reads) e (omega arith) (omega (arith, lt)))
 laid {rules} (branch {p = p} {n = n} b {below = below} {right = right} r g h) productions tokens nodes known place start end stop others more here reads e j inside =
     let x = node-laid rules productions tokens nodes known p n b below right r g place start others more here reads inside in
     let far : x.child.end ≡ place + suc (length (productions_of below)) = x.ends in
-    let count : x.child.tokens ≡ length (tokens_of below) = x.counts in
-    let wide = room tokens start (tokens_of below) (tokens_of right ++ more) (reads ∙ append_assoc (tokens_of below) (tokens_of right) more) inside in
-    (p, below, right, x.child, refl, x.at, x.stands, laid h productions tokens nodes known x.child.end (start + x.child.tokens) end stop others more x.next x.reads (omega (arith, far, length-append (productions_of below) (productions_of right))) (omega (arith, count, length-append (tokens_of below) (tokens_of right))) (omega (arith, wide, count)))
+    let count : x.child.tokens ≡ length (leaves_of below) = x.counts in
+    let wide = room tokens start (leaves_of below) (leaves_of right ++ more) (reads ∙ append_assoc (leaves_of below) (leaves_of right) more) inside in
+    (record { number = p; below = below }, right, x.child, refl, x.at, x.stands, laid h productions tokens nodes known x.child.end (start + x.child.tokens) end stop others more x.next x.reads (omega (arith, far, length-append (productions_of below) (productions_of right))) (omega (arith, count, length-append (leaves_of below) (leaves_of right))) (omega (arith, wide, count)))
 
 -- what is below a tree
-pub laid-below : (rules : List Rule) (productions tokens : List ℕ) (nodes : List Node) (n : Node) (head place start number : ℕ) (below : Forest) (body : List Symbol) → AreNodes rules productions nodes → slice_get nodes place ≡ Some n → Stands rules productions tokens head place start number below → IsRule rules number head body → AreLaid rules productions tokens nodes body below (place + 1) start n.end (start + n.tokens)
-laid-below rules productions tokens nodes n head place start number below body known at s r =
+pub laid-below : (d : Derived) (nodes : List Node) (n : Node) (at : Place) (head : ℕ) (t : Tree) (body : List Symbol) → AreNodes d.rules d.productions nodes → slice_get nodes at.production ≡ Some n → Stands d at head t → IsRule d.rules t.number head body → AreLaid d nodes body t.below (below_of at) (behind n at)
+laid-below d nodes n at head t body known got s r =
+    let rules = d.rules in
+    let productions = d.productions in
+    let tokens = d.tokens in
+    let number = t.number in
+    let below = t.below in
+    let place = at.production in
+    let start = at.token in
     let bodies : s.body ≡ body = IsRule-body rules number head head s.body body s.rule r in
-    let c = known.each place n at in
+    let c = known.each place n got in
     let heads : c.number ≡ number = let h = sym c.here ∙ s.here in cc in
     let tails : productions_of c.below ++ c.rest ≡ productions_of below ++ s.others = let h = sym c.here ∙ s.here in cc in
     let same : c.body ≡ s.body = IsRule-body rules number c.head head c.body s.body (subst (λ i. IsRule rules i c.head c.body) heads c.rule) s.rule in
     let both = same-forest (subst (λ b. Grows rules b c.below) same c.grows) s.grows c.rest s.others tails in
     let far : n.end ≡ place + suc (length (productions_of below)) = c.ends ∙ ap (λ f. place + suc (length (productions_of f))) both.0 in
-    let count : n.tokens ≡ length (tokens_of below) = c.counts ∙ ap (λ f. length (tokens_of f)) both.0 in
-    subst (λ b. AreLaid rules productions tokens nodes b below (place + 1) start n.end (start + n.tokens)) bodies
+    let count : n.tokens ≡ length (leaves_of below) = c.counts ∙ ap (λ f. length (leaves_of f)) both.0 in
+    subst (λ b. AreLaid d nodes b below (below_of at) (behind n at)) bodies
     (laid s.grows productions tokens nodes known (place + 1) start n.end (start + n.tokens) s.others s.more (sym (drop-drop 1 place productions) ∙ ap (drop 1) s.here) s.reads (omega (arith, far)) (omega (arith, count)) s.within)
 
 -- the tree of a whole derivation
-pub stands-whole : (y : Syntax) (ps ts : List ℕ) → IsDerivation y ps ts → (number : ℕ) × (below : Forest) × Stands y.rules ps ts 0 0 0 number below
+pub stands-whole : (y : Syntax) (ps ts : List ℕ) → IsDerivation y ps ts → (t : Tree) × Stands (record { rules = y.rules; productions = ps; tokens = ts }) beginning 0 t
 stands-whole y ps ts d =
     let x = tree-of d in
     let f = node-first x.grows in (
-      f.number,
-      f.below,
+      record { number = f.number; below = f.below },
       record {
         body = f.body;
         rule = f.rule;
         grows = f.grows_below;
         others = productions_of f.right;
         here = sym x.productions ∙ ap productions_of f.is;
-        more = tokens_of f.right;
-        reads = sym x.tokens ∙ ap tokens_of f.is;
+        more = leaves_of f.right;
+        reads = sym x.tokens ∙ ap leaves_of f.is;
         within = omega arith;
       },
     )
 
 -- how far a tree goes
-pub stands-extent : (rules : List Rule) (productions tokens : List ℕ) (nodes : List Node) (n : Node) (head place start number : ℕ) (below : Forest) → AreNodes rules productions nodes → slice_get nodes place ≡ Some n → Stands rules productions tokens head place start number below → IsExtent productions tokens place start n
-stands-extent rules productions tokens nodes n head place start number below known at s =
-    let c = known.each place n at in
+pub stands-extent : (d : Derived) (nodes : List Node) (n : Node) (at : Place) (head : ℕ) (t : Tree) → AreNodes d.rules d.productions nodes → slice_get nodes at.production ≡ Some n → Stands d at head t → IsExtent d at n
+stands-extent d nodes n at head t known got s =
+    let rules = d.rules in
+    let productions = d.productions in
+    let tokens = d.tokens in
+    let number = t.number in
+    let below = t.below in
+    let place = at.production in
+    let start = at.token in
+    let c = known.each place n got in
     let heads : c.number ≡ number = let h = sym c.here ∙ s.here in cc in
     let tails : productions_of c.below ++ c.rest ≡ productions_of below ++ s.others = let h = sym c.here ∙ s.here in cc in
     let same : c.body ≡ s.body = IsRule-body rules number c.head head c.body s.body (subst (λ i. IsRule rules i c.head c.body) heads c.rule) s.rule in
     let both = same-forest (subst (λ b. Grows rules b c.below) same c.grows) s.grows c.rest s.others tails in
     let far : n.end ≡ place + suc (length (productions_of below)) = c.ends ∙ ap (λ f. place + suc (length (productions_of f))) both.0 in
-    let count : n.tokens ≡ length (tokens_of below) = c.counts ∙ ap (λ f. length (tokens_of f)) both.0 in
+    let count : n.tokens ≡ length (leaves_of below) = c.counts ∙ ap (λ f. length (leaves_of f)) both.0 in
     let lt = within-drop productions place number (productions_of below ++ s.others) s.here in
     let long = room productions place (number ∷ productions_of below) s.others s.here (omega (arith, lt)) in
-    let wide = room tokens start (tokens_of below) s.more s.reads s.within in
+    let wide = room tokens start (leaves_of below) s.more s.reads s.within in
     record { some = omega (arith, far); end = omega (arith, far, long); stop = omega (arith, count, wide) }
 
 -- where a tree's production is
-pub stands-within : (rules : List Rule) (productions tokens : List ℕ) (head place start number : ℕ) (below : Forest) → Stands rules productions tokens head place start number below → (place < length productions) × (slice_get productions place ≡ Some number)
-stands-within rules productions tokens head place start number below s =
-    (within-drop productions place number (productions_of below ++ s.others) s.here, get-drop productions place number (productions_of below ++ s.others) s.here)
+pub stands-within : (d : Derived) (at : Place) (head : ℕ) (t : Tree) → Stands d at head t → (at.production < length d.productions) × (slice_get d.productions at.production ≡ Some t.number)
+stands-within d at head t s =
+    let others = productions_of t.below ++ s.others in
+    (within-drop d.productions at.production t.number others s.here, get-drop d.productions at.production t.number others s.here)

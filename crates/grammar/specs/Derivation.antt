@@ -1,5 +1,6 @@
--- Derivations, and what begins a sentence, for any context-free grammar.
-use Rattle.std.specs.Prelude.{◌≡◌, ℕ, suc, ◌+◌, ◌<◌, ◌==◌, ◌⊎◌, MatchBool, List, [], ◌∷◌, ◌++◌, length, take, Some, slice_get}
+-- Derivations by any context-free grammar. Its language is `IsSentence y`; where a list of tokens leaves that is
+-- `IsFirstFault (IsSentence y)`, of the crate `lists`.
+use Rattle.std.specs.Prelude.{◌≡◌, ℕ, suc, ◌==◌, ◌⊎◌, MatchBool, List, [], ◌∷◌, ◌++◌, Some, slice_get}
 use Rattle.grammar.specs.declared.table.Symbol.{Symbol}
 use Rattle.grammar.specs.declared.table.Symbol.TheVariants.{Terminal, Nonterminal}
 use Rattle.grammar.specs.Syntax.{Rule, Syntax}
@@ -15,55 +16,31 @@ pub data Derives (rules : List Rule) : List Symbol → List ℕ → List ℕ →
   expand : {p n : ℕ} (b : List Symbol) {s : List Symbol} {ps ts : List ℕ} → IsRule rules p n b → Derives rules (b ++ s) ps ts → Derives rules (Nonterminal n ∷ s) (p ∷ ps) ts
 
 -- what each list of tokens is derived from: the start symbol, and behind it the end mark
-abbrev pub whole : Syntax → List Symbol
-whole y = Nonterminal 0 ∷ Terminal y.end ∷ []
+abbrev pub start_of : Syntax → List Symbol
+start_of y = Nonterminal 0 ∷ Terminal y.end ∷ []
 
 -- The rules with these numbers derive these tokens, leftmost first.
 abbrev pub IsDerivation : Syntax → List ℕ → List ℕ → Type 0
-IsDerivation y ps ts = Derives y.rules (whole y) ps ts
+IsDerivation y ps ts = Derives y.rules (start_of y) ps ts
 
+-- some rules derive these tokens
 abbrev pub IsSentence : Syntax → List ℕ → Type 0
 IsSentence y ts = (ps : List ℕ) × IsDerivation y ps ts
 
--- some sentence begins with these tokens
-abbrev pub IsFront : Syntax → List ℕ → Type 0
-IsFront y ts = (more : List ℕ) × IsSentence y (ts ++ more)
-
--- Some sentence begins with the tokens before this place, and none with the tokens up to and including it.
-pub record IsFirstFault (y : Syntax) (ts : List ℕ) (place : ℕ) : Type 0 where
-  pub within : place < length ts
-  pub before : IsFront y (take place ts)
-  pub none : IsFront y (take (place + 1) ts) → ⊥
-
 -- By these rules, leftmost first and no more than the tokens need, the symbols lead to the tokens and then to the
 -- symbols that are left: the last step reads the last token.
-pub data Reads (rules : List Rule) : List Symbol → List ℕ → List ℕ → List Symbol → Type 0 where
-  stop : {s : List Symbol} → Reads rules s [] [] s
-  read : {t : ℕ} {s left : List Symbol} {ps ts : List ℕ} → Reads rules s ps ts left → Reads rules (Terminal t ∷ s) ps (t ∷ ts) left
-  rewrite : {p n t : ℕ} (b : List Symbol) {s left : List Symbol} {ps ts : List ℕ} → IsRule rules p n b → Reads rules (b ++ s) ps (t ∷ ts) left → Reads rules (Nonterminal n ∷ s) (p ∷ ps) (t ∷ ts) left
+pub data ReadsTo (rules : List Rule) : List Symbol → List ℕ → List ℕ → List Symbol → Type 0 where
+  stop : {s : List Symbol} → ReadsTo rules s [] [] s
+  read : {t : ℕ} {s left : List Symbol} {ps ts : List ℕ} → ReadsTo rules s ps ts left → ReadsTo rules (Terminal t ∷ s) ps (t ∷ ts) left
+  rewrite : {p n t : ℕ} (b : List Symbol) {s left : List Symbol} {ps ts : List ℕ} → IsRule rules p n b → ReadsTo rules (b ++ s) ps (t ∷ ts) left → ReadsTo rules (Nonterminal n ∷ s) (p ∷ ps) (t ∷ ts) left
 
 -- The rules that lead to these tokens as the beginning of a sentence, up to the last of the tokens.
 abbrev pub IsBeginning : Syntax → List ℕ → List ℕ → Type 0
-IsBeginning y ps ts = (left : List Symbol) × Reads y.rules (whole y) ps ts left
+IsBeginning y ps ts = (left : List Symbol) × ReadsTo y.rules (start_of y) ps ts left
 
 -- The list begins with the front.
 abbrev pub BeginsWith : List ℕ → List ℕ → Type 0
 BeginsWith xs front = (rest : List ℕ) × (xs ≡ front ++ rest)
-
--- Once some tokens were read, these symbols are left to be read.
-abbrev pub IsLeft : Syntax → List Symbol → Type 0
-IsLeft y left = (ps ts : List ℕ) × Reads y.rules (whole y) ps ts left
-
--- One token of this kind was read: the rules that led to it stand at the end of the new list.
-pub record ReadsOne (rules : List Rule) (kind : ℕ) (old new : List Symbol) (before after : List ℕ) : Type 0 where
-  pub numbers : List ℕ
-  pub grown : after ≡ before ++ numbers
-  pub reads : Reads rules old numbers (kind ∷ []) new
-
--- No token of this kind can be read: what the symbols derive never begins with it.
-pub record ReadsNone (rules : List Rule) (kind : ℕ) (old : List Symbol) (before after : List ℕ) : Type 0 where
-  pub kept : take (length before) after ≡ before
-  pub none : (ps ts : List ℕ) → Derives rules old ps (kind ∷ ts) → ⊥
 
 -- The rule is one of the nonterminal's rules in this list, of which the first one has the given number. At a list of
 -- rules that is written out it computes to what the number and the body may be.

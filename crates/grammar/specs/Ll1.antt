@@ -1,15 +1,13 @@
 -- The test that one token of lookahead decides a grammar. It computes what may begin and follow each nonterminal,
 -- and then tests the tables against that.
-use Rattle.std.specs.Prelude.{◌≡◌, ℕ, zero, suc, ◌+◌, ◌-◌, ◌*◌, ◌^◌, max, Bool, true, false, not, ◌&&◌, ◌||◌, ◌==◌, nat_le, nat_lt, if◌then◌else◌, IsTrue, List, [], ◌∷◌, length, map, slice_index, slice_index_or, slice_set, bit_and, bit_or}
+use Rattle.std.specs.Prelude.{ℕ, zero, suc, ◌+◌, ◌-◌, ◌*◌, ◌^◌, max, Bool, true, false, not, ◌&&◌, ◌||◌, ◌==◌, nat_le, nat_lt, if◌then◌else◌, IsTrue, List, [], ◌∷◌, length, map, slice_index, slice_index_or, slice_set, bit_and, bit_or}
 use Rattle.std.specs.List.{list_all, list_any}
 use Rattle.grammar.specs.declared.table.Symbol.{Symbol}
 use Rattle.grammar.specs.declared.table.Symbol.TheVariants.{Terminal, Nonterminal}
 use Rattle.grammar.specs.declared.table.Production.{Production}
 use Rattle.grammar.specs.declared.table.Span.{Span}
 use Rattle.grammar.specs.declared.table.Grammar.{Grammar}
-use Rattle.std.specs.Int.{bit_at}
 use Rattle.grammar.specs.Syntax.{Rule, rules_of}
-use Rattle.grammar.specs.Derivation.{IsRule}
 
 -- What is known of the nonterminals, each at its number. A set of kinds is a number with a bit for each.
 pub record Facts : Type 0 where
@@ -234,17 +232,3 @@ is_ll1 g =
 
 abbrev pub IsLl1 : Grammar → Type 0
 IsLl1 g = IsTrue (is_ll1 g)
-
--- The rule is taken before a token of this kind.
-abbrev pub IsTakenBefore : Grammar → ℕ → ℕ → Type 0
-IsTakenBefore g kind number = bit_at (slice_index (chosen_of g) number) kind ≡ 1
-
--- The rule is one of the nonterminal's, and is taken before this kind.
-pub record IsChoice (g : Grammar) (nonterminal kind number : ℕ) : Type 0 where
-  pub body : List Symbol
-  pub rule : IsRule (rules_of g) number nonterminal body
-  pub taken : IsTakenBefore g kind number
-
--- No rule of the nonterminal is taken before this kind.
-abbrev pub IsNoChoice : Grammar → ℕ → ℕ → Type 0
-IsNoChoice g nonterminal kind = (number : ℕ) (body : List Symbol) → IsRule (rules_of g) number nonterminal body → IsTakenBefore g kind number → ⊥

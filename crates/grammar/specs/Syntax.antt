@@ -1,5 +1,6 @@
 -- What a table means: a list of rules.
-use Rattle.std.specs.Prelude.{ℕ, List, map, slice_range}
+use Rattle.std.specs.Prelude.{◌≡◌, ℕ, List, length, map, slice_range}
+use Rattle.std.specs.List.{range_with_len}
 use Rattle.grammar.specs.declared.table.Symbol.{Symbol}
 use Rattle.grammar.specs.declared.table.Production.{Production}
 use Rattle.grammar.specs.declared.table.Grammar.{Grammar}
@@ -24,3 +25,16 @@ rules_of g = map (rule_of g.symbols.now) g.productions.now
 
 abbrev pub syntax_of : Grammar → Syntax
 syntax_of g = record { rules = rules_of g; end = g.end }
+
+-- A rule, and the number that a name was given for it.
+pub record NamedRule : Type 0 where
+  pub number : ℕ
+  pub rule : Rule
+
+abbrev pub named : ℕ → ℕ → List Symbol → NamedRule
+named number head body = record { number = number; rule = record { head = head; body = body } }
+
+-- The numbers are the places in the list: 0, 1, 2 and so on. So names that stand for them in this order stand for
+-- different numbers, and a rule's name for the rule's place.
+abbrev pub AreInOrder : List ℕ → Type 0
+AreInOrder numbers = numbers ≡ range_with_len 0 (length numbers)

@@ -1,10 +1,10 @@
 -- Parse trees.
-use Rattle.std.specs.Prelude.{◌≡◌, ℕ, suc, ◌+◌, ◌^◌, ◌<◌, ◌≤◌, List, [], ◌∷◌, ◌++◌, length, drop, slice_get, Some}
+use Rattle.std.specs.Prelude.{◌≡◌, ℕ, suc, ◌+◌, ◌<◌, ◌≤◌, List, [], ◌∷◌, ◌++◌, length, drop, slice_get, Some}
 use Rattle.grammar.specs.declared.table.Symbol.{Symbol}
 use Rattle.grammar.specs.declared.table.Symbol.TheVariants.{Terminal, Nonterminal}
 use Rattle.grammar.specs.declared.tree.Node.{Node}
 use Rattle.grammar.specs.Syntax.{Rule, Syntax}
-use Rattle.grammar.specs.Derivation.{IsRule, whole}
+use Rattle.grammar.specs.Derivation.{IsRule, start_of}
 
 -- Trees side by side, from the left: a token, or a node with the number of its rule and the trees below it; and then
 -- the trees to the right.
@@ -25,10 +25,10 @@ productions_of nothing = []
 productions_of (token t right) = productions_of right
 productions_of (node p below right) = p ∷ (productions_of below ++ productions_of right)
 
-abbrev pub tokens_of : Forest → List ℕ
-tokens_of nothing = []
-tokens_of (token t right) = t ∷ tokens_of right
-tokens_of (node p below right) = tokens_of below ++ tokens_of right
+abbrev pub leaves_of : Forest → List ℕ
+leaves_of nothing = []
+leaves_of (token t right) = t ∷ leaves_of right
+leaves_of (node p below right) = leaves_of below ++ leaves_of right
 
 -- From this place on the productions begin with those of a tree. The node says where they end, and how many tokens
 -- the tree has.
@@ -42,60 +42,74 @@ pub record IsNode (rules : List Rule) (productions : List ℕ) (place : ℕ) (n 
   pub grows : Grows rules body below
   pub here : drop place productions ≡ number ∷ (productions_of below ++ rest)
   pub ends : n.end ≡ place + suc (length (productions_of below))
-  pub counts : n.tokens ≡ length (tokens_of below)
+  pub counts : n.tokens ≡ length (leaves_of below)
 
 -- There is a node for each production, at its place.
 pub record AreNodes (rules : List Rule) (productions : List ℕ) (nodes : List Node) : Type 0 where
   pub all : length nodes ≡ length productions
   pub each : (place : ℕ) (n : Node) → slice_get nodes place ≡ Some n → IsNode rules productions place n
 
--- A tree stands at this place, and its tokens can be counted.
-pub record HasTree (rules : List Rule) (productions : List ℕ) (place : ℕ) : Type 0 where
-  pub number : ℕ
-  pub head : ℕ
-  pub body : List Symbol
-  pub below : Forest
-  pub rest : List ℕ
-  pub rule : IsRule rules number head body
-  pub grows : Grows rules body below
-  pub here : drop place productions ≡ number ∷ (productions_of below ++ rest)
-  pub counted : length (tokens_of below) < 2 ^ 64
-
--- From this place on there is a node for each production.
-pub record AreNodesFrom (rules : List Rule) (productions : List ℕ) (nodes : List Node) (from : ℕ) : Type 0 where
-  pub all : length nodes ≡ length productions
-  pub each : (place : ℕ) (n : Node) → from ≤ place → slice_get nodes place ≡ Some n → IsNode rules productions place n
-
 -- the parse tree of a derivation
 pub record IsParseTree (y : Syntax) (numbers kinds : List ℕ) (f : Forest) : Type 0 where
-  pub grows : Grows y.rules (whole y) f
+  pub grows : Grows y.rules (start_of y) f
   pub productions : productions_of f ≡ numbers
-  pub tokens : tokens_of f ≡ kinds
+  pub tokens : leaves_of f ≡ kinds
 
--- At this place among the productions, and at this one among the tokens, stands a tree of the nonterminal: its rule
--- has this number, and these trees are below it.
-pub record Stands (rules : List Rule) (productions tokens : List ℕ) (head place start number : ℕ) (below : Forest) : Type 0 where
+-- A derivation that is gone through: by these rules the productions derive the tokens.
+pub record Derived : Type 0 where
+  pub rules : List Rule
+  pub productions : List ℕ
+  pub tokens : List ℕ
+
+-- A place in it: so many productions, and so many tokens, are before it.
+pub record Place : Type 0 where
+  pub production : ℕ
+  pub token : ℕ
+
+-- A tree: the number of its rule, and the trees below it.
+pub record Tree : Type 0 where
+  pub number : ℕ
+  pub below : Forest
+
+-- where all begins
+abbrev pub beginning : Place
+beginning = record { production = 0; token = 0 }
+
+-- where the trees below the one at this place begin
+abbrev pub below_of : Place → Place
+below_of at = record { production = at.production + 1; token = at.token }
+
+-- the place behind the token at this one
+abbrev pub behind_token : Place → Place
+behind_token at = record { production = at.production; token = at.token + 1 }
+
+-- the place behind the tree at this one, of which this is the node
+abbrev pub behind : Node → Place → Place
+behind n at = record { production = n.end; token = at.token + n.tokens }
+
+-- At this place stands a tree of the nonterminal.
+pub record Stands (d : Derived) (at : Place) (head : ℕ) (t : Tree) : Type 0 where
   pub body : List Symbol
-  pub rule : IsRule rules number head body
-  pub grows : Grows rules body below
+  pub rule : IsRule d.rules t.number head body
+  pub grows : Grows d.rules body t.below
   pub others : List ℕ
-  pub here : drop place productions ≡ number ∷ (productions_of below ++ others)
+  pub here : drop at.production d.productions ≡ t.number ∷ (productions_of t.below ++ others)
   pub more : List ℕ
-  pub reads : drop start tokens ≡ tokens_of below ++ more
-  pub within : start ≤ length tokens
+  pub reads : drop at.token d.tokens ≡ leaves_of t.below ++ more
+  pub within : at.token ≤ length d.tokens
 
--- A tree from these places on has a production, and ends within the lists.
-pub record IsExtent (productions tokens : List ℕ) (place start : ℕ) (n : Node) : Type 0 where
-  pub some : place < n.end
-  pub end : n.end ≤ length productions
-  pub stop : start + n.tokens ≤ length tokens
+-- A tree at this place, of which this is the node, has a production, and ends within the derivation.
+pub record IsExtent (d : Derived) (at : Place) (n : Node) : Type 0 where
+  pub some : at.production < n.end
+  pub end : n.end ≤ length d.productions
+  pub stop : at.token + n.tokens ≤ length d.tokens
 
--- Where the trees of the symbols stand, side by side from these places on up to those: each token where the one before
--- ends, and each tree where the nodes say that the one before ends. At symbols that are written out it computes to a
--- fact for each.
-abbrev pub AreLaid : List Rule → List ℕ → List ℕ → List Node → List Symbol → Forest → ℕ → ℕ → ℕ → ℕ → Type 0
-AreLaid rules productions tokens nodes [] f place start end stop = (f ≡ nothing) × (place ≡ end) × (start ≡ stop)
-AreLaid rules productions tokens nodes (Terminal t ∷ s) f place start end stop =
-    (right : Forest) × (f ≡ token t right) × (slice_get tokens start ≡ Some t) × AreLaid rules productions tokens nodes s right place (start + 1) end stop
-AreLaid rules productions tokens nodes (Nonterminal n ∷ s) f place start end stop =
-    (number : ℕ) × (below right : Forest) × (child : Node) × (f ≡ node number below right) × (slice_get nodes place ≡ Some child) × Stands rules productions tokens n place start number below × AreLaid rules productions tokens nodes s right child.end (start + child.tokens) end stop
+-- Where the trees of the symbols stand, side by side from the one place up to the other: each token where the one
+-- before ends, and each tree where the nodes say that the one before ends. At symbols that are written out it computes
+-- to a fact for each.
+abbrev pub AreLaid : Derived → List Node → List Symbol → Forest → Place → Place → Type 0
+AreLaid d nodes [] f at end = (f ≡ nothing) × (at.production ≡ end.production) × (at.token ≡ end.token)
+AreLaid d nodes (Terminal t ∷ s) f at end =
+    (right : Forest) × (f ≡ token t right) × (slice_get d.tokens at.token ≡ Some t) × AreLaid d nodes s right (behind_token at) end
+AreLaid d nodes (Nonterminal n ∷ s) f at end =
+    (t : Tree) × (right : Forest) × (child : Node) × (f ≡ node t.number t.below right) × (slice_get nodes at.production ≡ Some child) × Stands d at n t × AreLaid d nodes s right (behind child at) end

@@ -1,11 +1,11 @@
 //! Laws, each the contract of a function that does nothing: of each grammar that one token of lookahead
 //! decides, and of context-free grammars at large.
 
-ghost use Rattle.std.specs.Prelude.{◌≡◌, ℕ, ◌+◌, ◌*◌, ◌<◌, ◌≤◌, ◌++◌, List, length, Some, slice_get};
+ghost use Rattle.std.specs.Prelude.{◌≡◌, ℕ, ◌*◌, ◌<◌, ◌≤◌, ◌++◌, List, length, Some, slice_get};
 ghost use Rattle.grammar.specs.Syntax.{Rule, Syntax, syntax_of};
-ghost use Rattle.grammar.specs.Derivation.{Derives, IsAlternative, IsBeginning, IsDerivation, IsFirstFault, IsRule};
+ghost use Rattle.grammar.specs.Derivation.{Derives, IsAlternative, IsBeginning, IsDerivation, IsRule};
 ghost use Rattle.grammar.specs.Ll1.{IsLl1};
-ghost use Rattle.grammar.specs.Tree.{AreLaid, AreNodes, Forest, Grows, IsExtent, IsParseTree, Stands, productions_of, tokens_of};
+ghost use Rattle.grammar.specs.Tree.{AreLaid, AreNodes, Derived, Forest, Grows, IsExtent, IsParseTree, Place, Stands, Tree, beginning, behind, below_of, productions_of, leaves_of};
 ghost use Rattle.grammar.specs.declared.table.Symbol.{Symbol};
 ghost use Rattle.grammar.specs.declared.tree.Node.{Node};
 
@@ -32,13 +32,6 @@ pub fn linear_derivations(grammar: &Grammar)
         → length ps ≤ 32 * length ts }
 {}
 
-/// A list of tokens has at most one first fault, and none where it has a derivation. This holds of each
-/// context-free grammar.
-pub fn one_fault()
-    ensures one { (y : Syntax) (ts : List ℕ) (i j : ℕ) → IsFirstFault y ts i → IsFirstFault y ts j → i ≡ j }
-    ensures none { (y : Syntax) (ps ts : List ℕ) (i : ℕ) → IsDerivation y ps ts → IsFirstFault y ts i → ⊥ }
-{}
-
 /// A derivation is that of a parse tree, what grows from symbols by the rules has a derivation, and trees
 /// from the same symbols are the same where their productions begin the same list. This holds of each
 /// context-free grammar.
@@ -46,7 +39,7 @@ pub fn one_tree()
     ensures tree { (y : Syntax) (ps ts : List ℕ) → IsDerivation y ps ts
         → (f : Forest) × IsParseTree y ps ts f }
     ensures derives { (rules : List Rule) (s : List Symbol) (f : Forest) → Grows rules s f
-        → Derives rules s (productions_of f) (tokens_of f) }
+        → Derives rules s (productions_of f) (leaves_of f) }
     ensures one { (rules : List Rule) (s : List Symbol) (f g : Forest) (xs ys : List ℕ)
         → Grows rules s f → Grows rules s g
         → productions_of f ++ xs ≡ productions_of g ++ ys → (f ≡ g) × (xs ≡ ys) }
@@ -57,19 +50,16 @@ pub fn one_tree()
 /// symbol of its body stands.
 pub fn children()
     ensures whole { (y : Syntax) (ps ts : List ℕ) → IsDerivation y ps ts
-        → (number : ℕ) × (below : Forest) × Stands y.rules ps ts 0 0 0 number below }
-    ensures first { (rules : List Rule) (ps ts : List ℕ) (head place start number : ℕ) (below : Forest)
-        → Stands rules ps ts head place start number below
-        → (place < length ps) × (slice_get ps place ≡ Some number) }
-    ensures extent { (rules : List Rule) (ps ts : List ℕ) (nodes : List Node) (n : Node)
-        (head place start number : ℕ) (below : Forest)
-        → AreNodes rules ps nodes → slice_get nodes place ≡ Some n
-        → Stands rules ps ts head place start number below → IsExtent ps ts place start n }
-    ensures below { (rules : List Rule) (ps ts : List ℕ) (nodes : List Node) (n : Node)
-        (head place start number : ℕ) (below : Forest) (body : List Symbol)
-        → AreNodes rules ps nodes → slice_get nodes place ≡ Some n
-        → Stands rules ps ts head place start number below → IsRule rules number head body
-        → AreLaid rules ps ts nodes body below (place + 1) start n.end (start + n.tokens) }
+        → (t : Tree) × Stands (record { rules = y.rules; productions = ps; tokens = ts }) beginning 0 t }
+    ensures first { (d : Derived) (at : Place) (head : ℕ) (t : Tree) → Stands d at head t
+        → (at.production < length d.productions) × (slice_get d.productions at.production ≡ Some t.number) }
+    ensures extent { (d : Derived) (nodes : List Node) (n : Node) (at : Place) (head : ℕ) (t : Tree)
+        → AreNodes d.rules d.productions nodes → slice_get nodes at.production ≡ Some n
+        → Stands d at head t → IsExtent d at n }
+    ensures below { (d : Derived) (nodes : List Node) (n : Node) (at : Place) (head : ℕ) (t : Tree)
+        (body : List Symbol) → AreNodes d.rules d.productions nodes → slice_get nodes at.production ≡ Some n
+        → Stands d at head t → IsRule d.rules t.number head body
+        → AreLaid d nodes body t.below (below_of at) (behind n at) }
 {}
 
 /// A rule of a nonterminal is one of those that the list of the rules has for it.

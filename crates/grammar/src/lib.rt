@@ -13,7 +13,7 @@ mod table;
 mod tree;
 
 pub use laws::{
-    alternatives, children, linear_derivations, one_beginning, one_derivation, one_fault, one_tree,
+    alternatives, children, linear_derivations, one_beginning, one_derivation, one_tree,
 };
 pub use parser::{Fault, ParseError, parse};
 pub use table::{Grammar, Production, Span, Symbol};

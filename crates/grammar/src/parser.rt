@@ -1,9 +1,11 @@
 //! Reading a list of tokens by a grammar.
 
-ghost use Rattle.std.specs.Prelude.{◌≡◌, ℕ, List, [], ◌∷◌, ◌++◌, take, reverse, Some, IfOk, OnOk, MatchResult};
+ghost use Rattle.std.specs.Prelude.{◌≡◌, ℕ, ◌<◌, List, [], ◌∷◌, ◌++◌, length, take, reverse, Some, IfOk, OnOk, MatchResult};
 ghost use Rattle.std.specs.Bool.{OnTrue, OnFalse};
 ghost use Rattle.grammar.specs.Syntax.{rules_of, syntax_of};
-ghost use Rattle.grammar.specs.Derivation.{IsDerivation, IsFirstFault, IsBeginning, BeginsWith, IsLeft, ReadsOne, ReadsNone};
+ghost use Rattle.grammar.specs.Derivation.{IsDerivation, IsSentence, IsBeginning, BeginsWith};
+ghost use Rattle.lists.specs.Fault.{IsFirstFault};
+ghost use Rattle.grammar.specs.Inner.Reading.{IsLeft, ReadsOne, ReadsNone};
 ghost use Rattle.grammar.specs.Ll1.{IsLl1};
 ghost use Rattle.grammar.specs.Answer.{IfFault, EndsWith, error_text};
 ghost use Rattle.grammar.specs.declared.parser.ParseError.TheVariants.{OutOfMemory};
@@ -75,7 +77,9 @@ pub fn parse(alloc: Global, grammar: &Grammar, kinds: &[u8]) -> Result<Vec<u16>,
         → MatchResult result (λ found. found.items ≡ ps) (λ e. e ≡ OutOfMemory) }
 
     // A fault is at the first token with which no sentence goes on.
-    ensures place { IfFault result (λ fault. IsFirstFault (syntax_of grammar.now) kinds.now fault.place) }
+    ensures place { IfFault result
+        (λ fault. IsFirstFault (IsSentence (syntax_of grammar.now)) kinds.now fault.place) }
+    ensures within { IfFault result (λ fault. fault.place < length kinds.now) }
 
     // Beside it are the productions that lead to the tokens before it,
     ensures so_far { IfFault result
@@ -100,7 +104,7 @@ pub fn parse(alloc: Global, grammar: &Grammar, kinds: &[u8]) -> Result<Vec<u16>,
     Ok(productions)
 }
 
-/// Reads one token: rewrites the nonterminal on top of the stack until the top is this kind, and takes
+/// ReadsTo one token: rewrites the nonterminal on top of the stack until the top is this kind, and takes
 /// it off. Says whether the token may stand here.
 fn read(
     grammar: &Grammar,

@@ -60,7 +60,8 @@ pub struct Grammar<'a> {
 impl Grammar<'_> {
     ghost use Rattle.grammar.specs.Syntax.{rules_of};
     ghost use Rattle.grammar.specs.Derivation.{IsRule};
-    ghost use Rattle.grammar.specs.Ll1.{IsLl1, IsChoice, IsNoChoice};
+    ghost use Rattle.grammar.specs.Ll1.{IsLl1};
+    ghost use Rattle.grammar.specs.Inner.Choosing.{IsChoice, IsNoChoice};
 
     /// The alternative of the nonterminal that is taken before a token of this kind.
     pub(crate) fn choose(&self, nonterminal: u8, kind: u8) -> Option<u16>

@@ -4,7 +4,8 @@ ghost use Rattle.std.specs.Prelude.{◌+◌, IfOk};
 ghost use Rattle.grammar.specs.Syntax.{rules_of, syntax_of};
 ghost use Rattle.grammar.specs.Derivation.{IsDerivation};
 ghost use Rattle.grammar.specs.Ll1.{IsLl1};
-ghost use Rattle.grammar.specs.Tree.{AreNodes, AreNodesFrom, HasTree, IsNode};
+ghost use Rattle.grammar.specs.Tree.{AreNodes, IsNode};
+ghost use Rattle.grammar.specs.Inner.Nodes.{AreNodesFrom, HasTree};
 
 use crate::table::{Grammar, Symbol};
 use std::alloc::{AllocError, Global};

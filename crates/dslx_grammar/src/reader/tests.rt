@@ -98,6 +98,64 @@ fn derivation_of_a_constant(rt: HostRuntime) -> Result<(), Fail> {
 }
 
 #[test]
+fn binary_operators(rt: HostRuntime) -> Result<(), Fail> {
+    let operators = [
+        (STAR, production::BINARY__STAR),
+        (SLASH, production::BINARY__SLASH),
+        (PERCENT, production::BINARY__PERCENT),
+        (PLUS, production::BINARY__PLUS),
+        (MINUS, production::BINARY__MINUS),
+        (CONCAT, production::BINARY__CONCAT),
+        (SHL, production::BINARY__SHL),
+        (SHR, production::BINARY__SHR),
+        (AMP, production::BINARY__AMP),
+        (CARET, production::BINARY__CARET),
+        (PIPE, production::BINARY__PIPE),
+        (EQ, production::BINARY__EQ),
+        (NE, production::BINARY__NE),
+        (LT, production::BINARY__LT),
+        (LE, production::BINARY__LE),
+        (GT, production::BINARY__GT),
+        (GE, production::BINARY__GE),
+        (ANDAND, production::BINARY__ANDAND),
+        (OROR, production::BINARY__OROR),
+    ];
+    for (kind, number) in operators {
+        // const A = 1 (the operator) 1;
+        let kinds = [CONST, NAME, ASSIGN, NUMBER, kind, NUMBER, SEMI, END];
+        let found = parse(rt.alloc(), &kinds)?;
+        assert!(rt; found.contains(&number), "operator {kind}");
+    }
+    Ok(())
+}
+
+#[test]
+fn channels_and_spawns(rt: HostRuntime) -> Result<(), Fail> {
+    // proc p {
+    //   config() { let (a, b) = chan<u8, u32:2>("c"); spawn q(a); (b) }
+    //   init { () }
+    //   next(s: ()) { s }
+    // }
+    let kinds = [
+        PROC, FUNNAME, LBRACE, CONFIG, LPAREN, RPAREN, LBRACE, LET, LPAREN, NAME, COMMA, NAME,
+        RPAREN, ASSIGN, CHAN, LT, UNSIGNED, COMMA, UNSIGNED, COLON, NUMBER, GT, LPAREN, STRING,
+        RPAREN, SEMI, SPAWN, FUNNAME, LPAREN, NAME, RPAREN, SEMI, LPAREN, NAME, RPAREN, RBRACE,
+        INIT, LBRACE, LPAREN, RPAREN, RBRACE, NEXT, LPAREN, NAME, COLON, LPAREN, RPAREN, RPAREN,
+        LBRACE, NAME, RBRACE, RBRACE, END,
+    ];
+    let found = parse(rt.alloc(), &kinds)?;
+    for number in [
+        production::MAKINGS__CHANNEL,
+        production::CHANNEL_DEPTH__COMMA,
+        production::MAKINGS__SPAWN,
+        production::SPAWN_ARGS__NONE,
+    ] {
+        assert!(rt; found.contains(&number), "production {number}");
+    }
+    Ok(())
+}
+
+#[test]
 fn a_million_tokens(rt: HostRuntime) -> Result<(), Fail> {
     let mut kinds = Vec::new(rt.alloc());
     for _ in 0..100_000 {

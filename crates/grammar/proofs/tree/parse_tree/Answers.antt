@@ -1,7 +1,7 @@
 use Rattle.std.proofs.Common.{subst, arith}
 use Rattle.grammar.proofs.Trees.{has-tree, nodes-more}
 use Rattle.grammar.specs.Syntax.{rules_of}
-use Rattle.grammar.specs.Tree.{AreNodesFrom}
+use Rattle.grammar.specs.Inner.Nodes.{AreNodesFrom}
 use Rattle.grammar.proofs.tree.parse_tree.Goals as goal
 
 pub node_at-node-requires-clause-tree : goal.node_at-node-requires-clause-tree

@@ -1,5 +1,5 @@
 use Rattle.grammar.specs.Syntax.{rules_of}
-use Rattle.grammar.specs.Tree.{AreNodesFrom}
+use Rattle.grammar.specs.Inner.Nodes.{AreNodesFrom}
 use Rattle.grammar.proofs.tree.parse_tree.Given as goal
 
 abbrev pub invariant-loop-place : goal.invariant-loop-place

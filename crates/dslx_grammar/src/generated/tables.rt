@@ -1,4 +1,6 @@
-//! The tables of the grammar in `dslx.grammar`, written by `tools/grammar_tables.py`.
+//! Written by tools/grammar_tables.py from docs/dslx.grammar.
+//!
+//! The tables of the grammar.
 
 use super::{kind, nonterminal};
 use grammar::Symbol::{Nonterminal, Terminal};

@@ -1,4 +1,6 @@
-//! The nonterminals, written by `tools/grammar_tables.py`.
+//! Written by tools/grammar_tables.py from docs/dslx.grammar.
+//!
+//! The nonterminals.
 
 pub const MODULE: u8 = 0;
 

@@ -1,4 +1,6 @@
-//! The productions, written by `tools/grammar_tables.py`.
+//! Written by tools/grammar_tables.py from docs/dslx.grammar.
+//!
+//! The productions.
 
 /// `module = items`
 pub const MODULE: u16 = 0;

@@ -1,4 +1,6 @@
-//! The kinds of token, written by `tools/grammar_tables.py`.
+//! Written by tools/grammar_tables.py from docs/dslx.grammar.
+//!
+//! The kinds of token.
 
 pub const AMP: u8 = 0;
 
