@@ -9,9 +9,9 @@ use Rattle.xb_bits.specs.Word.{Word}
 use Rattle.xb_value.specs.declared.ty.Ty.{Ty, out-Ty}
 use Rattle.xb_value.specs.declared.ty.Ty as ty
 use Rattle.xb_value.specs.declared.ty.Ty.TheViews.{outs-Bits, outs-Tuple, outs-Array}
-use Rattle.xb_value.proofs.Types as types
-use Rattle.xb_value.proofs.Types.{ty_induction}
-use Rattle.xb_value.proofs.TypingLemmas.{fits-Bits}
+use Rattle.xb_value.proofs.Lemmas.Types as types
+use Rattle.xb_value.proofs.Lemmas.Types.{ty_induction}
+use Rattle.xb_value.proofs.Lemmas.Typing.{fits-Bits}
 use Rattle.xb_value.specs.declared.ty.Ty.TheOpen.{Ty-F}
 use Rattle.xb_value.specs.declared.value.Value.{Value, out-Value}
 use Rattle.xb_value.specs.declared.value.Value.TheOpen.{Value-F}

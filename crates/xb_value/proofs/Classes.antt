@@ -4,7 +4,8 @@ use Rattle.std.proofs.lemmas.Bool.Decides.{nat_tests}
 use Rattle.xb_value.specs.declared.token.Bracket.TheVariants.{Round, Square}
 use Rattle.xb_value.specs.declared.scan.Class.{Class}
 use Rattle.xb_value.specs.declared.scan.Class.TheVariants.{Space, Comma, Ex, Opens, Closes, Digit, Other}
-use Rattle.xb_value.specs.Form.{is_hex, hex_value, opening, closing}
+use Rattle.xb_value.specs.Form.{opening, closing}
+use Rattle.std.specs.Char.{is_ascii_hexdigit, digit_value}
 use Rattle.xb_value.specs.Scanner.{class_of}
 
 -- what the class of a byte says of the byte
@@ -14,7 +15,7 @@ IsOf b Comma = b ≡ 44
 IsOf b Ex = b ≡ 120
 IsOf b (Opens k) = b ≡ opening k
 IsOf b (Closes k) = b ≡ closing k
-IsOf b (Digit d) = IsTrue (is_hex b) × (d ≡ hex_value b)
+IsOf b (Digit d) = IsTrue (is_ascii_hexdigit b) × (d ≡ digit_value b)
 IsOf b Other = Unit {0}
 
 -- a choice by a test gives the class that the test shows, or that of the rest
@@ -34,23 +35,23 @@ class_of-is b =
     (chosen b (Opens Square) _ (b == 91) (is_equal b 91)
     (chosen b (Closes Round) _ (b == 41) (is_equal b 41)
     (chosen b (Closes Square) _ (b == 93) (is_equal b 93)
-    (chosen b (Digit (hex_value b)) Other (is_hex b) (λ h. (h, refl)) tt)))))))
+    (chosen b (Digit (digit_value b)) Other (is_ascii_hexdigit b) (λ h. (h, refl)) tt)))))))
 
 -- a byte that is a digit is none of the others
-apart : (d k : ℕ) → IsTrue (is_hex d) → is_hex k ≡ false → (d == k) ≡ false
+apart : (d k : ℕ) → IsTrue (is_ascii_hexdigit d) → is_ascii_hexdigit k ≡ false → (d == k) ≡ false
 apart d k h none = by_case (d == k) refl
   where
     by_case : (t : Bool) → (d == k) ≡ t → (d == k) ≡ false
     by_case false e = e
-    by_case true e = let same : d ≡ k = is_equal d k e in let bad : true ≡ false = sym h ∙ ap is_hex same ∙ none in absurd (cc)
+    by_case true e = let same : d ≡ k = is_equal d k e in let bad : true ≡ false = sym h ∙ ap is_ascii_hexdigit same ∙ none in absurd (cc)
 
-pub class_of-hex : (d : ℕ) → IsTrue (is_hex d) → class_of d ≡ Digit (hex_value d)
+pub class_of-hex : (d : ℕ) → IsTrue (is_ascii_hexdigit d) → class_of d ≡ Digit (digit_value d)
 class_of-hex d h =
     rw (apart d 32 h refl, apart d 44 h refl, apart d 120 h refl, apart d 40 h refl, apart d 91 h refl, apart d 41 h refl, apart d 93 h refl)
     (rw h refl)
 
 -- only the digit 0 has the value 0
-pub zero_digit : (b : ℕ) → IsTrue (is_hex b) → 0 ≡ hex_value b → b ≡ 48
+pub zero_digit : (b : ℕ) → IsTrue (is_ascii_hexdigit b) → 0 ≡ digit_value b → b ≡ 48
 zero_digit b h z =
     by_case (nat_le b 57) refl (nat_le b 70) refl
   where

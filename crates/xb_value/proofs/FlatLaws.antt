@@ -9,9 +9,9 @@ use Rattle.xb_value.specs.declared.value.Value.{Value, Bits, Tuple, Array}
 use Rattle.xb_value.specs.Flat.{flat_of, joined}
 use Rattle.xb_value.specs.Unflat.{Taker, taken_by, taken_times, take_step, taken_low}
 use Rattle.xb_value.specs.Width.{width_of}
-use Rattle.xb_value.proofs.Types as types
-use Rattle.xb_value.proofs.Types.{EachHas, ty_induction}
-use Rattle.xb_value.proofs.Values.{flat_of-Bits, flat_of-Tuple, flat_of-Array}
+use Rattle.xb_value.proofs.Lemmas.Types as types
+use Rattle.xb_value.proofs.Lemmas.Types.{EachHas, ty_induction}
+use Rattle.xb_value.proofs.Lemmas.Values.{flat_of-Bits, flat_of-Tuple, flat_of-Array}
 
 -- what a taker leaves, and the flat word of what it takes
 pub record TakesLow (w : ℕ) (p : Taker) (n : ℕ) : Type 0 where

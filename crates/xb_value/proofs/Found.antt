@@ -9,7 +9,8 @@ use Rattle.xb_value.specs.declared.token.Token.TheVariants.{Number, Open, Close}
 use Rattle.xb_value.specs.declared.scan.Class.{Class}
 use Rattle.xb_value.specs.declared.scan.Class.TheVariants.{Space, Comma, Ex, Opens, Closes, Digit, Other}
 use Rattle.xb_value.specs.declared.scan.Mode.TheVariants.{First, Next, Zero, Hex, Digits, After}
-use Rattle.xb_value.specs.Form.{Form, Items, number, empty, group, last, next, form_text, items_text, is_form, are_forms, is_hex, opening, closing, spaces}
+use Rattle.xb_value.specs.Form.{Form, Items, number, empty, group, last, next, form_text, items_text, is_form, are_forms, opening, closing, spaces}
+use Rattle.std.specs.Char.{is_ascii_hexdigit}
 use Rattle.xb_value.specs.Scanner.{class_of, Scan, scan, begin, close, follow, first, digits, step, ended, is_same}
 use Rattle.xb_value.specs.Scanner as read
 use Rattle.xb_value.proofs.Widths.{and_true}
@@ -83,7 +84,7 @@ pub record MoreFound (t : List ℕ) (k : Bracket) (ks : List Bracket) : Type 0 w
 -- the digits that go on a number, and what is left behind them
 pub record DigitsFound (t : List ℕ) (n : ℕ) (ks : List Bracket) : Type 0 where
   pub more : List ℕ
-  pub formed : IsTrue (list_all is_hex more)
+  pub formed : IsTrue (list_all is_ascii_hexdigit more)
   pub most : n + length more ≤ 32
   pub rest : List ℕ
   pub is : t ≡ more ++ rest
@@ -133,7 +134,7 @@ find_digits (b ∷ bs) ks ts at n v p most h = by_class (λ w le ends. find_digi
     digit later d e true less =
         let in_range : n + 1 ≤ 32 = grind (arith, nat_tests, less) in
         let found = later (v * 16 + d) in_range (subst (λ t. EndsFrom (if t then (Some (scan ks ts (Digits at (n + 1) (v * 16 + d)))) else None) (p + 1) bs) less (after (Digit d) e)) in
-        let hex : IsTrue (is_hex b) = (subst (IsOf b) e (class_of-is b)).0 in
+        let hex : IsTrue (is_ascii_hexdigit b) = (subst (IsOf b) e (class_of-is b)).0 in
         record {
           more = b ∷ found.more;
           formed = rw hex found.formed;
@@ -158,7 +159,7 @@ find_digits (b ∷ bs) ks ts at n v p most h = by_class (λ w le ends. find_digi
 
 -- ---- a number
 
-number_formed : (d : ℕ) (ds : List ℕ) → IsTrue (is_hex d) → IsTrue (list_all is_hex ds) → 1 + length ds ≤ 32 → IsTrue (is_form (number (d ∷ ds)))
+number_formed : (d : ℕ) (ds : List ℕ) → IsTrue (is_ascii_hexdigit d) → IsTrue (list_all is_ascii_hexdigit ds) → 1 + length ds ≤ 32 → IsTrue (is_form (number (d ∷ ds)))
 number_formed d ds hex all most =
     let few : IsTrue (nat_le (suc (length ds)) 32) = grind (arith, nat_tests) in
     let some : IsTrue (nat_le 1 (suc (length ds))) = grind (arith, nat_tests) in
@@ -185,7 +186,7 @@ find_number (x ∷ t) ks ts at p h = by_class (class_of x) refl
         first_digit : (c : Class) → class_of d ≡ c → ValueFound (48 ∷ x ∷ t) ks
         first_digit (Digit v) f =
             let found = find_digits ds ks ts at 1 v (p + 1 + 1) (omega arith) (goes (Digit v) f) in
-            let hex : IsTrue (is_hex d) = (subst (IsOf d) f (class_of-is d)).0 in
+            let hex : IsTrue (is_ascii_hexdigit d) = (subst (IsOf d) f (class_of-is d)).0 in
             record {
               form = number (d ∷ found.more);
               formed = number_formed d found.more hex found.formed found.most;

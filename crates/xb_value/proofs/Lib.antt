@@ -1,10 +1,10 @@
 pub mod Classes
-pub mod Digits
 pub mod Fits
 pub mod FlatBack
 pub mod FlatLaws
 pub mod Faults
 pub mod Found
+pub mod Lemmas
 pub mod ReadSaid
 pub mod ReadSays
 pub mod ReadTyped
@@ -13,10 +13,6 @@ pub mod Saturation
 pub mod Shapes
 pub mod Sound
 pub mod Taken
-pub mod TypedLaws
-pub mod Types
-pub mod TypingLemmas
-pub mod Values
 pub mod Widths
 pub mod Words
 pub mod Written

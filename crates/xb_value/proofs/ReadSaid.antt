@@ -13,10 +13,10 @@ use Rattle.xb_value.specs.Reading.{Answer, Answers, Reader, and_more, more_than,
 use Rattle.xb_value.specs.Shape.{unplaced, shape_of, all_of, Says}
 use Rattle.xb_value.specs.Typing.{IsOfType, fits, is_word_of, each_passes}
 use Rattle.xb_value.proofs.Shapes.{parted, number_of, group_of, counts_values}
-use Rattle.xb_value.proofs.Types as types
-use Rattle.xb_value.proofs.Types.{EachHas, ty_induction}
-use Rattle.xb_value.proofs.TypingLemmas.{bits_of_type, tuple_of_type, array_of_type}
-use Rattle.xb_value.proofs.Values.{shape_of-Bits, shape_of-Tuple, shape_of-Array}
+use Rattle.xb_value.proofs.Lemmas.Types as types
+use Rattle.xb_value.proofs.Lemmas.Types.{EachHas, ty_induction}
+use Rattle.xb_value.proofs.Lemmas.Typing.{bits_of_type, tuple_of_type, array_of_type}
+use Rattle.xb_value.proofs.Lemmas.Values.{shape_of-Bits, shape_of-Tuple, shape_of-Array}
 use Rattle.xb_value.proofs.Widths.{both_true, and_true}
 
 abbrev pub ReadsSaid : Ty → Type 0

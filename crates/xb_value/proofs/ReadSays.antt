@@ -13,9 +13,9 @@ use Rattle.xb_value.specs.Reading.{Answer, Answers, Reader, more_than, and_more,
 use Rattle.xb_value.specs.Shape.{unplaced, shape_of, all_of, Says}
 use Rattle.xb_value.specs.Typing.{IsOfType, is_word_of}
 use Rattle.xb_value.proofs.ReadSaid.{reads_said}
-use Rattle.xb_value.proofs.Types as types
-use Rattle.xb_value.proofs.Types.{EachHas, ty_induction}
-use Rattle.xb_value.proofs.Values.{shape_of-Bits, shape_of-Tuple, shape_of-Array}
+use Rattle.xb_value.proofs.Lemmas.Types as types
+use Rattle.xb_value.proofs.Lemmas.Types.{EachHas, ty_induction}
+use Rattle.xb_value.proofs.Lemmas.Values.{shape_of-Bits, shape_of-Tuple, shape_of-Array}
 
 -- the front that was taken is, without places, what `shape` says
 abbrev Takes : {A : Type 0} → (A → List Token) → List Token → Result (A × List Token) ℕ → Type 0

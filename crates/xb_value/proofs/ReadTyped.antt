@@ -18,9 +18,9 @@ use Rattle.xb_value.specs.Refusal.{IsAnswer, IsRefusal}
 use Rattle.xb_value.specs.Typing.{IsOfType, fits, bits_fit, tuple_fits, array_fits, is_word_of, each_passes}
 use Rattle.xb_value.proofs.Found.{outcome}
 use Rattle.xb_value.proofs.Taken.{taken}
-use Rattle.xb_value.proofs.Types as types
-use Rattle.xb_value.proofs.Types.{EachHas, ty_induction}
-use Rattle.xb_value.proofs.TypingLemmas.{fits-Bits, fits-Tuple, fits-Array}
+use Rattle.xb_value.proofs.Lemmas.Types as types
+use Rattle.xb_value.proofs.Lemmas.Types.{EachHas, ty_induction}
+use Rattle.xb_value.proofs.Lemmas.Typing.{fits-Bits, fits-Tuple, fits-Array}
 use Rattle.xb_value.proofs.Widths.{and_true}
 
 -- the claim holds of what was read

@@ -10,7 +10,9 @@ use Rattle.xb_value.specs.declared.scan.Class.{Class}
 use Rattle.xb_value.specs.declared.scan.Class.TheVariants.{Space, Comma, Ex, Opens, Closes, Digit, Other}
 use Rattle.xb_value.specs.declared.scan.Mode.{Mode}
 use Rattle.xb_value.specs.declared.scan.Mode.TheVariants.{Start, First, Next, Zero, Hex, Digits, After}
-use Rattle.xb_value.specs.Form.{Form, Items, number, empty, group, last, next, form_text, items_text, is_form, are_forms, is_hex, hex_value, number_from, opening, closing, spaces, form_tokens, items_tokens}
+use Rattle.xb_value.specs.Form.{Form, Items, number, empty, group, last, next, form_text, items_text, is_form, are_forms, opening, closing, spaces, form_tokens, items_tokens}
+use Rattle.std.specs.Char.{is_ascii_hexdigit, digit_value}
+use Rattle.std.specs.Str.Parse.{digits_value_after}
 use Rattle.xb_value.specs.Scanner.{class_of, Scan, scan, close, follow, digits, step_in, started}
 use Rattle.xb_value.proofs.Widths.{both_true}
 use Rattle.xb_value.proofs.Classes.{class_of-hex}
@@ -121,35 +123,35 @@ number_done (c ∷ cs) ks ts at n v p clean = ap (and_then (λ u. outcome u (p +
     by_class (Digit d) h = absurd (cc)
     by_class Other h = refl
 
-take_digits : (ds t : List ℕ) (ks : List Bracket) (ts : List Token) (at n v p : ℕ) → IsTrue (list_all is_hex ds) → n + length ds ≤ 32 → Clean t
-    → outcome (scan ks ts (Digits at n v)) p (ds ++ t) ≡ outcome (scan ks (ts ++ Number at (number_from v ds) ∷ []) After) (p + length ds) t
+take_digits : (ds t : List ℕ) (ks : List Bracket) (ts : List Token) (at n v p : ℕ) → IsTrue (list_all is_ascii_hexdigit ds) → n + length ds ≤ 32 → Clean t
+    → outcome (scan ks ts (Digits at n v)) p (ds ++ t) ≡ outcome (scan ks (ts ++ Number at (digits_value_after 16 v ds) ∷ []) After) (p + length ds) t
 take_digits [] t ks ts at n v p all most clean =
     number_done t ks ts at n v p clean ∙ at_place (scan ks (ts ++ Number at v ∷ []) After) p (p + 0) t (omega arith)
 take_digits (d ∷ ds) t ks ts at n v p all most clean =
-    let both = both_true (is_hex d) (list_all is_hex ds) all in
+    let both = both_true (is_ascii_hexdigit d) (list_all is_ascii_hexdigit ds) all in
     let room : nat_lt n 32 ≡ true = grind (arith, nat_tests, most) in
-    let w = v * 16 + hex_value d in
-    step_on (scan ks ts (Digits at n v)) p d (ds ++ t) (Digit (hex_value d)) (Some (scan ks ts (Digits at (n + 1) w)))
+    let w = v * 16 + digit_value d in
+    step_on (scan ks ts (Digits at n v)) p d (ds ++ t) (Digit (digit_value d)) (Some (scan ks ts (Digits at (n + 1) w)))
     (class_of-hex d both.0) (ap (λ x. if x then (Some (scan ks ts (Digits at (n + 1) w))) else None) room)
     ∙ take_digits ds t ks ts at (n + 1) w (p + 1) both.1 (omega (arith, most)) clean
-    ∙ at_place (scan ks (ts ++ Number at (number_from w ds) ∷ []) After) (p + 1 + length ds) (p + suc (length ds)) t (omega arith)
+    ∙ at_place (scan ks (ts ++ Number at (digits_value_after 16 w ds) ∷ []) After) (p + 1 + length ds) (p + suc (length ds)) t (omega arith)
 
 take_number : (ds t : List ℕ) (m : Mode) (ks : List Bracket) (ts : List Token) (p : ℕ) → IsTrue (is_form (number ds)) → IsTrue (can_begin m) → Clean t
     → outcome (scan ks ts m) p (form_text (number ds) ++ t) ≡ outcome (scan ks (ts ++ form_tokens p (number ds)) After) (p + length (form_text (number ds))) t
 take_number [] t m ks ts p formed begins clean = absurd (cc)
 take_number (d ∷ ds) t m ks ts p formed begins clean =
-    let parts = both_true (list_all is_hex (d ∷ ds) && nat_le 1 (length (d ∷ ds))) (nat_le (length (d ∷ ds)) 32) formed in
-    let all = (both_true (list_all is_hex (d ∷ ds)) (nat_le 1 (length (d ∷ ds))) parts.0).0 in
-    let hex = both_true (is_hex d) (list_all is_hex ds) all in
+    let parts = both_true (list_all is_ascii_hexdigit (d ∷ ds) && nat_le 1 (length (d ∷ ds))) (nat_le (length (d ∷ ds)) 32) formed in
+    let all = (both_true (list_all is_ascii_hexdigit (d ∷ ds)) (nat_le 1 (length (d ∷ ds))) parts.0).0 in
+    let hex = both_true (is_ascii_hexdigit d) (list_all is_ascii_hexdigit ds) all in
     let most : 1 + length ds ≤ 32 = grind (arith, nat_tests, parts.1) in
-    let v = hex_value d in
+    let v = digit_value d in
     let first : v ≡ 0 * 16 + v = omega arith in
     step_on (scan ks ts m) p 48 (120 ∷ d ∷ ds ++ t) (Digit 0) (Some (scan ks ts (Zero p))) refl (begin_zero m ks ts p begins)
     ∙ step_on (scan ks ts (Zero p)) (p + 1) 120 (d ∷ ds ++ t) Ex (Some (scan ks ts (Hex p))) refl refl
     ∙ step_on (scan ks ts (Hex p)) (p + 1 + 1) d (ds ++ t) (Digit v) (Some (scan ks ts (Digits p 1 v))) (class_of-hex d hex.0) refl
     ∙ take_digits ds t ks ts p 1 v (p + 1 + 1 + 1) hex.1 most clean
-    ∙ ap (λ w. outcome (scan ks (ts ++ Number p (number_from w ds) ∷ []) After) (p + 1 + 1 + 1 + length ds) t) first
-    ∙ at_place (scan ks (ts ++ Number p (number_from (0 * 16 + v) ds) ∷ []) After) (p + 1 + 1 + 1 + length ds) (p + suc (suc (suc (length ds)))) t (omega arith)
+    ∙ ap (λ w. outcome (scan ks (ts ++ Number p (digits_value_after 16 w ds) ∷ []) After) (p + 1 + 1 + 1 + length ds) t) first
+    ∙ at_place (scan ks (ts ++ Number p (digits_value_after 16 (0 * 16 + v) ds) ∷ []) After) (p + 1 + 1 + 1 + length ds) (p + suc (suc (suc (length ds)))) t (omega arith)
 
 -- ---- brackets
 

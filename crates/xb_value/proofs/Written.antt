@@ -1,10 +1,8 @@
 -- The text of a value is a value text, whose numbers and brackets are the value's.
-use Rattle.std.proofs.Common.{◌≡◌, ℕ, zero, suc, ◌+◌, ◌*◌, ◌/◌, ◌%◌, ◌^◌, ◌<◌, ◌≤◌, nat_lt, nat_le, List, [], ◌∷◌, ◌++◌, append-nil, length, map, codes, Bool, true, false, if◌then◌else◌, IsTrue, refl, sym, ap, ap₂, subst, ◌∙◌, arith}
+use Rattle.std.proofs.Common.{◌≡◌, ℕ, ◌+◌, ◌/◌, ◌^◌, ◌<◌, ◌≤◌, nat_le, List, [], ◌∷◌, ◌++◌, append-nil, length, map, codes, IsTrue, refl, sym, ap, ap₂, subst, ◌∙◌, arith}
 use Rattle.std.specs.List.{list_all}
 use Rattle.std.proofs.lemmas.Bool.Decides.{nat_tests}
 use Rattle.std.proofs.lemmas.List.{map-append}
-use Rattle.std.proofs.lemmas.Nat.{mod-pow-add, pow-add, mod_low}
-use Rattle.std.proofs.Math.Pow.{pow_mono}
 use Rattle.xb_bits.specs.Word.{Word}
 use Rattle.xb_value.specs.declared.ty.Ty.{Ty}
 use Rattle.xb_value.specs.declared.token.Bracket.{Bracket}
@@ -13,16 +11,18 @@ use Rattle.xb_value.specs.declared.token.Token.TheVariants.{Number, Open, Close}
 use Rattle.xb_value.specs.declared.value.Value.{Value, Bits, Tuple, Array}
 use Rattle.xb_value.specs.declared.value.Value.TheOpen.{Value-F}
 use Rattle.xb_value.specs.declared.value.Value.TheFolds.{fold-Value}
-use Rattle.xb_value.specs.Form.{Form, Items, number, empty, group, last, next, form_text, items_text, is_form, are_forms, is_hex, hex_value, number_from, opening, closing, spaces, form_tokens, items_tokens}
+use Rattle.xb_value.specs.Form.{Form, Items, number, empty, group, last, next, form_text, items_text, is_form, are_forms, opening, closing, spaces, form_tokens, items_tokens}
 use Rattle.xb_value.specs.Reading.{Reads}
 use Rattle.xb_value.specs.Shape.{unplaced, shape_of, all_of}
-use Rattle.xb_value.specs.Text.{digit_char, hex_digits, listed, text_step, text_of}
+use Rattle.xb_value.specs.Text.{listed, text_step, text_of}
+use Rattle.texts.specs.Hexadecimal.{hex_digits}
+use Rattle.texts.proofs.Lemmas.Hexadecimal.{digits_value-of_width, hex_digits-all, length-hex_digits}
 use Rattle.xb_value.specs.Typing.{IsOfType, fits, each_passes}
 use Rattle.xb_value.proofs.ReadSays.{reading_said}
-use Rattle.xb_value.proofs.Types.{EachHas, ty_induction}
-use Rattle.xb_value.proofs.TypingLemmas.{bits_of_type, tuple_of_type, array_of_type}
-use Rattle.xb_value.proofs.Values as values
-use Rattle.xb_value.proofs.Values.{value_induction, shape_of-Bits, shape_of-Tuple, shape_of-Array}
+use Rattle.xb_value.proofs.Lemmas.Types.{EachHas, ty_induction}
+use Rattle.xb_value.proofs.Lemmas.Typing.{bits_of_type, tuple_of_type, array_of_type}
+use Rattle.xb_value.proofs.Lemmas.Values as values
+use Rattle.xb_value.proofs.Lemmas.Values.{value_induction, shape_of-Bits, shape_of-Tuple, shape_of-Array}
 use Rattle.xb_value.proofs.Widths.{both_true, and_true}
 
 -- ---- the form that is written
@@ -84,65 +84,6 @@ is_written = value_induction IsWritten
     ap form_text (form_of-Array vs) ∙ grouped_text Square (map form_of vs) ∙ ap (λ ts. 91 ∷ (listed [] ts ++ 93 ∷ [])) (texts_of vs each)
     ∙ sym (values.fold-Array (List ℕ) text_step vs))
 
--- ---- its digits
-
-digit_hex : (d : ℕ) → d < 16 → IsTrue (is_hex (digit_char d)) × (hex_value (digit_char d) ≡ d)
-digit_hex d h = by_case (nat_lt d 10) refl
-  where
-    by_case : (t : Bool) → nat_lt d 10 ≡ t
-        → IsTrue (is_hex (if t then 48 + d else (87 + d))) × (hex_value (if t then 48 + d else (87 + d)) ≡ d)
-    by_case true e =
-        let least : nat_le 48 (48 + d) ≡ true = grind (arith, nat_tests) in
-        let most : nat_le (48 + d) 57 ≡ true = grind (arith, nat_tests) in
-        (rw (least, most) refl, rw most (omega arith))
-    by_case false e =
-        let a : nat_le 48 (87 + d) ≡ true = grind (arith, nat_tests) in
-        let b : nat_le (87 + d) 57 ≡ false = grind (arith, nat_tests) in
-        let c : nat_le 65 (87 + d) ≡ true = grind (arith, nat_tests) in
-        let f : nat_le (87 + d) 70 ≡ false = grind (arith, nat_tests) in
-        let g : nat_le 97 (87 + d) ≡ true = grind (arith, nat_tests) in
-        let i : nat_le (87 + d) 102 ≡ true = grind (arith, nat_tests) in
-        (rw (a, b, c, f, g, i) refl, rw (b, f) (omega arith))
-
-digit_below : (n k : ℕ) → n / 2 ^ k % 16 < 16
-digit_below n k = omega arith
-
-hex_all : (k n : ℕ) → IsTrue (list_all is_hex (hex_digits k n))
-unfolding hex_digits
-hex_all zero n = refl
-hex_all (suc k) n = and_true _ _ (digit_hex (n / 2 ^ (4 * k) % 16) (digit_below n (4 * k))).0 (hex_all k n)
-
-hex_length : (k n : ℕ) → length (hex_digits k n) ≡ k
-unfolding hex_digits
-hex_length zero n = refl
-hex_length (suc k) n = ap suc (hex_length k n)
-
--- one digit above the others
-digit_step : (k v n : ℕ) → (v * 16 + n / 2 ^ (4 * k) % 16) * 2 ^ (4 * k) + n % 2 ^ (4 * k) ≡ v * 2 ^ (4 * suc k) + n % 2 ^ (4 * suc k)
-digit_step k v n =
-    let place : 4 * suc k ≡ 4 + 4 * k = omega arith in
-    let high : 2 ^ (4 + 4 * k) ≡ 16 * 2 ^ (4 * k) = pow-add 2 4 (4 * k) in
-    let low : n % 2 ^ (4 + 4 * k) ≡ (n / 2 ^ (4 * k) % 16) * 2 ^ (4 * k) + n % 2 ^ (4 * k) = mod-pow-add n 4 (4 * k) in
-    rw place (rw (low, high) (omega arith))
-
-hex_number : (k v n : ℕ) → number_from v (hex_digits k n) ≡ v * 2 ^ (4 * k) + n % 2 ^ (4 * k)
-unfolding hex_digits
-hex_number zero v n = omega arith
-hex_number (suc k) v n =
-    let d = n / 2 ^ (4 * k) % 16 in
-    ap (λ x. number_from (v * 16 + x) (hex_digits k n)) (digit_hex d (digit_below n (4 * k))).1 ∙ hex_number k (v * 16 + d) n ∙ digit_step k v n
-
--- the digits that a width needs give the number back
-hex_whole : (w n : ℕ) → n < 2 ^ w → number_from 0 (hex_digits ((w + 3) / 4) n) ≡ n
-hex_whole w n h =
-    let k = (w + 3) / 4 in
-    let room : w ≤ 4 * ((w + 3) / 4) = omega arith in
-    let longer : 2 ^ w ≤ 2 ^ (4 * ((w + 3) / 4)) = pow_mono room in
-    let below : n < 2 ^ (4 * ((w + 3) / 4)) = omega arith in
-    let alone : 0 * 2 ^ (4 * k) + n % 2 ^ (4 * k) ≡ n % 2 ^ (4 * k) = omega arith in
-    let whole : n ≡ 0 * 2 ^ (4 * k) + n = omega arith in
-    hex_number k 0 n ∙ alone ∙ ap (λ m. m % 2 ^ (4 * k)) whole ∙ mod_low 0 (4 * k) n below
-
 -- ---- what it says
 
 -- the form of the value is a form, whose numbers and brackets are the value's
@@ -199,13 +140,13 @@ bits_written : (x : Word) → 1 ≤ x.width → x.width ≤ 128 → x.value < 2 
 bits_written x some most below =
     let k = (x.width + 3) / 4 in
     let digits = hex_digits k x.value in
-    let count : length digits ≡ (x.width + 3) / 4 = hex_length k x.value in
+    let count : length digits ≡ (x.width + 3) / 4 = length-hex_digits k x.value in
     let least : IsTrue (nat_le 1 (length digits)) = let one : 1 ≤ (x.width + 3) / 4 = omega arith in grind (arith, nat_tests) in
     let greatest : IsTrue (nat_le (length digits) 32) = let few : (x.width + 3) / 4 ≤ 32 = omega arith in grind (arith, nat_tests) in
     record {
-      formed = subst (λ f. IsTrue (is_form f)) (sym (form_of-Bits x)) (and_true _ _ (and_true _ _ (hex_all k x.value) least) greatest);
+      formed = subst (λ f. IsTrue (is_form f)) (sym (form_of-Bits x)) (and_true _ _ (and_true _ _ (hex_digits-all k x.value) least) greatest);
       says = λ at.
-          ap (λ f. map unplaced (form_tokens at f)) (form_of-Bits x) ∙ ap (λ n. Number 0 n ∷ []) (hex_whole x.width x.value below) ∙ sym (shape_of-Bits x);
+          ap (λ f. map unplaced (form_tokens at f)) (form_of-Bits x) ∙ ap (λ n. Number 0 n ∷ []) (digits_value-of_width x.width x.value below) ∙ sym (shape_of-Bits x);
     }
 
 well_written : (t : Ty) → WritesTyped t

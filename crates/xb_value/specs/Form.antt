@@ -1,6 +1,8 @@
 -- How values are spelled: the texts that are read.
-use Rattle.std.specs.Prelude.{ℕ, ◌+◌, ◌-◌, ◌*◌, ◌<◌, ◌≤◌, ◌≡◌, take, List, [], ◌∷◌, ◌++◌, length, replicate, Bool, true, ◌&&◌, ◌||◌, nat_le, if◌then◌else◌, IsTrue}
+use Rattle.std.specs.Prelude.{ℕ, ◌+◌, ◌<◌, ◌≤◌, ◌≡◌, take, List, [], ◌∷◌, ◌++◌, length, replicate, Bool, true, ◌&&◌, nat_le, IsTrue}
 use Rattle.std.specs.List.{list_all}
+use Rattle.std.specs.Char.{is_ascii_hexdigit}
+use Rattle.std.specs.Str.Parse.{digits_value}
 use Rattle.xb_value.specs.declared.token.Bracket.{Bracket}
 use Rattle.xb_value.specs.declared.token.Bracket.TheVariants.{Round, Square}
 use Rattle.xb_value.specs.declared.token.Token.{Token}
@@ -41,24 +43,12 @@ abbrev mutual
   items_text (last k f m) = spaces k ++ (form_text f ++ spaces m)
   items_text (next k f m is) = spaces k ++ (form_text f ++ (spaces m ++ 44 ∷ items_text is))
 
--- ---- digits
-
-abbrev pub is_hex : ℕ → Bool
-is_hex b = nat_le 48 b && nat_le b 57 || nat_le 65 b && nat_le b 70 || nat_le 97 b && nat_le b 102
-
--- the value of a digit of either case
-abbrev pub hex_value : ℕ → ℕ
-hex_value b = if nat_le b 57 then b - 48 else (if nat_le b 70 then b - 55 else (b - 87))
-
--- the number that the digits go on with, from `v`
-abbrev pub number_from : ℕ → List ℕ → ℕ
-number_from v [] = v
-number_from v (d ∷ ds) = number_from (v * 16 + hex_value d) ds
+-- ---- which are forms
 
 -- 1 to 32 digits in each number
 abbrev mutual
   pub is_form : Form → Bool
-  is_form (number ds) = list_all is_hex ds && nat_le 1 (length ds) && nat_le (length ds) 32
+  is_form (number ds) = list_all is_ascii_hexdigit ds && nat_le 1 (length ds) && nat_le (length ds) 32
   is_form (empty b k) = true
   is_form (group b is) = are_forms is
 
@@ -70,7 +60,7 @@ abbrev mutual
 
 abbrev mutual
   pub form_tokens : ℕ → Form → List Token
-  form_tokens at (number ds) = token.Number at (number_from 0 ds) ∷ []
+  form_tokens at (number ds) = token.Number at (digits_value 16 ds) ∷ []
   form_tokens at (empty b k) = token.Open at b ∷ token.Close ∷ []
   form_tokens at (group b is) = token.Open at b ∷ (items_tokens (at + 1) is ++ token.Close ∷ [])
 

@@ -8,7 +8,7 @@ use Rattle.xb_value.specs.declared.scan.Class.{Class}
 use Rattle.xb_value.specs.declared.scan.Class.TheVariants.{Space, Comma, Ex, Opens, Closes, Digit, Other}
 use Rattle.xb_value.specs.declared.scan.Mode.{Mode}
 use Rattle.xb_value.specs.declared.scan.Mode.TheVariants.{Start, First, Next, Zero, Hex, Digits, After}
-use Rattle.xb_value.specs.Form.{is_hex, hex_value}
+use Rattle.std.specs.Char.{is_ascii_hexdigit, digit_value}
 
 -- what a byte is to the reader
 abbrev pub class_of : ℕ → Class
@@ -20,7 +20,7 @@ class_of b =
     else (if b == 91 then (Opens Square)
     else (if b == 41 then (Closes Round)
     else (if b == 93 then (Closes Square)
-    else (if is_hex b then (Digit (hex_value b))
+    else (if is_ascii_hexdigit b then (Digit (digit_value b))
     else Other)))))))
 
 -- the open brackets, the innermost first, the numbers and brackets so far, and what may come next

@@ -1,16 +1,8 @@
 -- The text of a value.
-use Rattle.std.specs.Prelude.{ℕ, zero, suc, ◌+◌, ◌*◌, ◌/◌, ◌%◌, ◌^◌, List, [], ◌∷◌, ◌++◌, codes, if◌then◌else◌, nat_lt}
+use Rattle.std.specs.Prelude.{ℕ, ◌+◌, ◌/◌, List, [], ◌∷◌, ◌++◌, codes}
+use Rattle.texts.specs.Hexadecimal.{hex_digits}
 use Rattle.xb_value.specs.declared.value.Value.{Value, fold-Value}
 use Rattle.xb_value.specs.declared.value.Value.TheOpen.{Value-F}
-
--- a lower-case hexadecimal digit of a number below 16
-abbrev pub digit_char : ℕ → ℕ
-digit_char d = if nat_lt d 10 then 48 + d else (87 + d)
-
--- the low `k` hexadecimal digits of a number, the highest first
-unfoldable pub hex_digits : ℕ → ℕ → List ℕ
-hex_digits zero n = []
-hex_digits (suc k) n = digit_char (n / 2 ^ (4 * k) % 16) ∷ hex_digits k n
 
 -- texts in a row: `separator` before the first, and `, ` before each later one
 abbrev pub listed : List ℕ → List (List ℕ) → List ℕ

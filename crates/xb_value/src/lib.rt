@@ -19,7 +19,7 @@ pub use sqlite_items::{Boxed, Items as Seq, at};
 pub use ty::{Ty, leaves};
 pub use unflat_word::unflat;
 pub use value::Value;
-pub use writer::value_text;
+pub use writer::{push_value, value_text};
 
 #[cfg(test)]
 mod tests;

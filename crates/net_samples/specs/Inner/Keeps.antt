@@ -7,7 +7,7 @@ use Rattle.xb_value.specs.declared.ty.Ty.{Bits}
 use Rattle.xb_value.specs.declared.value.Value as value
 use Rattle.xb_value.specs.declared.value.Value.TheViews.{outs-Bits}
 use Rattle.xb_value.specs.Typing.{IsOfType, bits_fit, is_word_of}
-use Rattle.xb_value.proofs.TypingLemmas.{fits-Bits}
+use Rattle.xb_value.proofs.Lemmas.Typing.{fits-Bits}
 use Rattle.net_core.specs.declared.net.Site.{Site}
 use Rattle.net_core.specs.Behavior.{Behavior, IsWordOf, IsInDirection, TurnFits, KeepsTypes}
 use Rattle.net_samples.specs.declared.sample.Port.{Port}

@@ -4,7 +4,7 @@ use Rattle.xb_value.specs.declared.value.Value.{Value}
 use Rattle.xb_value.specs.Flat.{flat_of}
 use Rattle.xb_value.specs.Unflat.{taken_low}
 use Rattle.xb_value.proofs.FlatBack.{comes_back}
-use Rattle.xb_value.proofs.TypedLaws.{as_wide}
+use Rattle.xb_value.proofs.Lemmas.Flat.{as_wide}
 use Rattle.xb_value.proofs.flat_word.flat.Goals as goal
 
 pub returns-clause-width : goal.returns-clause-width

@@ -1,7 +1,7 @@
 use Rattle.std.proofs.Common.{◌-◌, ◌^◌, min, ◌*◌, ap, sym, ◌∙◌}
 use Rattle.xb_value.specs.Width.{leaf_count}
 use Rattle.xb_value.proofs.Saturation.{min_mul_min}
-use Rattle.xb_value.proofs.Types.{leaf_count-Array}
+use Rattle.xb_value.proofs.Lemmas.Types.{leaf_count-Array}
 use Rattle.xb_value.proofs.ty.+leaves.Goals as goal
 
 pub returns-in-Array : goal.returns-in-Array

@@ -5,7 +5,7 @@ use Rattle.xb_value.specs.Flat.{flat_of}
 use Rattle.xb_value.specs.Typing.{IsOfType}
 use Rattle.xb_value.specs.Width.{width_of}
 use Rattle.xb_value.proofs.FlatLaws.{takes_at}
-use Rattle.xb_value.proofs.TypedLaws.{gives_typed}
+use Rattle.xb_value.proofs.Lemmas.Flat.{gives_typed}
 use Rattle.xb_value.proofs.unflat_word.unflat.Goals as goal
 
 pub returns-clause-of_type : goal.returns-clause-of_type

@@ -1,7 +1,7 @@
 use Rattle.std.proofs.Common.{◌-◌, ◌^◌, min, ◌*◌, ap, sym, ◌∙◌}
 use Rattle.xb_value.specs.Width.{width_of}
 use Rattle.xb_value.proofs.Saturation.{min_mul_min}
-use Rattle.xb_value.proofs.Types.{width_of-Array}
+use Rattle.xb_value.proofs.Lemmas.Types.{width_of-Array}
 use Rattle.xb_value.proofs.ty.Ty.+width.Goals as goal
 
 pub returns-in-Array : goal.returns-in-Array

@@ -13,10 +13,10 @@ use Rattle.xb_value.specs.Flat.{flat_of, joined}
 use Rattle.xb_value.specs.Typing.{IsOfType, fits, bits_fit, tuple_fits, array_fits, is_word_of, each_passes}
 use Rattle.xb_value.specs.Unflat.{Taker, taken_by, taken_times, take_step, taken_low}
 use Rattle.xb_value.specs.Width.{width_of, HasWidths, HasAllWidths, widths_step}
-use Rattle.xb_value.proofs.Types as types
-use Rattle.xb_value.proofs.Types.{EachHas, ty_induction}
-use Rattle.xb_value.proofs.TypingLemmas.{bits_of_type, tuple_of_type, array_of_type, fits-Bits, fits-Tuple, fits-Array}
-use Rattle.xb_value.proofs.Values.{flat_of-Bits, flat_of-Tuple, flat_of-Array}
+use Rattle.xb_value.proofs.Lemmas.Types as types
+use Rattle.xb_value.proofs.Lemmas.Types.{EachHas, ty_induction}
+use Rattle.xb_value.proofs.Lemmas.Typing.{bits_of_type, tuple_of_type, array_of_type, fits-Bits, fits-Tuple, fits-Array}
+use Rattle.xb_value.proofs.Lemmas.Values.{flat_of-Bits, flat_of-Tuple, flat_of-Array}
 use Rattle.xb_value.proofs.Widths.{both_true, and_true}
 
 -- ---- how wide

@@ -8,8 +8,8 @@ use Rattle.xb_value.specs.declared.ty.Ty as ty
 use Rattle.xb_value.specs.declared.value.Value.{Value, Bits, Tuple, Array}
 use Rattle.xb_value.specs.declared.value.Value.TheViews.{out-Value, outs-Bits, outs-Tuple, outs-Array}
 use Rattle.xb_value.specs.Typing.{IsOfType, fits, fits_step, bits_fit, tuple_fits, array_fits, is_word_of, each_passes}
-use Rattle.xb_value.proofs.Types as types
-use Rattle.xb_value.proofs.Values.{value_cases}
+use Rattle.xb_value.proofs.Lemmas.Types as types
+use Rattle.xb_value.proofs.Lemmas.Values.{value_cases}
 use Rattle.xb_value.proofs.Widths.{both_true}
 
 pub fits-Bits : (w : ℕ) (v : Value) → fits (ty.Bits w) v ≡ bits_fit w (out-Value v)

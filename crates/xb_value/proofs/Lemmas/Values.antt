@@ -5,7 +5,7 @@ use Rattle.xb_value.specs.declared.token.Bracket.TheVariants.{Round, Square}
 use Rattle.xb_value.specs.declared.token.Token.{Token}
 use Rattle.xb_value.specs.declared.token.Token.TheVariants.{Number, Open, Close}
 use Rattle.xb_value.specs.Shape.{shape_of, shape_step, all_of}
-use Rattle.xb_value.proofs.Types.{EachHas, each_of}
+use Rattle.xb_value.proofs.Lemmas.Types.{EachHas, each_of}
 use Rattle.xb_value.specs.declared.value.Value.{Value, Bits, Tuple, Array}
 use Rattle.xb_value.specs.declared.value.Value.TheVariants.{rolls-Bits, rolls-Tuple, rolls-Array}
 use Rattle.xb_value.specs.declared.value.Value.TheOpen.{Value-F}
