@@ -13,7 +13,7 @@ use Rattle.net_core.specs.Cuts.{Proc, Run, Cut, sender, receiver}
 use Rattle.net_core.specs.Machine.{position_in, next_of, goes_by, goes, with_event, stepped}
 use Rattle.net_core.specs.declared.config.Progress.{Progress}
 use Rattle.net_core.specs.Shows.{Shows, progress_of, channel_of, IsBehaviorOf}
-use Rattle.net_core.proofs.Places.{read_is}
+use Rattle.lists.proofs.Lemmas.Places.{read_is}
 use Rattle.net_core.specs.Making.{has_word, has_room, TriesReceive, TriesSend, IsStandingFor, CanMake, TriesEvent}
 use Rattle.net_core.proofs.Openings.{EventAt, receives_at, sends_at, ends_with, next_at}
 use Rattle.net_core.proofs.Shown.{shows_unchanged, stepped_is, stepped_stays, progress_is, site_fits, stands_at, goes_receive, goes_send, goes_end, goes_done}

@@ -2,22 +2,13 @@
 use Rattle.std.proofs.Common.{◌≡◌, ℕ, zero, suc, ◌<◌, List, [], ◌∷◌, length, map, get_or, refl, sym, ap, ◌∙◌, subst, arith, Some, None, Option}
 use Rattle.std.specs.Prelude.{slice_get, option_map}
 use Rattle.std.proofs.lemmas.List.{length-map}
+use Rattle.std.proofs.lemmas.Option.{slice_get-map, slice_get_read}
 use Rattle.net_core.specs.declared.net.ProcHead.{ProcHead}
 use Rattle.net_core.specs.Behavior.{Behavior, KeepsTypes}
 use Rattle.net_core.specs.Cuts.{Proc, Run}
 use Rattle.net_core.specs.WellFormed.{EachKeepsTypes, procs_of}
 use Rattle.net_core.specs.Outcomes.{behaviors_of}
 use Rattle.net_core.specs.Shows.{IsBehaviorOf}
-
-pub get_map : {A B : Type 0} (f : A → B) (xs : List A) (k : ℕ) → slice_get (map f xs) k ≡ option_map f (slice_get xs k)
-get_map f [] k = refl
-get_map f (x ∷ xs) zero = refl
-get_map f (x ∷ xs) (suc k) = get_map f xs k
-
-get_there : {A : Type 0} (xs : List A) (k : ℕ) (x : A) → k < length xs → x ≡ get_or xs k x → slice_get xs k ≡ Some x
-get_there [] k x l e = absurd (omega (arith, l))
-get_there (y ∷ ys) zero x l e = ap Some (sym e)
-get_there (y ∷ ys) (suc k) x l e = get_there ys k x (omega (arith, l)) e
 
 has_behavior : (o : Option Proc) (b : Behavior) → option_map (λ (proc : Proc). proc.behavior) o ≡ Some b → (proc : Proc) × (o ≡ Some proc) × (proc.behavior ≡ b)
 has_behavior None b e = cc
@@ -27,9 +18,9 @@ has_behavior (Some proc) b e = (proc, refl, cc)
 pub behavior_there : {X : Type 0} (behavior : X → Behavior) (run : Run) (bodies : List X) (p : ℕ) (body : X) → behaviors_of run ≡ map behavior bodies
     → p < length bodies → body ≡ get_or bodies p body → IsBehaviorOf run p (behavior body)
 behavior_there behavior run bodies p body e l read =
-    let there = get_there bodies p body l read in
+    let there = slice_get_read bodies (length bodies) p body refl l read in
     has_behavior (slice_get run.procs p) (behavior body)
-    (sym (get_map (λ (proc : Proc). proc.behavior) run.procs p) ∙ (ap (λ bs. slice_get bs p) e ∙ (get_map behavior bodies p ∙ ap (λ o. option_map behavior o) there)))
+    (sym (slice_get-map (λ (proc : Proc). proc.behavior) run.procs p) ∙ (ap (λ bs. slice_get bs p) e ∙ (slice_get-map behavior bodies p ∙ ap (λ o. option_map behavior o) there)))
 
 pub count_behaviors : {X : Type 0} (behavior : X → Behavior) (run : Run) (bodies : List X) → behaviors_of run ≡ map behavior bodies → length run.procs ≡ length bodies
 count_behaviors behavior run bodies e =

@@ -1,19 +1,16 @@
 -- Whatever the order of the steps, they stay within the final cut, and they end there.
 use Rattle.std.proofs.Common.{◌≡◌, ℕ, zero, suc, ◌<◌, List, [], ◌∷◌, ◌++◌, length, refl, sym, subst, arith, cond, true, false, Bool, eqb, Some, None, Option}
+use Rattle.std.proofs.lemmas.Option.{slice_get_within}
 use Rattle.std.specs.Prelude.{slice_get}
 use Rattle.std.proofs.lemmas.Bool.Decides.{nat_tests}
 use Rattle.net_core.specs.declared.event.Event.{Event}
-use Rattle.net_core.specs.Cuts.{Proc, Run, Cut, IsFront, IsWithin, empty_cut, reach, round, rounds, most_events, final_cut}
+use Rattle.net_core.specs.Cuts.{Proc, Run, Cut, IsWithin, empty_cut, reach, round, rounds, most_events, final_cut}
+use Rattle.lists.specs.Front.{IsFront}
 use Rattle.net_core.specs.Machine.{position_in, next_of, goes_by, goes, with_event, stepped_by, stepped, after_steps}
-use Rattle.net_core.proofs.Fronts.{IsFront-refl, IsFront-trans, IsFront-append, IsFront-antisym}
+use Rattle.lists.proofs.Lemmas.Fronts.{IsFront-refl, IsFront-trans, IsFront-append, IsFront-antisym}
 use Rattle.net_core.proofs.Reach.{reach_grows}
 use Rattle.net_core.proofs.Rounds.{final_stays}
 use Rattle.net_core.proofs.Steps.{goes_extends, stays_whole, reach_none}
-
-within_get : {A : Type 0} (xs : List A) (i : ℕ) (x : A) → slice_get xs i ≡ Some x → i < length xs
-within_get [] i x e = cc
-within_get (y ∷ ys) zero x e = omega arith
-within_get (y ∷ ys) (suc i) x e = omega (arith, within_get ys i x e)
 
 -- each proc has come no further than it can by itself
 abbrev pub IsConsistent : Run → Cut → Type 0
@@ -99,7 +96,7 @@ stuck_fixed run cut c stuck p = go (slice_get run.procs p) refl
     go : (o : Option Proc) → slice_get run.procs p ≡ o → IsFront (reach run cut p) (cut p)
     go None e = rw (reach_none run cut p e) tt
     go (Some proc) e =
-        let h = stuck p (within_get run.procs p proc e) in
+        let h = stuck p (slice_get_within run.procs p proc e) in
         let g = rw e at h in
         rw (stays_whole run cut p proc e (c p) g) (IsFront-refl (cut p))
 

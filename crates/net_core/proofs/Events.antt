@@ -1,5 +1,6 @@
 -- After an event that a proc makes, the configuration shows the cut with that event.
-use Rattle.std.proofs.Common.{◌≡◌, ◌≢◌, ℕ, zero, suc, ◌<◌, ◌≤◌, List, [], ◌∷◌, ◌++◌, length, drop, take, get_or, refl, sym, ap, ◌∙◌, subst, arith, true, Some, None, Option, inl, inr}
+use Rattle.std.proofs.Common.{◌≡◌, ◌≢◌, ℕ, zero, suc, ◌≤◌, List, [], ◌∷◌, ◌++◌, length, drop, take, get_or, refl, sym, ap, ◌∙◌, subst, arith, true, Some, None, Option, inl, inr}
+use Rattle.std.proofs.lemmas.Option.{slice_get_within}
 use Rattle.std.specs.Prelude.{slice_get, slice_set, option_map, ◌⊎◌}
 use Rattle.std.proofs.lemmas.Bool.{cases_eq}
 use Rattle.xb_bits.specs.Word.{Word}
@@ -19,7 +20,7 @@ use Rattle.net_core.specs.Machine.{Position, opened, moved, position_after, posi
 use Rattle.net_core.specs.WellFormed.{AreWordsOf}
 use Rattle.net_core.specs.Shows.{Shows, progress_at, progress_of, channel_of}
 use Rattle.net_core.specs.Making.{Receives, Sends, Ends}
-use Rattle.net_core.proofs.Fronts.{IsFront-length}
+use Rattle.lists.proofs.Lemmas.Fronts.{IsFront-length}
 use Rattle.net_core.proofs.Reach.{words_at_grow}
 use Rattle.xb_value.specs.Typing.{IsOfType}
 use Rattle.net_core.proofs.Resume.{words_after, words_after-drop, position_after-push}
@@ -27,7 +28,8 @@ use Rattle.net_core.proofs.Steps.{position_stays}
 use Rattle.net_core.proofs.Confluence.{final_fixed, step_grows, step_consistent, step_below}
 use Rattle.net_core.proofs.Openings.{open_send, open_receive, open_first}
 use Rattle.net_core.proofs.Flows.{words_at-receive, words_at-end, words_at-send_other, words_at-send, received_at-send, received_at-end, received_at-receive_other, received_at-receive, received_at-by, with_event-here, with_event-other}
-use Rattle.net_core.proofs.Places.{slice_get-set, slice_get-set_other, same_there}
+use Rattle.lists.proofs.Lemmas.Places.{slice_get-set, slice_get-set_other}
+use Rattle.net_core.proofs.Flows.{same_there}
 use Rattle.net_core.proofs.Shown.{stepped_is, chan_at-there}
 
 -- what every event leaves: the parts of `Shows` that don't depend on which event it is
@@ -121,11 +123,6 @@ take_there [] k w e = cc
 take_there (x ∷ xs) zero w e = let h : x ≡ w = cc in ap (λ y. y ∷ []) h
 take_there (x ∷ xs) (suc k) w e = take_there xs k w e
 
-within_words : (xs : List Word) (k : ℕ) (w : Word) → slice_get xs k ≡ Some w → k < length xs
-within_words [] k w e = cc
-within_words (x ∷ xs) zero w e = omega arith
-within_words (x ∷ xs) (suc k) w e = omega (arith, within_words xs k w e)
-
 push_get : (xs : List Word) (w v : Word) (k : ℕ) → slice_get (xs ++ w ∷ []) k ≡ Some v → (slice_get xs k ≡ Some v) ⊎ (v ≡ w)
 push_get [] w v zero e = inr cc
 push_get [] w v (suc k) e = cc
@@ -185,7 +182,7 @@ receive_shows run cut old new p proc i site chan word sh at_site turn ours next 
     received_fits c (inl e) =
         let chan_here = chan_at-there proc.behavior.sites i site at_site.place in
         let count = received_at-receive run cut p i site.chan proc at_site.proc_is ours chan_here in
-        let there = within_words (words_at run cut site.chan) (received_at run cut site.chan) word made.word_is in
+        let there = slice_get_within (words_at run cut site.chan) (received_at run cut site.chan) word made.word_is in
         let words = ap length (words_at-receive run cut p i site.chan) in
         subst (λ k. received_at run (with_event cut p (Recv i)) k ≤ length (words_at run (with_event cut p (Recv i)) k)) (sym e) (omega (arith, count, there, words))
     received_fits c (inr h) =

@@ -1,5 +1,6 @@
 -- An event leaves fewer events to be made.
-use Rattle.std.proofs.Common.{◌≡◌, ℕ, zero, suc, ◌-◌, ◌*◌, ◌<◌, ◌≤◌, List, [], ◌∷◌, length, set, sym, ap, ◌∙◌, subst, arith, true, false, Bool, Some, MatchBool}
+use Rattle.std.proofs.Common.{◌≡◌, ℕ, zero, suc, ◌-◌, ◌*◌, ◌<◌, ◌≤◌, List, length, set, sym, ap, ◌∙◌, subst, arith, true, false, Bool, Some, MatchBool}
+use Rattle.std.proofs.lemmas.Option.{slice_get_within}
 use Rattle.std.specs.Prelude.{slice_get, slice_set, sum_by}
 use Rattle.std.proofs.lemmas.List.Sums.{sum_by-set}
 use Rattle.xb_bits.specs.Word.{Word}
@@ -13,9 +14,9 @@ use Rattle.net_core.specs.Cuts.{Proc, Run, Cut}
 use Rattle.net_core.specs.Machine.{position_in, next_of}
 use Rattle.net_core.specs.Shows.{Shows, progress_of, channel_of, IsBehaviorOf, IsUnchanged, progress_left, events_left}
 use Rattle.net_core.specs.Making.{TriesReceive, TriesSend, TriesEvent}
-use Rattle.net_core.proofs.Places.{get_or-there}
+use Rattle.std.proofs.lemmas.Option.{get_or_from_slice_get}
 use Rattle.net_core.proofs.Openings.{EventAt, receives_at, sends_at, ends_with, next_at}
-use Rattle.net_core.proofs.Shown.{progress_is, site_fits, stands_at, within_sites}
+use Rattle.net_core.proofs.Shown.{progress_is, site_fits, stands_at}
 
 at_least : (m k : ℕ) → 1 ≤ m → k ≤ m * k
 at_least zero k h = absurd (omega (arith, h))
@@ -27,16 +28,11 @@ site_falls m k done i h l w = omega (arith, at_least m (suc k) h)
 end_falls : (m k done : ℕ) → done ≤ k → m * suc k - 0 < suc m * suc k - done
 end_falls m k done l = omega arith
 
-place_within : {A : Type 0} (xs : List A) (i : ℕ) (x : A) → slice_get xs i ≡ Some x → i < length xs
-place_within [] i x e = cc
-place_within (y ∷ ys) zero x e = omega arith
-place_within (y ∷ ys) (suc i) x e = omega (arith, place_within ys i x e)
-
 left_set : (n : ℕ) (xs : List Progress) (p : ℕ) (x y : Progress) → slice_get xs p ≡ Some x → progress_left n y < progress_left n x
     → sum_by (progress_left n) (slice_set xs p y) < sum_by (progress_left n) xs
 left_set n xs p x y e l =
-    let s = sum_by-set (progress_left n) xs p y x (place_within xs p x e) in
-    let r = ap (progress_left n) (get_or-there xs p x x e) in
+    let s = sum_by-set (progress_left n) xs p y x (slice_get_within xs p x e) in
+    let r = ap (progress_left n) (get_or_from_slice_get xs p x x e) in
     omega (arith, s, r, l)
 
 module _ (run : Run) (cut : Cut) (config : Config) (sh : Shows run cut config) (p : ℕ) (proc : Proc) (proc_is : slice_get run.procs p ≡ Some proc)
@@ -55,7 +51,7 @@ module _ (run : Run) (cut : Cut) (config : Config) (sh : Shows run cut config) (
   receive_falls new i site chan channel later place true t =
       let at = position_in run cut p proc in
       let open_turns : 1 ≤ config.activations - at.ends = omega (arith, active, sh.activations) in
-      moved_falls new _ t.1.1.activations t.1.1.procs (site_falls (config.activations - at.ends) (length proc.behavior.sites) at.done i open_turns later (within_sites proc.behavior.sites i site place))
+      moved_falls new _ t.1.1.activations t.1.1.procs (site_falls (config.activations - at.ends) (length proc.behavior.sites) at.done i open_turns later (slice_get_within proc.behavior.sites i site place))
   receive_falls new i site chan channel later place false t = t.1
 
   send_falls : (new : Config) (i : ℕ) (site : Site) (chan : ℕ) (channel : Channel) (w : Word) → (position_in run cut p proc).done ≤ i → slice_get proc.behavior.sites i ≡ Some site → (made : Bool)
@@ -63,7 +59,7 @@ module _ (run : Run) (cut : Cut) (config : Config) (sh : Shows run cut config) (
   send_falls new i site chan channel w later place true t =
       let at = position_in run cut p proc in
       let open_turns : 1 ≤ config.activations - at.ends = omega (arith, active, sh.activations) in
-      moved_falls new _ t.1.activations t.1.procs (site_falls (config.activations - at.ends) (length proc.behavior.sites) at.done i open_turns later (within_sites proc.behavior.sites i site place))
+      moved_falls new _ t.1.activations t.1.procs (site_falls (config.activations - at.ends) (length proc.behavior.sites) at.done i open_turns later (slice_get_within proc.behavior.sites i site place))
   send_falls new i site chan channel w later place false t = t.1
 
   event_falls : (new : Config) (e : Event) → EventAt proc.behavior (position_in run cut p proc).state (position_in run cut p proc).got (position_in run cut p proc).done e

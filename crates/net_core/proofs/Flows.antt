@@ -1,5 +1,5 @@
 -- What one event more adds to the words that were sent and received.
-use Rattle.std.proofs.Common.{◌≡◌, ◌≢◌, ℕ, suc, ◌+◌, List, [], ◌∷◌, ◌++◌, refl, sym, ap, ◌∙◌, arith, true, false, Bool, cond, eqb, Some, None, Option}
+use Rattle.std.proofs.Common.{◌≡◌, ◌≢◌, ℕ, suc, ◌+◌, List, [], ◌∷◌, ◌++◌, refl, sym, ap, ◌∙◌, subst, arith, true, false, Bool, cond, eqb, Some, None, Option}
 use Rattle.std.specs.Prelude.{slice_get, get_or}
 use Rattle.std.proofs.lemmas.Bool.Decides.{nat_tests}
 use Rattle.std.proofs.lemmas.List.{append-nil}
@@ -15,6 +15,9 @@ use Rattle.net_core.specs.Behavior.{chan_at}
 use Rattle.net_core.specs.Cuts.{Proc, Run, Cut, sites_of, sites_at, sender, receiver, words_sent, count_received, words_by, words_at, received_at}
 use Rattle.net_core.specs.Machine.{with_event}
 use Rattle.net_core.proofs.Confluence.{eqb-same}
+
+pub same_there : {A : Type 0} (o : Option A) (x y : A) → o ≡ Some x → o ≡ Some y → x ≡ y
+same_there o x y e f = cc
 
 if_append : (b : Bool) (w : Word) (xs ys zs : List Word) → zs ≡ xs ++ ys → cond b (w ∷ zs) zs ≡ cond b (w ∷ xs) xs ++ ys
 if_append true w xs ys zs e = ap (λ us. w ∷ us) e
@@ -63,6 +66,17 @@ words_by_kind : (run : Run) (cut : Cut) (c : ℕ) (chan : Chan) → slice_get ru
     → words_at run cut c ≡ by_kind chan.kind (get_or run.inputs c []) (words_sent (sites_at run (sender run c)) c (cut (sender run c)))
 unfolding words_at words_by by_kind
 words_by_kind run cut c chan e = ap (λ o. words_by run cut c o) e
+
+-- what holds of the words of the outside and of those of the sender holds of the channel's
+pub words_either : (run : Run) (cut : Cut) (c : ℕ) (chan : Chan) → slice_get run.chans c ≡ Some chan → (P : List Word → Type 0)
+    → P (get_or run.inputs c []) → P (words_sent (sites_at run (sender run c)) c (cut (sender run c))) → P (words_at run cut c)
+unfolding by_kind
+words_either run cut c chan e P outside sent = subst P (sym (words_by_kind run cut c chan e)) (go chan.kind)
+  where
+    go : (kind : Kind) → P (by_kind kind (get_or run.inputs c []) (words_sent (sites_at run (sender run c)) c (cut (sender run c))))
+    go Input = outside
+    go Output = sent
+    go Inner = sent
 
 same_by : (run : Run) (cut more : Cut) (c : ℕ) (o : Option Chan) → words_sent (sites_at run (sender run c)) c (more (sender run c)) ≡ words_sent (sites_at run (sender run c)) c (cut (sender run c))
     → words_by run more c o ≡ words_by run cut c o

@@ -1,6 +1,6 @@
 -- The laws of networks, as lemmas by the names of the functions of `laws` that state them. This module is for other
 -- crates' proofs; nothing else of this folder is.
-use Rattle.std.proofs.Common.{◌≡◌, ℕ, ◌<◌, ◌≤◌, List, [], ◌∷◌, ◌++◌, length, sym, ◌∙◌, subst, false, true, Some}
+use Rattle.std.proofs.Common.{◌≡◌, ℕ, ◌<◌, ◌≤◌, ◌^◌, List, [], ◌∷◌, ◌++◌, length, sym, ◌∙◌, subst, false, true, Some}
 use Rattle.std.specs.Prelude.{slice_get}
 use mathlib.Core.Path.{fun_ext}
 use Rattle.xb_bits.specs.Word.{Word}
@@ -10,13 +10,16 @@ use Rattle.net_core.specs.declared.config.Config.{Config}
 use Rattle.net_core.specs.declared.outcome.Stall.{Stall}
 use Rattle.net_core.specs.Behavior.{Behavior, IsOpen, KeepsTypes, next_event}
 use Rattle.net_core.specs.Trace.{Histories, trace}
-use Rattle.net_core.specs.Cuts.{Proc, Run, Cut, IsFront, IsWithin, empty_cut, sites_at, words_sent, count_received, words_at, room_at, round, unbounded_round, final_cut, unbounded_cut}
+use Rattle.net_core.specs.Cuts.{Proc, Run, Cut, IsWithin, empty_cut, sites_at, words_sent, count_received, words_at, room_at, round, unbounded_round, final_cut, unbounded_cut}
+use Rattle.lists.specs.Front.{IsFront}
 use Rattle.net_core.specs.Machine.{opened, position_in, position_after, next_of, finds_word, goes_by, goes, after_steps}
-use Rattle.net_core.specs.Outcomes.{stall_in}
+use Rattle.net_core.specs.Outcomes.{stall_in, outcome_of}
+use Rattle.net_core.specs.declared.net.Net.{Net}
+use Rattle.net_core.specs.WellFormed.{IsNet, IsInputs, IsOutcome, AreBehaviorsOf, EachKeepsTypes, run_of}
 use Rattle.net_core.specs.Shows.{Shows}
 use Rattle.net_core.specs.Counted.{IsCounted}
 use Rattle.net_core.specs.Nexts.{EventFits, WaitsForAWord}
-use Rattle.net_core.proofs.Fronts.{IsFront-refl}
+use Rattle.lists.proofs.Lemmas.Fronts.{IsFront-refl}
 use Rattle.net_core.proofs.Traces.{trace_grows, longer_trace}
 use Rattle.net_core.proofs.Resume.{trace_opened}
 use Rattle.net_core.proofs.Receives.{received_within, stops_at, goes_further}
@@ -24,6 +27,7 @@ use Rattle.net_core.proofs.Nexts.{next_after, event_fits}
 use Rattle.net_core.proofs.Rounds.{final_stays, unbounded_stays}
 use Rattle.net_core.proofs.Confluence.{steps_within_final, steps_end_final, stuck_is_final}
 use Rattle.net_core.proofs.Counted.{counted_below, counted_final}
+use Rattle.net_core.proofs.TypedRuns.{outcome_fits}
 use Rattle.net_core.proofs.Final.{final_stuck, final_received, final_room, stuck_stalls}
 -- what a proc does at a site, and then at those behind it
 unfoldable pub use Rattle.net_core.proofs.Resume.{event_turn}
@@ -105,3 +109,8 @@ each_sent_word_had_room = final_room
 pub who_is_not_done_waits : (run : Run) (p : ℕ) (proc : Proc) → slice_get run.procs p ≡ Some proc → (position_in run (final_cut run) p proc).ends < run.activations
     → (stall : Stall) × (stall_in run (final_cut run) p proc ≡ Some stall)
 who_is_not_done_waits run p proc e l = stuck_stalls run (final_cut run) p proc (subst (λ o. goes_by run (final_cut run) p o ≡ false) e (final_stuck run p)) l
+
+pub outcomes_fit : (net : Net) (behaviors : List Behavior) (inputs : List (List Word)) (n : ℕ) (depths : List ℕ)
+    → IsNet net → AreBehaviorsOf net behaviors → EachKeepsTypes behaviors → IsInputs net inputs → n < 2 ^ 32
+    → IsOutcome net (outcome_of (run_of net behaviors inputs n depths) (final_cut (run_of net behaviors inputs n depths)))
+outcomes_fit net behaviors inputs n depths well fit keep given small = outcome_fits net well behaviors fit keep inputs given n small depths

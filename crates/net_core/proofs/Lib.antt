@@ -1,4 +1,3 @@
-pub mod Fronts
 pub mod Traces
 pub mod Resume
 pub mod Reach
@@ -7,8 +6,6 @@ pub mod Steps
 pub mod Confluence
 pub mod Openings
 pub mod Flows
-pub mod Places
-pub mod Indexed
 pub mod Shown
 pub mod Events
 pub mod Asked
@@ -20,4 +17,5 @@ pub mod Receives
 pub mod Nexts
 pub mod Counted
 pub mod Final
+pub mod TypedRuns
 pub mod Lemmas

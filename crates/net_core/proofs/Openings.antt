@@ -1,5 +1,6 @@
 -- Where an activation can stand: past its first sites, with exactly the words that they received.
 use Rattle.std.proofs.Common.{◌≡◌, ℕ, zero, suc, ◌+◌, ◌≤◌, List, [], ◌∷◌, ◌++◌, length, drop, take, refl, sym, ap, ◌∙◌, subst, arith, Some, append_assoc}
+use Rattle.std.proofs.lemmas.Option.{slice_get_within}
 use Rattle.std.specs.Prelude.{slice_get}
 use Rattle.std.proofs.lemmas.List.{append-nil}
 use Rattle.xb_bits.specs.Word.{Word}
@@ -80,11 +81,6 @@ length_take_site [] i site e = cc
 length_take_site (x ∷ xs) zero site e = refl
 length_take_site (x ∷ xs) (suc i) site e = ap suc (length_take_site xs i site e)
 
-site_within : (all : List Site) (i : ℕ) (site : Site) → slice_get all i ≡ Some site → suc i ≤ length all
-site_within [] i site e = cc
-site_within (x ∷ xs) zero site e = omega arith
-site_within (x ∷ xs) (suc i) site e = omega (arith, site_within xs i site e)
-
 -- past one site more
 open_past : (b : Behavior) (s : Value) (got new : List Word) (i : ℕ) (site : Site) (turn : Turn) → IsOpen b s got i → slice_get b.sites i ≡ Some site
     → b.turn s got i ≡ turn → NextWords b site got turn new → IsOpen b s new (suc i)
@@ -92,7 +88,7 @@ open_past b s got new i site turn o e t h =
     let place : i ≡ 0 + length (take i b.sites) = omega (arith, length_take_site b.sites i site e) in
     let g = subst (λ u. NextWords b site got u new) (sym t) h in
     let words = takes_push b s (take i b.sites) site [] got new got 0 i o.words place refl g in
-    record { within = site_within b.sites i site e; state = o.state; words = subst (λ xs. Takes b s [] 0 xs new) (sym (take_site b.sites i site e)) words }
+    record { within = (let w = slice_get_within b.sites i site e in omega (arith, w)); state = o.state; words = subst (λ xs. Takes b s [] 0 xs new) (sym (take_site b.sites i site e)) words }
 
 pub open_skip : (b : Behavior) (s : Value) (got : List Word) (i : ℕ) (site : Site) → IsOpen b s got i → slice_get b.sites i ≡ Some site
     → b.turn s got i ≡ Skip → IsOpen b s got (suc i)

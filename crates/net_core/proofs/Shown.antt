@@ -1,5 +1,6 @@
 -- A configuration that shows a cut shows, after an event, the cut with that event.
 use Rattle.std.proofs.Common.{◌≡◌, ◌≢◌, ℕ, zero, suc, ◌+◌, ◌<◌, ◌≤◌, List, [], ◌∷◌, length, get_or, refl, sym, ap, ◌∙◌, arith, true, false, Bool, cond, Some}
+use Rattle.std.proofs.lemmas.Option.{slice_get_within}
 use Rattle.std.specs.Prelude.{slice_get, option_map, nat_lt, ◌&&◌}
 use Rattle.std.proofs.lemmas.Bool.Decides.{nat_tests}
 use Rattle.xb_bits.specs.Word.{Word}
@@ -22,11 +23,6 @@ pub chan_at-there : (sites : List Site) (i : ℕ) (site : Site) → slice_get si
 chan_at-there [] i site e = cc
 chan_at-there (x ∷ xs) zero site e = let h : x ≡ site = cc in ap (λ (y : Site). y.chan) h
 chan_at-there (x ∷ xs) (suc i) site e = chan_at-there xs i site e
-
-pub within_sites : (sites : List Site) (i : ℕ) (site : Site) → slice_get sites i ≡ Some site → i < length sites
-within_sites [] i site e = cc
-within_sites (x ∷ xs) zero site e = omega arith
-within_sites (x ∷ xs) (suc i) site e = omega (arith, within_sites xs i site e)
 
 -- nothing changed, so the same cut is shown
 pub shows_unchanged : (run : Run) (cut : Cut) (old new : Config) → Shows run cut old → IsUnchanged old new → Shows run cut new
@@ -83,7 +79,7 @@ module _ (run : Run) (cut : Cut) (config : Config) (sh : Shows run cut config) (
         at = site;
         site_is = place;
         chan_is = refl;
-        small = omega (arith, within_sites proc.behavior.sites i site place, sh.run_fits.few_sites p proc proc_is);
+        small = omega (arith, slice_get_within proc.behavior.sites i site place, sh.run_fits.few_sites p proc proc_is);
         channel_is = sh.channels site.chan ∙ ap (λ o. option_map (channel_of run cut site.chan) o) chan_is;
         received = sh.received site.chan;
       }

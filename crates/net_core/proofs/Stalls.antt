@@ -14,12 +14,14 @@ use Rattle.net_core.specs.declared.config.Progress.{Progress}
 use Rattle.net_core.specs.Behavior.{Behavior, chan_at}
 use Rattle.net_core.specs.Cuts.{Proc, Run, Cut}
 use Rattle.net_core.specs.Machine.{position_in, next_of}
-use Rattle.net_core.specs.Outcomes.{indexed, stream_of, stall_for, stall_in, end_of}
+use Rattle.net_core.specs.Outcomes.{stream_of, stall_for, stall_in, end_of}
+use Rattle.lists.specs.Indexed.{indexed}
 use Rattle.net_core.specs.Shows.{Shows, progress_of, channel_of, IsBehaviorOf}
 use Rattle.net_core.specs.Making.{end_with, stream_in}
-use Rattle.net_core.proofs.Indexed.{indexed_get, same_by_get}
-use Rattle.net_core.proofs.Places.{get_or-there}
-use Rattle.net_core.proofs.Bodies.{get_map}
+use Rattle.lists.proofs.Lemmas.Indexed.{indexed_get}
+use Rattle.lists.proofs.Lemmas.Places.{same_by_get}
+use Rattle.std.proofs.lemmas.Option.{get_or_from_slice_get}
+use Rattle.std.proofs.lemmas.Option.{slice_get-map}
 use Rattle.net_core.proofs.Shown.{progress_is, chan_at-there}
 
 -- a stall at a site's channel
@@ -71,14 +73,14 @@ stream_is run cut c (Some chan) = refl
 pub streams_are : (run : Run) (cut : Cut) (config : Config) → Shows run cut config → map stream_in config.channels.items ≡ indexed (stream_of run cut) 0 run.chans
 streams_are run cut config sh =
     same_by_get _ _ (λ k.
-    get_map stream_in config.channels.items k
+    slice_get-map stream_in config.channels.items k
     ∙ (ap (λ o. option_map stream_in o) (sh.channels k) ∙ (stream_is run cut k (slice_get run.chans k) ∙ sym (indexed_get (stream_of run cut) 0 k k run.chans (omega arith)))))
 
 end_is : (run : Run) (cut : Cut) (k : ℕ) (stalls : List (Option Stall)) (o : Option Proc) → slice_get stalls k ≡ option_map (stall_in run cut k) o
     → option_map (end_with stalls k) (option_map (progress_of run cut k) o) ≡ option_map (end_of run cut k) o
 end_is run cut k stalls None e = refl
 end_is run cut k stalls (Some proc) e =
-    let s = get_or-there stalls k (stall_in run cut k proc) None e in
+    let s = get_or_from_slice_get stalls k (stall_in run cut k proc) None e in
     ap (λ x. Some (record { state = (position_in run cut k proc).state; ends = (position_in run cut k proc).ends; stall = x })) s
 
 pub ends_are : (run : Run) (cut : Cut) (config : Config) (stalls : List (Option Stall)) → Shows run cut config → stalls ≡ indexed (stall_in run cut) 0 run.procs

@@ -16,10 +16,10 @@ use Rattle.net_core.specs.Behavior.{Behavior, IsOpen}
 use Rattle.net_core.specs.Cuts.{Proc, empty_cut, place_of, sends_on, receives_on, sender, receiver, words_sent, count_received, words_by, words_at, received_at}
 use Rattle.net_core.specs.Machine.{opened, position_after, position_in}
 use Rattle.net_core.specs.WellFormed.{IsNet, IsSiteOf, IsInputs, AreWordsOf, IsBehaviorFor, AreBehaviorsOf, EachKeepsTypes, procs_of, run_of, IsRun}
-use Rattle.net_core.specs.Outcomes.{indexed}
+use Rattle.lists.specs.Indexed.{indexed}
 use Rattle.net_core.specs.Shows.{Shows, progress_at, progress_of, channel_of}
 use Rattle.net_core.specs.Making.{opened_progress, filled_channel}
-use Rattle.net_core.proofs.Indexed.{indexed_get}
+use Rattle.lists.proofs.Lemmas.Indexed.{indexed_get}
 use Rattle.net_core.proofs.Openings.{open_first}
 use Rattle.net_core.proofs.Confluence.{eqb-same}
 use Rattle.net_core.proofs.Flows.{eqb-itself}
@@ -41,7 +41,7 @@ zipped (h ∷ heads) (b ∷ bs) (suc p) proc e =
     let r = zipped heads bs p proc e in
     record { head = r.head; head_is = r.head_is; behavior_is = r.behavior_is; opening = r.opening }
 
-length-procs_of : (heads : List ProcHead) (bs : List Behavior) → length (procs_of heads bs) ≤ length heads
+pub length-procs_of : (heads : List ProcHead) (bs : List Behavior) → length (procs_of heads bs) ≤ length heads
 length-procs_of [] bs = omega arith
 length-procs_of (h ∷ heads) [] = omega arith
 length-procs_of (h ∷ heads) (b ∷ bs) = omega (arith, length-procs_of heads bs)
@@ -134,7 +134,7 @@ module _ (net : Net) (well : IsNet net) (bs : List Behavior) (fit : AreBehaviors
       let both = and_both _ _ found.3 in
       well.one_proc q p found.0 i found.1 site (site_of q found.0 other found.1 g found.2) (site_of p i proc site e f) (eqb-same found.1.chan site.chan both.1) (not_true found.1.sends both.0 ∙ sym s))
 
-  run_fits : IsRun (run_of net bs inputs n depths)
+  pub run_fits : IsRun (run_of net bs inputs n depths)
   run_fits = record {
     activations = small;
     few_procs = omega (arith, length-procs_of net.procs bs, well.few_procs);
@@ -156,6 +156,16 @@ module _ (net : Net) (well : IsNet net) (bs : List Behavior) (fit : AreBehaviors
           no_receive = λ s. well.no_receive p i site chan.0 in_net s chan.1;
         };
   }
+
+  pub opening_typed : (p : ℕ) (proc : Proc) → slice_get (procs_of net.procs bs) p ≡ Some proc → IsOfType proc.behavior.state proc.opening
+  opening_typed p proc e =
+      let z = zipped net.procs bs p proc e in
+      let b = behavior_fits p proc z in
+      subst (λ v. IsOfType proc.behavior.state v) (sym z.opening) (subst (λ t. IsOfType t z.head.init) (sym b.state) (well.opening p z.head z.head_is))
+
+  -- the head of a proc of the run has its type
+  pub head_of : (p : ℕ) (proc : Proc) → slice_get (procs_of net.procs bs) p ≡ Some proc → (head : ProcHead) × (slice_get net.procs p ≡ Some head) × (proc.behavior.state ≡ head.state)
+  head_of p proc e = let z = zipped net.procs bs p proc e in (z.head, z.head_is, (behavior_fits p proc z).state)
 
   start_kind : (kind : Kind) (outside : List Word) → (kind ≢ Input → outside ≡ [])
       → ◌≡◌ {A = List Word} (elim kind as (λ _. List Word) [ Input ↦ outside | Output ↦ [] | Inner ↦ [] ]) outside
@@ -216,11 +226,7 @@ module _ (net : Net) (well : IsNet net) (bs : List Behavior) (fit : AreBehaviors
         consistent = λ p. tt;
         below = λ p. tt;
         stands = λ p proc e.
-            let z = zipped net.procs bs p proc e in
-            let b = behavior_fits p proc z in
-            let typed = well.opening p z.head z.head_is in
-            let opens = subst (λ v. IsOfType proc.behavior.state v) (sym z.opening) (subst (λ t. IsOfType t z.head.init) (sym b.state) typed) in
-            start_stands p proc (open_first proc.behavior proc.opening opens);
+            start_stands p proc (open_first proc.behavior proc.opening (opening_typed p proc e));
         received = λ c. omega (arith, start_received c);
         words = λ c chan e. subst (λ ws. AreWordsOf (width_of chan.ty) ws) (sym (start_words c chan e)) (given.words c chan e);
       }

@@ -10,8 +10,9 @@
 --   round 1: P makes Send c 0, End 1, Send c 1, Send d 1, End 2.
 --   round 2: Q makes Recv d, Recv c, End 1, Recv c, End 0.
 --   round 3: the same. c has sent 0 and 1, d has sent 1, all was received, and both are done.
-use Rattle.std.specs.Prelude.{◌≡◌, ℕ, zero, suc, ◌+◌, ◌*◌, Bool, true, ◌&&◌, not, List, [], ◌∷◌, ◌++◌, length, get_or, slice_get, nat_lt, if◌then◌else◌, ◌==◌, sum_by, Option, Some, None}
+use Rattle.std.specs.Prelude.{ℕ, zero, suc, ◌+◌, ◌*◌, Bool, true, ◌&&◌, not, List, [], ◌∷◌, ◌++◌, length, get_or, slice_get, nat_lt, if◌then◌else◌, ◌==◌, sum_by, Option, Some, None}
 use Rattle.std.specs.List.{list_any}
+use Rattle.lists.specs.Front.{IsFront}
 use Rattle.xb_bits.specs.Word.{Word}
 use Rattle.xb_value.specs.declared.value.Value.{Value}
 use Rattle.net_core.specs.declared.net.Site.{Site}
@@ -160,12 +161,6 @@ final_cut run = rounds (round run) (most_events run)
 -- the same without the bound of the depths
 unfoldable pub unbounded_cut : Run → Cut
 unbounded_cut run = rounds (unbounded_round run) (most_events run)
-
--- xs is the front of ys, or all of it
-abbrev pub IsFront : {A : Type 0} → List A → List A → Type 0
-IsFront [] ys = Unit {0}
-IsFront (x ∷ xs) [] = ⊥
-IsFront (x ∷ xs) (y ∷ ys) = (x ≡ y) × IsFront xs ys
 
 -- no proc is further in the one cut than in the other
 abbrev pub IsWithin : Cut → Cut → Type 0

@@ -1,5 +1,6 @@
 -- What a cut leaves: the stream of each channel, and where each proc stands.
-use Rattle.std.specs.Prelude.{ℕ, suc, true, false, List, [], ◌∷◌, take, map, if◌then◌else◌, nat_lt, Option, Some, None}
+use Rattle.std.specs.Prelude.{ℕ, true, false, List, take, map, if◌then◌else◌, nat_lt, Option, Some, None}
+use Rattle.lists.specs.Indexed.{indexed}
 use Rattle.net_core.specs.declared.net.Chan.{Chan}
 use Rattle.net_core.specs.declared.net.Site.{Site}
 use Rattle.net_core.specs.declared.net.Kind.TheVariants.{Input, Output, Inner}
@@ -12,11 +13,6 @@ use Rattle.net_core.specs.declared.outcome.Stall.{Stall}
 use Rattle.net_core.specs.Behavior.{Behavior, chan_at}
 use Rattle.net_core.specs.Cuts.{Proc, Run, Cut, words_at, received_at}
 use Rattle.net_core.specs.Machine.{position_in, next_of}
-
--- a function of each element and its place, from place i on
-abbrev pub indexed : {A B : Type 0} → (ℕ → A → B) → ℕ → List A → List B
-indexed f i [] = []
-indexed f i (x ∷ xs) = f i x ∷ indexed f (suc i) xs
 
 -- the words that were sent on a channel, of an input those that were received, and how many were received by procs
 unfoldable pub stream_of : Run → Cut → ℕ → Chan → Stream

@@ -8,6 +8,10 @@ use Rattle.net_core.specs.declared.net.ProcHead.{ProcHead}
 use Rattle.net_core.specs.declared.net.Chan.{Chan}
 use Rattle.net_core.specs.declared.net.Site.{Site}
 use Rattle.net_core.specs.declared.net.Kind.TheVariants.{Input, Output}
+use Rattle.net_core.specs.declared.outcome.Outcome.{Outcome}
+use Rattle.net_core.specs.declared.outcome.Stream.{Stream}
+use Rattle.net_core.specs.declared.outcome.ProcEnd.{ProcEnd}
+use Rattle.net_core.specs.declared.outcome.Stall.{Stall}
 use Rattle.net_core.specs.Behavior.{Behavior, KeepsTypes, IsWordOf}
 use Rattle.net_core.specs.Cuts.{Proc, Run, sender, receiver}
 
@@ -52,6 +56,15 @@ pub record IsInputs (net : Net) (inputs : List (List Word)) : Type 0 where
 pub record IsDepths (net : Net) (depths : List ℕ) : Type 0 where
   pub count : length depths ≡ length net.chans
   pub some : (c : ℕ) → c < length depths → 1 ≤ get_or depths c 0
+
+-- a stream for each channel, with words of its width, and an end for each proc, with a state of its type and a stall at
+-- a channel that is there
+pub record IsOutcome (net : Net) (outcome : Outcome) : Type 0 where
+  pub streams : length outcome.streams ≡ length net.chans
+  pub words : (c : ℕ) (chan : Chan) (stream : Stream) → slice_get net.chans c ≡ Some chan → slice_get outcome.streams c ≡ Some stream → AreWordsOf (width_of chan.ty) stream.words
+  pub procs : length outcome.procs ≡ length net.procs
+  pub states : (p : ℕ) (head : ProcHead) (stand : ProcEnd) → slice_get net.procs p ≡ Some head → slice_get outcome.procs p ≡ Some stand → IsOfType head.state stand.state
+  pub stalls : (p : ℕ) (stand : ProcEnd) (stall : Stall) → slice_get outcome.procs p ≡ Some stand → stand.stall ≡ Some stall → stall.chan < length net.chans
 
 -- this is what the proc of a head does in a network
 pub record IsBehaviorFor (net : Net) (head : ProcHead) (b : Behavior) : Type 0 where

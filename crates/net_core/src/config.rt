@@ -1,5 +1,5 @@
 ghost use Rattle.std.specs.Prelude.{◌≡◌, map, length, take, IfOk};
-ghost use Rattle.net_core.specs.Outcomes.{indexed};
+ghost use Rattle.lists.specs.Indexed.{indexed};
 ghost use Rattle.net_core.specs.Making.{opened_progress, filled_channel, end_with, stream_in};
 
 use crate::body::Body;
@@ -176,7 +176,8 @@ impl Config {
     ghost use Rattle.net_core.specs.declared.config.Channel.{Channel};
     ghost use Rattle.net_core.specs.Making.{has_word, has_room, IsPlaced, AtPlace, IsPlacedOn, AtPlaceOn, OfProc, HasSite, OfSite};
     ghost use Rattle.net_core.specs.Making.{Receives, Sends, Ends, TriesReceive, TriesSend, IsStandingFor, CanMake, TriesEvent};
-    ghost use Rattle.net_core.specs.Outcomes.{indexed, outcome_of, stall_in, stall_for, behaviors_of};
+    ghost use Rattle.lists.specs.Indexed.{indexed};
+    ghost use Rattle.net_core.specs.Outcomes.{outcome_of, stall_in, stall_for, behaviors_of};
     ghost use Rattle.net_core.specs.Behavior.{Behavior};
     ghost use Rattle.net_core.specs.Cuts.{Run, Cut, empty_cut};
     ghost use Rattle.net_core.specs.WellFormed.{IsNet, IsInputs, IsDepths, AreBehaviorsOf, EachKeepsTypes, run_of};

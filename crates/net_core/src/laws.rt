@@ -1,7 +1,7 @@
 //! Laws of networks, each the contract of a function without a body. For proofs of other crates they are lemmas of the
 //! same names in `proofs/Lemmas.antt`.
 
-ghost use Rattle.std.specs.Prelude.{◌≡◌, ◌<◌, ◌≤◌, ℕ, true, false, List, [], ◌∷◌, ◌++◌, length, slice_get, Some};
+ghost use Rattle.std.specs.Prelude.{◌≡◌, ◌<◌, ◌≤◌, ◌^◌, ℕ, true, false, List, [], ◌∷◌, ◌++◌, length, slice_get, Some};
 ghost use Rattle.xb_bits.specs.Word.{Word};
 ghost use Rattle.xb_value.specs.declared.value.Value.{Value};
 ghost use Rattle.net_core.specs.declared.event.Event.{Event};
@@ -9,10 +9,13 @@ ghost use Rattle.net_core.specs.declared.config.Config.{Config};
 ghost use Rattle.net_core.specs.declared.outcome.Stall.{Stall};
 ghost use Rattle.net_core.specs.Behavior.{Behavior, IsOpen, KeepsTypes, next_event};
 ghost use Rattle.net_core.specs.Trace.{Histories, trace};
-ghost use Rattle.net_core.specs.Cuts.{Proc, Run, Cut, IsFront, IsWithin, empty_cut, sites_at, words_sent, count_received, words_at, room_at};
+ghost use Rattle.net_core.specs.Cuts.{Proc, Run, Cut, IsWithin, empty_cut, sites_at, words_sent, count_received, words_at, room_at};
+ghost use Rattle.lists.specs.Front.{IsFront};
 ghost use Rattle.net_core.specs.Cuts.{round, unbounded_round, final_cut, unbounded_cut};
 ghost use Rattle.net_core.specs.Machine.{goes, opened, next_of, finds_word, position_after, position_in, after_steps};
-ghost use Rattle.net_core.specs.Outcomes.{stall_in};
+ghost use Rattle.net_core.specs.Outcomes.{stall_in, outcome_of};
+ghost use Rattle.net_core.specs.declared.net.Net.{Net};
+ghost use Rattle.net_core.specs.WellFormed.{IsNet, IsInputs, IsOutcome, AreBehaviorsOf, EachKeepsTypes, run_of};
 ghost use Rattle.net_core.specs.Shows.{Shows};
 ghost use Rattle.net_core.specs.Counted.{IsCounted};
 ghost use Rattle.net_core.specs.Nexts.{EventFits, WaitsForAWord};
@@ -135,4 +138,12 @@ pub fn who_is_not_done_waits()
     ensures { (run : Run) (p : ℕ) (proc : Proc) → slice_get run.procs p ≡ Some proc →
         (position_in run (final_cut run) p proc).ends < run.activations →
         (stall : Stall) × (stall_in run (final_cut run) p proc ≡ Some stall) }
+{}
+
+/// The outcome of the final cut has words of its channels' widths and states of its procs' types.
+pub fn outcomes_fit()
+    ensures { (net : Net) (behaviors : List Behavior) (inputs : List (List Word)) (n : ℕ) (depths : List ℕ) →
+        IsNet net → AreBehaviorsOf net behaviors → EachKeepsTypes behaviors → IsInputs net inputs → n < 2 ^ 32 →
+        let run = run_of net behaviors inputs n depths in
+        IsOutcome net (outcome_of run (final_cut run)) }
 {}

@@ -5,13 +5,12 @@ mod body;
 mod config;
 mod event;
 pub mod laws;
-mod name;
 mod net;
 mod outcome;
 
 pub use body::Body;
 pub use config::Config;
 pub use event::Event;
-pub use name::Name;
 pub use net::{Chan, Inputs, Kind, Net, ProcHead, Site};
 pub use outcome::{Outcome, ProcEnd, Stall, Stream};
+pub use texts::Name;

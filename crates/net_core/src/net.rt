@@ -1,4 +1,4 @@
-use crate::name::Name;
+use texts::Name;
 use xb_bits::Bits;
 use xb_value::{Seq, Ty, Value};
 

@@ -2,7 +2,7 @@ ghost use Rattle.std.specs.Prelude.{◌≡◌, ◌<◌, ◌∷◌, ◌++◌, [],
 ghost use Rattle.net_core.specs.Cuts.{Run, Cut, final_cut};
 ghost use Rattle.net_core.specs.Machine.{goes};
 ghost use Rattle.net_core.specs.Outcomes.{behaviors_of, outcome_of};
-ghost use Rattle.net_core.specs.WellFormed.{IsNet, IsInputs, IsDepths, AreBehaviorsOf, run_of};
+ghost use Rattle.net_core.specs.WellFormed.{IsNet, IsInputs, IsDepths, IsOutcome, AreBehaviorsOf, run_of};
 ghost use Rattle.net_core.specs.Shows.{Shows, IsAskedWith, WhereAsked, IsRunWith, WhereRun, events_left};
 ghost use Rattle.net_run.specs.Rounds.{Advances, Passes};
 
@@ -25,9 +25,10 @@ pub fn run_one<B: Body>(
     requires bodies { AreBehaviorsOf net.now (map B.behavior bodies.now) }
     requires inputs { IsInputs net.now inputs.now.words }
     requires depths { IsDepths net.now depths.now }
-    ensures { IfOk result (λ outcome.
+    ensures outcome { IfOk result (λ outcome.
         let run = run_of net.now (map B.behavior bodies.now) inputs.now.words n depths.now in
         outcome ≡ outcome_of run (final_cut run)) }
+    ensures fits { IfOk result (λ outcome. IsOutcome net.now outcome) }
 {
     let mut config = Config::new(alloc, net, inputs, n, depths)?;
     run_to_end(alloc, &mut config, bodies)?;

@@ -1,5 +1,5 @@
 use Rattle.std.proofs.Common.{◌≡◌, length}
-use Rattle.net_core.specs.Outcomes.{indexed}
+use Rattle.lists.specs.Indexed.{indexed}
 use Rattle.net_core.specs.Making.{end_with}
 use Rattle.net_core.proofs.config.ends.Given as goal
 

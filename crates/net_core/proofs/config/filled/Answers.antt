@@ -2,9 +2,9 @@ use Rattle.std.proofs.Common.{◌<◌, ◌∙◌, ap, sym, ◌++◌, ◌∷◌, 
 use Rattle.std.proofs.lemmas.List.{get_or_read}
 use Rattle.xb_bits.specs.Word.{Word}
 use Rattle.net_core.specs.declared.config.Channel.{Channel}
-use Rattle.net_core.specs.Outcomes.{indexed}
+use Rattle.lists.specs.Indexed.{indexed}
 use Rattle.net_core.specs.Making.{filled_channel}
-use Rattle.net_core.proofs.Indexed.{indexed_more}
+use Rattle.lists.proofs.Lemmas.Indexed.{indexed_more}
 use Rattle.net_core.proofs.config.filled.Goals as goal
 
 pub loop-c-preserved : goal.loop-c-preserved

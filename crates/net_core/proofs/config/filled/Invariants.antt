@@ -1,5 +1,5 @@
 use Rattle.std.proofs.Common.{◌≡◌, take}
-use Rattle.net_core.specs.Outcomes.{indexed}
+use Rattle.lists.specs.Indexed.{indexed}
 use Rattle.net_core.specs.Making.{filled_channel}
 use Rattle.net_core.proofs.config.filled.Given as goal
 

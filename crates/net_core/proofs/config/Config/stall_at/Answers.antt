@@ -1,7 +1,8 @@
 use Rattle.std.proofs.Common.{◌≡◌, ap, subst, Some, true, false}
 use Rattle.std.specs.Prelude.{slice_get}
 use Rattle.net_core.specs.declared.config.Progress.{Progress}
-use Rattle.net_core.proofs.Places.{read_is, same_there}
+use Rattle.lists.proofs.Lemmas.Places.{read_is}
+use Rattle.net_core.proofs.Flows.{same_there}
 use Rattle.net_core.proofs.Stalls.{stall_arm}
 use Rattle.net_core.proofs.config.Config.stall_at.Goals as goal
 

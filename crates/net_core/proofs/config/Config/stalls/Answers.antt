@@ -1,9 +1,10 @@
 use Rattle.std.proofs.Common.{◌<◌, ◌≤◌, ◌∙◌, ap, sym, List, ◌++◌, ◌∷◌, [], length, take, arith, Option}
 use Rattle.std.proofs.lemmas.List.{take_all}
 use Rattle.net_core.specs.declared.outcome.Stall.{Stall}
-use Rattle.net_core.specs.Outcomes.{indexed, stall_in}
-use Rattle.net_core.proofs.Indexed.{indexed_more}
-use Rattle.net_core.proofs.Places.{get_or-there}
+use Rattle.net_core.specs.Outcomes.{stall_in}
+use Rattle.lists.specs.Indexed.{indexed}
+use Rattle.lists.proofs.Lemmas.Indexed.{indexed_more}
+use Rattle.std.proofs.lemmas.Option.{get_or_from_slice_get}
 use Rattle.net_core.proofs.Bodies.{behavior_there, count_behaviors}
 use Rattle.net_core.proofs.config.Config.stalls.Goals as goal
 
@@ -22,7 +23,7 @@ loop-p-preserved g c run cut sh e =
     c.in_ok-push.ensures.items
     ∙ (ap (λ (xs : List (Option Stall)). xs ++ c.in_ok-stall.field-0 ∷ []) (c.loop-p.invariant run cut sh e)
     ∙ (ap (λ (x : Option Stall). done ++ x ∷ []) stall
-    ∙ sym (indexed_more (stall_in run cut) run.procs c.loop-p.p is.0 within (sym (get_or-there run.procs c.loop-p.p is.0 is.0 is.1)))))
+    ∙ sym (indexed_more (stall_in run cut) run.procs c.loop-p.p is.0 within (sym (get_or_from_slice_get run.procs c.loop-p.p is.0 is.0 is.1)))))
 
 pub returns : goal.returns
 returns g c run cut sh e =
