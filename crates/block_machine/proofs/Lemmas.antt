@@ -1,0 +1,7 @@
+-- The laws of pipelined hardware, as lemmas by the names of the functions of `laws` that state them. This module is for
+-- other crates' proofs; nothing else of this folder is.
+pub use Rattle.block_machine.proofs.Prefixes.{sent_words_are_a_front, received_words_are_the_traces}
+pub use Rattle.block_machine.proofs.Offers.{what_waits_stands}
+pub use Rattle.block_machine.proofs.Offered.{untaken_words_stand}
+pub use Rattle.block_machine.proofs.Asks.{one_site_is_asked_to_send, one_site_is_asked_to_receive}
+pub use Rattle.block_machine.proofs.Exact.{always_fed_words_move_in_their_cycle}

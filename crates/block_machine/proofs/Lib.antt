@@ -1,0 +1,17 @@
+pub mod Walks
+pub mod Rests
+pub mod Fronts
+pub mod Stages
+pub mod Lefts
+pub mod Moves
+pub mod Holding
+pub mod Turns
+pub mod Gathering
+pub mod Standing
+pub mod Steps
+pub mod Prefixes
+pub mod Offers
+pub mod Asks
+pub mod Offered
+pub mod Exact
+pub mod Lemmas

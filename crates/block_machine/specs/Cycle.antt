@@ -1,0 +1,173 @@
+-- What a pipeline does in one clock cycle.
+use Rattle.std.specs.Prelude.{ℕ, zero, suc, ◌-◌, Bool, true, false, ◌&&◌, ◌||◌, not, List, [], ◌∷◌, ◌++◌, map, if◌then◌else◌, ◌==◌, is_none, Option, Some, None}
+use Rattle.std.specs.List.{list_any}
+use Rattle.xb_bits.specs.Word.{Word, word}
+use Rattle.xb_value.specs.declared.value.Value.{Value}
+use Rattle.net_core.specs.declared.event.Event.{Event}
+use Rattle.net_core.specs.declared.event.Event.TheVariants.{Recv, Send}
+use Rattle.net_core.specs.Behavior.{Behavior, Turn, Skip, Receive, Give, chan_at}
+use Rattle.block_machine.specs.Pipeline.{Pipeline, first}
+
+-- what stands at a pipeline's ports in a cycle, by channel: the word that is there to be received, if one is, and
+-- whether a word that is sent is taken
+pub record Ports : Type 0 where
+  pub offer : ℕ → Option Word
+  pub room : ℕ → Bool
+
+-- an activation as it came into a stage: the state in which it began, and the words that it had received
+pub record Begun : Type 0 where
+  pub state : Value
+  pub got : List Word
+
+-- the registers of a pipeline
+pub record Contents : Type 0 where
+  -- the stages that hold an activation. That of stage 0 is the turn: an activation may begin
+  pub full : ℕ → Bool
+  -- the state in which the next activation begins
+  pub state : Value
+  -- the activations of the stages from 1 on
+  pub held : ℕ → Begun
+  -- the sites that are done, in the stages that hold an activation: they received or sent in an earlier cycle
+  pub done : ℕ → Bool
+  -- the words that done receives received
+  pub kept : ℕ → Word
+
+-- after reset, stage 0 has the turn, and nothing else is in use
+unfoldable pub opened : Pipeline → Contents
+opened q = record {
+  full = λ j. j == 0;
+  state = q.proc.opening;
+  held = λ j. record { state = q.proc.opening; got = [] };
+  done = λ i. false;
+  kept = λ i. word 1 0;
+}
+
+-- what came into a stage: into stage 0 the state registers, and no word
+abbrev pub brought : Contents → ℕ → Begun
+brought c zero = record { state = c.state; got = [] }
+brought c (suc j) = c.held (suc j)
+
+-- a word that goes through a port at the site of a place: it is received, or sent
+pub data Deed : Type 0 where
+  Takes : ℕ → Word → Deed
+  Gives : ℕ → Word → Deed
+
+abbrev pub event_of : Deed → Event
+event_of (Takes i w) = Recv i
+event_of (Gives i w) = Send i w
+
+-- how far an activation comes along the sites of a stage in a cycle: to which place, with which words received by then,
+-- what goes through ports on the way, and what it waits for there, if it does
+pub record Walk : Type 0 where
+  pub place : ℕ
+  pub got : List Word
+  pub deeds : List Deed
+  pub waits : Option Event
+
+abbrev pub behind_deed : Deed → Walk → Walk
+behind_deed deed walk = record { place = walk.place; got = walk.got; deeds = deed ∷ walk.deeds; waits = walk.waits }
+
+abbrev pub stopped : ℕ → List Word → Option Event → Walk
+stopped i got waits = record { place = i; got = got; deeds = []; waits = waits }
+
+-- one site, by what the proc does there, whether it is done, the word kept, the word that is there, and whether one
+-- that is sent is taken; and the walk from there on
+abbrev pub at_site : ℕ → List Word → Turn → Bool → Word → Option Word → Bool → (List Word → Walk) → Walk
+at_site i got Skip done kept offer room next = next got
+at_site i got Receive true kept offer room next = next (got ++ kept ∷ [])
+at_site i got Receive false kept (Some w) room next = behind_deed (Takes i w) (next (got ++ w ∷ []))
+at_site i got Receive false kept None room next = stopped i got (Some (Recv i))
+at_site i got (Give w) true kept offer room next = next got
+at_site i got (Give w) false kept offer true next = behind_deed (Gives i w) (next got)
+at_site i got (Give w) false kept offer false next = stopped i got (Some (Send i w))
+
+-- along so many sites from place i on, in an activation from a state that received these words before
+unfoldable pub walk : Behavior → (ℕ → Bool) → (ℕ → Word) → Ports → Value → List Word → ℕ → ℕ → Walk
+walk b done kept ports s got i zero = stopped i got None
+walk b done kept ports s got i (suc n) =
+    let chan = chan_at b.sites i in
+    at_site i got (b.turn s got i) (done i) (kept i) (ports.offer chan) (ports.room chan) (λ got'. walk b done kept ports s got' (suc i) n)
+
+-- what a stage does in a cycle. One that holds no activation does nothing
+abbrev pub if_full : Bool → ℕ → Walk → Walk
+if_full true i w = w
+if_full false i w = stopped i [] None
+
+unfoldable pub in_stage : Pipeline → Contents → Ports → ℕ → Walk
+in_stage q c ports j =
+    if_full (c.full j) (first q j)
+    (walk q.proc.behavior c.done c.kept ports (brought c j).state (brought c j).got (first q j) (first q (suc j) - first q j))
+
+-- a stage's activation goes on into the next stage, behind which so many stand: it waits for nothing, and the next
+-- stage is free or its activation goes on too. That of the final stage leaves
+abbrev pub moves_before : Pipeline → Contents → Ports → ℕ → ℕ → Bool
+moves_before q c ports zero j = c.full j && is_none (in_stage q c ports j).waits
+moves_before q c ports (suc n) j =
+    (c.full j && is_none (in_stage q c ports j).waits) && (not (c.full (suc j)) || moves_before q c ports n (suc j))
+
+unfoldable pub moves : Pipeline → Contents → Ports → ℕ → Bool
+moves q c ports j = moves_before q c ports (q.stages - suc j) j
+
+-- a site's word goes through its port
+abbrev pub is_at : ℕ → Deed → Bool
+is_at i (Takes k w) = k == i
+is_at i (Gives k w) = k == i
+
+abbrev pub goes_at : Pipeline → Contents → Ports → ℕ → Bool
+goes_at q c ports i = list_any (is_at i) (in_stage q c ports (q.stage i)).deeds
+
+-- the word that a receive of a place receives now, or the one kept
+abbrev pub kept_after : Word → ℕ → List Deed → Word
+kept_after kept i [] = kept
+kept_after kept i (Takes k w ∷ deeds) = if k == i then w else kept_after kept i deeds
+kept_after kept i (Gives k w ∷ deeds) = kept_after kept i deeds
+
+abbrev pub full_after : Pipeline → Contents → Ports → ℕ → Bool
+full_after q c ports zero = moves q c ports q.last || (c.full 0 && not (moves q c ports 0))
+full_after q c ports (suc j) = moves q c ports j || (c.full (suc j) && not (moves q c ports (suc j)))
+
+abbrev pub held_after : Pipeline → Contents → Ports → ℕ → Begun
+held_after q c ports zero = c.held 0
+held_after q c ports (suc j) =
+    if moves q c ports j then record { state = (brought c j).state; got = (in_stage q c ports j).got } else c.held (suc j)
+
+-- the registers after a cycle
+unfoldable pub after_cycle : Pipeline → Contents → Ports → Contents
+after_cycle q c ports = record {
+  full = full_after q c ports;
+  state = if moves q c ports q.last then q.proc.behavior.next_state (brought c q.last).state (in_stage q c ports q.last).got else c.state;
+  held = held_after q c ports;
+  done = λ i. (c.done i || goes_at q c ports i) && not (moves q c ports (q.stage i));
+  kept = λ i. kept_after (c.kept i) i (in_stage q c ports (q.stage i)).deeds;
+}
+
+-- all that goes through ports in a cycle, at so many stages from stage k on
+abbrev pub deeds_of : Pipeline → Contents → Ports → ℕ → ℕ → List Deed
+deeds_of q c ports k zero = []
+deeds_of q c ports k (suc n) = (in_stage q c ports k).deeds ++ deeds_of q c ports (suc k) n
+
+unfoldable pub deeds_in : Pipeline → Contents → Ports → List Deed
+deeds_in q c ports = deeds_of q c ports 0 q.stages
+
+abbrev pub event_list : Option Event → List Event
+event_list None = []
+event_list (Some e) = e ∷ []
+
+-- the sites that a stage asks in a cycle, which are those that drive a port: a word goes there, or waits
+abbrev pub asked_by : Walk → List Event
+asked_by walk = map event_of walk.deeds ++ event_list walk.waits
+
+abbrev pub asked_of : Pipeline → Contents → Ports → ℕ → ℕ → List Event
+asked_of q c ports k zero = []
+asked_of q c ports k (suc n) = asked_by (in_stage q c ports k) ++ asked_of q c ports (suc k) n
+
+unfoldable pub asked_in : Pipeline → Contents → Ports → List Event
+asked_in q c ports = asked_of q c ports 0 q.stages
+
+-- a cycle of the clock with its reset, as a row of a simulation has it: with reset nothing is asked, and what the registers
+-- hold afterwards is what they hold after reset
+abbrev pub asked_in_row : Pipeline → Contents → Bool → Ports → List Event
+asked_in_row q c rst ports = if rst then [] else asked_in q c ports
+
+abbrev pub after_row : Pipeline → Contents → Bool → Ports → Contents
+after_row q c rst ports = if rst then opened q else after_cycle q c ports

@@ -1,0 +1,4 @@
+pub mod Pipeline
+pub mod Cycle
+pub mod Since
+pub mod Steady
