@@ -1,7 +1,9 @@
 -- What a configuration answers when a proc is to go.
-use Rattle.std.proofs.Common.{◌≡◌, ◌≢◌, ℕ, ◌<◌, ◌≤◌, get_or, refl, sym, ap, ◌∙◌, subst, arith, true, false, Bool, Some}
+use Rattle.std.proofs.Common.{◌≡◌, ◌≢◌, ℕ, ◌<◌, ◌≤◌, get_or, List, length, refl, sym, ap, ◌∙◌, subst, arith, true, false, Bool, Some}
 use Rattle.std.specs.Prelude.{slice_get}
+use Rattle.std.proofs.lemmas.Option.{slice_get_within}
 use Rattle.xb_bits.specs.Word.{Word}
+use Rattle.xb_value.specs.declared.value.Value.{Value}
 use Rattle.net_core.specs.declared.net.Site.{Site}
 use Rattle.net_core.specs.declared.net.Chan.{Chan}
 use Rattle.net_core.specs.declared.net.Kind.TheVariants.{Input}
@@ -11,10 +13,10 @@ use Rattle.net_core.specs.declared.config.Config.{Config}
 use Rattle.net_core.specs.Behavior.{Behavior, Turn, Receive, Give, IsOpen, IsWordOf, IsInDirection, TurnFits, next_event}
 use Rattle.net_core.specs.Cuts.{Proc, Run, Cut, sender, receiver}
 use Rattle.net_core.specs.Machine.{position_in, next_of, goes_by, goes, with_event, stepped}
-use Rattle.net_core.specs.declared.config.Progress.{Progress}
+use Rattle.net_core.specs.declared.progress.Progress.{Progress}
 use Rattle.net_core.specs.Shows.{Shows, progress_of, channel_of, IsBehaviorOf}
 use Rattle.lists.proofs.Lemmas.Places.{read_is}
-use Rattle.net_core.specs.Making.{has_word, has_room, TriesReceive, TriesSend, IsStandingFor, CanMake, TriesEvent}
+use Rattle.net_core.specs.Inner.Making.{has_word, has_room, TriesReceive, TriesSend, IsAtSiteOf, IsStandingFor, CanMake, TriesEvent}
 use Rattle.net_core.proofs.Openings.{EventAt, receives_at, sends_at, ends_with, next_at}
 use Rattle.net_core.proofs.Shown.{shows_unchanged, stepped_is, stepped_stays, progress_is, site_fits, stands_at, goes_receive, goes_send, goes_end, goes_done}
 use Rattle.net_core.proofs.Events.{IsAtSite, receive_shows, send_shows, end_shows}
@@ -143,6 +145,19 @@ pub asked_stands : (run : Run) (cut : Cut) (config : Config) → Shows run cut c
 asked_stands run cut config sh p b is event active next =
     let at = position_in run cut p is.0 in
     subst (λ e. IsStandingFor config p e) next (event_stands run cut config sh p is.0 is.1 active _ (next_at is.0.behavior at.state at.got at.done (sh.stands p is.0 is.1)))
+
+at_site : (b : Behavior) (s : Value) (got : List Word) (done : ℕ) (e : Event) (progress : Progress) → progress.sites ≡ b.sites → EventAt b s got done e → IsAtSiteOf progress e
+at_site b s got done _ progress same (receives_at i site later place stands turn) = omega (arith, slice_get_within b.sites i site place, ap length same)
+at_site b s got done _ progress same (sends_at i site w later place stands turn) = omega (arith, slice_get_within b.sites i site place, ap length same)
+at_site b s got done _ progress same (ends_with stands) = tt
+
+-- its site is one of the proc's
+pub asked_at_site : (run : Run) (cut : Cut) (config : Config) → Shows run cut config → (p : ℕ) (b : Behavior) (is : IsBehaviorOf run p b) (progress : Progress) (event : Event)
+    → progress ≡ progress_of run cut p is.0 → (position_in run cut p is.0).ends < run.activations → next_of is.0.behavior (position_in run cut p is.0) ≡ event → IsAtSiteOf progress event
+asked_at_site run cut config sh p b is progress event here active next =
+    let at = position_in run cut p is.0 in
+    subst (λ e. IsAtSiteOf progress e) next
+    (at_site is.0.behavior at.state at.got at.done _ progress (ap (λ (x : Progress). x.sites) here) (next_at is.0.behavior at.state at.got at.done (sh.stands p is.0 is.1)))
 
 pub asked_can : (run : Run) (cut : Cut) (config : Config) → Shows run cut config → (p : ℕ) (b : Behavior) (is : IsBehaviorOf run p b) (event : Event) (can : Bool)
     → (position_in run cut p is.0).ends < run.activations → next_of is.0.behavior (position_in run cut p is.0) ≡ event → CanMake config p event can → can ≡ goes run cut p

@@ -12,14 +12,14 @@ use Rattle.net_core.specs.declared.net.Kind.TheVariants.{Input}
 use Rattle.net_core.specs.declared.event.Event.{Event}
 use Rattle.net_core.specs.declared.event.Event.TheVariants.{Recv, Send, End}
 use Rattle.net_core.specs.declared.config.Config.{Config}
-use Rattle.net_core.specs.declared.config.Progress.{Progress}
-use Rattle.net_core.specs.declared.config.Channel.{Channel}
+use Rattle.net_core.specs.declared.progress.Progress.{Progress}
+use Rattle.net_core.specs.declared.channel.Channel.{Channel}
 use Rattle.net_core.specs.Behavior.{Receive, Give, chan_at, IsOpen, IsWordOf}
 use Rattle.net_core.specs.Cuts.{Proc, Run, Cut, sender, receiver, IsWithin, count_received, words_at, received_at, round, final_cut}
 use Rattle.net_core.specs.Machine.{Position, opened, moved, position_after, position_in, next_of, goes_by, with_event, stepped}
 use Rattle.net_core.specs.WellFormed.{AreWordsOf}
 use Rattle.net_core.specs.Shows.{Shows, progress_at, progress_of, channel_of}
-use Rattle.net_core.specs.Making.{Receives, Sends, Ends}
+use Rattle.net_core.specs.Inner.Making.{Receives, Sends, Ends}
 use Rattle.lists.proofs.Lemmas.Fronts.{IsFront-length}
 use Rattle.net_core.proofs.Reach.{words_at_grow}
 use Rattle.xb_value.specs.Typing.{IsOfType}

@@ -7,13 +7,13 @@ use Rattle.xb_bits.specs.Word.{Word}
 use Rattle.net_core.specs.declared.net.Site.{Site}
 use Rattle.net_core.specs.declared.event.Event.{Event}
 use Rattle.net_core.specs.declared.config.Config.{Config}
-use Rattle.net_core.specs.declared.config.Progress.{Progress}
-use Rattle.net_core.specs.declared.config.Channel.{Channel}
+use Rattle.net_core.specs.declared.progress.Progress.{Progress}
+use Rattle.net_core.specs.declared.channel.Channel.{Channel}
 use Rattle.net_core.specs.Behavior.{Behavior}
 use Rattle.net_core.specs.Cuts.{Proc, Run, Cut}
 use Rattle.net_core.specs.Machine.{position_in, next_of}
 use Rattle.net_core.specs.Shows.{Shows, progress_of, channel_of, IsBehaviorOf, IsUnchanged, progress_left, events_left}
-use Rattle.net_core.specs.Making.{TriesReceive, TriesSend, TriesEvent}
+use Rattle.net_core.specs.Inner.Making.{TriesReceive, TriesSend, TriesEvent}
 use Rattle.std.proofs.lemmas.Option.{get_or_from_slice_get}
 use Rattle.net_core.proofs.Openings.{EventAt, receives_at, sends_at, ends_with, next_at}
 use Rattle.net_core.proofs.Shown.{progress_is, site_fits, stands_at}

@@ -16,7 +16,7 @@ use Rattle.net_core.specs.Cuts.{Proc, Run, Cut, sender, receiver, words_sent, co
 use Rattle.net_core.specs.Machine.{position_in, next_of, finds_word, goes_by, with_event, stepped_by, stepped}
 use Rattle.net_core.specs.WellFormed.{SiteFits}
 use Rattle.net_core.specs.Shows.{Shows, progress_of, channel_of, IsUnchanged}
-use Rattle.net_core.specs.Making.{has_word, has_room, StandsAt}
+use Rattle.net_core.specs.Inner.Making.{has_word, has_room, StandsAt}
 use Rattle.net_core.proofs.Flows.{words_at-sent, received_at-by}
 
 pub chan_at-there : (sites : List Site) (i : ℕ) (site : Site) → slice_get sites i ≡ Some site → chan_at sites i ≡ site.chan

@@ -10,19 +10,19 @@ use Rattle.net_core.specs.declared.event.Event.{Event}
 use Rattle.net_core.specs.declared.outcome.Stall.{Stall}
 use Rattle.net_core.specs.declared.outcome.Stream.{Stream}
 use Rattle.net_core.specs.declared.config.Config.{Config}
-use Rattle.net_core.specs.declared.config.Progress.{Progress}
+use Rattle.net_core.specs.declared.progress.Progress.{Progress}
 use Rattle.net_core.specs.Behavior.{Behavior, chan_at}
 use Rattle.net_core.specs.Cuts.{Proc, Run, Cut}
 use Rattle.net_core.specs.Machine.{position_in, next_of}
 use Rattle.net_core.specs.Outcomes.{stream_of, stall_for, stall_in, end_of}
 use Rattle.lists.specs.Indexed.{indexed}
 use Rattle.net_core.specs.Shows.{Shows, progress_of, channel_of, IsBehaviorOf}
-use Rattle.net_core.specs.Making.{end_with, stream_in}
+use Rattle.net_core.specs.Inner.Making.{end_with, stream_in}
 use Rattle.lists.proofs.Lemmas.Indexed.{indexed_get}
 use Rattle.lists.proofs.Lemmas.Places.{same_by_get}
 use Rattle.std.proofs.lemmas.Option.{get_or_from_slice_get}
 use Rattle.std.proofs.lemmas.Option.{slice_get-map}
-use Rattle.net_core.proofs.Shown.{progress_is, chan_at-there}
+use Rattle.net_core.proofs.Shown.{chan_at-there}
 
 -- a stall at a site's channel
 pub stall_arm : (sites : List Site) (i : ℕ) (at : Site) (ends activation chan : ℕ) (sends : Bool) → slice_get sites i ≡ Some at → chan ≡ at.chan → activation ≡ ends
@@ -38,12 +38,13 @@ stall_active run cut p proc l =
     let t : nat_lt (position_in run cut p proc).ends run.activations ≡ true = grind (arith, nat_tests) in
     ap (λ (b : Bool). cond b (stall_for proc.behavior.sites (position_in run cut p proc).ends (next_of proc.behavior (position_in run cut p proc))) None) t
 
-pub asked_stall : (run : Run) (cut : Cut) (config : Config) → Shows run cut config → (p : ℕ) (b : Behavior) (is : IsBehaviorOf run p b) (event : Event) (stall : Option Stall)
-    → (position_in run cut p is.0).ends < run.activations → next_of is.0.behavior (position_in run cut p is.0) ≡ event
-    → ((progress : Progress) → slice_get config.procs.items p ≡ Some progress → stall ≡ stall_for progress.sites progress.ends event) → stall ≡ stall_in run cut p is.0
-asked_stall run cut config sh p b is event stall active next made =
-    made (progress_of run cut p is.0) (progress_is run cut config sh p is.0 is.1)
-    ∙ (ap (λ e. stall_for is.0.behavior.sites (position_in run cut p is.0).ends e) (sym next) ∙ sym (stall_active run cut p is.0 active))
+pub asked_stall : (run : Run) (cut : Cut) (config : Config) → Shows run cut config → (p : ℕ) (b : Behavior) (is : IsBehaviorOf run p b) (event : Event) (stall : Option Stall) (progress : Progress)
+    → progress ≡ progress_of run cut p is.0 → (position_in run cut p is.0).ends < run.activations → next_of is.0.behavior (position_in run cut p is.0) ≡ event
+    → stall ≡ stall_for progress.sites progress.ends event → stall ≡ stall_in run cut p is.0
+asked_stall run cut config sh p b is event stall progress here active next made =
+    made
+    ∙ (ap (λ (x : Progress). stall_for x.sites x.ends event) here
+    ∙ (ap (λ e. stall_for is.0.behavior.sites (position_in run cut p is.0).ends e) (sym next) ∙ sym (stall_active run cut p is.0 active)))
 
 pub asked_no_stall : (run : Run) (cut : Cut) (config : Config) → Shows run cut config → (p : ℕ) (b : Behavior) (is : IsBehaviorOf run p b) (progress : Progress)
     → progress ≡ progress_of run cut p is.0 → config.activations ≤ progress.ends → ◌≡◌ {A = Option Stall} None (stall_in run cut p is.0)

@@ -18,7 +18,7 @@ use Rattle.net_core.specs.Machine.{opened, position_after, position_in}
 use Rattle.net_core.specs.WellFormed.{IsNet, IsSiteOf, IsInputs, AreWordsOf, IsBehaviorFor, AreBehaviorsOf, EachKeepsTypes, procs_of, run_of, IsRun}
 use Rattle.lists.specs.Indexed.{indexed}
 use Rattle.net_core.specs.Shows.{Shows, progress_at, progress_of, channel_of}
-use Rattle.net_core.specs.Making.{opened_progress, filled_channel}
+use Rattle.net_core.specs.Inner.Making.{opened_progress, filled_channel}
 use Rattle.lists.proofs.Lemmas.Indexed.{indexed_get}
 use Rattle.net_core.proofs.Openings.{open_first}
 use Rattle.net_core.proofs.Confluence.{eqb-same}

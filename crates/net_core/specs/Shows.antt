@@ -3,8 +3,8 @@ use Rattle.std.specs.Prelude.{List, ◌≡◌, ◌≤◌, ◌-◌, ◌*◌, ℕ,
 use Rattle.xb_value.specs.Width.{width_of}
 use Rattle.net_core.specs.declared.net.Chan.{Chan}
 use Rattle.net_core.specs.declared.config.Config.{Config}
-use Rattle.net_core.specs.declared.config.Progress.{Progress}
-use Rattle.net_core.specs.declared.config.Channel.{Channel}
+use Rattle.net_core.specs.declared.progress.Progress.{Progress}
+use Rattle.net_core.specs.declared.channel.Channel.{Channel}
 use Rattle.net_core.specs.Behavior.{Behavior, IsOpen}
 use Rattle.net_core.specs.Cuts.{Proc, Run, Cut, IsWithin, words_at, received_at, round, final_cut}
 use Rattle.net_core.specs.Machine.{Position, position_in}

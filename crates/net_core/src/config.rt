@@ -1,11 +1,13 @@
-ghost use Rattle.std.specs.Prelude.{◌≡◌, map, length, take, IfOk};
+ghost use Rattle.std.specs.Prelude.{◌≡◌, map, length, IfOk};
 ghost use Rattle.lists.specs.Indexed.{indexed};
-ghost use Rattle.net_core.specs.Making.{opened_progress, filled_channel, end_with, stream_in};
+ghost use Rattle.net_core.specs.Inner.Making.{opened_progress, filled_channel, end_with, stream_in};
 
 use crate::body::Body;
+use crate::channel::Channel;
 use crate::event::Event;
-use crate::net::{Chan, Inputs, Kind, Net, ProcHead, Site};
+use crate::net::{Chan, Inputs, Net, ProcHead};
 use crate::outcome::{Outcome, ProcEnd, Stall, Stream};
+use crate::progress::Progress;
 use std::alloc::{AllocError, Global};
 use xb_bits::Bits;
 use xb_value::{Seq, Value};
@@ -21,39 +23,13 @@ pub struct Config {
     activations: u32,
 }
 
-/// Where a proc stands: the state of its open activation, the words that it received there, how many of its sites are
-/// past, and how many activations ended.
-#[derive(Drop)]
-struct Progress {
-    sites: Seq<Site>,
-    state: Value,
-    got: Seq<Bits>,
-    done: u32,
-    ends: u32,
-}
-
-/// All words that were sent on a channel, those of an input from the start, and how many were received.
-#[derive(Drop)]
-struct Channel {
-    kind: Kind,
-    depth: u32,
-    words: Seq<Bits>,
-    received: u64,
-}
-
 /// Each proc before its first activation.
 fn opened(alloc: Global, heads: &[ProcHead]) -> Result<Vec<Progress>, AllocError>
     ensures { IfOk result (λ procs. procs.items ≡ map opened_progress heads.now) }
 {
     let mut procs = Vec::new(alloc);
     for head in heads {
-        procs.push(Progress {
-            sites: Seq::from_slice(alloc, head.sites.as_slice())?,
-            state: head.init.copy(alloc)?,
-            got: Seq::new(alloc),
-            done: 0,
-            ends: 0,
-        })?;
+        procs.push(Progress::open(alloc, head)?)?;
     }
     Ok(procs)
 }
@@ -72,12 +48,8 @@ fn filled(
 {
     let mut channels = Vec::new(alloc);
     for (c, chan) in chans.iter().enumerate() {
-        channels.push(Channel {
-            kind: chan.kind,
-            depth: depths[c],
-            words: Seq::from_slice(alloc, inputs[c].as_slice())?,
-            received: 0,
-        })?;
+        let words = Seq::from_slice(alloc, inputs[c].as_slice())?;
+        channels.push(Channel::new(chan.kind, depths[c], words))?;
     }
     Ok(channels)
 }
@@ -94,11 +66,7 @@ fn ends(
     let mut ends = Vec::new(alloc);
     let mut p = 0;
     for progress in procs {
-        ends.push(ProcEnd {
-            state: progress.state,
-            ends: progress.ends,
-            stall: stalls[p],
-        })?;
+        ends.push(progress.into_end(stalls[p]))?;
         p += 1;
     }
     Ok(Seq::from_vec(ends))
@@ -115,69 +83,16 @@ fn streams(alloc: Global, channels: Vec<Channel>) -> Result<Seq<Stream>, AllocEr
     Ok(Seq::from_vec(streams))
 }
 
-/// The first `count` words.
-fn front(mut words: Seq<Bits>, count: u64) -> Seq<Bits>
-    ensures { result ≡ take count words }
-{
-    while words.len() as u64 > count {
-        words.pop();
-    }
-    words
-}
-
-impl Channel {
-    ghost use Rattle.std.specs.Prelude.{◌≡◌, ◌≤◌, length};
-    ghost use Rattle.net_core.specs.Making.{has_word, has_room, stream_in};
-
-    /// What went over the channel: of an input the words that were received.
-    fn into_stream(self) -> Stream
-        ensures { result ≡ stream_in self }
-    {
-        let Channel {
-            kind,
-            depth: _,
-            words,
-            received,
-        } = self;
-        match kind {
-            Kind::Input => Stream {
-                words: front(words, received),
-                received,
-            },
-            Kind::Output => Stream { words, received: 0 },
-            Kind::Inner => Stream { words, received },
-        }
-    }
-
-    /// A word is there that wasn't received.
-    fn has_word(&self) -> bool
-        ensures { result ≡ has_word self.now }
-    {
-        self.received < self.words.len() as u64
-    }
-
-    /// One more word may be sent.
-    fn has_room(&self) -> bool
-        requires { self.now.received ≤ length self.now.words }
-        ensures { result ≡ has_room self.now }
-    {
-        match self.kind {
-            Kind::Input | Kind::Output => true,
-            Kind::Inner => self.words.len() as u64 - self.received < u64::from(self.depth),
-        }
-    }
-}
-
 impl Config {
     ghost use Rattle.std.specs.Prelude.{List, ◌≡◌, ◌<◌, ◌≤◌, ◌+◌, ◌^◌, ℕ, IsTrue, OnOk, OnErr, IfOk, length, map, slice_get, Some, MatchBool, ⊤};
     ghost use Rattle.xb_bits.specs.Word.{Word};
     ghost use Rattle.net_core.specs.declared.net.Site.{Site};
-    ghost use Rattle.net_core.specs.declared.config.Progress.{Progress};
-    ghost use Rattle.net_core.specs.declared.config.Channel.{Channel};
-    ghost use Rattle.net_core.specs.Making.{has_word, has_room, IsPlaced, AtPlace, IsPlacedOn, AtPlaceOn, OfProc, HasSite, OfSite};
-    ghost use Rattle.net_core.specs.Making.{Receives, Sends, Ends, TriesReceive, TriesSend, IsStandingFor, CanMake, TriesEvent};
+    ghost use Rattle.net_core.specs.declared.progress.Progress.{Progress};
+    ghost use Rattle.net_core.specs.declared.channel.Channel.{Channel};
+    ghost use Rattle.net_core.specs.Inner.Making.{has_word, has_room, IsPlaced, AtPlace, IsPlacedOn, AtPlaceOn, OfProc, HasSite, OfSite};
+    ghost use Rattle.net_core.specs.Inner.Making.{Receives, Sends, Ends, TriesReceive, TriesSend, IsStandingFor, CanMake, TriesEvent};
     ghost use Rattle.lists.specs.Indexed.{indexed};
-    ghost use Rattle.net_core.specs.Outcomes.{outcome_of, stall_in, stall_for, behaviors_of};
+    ghost use Rattle.net_core.specs.Outcomes.{outcome_of, stall_in, behaviors_of};
     ghost use Rattle.net_core.specs.Behavior.{Behavior};
     ghost use Rattle.net_core.specs.Cuts.{Run, Cut, empty_cut};
     ghost use Rattle.net_core.specs.WellFormed.{IsNet, IsInputs, IsDepths, AreBehaviorsOf, EachKeepsTypes, run_of};
@@ -213,11 +128,11 @@ impl Config {
         requires { IsAskedWith self.now p (B.behavior body.now) }
         ensures { IfOk result (λ can. WhereAsked self.now p (B.behavior body.now) (λ run cut. can ≡ goes run cut p)) }
     {
-        let proc = &self.procs[p as usize];
-        if proc.ends >= self.activations {
+        let progress = &self.procs[p as usize];
+        if progress.ends() >= self.activations {
             return Ok(false);
         }
-        let event = body.next(alloc, &proc.state, proc.got.as_slice(), proc.done)?;
+        let event = progress.next(alloc, body)?;
         Ok(self.can_make(p as usize, &event))
     }
 
@@ -234,15 +149,10 @@ impl Config {
         ensures err { OnErr result (IsUnchanged self.old self.new) }
     {
         let progress = &self.procs[p as usize];
-        if progress.ends >= self.activations {
+        if progress.ends() >= self.activations {
             return Ok(false);
         }
-        let event = body.next(
-            alloc,
-            &progress.state,
-            progress.got.as_slice(),
-            progress.done,
-        )?;
+        let event = progress.next(alloc, body)?;
         self.try_event(alloc, p as usize, event)
     }
 
@@ -281,33 +191,12 @@ impl Config {
         ensures { IfOk result (λ stall. (run : Run) (cut : Cut) → Shows run cut self.now →
             (is : IsBehaviorOf run p (B.behavior body.now)) → stall ≡ stall_in run cut p is.0) }
     {
-        let proc = &self.procs[p];
-        if proc.ends >= self.activations {
+        let progress = &self.procs[p];
+        if progress.ends() >= self.activations {
             return Ok(None);
         }
-        let event = body.next(alloc, &proc.state, proc.got.as_slice(), proc.done)?;
-        Ok(self.stall_at(p, &event))
-    }
-
-    /// What a proc waits for at this event.
-    fn stall_at(&self, p: usize, event: &Event) -> Option<Stall>
-        requires { IsStandingFor self.now p event.now }
-        ensures { OfProc self.now p (λ progress. result ≡ stall_for progress.sites progress.ends event.now) }
-    {
-        let activation = self.procs[p].ends;
-        match event {
-            Event::Recv(site) => Some(Stall {
-                activation,
-                sends: false,
-                chan: self.chan_of(p, *site),
-            }),
-            Event::Send(site, _) => Some(Stall {
-                activation,
-                sends: true,
-                chan: self.chan_of(p, *site),
-            }),
-            Event::End(_) => None,
-        }
+        let event = progress.next(alloc, body)?;
+        Ok(progress.stall_at(&event))
     }
 
     /// Whether a proc can make this event.
@@ -361,7 +250,7 @@ impl Config {
         requires { HasSite self.now p site }
         ensures { OfSite self.now p site (λ at. result ≡ at.chan) }
     {
-        self.procs[p].sites.as_slice()[site as usize].chan
+        self.procs[p].chan_at(site)
     }
 
     /// A proc receives the next word of its site's channel.
@@ -371,12 +260,9 @@ impl Config {
             ((word : Word) × Receives self.old self.new p site progress chan channel word))) }
         ensures err { OnErr result (IsUnchanged self.old self.new) }
     {
-        let progress = &mut self.procs[p];
         let channel = &mut self.channels[chan];
-        let word = channel.words.as_slice()[channel.received as usize];
-        progress.got.push(word)?;
-        progress.done = site + 1;
-        channel.received += 1;
+        self.procs[p].receive(site, channel.next_word())?;
+        channel.receive();
         Ok(())
     }
 
@@ -402,10 +288,8 @@ impl Config {
             Sends self.old self.new p site progress chan channel word)) }
         ensures err { OnErr result (IsUnchanged self.old self.new) }
     {
-        let channel = &mut self.channels[chan];
-        channel.words.push(word)?;
-        let progress = &mut self.procs[p];
-        progress.done = site + 1;
+        self.channels[chan].send(word)?;
+        self.procs[p].send(site);
         Ok(())
     }
 
@@ -429,10 +313,6 @@ impl Config {
         requires { (progress : Progress) × (slice_get self.old.procs.items p ≡ Some progress) × (progress.ends + 1 < 2 ^ 32) }
         ensures { OfProc self.old p (λ progress. Ends self.old self.new p progress state) }
     {
-        let progress = &mut self.procs[p];
-        progress.state = state;
-        progress.got = Seq::new(alloc);
-        progress.done = 0;
-        progress.ends += 1;
+        self.procs[p].end(alloc, state);
     }
 }

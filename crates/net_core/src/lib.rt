@@ -2,11 +2,13 @@
 #![tactic(auto)]
 
 mod body;
+mod channel;
 mod config;
 mod event;
 pub mod laws;
 mod net;
 mod outcome;
+mod progress;
 
 pub use body::Body;
 pub use config::Config;

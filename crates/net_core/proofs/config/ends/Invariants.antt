@@ -1,6 +1,6 @@
 use Rattle.std.proofs.Common.{◌≡◌, length}
 use Rattle.lists.specs.Indexed.{indexed}
-use Rattle.net_core.specs.Making.{end_with}
+use Rattle.net_core.specs.Inner.Making.{end_with}
 use Rattle.net_core.proofs.config.ends.Given as goal
 
 abbrev pub invariant-loop-progress : goal.invariant-loop-progress

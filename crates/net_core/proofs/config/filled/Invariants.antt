@@ -1,6 +1,6 @@
 use Rattle.std.proofs.Common.{◌≡◌, take}
 use Rattle.lists.specs.Indexed.{indexed}
-use Rattle.net_core.specs.Making.{filled_channel}
+use Rattle.net_core.specs.Inner.Making.{filled_channel}
 use Rattle.net_core.proofs.config.filled.Given as goal
 
 abbrev pub invariant-loop-c : goal.invariant-loop-c

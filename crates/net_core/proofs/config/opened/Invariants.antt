@@ -1,5 +1,5 @@
 use Rattle.std.proofs.Common.{◌≡◌, map, take}
-use Rattle.net_core.specs.Making.{opened_progress}
+use Rattle.net_core.specs.Inner.Making.{opened_progress}
 use Rattle.net_core.proofs.config.opened.Given as goal
 
 abbrev pub invariant-loop-head : goal.invariant-loop-head

@@ -1,5 +1,5 @@
 use Rattle.std.proofs.Common.{◌≡◌, map}
-use Rattle.net_core.specs.Making.{stream_in}
+use Rattle.net_core.specs.Inner.Making.{stream_in}
 use Rattle.net_core.proofs.config.streams.Given as goal
 
 abbrev pub invariant-loop-channel : goal.invariant-loop-channel

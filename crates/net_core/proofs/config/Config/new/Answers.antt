@@ -3,7 +3,7 @@ use Rattle.xb_bits.specs.Word.{Word}
 use Rattle.net_core.specs.declared.net.ProcHead.{ProcHead}
 use Rattle.net_core.specs.declared.net.Chan.{Chan}
 use Rattle.lists.specs.Indexed.{indexed}
-use Rattle.net_core.specs.Making.{opened_progress, filled_channel}
+use Rattle.net_core.specs.Inner.Making.{opened_progress, filled_channel}
 use Rattle.net_core.proofs.Starts.{start_shows}
 use Rattle.net_core.proofs.config.Config.new.Goals as goal
 

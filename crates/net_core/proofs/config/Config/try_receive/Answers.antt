@@ -1,5 +1,5 @@
 use Rattle.std.proofs.Common.{◌≡◌, true, sym, ◌∙◌, ap, subst}
-use Rattle.net_core.specs.Making.{has_word, StandsAt, Receives}
+use Rattle.net_core.specs.Inner.Making.{has_word, StandsAt, Receives}
 use Rattle.lists.proofs.Lemmas.Places.{read_is}
 use Rattle.net_core.proofs.config.Config.try_receive.Goals as goal
 

@@ -1,5 +1,5 @@
 use Rattle.std.proofs.Common.{◌≡◌, true, sym, ◌∙◌, ap, subst}
-use Rattle.net_core.specs.Making.{has_room, StandsAt, Sends}
+use Rattle.net_core.specs.Inner.Making.{has_room, StandsAt, Sends}
 use Rattle.lists.proofs.Lemmas.Places.{read_is}
 use Rattle.net_core.proofs.config.Config.try_send.Goals as goal
 

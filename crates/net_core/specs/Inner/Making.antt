@@ -12,8 +12,8 @@ use Rattle.net_core.specs.declared.outcome.Stream.{Stream}
 use Rattle.net_core.specs.declared.outcome.ProcEnd.{ProcEnd}
 use Rattle.net_core.specs.declared.outcome.Stall.{Stall}
 use Rattle.net_core.specs.declared.config.Config.{Config}
-use Rattle.net_core.specs.declared.config.Progress.{Progress}
-use Rattle.net_core.specs.declared.config.Channel.{Channel}
+use Rattle.net_core.specs.declared.progress.Progress.{Progress}
+use Rattle.net_core.specs.declared.channel.Channel.{Channel}
 use Rattle.net_core.specs.Shows.{IsUnchanged}
 
 -- a proc before its first activation
@@ -115,6 +115,12 @@ TriesReceive old new p site progress chan channel false = (has_word channel ≡ 
 abbrev pub TriesSend : Config → Config → ℕ → ℕ → Progress → ℕ → Channel → Word → Bool → Type 0
 TriesSend old new p site progress chan channel word true = (has_room channel ≡ true) × Sends old new p site progress chan channel word
 TriesSend old new p site progress chan channel word false = (has_room channel ≡ false) × IsUnchanged old new
+
+-- the proc has the site of the event
+abbrev pub IsAtSiteOf : Progress → Event → Type 0
+IsAtSiteOf progress (Recv i) = i < length progress.sites
+IsAtSiteOf progress (Send i w) = i < length progress.sites
+IsAtSiteOf progress (End s) = Unit {0}
 
 -- the configuration is one in which proc p may come to this event
 abbrev pub IsStandingFor : Config → ℕ → Event → Type 0

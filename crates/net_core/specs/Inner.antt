@@ -1,0 +1,2 @@
+-- what the machine's methods promise one another
+pub mod Making
