@@ -1,0 +1,2 @@
+-- the levels of the binary operators
+pub mod Levels

@@ -1,0 +1,26 @@
+//! The tree of a DSLX text: modules, items, types, patterns, statements and expressions.
+//!
+//! A tree is plain data to contracts: each list is a list, and a name is its bytes. Every part that a message can name
+//! has its place in the text: a span is that of all its tokens, from the first one to the last. Parentheses round an
+//! expression are no part of their own, but a bigger part's span takes them in.
+#![tactic(auto)]
+
+mod block;
+mod expr;
+mod ident;
+mod item;
+mod operator;
+mod pattern;
+mod process;
+mod type_expr;
+
+pub use block::{Block, Let, Stmt};
+pub use expr::{Arg, Arm, Expr, FieldValue, For, Node, Number};
+pub use ident::Ident;
+pub use item::{
+    Alias, Constant, Definition, Enum, Field, Function, Item, Member, Module, Parameter, Struct,
+};
+pub use operator::{Binary, LEVELS, Prefix};
+pub use pattern::{Pattern, Shape};
+pub use process::{Channel, Config, Direction, End, Making, Next, Proc, Spawn};
+pub use type_expr::{TypeExpr, TypeNode};
