@@ -13,7 +13,7 @@ kinds = kind.AMP ∷ kind.ANDAND ∷ kind.ARGS ∷ kind.ARROW ∷ kind.AS ∷ ki
 
 -- the nonterminals by their names, the start first
 unfoldable pub nonterminals : List ℕ
-nonterminals = nonterminal.MODULE ∷ nonterminal.ITEMS ∷ nonterminal.ITEM ∷ nonterminal.DEFINITION ∷ nonterminal.ANY_NAME ∷ nonterminal.OPEN_BRACE ∷ nonterminal.OPEN_ANGLE ∷ nonterminal.FUNCTION ∷ nonterminal.RESULT_TYPE ∷ nonterminal.PARAMETERS ∷ nonterminal.PARAMETERS_MORE ∷ nonterminal.PARAMETER ∷ nonterminal.PARAMETER_DEFAULT ∷ nonterminal.ARGUMENTS_DECLARED ∷ nonterminal.ARGUMENTS_DECLARED_MORE ∷ nonterminal.ARGUMENT_DECLARED ∷ nonterminal.CONSTANT ∷ nonterminal.CONSTANT_TYPE ∷ nonterminal.ALIAS ∷ nonterminal.STRUCTURE ∷ nonterminal.ENUMERATION ∷ nonterminal.MEMBERS ∷ nonterminal.MEMBERS_MORE ∷ nonterminal.MEMBER ∷ nonterminal.PROC ∷ nonterminal.PROC_MEMBERS ∷ nonterminal.PROC_MEMBER ∷ nonterminal.END ∷ nonterminal.DIRECTION ∷ nonterminal.PARTS ∷ nonterminal.PARTS_INIT_NEXT ∷ nonterminal.PARTS_CONFIG_NEXT ∷ nonterminal.PARTS_CONFIG_INIT ∷ nonterminal.CONFIG ∷ nonterminal.ENDS ∷ nonterminal.ENDS_MORE ∷ nonterminal.END_DECLARED ∷ nonterminal.MAKINGS ∷ nonterminal.CHANNEL ∷ nonterminal.CHANNEL_MADE ∷ nonterminal.CHANNEL_END ∷ nonterminal.CHANNEL_DEPTH ∷ nonterminal.SPAWN ∷ nonterminal.SPAWN_ARGS ∷ nonterminal.CONFIG_RESULT ∷ nonterminal.NAMES ∷ nonterminal.NAMES_MORE ∷ nonterminal.INIT ∷ nonterminal.NEXT ∷ nonterminal.ARGS_MORE ∷ nonterminal.ARG ∷ nonterminal.ARG_NAME ∷ nonterminal.SIGNED ∷ nonterminal.TYPE ∷ nonterminal.BASE ∷ nonterminal.BASE_KEYWORD ∷ nonterminal.TYPE_TAIL ∷ nonterminal.TYPES ∷ nonterminal.TYPES_MORE ∷ nonterminal.BLOCK ∷ nonterminal.STATEMENTS ∷ nonterminal.STATEMENT_END ∷ nonterminal.LET ∷ nonterminal.LET_PATTERN ∷ nonterminal.LET_NAME ∷ nonterminal.LET_COLON ∷ nonterminal.LET_TYPE ∷ nonterminal.PATTERN ∷ nonterminal.PLAIN_PATTERN ∷ nonterminal.PATTERN_NAME ∷ nonterminal.PATTERNS ∷ nonterminal.PATTERNS_MORE ∷ nonterminal.EXPR ∷ nonterminal.OPERANDS ∷ nonterminal.BINARY ∷ nonterminal.OPERAND ∷ nonterminal.PREFIXES ∷ nonterminal.CASTS ∷ nonterminal.POSTS ∷ nonterminal.INDEX_END ∷ nonterminal.PART ∷ nonterminal.ATOM ∷ nonterminal.TYPED ∷ nonterminal.NAME_TAIL ∷ nonterminal.FUNCTION_TAIL ∷ nonterminal.STRUCT_TAIL ∷ nonterminal.BOTH_TAIL ∷ nonterminal.CALL ∷ nonterminal.CALL_WITH_ARGS ∷ nonterminal.EXPRS ∷ nonterminal.EXPRS_MORE ∷ nonterminal.FIELDS ∷ nonterminal.FIELD_LIST ∷ nonterminal.FIELD_VALUE ∷ nonterminal.FIELD_MORE ∷ nonterminal.PARENTHESIS ∷ nonterminal.PARENTHESIS_END ∷ nonterminal.ELEMENTS ∷ nonterminal.ELEMENTS_MORE ∷ nonterminal.ELEMENTS_NEXT ∷ nonterminal.ELEMENTS_END ∷ nonterminal.IF ∷ nonterminal.ELSE ∷ nonterminal.MATCH ∷ nonterminal.ARMS ∷ nonterminal.ARMS_MORE ∷ nonterminal.ARM ∷ nonterminal.ALTERNATIVES ∷ nonterminal.FOR ∷ nonterminal.FOR_TYPE ∷ nonterminal.FOR_RANGE ∷ []
+nonterminals = nonterminal.MODULE ∷ nonterminal.ITEMS ∷ nonterminal.ITEM ∷ nonterminal.DEFINITION ∷ nonterminal.ANY_NAME ∷ nonterminal.OPEN_BRACE ∷ nonterminal.OPEN_ANGLE ∷ nonterminal.FUNCTION ∷ nonterminal.RESULT_TYPE ∷ nonterminal.PARAMETERS ∷ nonterminal.PARAMETERS_MORE ∷ nonterminal.PARAMETER ∷ nonterminal.PARAMETER_DEFAULT ∷ nonterminal.ARGUMENTS_DECLARED ∷ nonterminal.ARGUMENTS_DECLARED_MORE ∷ nonterminal.ARGUMENT_DECLARED ∷ nonterminal.CONSTANT ∷ nonterminal.CONSTANT_TYPE ∷ nonterminal.ALIAS ∷ nonterminal.STRUCTURE ∷ nonterminal.ENUMERATION ∷ nonterminal.MEMBERS ∷ nonterminal.MEMBERS_MORE ∷ nonterminal.MEMBER ∷ nonterminal.PROC ∷ nonterminal.PROC_MEMBERS ∷ nonterminal.PROC_MEMBER ∷ nonterminal.END ∷ nonterminal.DIRECTION ∷ nonterminal.PARTS ∷ nonterminal.PARTS_INIT_NEXT ∷ nonterminal.PARTS_CONFIG_NEXT ∷ nonterminal.PARTS_CONFIG_INIT ∷ nonterminal.CONFIG ∷ nonterminal.ENDS ∷ nonterminal.ENDS_MORE ∷ nonterminal.END_DECLARED ∷ nonterminal.MAKINGS ∷ nonterminal.CHANNEL ∷ nonterminal.CHANNEL_MADE ∷ nonterminal.CHANNEL_END ∷ nonterminal.CHANNEL_DEPTH ∷ nonterminal.SPAWN ∷ nonterminal.SPAWN_ARGS ∷ nonterminal.CONFIG_RESULT ∷ nonterminal.NAMES ∷ nonterminal.NAMES_MORE ∷ nonterminal.INIT ∷ nonterminal.NEXT ∷ nonterminal.ARGS_MORE ∷ nonterminal.ARG ∷ nonterminal.ARG_NAME ∷ nonterminal.SIGNED ∷ nonterminal.TYPE ∷ nonterminal.BASE ∷ nonterminal.BASE_KEYWORD ∷ nonterminal.TYPE_TAIL ∷ nonterminal.SIZE ∷ nonterminal.TYPES ∷ nonterminal.TYPES_MORE ∷ nonterminal.BLOCK ∷ nonterminal.STATEMENTS ∷ nonterminal.STATEMENT_END ∷ nonterminal.LET ∷ nonterminal.LET_PATTERN ∷ nonterminal.LET_NAME ∷ nonterminal.LET_COLON ∷ nonterminal.LET_TYPE ∷ nonterminal.PATTERN ∷ nonterminal.PLAIN_PATTERN ∷ nonterminal.PATTERN_NAME ∷ nonterminal.PATTERNS ∷ nonterminal.PATTERNS_MORE ∷ nonterminal.EXPR ∷ nonterminal.OPERANDS ∷ nonterminal.BINARY ∷ nonterminal.OPERAND ∷ nonterminal.PREFIXES ∷ nonterminal.CASTS ∷ nonterminal.CAST ∷ nonterminal.POSTS ∷ nonterminal.INDEX_END ∷ nonterminal.PART ∷ nonterminal.ATOM ∷ nonterminal.TYPED ∷ nonterminal.NAME_TAIL ∷ nonterminal.FUNCTION_TAIL ∷ nonterminal.STRUCT_TAIL ∷ nonterminal.BOTH_TAIL ∷ nonterminal.CALL ∷ nonterminal.CALL_WITH_ARGS ∷ nonterminal.EXPRS ∷ nonterminal.EXPRS_MORE ∷ nonterminal.FIELDS ∷ nonterminal.FIELD_LIST ∷ nonterminal.FIELD_VALUE ∷ nonterminal.FIELD_MORE ∷ nonterminal.PARENTHESIS ∷ nonterminal.PARENTHESIS_END ∷ nonterminal.ELEMENTS ∷ nonterminal.ELEMENTS_MORE ∷ nonterminal.ELEMENTS_NEXT ∷ nonterminal.ELEMENTS_END ∷ nonterminal.IF ∷ nonterminal.ELSE ∷ nonterminal.MATCH ∷ nonterminal.ARMS ∷ nonterminal.ARMS_MORE ∷ nonterminal.ARM ∷ nonterminal.ALTERNATIVES ∷ nonterminal.FOR ∷ nonterminal.FOR_TYPE ∷ nonterminal.FOR_RANGE ∷ nonterminal.HEADED_BLOCK ∷ []
 
 -- of each rule the name, the nonterminal, and what it may be rewritten to
 unfoldable pub named_rules : List NamedRule
@@ -112,7 +112,7 @@ named_rules =
     named production.ARG__ANY_NAME nonterminal.ARG (Nonterminal nonterminal.ANY_NAME ∷ Nonterminal nonterminal.ARG_NAME ∷ []) ∷
     named production.ARG__LBRACE nonterminal.ARG (Terminal kind.LBRACE ∷ Nonterminal nonterminal.EXPR ∷ Terminal kind.RBRACE ∷ []) ∷
     named production.ARG_NAME__COLON nonterminal.ARG_NAME (Terminal kind.COLON ∷ Nonterminal nonterminal.SIGNED ∷ []) ∷
-    named production.ARG_NAME__LBRACKET nonterminal.ARG_NAME (Terminal kind.LBRACKET ∷ Nonterminal nonterminal.EXPR ∷ Terminal kind.RBRACKET ∷ Nonterminal nonterminal.TYPE_TAIL ∷ Terminal kind.COLON ∷ Nonterminal nonterminal.SIGNED ∷ []) ∷
+    named production.ARG_NAME__SIZE nonterminal.ARG_NAME (Nonterminal nonterminal.SIZE ∷ Nonterminal nonterminal.TYPE_TAIL ∷ Terminal kind.COLON ∷ Nonterminal nonterminal.SIGNED ∷ []) ∷
     named production.ARG_NAME__NONE nonterminal.ARG_NAME [] ∷
     named production.SIGNED__MINUS nonterminal.SIGNED (Terminal kind.MINUS ∷ Terminal kind.NUMBER ∷ []) ∷
     named production.SIGNED__NUMBER nonterminal.SIGNED (Terminal kind.NUMBER ∷ []) ∷
@@ -124,8 +124,9 @@ named_rules =
     named production.BASE_KEYWORD__SIGNED nonterminal.BASE_KEYWORD (Terminal kind.SIGNED ∷ []) ∷
     named production.BASE_KEYWORD__WIDE nonterminal.BASE_KEYWORD (Terminal kind.WIDE ∷ Terminal kind.LBRACKET ∷ Nonterminal nonterminal.EXPR ∷ Terminal kind.RBRACKET ∷ []) ∷
     named production.BASE_KEYWORD__BOOL nonterminal.BASE_KEYWORD (Terminal kind.BOOL ∷ []) ∷
-    named production.TYPE_TAIL__LBRACKET nonterminal.TYPE_TAIL (Terminal kind.LBRACKET ∷ Nonterminal nonterminal.EXPR ∷ Terminal kind.RBRACKET ∷ Nonterminal nonterminal.TYPE_TAIL ∷ []) ∷
+    named production.TYPE_TAIL__SIZE nonterminal.TYPE_TAIL (Nonterminal nonterminal.SIZE ∷ Nonterminal nonterminal.TYPE_TAIL ∷ []) ∷
     named production.TYPE_TAIL__NONE nonterminal.TYPE_TAIL [] ∷
+    named production.SIZE nonterminal.SIZE (Terminal kind.LBRACKET ∷ Nonterminal nonterminal.EXPR ∷ Terminal kind.RBRACKET ∷ []) ∷
     named production.TYPES__TYPE nonterminal.TYPES (Nonterminal nonterminal.TYPE ∷ Nonterminal nonterminal.TYPES_MORE ∷ []) ∷
     named production.TYPES__NONE nonterminal.TYPES [] ∷
     named production.TYPES_MORE__COMMA nonterminal.TYPES_MORE (Terminal kind.COMMA ∷ Nonterminal nonterminal.TYPES ∷ []) ∷
@@ -140,7 +141,7 @@ named_rules =
     named production.LET_PATTERN__PLAIN_PATTERN nonterminal.LET_PATTERN (Nonterminal nonterminal.PLAIN_PATTERN ∷ Nonterminal nonterminal.LET_TYPE ∷ []) ∷
     named production.LET_PATTERN__ANY_NAME nonterminal.LET_PATTERN (Nonterminal nonterminal.ANY_NAME ∷ Nonterminal nonterminal.LET_NAME ∷ []) ∷
     named production.LET_NAME__PATH nonterminal.LET_NAME (Terminal kind.PATH ∷ Nonterminal nonterminal.ANY_NAME ∷ Nonterminal nonterminal.LET_TYPE ∷ []) ∷
-    named production.LET_NAME__LBRACKET nonterminal.LET_NAME (Terminal kind.LBRACKET ∷ Nonterminal nonterminal.EXPR ∷ Terminal kind.RBRACKET ∷ Nonterminal nonterminal.TYPE_TAIL ∷ Terminal kind.COLON ∷ Nonterminal nonterminal.SIGNED ∷ Nonterminal nonterminal.LET_TYPE ∷ []) ∷
+    named production.LET_NAME__SIZE nonterminal.LET_NAME (Nonterminal nonterminal.SIZE ∷ Nonterminal nonterminal.TYPE_TAIL ∷ Terminal kind.COLON ∷ Nonterminal nonterminal.SIGNED ∷ Nonterminal nonterminal.LET_TYPE ∷ []) ∷
     named production.LET_NAME__COLON nonterminal.LET_NAME (Terminal kind.COLON ∷ Nonterminal nonterminal.LET_COLON ∷ []) ∷
     named production.LET_NAME__NONE nonterminal.LET_NAME [] ∷
     named production.LET_COLON__SIGNED nonterminal.LET_COLON (Nonterminal nonterminal.SIGNED ∷ Nonterminal nonterminal.LET_TYPE ∷ []) ∷
@@ -156,7 +157,7 @@ named_rules =
     named production.PLAIN_PATTERN__LPAREN nonterminal.PLAIN_PATTERN (Terminal kind.LPAREN ∷ Nonterminal nonterminal.PATTERNS ∷ Terminal kind.RPAREN ∷ []) ∷
     named production.PATTERN_NAME__PATH nonterminal.PATTERN_NAME (Terminal kind.PATH ∷ Nonterminal nonterminal.ANY_NAME ∷ []) ∷
     named production.PATTERN_NAME__COLON nonterminal.PATTERN_NAME (Terminal kind.COLON ∷ Nonterminal nonterminal.SIGNED ∷ []) ∷
-    named production.PATTERN_NAME__LBRACKET nonterminal.PATTERN_NAME (Terminal kind.LBRACKET ∷ Nonterminal nonterminal.EXPR ∷ Terminal kind.RBRACKET ∷ Nonterminal nonterminal.TYPE_TAIL ∷ Terminal kind.COLON ∷ Nonterminal nonterminal.SIGNED ∷ []) ∷
+    named production.PATTERN_NAME__SIZE nonterminal.PATTERN_NAME (Nonterminal nonterminal.SIZE ∷ Nonterminal nonterminal.TYPE_TAIL ∷ Terminal kind.COLON ∷ Nonterminal nonterminal.SIGNED ∷ []) ∷
     named production.PATTERN_NAME__NONE nonterminal.PATTERN_NAME [] ∷
     named production.PATTERNS__PATTERN nonterminal.PATTERNS (Nonterminal nonterminal.PATTERN ∷ Nonterminal nonterminal.PATTERNS_MORE ∷ []) ∷
     named production.PATTERNS__NONE nonterminal.PATTERNS [] ∷
@@ -188,8 +189,9 @@ named_rules =
     named production.PREFIXES__MINUS nonterminal.PREFIXES (Terminal kind.MINUS ∷ Nonterminal nonterminal.PREFIXES ∷ []) ∷
     named production.PREFIXES__BANG nonterminal.PREFIXES (Terminal kind.BANG ∷ Nonterminal nonterminal.PREFIXES ∷ []) ∷
     named production.PREFIXES__NONE nonterminal.PREFIXES [] ∷
-    named production.CASTS__AS nonterminal.CASTS (Terminal kind.AS ∷ Nonterminal nonterminal.TYPE ∷ Nonterminal nonterminal.CASTS ∷ []) ∷
+    named production.CASTS__CAST nonterminal.CASTS (Nonterminal nonterminal.CAST ∷ Nonterminal nonterminal.CASTS ∷ []) ∷
     named production.CASTS__NONE nonterminal.CASTS [] ∷
+    named production.CAST nonterminal.CAST (Terminal kind.AS ∷ Nonterminal nonterminal.TYPE ∷ []) ∷
     named production.POSTS__LBRACKET nonterminal.POSTS (Terminal kind.LBRACKET ∷ Nonterminal nonterminal.EXPR ∷ Nonterminal nonterminal.INDEX_END ∷ Nonterminal nonterminal.POSTS ∷ []) ∷
     named production.POSTS__DOT nonterminal.POSTS (Terminal kind.DOT ∷ Nonterminal nonterminal.PART ∷ Nonterminal nonterminal.POSTS ∷ []) ∷
     named production.POSTS__NONE nonterminal.POSTS [] ∷
@@ -257,7 +259,7 @@ named_rules =
     named production.ELEMENTS_NEXT__NONE nonterminal.ELEMENTS_NEXT [] ∷
     named production.ELEMENTS_END__COMMA nonterminal.ELEMENTS_END (Terminal kind.COMMA ∷ []) ∷
     named production.ELEMENTS_END__NONE nonterminal.ELEMENTS_END [] ∷
-    named production.IF nonterminal.IF (Terminal kind.IF ∷ Nonterminal nonterminal.EXPR ∷ Nonterminal nonterminal.BLOCK ∷ Terminal kind.ELSE ∷ Nonterminal nonterminal.ELSE ∷ []) ∷
+    named production.IF nonterminal.IF (Terminal kind.IF ∷ Nonterminal nonterminal.EXPR ∷ Nonterminal nonterminal.HEADED_BLOCK ∷ Terminal kind.ELSE ∷ Nonterminal nonterminal.ELSE ∷ []) ∷
     named production.ELSE__BLOCK nonterminal.ELSE (Nonterminal nonterminal.BLOCK ∷ []) ∷
     named production.ELSE__IF nonterminal.ELSE (Nonterminal nonterminal.IF ∷ []) ∷
     named production.MATCH nonterminal.MATCH (Terminal kind.MATCH ∷ Nonterminal nonterminal.EXPR ∷ Terminal kind.LBRACE ∷ Nonterminal nonterminal.ARMS ∷ Terminal kind.RBRACE ∷ []) ∷
@@ -271,5 +273,6 @@ named_rules =
     named production.FOR nonterminal.FOR (Terminal kind.FOR ∷ Terminal kind.LPAREN ∷ Nonterminal nonterminal.PATTERN ∷ Terminal kind.COMMA ∷ Nonterminal nonterminal.PATTERN ∷ Terminal kind.RPAREN ∷ Nonterminal nonterminal.FOR_TYPE ∷ Nonterminal nonterminal.FOR_RANGE ∷ []) ∷
     named production.FOR_TYPE__COLON nonterminal.FOR_TYPE (Terminal kind.COLON ∷ Nonterminal nonterminal.TYPE ∷ []) ∷
     named production.FOR_TYPE__NONE nonterminal.FOR_TYPE [] ∷
-    named production.FOR_RANGE nonterminal.FOR_RANGE (Terminal kind.IN ∷ Nonterminal nonterminal.EXPR ∷ Terminal kind.REST ∷ Nonterminal nonterminal.EXPR ∷ Nonterminal nonterminal.BLOCK ∷ Terminal kind.LPAREN ∷ Nonterminal nonterminal.EXPR ∷ Terminal kind.RPAREN ∷ []) ∷
+    named production.FOR_RANGE nonterminal.FOR_RANGE (Terminal kind.IN ∷ Nonterminal nonterminal.EXPR ∷ Terminal kind.REST ∷ Nonterminal nonterminal.EXPR ∷ Nonterminal nonterminal.HEADED_BLOCK ∷ Terminal kind.LPAREN ∷ Nonterminal nonterminal.EXPR ∷ Terminal kind.RPAREN ∷ []) ∷
+    named production.HEADED_BLOCK nonterminal.HEADED_BLOCK (Terminal kind.LBRACE ∷ Nonterminal nonterminal.STATEMENTS ∷ Terminal kind.RBRACE ∷ []) ∷
     []

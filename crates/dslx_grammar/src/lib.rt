@@ -13,4 +13,4 @@ mod reader;
 
 pub use generated::{kind, nonterminal, production};
 pub use laws::{linear_derivations, names, one_beginning, one_derivation};
-pub use reader::{grammar, parse, parse_tree};
+pub use reader::{grammar, parse, parse_tree, steps};

@@ -5,14 +5,15 @@ ghost use Rattle.grammar.specs.Answer.{EndsWith, IfFault};
 ghost use Rattle.grammar.specs.Derivation.{BeginsWith, IsBeginning, IsDerivation, IsSentence};
 ghost use Rattle.grammar.specs.Ll1.{IsLl1};
 ghost use Rattle.grammar.specs.Syntax.{syntax_of};
-ghost use Rattle.grammar.specs.Tree.{AreNodes};
+ghost use Rattle.grammar.specs.Steps.{steps_of};
+ghost use Rattle.grammar.specs.Tree.{AreNodes, Forest, IsParseTree};
 ghost use Rattle.grammar.specs.declared.parser.ParseError.TheVariants.{OutOfMemory};
 ghost use Rattle.lists.specs.Fault.{IsFirstFault};
 ghost use Rattle.dslx_grammar.specs.Dslx.{dslx};
 
 use crate::generated::kind::END;
 use crate::generated::tables;
-use grammar::{Grammar, Node, ParseError};
+use grammar::{Grammar, Node, ParseError, Step};
 use std::alloc::{AllocError, Global};
 
 /// The grammar of DSLX.
@@ -53,6 +54,15 @@ pub fn parse_tree(alloc: Global, productions: &[u16], kinds: &[u8]) -> Result<Ve
     ensures { IfOk result (λ nodes. AreNodes dslx.rules productions.now nodes.items) }
 {
     grammar::parse_tree(alloc, &grammar(), productions, kinds)
+}
+
+/// The steps in which the tree of a derivation is built from the bottom up.
+pub fn steps(alloc: Global, productions: &[u16]) -> Result<Vec<Step>, AllocError>
+    requires { (ts : List ℕ) × IsDerivation dslx productions.now ts }
+    ensures { IfOk result (λ steps. (ts : List ℕ) (f : Forest)
+        → IsParseTree dslx productions.now ts f → steps.items ≡ steps_of f) }
+{
+    grammar::steps(alloc, &grammar(), productions)
 }
 
 #[cfg(test)]

@@ -7,3 +7,4 @@ pub mod Choosing
 pub mod Stepping
 pub mod LawProofs
 pub mod Trees
+pub mod Building

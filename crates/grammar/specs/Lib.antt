@@ -8,5 +8,7 @@ pub mod Ll1
 pub mod Answer
 -- parse trees, and where the trees of a derivation stand
 pub mod Tree
+-- the steps in which a tree is built
+pub mod Steps
 -- what functions of this crate promise to one another, and nobody else needs
 pub mod Inner

@@ -7,11 +7,13 @@
 //! are laws, as [`one_derivation`].
 #![tactic(auto)]
 
+mod bottom_up;
 mod laws;
 mod parser;
 mod table;
 mod tree;
 
+pub use bottom_up::{Step, steps};
 pub use laws::{
     alternatives, children, linear_derivations, one_beginning, one_derivation, one_tree,
 };

@@ -4,6 +4,7 @@ ghost use Rattle.std.specs.Prelude.{◌≡◌};
 ghost use Rattle.grammar.specs.Ll1.{IsLl1};
 
 use super::*;
+use crate::bottom_up::{Step, steps};
 use crate::table::Symbol::{Nonterminal, Terminal};
 use crate::table::{Production, Span};
 use crate::tree::parse_tree;
@@ -212,5 +213,25 @@ fn trees(rt: HostRuntime) -> Result<(), Fail> {
         assert_eq!(rt; nodes[place].end, ends[place], "at {place}");
         assert_eq!(rt; nodes[place].tokens, tokens[place], "at {place}");
     }
+    Ok(())
+}
+
+#[test]
+fn built_from_the_bottom(rt: HostRuntime) -> Result<(), Fail> {
+    // (a)
+    let grammar = lists();
+    let productions = parse(rt.alloc(), &grammar, &[OPEN, NAME, CLOSE, END])?;
+    let made = steps(rt.alloc(), &grammar, &productions)?;
+    let wanted = [
+        Step::Shift,
+        Step::Shift,
+        Step::Reduce(5),
+        Step::Reduce(4),
+        Step::Reduce(1),
+        Step::Shift,
+        Step::Reduce(0),
+        Step::Shift,
+    ];
+    assert_eq!(rt; made.as_slice(), wanted.as_slice());
     Ok(())
 }
