@@ -5,3 +5,6 @@ pub use Rattle.block_machine.proofs.Offers.{what_waits_stands}
 pub use Rattle.block_machine.proofs.Offered.{untaken_words_stand}
 pub use Rattle.block_machine.proofs.Asks.{one_site_is_asked_to_send, one_site_is_asked_to_receive}
 pub use Rattle.block_machine.proofs.Exact.{always_fed_words_move_in_their_cycle}
+pub use Rattle.block_machine.proofs.Handshakes.{sent_words_go_where_there_is_room, received_words_go_where_they_are_asked, nothing_is_received_without_a_site}
+-- sums over lists of events
+pub use Rattle.block_machine.proofs.Lefts.{words_sent-append, count_received-append}

@@ -15,3 +15,4 @@ pub mod Asks
 pub mod Offered
 pub mod Exact
 pub mod Lemmas
+pub mod Handshakes

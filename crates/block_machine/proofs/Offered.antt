@@ -34,7 +34,7 @@ eqb-eq : (a c : ℕ) → eqb a c ≡ true → a ≡ c
 eqb-eq a c h = grind (arith, nat_tests)
 
 -- where a channel has no room, nothing is sent on it
-none_sent : (b : Behavior) (ch : ℕ) (ports : Ports) → ports.room ch ≡ false → (s : Value) (got got' : List Word) (i n p : ℕ) (deeds : List Deed) (waits : Option Event)
+pub none_sent : (b : Behavior) (ch : ℕ) (ports : Ports) → ports.room ch ≡ false → (s : Value) (got got' : List Word) (i n p : ℕ) (deeds : List Deed) (waits : Option Event)
     → Goes b ports s got i n p got' deeds waits → gave b.sites ch deeds ≡ []
 unfolding words_sent
 none_sent b ch ports full s got got' i n p deeds waits ends = refl

@@ -23,7 +23,7 @@ first_act : Pipeline → Act
 first_act q = record { state = q.proc.opening; got = []; place = 0 }
 
 -- nothing has happened
-past_at_reset : Pipeline → Past
+pub past_at_reset : Pipeline → Past
 past_at_reset q = record { acts = λ j. record { state = q.proc.opening; got = []; place = 0 }; open_stage = 0; events = []; ends = 0; ended = []; gone = [] }
 
 full_at_reset : (q : Pipeline) (j : ℕ) → (opened q).full (suc j) ≡ false
@@ -42,7 +42,7 @@ reset_state : (q : Pipeline) → (opened q).state ≡ q.proc.opening
 unfolding opened
 reset_state q = refl
 
-stands_at_reset : (q : Pipeline) → IsPipeline q → Stands q (at_reset q) 0 (past_at_reset q)
+pub stands_at_reset : (q : Pipeline) → IsPipeline q → Stands q (at_reset q) 0 (past_at_reset q)
 unfolding past_at_reset
 stands_at_reset q is = record {
   held = held;

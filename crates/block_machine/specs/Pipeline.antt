@@ -42,3 +42,7 @@ pub record IsPipeline (q : Pipeline) : Type 0 where
       → IsSameEnd site other → (q.stage i < q.stage k) × (q.stage k ≤ q.last)
   -- a site that receives never sends, and one that sends never receives
   pub directions : (s : Value) (got : List Word) (i : ℕ) (site : Site) → slice_get q.proc.behavior.sites i ≡ Some site → IsInDirection site (q.proc.behavior.turn s got i)
+
+-- no site receives from a channel
+abbrev pub ReceivesNowhere : Pipeline → ℕ → Type 0
+ReceivesNowhere q chan = (i : ℕ) (site : Site) → slice_get q.proc.behavior.sites i ≡ Some site → site.sends ≡ false → site.chan ≡ chan → ⊥

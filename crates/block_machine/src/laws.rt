@@ -1,15 +1,15 @@
 //! Laws of pipelined hardware, each the contract of a function without a body. For proofs of other crates they are lemmas
 //! of the same names in `proofs/Lemmas.antt`.
 
-ghost use Rattle.std.specs.Prelude.{◌≡◌, ◌≤◌, ◌<◌, ◌-◌, ℕ, true, List, [], ◌∷◌, length, false, Some};
+ghost use Rattle.std.specs.Prelude.{◌≡◌, ◌≤◌, ◌<◌, ◌-◌, ℕ, true, List, [], ◌∷◌, length, false, Some, ◌==◌, if◌then◌else◌, option_to_list};
 ghost use Rattle.xb_bits.specs.Word.{Word};
 ghost use Rattle.net_core.specs.declared.event.Event.{Event};
 ghost use Rattle.net_core.specs.Trace.{trace};
 ghost use Rattle.lists.specs.Front.{IsFront};
 ghost use Rattle.net_core.specs.Cuts.{words_sent, count_received};
-ghost use Rattle.block_machine.specs.Pipeline.{Pipeline, IsPipeline};
-ghost use Rattle.block_machine.specs.Cycle.{Ports, Contents, in_stage, asked_by, asked_in, asked_in_row, after_cycle, after_row, opened};
-ghost use Rattle.block_machine.specs.Since.{at_reset, after_cycles};
+ghost use Rattle.block_machine.specs.Pipeline.{Pipeline, IsPipeline, ReceivesNowhere};
+ghost use Rattle.block_machine.specs.Cycle.{Ports, Contents, in_stage, asked_by, asked_in, asked_in_row, after_cycle, after_row, deeds_in, opened};
+ghost use Rattle.block_machine.specs.Since.{took, gave, at_reset, after_cycles};
 ghost use Rattle.block_machine.specs.Steady.{AreFed, SendsOnce};
 
 /// Whatever stands at the ports in each cycle since reset: the words sent on a channel are a front of those that the
@@ -50,6 +50,25 @@ pub fn one_site_is_asked()
         length (words_sent q.proc.behavior.sites chan (asked_in q (after_cycles q (at_reset q) cycles).contents ports)) ≤ 1 }
     ensures receives { (q : Pipeline) → IsPipeline q → (cycles : List Ports) (ports : Ports) (chan : ℕ) →
         count_received q.proc.behavior.sites chan (asked_in q (after_cycles q (at_reset q) cycles).contents ports) ≤ 1 }
+{}
+
+/// A word goes through a port in a cycle where both sides are ready: a word that is offered on a channel is sent where
+/// there is room, and where a word is asked for, the one that is there is received.
+pub fn words_go_where_both_sides_are_ready()
+    ensures sent { (q : Pipeline) → IsPipeline q → (cycles : List Ports) (ports : Ports) (chan : ℕ) →
+        let now = (after_cycles q (at_reset q) cycles).contents in
+        gave q.proc.behavior.sites chan (deeds_in q now ports)
+        ≡ (if ports.room chan then words_sent q.proc.behavior.sites chan (asked_in q now ports) else []) }
+    ensures received { (q : Pipeline) → IsPipeline q → (cycles : List Ports) (ports : Ports) (chan : ℕ) →
+        let now = (after_cycles q (at_reset q) cycles).contents in
+        took q.proc.behavior.sites chan (deeds_in q now ports)
+        ≡ (if count_received q.proc.behavior.sites chan (asked_in q now ports) == 0 then [] else option_to_list (ports.offer chan)) }
+{}
+
+/// Nothing is received from a channel from which no site receives.
+pub fn nothing_is_received_without_a_site()
+    ensures { (q : Pipeline) → IsPipeline q → (cycles : List Ports) (chan : ℕ) → ReceivesNowhere q chan →
+        (after_cycles q (at_reset q) cycles).received chan ≡ [] }
 {}
 
 /// In a cycle with reset nothing is asked, and afterwards the registers hold what they hold after reset.

@@ -1,0 +1,45 @@
+-- A FIFO as the list of the words that are in it, the oldest first.
+use Rattle.std.specs.Prelude.{ℕ, Bool, List, [], ◌∷◌, ◌++◌, length, take, drop, nat_lt, if◌then◌else◌, Option, Some, None, option_to_list}
+
+-- the word that can be taken, and whether there is room for one more: by what is in it before the cycle
+abbrev pub next_word : {A : Type 0} → List A → Option A
+next_word [] = None
+next_word (w ∷ ws) = Some w
+
+abbrev pub has_room : {A : Type 0} → ℕ → List A → Bool
+has_room depth words = nat_lt (length words) depth
+
+-- in a cycle in which the reader asks or not, and the writer offers a word or none: what is given, and what is put in
+abbrev pub given_in : {A : Type 0} → List A → Bool → List A
+given_in words asked = if asked then take 1 words else []
+
+abbrev pub put_in : {A : Type 0} → ℕ → List A → Option A → List A
+put_in depth words offered = if has_room depth words then option_to_list offered else []
+
+abbrev pub after_cycle : {A : Type 0} → ℕ → List A → Bool → Option A → List A
+after_cycle depth words asked offered = (if asked then drop 1 words else words) ++ put_in depth words offered
+
+-- the words that are in it, and all that were given and put in since it was empty
+pub record Since (A : Type 0) : Type 0 where
+  pub words : List A
+  pub given : List A
+  pub put : List A
+
+abbrev pub empty : {A : Type 0} → Since A
+empty = record { words = []; given = []; put = [] }
+
+abbrev pub one_more : {A : Type 0} → ℕ → Since A → Bool → Option A → Since A
+one_more depth since asked offered = record {
+  words = after_cycle depth since.words asked offered;
+  given = since.given ++ given_in since.words asked;
+  put = since.put ++ put_in depth since.words offered;
+}
+
+-- a cycle: whether the reader asks, and what the writer offers
+pub record Cycle (A : Type 0) : Type 0 where
+  pub asked : Bool
+  pub offered : Option A
+
+abbrev pub after_cycles : {A : Type 0} → ℕ → Since A → List (Cycle A) → Since A
+after_cycles depth since [] = since
+after_cycles depth since (cycle ∷ more) = after_cycles depth (one_more depth since cycle.asked cycle.offered) more

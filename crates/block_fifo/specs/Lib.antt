@@ -1,0 +1,3 @@
+pub mod Fifo
+pub mod Row
+pub mod Ring

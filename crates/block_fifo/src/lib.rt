@@ -1,0 +1,4 @@
+//! FIFOs of hardware: what one holds, gives and takes in a clock cycle, and two layouts of its registers.
+#![tactic(auto)]
+
+pub mod laws;

@@ -1,0 +1,4 @@
+//! Blocks: networks of pipelined procs and FIFOs, and what goes through their ports.
+#![tactic(auto)]
+
+pub mod laws;
