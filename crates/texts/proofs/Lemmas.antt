@@ -1,2 +1,3 @@
 -- The public library.
 pub mod Hexadecimal
+pub mod Lines

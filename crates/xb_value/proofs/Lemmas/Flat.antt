@@ -1,8 +1,9 @@
 -- The flat word of a value of a type is as wide as the type, and what is taken at a type is of the type.
-use Rattle.std.proofs.Common.{◌≡◌, ℕ, zero, suc, ◌+◌, ◌*◌, ◌%◌, ◌^◌, ◌<◌, ◌≤◌, ◌==◌, nat_lt, nat_le, List, [], ◌∷◌, map, sum, length, Bool, IsTrue, refl, sym, ap, ap₂, subst, ◌∙◌, arith}
+use Rattle.std.proofs.Common.{◌≡◌, ℕ, zero, suc, lit<, ◌+◌, ◌*◌, ◌%◌, ◌^◌, ◌<◌, ◌≤◌, ◌==◌, nat_lt, nat_le, List, [], ◌∷◌, map, sum, length, Bool, IsTrue, refl, sym, ap, ap₂, subst, ◌∙◌, arith}
 use Rattle.std.specs.List.{list_all}
 use Rattle.std.proofs.lemmas.List.Sums.{sum_by-cons}
-use Rattle.std.proofs.lemmas.Nat.{mod_below, pow_pos}
+use Rattle.std.proofs.lemmas.Nat.{mod_below, pow_pos, pow-add}
+use Rattle.std.proofs.Math.Nat.{mul-le-mul_right}
 use Rattle.std.proofs.lemmas.Bool.Decides.{nat_tests}
 use Rattle.xb_bits.specs.Word.{Word, word}
 use Rattle.xb_value.specs.declared.ty.Ty.{Ty}
@@ -105,3 +106,54 @@ gives_typed = ty_induction GivesTyped
     subst (λ (r : Value × ℕ). IsOfType (ty.Array t k) r.0) (sym (ap (λ (p : Taker). p n) (types.fold-Array Taker take_step t k)))
     (fits-Array t k (Array all.0) ∙ ap (array_fits (fits t) k) (outs-Array all.0)
     ∙ and_true _ _ count (typed_times k t (typed (sym (types.fold-Array Bool widths_step t k) ∙ widths)) n)))
+
+-- ---- how great
+
+abbrev pub IsInRange : Word → Type 0
+IsInRange x = x.value < 2 ^ x.width
+
+beside_below : (v l a p : ℕ) → v < a → l < p → v * p + l < a * p
+beside_below v l a p h k =
+    let whole : suc v * p ≤ a * p = mul-le-mul_right p h in
+    let part : suc v * p ≡ v * p + p = omega arith in
+    omega arith
+
+joined_in_range : (xs : List Word) → EachHas IsInRange xs → IsInRange (joined xs)
+joined_in_range [] each = lit< tt
+joined_in_range (x ∷ xs) each =
+    let low = joined_in_range xs each.1 in
+    let first = each.0 in
+    let high : 2 ^ (x.width + (joined xs).width) ≡ 2 ^ x.width * 2 ^ (joined xs).width = pow-add 2 x.width (joined xs).width in
+    subst (λ m. x.value * 2 ^ (joined xs).width + (joined xs).value < m) (sym high)
+    (beside_below x.value (joined xs).value (2 ^ x.width) (2 ^ (joined xs).width) first low)
+
+abbrev FlatsInRange : Ty → Type 0
+FlatsInRange t = (v : Value) → IsOfType t v → IsInRange (flat_of v)
+
+each_in_range : (ts : List Ty) (vs : List Value) → EachHas FlatsInRange ts → IsTrue (each_passes (map fits ts) vs) → EachHas IsInRange (map flat_of vs)
+each_in_range [] [] each pass = tt
+each_in_range [] (v ∷ vs) each pass = absurd (cc)
+each_in_range (t ∷ ts) [] each pass = absurd (cc)
+each_in_range (t ∷ ts) (v ∷ vs) each pass =
+    let both = both_true (fits t v) (each_passes (map fits ts) vs) pass in
+    (each.0 v both.0, each_in_range ts vs each.1 both.1)
+
+all_in_range : (t : Ty) (vs : List Value) → FlatsInRange t → IsTrue (list_all (fits t) vs) → EachHas IsInRange (map flat_of vs)
+all_in_range t [] one pass = tt
+all_in_range t (v ∷ vs) one pass =
+    let both = both_true (fits t v) (list_all (fits t) vs) pass in
+    (one v both.0, all_in_range t vs one both.1)
+
+-- the flat word of a value of a type is in the range of its width
+pub in_range : (t : Ty) (v : Value) → IsOfType t v → IsInRange (flat_of v)
+in_range = ty_induction FlatsInRange
+    (λ w v of.
+    let b = bits_of_type w v of in
+    let below : IsInRange b.word = subst (λ k. b.word.value < 2 ^ k) (sym b.width) b.in_range in
+    subst IsInRange (sym (flat_of-Bits b.word) ∙ ap flat_of (sym b.is)) below)
+    (λ ts each v of.
+    let b = tuple_of_type ts v of in
+    subst IsInRange (sym (flat_of-Tuple b.parts) ∙ ap flat_of (sym b.is)) (joined_in_range (map flat_of b.parts) (each_in_range ts b.parts each b.each)))
+    (λ t n one v of.
+    let b = array_of_type t n v of in
+    subst IsInRange (sym (flat_of-Array b.parts) ∙ ap flat_of (sym b.is)) (joined_in_range (map flat_of b.parts) (all_in_range t b.parts one b.all)))

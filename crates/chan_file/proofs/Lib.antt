@@ -1,0 +1,4 @@
+pub mod Lemmas
+pub mod Names
+pub mod Written
+pub mod Lines

@@ -1,0 +1,21 @@
+//! The texts of files and outputs that speak of a network's channels.
+//!
+//! A channel file gives the words that lie ready on a network's inputs; the outcome text is what a run shows.
+//!
+//! Cost: reading is linear in the text, but for the look-up of each channel's name, which takes the logarithm of the number
+//! of channels; writing is linear in the text that is written.
+#![tactic(auto)]
+
+mod inputs;
+pub mod laws;
+mod line;
+mod named;
+mod outcome;
+mod refusal;
+
+pub use inputs::read_inputs;
+pub use outcome::outcome_text;
+pub use refusal::{Cause, InputError};
+
+#[cfg(test)]
+mod tests;
