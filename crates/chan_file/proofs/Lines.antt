@@ -1,6 +1,5 @@
 -- What was read of a file's lines so far.
-use Rattle.std.proofs.Common.{◌≡◌, ℕ, zero, suc, ◌+◌, ◌<◌, ◌==◌, List, [], ◌∷◌, ◌++◌, length, get_or, set, replicate, Bool, true, false, if◌then◌else◌, Option, Some, None, Result, Ok, Err, refl, sym, ap, ap₂, subst, ◌∙◌, arith, append_assoc, append-nil}
-use Rattle.std.specs.Prelude.{slice_get}
+use Rattle.std.proofs.Common.{◌≡◌, ℕ, zero, suc, ◌+◌, ◌<◌, ◌==◌, List, [], ◌∷◌, ◌++◌, length, get_or, set, replicate, Bool, true, false, if◌then◌else◌, Ok, Err, refl, sym, ap, ap₂, subst, ◌∙◌, arith, append_assoc, append-nil}
 use Rattle.std.proofs.lemmas.Bool.Decides.{nat_tests}
 use Rattle.std.proofs.lemmas.Option.{slice_get_within}
 use Rattle.net_core.specs.WellFormed.{IsNet}
@@ -11,13 +10,12 @@ use Rattle.texts.specs.Lines.{lines_of, placed}
 use Rattle.texts.proofs.Lemmas.Lines.{EndWithin}
 use Rattle.net_core.specs.declared.net.Net.{Net}
 use Rattle.net_core.specs.declared.net.Chan.{Chan}
-use Rattle.chan_file.specs.declared.line.Said.{Said}
 use Rattle.chan_file.specs.declared.line.Said.TheVariants.{Nothing, Channel, Word as AWord, Fault}
 use Rattle.chan_file.specs.declared.named.Named.{Named}
 use Rattle.chan_file.specs.declared.refusal.Cause.{Cause}
 use Rattle.chan_file.specs.Inner.Named.{HasNamed}
 use Rattle.chan_file.proofs.Lemmas.Reading.{AreInputs, channel_input, word_input}
-use Rattle.chan_file.specs.ChannelFile.{SaysLine, SaysLines, at_end, behind_nothing, behind_channel, behind_word, at_fault, Words, before_words, words_on, inputs_by, with_inputs, Reads}
+use Rattle.chan_file.specs.ChannelFile.{SaysLine, SaysLines, at_end, behind_nothing, behind_channel, behind_word, at_fault, Words, before_words, words_on, Reads}
 
 -- words before those of an answer
 abbrev pub behind : List (ℕ × Word) → Words → Words

@@ -1,12 +1,11 @@
 -- The inputs of a network by their names.
-use Rattle.std.proofs.Common.{◌≡◌, ℕ, zero, suc, ◌+◌, ◌-◌, ◌<◌, ◌≤◌, List, [], ◌∷◌, length, drop, get_or, Bool, true, false, if◌then◌else◌, Option, Some, None, Result, Ok, Err, IfOk, refl, sym, ap, ◌∙◌, subst, arith}
+use Rattle.std.proofs.Common.{◌≡◌, ℕ, zero, suc, ◌+◌, ◌<◌, List, [], ◌∷◌, length, drop, get_or, Bool, true, false, if◌then◌else◌, Option, Some, None, Result, Ok, Err, IfOk, refl, sym, ap, ◌∙◌, arith}
 use Rattle.std.specs.Prelude.{slice_get}
 use Rattle.std.proofs.lemmas.List.{drop_more}
 use Rattle.std.proofs.lemmas.Option.{slice_get_within}
 use Rattle.std.specs.Prelude.{bytes_eq, ◌&&◌}
 use Rattle.std.specs.BTreeMap.{BTreeMap, get_by, UpdatesBy}
 use Rattle.std.specs.Cmp.Lexicographic.{slice_cmp}
-use Rattle.std.specs.Map.{update}
 use Rattle.std.specs.Ordering.{nat_cmp}
 use Rattle.std.proofs.lemmas.Map.Text.{btree_map_updates_str}
 use denote.Ref.{Bor}
@@ -32,11 +31,11 @@ input_from-is i (chan ∷ chans) name c e = by_case (is_input_named name chan) r
   where
     by_case : (t : Bool) → is_input_named name chan ≡ t → (if t then (Some i) else (input_from (suc i) chans name)) ≡ Some c
         → (input_from (suc i) chans name ≡ Some c → IsFound (suc i) chans name c) → IsFound i (chan ∷ chans) name c
-    by_case true t f later = let same : i ≡ c = (cc) in record { chan = chan; place = 0; number = omega arith; there = refl; named = t; }
+    by_case true t f later = let same : i ≡ c = (cc) in record { chan = chan; place = 0; number = omega arith; there = refl; named = t }
     by_case false t f later =
         let x = later f in
         let number = x.number in
-        record { chan = x.chan; place = suc x.place; number = omega arith; there = x.there; named = x.named; }
+        record { chan = x.chan; place = suc x.place; number = omega arith; there = x.there; named = x.named }
 
 pub input_named-within : (net : Net) (name : List ℕ) (c : ℕ) → input_named net name ≡ Some c → c < length net.chans
 input_named-within net name c e =

@@ -2,7 +2,7 @@
 --
 -- Lines are read in their order. A line `chan NAME` begins the words of that input, and each word behind it, up to the
 -- next such line, is one of its words. The first line at fault is named.
-use Rattle.std.specs.Prelude.{◌≡◌, ◌==◌, ◌&&◌, ℕ, suc, Bool, true, false, List, [], ◌∷◌, length, bytes_eq, slice_get, Option, Some, None, Result, Ok, Err, if◌then◌else◌}
+use Rattle.std.specs.Prelude.{◌≡◌, ◌==◌, ◌&&◌, ℕ, suc, Bool, true, false, List, [], ◌∷◌, bytes_eq, slice_get, Option, Some, None, Result, Ok, Err, if◌then◌else◌}
 use Rattle.std.specs.List.{list_any}
 use Rattle.texts.specs.Lines.{lines_of, placed}
 use Rattle.lists.specs.Indexed.{indexed}

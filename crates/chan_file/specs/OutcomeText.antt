@@ -1,10 +1,8 @@
 -- What is printed of an outcome: a line for each channel, and then a line for each proc.
-use Rattle.std.specs.Prelude.{◌≡◌, ℕ, zero, suc, List, [], ◌∷◌, ◌++◌, codes, decimal, flat_map, length, slice_get, Option, Some, None, if◌then◌else◌}
+use Rattle.std.specs.Prelude.{ℕ, zero, suc, List, [], ◌∷◌, ◌++◌, codes, decimal, flat_map, length, Option, Some, None, if◌then◌else◌}
 use Rattle.xb_bits.specs.Word.{Word}
 use Rattle.xb_value.specs.Text.{text_of}
 use Rattle.xb_value.specs.Unflat.{unflat_of}
-use Rattle.xb_value.specs.Width.{width_of}
-use Rattle.net_core.specs.WellFormed.{AreWordsOf}
 use Rattle.net_core.specs.declared.net.Net.{Net}
 use Rattle.net_core.specs.declared.net.Chan.{Chan}
 use Rattle.net_core.specs.declared.net.ProcHead.{ProcHead}
@@ -66,11 +64,3 @@ lines_by line _ _ = []
 
 abbrev pub outcome_text : Net → Outcome → List ℕ
 outcome_text net outcome = lines_by stream_line net.chans outcome.streams ++ lines_by (proc_line net.chans) net.procs outcome.procs
-
--- ---- which outcomes can be written
-
--- the words of each stream have the width of their channel's type
-abbrev pub HasWords : Net → Outcome → Type 0
-HasWords net outcome =
-    (c : ℕ) (chan : Chan) (stream : Stream) → slice_get net.chans c ≡ Some chan → slice_get outcome.streams c ≡ Some stream
-    → AreWordsOf (width_of chan.ty) stream.words

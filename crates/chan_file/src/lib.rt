@@ -16,6 +16,3 @@ mod refusal;
 pub use inputs::read_inputs;
 pub use outcome::outcome_text;
 pub use refusal::{Cause, InputError};
-
-#[cfg(test)]
-mod tests;

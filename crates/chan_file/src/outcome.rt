@@ -1,11 +1,11 @@
 //! The text of an outcome.
 
 ghost use Rattle.std.specs.Prelude.{◌≡◌, ◌++◌, ℕ, slice_get, Some, OnOk, IfOk, string_bytes, flat_map, length};
-ghost use Rattle.net_core.specs.WellFormed.{IsNet, AreWordsOf};
+ghost use Rattle.net_core.specs.WellFormed.{IsNet, IsOutcome, AreWordsOf};
 ghost use Rattle.net_core.specs.declared.net.Chan.{Chan};
 ghost use Rattle.net_core.specs.declared.outcome.Stream.{Stream};
 ghost use Rattle.xb_value.specs.Width.{width_of, HasWidths};
-ghost use Rattle.chan_file.specs.OutcomeText.{HasWords, outcome_text, stream_head, stream_line, proc_line, lines_by, word_text, kind_text, counts_text, end_text, chan_name};
+ghost use Rattle.chan_file.specs.OutcomeText.{outcome_text, stream_head, stream_line, proc_line, lines_by, word_text, kind_text, counts_text, end_text, chan_name};
 
 use net_core::{Chan, Kind, Net, Outcome, ProcEnd, ProcHead, Stall, Stream};
 use std::alloc::{AllocError, Global};
@@ -16,17 +16,32 @@ use xb_value::{at, push_value, unflat};
 /// What a run shows: a line for each channel, and then a line for each proc.
 pub fn outcome_text(alloc: Global, net: &Net, outcome: &Outcome) -> Result<String, AllocError>
     requires net { IsNet net.now }
-    requires words { HasWords net.now outcome.now }
+    requires outcome { IsOutcome net.now outcome.now }
     ensures { IfOk result (λ text. string_bytes text ≡ outcome_text net.now outcome.now) }
 {
     let mut text = String::new(alloc);
-    push_streams(alloc, &mut text, net.chans.as_slice(), outcome.streams.as_slice())?;
-    push_procs(&mut text, net.chans.as_slice(), net.procs.as_slice(), outcome.procs.as_slice())?;
+    push_streams(
+        alloc,
+        &mut text,
+        net.chans.as_slice(),
+        outcome.streams.as_slice(),
+    )?;
+    push_procs(
+        &mut text,
+        net.chans.as_slice(),
+        net.procs.as_slice(),
+        outcome.procs.as_slice(),
+    )?;
     Ok(text)
 }
 
 /// Appends a line for each channel.
-fn push_streams(alloc: Global, text: &mut String, chans: &[Chan], streams: &[Stream]) -> Result<(), AllocError>
+fn push_streams(
+    alloc: Global,
+    text: &mut String,
+    chans: &[Chan],
+    streams: &[Stream],
+) -> Result<(), AllocError>
     requires widths { (c : ℕ) (chan : Chan) → slice_get chans.now c ≡ Some chan → HasWidths chan.ty }
     requires words { (c : ℕ) (chan : Chan) (stream : Stream) → slice_get chans.now c ≡ Some chan → slice_get streams.now c ≡ Some stream
         → AreWordsOf (width_of chan.ty) stream.words }
@@ -39,7 +54,12 @@ fn push_streams(alloc: Global, text: &mut String, chans: &[Chan], streams: &[Str
 }
 
 /// Appends a line for each proc.
-fn push_procs(text: &mut String, chans: &[Chan], heads: &[ProcHead], ends: &[ProcEnd]) -> Result<(), AllocError>
+fn push_procs(
+    text: &mut String,
+    chans: &[Chan],
+    heads: &[ProcHead],
+    ends: &[ProcEnd],
+) -> Result<(), AllocError>
     ensures { OnOk result (string_bytes text.new ≡ string_bytes text.old ++ lines_by (proc_line chans.now) heads.now ends.now) }
 {
     'procs: for p in 0..usize::min(heads.len(), ends.len()) {
@@ -101,7 +121,12 @@ fn push_counts(text: &mut String, kind: Kind, count: u64, received: u64) -> Resu
 }
 
 /// Appends words, each with a space before it.
-fn push_words(alloc: Global, text: &mut String, chan: &Chan, words: &[Bits]) -> Result<(), AllocError>
+fn push_words(
+    alloc: Global,
+    text: &mut String,
+    chan: &Chan,
+    words: &[Bits],
+) -> Result<(), AllocError>
     requires widths { HasWidths chan.now.ty }
     requires words { AreWordsOf (width_of chan.now.ty) words.now }
     ensures { OnOk result (string_bytes text.new ≡ string_bytes text.old ++ flat_map (word_text chan.now) words.now) }

@@ -1,5 +1,5 @@
 -- What holds of channel files.
-use Rattle.std.proofs.Common.{◌≡◌, ℕ, zero, suc, ◌+◌, ◌<◌, ◌==◌, List, [], ◌∷◌, ◌≤◌, ◌≢◌, length, get_or, Bool, true, false, if◌then◌else◌, Option, Some, None, Result, Ok, Err, refl, sym, ap, subst, ◌∙◌, arith}
+use Rattle.std.proofs.Common.{◌≡◌, ℕ, zero, suc, ◌==◌, List, [], ◌∷◌, ◌≤◌, ◌≢◌, get_or, Bool, true, false, if◌then◌else◌, Option, Some, None, Result, Ok, Err, refl, sym, ap, subst, ◌∙◌, arith}
 use Rattle.std.specs.Prelude.{slice_get, bytes_eq, option_map}
 use Rattle.std.proofs.lemmas.Bool.{and_parts}
 use Rattle.std.proofs.lemmas.Bool.Decides.{nat_tests}
@@ -23,7 +23,7 @@ use Rattle.chan_file.specs.declared.line.Said.{Said}
 use Rattle.chan_file.specs.declared.line.Said.TheVariants.{Nothing, Channel, Word as AWord, Fault}
 use Rattle.chan_file.specs.declared.refusal.Cause.{Cause}
 use Rattle.chan_file.specs.declared.refusal.Cause.TheVariants as cause
-use Rattle.chan_file.specs.Line.{Form, blank, channel, other, line_form}
+use Rattle.chan_file.specs.Line.{blank, channel, other}
 use Rattle.chan_file.specs.ChannelFile.{SaysLine, blank_line, channel_line, early_word, word_line, SaysWord, says_input, input_named, was_named, is_input, words_on, inputs_by, SaysLines, at_end, behind_nothing, behind_channel, behind_word, at_fault, Words, before_words, with_inputs, Reads}
 
 -- ---- one line says one thing
@@ -59,9 +59,6 @@ word_unique c t line (Fault cause.Kind) Nothing x y = absurd y
 word_unique c t line (Fault cause.Kind) (Channel e) x y = absurd y
 word_unique c t line (Fault cause.Kind) (Fault cause.Name) x y = absurd y
 word_unique c t line (Fault cause.Kind) (Fault cause.Twice) x y = absurd y
-
-
-
 
 line_unique : (net : Net) (named line : List ℕ) (a b : Said) → SaysLine net named line a → SaysLine net named line b → a ≡ b
 line_unique net named line a b (blank_line e) (blank_line f) = refl
@@ -164,6 +161,7 @@ channel_input net named line said c (channel_line name e) h = by_case (input_nam
     number_of : (d : ℕ) (t : Bool) → (if t then (Fault cause.Twice) else (Channel d)) ≡ Channel c → d ≡ c
     number_of d true f = absurd (cc)
     number_of d false f = cc
+
     by_case : (o : Option ℕ) → input_named net name ≡ o → says_input named o ≡ Channel c → IsInputAt net c
     by_case None g f = absurd (cc)
     by_case (Some d) g f =
@@ -184,6 +182,7 @@ word_input net named line said c w fine inputs (channel_line name e) h = absurd 
     no_word : (d : ℕ) (t : Bool) → (if t then (Fault cause.Twice) else (Channel d)) ≡ AWord c w → ⊥
     no_word d true f = cc
     no_word d false f = cc
+
     by_case : (o : Option ℕ) → says_input named o ≡ AWord c w → ⊥
     by_case None f = cc
     by_case (Some d) f = no_word d (was_named d named) f
@@ -234,6 +233,7 @@ words_fit net (x ∷ xs) c chan all g = by_case (x.0 == c) refl (words_fit net x
         let both : Some mine.chan ≡ Some chan = sym mine.there ∙ ap (slice_get net.chans) e ∙ g in
         let same : mine.chan ≡ chan = (cc) in
         subst (λ (y : Chan). IsWordOf (width_of y.ty) x.1) same mine.word
+
     by_case : (t : Bool) → (x.0 == c) ≡ t → AreWordsOf (width_of chan.ty) (words_on c xs)
         → AreWordsOf (width_of chan.ty) (if t then (x.1 ∷ words_on c xs) else words_on c xs)
     by_case true e rest zero w at =
@@ -272,6 +272,7 @@ inputs_fit net text inputs fine r = by_case r.words r.is (lines_fit net [] _ r.w
       words = λ c chan g. subst (AreWordsOf (width_of chan.ty)) (sym (list_of net xs c chan g)) (words_fit net xs c chan all g);
       only = λ c chan g unlike. list_of net xs c chan g ∙ no_words_fit net xs c chan all g unlike;
     }
+
     by_case : (w : Words) → Ok inputs ≡ with_inputs net w → WordsFit net w → IsInputs net inputs.words
     by_case (Ok xs) e all =
         let same : inputs ≡ inputs_by net xs = (cc) in

@@ -1,5 +1,5 @@
 -- The lines of a text lie within it.
-use Rattle.std.proofs.Common.{◌≡◌, ◌==◌, ℕ, suc, ◌+◌, ◌≤◌, List, [], ◌∷◌, length, Bool, true, false, if◌then◌else◌, refl, sym, ap, subst, arith}
+use Rattle.std.proofs.Common.{◌≡◌, ◌==◌, ℕ, suc, ◌+◌, ◌≤◌, List, [], ◌∷◌, length, Bool, true, false, if◌then◌else◌, subst, arith}
 use Rattle.texts.specs.Lines.{lines_of, placed, before_lines}
 
 -- each line ends at this place or before

@@ -1,4 +1,4 @@
-use Rattle.std.proofs.Common.{◌≡◌, ◌<◌, ◌∷◌, ◌++◌, [], length, get_or, set, replicate, ap, sym, subst, ◌∙◌, arith, Ok, Err}
+use Rattle.std.proofs.Common.{◌≡◌, ◌<◌, ◌∷◌, ◌++◌, [], length, set, replicate, ap, sym, subst, ◌∙◌, arith, Ok}
 use Rattle.std.proofs.lemmas.List.{get_or_read}
 use Rattle.texts.specs.Lines.{lines_of, placed}
 use Rattle.texts.proofs.Lemmas.Lines.{lines-within}
@@ -23,7 +23,7 @@ pub lines-preserved-in-Nothing : goal.lines-preserved-in-Nothing
 lines-preserved-in-Nothing c =
     let s = c.lines.invariant.so_far in
     let says = subst (λ said. SaysLine c.args.net.now s.before c.in-Some.line.bytes.now said) c.in-Nothing.is (c.in_ok-read_line.ensures s.before s.held) in
-    record { so_far = so_far_nothing c.args.net.now _ c.lines.lines c.next.new.self (length c.args.text.now) c.in-Some.line.at c.in-Some.line.bytes.now c.lines.named c.lines.words.items s c.in-Some.ensures says; }
+    record { so_far = so_far_nothing c.args.net.now _ c.lines.lines c.next.new.self (length c.args.text.now) c.in-Some.line.at c.in-Some.line.bytes.now c.lines.named c.lines.words.items s c.in-Some.ensures says }
 
 pub name-requires : goal.name-requires
 name-requires c =
@@ -35,8 +35,10 @@ pub lines-preserved-in-Channel : goal.lines-preserved-in-Channel
 lines-preserved-in-Channel c =
     let s = c.lines.invariant.so_far in
     let says = subst (λ said. SaysLine c.args.net.now s.before c.in-Some.line.bytes.now said) c.in-Channel.is (c.in_ok-read_line.ensures s.before s.held) in
-    record { so_far = so_far_channel c.args.net.now _ c.lines.lines c.next.new.self (length c.args.text.now) c.in-Some.line.at c.in-Some.line.bytes.now c.in-Channel.chan c.lines.named c.name.new.self c.lines.words.items s c.in-Some.ensures says
-        (c.name.ensures (length c.args.net.now.chans) s.before s.held); }
+    record {
+      so_far = so_far_channel c.args.net.now _ c.lines.lines c.next.new.self (length c.args.text.now) c.in-Some.line.at c.in-Some.line.bytes.now c.in-Channel.chan c.lines.named c.name.new.self c.lines.words.items s c.in-Some.ensures says
+          (c.name.ensures (length c.args.net.now.chans) s.before s.held);
+    }
 
 pub index_mut-requires : goal.index_mut-requires
 index_mut-requires c =
@@ -56,8 +58,10 @@ lines-preserved c =
     let room : c.in-Word.chan < length c.lines.words.items = omega arith in
     let old = get_or_read c.lines.words.items c.in-Word.chan c.index_mut.result.now room c.index_mut.ensures.value [] in
     let pushed = c.in_ok-push-in-Word.ensures.ok ∙ ap (λ ws. ws ++ c.in-Word.word ∷ []) old in
-    record { so_far = so_far_word c.args.net.now _ c.lines.lines c.next.new.self (length c.args.text.now) c.in-Some.line.at c.in-Some.line.bytes.now c.in-Word.chan c.in-Word.word c.lines.named c.lines.words.items _ s c.in-Some.ensures says within
-        (ap (set c.lines.words.items c.in-Word.chan) pushed); }
+    record {
+      so_far = so_far_word c.args.net.now _ c.lines.lines c.next.new.self (length c.args.text.now) c.in-Some.line.at c.in-Some.line.bytes.now c.in-Word.chan c.in-Word.word c.lines.named c.lines.words.items _ s c.in-Some.ensures says within
+          (ap (set c.lines.words.items c.in-Word.chan) pushed);
+    }
 
 pub returns-in-Fault-clause-reads : goal.returns-in-Fault-clause-reads
 returns-in-Fault-clause-reads c =

@@ -1,5 +1,5 @@
-use Rattle.std.proofs.Common.{◌≡◌, sym, subst, ◌∙◌}
-use Rattle.chan_file.specs.ChannelFile.{SaysLine, blank_line, channel_line, input_named, says_input}
+use Rattle.std.proofs.Common.{sym, subst}
+use Rattle.chan_file.specs.ChannelFile.{SaysLine, blank_line, channel_line}
 use Rattle.chan_file.proofs.line.read_line.Goals as goal
 
 pub returns-in-Blank : goal.returns-in-Blank

@@ -1,4 +1,4 @@
-use Rattle.std.proofs.Common.{◌≡◌, ◌≤◌, sym, subst}
+use Rattle.std.proofs.Common.{◌≤◌, sym, subst}
 use Rattle.std.proofs.lemmas.Str.{IsUtf8-from_ascii}
 use Rattle.xb_value.proofs.Lemmas.Flat.{as_wide}
 use Rattle.xb_value.proofs.Lemmas.Reads.{Spells-ascii}

@@ -1,6 +1,6 @@
-use Rattle.std.proofs.Common.{◌≡◌, ◌∙◌, ◌∷◌, sym, ap, subst, Some, None}
+use Rattle.std.proofs.Common.{◌∙◌, sym, ap}
 use Rattle.std.specs.Prelude.{slice_get}
-use Rattle.chan_file.specs.ChannelFile.{SaysLine, SaysWord, early_word, word_line}
+use Rattle.chan_file.specs.ChannelFile.{early_word, word_line}
 use Rattle.chan_file.proofs.Names.{last_none, last_some, there, ok_map}
 use Rattle.chan_file.proofs.line.said_of_word.Goals as goal
 

@@ -12,7 +12,7 @@ chans-preserved c =
     let known = subst (λ k. KnowsFrom chans k c.chans.numbers) next c.chans.invariant in
     let there = c.index-chans-c.is ∙ ap (λ k. get_or chans k c.index-chans-c.result) place in
     elim c.if-is_input.branch [
-      then-is_input+in_ok-insert w ↦
+      | then-is_input+in_ok-insert w ↦
           let some = sym c.is_input.ensures ∙ w.if-is_input.true in
           let key = w.as_bytes.ensures.value ∙ w.as_str.ensures in
           subst (λ m. KnowsFrom chans (length chans - (c.chans.i + 1)) m) (sym w.numbers-is)
