@@ -1,3 +1,5 @@
+-- the order of faults, and which of them is named
+pub mod Fault
 -- the limits: their order, and the words for them
 pub mod Limit
 -- the line of a passed limit

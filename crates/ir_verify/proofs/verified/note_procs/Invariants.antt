@@ -1,0 +1,16 @@
+use Rattle.std.proofs.Common.{◌≡◌, ℕ, List, [], take, drop}
+use Rattle.ir_verify.specs.Checks.{noted}
+use Rattle.ir_verify.specs.Lines.{is_among}
+use Rattle.ir_verify.specs.Verified.{procs_checks, nothing_seen, nowhere_proc}
+use Rattle.ir_verify.specs.Inner.Seen.{has}
+use Rattle.ir_verify.specs.Inner.Scopes.{seen_by}
+use Rattle.ir_verify.proofs.Walks.{proc_names}
+use Rattle.ir_verify.proofs.verified.note_procs.Given as goal
+
+abbrev pub invariant-procs : goal.invariant-procs
+invariant-procs l =
+    record {
+      elsewhere : l.elsewhere ≡ nowhere_proc;
+      seen : (q : List ℕ) → has l.names q ≡ is_among (proc_names (take l.i l.procs)) q;
+      faults : noted l.held (procs_checks l.channels l.places (proc_names (take l.i l.procs)) l.i (seen_by l.seen) (drop l.i l.procs)) ≡ noted l.fn.held (procs_checks l.channels l.places [] 0 (nothing_seen l.channels) l.procs);
+    }

@@ -1,0 +1,3 @@
+pub mod Scaled
+pub mod Scopes
+pub mod Seen

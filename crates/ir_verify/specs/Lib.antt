@@ -1,0 +1,14 @@
+-- checks in their order, and the fault that is named
+pub mod Checks
+-- what a type must be, and what limits count in it
+pub mod Types
+-- which constants have a type
+pub mod Constants
+-- which nodes fit the table of operations
+pub mod Fitting
+-- the rules and limits of each line
+pub mod Lines
+-- the rules and limits of a package
+pub mod Verified
+-- what functions of this crate promise to one another, and nobody else needs
+pub mod Inner

@@ -1,0 +1,97 @@
+-- The rules and limits of a package.
+use Rattle.std.specs.Prelude.{◌≡◌, ◌-◌, slice_get, ℕ, suc, Bool, true, false, nat_lt, List, [], ◌∷◌, ◌++◌, length, map, take, get_or, replicate, Option, None, Some}
+use Rattle.xb_span.specs.declared.span.Span.{Span}
+use Rattle.xb_span.specs.declared.fault.Fault.{Fault}
+use Rattle.xb_span.specs.declared.fault.Fault.TheVariants.{Passed}
+use Rattle.xb_span.specs.declared.limit.What.TheVariants as what
+use Rattle.ir_tree.specs.declared.ir_type.IrType.{IrType}
+use Rattle.ir_tree.specs.declared.node.Node.{Node}
+use Rattle.ir_tree.specs.declared.package.Channel.{Channel}
+use Rattle.ir_tree.specs.declared.package.Proc.{Proc}
+use Rattle.ir_tree.specs.declared.package.Package.{Package}
+use Rattle.ir_tree.specs.NodeValues.{role_of}
+use Rattle.ir_tree.specs.Activations.{sites_of}
+use Rattle.ir_verify.specs.declared.places.Places.{Places}
+use Rattle.ir_verify.specs.declared.places.ProcPlaces.{ProcPlaces}
+use Rattle.ir_verify.specs.Checks.{Check, noted}
+use Rattle.ir_verify.specs.Lines.{Seen, see, package_checks, channel_checks, head_checks, node_checks, next_checks}
+
+-- where a line stands that no text shows
+abbrev pub nowhere : Span
+nowhere = record { from = 0; to = 0 }
+
+abbrev pub nowhere_proc : ProcPlaces
+nowhere_proc = record { head = nowhere; nodes = []; next = nowhere; end = 0 }
+
+abbrev pub nowhere_at_all : Places
+nowhere_at_all = record { name = nowhere; channels = []; procs = [] }
+
+-- a count past its limit, which is found to be one more
+abbrev pub count_check : Fault → ℕ → ℕ → Check
+count_check fault most count = record { broken = nat_lt most count; fault = fault }
+
+-- the channels from place i on, behind those of these names
+abbrev pub channels_checks : List Span → List (List ℕ) → ℕ → List Channel → List Check
+channels_checks spans names i [] = []
+channels_checks spans names i (c ∷ cs) =
+    channel_checks (get_or spans i nowhere) names i c ++ channels_checks spans (names ++ c.name ∷ []) (suc i) cs
+
+-- the nodes from place i on, behind those before
+abbrev pub nodes_checks : List Channel → IrType → List Span → List Node → ℕ → Seen → List Node → List Check
+nodes_checks channels state spans before i seen [] = []
+nodes_checks channels state spans before i seen (n ∷ ns) =
+    node_checks channels state before (get_or spans i nowhere) i seen n
+    ++ nodes_checks channels state spans (before ++ n ∷ []) (suc i) (see i n seen) ns
+
+-- what a list of nodes leaves
+abbrev pub seen_after : ℕ → Seen → List Node → Seen
+seen_after i seen [] = seen
+seen_after i seen (n ∷ ns) = seen_after (suc i) (see i n seen) ns
+
+-- a proc begins with no `after_all` and no site; ends keep the sites of the procs before
+abbrev pub at_start : Seen → Seen
+at_start seen = record { after_all = false; site = None; received = seen.received; sent = seen.sent }
+
+abbrev pub proc_checks : List Channel → ProcPlaces → List (List ℕ) → Seen → Proc → List Check
+proc_checks channels places names seen p =
+    head_checks places.head names p
+    ++ (nodes_checks channels p.state places.nodes [] 0 (at_start seen) p.nodes
+    ++ (next_checks places.next p
+    ++ count_check (Passed places.end (record { what = what.Sites; found = 33; most = 32 })) 32 (length (sites_of p.nodes)) ∷ []))
+
+-- the procs from place i on, behind those of these names
+abbrev pub procs_checks : List Channel → List ProcPlaces → List (List ℕ) → ℕ → Seen → List Proc → List Check
+procs_checks channels places names i seen [] = []
+procs_checks channels places names i seen (p ∷ ps) =
+    proc_checks channels (get_or places i nowhere_proc) names seen p
+    ++ procs_checks channels places (names ++ p.name ∷ []) (suc i) (seen_after 0 (at_start seen) p.nodes) ps
+
+abbrev pub end_of : Option ProcPlaces → ℕ
+end_of None = 0
+end_of (Some p) = p.end
+
+-- where the last proc ends
+abbrev pub last_end : List ProcPlaces → ℕ
+last_end ps = end_of (slice_get ps (length ps - 1))
+
+abbrev pub nothing_seen : List Channel → Seen
+nothing_seen channels =
+    record { after_all = false; site = None; received = replicate (length channels) false; sent = replicate (length channels) false }
+
+-- each rule and limit of a package, whose lines stand at these places
+abbrev pub checks_of : Package → Places → List Check
+checks_of ir places =
+    package_checks places.name ir.name
+    ++ (channels_checks places.channels [] 0 ir.channels
+    ++ (procs_checks ir.channels places.procs [] 0 (nothing_seen ir.channels) ir.procs
+    ++ count_check (Passed (last_end places.procs) (record { what = what.Procs; found = 257; most = 256 })) 256 (length ir.procs)
+    ∷ count_check (Passed (last_end places.procs) (record { what = what.Channels; found = 1025; most = 1024 })) 1024 (length ir.channels)
+    ∷ []))
+
+-- the fault that is named, if there is one
+unfoldable pub first_fault : Package → Places → Option Fault
+first_fault ir places = noted None (checks_of ir places)
+
+-- a package that breaks no rule and passes no limit
+abbrev pub IsVerified : Package → Type 0
+IsVerified ir = first_fault ir nowhere_at_all ≡ None

@@ -1,0 +1,17 @@
+//! The rules and limits of packages.
+//!
+//! `verify` and `check` answer the fault that is named: the one whose line ends first, at one end a rule before a limit.
+#![tactic(auto)]
+
+mod checks;
+mod constants;
+mod fitting;
+mod lines;
+mod names;
+mod places;
+mod types;
+mod verified;
+
+pub use places::{Places, ProcPlaces};
+pub use types::Marks;
+pub use verified::{check, verify};
