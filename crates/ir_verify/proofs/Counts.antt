@@ -5,14 +5,21 @@ use Rattle.xb_value.specs.declared.ty.Ty as ty
 use Rattle.xb_value.specs.Width.{width_of, leaf_count, leaves_step}
 use Rattle.xb_value.proofs.Lemmas.Types.{width_of-Bits, width_of-Tuple, width_of-Array, leaf_count-Array}
 use Rattle.xb_value.proofs.Lemmas.Types as types
-use Rattle.xb_value.proofs.Saturation.{min_mul_min}
+use Rattle.std.proofs.Common.{⊎_elim, suc, zero}
+use Rattle.std.proofs.lemmas.Bool.{cases_lt}
 use Rattle.ir_tree.specs.declared.ir_type.IrType.{IrType, Bits, Token, Tuple}
 use Rattle.ir_tree.specs.Types.{ty_of, arrays_of, bounded}
 use Rattle.ir_verify.specs.Inner.Scaled.{scaled}
 use Rattle.ir_verify.proofs.IrTypes.{ty_of-Bits, ty_of-Token, ty_of-Tuple}
 
-most : ℕ
-most = 2 ^ 64 - 1
+-- a count that stops at `m`, times a count, stops where the product does
+min_mul_min : (w n m : ℕ) → min (min w m * n) m ≡ min (n * w) m
+min_mul_min w zero m = omega arith
+min_mul_min w (suc n) m =
+    ⊎_elim
+    (λ less. let same : min w m ≡ w = omega arith in rw same (omega arith))
+    (λ past. let same : min w m ≡ m = omega arith in rw same (omega arith))
+    (cases_lt w m)
 
 pub leaf_count-arrays : (ns : List ℕ) (t : Ty) → min (leaf_count (arrays_of ns t)) (2 ^ 64 - 1) ≡ scaled (min (leaf_count t) (2 ^ 64 - 1)) ns
 leaf_count-arrays [] t = refl

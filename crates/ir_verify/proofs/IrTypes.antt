@@ -1,5 +1,5 @@
 -- The equations of folds over written types, and of what is built from them.
-use Rattle.std.proofs.Common.{◌≡◌, ℕ, List, [], ◌∷◌, map, sym, ap, subst, ◌∙◌}
+use Rattle.std.proofs.Common.{◌≡◌, ℕ, List, [], map, sym, ap, subst, ◌∙◌}
 use Rattle.ir_tree.specs.declared.ir_type.IrType.{IrType, Bits, Token, Tuple}
 use Rattle.ir_tree.specs.declared.ir_type.IrType.TheVariants.{rolls-Bits, rolls-Token, rolls-Tuple}
 use Rattle.ir_tree.specs.declared.ir_type.IrType.TheOpen.{IrType-F}
@@ -7,7 +7,6 @@ use Rattle.ir_tree.specs.declared.ir_type.IrType.TheViews.{roll-IrType}
 use Rattle.ir_tree.specs.declared.ir_type.IrType.TheFolds.{fold-IrType, fold-roll-IrType, ind-IrType, map-IrType}
 use Rattle.xb_value.specs.declared.ty.Ty.{Ty}
 use Rattle.xb_value.specs.declared.ty.Ty as ty
-use Rattle.ir_tree.specs.declared.ir_type.IrType.{out-IrType}
 use Rattle.ir_tree.specs.declared.ir_type.IrType.TheViews.{outs-Bits, outs-Token, outs-Tuple}
 use Rattle.ir_tree.specs.Types.{ty_of, ty_step, arrays_of, bounded}
 use Rattle.ir_verify.specs.Types.{sizes_of, sizes_step}

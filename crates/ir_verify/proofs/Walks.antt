@@ -1,10 +1,10 @@
 -- One step of each walk over a list of lines.
-use Rattle.std.proofs.Common.{suc, ◌≡◌, ℕ, ◌+◌, ◌<◌, ◌≤◌, List, [], ◌∷◌, ◌++◌, map, take, drop, length, get_or, refl, sym, ap, ◌∙◌, drop-cons, add-one, Bool, true, false, Option}
+use Rattle.std.proofs.Common.{suc, ◌≡◌, ℕ, ◌+◌, ◌<◌, List, [], ◌∷◌, ◌++◌, map, take, drop, length, get_or, refl, sym, ap, ◌∙◌, drop-cons, add-one, Bool, true, false, Option}
 use Rattle.std.specs.Prelude.{◌||◌}
 use Rattle.std.specs.Str.{bytes_eq}
 use Rattle.std.specs.List.{list_any}
 use Rattle.std.proofs.Math.Seq.{take-suc}
-use Rattle.std.proofs.lemmas.List.{map-append, drop_all}
+use Rattle.std.proofs.lemmas.List.{map-append}
 use Rattle.xb_span.specs.declared.fault.Fault.{Fault}
 use Rattle.xb_span.specs.declared.span.Span.{Span}
 use Rattle.ir_tree.specs.declared.ir_type.IrType.{IrType}
@@ -12,7 +12,7 @@ use Rattle.ir_tree.specs.declared.node.Node.{Node}
 use Rattle.ir_tree.specs.declared.package.Channel.{Channel}
 use Rattle.ir_tree.specs.declared.package.Proc.{Proc}
 use Rattle.ir_verify.specs.declared.places.ProcPlaces.{ProcPlaces}
-use Rattle.ir_verify.specs.Checks.{Check, noted}
+use Rattle.ir_verify.specs.Checks.{noted}
 use Rattle.ir_verify.specs.Lines.{Seen, see, is_among, channel_checks, node_checks}
 use Rattle.ir_verify.specs.Verified.{nowhere, nowhere_proc, channels_checks, nodes_checks, seen_after, at_start, proc_checks, procs_checks}
 use Rattle.ir_verify.proofs.Noted.{noted-append}

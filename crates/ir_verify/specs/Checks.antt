@@ -1,5 +1,5 @@
 -- Checks in their order, and the fault that is named.
-use Rattle.std.specs.Prelude.{ℕ, ◌^◌, ◌-◌, min, nat_lt, Bool, true, false, List, [], ◌∷◌, Option, if◌then◌else◌}
+use Rattle.std.specs.Prelude.{ℕ, ◌^◌, ◌-◌, min, nat_lt, Bool, true, false, List, [], ◌∷◌, Option}
 use Rattle.xb_span.specs.declared.fault.Fault.{Fault}
 use Rattle.xb_span.specs.declared.fault.Fault.TheVariants.{Broken, Passed}
 use Rattle.xb_span.specs.declared.limit.What.{What}

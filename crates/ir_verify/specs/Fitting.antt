@@ -1,5 +1,5 @@
 -- Which nodes fit the table of operations: the number and types of their operands, their attributes, and their type.
-use Rattle.std.specs.Prelude.{ℕ, ◌+◌, ◌^◌, min, nat_lt, nat_le, nat_eq, sum, Bool, true, false, ◌&&◌, ◌||◌, not, ◌==◌, List, [], ◌∷◌, length, map, slice_get, Option, Some, None, if◌then◌else◌}
+use Rattle.std.specs.Prelude.{ℕ, ◌+◌, ◌^◌, min, nat_lt, nat_le, nat_eq, sum, Bool, true, false, ◌&&◌, not, List, [], ◌∷◌, length, map, slice_get, Option, Some, None}
 use Rattle.std.specs.List.{list_all}
 use Rattle.delay_model.specs.declared.op.Op.{Op}
 use Rattle.delay_model.specs.declared.op.Op.TheVariants as op

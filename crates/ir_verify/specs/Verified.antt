@@ -1,5 +1,5 @@
 -- The rules and limits of a package.
-use Rattle.std.specs.Prelude.{◌≡◌, ◌-◌, slice_get, ℕ, suc, Bool, true, false, nat_lt, List, [], ◌∷◌, ◌++◌, length, map, take, get_or, replicate, Option, None, Some}
+use Rattle.std.specs.Prelude.{◌≡◌, ◌-◌, slice_get, ℕ, suc, false, nat_lt, List, [], ◌∷◌, ◌++◌, length, get_or, replicate, Option, None, Some}
 use Rattle.xb_span.specs.declared.span.Span.{Span}
 use Rattle.xb_span.specs.declared.fault.Fault.{Fault}
 use Rattle.xb_span.specs.declared.fault.Fault.TheVariants.{Passed}
@@ -9,7 +9,6 @@ use Rattle.ir_tree.specs.declared.node.Node.{Node}
 use Rattle.ir_tree.specs.declared.package.Channel.{Channel}
 use Rattle.ir_tree.specs.declared.package.Proc.{Proc}
 use Rattle.ir_tree.specs.declared.package.Package.{Package}
-use Rattle.ir_tree.specs.NodeValues.{role_of}
 use Rattle.ir_tree.specs.Activations.{sites_of}
 use Rattle.ir_verify.specs.declared.places.Places.{Places}
 use Rattle.ir_verify.specs.declared.places.ProcPlaces.{ProcPlaces}

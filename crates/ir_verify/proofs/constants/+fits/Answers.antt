@@ -1,4 +1,4 @@
-use Rattle.std.proofs.Common.{◌≡◌, length, map, sym, ap, ◌∙◌, arith, false, drop, true, get_or, refl, rules, List, [], ◌∷◌}
+use Rattle.std.proofs.Common.{◌≡◌, length, map, sym, ap, ◌∙◌, arith, false, drop, true, get_or, refl, List, [], ◌∷◌}
 use Rattle.ir_tree.specs.declared.constant.Constant.{Constant}
 use Rattle.std.specs.Prelude.{nat_eq}
 use Rattle.std.specs.List.{list_all}

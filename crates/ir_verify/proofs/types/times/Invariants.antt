@@ -1,4 +1,4 @@
-use Rattle.std.proofs.Common.{◌≡◌, ◌-◌, ◌^◌, ◌<◌, drop, length}
+use Rattle.std.proofs.Common.{◌≡◌, ◌-◌, drop, length}
 use Rattle.ir_verify.specs.Inner.Scaled.{scaled}
 use Rattle.ir_verify.proofs.types.times.Given as goal
 

@@ -1,4 +1,4 @@
-use Rattle.std.proofs.Common.{◌≡◌, ◌<◌, [], take, length, ap, sym, ◌∙◌, arith, subst, ℕ, List}
+use Rattle.std.proofs.Common.{◌≡◌, ◌<◌, [], take, length, ap, ◌∙◌, arith, subst, ℕ, List}
 use Rattle.std.specs.Str.{bytes_eq}
 use Rattle.std.specs.Prelude.{not, ◌||◌}
 use Rattle.ir_verify.specs.Checks.{noted}

@@ -1,4 +1,4 @@
-use Rattle.std.proofs.Common.{◌≡◌, ◌<◌, [], take, length, get_or, ap, ◌∙◌, arith}
+use Rattle.std.proofs.Common.{◌<◌, [], length, get_or, ap, ◌∙◌, arith}
 use Rattle.ir_verify.specs.Checks.{noted}
 use Rattle.ir_verify.specs.Lines.{node_checks}
 use Rattle.ir_verify.specs.Verified.{nodes_checks, seen_after, nowhere}

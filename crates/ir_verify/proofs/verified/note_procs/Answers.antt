@@ -1,4 +1,4 @@
-use Rattle.std.proofs.Common.{◌≡◌, ◌<◌, [], ℕ, List, take, length, get_or, ap, sym, ◌∙◌, arith, subst}
+use Rattle.std.proofs.Common.{◌≡◌, ◌<◌, [], ℕ, List, take, length, get_or, ap, ◌∙◌, arith, subst}
 use Rattle.std.specs.Prelude.{not, ◌||◌}
 use Rattle.std.specs.Str.{bytes_eq}
 use Rattle.ir_verify.specs.Checks.{noted}
