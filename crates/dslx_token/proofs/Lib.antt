@@ -1,0 +1,7 @@
+mod Digits
+mod FittingTokens
+mod LongestTokens
+mod NameSets
+mod OneReading
+mod TokenBytes
+mod TokensSoFar

@@ -1,0 +1,25 @@
+//! The tokens of a DSLX text.
+//!
+//! [`tokens`] cuts a text into its longest tokens. Each [`Token`] has its place, its bytes and a kind of
+//! `dslx_grammar::kind`, which for a name says what the text declares under it.
+//!
+//! Cost: linear in the text's length.
+#![tactic(auto)]
+
+mod blank;
+mod characters;
+mod declared;
+mod kinds;
+mod laws;
+mod lexer;
+mod number;
+mod spelling;
+mod token;
+mod word;
+
+pub use kinds::tokens;
+pub use laws::one_reading;
+pub use token::Token;
+
+#[cfg(test)]
+mod tests;
