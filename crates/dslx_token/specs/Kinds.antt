@@ -1,6 +1,7 @@
 -- The kinds of a text's tokens, as the grammar has them. Where a name stands for a type, a function, a proc or a
 -- struct that the text declares, anywhere in it, its kind says so.
 use Rattle.std.specs.Prelude.{◌==◌, ◌&&◌, ◌||◌, ◌<◌, ◌^◌, ◌≡◌, ℕ, Bool, true, false, if◌then◌else◌, List, [], ◌∷◌, bytes_eq, drop}
+use Rattle.std.specs.Str.{IsAscii}
 use Rattle.std.specs.Char.{is_ascii_digit}
 use Rattle.dslx_grammar.specs.declared.generated.kind.TheConstants.{ARGS, ARROW, AS, BOTHNAME, DOT, END, FIELDS, FN, FUNNAME, LBRACE, LT, NAME, NUMBER, PATH, PROC, SIGNED, STRING, STRUCT, STRUCTNAME, TYPE, TYPENAME, UNSIGNED}
 use Rattle.dslx_token.specs.Characters.{begins_word}
@@ -71,8 +72,9 @@ settled named before (l ∷ ls) =
     let kind = kind_behind named before l.kind l.bytes in
     record l { kind = kind } ∷ settled named kind ls
 
--- what a token's kind says of its bytes: a number is below 2^128, and a type's keyword has a width
+-- what is so of each token's bytes: they are ASCII; a number is below 2^128, and a type's keyword has a width
 pub record Fits (kind : ℕ) (bytes : List ℕ) : Type 0 where
   pub value : kind ≡ NUMBER → number_value bytes < 2 ^ 128
   pub unsigned : kind ≡ UNSIGNED → is_width (drop 1 bytes) ≡ true
   pub signed : kind ≡ SIGNED → is_width (drop 1 bytes) ≡ true
+  pub ascii : IsAscii bytes

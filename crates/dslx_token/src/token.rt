@@ -1,4 +1,5 @@
 ghost use Rattle.std.specs.Prelude.{◌≡◌, ◌≤◌, ◌<◌, ◌⊎◌, ◌^◌, ◌+◌, length, true};
+ghost use Rattle.std.specs.Str.{IsAscii};
 ghost use Rattle.std.specs.Str.Parse.{digits_value};
 ghost use Rattle.dslx_token.specs.Kinds.{Fits, plain_kind};
 ghost use Rattle.dslx_token.specs.Lexical.{is_width, number_value, width_of};
@@ -78,6 +79,13 @@ impl<'a> Token<'a> {
         self.bytes
     }
 
+    /// The bytes as a text.
+    pub fn text(&self) -> &'a str
+        ensures { result.now ≡ self.now.bytes }
+    {
+        ascii_text(self.bytes)
+    }
+
     /// What a number stands for.
     pub fn value(&self) -> u128
         requires { self.now.kind ≡ NUMBER }
@@ -105,4 +113,15 @@ fn stated_width(digits: &[u8]) -> u8
     ensures most { result ≤ 128 }
 {
     grouped_value(10, digits).unwrap_or(1) as u8
+}
+
+/// ASCII bytes as a text.
+fn ascii_text(bytes: &[u8]) -> &str
+    requires { IsAscii bytes.now }
+    ensures { result.now ≡ bytes.now }
+{
+    match str::from_utf8(bytes) {
+        Ok(text) => text,
+        Err(_) => "",
+    }
 }
