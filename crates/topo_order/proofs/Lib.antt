@@ -1,0 +1,6 @@
+-- each step of the walk
+pub mod Steps
+-- what is left to do
+pub mod Work
+-- the steps as the code makes them
+pub mod Stepping

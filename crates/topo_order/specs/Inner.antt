@@ -1,0 +1,4 @@
+-- a walk over needs
+pub mod Walk
+-- what it has left to do
+pub mod Work
