@@ -1,0 +1,4 @@
+-- where the tasks of a run stand, and the rule of a run queue
+pub mod Tasks
+-- the passes beside the queue
+pub mod Passes
