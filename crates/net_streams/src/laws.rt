@@ -1,0 +1,41 @@
+//! Laws of streams, each the contract of a function without a body.
+
+ghost use Rattle.std.specs.Prelude.{◌≡◌, ◌<◌, ◌+◌, ◌⊎◌, ℕ, true, false, List, [], ◌∷◌, ◌++◌, length, get_or, slice_get, Some};
+ghost use Rattle.lists.specs.Front.{IsFront};
+ghost use Rattle.xb_bits.specs.Word.{Word};
+ghost use Rattle.xb_value.specs.declared.value.Value.{Value};
+ghost use Rattle.net_core.specs.declared.net.Site.{Site};
+ghost use Rattle.net_core.specs.declared.event.Event.{Event};
+ghost use Rattle.net_core.specs.declared.event.Event.TheVariants as event;
+ghost use Rattle.net_core.specs.Cuts.{Proc, Run, words_sent, count_received, final_cut};
+ghost use Rattle.net_core.specs.WellFormed.{IsRun};
+ghost use Rattle.net_streams.specs.Streams.{stream_in, StandsBefore, IsSiteOn};
+
+/// The next send of a proc that has come no further than in the final cut carries the next word of its channel's
+/// stream, and leaves the proc within the final cut; or all words were sent, and there will never be room for one more.
+pub fn sends_are_of_the_stream()
+    ensures { (run : Run) (p : ℕ) (proc : Proc) (made : List Event) (i : ℕ) (word : Word) (site : Site) →
+        IsRun run → StandsBefore run p proc made (event.Send i word) → IsSiteOn run proc i site true →
+        let sent = length (words_sent proc.behavior.sites site.chan made) in
+        let stream = stream_in run site.chan in
+        ((slice_get stream.words sent ≡ Some word) × IsFront (made ++ event.Send i word ∷ []) (final_cut run p))
+        ⊎ ((sent ≡ length stream.words) × (sent ≡ stream.received + get_or run.depths site.chan 0)) }
+{}
+
+/// Its next receive is one of those of the final cut, and leaves it within the final cut; or all words that are ever
+/// sent were received.
+pub fn receives_are_of_the_stream()
+    ensures { (run : Run) (p : ℕ) (proc : Proc) (made : List Event) (i : ℕ) (site : Site) →
+        IsRun run → StandsBefore run p proc made (event.Recv i) → IsSiteOn run proc i site false →
+        let received = count_received proc.behavior.sites site.chan made in
+        let stream = stream_in run site.chan in
+        ((received < stream.received) × IsFront (made ++ event.Recv i ∷ []) (final_cut run p))
+        ⊎ ((received ≡ stream.received) × (stream.received ≡ length stream.words)) }
+{}
+
+/// Where its activation ends next, it stays within the final cut.
+pub fn ends_stay_within()
+    ensures { (run : Run) (p : ℕ) (proc : Proc) (made : List Event) (state : Value) →
+        StandsBefore run p proc made (event.End state) →
+        IsFront (made ++ event.End state ∷ []) (final_cut run p) }
+{}
