@@ -12,7 +12,8 @@ use Rattle.xb_value.specs.declared.ty.Ty.{Ty}
 use Rattle.xb_value.specs.declared.value.Value.{Value}
 use Rattle.xb_value.specs.Flat.{flat_of}
 use Rattle.xb_value.specs.Form.{Spells}
-use Rattle.xb_value.specs.Reading.{Reads as ReadsValue, Misfits}
+use Rattle.xb_value.specs.Reads.{Reads as ReadsValue}
+use Rattle.xb_value.specs.Misfit.{Misfits}
 use Rattle.net_core.specs.declared.net.Net.{Net}
 use Rattle.net_core.specs.declared.net.Chan.{Chan}
 use Rattle.net_core.specs.declared.net.Kind.{Kind}

@@ -6,7 +6,7 @@ use Rattle.xb_value.specs.declared.scan.Class.{Class}
 use Rattle.xb_value.specs.declared.scan.Class.TheVariants.{Space, Comma, Ex, Opens, Closes, Digit, Other}
 use Rattle.xb_value.specs.Form.{opening, closing}
 use Rattle.std.specs.Char.{is_ascii_hexdigit, digit_value}
-use Rattle.xb_value.specs.Scanner.{class_of}
+use Rattle.xb_value.specs.Inner.Scanner.{class_of}
 
 -- what the class of a byte says of the byte
 abbrev pub IsOf : ℕ → Class → Type 0

@@ -9,8 +9,8 @@ use Rattle.xb_value.specs.declared.scan.Class.TheVariants.{Closes}
 use Rattle.xb_value.specs.declared.scan.Mode.{Mode}
 use Rattle.xb_value.specs.declared.scan.Mode.TheVariants.{Start, First, Next, Zero, Hex, Digits, After}
 use Rattle.xb_value.specs.Form.{Form, form_text, form_tokens, is_form, closing, Begins, NeverBegins, Spells, IsFirstFault}
-use Rattle.xb_value.specs.Scanner.{class_of, Scan, scan, step, ended, started}
-use Rattle.xb_value.specs.ScannerState.{Stepped}
+use Rattle.xb_value.specs.Inner.Scanner.{class_of, Scan, scan, step, ended, started}
+use Rattle.xb_value.specs.Inner.ScannerState.{Stepped}
 use Rattle.xb_value.proofs.Found.{outcome, and_then, Ends, found}
 use Rattle.xb_value.proofs.Taken.{Clean, step_on, closes, closes_same, not_digit, number_done, taken}
 

@@ -11,8 +11,8 @@ use Rattle.xb_value.specs.declared.scan.Class.TheVariants.{Space, Comma, Ex, Ope
 use Rattle.xb_value.specs.declared.scan.Mode.TheVariants.{First, Next, Zero, Hex, Digits, After}
 use Rattle.xb_value.specs.Form.{Form, Items, number, empty, group, last, next, form_text, items_text, is_form, are_forms, opening, closing, spaces}
 use Rattle.std.specs.Char.{is_ascii_hexdigit}
-use Rattle.xb_value.specs.Scanner.{class_of, Scan, scan, begin, close, follow, first, digits, step, ended, is_same}
-use Rattle.xb_value.specs.Scanner as read
+use Rattle.xb_value.specs.Inner.Scanner.{class_of, Scan, scan, begin, close, follow, first, digits, step, ended, is_same}
+use Rattle.xb_value.specs.Inner.Scanner as read
 use Rattle.xb_value.proofs.Widths.{and_true}
 use Rattle.xb_value.proofs.Classes.{IsOf, class_of-is, zero_digit}
 

@@ -5,6 +5,7 @@ pub mod FlatLaws
 pub mod Faults
 pub mod Found
 pub mod Lemmas
+pub mod Misfits
 pub mod ReadSaid
 pub mod ReadSays
 pub mod ReadTyped

@@ -9,7 +9,7 @@ use Rattle.xb_value.specs.declared.token.Bracket.TheVariants.{Round, Square}
 use Rattle.xb_value.specs.declared.token.Token.{Token}
 use Rattle.xb_value.specs.declared.token.Token.TheVariants.{Number, Open, Close}
 use Rattle.xb_value.specs.declared.value.Value.{Value, Bits, Tuple, Array}
-use Rattle.xb_value.specs.Reading.{Answer, Answers, Reader, and_more, more_than, read_each, read_times, read_as, read_step, bracketed, parts_at}
+use Rattle.xb_value.specs.Inner.Reading.{Answer, Answers, Reader, and_more, more_than, read_each, read_times, read_as, read_step, bracketed, parts_at}
 use Rattle.xb_value.specs.Shape.{unplaced, shape_of, all_of, Says}
 use Rattle.xb_value.specs.Typing.{IsOfType, fits, is_word_of, each_passes}
 use Rattle.xb_value.proofs.Shapes.{parted, number_of, group_of, counts_values}

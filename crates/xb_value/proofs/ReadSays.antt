@@ -9,7 +9,7 @@ use Rattle.xb_value.specs.declared.token.Bracket.TheVariants.{Round, Square}
 use Rattle.xb_value.specs.declared.token.Token.{Token}
 use Rattle.xb_value.specs.declared.token.Token.TheVariants.{Number, Open, Close}
 use Rattle.xb_value.specs.declared.value.Value.{Value, Bits, Tuple, Array}
-use Rattle.xb_value.specs.Reading.{Answer, Answers, Reader, more_than, and_more, read_each, read_times, read_bits, read_tuple, read_array, read_as, read_step, left, bracketed, parts_at, reading, value_in}
+use Rattle.xb_value.specs.Inner.Reading.{Answer, Answers, Reader, more_than, and_more, read_each, read_times, read_bits, read_tuple, read_array, read_as, read_step, left, bracketed, parts_at, reading, value_in}
 use Rattle.xb_value.specs.Shape.{unplaced, shape_of, all_of, Says}
 use Rattle.xb_value.specs.Typing.{IsOfType, is_word_of}
 use Rattle.xb_value.proofs.ReadSaid.{reads_said}

@@ -1,5 +1,5 @@
 -- What is read at a type is of the type, and a text says one thing.
-use Rattle.std.proofs.Common.{◌≡◌, ℕ, zero, suc, ◌==◌, List, [], ◌∷◌, length, map, Bool, true, false, if◌then◌else◌, IsTrue, Result, Ok, Err, Some, MatchResult, refl, sym, ap, subst, ◌∙◌}
+use Rattle.std.proofs.Common.{◌≡◌, ℕ, zero, suc, ◌==◌, List, [], ◌∷◌, length, map, Bool, true, false, if◌then◌else◌, IsTrue, Result, Ok, Err, Some, MatchResult, refl, sym, ap, subst, ◌∙◌, ◌++◌, append-nil, Option, None, ap₂, IfOk}
 use Rattle.std.specs.List.{list_all}
 use Rattle.xb_bits.specs.Word.{word}
 use Rattle.xb_value.specs.declared.ty.Ty.{Ty}
@@ -11,10 +11,15 @@ use Rattle.xb_value.specs.declared.reader.ValueError.{ValueError}
 use Rattle.xb_value.specs.declared.reader.ValueError.TheVariants.{Syntax, Shape, OutOfMemory}
 use Rattle.xb_value.specs.declared.value.Value.{Value, Bits, Tuple, Array}
 use Rattle.xb_value.specs.declared.value.Value.TheViews.{outs-Bits, outs-Tuple, outs-Array}
-use Rattle.xb_value.specs.Form.{Spells}
-use Rattle.xb_value.specs.Scanner.{started}
-use Rattle.xb_value.specs.Reading.{Answer, Answers, Reader, more_than, and_more, read_each, read_times, read_bits, read_tuple, read_array, read_as, read_step, left, bracketed, parts_at, reading, Reads}
-use Rattle.xb_value.specs.Refusal.{IsAnswer, IsRefusal}
+use Rattle.xb_value.specs.Form.{Spells, form_tokens, form_text}
+use Rattle.xb_value.specs.Inner.Scanner.{started}
+use Rattle.xb_value.specs.Reads.{Reads}
+use Rattle.xb_value.specs.Inner.Reading.{Answer, Answers, Reader, more_than, and_more, read_each, read_times, read_bits, read_tuple, read_array, read_as, read_step, left, bracketed, parts_at, reading, value_in, whole}
+use Rattle.xb_value.specs.Refusal.{IsRefusal}
+use Rattle.xb_value.specs.Misfit.{Misfits, parts_of, first_misfit}
+use Rattle.xb_value.proofs.Misfits.{Tells, tells}
+use Rattle.xb_value.proofs.ReadSays.{read_says}
+use Rattle.xb_value.specs.Inner.Answers.{IsAnswer}
 use Rattle.xb_value.specs.Typing.{IsOfType, fits, bits_fit, tuple_fits, array_fits, is_word_of, each_passes}
 use Rattle.xb_value.proofs.Found.{outcome}
 use Rattle.xb_value.proofs.Taken.{taken}
@@ -124,13 +129,56 @@ spells_one text us vs h k =
     let both : Some us ≡ Some vs = sym first ∙ second in
     (cc)
 
+-- what is read to its end
+reading_is : (t : Ty) (ts : List Token) (v : Value) → reading t ts ≡ Ok v → read_as t ts ≡ Ok (v, [])
+reading_is t ts v h = by_case (read_as t ts) refl h
+  where
+    by_case : (a : Answer) → read_as t ts ≡ a → value_in a ≡ Ok v → read_as t ts ≡ Ok (v, [])
+    by_case (Ok x) e k = behind x.1 refl
+      where
+        behind : (us : List Token) → x.1 ≡ us → read_as t ts ≡ Ok (v, [])
+        behind [] f =
+            let one : ◌≡◌ {A = Result Value ℕ} (Ok x.0) (Ok v) = ap (whole x.0) (sym f) ∙ k in
+            let same : x.0 ≡ v = (cc) in
+            e ∙ ap₂ (λ u us. Ok (u, us)) same f
+        behind (u ∷ us) f = let bad : ◌≡◌ {A = Result Value ℕ} (Err 0) (Ok v) = ap (whole x.0) (sym f) ∙ k in absurd (cc)
+    by_case (Err at) e k = absurd (cc)
+
+-- the place that the reader answers is that of the first misfit
+pub misfit_of : (text : List ℕ) (t : Ty) (ts : List Token) (at : ℕ) → Spells text ts → reading t ts ≡ Err at → Misfits text t at
+misfit_of text t ts at h k = by_case (first_misfit (parts_of t 0 h.0)) refl (tells t 0 h.0 [])
+  where
+    whole_text : read_as t (form_tokens 0 h.0 ++ []) ≡ read_as t ts
+    whole_text = ap (read_as t) (append-nil (form_tokens 0 h.0) ∙ h.3)
+    by_case : (o : Option ℕ) → first_misfit (parts_of t 0 h.0) ≡ o → Tells [] o (read_as t (form_tokens 0 h.0 ++ [])) → Misfits text t at
+    by_case None e f =
+        let read : ◌≡◌ {A = Result Value ℕ} (Ok f.0) (Err at) = sym (ap value_in (sym whole_text ∙ f.1)) ∙ k in
+        absurd (cc)
+    by_case (Some p) e f =
+        let read : ◌≡◌ {A = Result Value ℕ} (Err p) (Err at) = sym (ap value_in (sym whole_text ∙ f)) ∙ k in
+        let same : p ≡ at = (cc) in
+        record { form = h.0; formed = h.1; spells = h.2; first = e ∙ ap Some same; }
+
+-- and at a misfit the reader answers its place
+pub misfit_read : (text : List ℕ) (t : Ty) (at : ℕ) → (m : Misfits text t at) → reading t (form_tokens 0 m.form) ≡ Err at
+misfit_read text t at m =
+    let told = subst (λ o. Tells [] o (read_as t (form_tokens 0 m.form ++ []))) m.first (tells t 0 m.form []) in
+    ap (λ xs. value_in (read_as t xs)) (sym (append-nil (form_tokens 0 m.form))) ∙ ap value_in told
+
 pub answer_of : (text : List ℕ) (t : Ty) (ts : List Token) (r : Result Value ValueError) → Spells text ts → IsAnswer r (reading t ts) → MatchResult r (Reads text t) (IsRefusal text t)
 answer_of text t ts r h k = by_case r (reading t ts) refl k
   where
     by_case : (r : Result Value ValueError) (a : Result Value ℕ) → reading t ts ≡ a → IsAnswer r a → MatchResult r (Reads text t) (IsRefusal text t)
-    by_case (Ok v) (Ok w) e k = (ts, h, e ∙ ap Ok (sym k))
+    by_case (Ok v) (Ok w) e k =
+        let read = reading_is t ts v (e ∙ ap Ok (sym k)) in
+        (ts, h, read_typed t ts [] v read, read_says t ts [] v read refl)
     by_case (Ok v) (Err at) e k = absurd k
     by_case (Err OutOfMemory) a e k = tt
-    by_case (Err (Shape p)) (Err q) e k = (ts, h, e ∙ ap Err (sym k))
+    by_case (Err (Shape p)) (Err q) e k = misfit_of text t ts p h (e ∙ ap Err (sym k))
     by_case (Err (Shape p)) (Ok w) e k = absurd k
     by_case (Err (Syntax p)) a e k = absurd k
+
+-- a value that was read is of the type
+pub answer_typed : (text : List ℕ) (t : Ty) (r : Result Value ValueError) → MatchResult r (Reads text t) (IsRefusal text t) → IfOk r (IsOfType t)
+answer_typed text t (Ok v) h = h.2
+answer_typed text t (Err e) h = tt

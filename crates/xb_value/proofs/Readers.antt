@@ -3,7 +3,7 @@ use Rattle.std.proofs.Common.{◌≡◌, ℕ, suc, ◌+◌, ◌-◌, ◌<◌, Li
 use Rattle.xb_value.specs.declared.token.Token.{Token}
 use Rattle.xb_value.specs.declared.ty.Ty.{Ty}
 use Rattle.xb_value.specs.declared.value.Value.{Value}
-use Rattle.xb_value.specs.Reading.{Answers, Reader, more_than, and_more, read_each, read_times, read_as}
+use Rattle.xb_value.specs.Inner.Reading.{Answers, Reader, more_than, and_more, read_each, read_times, read_as}
 
 -- the values that were read before the others
 abbrev pub before : List Value → Answers → Answers

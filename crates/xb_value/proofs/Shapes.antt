@@ -5,7 +5,7 @@ use Rattle.xb_value.specs.declared.token.Bracket.TheVariants.{Round, Square}
 use Rattle.xb_value.specs.declared.token.Token.{Token}
 use Rattle.xb_value.specs.declared.token.Token.TheVariants.{Number, Open, Close}
 use Rattle.xb_value.specs.declared.value.Value.{Value}
-use Rattle.xb_value.specs.Reading.{parts_at}
+use Rattle.xb_value.specs.Inner.Reading.{parts_at}
 use Rattle.xb_value.specs.Shape.{unplaced, shape_of, all_of, Says}
 use Rattle.xb_value.proofs.Lemmas.Types.{EachHas}
 use Rattle.xb_value.proofs.Lemmas.Values.{value_induction, shape_of-Bits, shape_of-Tuple, shape_of-Array}

@@ -9,8 +9,8 @@ use Rattle.xb_value.specs.declared.scan.Class.{Class}
 use Rattle.xb_value.specs.declared.scan.Class.TheVariants.{Space, Comma, Ex, Opens, Closes, Digit, Other}
 use Rattle.xb_value.specs.declared.scan.Mode.{Mode}
 use Rattle.xb_value.specs.declared.scan.Mode.TheVariants.{Start, First, Next, Zero, Hex, Digits, After}
-use Rattle.xb_value.specs.Scanner.{Scan, scan, begin, close, follow, first, next, digits, step, step_in, is_same}
-use Rattle.xb_value.specs.ScannerState.{IsSound, IsSmall}
+use Rattle.xb_value.specs.Inner.Scanner.{Scan, scan, begin, close, follow, first, next, digits, step, step_in, is_same}
+use Rattle.xb_value.specs.Inner.ScannerState.{IsSound, IsSmall}
 
 -- one more digit
 more_below : (n v d : ℕ) → v < 2 ^ (4 * n) → d < 16 → v * 16 + d < 2 ^ (4 * (n + 1))

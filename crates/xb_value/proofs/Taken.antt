@@ -13,7 +13,7 @@ use Rattle.xb_value.specs.declared.scan.Mode.TheVariants.{Start, First, Next, Ze
 use Rattle.xb_value.specs.Form.{Form, Items, number, empty, group, last, next, form_text, items_text, is_form, are_forms, opening, closing, spaces, form_tokens, items_tokens}
 use Rattle.std.specs.Char.{is_ascii_hexdigit, digit_value}
 use Rattle.std.specs.Str.Parse.{digits_value_after}
-use Rattle.xb_value.specs.Scanner.{class_of, Scan, scan, close, follow, digits, step_in, started}
+use Rattle.xb_value.specs.Inner.Scanner.{class_of, Scan, scan, close, follow, digits, step_in, started}
 use Rattle.xb_value.proofs.Widths.{both_true}
 use Rattle.xb_value.proofs.Classes.{class_of-hex}
 use Rattle.xb_value.proofs.Found.{outcome, and_then}

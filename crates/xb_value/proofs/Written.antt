@@ -12,13 +12,12 @@ use Rattle.xb_value.specs.declared.value.Value.{Value, Bits, Tuple, Array}
 use Rattle.xb_value.specs.declared.value.Value.TheOpen.{Value-F}
 use Rattle.xb_value.specs.declared.value.Value.TheFolds.{fold-Value}
 use Rattle.xb_value.specs.Form.{Form, Items, number, empty, group, last, next, form_text, items_text, is_form, are_forms, opening, closing, spaces, form_tokens, items_tokens}
-use Rattle.xb_value.specs.Reading.{Reads}
+use Rattle.xb_value.specs.Reads.{Reads}
 use Rattle.xb_value.specs.Shape.{unplaced, shape_of, all_of}
 use Rattle.xb_value.specs.Text.{listed, text_step, text_of}
 use Rattle.texts.specs.Hexadecimal.{hex_digits}
 use Rattle.texts.proofs.Lemmas.Hexadecimal.{digits_value-of_width, hex_digits-all, length-hex_digits}
 use Rattle.xb_value.specs.Typing.{IsOfType, fits, each_passes}
-use Rattle.xb_value.proofs.ReadSays.{reading_said}
 use Rattle.xb_value.proofs.Lemmas.Types.{EachHas, ty_induction}
 use Rattle.xb_value.proofs.Lemmas.Typing.{bits_of_type, tuple_of_type, array_of_type}
 use Rattle.xb_value.proofs.Lemmas.Values as values
@@ -180,4 +179,4 @@ pub reads_back : (t : Ty) (v : Value) → IsOfType t v → Reads (text_of v) t v
 reads_back t v of =
     let written = well_written t v of in
     let ts = form_tokens 0 (form_of v) in
-    (ts, (form_of v, written.formed, is_written v, refl), reading_said t ts v of (written.says 0))
+    (ts, (form_of v, written.formed, is_written v, refl), of, written.says 0)

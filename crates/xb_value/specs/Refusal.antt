@@ -1,40 +1,12 @@
 -- Why a text is not read as a value of a type.
-use Rattle.std.specs.Prelude.{◌≡◌, ℕ, List, ◌∷◌, ◌≢◌, Result, Ok, Err}
+use Rattle.std.specs.Prelude.{ℕ, List}
 use Rattle.xb_value.specs.declared.reader.ValueError.{ValueError}
 use Rattle.xb_value.specs.declared.reader.ValueError.TheVariants.{Syntax, Shape, OutOfMemory}
 use Rattle.xb_value.specs.declared.ty.Ty.{Ty}
-use Rattle.xb_value.specs.declared.token.Bracket.{Bracket}
-use Rattle.xb_value.specs.declared.token.Token.{Token}
-use Rattle.xb_value.specs.declared.token.Token.TheVariants.{Number, Open, Close}
-use Rattle.xb_value.specs.declared.value.Value.{Value}
 use Rattle.xb_value.specs.Form.{IsFirstFault}
-use Rattle.xb_value.specs.Reading.{Misfits}
+use Rattle.xb_value.specs.Misfit.{Misfits}
 
 abbrev pub IsRefusal : List ℕ → Ty → ValueError → Type 0
 IsRefusal text t (Syntax at) = IsFirstFault text at
 IsRefusal text t (Shape at) = Misfits text t at
 IsRefusal text t OutOfMemory = Unit {0}
-
--- the answer to a text that says this at the type
-abbrev pub IsAnswer : Result Value ValueError → Result Value ℕ → Type 0
-IsAnswer (Ok v) (Ok w) = v ≡ w
-IsAnswer (Err (Shape p)) (Err q) = p ≡ q
-IsAnswer (Err OutOfMemory) r = Unit {0}
-IsAnswer _ _ = ⊥
-
--- an error that the numbers and brackets give, or want of memory
-abbrev pub IsFault : {A : Type 0} → ValueError → Result A ℕ → Type 0
-IsFault (Syntax at) r = ⊥
-IsFault (Shape at) r = r ≡ Err at
-IsFault OutOfMemory r = Unit {0}
-
--- the place to name where no such bracket opens
-abbrev pub IsNoBracket : List Token → Bracket → ValueError → Type 0
-IsNoBracket (Number at n ∷ ts) b e = e ≡ Shape at
-IsNoBracket (Open at k ∷ ts) b e = (e ≡ Shape at) × (k ≢ b)
-IsNoBracket _ b e = e ≡ Shape 0
-
--- the place to name where no bracket closes
-abbrev pub IsUnclosed : ValueError → ℕ → List Token → Type 0
-IsUnclosed e at (Close ∷ ts) = ⊥
-IsUnclosed e at _ = e ≡ Shape at

@@ -3,8 +3,10 @@
 ghost use Rattle.std.specs.Prelude.{◌≡◌, ◌<◌, ◌^◌, List, ◌∷◌, false, IfOk, MatchResult, MatchOption, length, map, IsTrue};
 ghost use Rattle.xb_bits.specs.Word.{word};
 ghost use Rattle.xb_value.specs.Form.{Spells};
-ghost use Rattle.xb_value.specs.Reading.{Reads, reading, read_as, read_each, read_times, read_bits, read_tuple, read_array, parts_at};
-ghost use Rattle.xb_value.specs.Refusal.{IsRefusal, IsAnswer, IsFault, IsNoBracket, IsUnclosed};
+ghost use Rattle.xb_value.specs.Reads.{Reads};
+ghost use Rattle.xb_value.specs.Inner.Reading.{reading, read_as, read_each, read_times, read_bits, read_tuple, read_array, parts_at};
+ghost use Rattle.xb_value.specs.Refusal.{IsRefusal};
+ghost use Rattle.xb_value.specs.Inner.Answers.{IsAnswer, IsFault, IsNoBracket, IsUnclosed};
 ghost use Rattle.xb_value.specs.Shape.{Says};
 ghost use Rattle.xb_value.specs.Typing.{IsOfType, is_word_of};
 ghost use Rattle.xb_value.specs.declared.value.Value.{Value};
@@ -251,9 +253,7 @@ fn count_parts(tokens: &[Token]) -> u64
 
 /// The value that the numbers and brackets of a text say at the type.
 fn read_tokens(alloc: Global, ty: &Ty, tokens: &[Token]) -> Result<Value, ValueError>
-    ensures answer { IsAnswer result (reading ty.now tokens.now) }
-    ensures of_type { IfOk result (IsOfType ty.now) }
-    ensures says { IfOk result (Says tokens.now) }
+    ensures { IsAnswer result (reading ty.now tokens.now) }
 {
     let taken = take_value(alloc, ty, tokens)?;
     if !taken.rest.is_empty() {
@@ -269,12 +269,7 @@ fn read_tokens(alloc: Global, ty: &Ty, tokens: &[Token]) -> Result<Value, ValueE
 pub fn read_value(alloc: Global, text: &str, ty: &Ty) -> Result<Value, ValueError>
     requires { length text.now < 2 ^ 32 }
     ensures answer { MatchResult result (Reads text.now ty.now) (IsRefusal text.now ty.now) }
-    ensures every { (ts : List Token) → Spells text.now ts → IsAnswer result (reading ty.now ts) }
     ensures of_type { IfOk result (IsOfType ty.now) }
-
-    // The value is the one of the type that has the text's numbers and brackets.
-    ensures says { IfOk result (λ v. (ts : List Token) → Spells text.now ts → Says ts v) }
-    ensures said { (v : Value) (ts : List Token) → IsOfType ty.now v → Spells text.now ts → Says ts v → IsAnswer result (Ok v) }
 {
     match scan(alloc, text.as_bytes())? {
         Scanned::Tokens(tokens) => read_tokens(alloc, ty, tokens.as_slice()),

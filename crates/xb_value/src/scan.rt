@@ -1,9 +1,9 @@
 //! Reads the numbers and brackets of a value's text, byte by byte.
 
 ghost use Rattle.std.specs.Prelude.{◌≡◌, ◌<◌, ◌*◌, ◌^◌, IfOk, reverse, length};
-ghost use Rattle.xb_value.specs.Scanner.{class_of, started, step, begin, first, next, digits, follow, close, step_in, ended};
-ghost use Rattle.xb_value.specs.ScannerState.{state_of, Stepped, IsSound, IsSmall};
-ghost use Rattle.xb_value.specs.Scanned.{IsScanOf};
+ghost use Rattle.xb_value.specs.Inner.Scanner.{class_of, started, step, begin, first, next, digits, follow, close, step_in, ended};
+ghost use Rattle.xb_value.specs.Inner.ScannerState.{state_of, Stepped, IsSound, IsSmall};
+ghost use Rattle.xb_value.specs.Inner.Scanned.{IsScanOf};
 ghost use Rattle.std.specs.Option.{option_map};
 
 use crate::token::{Bracket, Token};

@@ -1,7 +1,7 @@
 //! Values as texts.
 
 ghost use Rattle.std.specs.Prelude.{◌≡◌, ◌<◌, ◌≤◌, ◌+◌, ◌++◌, ◌∷◌, [], OnOk, IfOk, map, string_bytes, codes, ◌*◌, ◌/◌, ◌%◌, ◌^◌};
-ghost use Rattle.xb_value.specs.Reading.{Reads};
+ghost use Rattle.xb_value.specs.Reads.{Reads};
 ghost use Rattle.xb_value.specs.Typing.{IsOfType};
 ghost use Rattle.texts.specs.Hexadecimal.{hex_digits};
 ghost use Rattle.xb_value.specs.declared.ty.Ty.{Ty};

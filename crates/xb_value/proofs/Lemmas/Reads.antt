@@ -11,10 +11,13 @@ use Rattle.xb_value.specs.declared.token.Bracket.TheVariants.{Round, Square}
 use Rattle.xb_value.specs.declared.token.Token.{Token}
 use Rattle.xb_value.specs.declared.ty.Ty.{Ty}
 use Rattle.xb_value.specs.declared.value.Value.{Value}
-use Rattle.xb_value.specs.Form.{Form, Items, number, empty, group, last, next, form_text, items_text, is_form, are_forms, opening, closing, spaces, Spells}
-use Rattle.xb_value.specs.Reading.{reading, read_as, value_in, whole, Answer, Reads, Misfits}
+use Rattle.xb_value.specs.Form.{Form, Items, number, empty, group, last, next, form_text, form_tokens, items_text, is_form, are_forms, opening, closing, spaces, Spells}
+use Rattle.xb_value.specs.Reads.{Reads}
+use Rattle.xb_value.specs.Misfit.{Misfits}
+use Rattle.xb_value.specs.Inner.Reading.{reading}
 use Rattle.xb_value.specs.Typing.{IsOfType}
-use Rattle.xb_value.proofs.ReadTyped.{spells_one, read_typed}
+use Rattle.xb_value.proofs.ReadSays.{reading_said}
+use Rattle.xb_value.proofs.ReadTyped.{spells_one, misfit_read}
 use Rattle.xb_value.proofs.Widths.{both_true}
 
 -- a text that reads as a value, or misfits, is a value text
@@ -22,35 +25,30 @@ pub Reads-spells : (text : List ℕ) (t : Ty) (v : Value) → Reads text t v →
 Reads-spells text t v r = (r.0, r.1)
 
 pub Misfits-spells : (text : List ℕ) (t : Ty) (at : ℕ) → Misfits text t at → (ts : List Token) × Spells text ts
-Misfits-spells text t at m = (m.0, m.1)
+Misfits-spells text t at m = (form_tokens 0 m.form, (m.form, m.formed, m.spells, refl))
 
 -- one value, one place, and not both
 pub Reads-unique : (text : List ℕ) (t : Ty) (v w : Value) → Reads text t v → Reads text t w → v ≡ w
 Reads-unique text t v w r s =
     let same = spells_one text r.0 s.0 r.1 s.1 in
-    let both : ◌≡◌ {A = Result Value ℕ} (Ok v) (Ok w) = sym r.2 ∙ ap (reading t) same ∙ s.2 in
+    let both : ◌≡◌ {A = Result Value ℕ} (Ok v) (Ok w) = sym (reading_said t r.0 v r.2 r.3) ∙ ap (reading t) same ∙ reading_said t s.0 w s.2 s.3 in
+    (cc)
+
+pub Misfits-unique : (text : List ℕ) (t : Ty) (p q : ℕ) → Misfits text t p → Misfits text t q → p ≡ q
+Misfits-unique text t p q m n =
+    let same = spells_one text (form_tokens 0 m.form) (form_tokens 0 n.form) (m.form, m.formed, m.spells, refl) (n.form, n.formed, n.spells, refl) in
+    let both : ◌≡◌ {A = Result Value ℕ} (Err p) (Err q) = sym (misfit_read text t p m) ∙ ap (reading t) same ∙ misfit_read text t q n in
     (cc)
 
 pub Reads-fits : (text : List ℕ) (t : Ty) (v : Value) (at : ℕ) → Reads text t v → Misfits text t at → ⊥
 Reads-fits text t v at r m =
-    let same = spells_one text r.0 m.0 r.1 m.1 in
-    let both : ◌≡◌ {A = Result Value ℕ} (Ok v) (Err at) = sym r.2 ∙ ap (reading t) same ∙ m.2 in
+    let same = spells_one text r.0 (form_tokens 0 m.form) r.1 (m.form, m.formed, m.spells, refl) in
+    let both : ◌≡◌ {A = Result Value ℕ} (Ok v) (Err at) = sym (reading_said t r.0 v r.2 r.3) ∙ ap (reading t) same ∙ misfit_read text t at m in
     (cc)
 
 -- the value is of the type
 pub Reads-typed : (text : List ℕ) (t : Ty) (v : Value) → Reads text t v → IsOfType t v
-Reads-typed text t v r = by_case (read_as t r.0) refl r.2
-  where
-    by_case : (a : Answer) → read_as t r.0 ≡ a → value_in a ≡ Ok v → IsOfType t v
-    by_case (Ok x) e h = behind x.1 refl
-      where
-        behind : (us : List Token) → x.1 ≡ us → IsOfType t v
-        behind [] f =
-            let one : ◌≡◌ {A = Result Value ℕ} (Ok x.0) (Ok v) = ap (whole x.0) (sym f) ∙ h in
-            let same : x.0 ≡ v = (cc) in
-            subst (IsOfType t) same (read_typed t r.0 x.1 x.0 e)
-        behind (u ∷ us) f = let bad : ◌≡◌ {A = Result Value ℕ} (Err 0) (Ok v) = ap (whole x.0) (sym f) ∙ h in absurd (cc)
-    by_case (Err at) e h = absurd (cc)
+Reads-typed text t v r = r.2
 
 -- ---- a value text is ASCII
 

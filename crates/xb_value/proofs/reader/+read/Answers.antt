@@ -1,5 +1,5 @@
 use Rattle.std.proofs.Common.{◌+◌, ◌-◌, ap, sym, ◌∙◌}
-use Rattle.xb_value.specs.Reading.{read_as, read_times}
+use Rattle.xb_value.specs.Inner.Reading.{read_as, read_times}
 use Rattle.xb_value.proofs.Readers.{before, times_more}
 use Rattle.xb_value.proofs.reader.+read.Goals as goal
 

@@ -1,5 +1,5 @@
 use Rattle.std.proofs.Common.{◌≡◌, ◌-◌, map, drop}
-use Rattle.xb_value.specs.Reading.{read_as, read_each, read_times}
+use Rattle.xb_value.specs.Inner.Reading.{read_as, read_each, read_times}
 use Rattle.xb_value.proofs.Readers.{before}
 use Rattle.xb_value.proofs.reader.+read.Given as goal
 

@@ -1,5 +1,5 @@
 use Rattle.std.proofs.Common.{◌≡◌, ◌+◌, ◌≤◌, drop}
-use Rattle.xb_value.specs.Reading.{parts_at}
+use Rattle.xb_value.specs.Inner.Reading.{parts_at}
 use Rattle.xb_value.proofs.reader.count_parts.Given as goal
 
 abbrev pub invariant-tokens : goal.invariant-tokens

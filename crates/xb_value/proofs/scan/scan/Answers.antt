@@ -1,7 +1,7 @@
 use Rattle.std.proofs.Common.{◌≡◌, get_or, Some, None, option_map, refl, sym, ap, ap₂, subst, ◌∙◌, arith}
 use Rattle.xb_value.specs.Form.{IsFirstFault, Spells}
-use Rattle.xb_value.specs.Scanner.{class_of, step, ended}
-use Rattle.xb_value.specs.ScannerState.{state_of, Stepped}
+use Rattle.xb_value.specs.Inner.Scanner.{class_of, step, ended}
+use Rattle.xb_value.specs.Inner.ScannerState.{state_of, Stepped}
 use Rattle.xb_value.proofs.Faults.{fault_at, fault_at_end, spelled_at_end, stands_next, stepped_refused, stepped_went}
 use Rattle.xb_value.proofs.Sound.{step_sound}
 use Rattle.xb_value.proofs.scan.scan.Goals as goal

@@ -1,5 +1,5 @@
 use Rattle.std.proofs.Common.{◌≡◌, take}
-use Rattle.xb_value.specs.ScannerState.{state_of, IsSound}
+use Rattle.xb_value.specs.Inner.ScannerState.{state_of, IsSound}
 use Rattle.xb_value.proofs.Faults.{StandsBehind}
 use Rattle.xb_value.proofs.scan.scan.Given as goal
 

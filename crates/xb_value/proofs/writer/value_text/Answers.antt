@@ -1,5 +1,5 @@
 use Rattle.std.proofs.Common.{◌≡◌, string_bytes, sym, subst, rules}
-use Rattle.xb_value.specs.Reading.{Reads}
+use Rattle.xb_value.specs.Reads.{Reads}
 use Rattle.xb_value.specs.Text.{text_of}
 use Rattle.xb_value.proofs.Written.{reads_back}
 use Rattle.xb_value.proofs.writer.value_text.Goals as goal

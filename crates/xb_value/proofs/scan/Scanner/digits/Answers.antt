@@ -1,5 +1,5 @@
 use Rattle.std.proofs.Common.{◌+◌, ◌*◌, ◌^◌, ◌<◌, subst, arith}
-use Rattle.xb_value.specs.ScannerState.{IsSmall}
+use Rattle.xb_value.specs.Inner.ScannerState.{IsSmall}
 use Rattle.xb_value.proofs.Sound.{digits_fit}
 use Rattle.xb_value.proofs.scan.Scanner.digits.Goals as goal
 

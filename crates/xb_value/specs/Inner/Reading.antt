@@ -7,7 +7,6 @@ use Rattle.xb_value.specs.declared.token.Bracket.TheVariants.{Round, Square}
 use Rattle.xb_value.specs.declared.token.Token.{Token}
 use Rattle.xb_value.specs.declared.token.Token.TheVariants.{Number, Open, Close}
 use Rattle.xb_value.specs.declared.value.Value.{Value, Bits, Tuple, Array}
-use Rattle.xb_value.specs.Form.{Spells}
 use Rattle.xb_value.specs.Typing.{is_word_of}
 
 -- the value and what stands behind it, or the place of what does not fit
@@ -98,11 +97,3 @@ value_in (Err at) = Err at
 -- the value that the numbers and brackets say at the type, or the place of the first that is no value of its part of it
 abbrev pub reading : Ty → List Token → Result Value ℕ
 reading t ts = value_in (read_as t ts)
-
--- the text is a value text, which says the value at the type
-abbrev pub Reads : List ℕ → Ty → Value → Type 0
-Reads text t v = (ts : List Token) × Spells text ts × (reading t ts ≡ Ok v)
-
--- the text is a value text, and the first number or opening bracket that is no value of its part of the type begins there
-abbrev pub Misfits : List ℕ → Ty → ℕ → Type 0
-Misfits text t at = (ts : List Token) × Spells text ts × (reading t ts ≡ Err at)

@@ -5,7 +5,7 @@ use Rattle.xb_value.specs.declared.scan.Class.{Class}
 use Rattle.xb_value.specs.declared.scan.Class.TheVariants.{Digit}
 use Rattle.xb_value.specs.declared.scan.Mode.{Mode}
 use Rattle.xb_value.specs.declared.scan.Mode.TheVariants.{Digits}
-use Rattle.xb_value.specs.Scanner.{Scan, scan}
+use Rattle.xb_value.specs.Inner.Scanner.{Scan, scan}
 
 -- the innermost bracket is the last in the code's stack
 abbrev pub state_of : Scanner → Scan

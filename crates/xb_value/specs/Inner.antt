@@ -1,0 +1,5 @@
+pub mod Answers
+pub mod Reading
+pub mod Scanned
+pub mod Scanner
+pub mod ScannerState
