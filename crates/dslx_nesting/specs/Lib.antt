@@ -1,0 +1,2 @@
+-- the nesting of each token
+pub mod Nesting
