@@ -5,11 +5,18 @@ pub record Row (A : Type 0) : Type 0 where
   pub count : ℕ
   pub slot : ℕ → A
 
+-- by the count alone
+abbrev pub has_word_at : ℕ → Bool
+has_word_at count = not (count == 0)
+
+abbrev pub has_room_at : ℕ → ℕ → Bool
+has_room_at depth count = not (count == depth)
+
 abbrev pub has_word : {A : Type 0} → Row A → Bool
-has_word row = not (row.count == 0)
+has_word row = has_word_at row.count
 
 abbrev pub has_room : {A : Type 0} → ℕ → Row A → Bool
-has_room depth row = not (row.count == depth)
+has_room depth row = has_room_at depth row.count
 
 abbrev pub first_word : {A : Type 0} → Row A → A
 first_word row = row.slot 0

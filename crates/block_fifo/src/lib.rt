@@ -2,3 +2,6 @@
 #![tactic(auto)]
 
 pub mod laws;
+mod row;
+
+pub use row::{has_room, has_word};

@@ -1,6 +1,6 @@
 -- The cycle in which each word of an always fed pipeline moves.
 use Rattle.std.proofs.Common.{◌≡◌, ℕ, zero, suc, ◌+◌, ◌-◌, ◌<◌, ◌≤◌, List, [], ◌∷◌, length, refl, sym, ap, ◌∙◌, subst, arith, cond, true, false, Bool, eqb, Option, Some, None}
-use Rattle.std.specs.Prelude.{◌⊎◌, ◌||◌, ◌&&◌, not, slice_get, nat_le, is_none}
+use Rattle.std.specs.Prelude.{◌⊎◌, ◌||◌, ◌&&◌, not, slice_get, nat_le, is_some}
 use Rattle.std.proofs.Common.{inl, inr}
 use Rattle.std.proofs.lemmas.Bool.{cases_lt}
 use Rattle.std.proofs.lemmas.Bool.Decides.{nat_tests}
@@ -117,13 +117,13 @@ record Runs (q : Pipeline) (c : Contents) (k : ℕ) : Type 0 where
   full : (j : ℕ) → j < q.stages → c.full j ≡ nat_le j k
   clean : (j : ℕ) → j < q.stages → IsClean q c j
 
-stage_passes : (q : Pipeline) → IsPipeline q → (c : Contents) (ports : Ports) → IsFed ports → (j : ℕ) → IsClean q c j → is_none (in_stage q c ports j).waits ≡ true
+stage_passes : (q : Pipeline) → IsPipeline q → (c : Contents) (ports : Ports) → IsFed ports → (j : ℕ) → IsClean q c j → is_some (in_stage q c ports j).waits ≡ false
 stage_passes q is c ports fed j clean = go (cases (c.full j))
   where
-    none_is : (waits : Option Event) → waits ≡ None → is_none waits ≡ true
+    none_is : (waits : Option Event) → waits ≡ None → is_some waits ≡ false
     none_is waits e = rw e refl
 
-    go : (c.full j ≡ true) ⊎ (c.full j ≡ false) → is_none (in_stage q c ports j).waits ≡ true
+    go : (c.full j ≡ true) ⊎ (c.full j ≡ false) → is_some (in_stage q c ports j).waits ≡ false
     go (inr f) = let e = idle q c ports j f in rw e refl
     go (inl f) =
         let w = in_stage q c ports j in

@@ -1,6 +1,6 @@
 -- Which stages move.
 use Rattle.std.proofs.Common.{◌≡◌, ℕ, zero, suc, ◌-◌, ◌<◌, [], refl, arith, true, false, Bool, Option, Some, None}
-use Rattle.std.specs.Prelude.{◌||◌, ◌&&◌, not, is_none}
+use Rattle.std.specs.Prelude.{◌||◌, ◌&&◌, not, is_some}
 use Rattle.net_core.specs.declared.event.Event.{Event}
 use Rattle.block_machine.specs.Pipeline.{Pipeline, first}
 use Rattle.block_machine.specs.Cycle.{Ports, Contents, stopped, in_stage, moves_before, moves}
@@ -13,7 +13,7 @@ pub and_right : (x y : Bool) → (x && y) ≡ true → y ≡ true
 and_right true y e = e
 and_right false y e = cc
 
-none_is : (waits : Option Event) → is_none waits ≡ true → waits ≡ None
+none_is : (waits : Option Event) → not (is_some waits) ≡ true → waits ≡ None
 none_is None e = refl
 none_is (Some w) e = cc
 
@@ -24,7 +24,7 @@ pub record IsMoving (q : Pipeline) (c : Contents) (ports : Ports) (j : ℕ) : Ty
 moving_before : (q : Pipeline) (c : Contents) (ports : Ports) (n j : ℕ) → moves_before q c ports n j ≡ true → IsMoving q c ports j
 moving_before q c ports zero j e = record { full = and_left (c.full j) _ e; waits = none_is _ (and_right (c.full j) _ e) }
 moving_before q c ports (suc n) j e =
-    let here = and_left (c.full j && is_none (in_stage q c ports j).waits) _ e in
+    let here = and_left (c.full j && not (is_some (in_stage q c ports j).waits)) _ e in
     record { full = and_left (c.full j) _ here; waits = none_is _ (and_right (c.full j) _ here) }
 
 -- a stage that moves holds an activation, which waits for nothing
@@ -42,7 +42,7 @@ pub next_is_free : (q : Pipeline) (c : Contents) (ports : Ports) (j : ℕ) → s
 unfolding moves
 next_is_free q c ports j l e f =
     let h : q.stages - suc j ≡ suc (q.stages - suc (suc j)) = omega arith in
-    next_moves (c.full j && is_none (in_stage q c ports j).waits) _ _ (rw h at e) f
+    next_moves (c.full j && not (is_some (in_stage q c ports j).waits)) _ _ (rw h at e) f
 
 -- a stage that holds no activation does nothing
 pub idle : (q : Pipeline) (c : Contents) (ports : Ports) (j : ℕ) → c.full j ≡ false → in_stage q c ports j ≡ stopped (first q j) [] None

@@ -1,11 +1,13 @@
 -- What a pipeline does in one clock cycle.
-use Rattle.std.specs.Prelude.{ℕ, zero, suc, ◌-◌, Bool, true, false, ◌&&◌, ◌||◌, not, List, [], ◌∷◌, ◌++◌, map, if◌then◌else◌, ◌==◌, is_none, Option, Some, None}
+use Rattle.std.specs.Prelude.{ℕ, zero, suc, ◌-◌, Bool, true, false, ◌&&◌, ◌||◌, not, List, [], ◌∷◌, ◌++◌, map, if◌then◌else◌, ◌==◌, is_some, Option, Some, None}
 use Rattle.std.specs.List.{list_any}
 use Rattle.xb_bits.specs.Word.{Word, word}
 use Rattle.xb_value.specs.declared.value.Value.{Value}
 use Rattle.net_core.specs.declared.event.Event.{Event}
 use Rattle.net_core.specs.declared.event.Event.TheVariants.{Recv, Send}
 use Rattle.net_core.specs.Behavior.{Behavior, Turn, Skip, Receive, Give, chan_at}
+use Rattle.block_machine.specs.declared.logic.Step.{Step}
+use Rattle.block_machine.specs.declared.logic.Step.TheVariants.{Pass, Recall, Take, Put, AwaitWord, AwaitRoom}
 use Rattle.block_machine.specs.Pipeline.{Pipeline, first}
 
 -- what stands at a pipeline's ports in a cycle, by channel: the word that is there to be received, if one is, and
@@ -70,16 +72,28 @@ behind_deed deed walk = record { place = walk.place; got = walk.got; deeds = dee
 abbrev pub stopped : ℕ → List Word → Option Event → Walk
 stopped i got waits = record { place = i; got = got; deeds = []; waits = waits }
 
--- one site, by what the proc does there, whether it is done, the word kept, the word that is there, and whether one
--- that is sent is taken; and the walk from there on
+-- what happens at a site in a cycle, by what the proc does there, whether the site is done, the word kept, the word that
+-- is there, and whether one that is sent is taken
+abbrev pub step_of : Turn → Bool → Word → Option Word → Bool → Step
+step_of Skip done kept offer room = Pass
+step_of Receive true kept offer room = Recall kept
+step_of Receive false kept (Some w) room = Take w
+step_of Receive false kept None room = AwaitWord
+step_of (Give w) true kept offer room = Pass
+step_of (Give w) false kept offer true = Put w
+step_of (Give w) false kept offer false = AwaitRoom w
+
+-- a walk at a site where this happens, and from there on
+abbrev pub follow : ℕ → List Word → (List Word → Walk) → Step → Walk
+follow i got next Pass = next got
+follow i got next (Recall w) = next (got ++ w ∷ [])
+follow i got next (Take w) = behind_deed (Takes i w) (next (got ++ w ∷ []))
+follow i got next (Put w) = behind_deed (Gives i w) (next got)
+follow i got next AwaitWord = stopped i got (Some (Recv i))
+follow i got next (AwaitRoom w) = stopped i got (Some (Send i w))
+
 abbrev pub at_site : ℕ → List Word → Turn → Bool → Word → Option Word → Bool → (List Word → Walk) → Walk
-at_site i got Skip done kept offer room next = next got
-at_site i got Receive true kept offer room next = next (got ++ kept ∷ [])
-at_site i got Receive false kept (Some w) room next = behind_deed (Takes i w) (next (got ++ w ∷ []))
-at_site i got Receive false kept None room next = stopped i got (Some (Recv i))
-at_site i got (Give w) true kept offer room next = next got
-at_site i got (Give w) false kept offer true next = behind_deed (Gives i w) (next got)
-at_site i got (Give w) false kept offer false next = stopped i got (Some (Send i w))
+at_site i got turn done kept offer room next = follow i got next (step_of turn done kept offer room)
 
 -- along so many sites from place i on, in an activation from a state that received these words before
 unfoldable pub walk : Behavior → (ℕ → Bool) → (ℕ → Word) → Ports → Value → List Word → ℕ → ℕ → Walk
@@ -98,12 +112,19 @@ in_stage q c ports j =
     if_full (c.full j) (first q j)
     (walk q.proc.behavior c.done c.kept ports (brought c j).state (brought c j).got (first q j) (first q (suc j) - first q j))
 
--- a stage's activation goes on into the next stage, behind which so many stand: it waits for nothing, and the next
--- stage is free or its activation goes on too. That of the final stage leaves
+-- an activation leaves the final stage: the stage holds one, and it waits for nothing
+abbrev pub leaves : Bool → Bool → Bool
+leaves full waits = full && not waits
+
+-- it goes on into the next stage where that is free or its activation goes on too
+abbrev pub moves_on : Bool → Bool → Bool → Bool → Bool
+moves_on full waits next_full next_moves = (full && not waits) && (not next_full || next_moves)
+
+-- a stage's activation goes on, where so many stages stand behind the stage
 abbrev pub moves_before : Pipeline → Contents → Ports → ℕ → ℕ → Bool
-moves_before q c ports zero j = c.full j && is_none (in_stage q c ports j).waits
+moves_before q c ports zero j = leaves (c.full j) (is_some (in_stage q c ports j).waits)
 moves_before q c ports (suc n) j =
-    (c.full j && is_none (in_stage q c ports j).waits) && (not (c.full (suc j)) || moves_before q c ports n (suc j))
+    moves_on (c.full j) (is_some (in_stage q c ports j).waits) (c.full (suc j)) (moves_before q c ports n (suc j))
 
 unfoldable pub moves : Pipeline → Contents → Ports → ℕ → Bool
 moves q c ports j = moves_before q c ports (q.stages - suc j) j
@@ -122,9 +143,21 @@ kept_after kept i [] = kept
 kept_after kept i (Takes k w ∷ deeds) = if k == i then w else kept_after kept i deeds
 kept_after kept i (Gives k w ∷ deeds) = kept_after kept i deeds
 
+-- a stage holds an activation after a cycle in which one comes in, or in which it keeps its own. In stage 0 one may begin
+-- where the last one ends its turn, or where the turn stands there and isn't taken on
+abbrev pub full_next : Bool → Bool → Bool → Bool
+full_next comes full moves = comes || (full && not moves)
+
+abbrev pub turn_next : Bool → Bool → Bool → Bool
+turn_next ends turn moves = ends || (turn && not moves)
+
+-- a site is done after a cycle by which it has gone, unless its stage moves
+abbrev pub done_next : Bool → Bool → Bool → Bool
+done_next done goes moves = (done || goes) && not moves
+
 abbrev pub full_after : Pipeline → Contents → Ports → ℕ → Bool
-full_after q c ports zero = moves q c ports q.last || (c.full 0 && not (moves q c ports 0))
-full_after q c ports (suc j) = moves q c ports j || (c.full (suc j) && not (moves q c ports (suc j)))
+full_after q c ports zero = turn_next (moves q c ports q.last) (c.full 0) (moves q c ports 0)
+full_after q c ports (suc j) = full_next (moves q c ports j) (c.full (suc j)) (moves q c ports (suc j))
 
 abbrev pub held_after : Pipeline → Contents → Ports → ℕ → Begun
 held_after q c ports zero = c.held 0
@@ -137,7 +170,7 @@ after_cycle q c ports = record {
   full = full_after q c ports;
   state = if moves q c ports q.last then q.proc.behavior.next_state (brought c q.last).state (in_stage q c ports q.last).got else c.state;
   held = held_after q c ports;
-  done = λ i. (c.done i || goes_at q c ports i) && not (moves q c ports (q.stage i));
+  done = λ i. done_next (c.done i) (goes_at q c ports i) (moves q c ports (q.stage i));
   kept = λ i. kept_after (c.kept i) i (in_stage q c ports (q.stage i)).deeds;
 }
 
