@@ -1,12 +1,1 @@
-pub mod Causes
-pub mod Digits
-pub mod Forms
-pub mod Lines
-pub mod LongestTokens
-pub mod Numbers
-pub mod OneMeaning
-pub mod Pieces
-pub mod Runs
-pub mod Statuses
-pub mod TokenBytes
-pub mod TokensSoFar
+mod Answering

@@ -1,16 +1,2 @@
-pub mod Answers
-pub mod Characters
-pub mod Command
-pub mod CommandLine
-pub mod Design
-pub mod ErrorLine
-pub mod Inputs
-pub mod Loading
-pub mod Names
-pub mod Network
-pub mod OneProc
-pub mod Outcome
-pub mod OutcomeText
-pub mod PlainTokens
-pub mod Refusal
-pub mod Tokens
+-- what the program answers to words, by what the files hold
+pub mod Answer

@@ -1,0 +1,8 @@
+use Rattle.cmd_answer.proofs.Putting.{shown}
+use Rattle.cmd_answer.proofs.response.put_refusal.Goals as goal
+
+pub returns-in-OutOfMemory : goal.returns-in-OutOfMemory
+returns-in-OutOfMemory g c = rw c.in-OutOfMemory.is (shown _ _ c.put_pieces.result c.put_pieces.ensures.ok c.put_pieces.ensures.failed)
+
+pub returns-in-Unread : goal.returns-in-Unread
+returns-in-Unread g c = rw c.in-Unread.is (shown _ _ c.put_pieces-in-Unread.result c.put_pieces-in-Unread.ensures.ok c.put_pieces-in-Unread.ensures.failed)

@@ -1,0 +1,25 @@
+-- What is put for what a command gave, and the status.
+use Rattle.std.specs.Prelude.{◌≡◌, ◌++◌, ◌⊎◌, ℕ, List, codes}
+use Rattle.cmd_answer.specs.declared.refusal.Refusal.{Refusal}
+use Rattle.cmd_answer.specs.declared.refusal.Refusal.TheVariants as refusal
+use Rattle.cmd_answer.specs.Fault.{line_of, named, status_of}
+use Rattle.cmd_answer.specs.Events.{SinkEvents, Shows}
+
+-- the output was written and nothing else, or it broke off
+abbrev pub Writes : SinkEvents → SinkEvents → List ℕ → ℕ → Type 0
+Writes out err text status =
+    ((status ≡ 0) × out.puts text × err.untouched) ⊎ ((status ≡ 5) × out.breaks_off text × Shows err (codes "cannot write\n"))
+
+-- the line and the status of a refusal
+abbrev pub refusal_line : Refusal → List ℕ
+refusal_line refusal.OutOfMemory = codes "out of memory\n"
+refusal_line (refusal.Unread name) = codes "cannot read " ++ name.now ++ codes "\n"
+refusal_line (refusal.Fault fault) = line_of (named fault)
+
+abbrev pub refusal_status : Refusal → ℕ
+refusal_status refusal.OutOfMemory = 3
+refusal_status (refusal.Unread name) = 4
+refusal_status (refusal.Fault fault) = status_of fault
+
+abbrev pub ShowsRefusal : SinkEvents → SinkEvents → Refusal → ℕ → Type 0
+ShowsRefusal out err refused status = out.untouched × (status ≡ refusal_status refused) × Shows err (refusal_line refused)

@@ -1,0 +1,70 @@
+-- The command line as `clap` reads it, and what words say by the matches that `clap` states.
+use Rattle.std.specs.Prelude.{ℕ, true, List, [], ◌∷◌, Option, Some, None, codes, pos, if◌then◌else◌, option_map, option_and_then}
+use Rattle.std.specs.Str.{bytes_eq}
+use Rattle.std.specs.Str.Parse.{digits_value, without_leading_plus}
+use Rattle.clap.specs.Words.{App, Kinds, Row, Rule, Text, first_of, fault_of, new_app, new_rule, subcommand_of, with_rule, with_subcommand}
+use Rattle.clap.specs.ValueTests.{is_unsigned_in}
+use Rattle.clap.specs.declared.builder.value_parser.ValueParser.TheVariants as vp
+use Rattle.cmd_words.specs.declared.request.Request.{Request}
+use Rattle.cmd_words.specs.declared.request.Request.TheVariants as request
+use Rattle.cmd_words.specs.declared.request.Check.{Check}
+use Rattle.cmd_words.specs.declared.request.Run.{Run}
+
+-- ---- the command line
+
+-- the name of a file, which stands at its place
+abbrev pub file : Text → Rule
+file id = record (new_rule id) { required = true }
+
+-- `--activations N`
+abbrev pub activations : Rule
+activations = record (new_rule (codes "activations")) {
+  long = Some (codes "activations");
+  required = true;
+  parser = Some (vp.Signed (pos 1) (pos 1048576));
+}
+
+-- `check FILE`
+abbrev pub check : App
+check = with_rule (new_app (codes "check")) (file (codes "design"))
+
+-- `run FILE INPUTS --activations N`
+abbrev pub run : App
+run = with_rule (with_rule (with_rule (new_app (codes "run")) (file (codes "design"))) (file (codes "inputs"))) activations
+
+-- the words begin with no program's name
+abbrev pub bare : App → App
+bare app = record app { top = record app.top { no_binary_name = true } }
+
+unfoldable pub xls : App
+xls = with_subcommand (with_subcommand (bare (new_app (codes "xls"))) check.top) run.top
+
+-- ---- what words say
+
+-- a number from `least` to `most` in decimal digits, perhaps behind a plus
+abbrev pub number_in : ℕ → ℕ → Text → Option ℕ
+number_in least most text = if is_unsigned_in least most text then Some (digits_value 10 (without_leading_plus text)) else None
+
+abbrev pub said_by_check : List Row → Option (Check Text)
+said_by_check rows = option_map (λ design. record { design = design }) (first_of (codes "design") rows)
+
+abbrev pub said_by_run : List Row → Option (Run Text)
+said_by_run rows =
+    option_and_then (λ design. option_and_then (λ inputs. option_map (λ n. record { design = design; inputs = inputs; activations = n })
+    (option_and_then (number_in 1 1048576) (first_of (codes "activations") rows))) (first_of (codes "inputs") rows)) (first_of (codes "design") rows)
+
+-- what the matches of a subcommand say
+abbrev pub said_by_subcommand : Text × List Row → Option (Request Text)
+said_by_subcommand found =
+    if bytes_eq found.0 (codes "check") then option_map request.Check (said_by_check found.1)
+    else if bytes_eq found.0 (codes "run") then option_map request.Run (said_by_run found.1)
+    else None
+
+-- where `clap` finds no fault in the words, what the matches of their subcommand say
+abbrev pub said_where : Kinds → Option (Text × List Row) → Option (Request Text)
+said_where [] found = option_and_then said_by_subcommand found
+said_where (fault ∷ faults) found = None
+
+-- what the words say; None where they say nothing
+unfoldable pub said_by : List Text → Option (Request Text)
+said_by words = said_where (fault_of xls words) (subcommand_of xls words)

@@ -1,0 +1,4 @@
+-- the command line as clap reads it, and what words say
+pub mod CommandLine
+-- the same without where the names lie
+pub mod Named

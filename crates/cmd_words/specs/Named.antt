@@ -1,0 +1,17 @@
+-- What is said, without where the names of files lie in memory.
+use Rattle.std.specs.Prelude.{ℕ, List}
+use Rattle.std.specs.Borrow.{Bor}
+use Rattle.cmd_words.specs.declared.request.Request.{Request}
+use Rattle.cmd_words.specs.declared.request.Request.TheVariants as request
+use Rattle.cmd_words.specs.declared.request.Check.{Check}
+use Rattle.cmd_words.specs.declared.request.Run.{Run}
+
+abbrev pub named_check : Check (Bor (List ℕ)) → Check (List ℕ)
+named_check said = record { design = said.design.now }
+
+abbrev pub named_run : Run (Bor (List ℕ)) → Run (List ℕ)
+named_run said = record { design = said.design.now; inputs = said.inputs.now; activations = said.activations }
+
+abbrev pub named : Request (Bor (List ℕ)) → Request (List ℕ)
+named (request.Check said) = request.Check (named_check said)
+named (request.Run said) = request.Run (named_run said)

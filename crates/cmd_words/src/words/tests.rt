@@ -1,0 +1,74 @@
+use crate::request::{Check, Request, Run};
+use crate::words::read_words;
+use std::alloc::Global;
+use std::test::Fail;
+
+fn list(alloc: Global, text: &str) -> Result<Vec<String>, Fail> {
+    let mut words = Vec::new(alloc);
+    for word in text.split_whitespace() {
+        words.push(String::from_str(alloc, word)?)?;
+    }
+    Ok(words)
+}
+
+#[test]
+fn words_of_run_are_read(rt: HostRuntime) -> Result<(), Fail> {
+    let alloc = rt.alloc();
+    for text in [
+        "run a.x b.txt --activations 5",
+        "run --activations=5 a.x b.txt",
+        "run a.x --activations +05 -- b.txt",
+    ] {
+        let words = list(alloc, text)?;
+        let Some(Request::Run(run)) = read_words(alloc, &words)? else {
+            return Err(Fail::from("no run"));
+        };
+        assert_eq!(rt; run.design, "a.x", "{text}");
+        assert_eq!(rt; run.inputs, "b.txt", "{text}");
+        assert_eq!(rt; run.activations, 5, "{text}");
+    }
+    Ok(())
+}
+
+#[test]
+fn words_of_check_are_read(rt: HostRuntime) -> Result<(), Fail> {
+    let alloc = rt.alloc();
+    let words = list(alloc, "check a.x")?;
+    let Some(Request::Check(check)) = read_words(alloc, &words)? else {
+        return Err(Fail::from("no check"));
+    };
+    assert_eq!(rt; check.design, "a.x");
+    Ok(())
+}
+
+#[test]
+fn other_words_say_nothing(rt: HostRuntime) -> Result<(), Fail> {
+    let alloc = rt.alloc();
+    for text in [
+        "",
+        "help",
+        "--help",
+        "run --help",
+        "help run",
+        "check",
+        "check a.x b.x",
+        "check a.x --top Main",
+        "sim a.v rows.txt",
+        "run a.x b.txt",
+        "run a.x --activations 5",
+        "run a.x b.txt --activations",
+        "run a.x b.txt --activations 0",
+        "run a.x b.txt --activations 1048577",
+        "run a.x b.txt --activations -5",
+        "run a.x b.txt --activations 0x5",
+        "run a.x b.txt --activations 5 --activations 5",
+        "run a.x b.txt --activations 5 --workers 2",
+        "run -a.x b.txt --activations 5",
+        "run a.x b.txt c.txt --activations 5",
+        "runs a.x b.txt --activations 5",
+    ] {
+        let words = list(alloc, text)?;
+        assert!(rt; read_words(alloc, &words)?.is_none(), "{text}");
+    }
+    Ok(())
+}

@@ -1,0 +1,63 @@
+-- What is answered to words, by what their command gives.
+use Rattle.std.proofs.Common.{◌≡◌, ◌⊎◌, inl, inr, ◌++◌, ℕ, List, [], Option, Some, None, Result, Ok, Err, refl, sym, ap, ◌∙◌, subst}
+use Rattle.std.specs.Prelude.{IfSome}
+use Rattle.std.proofs.lemmas.List.{append-nil}
+use Rattle.xb_io.specs.Contents.{Contents}
+use Rattle.cmd_answer.specs.Answered.{Answers, wrote, refused, no_memory, unread, unwritten}
+use Rattle.cmd_answer.specs.declared.fault.Fault.TheVariants.{Usage}
+use Rattle.cmd_answer.specs.declared.refusal.Refusal.{Refusal}
+use Rattle.cmd_answer.specs.Done.{IsDone, GivesDue}
+use Rattle.cmd_answer.specs.Events.{FileEvents, SinkEvents, file_events}
+use Rattle.cmd_answer.specs.Fault.{Fault}
+use Rattle.cmd_answer.specs.Step.{IsOne, DueBy}
+use Rattle.cmd_words.specs.CommandLine.{said_by}
+use Rattle.cmd_words.specs.declared.request.Request.{Request}
+use Rattle.cmd_words.specs.declared.request.Request.TheVariants.{Check, Run}
+use Rattle.cmd_design.proofs.Lemmas.{check_is_one, run_is_one}
+use Rattle.xls_cmd.specs.Answer.{due, due_for, files_of, given_by, named_files, named_for, status_for}
+
+-- each command gives one thing
+given_is_one : (said : Request (List ℕ)) (holds : Contents) → IsOne (given_by said holds)
+given_is_one (Check said) holds = check_is_one holds said
+given_is_one (Run said) holds = run_is_one holds said
+
+due_for_is_one : (said : Option (Request (List ℕ))) (holds : Contents) → IsOne (due_for said (Some holds))
+due_for_is_one None holds a b is also = is ∙ sym also
+due_for_is_one (Some said) holds a b is also = given_is_one said holds a b is.1 also.1
+
+pub due_is_one : (words : List (List ℕ)) (holds : Contents) → IsOne (due words (Some holds))
+due_is_one words holds = due_for_is_one (said_by words) holds
+
+-- ---- the command of the words
+
+module _ {V : Type 0} (items : V → List ℕ) (words : List (List ℕ)) (told : Option Contents) (files : FileEvents) (given : Result V Refusal) where
+  -- what the words' command did is what is due for the words
+  pub done_by_command : (said : Request (List ℕ)) → Some said ≡ said_by words → IsDone items (DueBy told (given_by said)) (files_of said) files given → IsDone items (due words told) (named_files words) files given
+  done_by_command said is done = subst (λ (s : Option (Request (List ℕ))). IsDone items (due_for s told) (named_for s) files given) is done
+
+  -- where they say nothing, the refusal is due
+  pub done_without_command : None ≡ said_by words → GivesDue items (due_for None told) files [] given → files.asks [] → IsDone items (due words told) (named_files words) files given
+  done_without_command is gives asks =
+      let done : IsDone items (due_for None told) [] files given = record { names = []; in_order = tt; asked = asks; gives = gives } in
+      subst (λ (s : Option (Request (List ℕ))). IsDone items (due_for s told) (named_for s) files given) is done
+
+-- nothing was loaded
+pub nothing_asked : (names : List (List ℕ)) → names ≡ names ++ []
+nothing_asked names = sym (append-nil names)
+
+-- ---- completeness
+
+complete_at : (due' : Result (List ℕ) Fault → Type 0) (files : FileEvents) (names : List (List ℕ)) (out err : SinkEvents) (status : ℕ) (faulted broken : Type 0) (given : Result (List ℕ) Fault) → IsOne due' → due' given →
+    (files.faulted → faulted) → ((bytes : List ℕ) → out.breaks_off bytes → broken) → Answers due' files names out err status → (faulted → ⊥) → (broken → ⊥) → (status ≡ status_for given) ⊎ (status ≡ 3)
+complete_at due' files names out err status faulted broken given one is risen breaks (wrote text due sound puts untouched) no_fault whole = inl (ap status_for (one (Ok text) given due is))
+complete_at due' files names out err status faulted broken given one is risen breaks (refused fault due sound counted untouched shows) no_fault whole = inl (ap status_for (one (Err fault) given due is))
+complete_at due' files names out err status faulted broken given one is risen breaks (no_memory sound untouched shows) no_fault whole = inr refl
+complete_at due' files names out err status faulted broken given one is risen breaks (unread name last faulted' untouched shows) no_fault whole = absurd (no_fault (risen faulted'))
+complete_at due' files names out err status faulted broken given one is risen breaks (unwritten text due sound broke shows) no_fault whole = absurd (whole (breaks text broke))
+
+pub completely : (words : List (List ℕ)) (told : Option Contents) (files : FileEvents) (names : List (List ℕ)) (out err : SinkEvents) (status : ℕ) (faulted broken : Type 0) →
+    (files.faulted → faulted) → ((bytes : List ℕ) → out.breaks_off bytes → broken) → Answers (due words told) files names out err status →
+    IfSome told (λ holds. (given : Result (List ℕ) Fault) → due words (Some holds) given → ¬ faulted → ¬ broken → (status ≡ status_for given) ⊎ (status ≡ 3))
+completely words None files names out err status faulted broken risen breaks answers = tt
+completely words (Some holds) files names out err status faulted broken risen breaks answers = λ given is no_fault whole.
+    complete_at (due words (Some holds)) files names out err status faulted broken given (due_is_one words holds) is risen breaks answers no_fault whole

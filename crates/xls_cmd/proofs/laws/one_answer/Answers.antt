@@ -1,0 +1,5 @@
+use Rattle.xls_cmd.proofs.Answering.{due_is_one}
+use Rattle.xls_cmd.proofs.laws.one_answer.Goals as goal
+
+pub returns : goal.returns
+returns c = due_is_one
