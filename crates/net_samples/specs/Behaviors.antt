@@ -7,7 +7,7 @@ use Rattle.net_samples.specs.declared.sample.Port.{Port}
 use Rattle.net_samples.specs.declared.sample.Step.{Step}
 use Rattle.net_samples.specs.declared.sample.Step.TheVariants.{Stay, Count, Flip}
 use Rattle.net_samples.specs.declared.sample.Sample.{Sample}
-use Rattle.net_samples.specs.Samples.{number_of, last_number, is_on, number_from, state_after}
+use Rattle.net_samples.specs.Samples.{number_of, last_number, is_on, count_from, state_after}
 
 -- the type of the states
 abbrev pub type_of : Step → Ty
@@ -18,7 +18,7 @@ type_of Flip = Bits 1
 -- what a port does
 abbrev pub port_turn : Port → ℕ → ℕ → Turn
 port_turn port state last =
-    if is_on port.when state then (if port.site.sends then Give (word 8 (number_from port.source state last % 256)) else Receive) else Skip
+    if is_on port.when state then (if port.site.sends then Give (word 8 (count_from port.source state last % 256)) else Receive) else Skip
 
 abbrev pub turn_at : Option Port → ℕ → ℕ → Turn
 turn_at None state last = Skip

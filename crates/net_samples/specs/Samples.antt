@@ -35,16 +35,16 @@ is_on Always n = true
 is_on Even n = n % 2 == 0
 is_on Odd n = n % 2 == 1
 
-abbrev pub number_from : Source → ℕ → ℕ → ℕ
-number_from State state last = state
-number_from Last state last = last
+abbrev pub count_from : Source → ℕ → ℕ → ℕ
+count_from State state last = state
+count_from Last state last = last
 
 -- what a port does where it is on
 abbrev pub event_at : Port → ℕ → ℕ → ℕ → Event
 event_at port i state last =
-    if port.site.sends then Send i (word 8 (number_from port.source state last % 256)) else Recv i
+    if port.site.sends then Send i (word 8 (count_from port.source state last % 256)) else Recv i
 
 abbrev pub state_after : Step → ℕ → ℕ → Value
 state_after Stay state last = Bits (word 1 (state % 2))
-state_after (Count source) state last = Bits (word 8 ((number_from source state last % 256 + 1) % 256))
+state_after (Count source) state last = Bits (word 8 ((count_from source state last % 256 + 1) % 256))
 state_after Flip state last = Bits (word 1 ((state % 2 + 1) % 2))

@@ -1,6 +1,6 @@
 ghost use Rattle.std.specs.Prelude.{◌≡◌, IfOk, IsTrue, ◌↔◌};
 ghost use Rattle.net_core.specs.Behavior.{IsOpen, next_event};
-ghost use Rattle.net_samples.specs.Samples.{number_of, last_number, is_on, number_from, event_at, state_after};
+ghost use Rattle.net_samples.specs.Samples.{number_of, last_number, is_on, count_from, event_at, state_after};
 
 use crate::sample::{Port, Sample, Source, Step, When};
 use net_core::{Body, Event};
@@ -42,7 +42,7 @@ impl When {
 
 impl Source {
     fn number(self, state: u128, last: u128) -> u128
-        ensures { result ≡ number_from self state last }
+        ensures { result ≡ count_from self state last }
     {
         match self {
             Source::State => state,

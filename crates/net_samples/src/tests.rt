@@ -1,4 +1,6 @@
-ghost use Rattle.std.specs.Prelude.{◌≡◌, ◌<◌, ◌^◌, length};
+ghost use Rattle.std.specs.Prelude.{◌≡◌, ◌<◌, ◌^◌, length, map};
+ghost use Rattle.net_core.specs.WellFormed.{IsNet, IsInputs, IsDepths, AreBehaviorsOf};
+ghost use Rattle.net_samples.specs.Behaviors.{behavior_of};
 
 use super::*;
 use net_core::{Chan, Inputs, Kind, Name, Net, Outcome, ProcHead, Site, Stall};
@@ -81,14 +83,15 @@ fn make_fixture(
     kinds: &[Kind],
     procs: &[(&[Port], Step)],
     depth: u32,
-) -> Result<Fixture, AllocError> {
+) -> Result<Fixture, Fail> {
     let mut heads = Vec::new(alloc);
     let mut samples = Vec::new(alloc);
     for (ports, step) in procs {
-        if ports.len() < 1 << 30 {
-            heads.push(head(alloc, ports, *step)?)?;
-            samples.push(sample(alloc, ports, *step)?)?;
+        if ports.len() >= 1 << 30 {
+            Err("too many ports")?;
         }
+        heads.push(head(alloc, ports, *step)?)?;
+        samples.push(sample(alloc, ports, *step)?)?;
     }
     let mut depths = Vec::new(alloc);
     for _ in kinds {
@@ -123,6 +126,19 @@ fn words(alloc: Global, chans: usize, numbers: &[u8]) -> Result<Inputs, AllocErr
     })
 }
 
+/// The parts of a fixture belong together.
+fn assert_fits(rt: &impl Abort, fixture: &Fixture, inputs: &Inputs)
+    ensures net { IsNet fixture.now.net }
+    ensures samples { AreBehaviorsOf fixture.now.net (map behavior_of fixture.now.samples.items) }
+    ensures inputs { IsInputs fixture.now.net inputs.now.words }
+    ensures depths { IsDepths fixture.now.net fixture.now.depths.items }
+{
+    assert!(rt; net_fits(&fixture.net));
+    assert!(rt; bodies_fit(&fixture.net, fixture.samples.as_slice()));
+    assert!(rt; inputs_fit(&fixture.net, inputs));
+    assert!(rt; depths_fit(&fixture.net, fixture.depths.as_slice()));
+}
+
 fn run(
     rt: &impl Abort,
     alloc: Global,
@@ -131,14 +147,10 @@ fn run(
     n: u32,
 ) -> Result<Outcome, Fail> {
     let inputs = words(alloc, fixture.net.chans.len(), numbers)?;
-    let net = &fixture.net;
+    assert_fits(rt, fixture, &inputs);
     let samples = fixture.samples.as_slice();
     let depths = fixture.depths.as_slice();
-    assert!(rt; net_fits(net));
-    assert!(rt; bodies_fit(net, samples));
-    assert!(rt; inputs_fit(net, &inputs));
-    assert!(rt; depths_fit(net, depths));
-    Ok(run_one(alloc, net, samples, &inputs, n, depths)?)
+    Ok(run_one(alloc, &fixture.net, samples, &inputs, n, depths)?)
 }
 
 fn assert_stream(
@@ -190,6 +202,7 @@ fn assert_streams(
     outcome: &Outcome,
     expected: &[(&[u128], u64)],
 ) -> Result<(), Fail> {
+    assert_eq!(rt; outcome.streams.len(), expected.len(), "channels");
     for (chan, (numbers, received)) in expected.iter().enumerate() {
         assert_stream(rt, outcome, chan, numbers, *received)?;
     }
@@ -202,6 +215,7 @@ fn assert_ends(
     outcome: &Outcome,
     expected: &[(u128, u32, Option<Stall>)],
 ) -> Result<(), Fail> {
+    assert_eq!(rt; outcome.procs.len(), expected.len(), "procs");
     for (p, (state, ends, stall)) in expected.iter().enumerate() {
         assert_end(rt, outcome, p, *state, *ends, *stall)?;
     }
@@ -246,12 +260,12 @@ fn pair<'a>(
     first: (&'a [Port], Step),
     second: (&'a [Port], Step),
     depth: u32,
-) -> Result<Fixture, AllocError> {
+) -> Result<Fixture, Fail> {
     let kinds = [Kind::Inner, Kind::Inner];
     make_fixture(alloc, &kinds, &[(&[], Step::Stay), first, second], depth)
 }
 
-fn two(alloc: Global, depth: u32) -> Result<Fixture, AllocError> {
+fn two(alloc: Global, depth: u32) -> Result<Fixture, Fail> {
     let first = sends_both();
     let second = receives_both();
     pair(
@@ -262,20 +276,20 @@ fn two(alloc: Global, depth: u32) -> Result<Fixture, AllocError> {
     )
 }
 
-fn ring(alloc: Global) -> Result<Fixture, AllocError> {
+fn ring(alloc: Global) -> Result<Fixture, Fail> {
     let first = passes(0, 1);
     let second = passes(1, 0);
     pair(alloc, (&first, Step::Stay), (&second, Step::Stay), 1)
 }
 
 /// One inner channel, both of whose ends are in one proc that counts the words that it receives.
-fn looped(alloc: Global, ports: &[Port]) -> Result<Fixture, AllocError> {
+fn looped(alloc: Global, ports: &[Port]) -> Result<Fixture, Fail> {
     let procs = [(ports, Step::Count(Source::Last))];
     make_fixture(alloc, &[Kind::Inner], &procs, 1)
 }
 
 /// An input whose words are passed on by procs in a row to an output.
-fn chain(alloc: Global, count: u32) -> Result<Fixture, AllocError> {
+fn chain(alloc: Global, count: u32) -> Result<Fixture, Fail> {
     let mut kinds = Vec::new(alloc);
     let mut ports = Vec::new(alloc);
     kinds.push(Kind::Input)?;
@@ -339,15 +353,6 @@ fn a_proc_receives_what_it_sent(rt: HostRuntime) -> Result<(), Fail> {
 }
 
 #[test]
-fn a_proc_waits_for_itself(rt: HostRuntime) -> Result<(), Fail> {
-    let fixture = looped(rt.alloc(), &passes(0, 0))?;
-    let outcome = run(&rt, rt.alloc(), &fixture, &[], 2)?;
-    assert_streams(&rt, &outcome, &[(&[], 0)])?;
-    let stall = waits(0, false, 0);
-    assert_ends(&rt, &outcome, &[(0, 0, stall)])
-}
-
-#[test]
 fn an_input_keeps_what_was_received(rt: HostRuntime) -> Result<(), Fail> {
     let fixture = chain(rt.alloc(), 1)?;
     let outcome = run(&rt, rt.alloc(), &fixture, &[7, 255, 9], 2)?;
@@ -363,15 +368,11 @@ fn first_step(
     numbers: &[u8],
 ) -> Result<(bool, bool), Fail> {
     let inputs = words(alloc, fixture.net.chans.len(), numbers)?;
-    let net = &fixture.net;
+    assert_fits(rt, fixture, &inputs);
     let samples = fixture.samples.as_slice();
     let depths = fixture.depths.as_slice();
-    assert!(rt; net_fits(net));
-    assert!(rt; bodies_fit(net, samples));
-    assert!(rt; inputs_fit(net, &inputs));
-    assert!(rt; depths_fit(net, depths));
     assert!(rt; !samples.is_empty());
-    Ok(ask_and_step(alloc, net, samples, &inputs, depths)?)
+    Ok(ask_and_step(alloc, &fixture.net, samples, &inputs, depths)?)
 }
 
 #[test]
@@ -382,10 +383,6 @@ fn a_step_is_made_where_it_can_be(rt: HostRuntime) -> Result<(), Fail> {
         (false, false)
     );
     assert_eq!(rt; first_step(&rt, rt.alloc(), &receives, &[5])?, (true, true));
-    let sends = looped(rt.alloc(), &sends_to_itself())?;
-    assert_eq!(rt; first_step(&rt, rt.alloc(), &sends, &[])?, (true, true));
-    let ends = looped(rt.alloc(), &[])?;
-    assert_eq!(rt; first_step(&rt, rt.alloc(), &ends, &[])?, (true, true));
     Ok(())
 }
 

@@ -14,7 +14,7 @@ use Rattle.net_samples.specs.declared.sample.Port.{Port}
 use Rattle.net_samples.specs.declared.sample.Step.{Step}
 use Rattle.net_samples.specs.declared.sample.Step.TheVariants.{Stay, Count, Flip}
 use Rattle.net_samples.specs.declared.sample.Sample.{Sample}
-use Rattle.net_samples.specs.Samples.{number_of, last_number, is_on, number_from, state_after}
+use Rattle.net_samples.specs.Samples.{number_of, last_number, is_on, count_from, state_after}
 use Rattle.net_samples.specs.Behaviors.{type_of, port_turn, turn_at, behavior_of}
 
 pub small_word : (x : ℕ) → IsWordOf 8 (word 8 (x % 256))
@@ -34,7 +34,7 @@ turn_keeps (Some port) site state last e =
 port_fits : (b : Behavior) → b.width ≡ (λ _. 8) → (port : Port) (state last : ℕ) (on sends : Bool) → is_on port.when state ≡ on → port.site.sends ≡ sends → TurnFits b port.site (port_turn port state last)
 port_fits b w port state last false sends e f = rw e tt
 port_fits b w port state last true false e f = rw (e, f) tt
-port_fits b w port state last true true e f = rw (e, f, w) (small_word (number_from port.source state last))
+port_fits b w port state last true true e f = rw (e, f, w) (small_word (count_from port.source state last))
 
 turn_fits : (b : Behavior) → b.width ≡ (λ _. 8) → (o : Option Port) (site : Site) (state last : ℕ) → option_map (λ (port : Port). port.site) o ≡ Some site → TurnFits b site (turn_at o state last)
 turn_fits b w None site state last e = cc
@@ -59,7 +59,7 @@ byte_fits n = grind (arith, nat_tests)
 
 state_fits : (step : Step) (state last : ℕ) → IsOfType (type_of step) (state_after step state last)
 state_fits Stay state last = bits_typed 1 _ (bit_fits state)
-state_fits (Count source) state last = bits_typed 8 _ (byte_fits (number_from source state last % 256 + 1))
+state_fits (Count source) state last = bits_typed 8 _ (byte_fits (count_from source state last % 256 + 1))
 state_fits Flip state last = bits_typed 1 _ (bit_fits (state % 2 + 1))
 
 pub sample_keeps_types : (sample : Sample) → KeepsTypes (behavior_of sample)
