@@ -150,6 +150,7 @@ misfit_of text t ts at h k = by_case (first_misfit (parts_of t 0 h.0)) refl (tel
   where
     whole_text : read_as t (form_tokens 0 h.0 ++ []) ≡ read_as t ts
     whole_text = ap (read_as t) (append-nil (form_tokens 0 h.0) ∙ h.3)
+
     by_case : (o : Option ℕ) → first_misfit (parts_of t 0 h.0) ≡ o → Tells [] o (read_as t (form_tokens 0 h.0 ++ [])) → Misfits text t at
     by_case None e f =
         let read : ◌≡◌ {A = Result Value ℕ} (Ok f.0) (Err at) = sym (ap value_in (sym whole_text ∙ f.1)) ∙ k in
@@ -157,7 +158,7 @@ misfit_of text t ts at h k = by_case (first_misfit (parts_of t 0 h.0)) refl (tel
     by_case (Some p) e f =
         let read : ◌≡◌ {A = Result Value ℕ} (Err p) (Err at) = sym (ap value_in (sym whole_text ∙ f)) ∙ k in
         let same : p ≡ at = (cc) in
-        record { form = h.0; formed = h.1; spells = h.2; first = e ∙ ap Some same; }
+        record { form = h.0; formed = h.1; spells = h.2; first = e ∙ ap Some same }
 
 -- and at a misfit the reader answers its place
 pub misfit_read : (text : List ℕ) (t : Ty) (at : ℕ) → (m : Misfits text t at) → reading t (form_tokens 0 m.form) ≡ Err at
