@@ -32,21 +32,24 @@ fit_front sites room before (x ∷ xs) = go (fits_after sites room before x) (fi
     go false f = tt
 
 -- the final cut is a front of the traces over its words
-final_in_trace : (run : Run) (p : ℕ) (proc : Proc) → slice_get run.procs p ≡ Some proc
-    → IsFront (final_cut run p) (trace proc.behavior run.activations proc.opening (words_at run (final_cut run)))
-unfolding reach trace_of
-final_in_trace run p proc e =
+pub final_front : (run : Run) (p : ℕ) → IsFront (final_cut run p) (trace_of run.activations (words_at run (final_cut run)) (slice_get run.procs p))
+unfolding reach
+final_front run p =
     let settled = ap (λ (c : Cut). c p) (rounds_settle run) in
-    let front = fit_front (sites_at run p) (room_at run (final_cut run)) [] (trace_of run.activations (words_at run (final_cut run)) (slice_get run.procs p)) in
-    subst (λ o. IsFront (final_cut run p) (trace_of run.activations (words_at run (final_cut run)) o)) e
-    (subst (λ xs. IsFront xs (trace_of run.activations (words_at run (final_cut run)) (slice_get run.procs p))) settled front)
+    subst (λ xs. IsFront xs (trace_of run.activations (words_at run (final_cut run)) (slice_get run.procs p))) settled
+    (fit_front (sites_at run p) (room_at run (final_cut run)) [] (trace_of run.activations (words_at run (final_cut run)) (slice_get run.procs p)))
 
-chan_there : (sites : List Site) (i : ℕ) (site : Site) → slice_get sites i ≡ Some site → chan_at sites i ≡ site.chan
+pub final_in_trace : (run : Run) (p : ℕ) (proc : Proc) → slice_get run.procs p ≡ Some proc
+    → IsFront (final_cut run p) (trace proc.behavior run.activations proc.opening (words_at run (final_cut run)))
+unfolding trace_of
+final_in_trace run p proc e = subst (λ o. IsFront (final_cut run p) (trace_of run.activations (words_at run (final_cut run)) o)) e (final_front run p)
+
+pub chan_there : (sites : List Site) (i : ℕ) (site : Site) → slice_get sites i ≡ Some site → chan_at sites i ≡ site.chan
 chan_there [] i site e = cc
 chan_there (x ∷ xs) zero site e = let h : x ≡ site = cc in ap (λ (y : Site). y.chan) h
 chan_there (x ∷ xs) (suc i) site e = chan_there xs i site e
 
-sent_append : (sites : List Site) (c : ℕ) (xs ys : List Event) → words_sent sites c (xs ++ ys) ≡ words_sent sites c xs ++ words_sent sites c ys
+pub sent_append : (sites : List Site) (c : ℕ) (xs ys : List Event) → words_sent sites c (xs ++ ys) ≡ words_sent sites c xs ++ words_sent sites c ys
 unfolding words_sent
 sent_append sites c [] ys = refl
 sent_append sites c (Recv i ∷ xs) ys = sent_append sites c xs ys
@@ -58,7 +61,7 @@ sent_append sites c (Send i w ∷ xs) ys = go (eqb (chan_at sites i) c) (sent_ap
     go false e = e
 sent_append sites c (End s ∷ xs) ys = sent_append sites c xs ys
 
-received_append : (sites : List Site) (c : ℕ) (xs ys : List Event) → count_received sites c (xs ++ ys) ≡ count_received sites c xs + count_received sites c ys
+pub received_append : (sites : List Site) (c : ℕ) (xs ys : List Event) → count_received sites c (xs ++ ys) ≡ count_received sites c xs + count_received sites c ys
 unfolding count_received
 received_append sites c [] ys = omega arith
 received_append sites c (Recv i ∷ xs) ys = go (eqb (chan_at sites i) c) (received_append sites c xs ys)
@@ -70,7 +73,7 @@ received_append sites c (Recv i ∷ xs) ys = go (eqb (chan_at sites i) c) (recei
 received_append sites c (Send i w ∷ xs) ys = received_append sites c xs ys
 received_append sites c (End s ∷ xs) ys = received_append sites c xs ys
 
-same_number : (m n : ℕ) → m ≡ n → eqb m n ≡ true
+pub same_number : (m n : ℕ) → m ≡ n → eqb m n ≡ true
 same_number m n h = grind (arith, nat_tests)
 
 sent_here : (sites : List Site) (c i : ℕ) (w : Word) (rest : List Event) → chan_at sites i ≡ c → words_sent sites c (Send i w ∷ rest) ≡ w ∷ words_sent sites c rest
@@ -82,7 +85,7 @@ unfolding count_received
 received_here sites c i rest e = ap (λ b. cond b (suc (count_received sites c rest)) (count_received sites c rest)) (same_number _ _ e)
 
 -- of an inner channel the words are those of its sender
-inner_words : (run : Run) (cut : Cut) (p c : ℕ) (proc : Proc) (chan : Chan) → slice_get run.procs p ≡ Some proc → slice_get run.chans c ≡ Some chan → chan.kind ≡ Inner → sender run c ≡ p
+pub inner_words : (run : Run) (cut : Cut) (p c : ℕ) (proc : Proc) (chan : Chan) → slice_get run.procs p ≡ Some proc → slice_get run.chans c ≡ Some chan → chan.kind ≡ Inner → sender run c ≡ p
     → words_at run cut c ≡ words_sent proc.behavior.sites c (cut p)
 unfolding words_at words_by
 inner_words run cut p c proc chan e chan_is inner ours =
@@ -96,11 +99,11 @@ inner_words run cut p c proc chan e chan_is inner ours =
     by_kind Output k = cc
     by_kind Inner k = refl
 
-received_by : (run : Run) (cut : Cut) (p c : ℕ) (proc : Proc) → slice_get run.procs p ≡ Some proc → receiver run c ≡ p → received_at run cut c ≡ count_received proc.behavior.sites c (cut p)
+pub received_by : (run : Run) (cut : Cut) (p c : ℕ) (proc : Proc) → slice_get run.procs p ≡ Some proc → receiver run c ≡ p → received_at run cut c ≡ count_received proc.behavior.sites c (cut p)
 unfolding received_at
 received_by run cut p c proc e ours = ap (λ q. count_received (sites_at run q) c (cut q)) ours ∙ ap (λ o. count_received (sites_of o) c (cut p)) e
 
-inner_room : (run : Run) (cut : Cut) (c j : ℕ) (chan : Chan) → slice_get run.chans c ≡ Some chan → chan.kind ≡ Inner → room_at run cut c j ≡ nat_lt j (received_at run cut c + get_or run.depths c 0)
+pub inner_room : (run : Run) (cut : Cut) (c j : ℕ) (chan : Chan) → slice_get run.chans c ≡ Some chan → chan.kind ≡ Inner → room_at run cut c j ≡ nat_lt j (received_at run cut c + get_or run.depths c 0)
 unfolding room_at room_by
 inner_room run cut c j chan chan_is inner = ap (λ o. room_by run cut c j o) chan_is ∙ by_kind chan.kind inner
   where

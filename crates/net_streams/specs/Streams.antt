@@ -1,12 +1,12 @@
 -- What goes over the channels of a run in the end, and procs that have come no further.
-use Rattle.std.specs.Prelude.{◌≡◌, ◌<◌, ℕ, Bool, List, slice_get, Some}
+use Rattle.std.specs.Prelude.{◌≡◌, ◌<◌, ◌≤◌, ◌+◌, ℕ, Bool, List, length, get_or, slice_get, Some}
 use Rattle.lists.specs.Front.{IsFront}
 use Rattle.chan_queue.specs.Stream.{Stream}
 use Rattle.net_core.specs.declared.net.Chan.{Chan}
 use Rattle.net_core.specs.declared.net.Site.{Site}
 use Rattle.net_core.specs.declared.net.Kind.TheVariants.{Inner}
 use Rattle.net_core.specs.declared.event.Event.{Event}
-use Rattle.net_core.specs.Cuts.{Proc, Run, words_at, received_at, final_cut}
+use Rattle.net_core.specs.Cuts.{Proc, Run, Cut, IsWithin, words_at, received_at, final_cut}
 use Rattle.net_core.specs.Machine.{Position, opened, position_after, next_of}
 
 -- the stream of a channel: the words of the final cut, and how many of them are received there
@@ -31,3 +31,10 @@ pub record IsSiteOn (run : Run) (proc : Proc) (i : ℕ) (site : Site) (sends : B
   pub chan : Chan
   pub chan_is : slice_get run.chans site.chan ≡ Some chan
   pub inner : chan.kind ≡ Inner
+
+-- procs that have come no further than in the final cut, and whose inner channels' counts were compared: what was
+-- received was sent, and what was sent had room
+pub record AreStopped (run : Run) (cut : Cut) : Type 0 where
+  pub within : IsWithin cut (final_cut run)
+  pub received : (c : ℕ) (chan : Chan) → slice_get run.chans c ≡ Some chan → chan.kind ≡ Inner → received_at run cut c ≤ length (words_at run cut c)
+  pub room : (c : ℕ) (chan : Chan) → slice_get run.chans c ≡ Some chan → chan.kind ≡ Inner → length (words_at run cut c) ≤ received_at run cut c + get_or run.depths c 0

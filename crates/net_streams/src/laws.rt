@@ -7,9 +7,10 @@ ghost use Rattle.xb_value.specs.declared.value.Value.{Value};
 ghost use Rattle.net_core.specs.declared.net.Site.{Site};
 ghost use Rattle.net_core.specs.declared.event.Event.{Event};
 ghost use Rattle.net_core.specs.declared.event.Event.TheVariants as event;
-ghost use Rattle.net_core.specs.Cuts.{Proc, Run, words_sent, count_received, final_cut};
+ghost use Rattle.net_core.specs.Cuts.{Proc, Run, Cut, words_sent, count_received, final_cut};
+ghost use Rattle.net_core.specs.Machine.{goes};
 ghost use Rattle.net_core.specs.WellFormed.{IsRun};
-ghost use Rattle.net_streams.specs.Streams.{stream_in, StandsBefore, IsSiteOn};
+ghost use Rattle.net_streams.specs.Streams.{stream_in, StandsBefore, IsSiteOn, AreStopped};
 
 /// The next send of a proc that has come no further than in the final cut carries the next word of its channel's
 /// stream, and leaves the proc within the final cut; or all words were sent, and there will never be room for one more.
@@ -38,4 +39,12 @@ pub fn ends_stay_within()
     ensures { (run : Run) (p : ℕ) (proc : Proc) (made : List Event) (state : Value) →
         StandsBefore run p proc made (event.End state) →
         IsFront (made ++ event.End state ∷ []) (final_cut run p) }
+{}
+
+/// Procs that have stopped within the final cut, and whose channels' counts were compared, have come to the final cut
+/// where none of them can go.
+pub fn stopped_procs_have_come_to_the_final_cut()
+    ensures { (run : Run) (cut : Cut) → IsRun run → AreStopped run cut →
+        ((p : ℕ) → p < length run.procs → goes run cut p ≡ false) →
+        cut ≡ final_cut run }
 {}
