@@ -4,10 +4,9 @@ use Rattle.std.specs.Prelude.{IfSome}
 use Rattle.std.proofs.lemmas.List.{append-nil}
 use Rattle.xb_io.specs.Contents.{Contents}
 use Rattle.cmd_answer.specs.Answered.{Answers, wrote, refused, no_memory, unread, unwritten}
-use Rattle.cmd_answer.specs.declared.fault.Fault.TheVariants.{Usage}
 use Rattle.cmd_answer.specs.declared.refusal.Refusal.{Refusal}
 use Rattle.cmd_answer.specs.Done.{IsDone, GivesDue}
-use Rattle.cmd_answer.specs.Events.{FileEvents, SinkEvents, file_events}
+use Rattle.cmd_answer.specs.Events.{FileEvents, SinkEvents}
 use Rattle.cmd_answer.specs.Fault.{Fault}
 use Rattle.cmd_answer.specs.Step.{IsOne, DueBy}
 use Rattle.cmd_words.specs.CommandLine.{said_by}

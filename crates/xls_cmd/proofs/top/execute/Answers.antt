@@ -1,8 +1,6 @@
 use Rattle.std.proofs.Common.{map, string_bytes}
-use Rattle.std.specs.Prelude.{option_map}
 use Rattle.cmd_answer.specs.Events.{file_events}
-use Rattle.cmd_words.specs.CommandLine.{said_by}
-use Rattle.cmd_words.specs.Named.{named, named_check, named_run}
+use Rattle.cmd_words.specs.Named.{named_check, named_run}
 use Rattle.cmd_words.specs.declared.request.Request.TheVariants.{Check, Run}
 use Rattle.xls_cmd.proofs.Answering.{done_by_command}
 use Rattle.xls_cmd.proofs.top.execute.Goals as goal
