@@ -1,4 +1,4 @@
-use net_core::Name;
+use texts::Name;
 use xb_span::Span;
 
 /// A name where the text has it.

@@ -1,6 +1,10 @@
+ghost use Rattle.std.specs.Prelude.{◌≡◌};
+ghost use Rattle.dslx_narrow_tree.specs.Judging.{port_of, is_direction};
+
 use crate::expr::Expr;
 use crate::ident::Ident;
 use crate::pattern::Pattern;
+use crate::port::Port;
 use crate::type_expr::TypeExpr;
 use xb_span::Span;
 use xb_value::Seq;
@@ -31,6 +35,18 @@ pub struct End {
     pub direction: Direction,
 }
 
+impl End {
+    /// The end, as effects see it.
+    pub fn port(&self) -> Port
+        ensures { result ≡ port_of self.now }
+    {
+        Port {
+            direction: self.direction,
+            word: self.word.ty(),
+        }
+    }
+}
+
 /// What a proc does at an end of a channel.
 #[derive(Clone, Copy, Debug, PartialEq, Eq, Hash)]
 pub enum Direction {
@@ -38,6 +54,24 @@ pub enum Direction {
     In,
     /// It sends: `chan<T> out`.
     Out,
+}
+
+impl Direction {
+    /// Whether the two are one direction.
+    pub fn is(self, other: Direction) -> bool
+        ensures { result ≡ is_direction self other }
+    {
+        match self {
+            Direction::In => match other {
+                Direction::In => true,
+                Direction::Out => false,
+            },
+            Direction::Out => match other {
+                Direction::In => false,
+                Direction::Out => true,
+            },
+        }
+    }
 }
 
 /// `config(ends) { (result) }`, from the word `config` to the closing brace. Without a tuple the result is empty.

@@ -1,3 +1,7 @@
+ghost use Rattle.std.specs.Prelude.{◌≡◌};
+ghost use Rattle.dslx_narrow_tree.specs.Judging.{written_type};
+
+use crate::value::SourceType;
 use crate::width::Width;
 use xb_span::Span;
 
@@ -8,4 +12,16 @@ pub enum TypeExpr {
     Bits(Span, Width),
     /// `()`
     Unit(Span),
+}
+
+impl TypeExpr {
+    /// The type that is written.
+    pub fn ty(&self) -> SourceType
+        ensures { result ≡ written_type self.now }
+    {
+        match self {
+            TypeExpr::Bits(_, width) => SourceType::Bits(width.bits),
+            TypeExpr::Unit(_) => SourceType::Unit,
+        }
+    }
 }

@@ -1,4 +1,4 @@
-ghost use Rattle.std.specs.Prelude.{◌≡◌, ◌≤◌};
+ghost use Rattle.std.specs.Prelude.{◌≡◌, ◌≤◌, ◌^◌, nat_lt};
 
 /// How many bits an unsigned type has: 1 to 128.
 #[derive(Clone, Copy, Debug, PartialEq, Eq, Hash)]
@@ -16,5 +16,12 @@ impl Width {
         ensures { result.bits ≡ bits }
     {
         Width { bits }
+    }
+
+    /// Whether a number lies in the range of the type.
+    pub fn holds(self, number: u128) -> bool
+        ensures { result ≡ nat_lt number (2 ^ self.bits) }
+    {
+        self.bits == 128 || number < 1u128 << self.bits
     }
 }

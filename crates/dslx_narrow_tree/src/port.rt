@@ -1,0 +1,10 @@
+use crate::proc::Direction;
+use crate::value::SourceType;
+
+/// An end of a channel, as effects see it.
+#[derive(Clone, Copy, Debug, PartialEq, Eq)]
+pub struct Port {
+    pub direction: Direction,
+    /// The type of the channel's words.
+    pub word: SourceType,
+}
