@@ -1,0 +1,2 @@
+-- Contracts of private parts.
+pub mod Walking
