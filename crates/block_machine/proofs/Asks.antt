@@ -2,7 +2,6 @@
 use Rattle.std.proofs.Common.{◌≡◌, ℕ, zero, suc, ◌+◌, ◌-◌, ◌<◌, ◌≤◌, List, [], ◌∷◌, ◌++◌, length, map, refl, sym, ap, ◌∙◌, subst, arith, cond, true, false, Bool, eqb, Option, Some}
 use Rattle.std.specs.Prelude.{◌⊎◌, ◌&&◌, not, slice_get}
 use Rattle.std.proofs.Common.{inl, inr}
-use Rattle.std.proofs.lemmas.Bool.Decides.{nat_tests}
 use Rattle.xb_bits.specs.Word.{Word}
 use Rattle.xb_value.specs.declared.value.Value.{Value}
 use Rattle.net_core.specs.declared.net.Site.{Site}
@@ -13,6 +12,7 @@ use Rattle.net_core.specs.Cuts.{words_sent, count_received}
 use Rattle.block_machine.specs.Pipeline.{Pipeline, IsPipeline, first}
 use Rattle.block_machine.specs.Cycle.{Ports, Contents, Deed, event_of, in_stage, event_list, asked_by, asked_of, asked_in}
 use Rattle.block_machine.specs.Since.{at_reset, after_cycles}
+use Rattle.block_machine.proofs.Choices.{if_plus, eqb-eq}
 use Rattle.block_machine.proofs.Walks.{Goes, ends, skips, takes, gives, no_word, no_room}
 use Rattle.block_machine.proofs.Rests.{site_at}
 use Rattle.block_machine.proofs.Stages.{stage_at, first_grows}
@@ -58,16 +58,9 @@ received_uses sites c (Recv i ∷ es) = ap (λ x. cond (eqb (chan_at sites i) c)
 received_uses sites c (Send i w ∷ es) = received_uses sites c es
 received_uses sites c (End s ∷ es) = received_uses sites c es
 
-if_plus : (t : Bool) (m n k : ℕ) → m ≡ n + k → cond t (suc m) m ≡ cond t (suc n) n + k
-if_plus true m n k e = omega arith
-if_plus false m n k e = e
-
 uses-append : (sites : List Site) (c : ℕ) (d : Bool) (xs ys : List Event) → uses sites c d (xs ++ ys) ≡ uses sites c d xs + uses sites c d ys
 uses-append sites c d [] ys = omega arith
 uses-append sites c d (x ∷ xs) ys = if_plus (is_use sites c d x) _ _ _ (uses-append sites c d xs ys)
-
-eqb-eq : (a c : ℕ) → eqb a c ≡ true → a ≡ c
-eqb-eq a c h = grind (arith, nat_tests)
 
 -- the site of an event that is at an end is at that end
 makes_on : (q : Pipeline) → IsPipeline q → (c : ℕ) (d : Bool) (s : Value) (got : List Word) (i : ℕ) (e : Event) → i < length q.proc.behavior.sites

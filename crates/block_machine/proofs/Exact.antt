@@ -15,7 +15,8 @@ use Rattle.block_machine.specs.Pipeline.{Pipeline, IsPipeline, first}
 use Rattle.block_machine.specs.Cycle.{Ports, Contents, opened, brought, Deed, in_stage, moves_before, moves, after_cycle, deeds_in}
 use Rattle.block_machine.specs.Since.{gave, Since, at_reset, one_more, after_cycles}
 use Rattle.block_machine.specs.Steady.{IsFed, AreFed, SendsOnce}
-use Rattle.block_machine.proofs.Walks.{Goes, IsGoing, ends, skips, takes, gives, no_word, no_room, walk_goes, eq_apart}
+use Rattle.block_machine.proofs.Choices.{eqb-eq, eq-eqb, eq_apart, if_none}
+use Rattle.block_machine.proofs.Walks.{Goes, IsGoing, ends, skips, takes, gives, no_word, no_room, walk_goes}
 use Rattle.block_machine.proofs.Rests.{site_at}
 use Rattle.block_machine.proofs.Stages.{stage_at, stands_before, stands_behind, first_within, first_grows}
 use Rattle.block_machine.proofs.Moves.{idle}
@@ -44,16 +45,6 @@ fed_passes b ports fed s got got' i n p deeds waits (no_room w t o) = absurd (le
 -- at no site of a stretch does a proc send on a channel
 abbrev SendsNothing : Behavior → ℕ → ℕ → ℕ → Type 0
 SendsNothing b ch i n = (k : ℕ) → i ≤ k → k < i + n → chan_at b.sites k ≡ ch → (s : Value) (got : List Word) (w : Word) → b.turn s got k ≡ Give w → ⊥
-
-eqb-eq : (a c : ℕ) → eqb a c ≡ true → a ≡ c
-eqb-eq a c h = grind (arith, nat_tests)
-
-eq-eqb : (a c : ℕ) → a ≡ c → eqb a c ≡ true
-eq-eqb a c h = grind (arith, nat_tests)
-
-if_none : (t : Bool) (w : Word) (xs : List Word) → (t ≡ true → ⊥) → xs ≡ [] → cond t (w ∷ xs) xs ≡ []
-if_none true w xs h e = absurd (h refl)
-if_none false w xs h e = e
 
 gives_nothing : (b : Behavior) (ch : ℕ) (ports : Ports) (s : Value) (got got' : List Word) (i n p : ℕ) (deeds : List Deed) (waits : Option Event)
     → Goes b ports s got i n p got' deeds waits → SendsNothing b ch i n → gave b.sites ch deeds ≡ []

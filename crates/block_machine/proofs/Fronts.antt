@@ -2,13 +2,13 @@
 use Rattle.std.proofs.Common.{◌≡◌, ℕ, zero, suc, ◌+◌, ◌<◌, ◌≤◌, List, [], ◌∷◌, ◌++◌, refl, sym, ◌∙◌, subst, arith, cond, true, false, Bool, eqb, Option}
 use Rattle.std.specs.Prelude.{◌||◌}
 use Rattle.std.specs.List.{list_any}
-use Rattle.std.proofs.lemmas.Bool.Decides.{nat_tests}
 use Rattle.xb_bits.specs.Word.{Word}
 use Rattle.xb_value.specs.declared.value.Value.{Value}
 use Rattle.net_core.specs.declared.event.Event.{Event}
 use Rattle.net_core.specs.Behavior.{Behavior, Turn, Skip, Receive, Give, chan_at}
 use Rattle.block_machine.specs.Cycle.{Ports, Deed, Takes, Gives, at_site, walk, is_at, kept_after}
-use Rattle.block_machine.proofs.Walks.{Goes, ends, skips, takes, gives, no_word, no_room, walk_step, eq_apart, place_range}
+use Rattle.block_machine.proofs.Choices.{eqb-same, eq_apart}
+use Rattle.block_machine.proofs.Walks.{Goes, ends, skips, takes, gives, no_word, no_room, walk_step, place_range}
 
 -- each site from place i to before place p is off or done, and the words kept lead from those received before to these
 pub data IsDone (b : Behavior) (done : ℕ → Bool) (kept : ℕ → Word) (s : Value) : List Word → ℕ → List Word → ℕ → Type 0 where
@@ -78,9 +78,6 @@ or_true false y e = e
 
 or_first : (x y : Bool) → x ≡ true → (x || y) ≡ true
 or_first x y e = rw e
-
-eqb-same : (c : ℕ) → eqb c c ≡ true
-eqb-same c = grind (arith, nat_tests)
 
 -- what a walk makes is done behind it
 pub goes_done : (b : Behavior) (ports : Ports) (done : ℕ → Bool) (kept kept' : ℕ → Word) (s : Value) (got got' : List Word) (i n p : ℕ) (deeds : List Deed) (waits : Option Event)

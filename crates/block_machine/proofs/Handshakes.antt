@@ -2,7 +2,6 @@
 use Rattle.std.proofs.Common.{◌≡◌, ℕ, zero, suc, ◌+◌, ◌-◌, ◌<◌, ◌≤◌, List, [], ◌∷◌, ◌++◌, length, map, refl, sym, ap, ◌∙◌, subst, arith, cond, true, false, Bool, eqb, Option, Some, None}
 use Rattle.std.specs.Prelude.{◌⊎◌, option_to_list}
 use Rattle.std.proofs.Common.{inl, inr}
-use Rattle.std.proofs.lemmas.Bool.Decides.{nat_tests}
 use Rattle.std.proofs.lemmas.List.{length-append}
 use Rattle.xb_bits.specs.Word.{Word}
 use Rattle.xb_value.specs.declared.value.Value.{Value}
@@ -12,6 +11,7 @@ use Rattle.net_core.specs.Cuts.{words_sent, count_received}
 use Rattle.block_machine.specs.Pipeline.{Pipeline, IsPipeline, ReceivesNowhere, first}
 use Rattle.block_machine.specs.Cycle.{Ports, Contents, Deed, event_of, in_stage, event_list, asked_by, asked_of, asked_in, deeds_of, deeds_in}
 use Rattle.block_machine.specs.Since.{took, gave, Since, at_reset, one_more, after_cycles}
+use Rattle.block_machine.proofs.Choices.{eqb-eq, if_none}
 use Rattle.block_machine.proofs.Walks.{Goes, ends, skips, takes, gives, no_word, no_room}
 use Rattle.block_machine.proofs.Rests.{site_at}
 use Rattle.block_machine.proofs.Lefts.{words_sent-append, count_received-append, count_taken, took-append, gave-append}
@@ -23,13 +23,6 @@ use Rattle.block_machine.proofs.Steps.{stands_next}
 use Rattle.block_machine.proofs.Prefixes.{past_at_reset, stands_at_reset, stands}
 use Rattle.block_machine.proofs.Offered.{none_sent}
 use Rattle.block_machine.proofs.Asks.{one_receives}
-
-eqb-eq : (a c : ℕ) → eqb a c ≡ true → a ≡ c
-eqb-eq a c h = grind (arith, nat_tests)
-
-if_none : (t : Bool) (w : Word) (xs : List Word) → (t ≡ true → ⊥) → xs ≡ [] → cond t (w ∷ xs) xs ≡ []
-if_none true w xs h e = absurd (h refl)
-if_none false w xs h e = e
 
 deeds_are : (q : Pipeline) (c : Contents) (ports : Ports) → deeds_in q c ports ≡ deeds_of q c ports 0 q.stages
 unfolding deeds_in

@@ -1,7 +1,6 @@
 -- What an activation that has given the turn on still has to send.
 use Rattle.std.proofs.Common.{◌≡◌, ℕ, zero, suc, ◌+◌, ◌<◌, ◌≤◌, List, [], ◌∷◌, ◌++◌, length, map, refl, ap, ◌∙◌, subst, arith, cond, true, false, Bool, eqb, Option}
 use Rattle.std.specs.Prelude.{◌-◌}
-use Rattle.std.proofs.lemmas.Bool.Decides.{nat_tests}
 use Rattle.std.proofs.lemmas.List.{map-append}
 use Rattle.xb_bits.specs.Word.{Word}
 use Rattle.xb_value.specs.declared.value.Value.{Value}
@@ -13,6 +12,7 @@ use Rattle.net_core.specs.Trace.{Histories}
 use Rattle.net_core.specs.Cuts.{words_sent, count_received}
 use Rattle.block_machine.specs.Cycle.{Ports, Deed, Takes, Gives, event_of}
 use Rattle.block_machine.specs.Since.{took, gave}
+use Rattle.block_machine.proofs.Choices.{eqb-eq, if_none, if_plus}
 use Rattle.block_machine.proofs.Walks.{Goes, ends, skips, takes, gives, no_word, no_room}
 use Rattle.block_machine.proofs.Rests.{rest, rest_end, rest_skips, rest_gives}
 use Rattle.block_machine.proofs.Stages.{NoReceive}
@@ -93,14 +93,10 @@ words_sent-append sites c (Recv i ∷ xs) ys = words_sent-append sites c xs ys
 words_sent-append sites c (Send i w ∷ xs) ys = if_append (eqb (chan_at sites i) c) w _ _ _ (words_sent-append sites c xs ys)
 words_sent-append sites c (End s ∷ xs) ys = words_sent-append sites c xs ys
 
-if_suc : (t : Bool) (m n k : ℕ) → m ≡ n + k → cond t (suc m) m ≡ cond t (suc n) n + k
-if_suc true m n k e = omega arith
-if_suc false m n k e = e
-
 pub count_received-append : (sites : List Site) (c : ℕ) (xs ys : List Event) → count_received sites c (xs ++ ys) ≡ count_received sites c xs + count_received sites c ys
 unfolding count_received
 count_received-append sites c [] ys = omega arith
-count_received-append sites c (Recv i ∷ xs) ys = if_suc (eqb (chan_at sites i) c) _ _ _ (count_received-append sites c xs ys)
+count_received-append sites c (Recv i ∷ xs) ys = if_plus (eqb (chan_at sites i) c) _ _ _ (count_received-append sites c xs ys)
 count_received-append sites c (Send i w ∷ xs) ys = count_received-append sites c xs ys
 count_received-append sites c (End s ∷ xs) ys = count_received-append sites c xs ys
 
@@ -137,13 +133,6 @@ gave-append sites c xs ys = ap (words_sent sites c) (map-append event_of xs ys) 
 abbrev pub IsSilent : Behavior → ℕ → ℕ → Type 0
 IsSilent b c a = (k : ℕ) → a ≤ k → k < length b.sites → chan_at b.sites k ≡ c → (s : Value) (got : List Word) (w : Word) → b.turn s got k ≡ Give w → ⊥
 
-silent_if : (t : Bool) (w : Word) (xs : List Word) → (t ≡ true → ⊥) → xs ≡ [] → cond t (w ∷ xs) xs ≡ []
-silent_if true w xs bars e = absurd (bars refl)
-silent_if false w xs bars e = e
-
-eqb-eq : (a c : ℕ) → eqb a c ≡ true → a ≡ c
-eqb-eq a c h = grind (arith, nat_tests)
-
 pub silent_gives : (b : Behavior) (c a : ℕ) → IsSilent b c a → (ports : Ports) (s : Value) (got got' : List Word) (i n p : ℕ) (deeds : List Deed) (waits : Option Event)
     → Goes b ports s got i n p got' deeds waits → a ≤ i → i + n ≤ length b.sites → gave b.sites c deeds ≡ []
 unfolding words_sent
@@ -151,7 +140,7 @@ silent_gives b c a bars ports s got got' i n p deeds waits ends l len = refl
 silent_gives b c a bars ports s got got' i n p deeds waits (skips {n = r} t g) l len = silent_gives b c a bars ports s _ got' (suc i) r p deeds waits g (omega arith) (omega arith)
 silent_gives b c a bars ports s got got' i n p deeds waits (takes {n = r} {deeds = ds} w t o g) l len = silent_gives b c a bars ports s _ got' (suc i) r p ds waits g (omega arith) (omega arith)
 silent_gives b c a bars ports s got got' i n p deeds waits (gives {n = r} {deeds = ds} w t o g) l len =
-    silent_if (eqb (chan_at b.sites i) c) w _ (λ h. bars i l (omega arith) (eqb-eq _ _ h) s got w t) (silent_gives b c a bars ports s _ got' (suc i) r p ds waits g (omega arith) (omega arith))
+    if_none (eqb (chan_at b.sites i) c) w _ (λ h. bars i l (omega arith) (eqb-eq _ _ h) s got w t) (silent_gives b c a bars ports s _ got' (suc i) r p ds waits g (omega arith) (omega arith))
 silent_gives b c a bars ports s got got' i n p deeds waits (no_word t o) l len = refl
 silent_gives b c a bars ports s got got' i n p deeds waits (no_room w t o) l len = refl
 
@@ -163,7 +152,7 @@ silent_left b c a bars s got (suc n) i l len = go (b.turn s got i) refl (silent_
     go : (turn : Turn) → b.turn s got i ≡ turn → words_sent b.sites c (left b s got (suc i) n) ≡ [] → words_sent b.sites c (left_at i turn (left b s got (suc i) n)) ≡ []
     go Skip t h = h
     go Receive t h = h
-    go (Give w) t h = silent_if (eqb (chan_at b.sites i) c) w _ (λ x. bars i l (omega arith) (eqb-eq _ _ x) s got w t) h
+    go (Give w) t h = if_none (eqb (chan_at b.sites i) c) w _ (λ x. bars i l (omega arith) (eqb-eq _ _ x) s got w t) h
 
 -- a site that sends on a channel
 pub record SendsAt (b : Behavior) (c i j : ℕ) : Type 0 where

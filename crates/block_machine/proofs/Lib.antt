@@ -1,3 +1,4 @@
+pub mod Choices
 pub mod Walks
 pub mod Rests
 pub mod Fronts

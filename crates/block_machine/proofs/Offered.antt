@@ -3,7 +3,6 @@ use Rattle.std.proofs.Common.{◌≡◌, ℕ, zero, suc, ◌+◌, ◌<◌, ◌�
 use Rattle.std.specs.Prelude.{◌⊎◌, ◌-◌}
 use Rattle.std.proofs.Common.{inl, inr}
 use Rattle.std.proofs.lemmas.Bool.{cases_lt}
-use Rattle.std.proofs.lemmas.Bool.Decides.{nat_tests}
 use Rattle.std.proofs.lemmas.List.{length-append}
 use Rattle.xb_bits.specs.Word.{Word}
 use Rattle.xb_value.specs.declared.value.Value.{Value}
@@ -15,6 +14,7 @@ use Rattle.net_core.specs.Cuts.{words_sent}
 use Rattle.block_machine.specs.Pipeline.{Pipeline, IsPipeline, first}
 use Rattle.block_machine.specs.Cycle.{Ports, Contents, Deed, event_of, in_stage, event_list, asked_by, asked_of, asked_in, after_cycle}
 use Rattle.block_machine.specs.Since.{gave, at_reset, after_cycles}
+use Rattle.block_machine.proofs.Choices.{eqb-eq, if_none}
 use Rattle.block_machine.proofs.Walks.{Goes, ends, skips, takes, gives, no_word, no_room}
 use Rattle.block_machine.proofs.Lefts.{words_sent-append}
 use Rattle.block_machine.proofs.Moves.{idle}
@@ -25,13 +25,6 @@ use Rattle.block_machine.proofs.Steps.{stands_next}
 use Rattle.block_machine.proofs.Prefixes.{stands}
 use Rattle.block_machine.proofs.Offers.{waiting_stands}
 use Rattle.block_machine.proofs.Asks.{one_sends}
-
-if_none : (t : Bool) (w : Word) (xs : List Word) → (t ≡ true → ⊥) → xs ≡ [] → cond t (w ∷ xs) xs ≡ []
-if_none true w xs h e = absurd (h refl)
-if_none false w xs h e = e
-
-eqb-eq : (a c : ℕ) → eqb a c ≡ true → a ≡ c
-eqb-eq a c h = grind (arith, nat_tests)
 
 -- where a channel has no room, nothing is sent on it
 pub none_sent : (b : Behavior) (ch : ℕ) (ports : Ports) → ports.room ch ≡ false → (s : Value) (got got' : List Word) (i n p : ℕ) (deeds : List Deed) (waits : Option Event)

@@ -10,6 +10,7 @@ use Rattle.net_core.specs.Behavior.{Behavior, Receive, Give}
 use Rattle.block_machine.specs.Pipeline.{Pipeline, IsPipeline, first}
 use Rattle.block_machine.specs.Cycle.{Ports, Contents, Deed, event_of, in_stage, moves, event_list, asked_by, after_cycle}
 use Rattle.block_machine.specs.Since.{at_reset, after_cycles}
+use Rattle.block_machine.proofs.Choices.{or_kept}
 use Rattle.block_machine.proofs.Walks.{Goes, ends, skips, takes, gives, no_word, no_room}
 use Rattle.block_machine.proofs.Moves.{moving, idle, next_is_free}
 use Rattle.block_machine.proofs.Holding.{Act, IsHeld, walked}
@@ -65,10 +66,6 @@ waits_still q c ports j e w = go (cases (moves q c ports j))
     go : (moves q c ports j ≡ true) ⊎ (moves q c ports j ≡ false) → moves q c ports j ≡ false
     go (inl m) = absurd (let x = (moving q c ports j m).waits in cc)
     go (inr m) = m
-
-or_kept : (x y z : Bool) → y ≡ true → z ≡ false → (x || (y && not z)) ≡ true
-or_kept true y z e f = refl
-or_kept false y z e f = rw (e, f)
 
 stays_full : (q : Pipeline) (c : Contents) (ports : Ports) (j : ℕ) → c.full j ≡ true → moves q c ports j ≡ false → (after_cycle q c ports).full j ≡ true
 stays_full q c ports zero f m = full_zero q c ports ∙ or_kept _ _ _ f m

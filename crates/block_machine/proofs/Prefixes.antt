@@ -12,7 +12,7 @@ use Rattle.net_core.proofs.Lemmas.{only_words_are_received}
 use Rattle.block_machine.specs.Pipeline.{Pipeline, IsPipeline}
 use Rattle.block_machine.specs.Cycle.{Ports, opened}
 use Rattle.block_machine.specs.Since.{Since, at_reset, one_more, after_cycles}
-use Rattle.block_machine.proofs.Walks.{eq_apart}
+use Rattle.block_machine.proofs.Choices.{eq_apart}
 use Rattle.block_machine.proofs.Lefts.{words_sent-append, count_received-append}
 use Rattle.block_machine.proofs.Holding.{Act, IsHeld, IsClean, begins}
 use Rattle.block_machine.proofs.Gathering.{gather, gather_none}

@@ -1,7 +1,6 @@
 -- What an activation has still to do from a place on, and what a walk makes of it.
 use Rattle.std.proofs.Common.{◌≡◌, ℕ, zero, suc, ◌+◌, ◌<◌, ◌≤◌, List, [], ◌∷◌, ◌++◌, length, drop, map, refl, ap, ◌∙◌, arith, cond, true, false, Bool, eqb, Option, Some}
 use Rattle.std.specs.Prelude.{slice_get}
-use Rattle.std.proofs.lemmas.Bool.Decides.{nat_tests}
 use Rattle.std.proofs.Math.Path.{fun_ext}
 use Rattle.xb_bits.specs.Word.{Word}
 use Rattle.xb_value.specs.declared.value.Value.{Value}
@@ -12,6 +11,7 @@ use Rattle.net_core.specs.Behavior.{Behavior, Turn, Skip, Receive, Give, chan_at
 use Rattle.net_core.specs.Trace.{Histories, without_first, events_from}
 use Rattle.block_machine.specs.Cycle.{Ports, Deed, Takes, event_of}
 use Rattle.block_machine.specs.Since.{took}
+use Rattle.block_machine.proofs.Choices.{eqb-same}
 use Rattle.block_machine.proofs.Walks.{Goes, ends, skips, takes, gives, no_word, no_room}
 
 -- the site of a place
@@ -112,9 +112,6 @@ AreWith words b deeds more = (c : ℕ) → words c ≡ took b.sites c deeds ++ m
 first_taken : (b : Behavior) (words : Histories) (i : ℕ) (w : Word) (deeds : List Deed) (more : Histories) → AreWith words b (Takes i w ∷ deeds) more
     → words (chan_at b.sites i) ≡ w ∷ (took b.sites (chan_at b.sites i) deeds ++ more (chan_at b.sites i))
 first_taken b words i w deeds more h = h (chan_at b.sites i) ∙ (let e = eqb-same (chan_at b.sites i) in rw e)
-  where
-    eqb-same : (c : ℕ) → eqb c c ≡ true
-    eqb-same c = grind (arith, nat_tests)
 
 without_taken : (b : Behavior) (words : Histories) (i : ℕ) (w : Word) (deeds : List Deed) (more : Histories) → AreWith words b (Takes i w ∷ deeds) more
     → AreWith (without_first words (chan_at b.sites i)) b deeds more

@@ -5,6 +5,7 @@ use Rattle.std.proofs.Common.{inl, inr}
 use Rattle.std.proofs.lemmas.Bool.{cases_lt}
 use Rattle.block_machine.specs.Pipeline.{Pipeline, IsPipeline}
 use Rattle.block_machine.specs.Cycle.{Ports, Contents, brought, in_stage, moves, after_cycle}
+use Rattle.block_machine.proofs.Choices.{or_false, or_kept}
 use Rattle.block_machine.proofs.Moves.{moving, next_is_free, still}
 use Rattle.block_machine.proofs.Holding.{Act, IsHeld, IsClean, walked, holds_on, comes_in, begins, cleared_by_moving, clean_stays}
 
@@ -150,9 +151,6 @@ empties q c ports o turn j l h = go (same_number j o)
 keeps_still : (q : Pipeline) (c : Contents) (ports : Ports) (o : ℕ) → HasTurn q c o → (j : ℕ) → j ≤ q.last → (j ≡ o → ⊥) → moves q c ports j ≡ false
 keeps_still q c ports o turn j l ne = still q c ports j (turn.alone j l ne)
 
-or_false : (x y : Bool) → x ≡ false → y ≡ false → (x || y) ≡ false
-or_false x y e f = rw (e, f)
-
 turn_back : (q : Pipeline) (c : Contents) (ports : Ports) (o : ℕ) → HasTurn q c o → moves q c ports q.last ≡ true → HasTurn q (after_cycle q c ports) 0
 turn_back q c ports o turn m = record { within = omega arith; here = full_zero q c ports ∙ (rw m refl); alone = alone }
   where
@@ -179,10 +177,6 @@ turn_on q c ports o turn m mo = record { within = within (same_number o q.last);
 turn_stays : (q : Pipeline) (c : Contents) (ports : Ports) (o : ℕ) → HasTurn q c o → moves q c ports q.last ≡ false → moves q c ports o ≡ false → HasTurn q (after_cycle q c ports) o
 turn_stays q c ports o turn m mo = record { within = turn.within; here = here o refl; alone = alone }
   where
-    or_kept : (x y z : Bool) → y ≡ true → z ≡ false → (x || (y && not z)) ≡ true
-    or_kept true y z e f = refl
-    or_kept false y z e f = rw (e, f)
-
     here : (j : ℕ) → o ≡ j → (after_cycle q c ports).full j ≡ true
     here zero e = full_zero q c ports ∙ or_kept _ _ _ (rw e at turn.here) (rw e at mo)
     here (suc k) e = full_suc q c ports k ∙ or_kept _ _ _ (rw e at turn.here) (rw e at mo)

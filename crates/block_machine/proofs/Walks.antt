@@ -3,13 +3,13 @@ use Rattle.std.proofs.Common.{◌≡◌, ℕ, zero, suc, ◌+◌, ◌<◌, ◌�
 use Rattle.std.specs.List.{list_any}
 use Rattle.std.specs.Prelude.{◌||◌, ◌⊎◌}
 use Rattle.std.proofs.Common.{inl, inr}
-use Rattle.std.proofs.lemmas.Bool.Decides.{nat_tests}
 use Rattle.xb_bits.specs.Word.{Word}
 use Rattle.xb_value.specs.declared.value.Value.{Value}
 use Rattle.net_core.specs.declared.event.Event.{Event}
 use Rattle.net_core.specs.declared.event.Event.TheVariants.{Recv, Send}
 use Rattle.net_core.specs.Behavior.{Behavior, Turn, Skip, Receive, Give, chan_at}
 use Rattle.block_machine.specs.Cycle.{Ports, Deed, Takes, Gives, Walk, stopped, at_site, walk, is_at}
+use Rattle.block_machine.proofs.Choices.{or_false, eq_apart}
 
 -- from place i on, over so many sites, an activation comes to a place, with these words received by then; these words go
 -- through ports on the way, and it waits for this or passes
@@ -90,12 +90,6 @@ place_range b ports s got got' i n p deeds waits (gives {n = m} w t r g) =
     let ih = place_range b ports s _ _ (suc i) m p _ _ g in let l = ih.0 in let r = ih.1 in (omega arith, omega arith)
 place_range b ports s got got' i n p deeds waits (no_word {n = m} t o) = (omega arith, omega arith)
 place_range b ports s got got' i n p deeds waits (no_room {n = m} w t r) = (omega arith, omega arith)
-
-or_false : (x y : Bool) → x ≡ false → y ≡ false → (x || y) ≡ false
-or_false x y e f = rw (e, f)
-
-pub eq_apart : (i k : ℕ) → (i ≡ k → ⊥) → eqb i k ≡ false
-eq_apart i k ne = grind (arith, nat_tests)
 
 -- what goes through ports stands before the place that is reached, from the first place on
 pub nothing_outside : (b : Behavior) (ports : Ports) (s : Value) (got got' : List Word) (i n p : ℕ) (deeds : List Deed) (waits : Option Event)

@@ -5,8 +5,6 @@
 mod machine;
 mod queue;
 mod sample;
-#[cfg(test)]
-mod tests;
 
 pub use machine::{Asked, Machine, Ports};
 pub use queue::Queue;
