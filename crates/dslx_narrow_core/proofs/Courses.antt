@@ -1,11 +1,11 @@
 -- The courses of typed steps: each site does what its direction says, and the end has its type.
-use Rattle.std.proofs.Common.{◌≡◌, ℕ, zero, suc, ◌+◌, ◌<◌, ◌≤◌, ◌==◌, Bool, true, false, List, [], ◌∷◌, ◌++◌, take, Option, Some, None, refl, sym, ap, ◌∙◌, subst, arith}
+use Rattle.std.proofs.Common.{◌≡◌, ℕ, zero, suc, ◌==◌, Bool, true, false, List, [], ◌∷◌, take, Option, Some, None, refl, sym, ap, ◌∙◌, subst, arith}
 use Rattle.std.specs.Prelude.{slice_get, if◌then◌else◌}
 use Rattle.std.proofs.lemmas.Bool.Decides.{nat_tests}
 use Rattle.xb_bits.specs.Word.{Word}
 use Rattle.net_core.specs.declared.net.Site.{Site}
 use Rattle.net_core.specs.declared.net.Chan.{Chan}
-use Rattle.net_core.specs.Behavior.{Turn, Skip, Receive, Give, IsWordOf, IsInDirection}
+use Rattle.net_core.specs.Behavior.{Turn, Receive, Give, IsWordOf, IsInDirection}
 use Rattle.dslx_narrow_tree.specs.Activation.{Course, stopped, after, word_in, turn_or_skip}
 use Rattle.dslx_narrow_tree.specs.Judging.{is_type}
 use Rattle.dslx_narrow_tree.specs.Network.{width_in}
@@ -13,13 +13,13 @@ use Rattle.dslx_narrow_tree.specs.declared.value.SourceType.{SourceType}
 use Rattle.dslx_narrow_tree.specs.declared.value.SourceType.TheVariants as ty
 use Rattle.dslx_narrow_tree.specs.declared.value.SourceValue.{SourceValue}
 use Rattle.dslx_narrow_tree.specs.declared.value.SourceValue.TheVariants as val
-use Rattle.dslx_narrow_core.specs.Evaluation.{Slots, CoreRest, core_value, shape_match, on_slots, bind_slots, give_slots, receive_slots, core_step, core_course, sites_in}
-use Rattle.dslx_narrow_core.specs.Typing.{SlotTypes, core_type, shape_types, then_types, bind_types, word_types, step_types, steps_types, is_state, ends_typed}
+use Rattle.dslx_narrow_core.specs.Evaluation.{Slots, CoreRest, core_value, shape_match, on_slots, bind_slots, give_slots, receive_slots, core_course, sites_in}
+use Rattle.dslx_narrow_core.specs.Typing.{SlotTypes, core_type, shape_types, then_types, bind_types, word_types, steps_types, is_state, ends_typed}
 use Rattle.dslx_narrow_core.specs.declared.design.Step.{Step}
 use Rattle.dslx_narrow_core.specs.declared.design.Step.TheVariants as step
 use Rattle.dslx_narrow_core.specs.declared.design.Shape.{Shape}
 use Rattle.dslx_narrow_core.specs.declared.design.CoreExpr.{CoreExpr}
-use Rattle.dslx_narrow_core.proofs.Typed.{Fits, EachFits, HasValue, IsBitsOf, bits_value, value_sound, Matches, shape_sound}
+use Rattle.dslx_narrow_core.proofs.Typed.{Fits, EachFits, HasValue, bits_value, value_sound, shape_sound}
 
 pub same_type : (a b : SourceType) → is_type a b ≡ true → a ≡ b
 same_type (ty.Bits v) (ty.Bits w) h = ap ty.Bits (grind (arith, nat_tests, h))

@@ -1,13 +1,10 @@
 -- The network of a sound design is well formed.
-use Rattle.std.proofs.Common.{◌≡◌, ◌≢◌, ℕ, zero, suc, ◌<◌, ◌≤◌, ◌^◌, ◌&&◌, Bool, true, false, IsTrue, List, [], ◌∷◌, length, Option, Some, None, refl, sym, ap, ◌∙◌, subst, arith}
-use Rattle.std.specs.Prelude.{slice_get, nat_le}
+use Rattle.std.proofs.Common.{◌≡◌, ◌≢◌, ℕ, zero, suc, ◌<◌, ◌≤◌, ◌^◌, Bool, true, false, IsTrue, List, [], ◌∷◌, length, Some, refl, sym, ◌∙◌, subst, arith}
+use Rattle.std.specs.Prelude.{slice_get}
 use Rattle.std.proofs.lemmas.Option.{slice_get_within}
-use Rattle.xb_value.specs.declared.ty.Ty as plain
-use Rattle.xb_value.specs.declared.ty.Ty.{Ty}
 use Rattle.xb_value.specs.Typing.{IsOfType}
-use Rattle.xb_value.specs.Width.{width_of, HasWidths, widths_step}
+use Rattle.xb_value.specs.Width.{HasWidths, widths_step}
 use Rattle.xb_value.proofs.Lemmas.Types.{fold-Bits, fold-Tuple}
-use Rattle.net_core.specs.declared.net.Net.{Net}
 use Rattle.net_core.specs.declared.net.ProcHead.{ProcHead}
 use Rattle.net_core.specs.declared.net.Chan.{Chan}
 use Rattle.net_core.specs.declared.net.Site.{Site}
@@ -19,8 +16,8 @@ use Rattle.dslx_narrow_tree.specs.declared.value.SourceType.{SourceType}
 use Rattle.dslx_narrow_tree.specs.declared.value.SourceType.TheVariants as ty
 use Rattle.dslx_narrow_core.specs.declared.design.Core.{Core}
 use Rattle.dslx_narrow_core.specs.Evaluation.{sites_in}
-use Rattle.dslx_narrow_core.specs.Networks.{network_of_core, IsSound, IsWordChan, kind_at, AreSmall}
-use Rattle.dslx_narrow_core.specs.Typing.{is_typed, is_state_type, is_wide, ends_typed, steps_types}
+use Rattle.dslx_narrow_core.specs.Networks.{network_of_core, IsSound, kind_at, AreSmall}
+use Rattle.dslx_narrow_core.specs.Typing.{is_state_type, ends_typed, steps_types}
 use Rattle.dslx_narrow_core.proofs.Lemmas.Keeps.{both_true}
 
 pub only : (A : Type 0) (x y : A) (p : ℕ) → slice_get (x ∷ []) p ≡ Some y → x ≡ y

@@ -1,13 +1,13 @@
 -- What is typed has a value of its type.
-use Rattle.std.proofs.Common.{◌≡◌, ℕ, zero, suc, ◌+◌, ◌<◌, ◌≤◌, ◌^◌, ◌%◌, ◌==◌, Bool, true, false, ◌&&◌, IsTrue, List, [], ◌∷◌, ◌++◌, Option, Some, None, refl, sym, ap, ◌∙◌, subst, arith}
+use Rattle.std.proofs.Common.{◌≡◌, ℕ, zero, suc, ◌<◌, ◌^◌, ◌==◌, Bool, true, false, List, [], ◌∷◌, ◌++◌, Option, Some, None, refl, sym, ap, ◌∙◌, subst, arith}
 use Rattle.std.specs.Prelude.{slice_get, if◌then◌else◌}
 use Rattle.std.proofs.lemmas.Bool.Decides.{nat_tests}
-use Rattle.xb_bits.specs.Word.{Word, word, IsWord}
+use Rattle.xb_bits.specs.Word.{Word}
 use Rattle.xb_bits.specs.Operations as op
 use Rattle.xb_bits.specs.Arithmetic.{sum_bits}
 use Rattle.xb_value.specs.Typing.{is_word_of}
 use Rattle.net_core.specs.Behavior.{IsWordOf}
-use Rattle.dslx_narrow_tree.specs.Values.{sum_of, sum_of_words, word_of, first_part, second_part}
+use Rattle.dslx_narrow_tree.specs.Values.{sum_of, sum_of_words, first_part, second_part}
 use Rattle.dslx_narrow_tree.specs.Patterns.{first_type, second_type}
 use Rattle.dslx_narrow_tree.specs.Judging.{sum_type}
 use Rattle.dslx_narrow_tree.specs.declared.value.SourceType.{SourceType}

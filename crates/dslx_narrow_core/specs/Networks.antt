@@ -1,9 +1,8 @@
 -- The network of a checked design.
-use Rattle.std.specs.Prelude.{ℕ, ◌≡◌, ◌<◌, ◌≤◌, ◌^◌, true, false, List, [], ◌∷◌, length, slice_get, Option, Some, None, IsTrue}
+use Rattle.std.specs.Prelude.{ℕ, ◌≡◌, ◌<◌, ◌≤◌, ◌^◌, true, false, List, [], ◌∷◌, length, slice_get, Option, Some, IsTrue}
 use Rattle.xb_value.specs.Typing.{IsOfType}
 use Rattle.xb_value.specs.Width.{width_of, HasWidths}
 use Rattle.net_core.specs.declared.net.Net.{Net}
-use Rattle.net_core.specs.declared.net.ProcHead.{ProcHead}
 use Rattle.net_core.specs.declared.net.Chan.{Chan}
 use Rattle.net_core.specs.declared.net.Site.{Site}
 use Rattle.net_core.specs.declared.net.Kind.{Kind}

@@ -1,6 +1,5 @@
 -- Which checked designs are typed: what the checker hands on always is.
-use Rattle.std.specs.Prelude.{ℕ, List, [], ◌∷◌, ◌++◌, ◌==◌, ◌&&◌, nat_le, nat_lt, length, Bool, true, false, Option, Some, None, if◌then◌else◌, slice_get}
-use Rattle.std.specs.List.{list_all}
+use Rattle.std.specs.Prelude.{ℕ, List, [], ◌∷◌, ◌++◌, ◌==◌, ◌&&◌, nat_le, Bool, true, false, Option, Some, None, if◌then◌else◌, slice_get}
 use Rattle.xb_value.specs.Typing.{is_word_of}
 use Rattle.net_core.specs.declared.net.Chan.{Chan}
 use Rattle.dslx_narrow_tree.specs.Judging.{is_type, sum_type}

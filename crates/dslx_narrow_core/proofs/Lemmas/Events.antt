@@ -1,5 +1,5 @@
 -- The event at a site of a course is the next event of the proc.
-use Rattle.std.proofs.Common.{◌≡◌, ℕ, zero, suc, ◌+◌, ◌≤◌, List, [], ◌∷◌, ◌++◌, length, drop, Option, Some, None, refl, sym, ap, ◌∙◌, subst, arith}
+use Rattle.std.proofs.Common.{◌≡◌, ℕ, zero, suc, ◌+◌, ◌≤◌, List, [], ◌∷◌, length, drop, Option, Some, None, refl, sym, ap, ◌∙◌, arith}
 use Rattle.std.specs.Prelude.{slice_get}
 use Rattle.xb_bits.specs.Word.{Word}
 use Rattle.xb_value.specs.declared.value.Value.{Value}
@@ -7,7 +7,7 @@ use Rattle.net_core.specs.declared.net.Site.{Site}
 use Rattle.net_core.specs.declared.event.Event.{Event}
 use Rattle.net_core.specs.declared.event.Event.TheVariants.{Recv, Send, End}
 use Rattle.net_core.specs.Behavior.{Behavior, Turn, Skip, Receive, Give, event_from, next_event}
-use Rattle.dslx_narrow_tree.specs.Activation.{Course, stopped, after, word_in, turn_or_skip, state_or_unit}
+use Rattle.dslx_narrow_tree.specs.Activation.{word_in, turn_or_skip, state_or_unit}
 use Rattle.dslx_narrow_tree.specs.Values.{state_value}
 use Rattle.dslx_narrow_tree.specs.declared.value.SourceValue.{SourceValue}
 use Rattle.dslx_narrow_tree.specs.declared.value.SourceValue.TheVariants as val
@@ -15,7 +15,7 @@ use Rattle.dslx_narrow_core.specs.declared.design.Core.{Core}
 use Rattle.dslx_narrow_core.specs.declared.design.Step.{Step}
 use Rattle.dslx_narrow_core.specs.declared.design.Step.TheVariants as step
 use Rattle.dslx_narrow_core.specs.declared.design.CoreExpr.{CoreExpr}
-use Rattle.dslx_narrow_core.specs.Evaluation.{Slots, CoreRest, core_value, shape_match, on_slots, bind_slots, give_slots, receive_slots, core_course, core_activation, sites_in, event_of, event_in, event_after, behavior_of_core}
+use Rattle.dslx_narrow_core.specs.Evaluation.{Slots, CoreRest, core_value, shape_match, on_slots, bind_slots, give_slots, receive_slots, core_course, sites_in, event_of, event_in, event_after, behavior_of_core}
 
 event_at_turn : Behavior → Value → List Word → ℕ → List Site → Turn → Event
 event_at_turn b s got i sites turn = elim turn [ Skip ↦ event_from b s got (suc i) sites | Receive ↦ Recv i | Give w ↦ Send i w ]

@@ -1,19 +1,18 @@
 -- A typed design keeps its types.
-use Rattle.std.proofs.Common.{◌≡◌, ℕ, ◌<◌, ◌≤◌, ◌^◌, ◌&&◌, Bool, true, false, IsTrue, List, [], ◌∷◌, length, take, Option, Some, None, refl, sym, ap, ◌∙◌, subst, arith}
+use Rattle.std.proofs.Common.{◌≡◌, ℕ, ◌<◌, ◌^◌, ◌&&◌, Bool, true, false, IsTrue, List, [], ◌∷◌, length, take, Option, Some, refl, sym, ap, ◌∙◌, subst, arith}
 use Rattle.std.specs.Prelude.{slice_get}
 use Rattle.std.proofs.lemmas.List.{take_all}
 use Rattle.std.proofs.lemmas.Bool.Decides.{nat_tests}
 use Rattle.xb_bits.specs.Word.{Word}
-use Rattle.xb_value.specs.declared.ty.Ty as plain
 use Rattle.xb_value.specs.declared.value.Value.{Value}
 use Rattle.xb_value.specs.declared.value.Value as value
 use Rattle.xb_value.specs.declared.value.Value.TheViews.{out-Value, outs-Bits, outs-Tuple}
-use Rattle.xb_value.specs.Typing.{IsOfType, is_word_of, bits_fit, tuple_fits, fits, each_passes}
+use Rattle.xb_value.specs.Typing.{IsOfType, is_word_of, bits_fit, tuple_fits}
 use Rattle.xb_value.proofs.Lemmas.Typing.{fits-Bits, fits-Tuple, bits_of_type, tuple_of_type}
 use Rattle.net_core.specs.declared.net.Chan.{Chan}
 use Rattle.net_core.specs.declared.net.Site.{Site}
-use Rattle.net_core.specs.Behavior.{Behavior, Turn, Skip, Receive, Give, IsWordOf, IsOpen, TurnFits, KeepsTypes}
-use Rattle.dslx_narrow_tree.specs.Activation.{Course, turn_or_skip, state_or_unit}
+use Rattle.net_core.specs.Behavior.{Behavior, Turn, IsWordOf, IsOpen, TurnFits, KeepsTypes}
+use Rattle.dslx_narrow_tree.specs.Activation.{turn_or_skip, state_or_unit}
 use Rattle.dslx_narrow_tree.specs.Network.{plain_type, width_in}
 use Rattle.dslx_narrow_tree.specs.Values.{plain_of, state_value, state_step}
 use Rattle.dslx_narrow_tree.specs.declared.value.SourceType.{SourceType}
@@ -25,7 +24,7 @@ use Rattle.dslx_narrow_core.specs.declared.design.Step.{Step}
 use Rattle.dslx_narrow_core.specs.declared.design.CoreExpr.{CoreExpr}
 use Rattle.dslx_narrow_core.specs.Evaluation.{behavior_of_core, core_activation, core_course, sites_in}
 use Rattle.dslx_narrow_core.specs.Typing.{is_typed, is_state_type, ends_typed, steps_types}
-use Rattle.dslx_narrow_core.proofs.Typed.{Fits, EachFits, HasValue}
+use Rattle.dslx_narrow_core.proofs.Typed.{Fits, HasValue}
 use Rattle.dslx_narrow_core.proofs.Courses.{TurnAt, IsFed, Runs, steps_run, steps_directed}
 use Rattle.dslx_narrow_core.proofs.Feeding.{TurnKept, KeepsTurns, fed_there}
 

@@ -1,4 +1,4 @@
-use Rattle.std.proofs.Common.{◌≡◌, ◌≤◌, length, sym, subst, arith}
+use Rattle.std.proofs.Common.{◌≤◌, length, sym, subst, arith}
 use Rattle.net_core.specs.WellFormed.{IsNet}
 use Rattle.dslx_narrow_core.proofs.Nets.{whole, small}
 use Rattle.dslx_narrow_core.proofs.elaboration.elaborate.Goals as goal
