@@ -1,13 +1,13 @@
 -- What the files hold determines what each command gives.
-use Rattle.std.proofs.Common.{◌≡◌, ℕ, List, [], ◌∷◌, Result, Ok, Err, get_or, refl, ap, sym, ◌∙◌}
+use Rattle.std.proofs.Common.{◌≡◌, ℕ, List, [], ◌∷◌, Ok, get_or, refl, ap, sym, ◌∙◌}
 use Rattle.xb_bits.specs.Word.{Word}
 use Rattle.xb_io.specs.Contents.{Contents}
 use Rattle.cmd_answer.specs.Step.{IsOne}
 use Rattle.cmd_answer.proofs.Lemmas.{then_is_one, gives_is_one, loads_is_one}
 use Rattle.cmd_words.specs.declared.request.Check.{Check}
 use Rattle.cmd_words.specs.declared.request.Run.{Run}
-use Rattle.cmd_design.specs.Commands.{ReadsDesign, reads, reads_as_none, ReadsInputs, says, says_nothing, check, check_text, run, run_texts}
-use Rattle.cmd_design.specs.Inputs.{SayWords, SaysInputs, lines_of}
+use Rattle.cmd_design.specs.Commands.{ReadsDesign, reads, reads_as_none, ReadsInputs, says, says_nothing, check, run}
+use Rattle.cmd_design.specs.Inputs.{SayWords, lines_of}
 use Rattle.cmd_design.specs.OneProc.{OneProc, Reads, tokens_of}
 use Rattle.cmd_design.proofs.Forms.{tokens_are_one}
 use Rattle.cmd_design.proofs.Lines.{words_are_one}

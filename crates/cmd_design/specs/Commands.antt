@@ -1,5 +1,5 @@
 -- The commands of a design, each read from top to bottom: the order of the steps is the order of the causes.
-use Rattle.std.specs.Prelude.{◌≡◌, ℕ, List, [], ◌∷◌, Result, Ok, Err, codes}
+use Rattle.std.specs.Prelude.{ℕ, List, [], ◌∷◌, Result, Ok, Err, codes}
 use Rattle.xb_bits.specs.Word.{Word}
 use Rattle.xb_io.specs.Contents.{Contents}
 use Rattle.xb_span.specs.declared.read_error.ReadError.TheVariants.{Syntax}

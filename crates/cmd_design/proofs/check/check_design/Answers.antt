@@ -1,4 +1,4 @@
-use Rattle.std.proofs.Common.{[], List, ℕ, Err}
+use Rattle.std.proofs.Common.{[]}
 use Rattle.cmd_answer.specs.Done.{IsDone}
 use Rattle.cmd_answer.specs.Events.{file_events}
 use Rattle.cmd_answer.specs.Step.{DueBy}
