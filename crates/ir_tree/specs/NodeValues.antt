@@ -1,6 +1,6 @@
 -- The value of each node of a proc, in an activation from a state, where each site has a word: what its receive gets if it is on.
 --
--- The nodes have their values in line order, each by those before it; `laws::node_value` says so of each alone.
+-- The nodes have their values in line order, each by those before it.
 use Rattle.std.specs.Prelude.{ℕ, suc, Bool, true, false, ◌==◌, if◌then◌else◌, List, [], ◌∷◌, ◌++◌, map, get_or, slice_get, Option, Some, None, option_map}
 use Rattle.xb_bits.specs.Word.{Word, word}
 use Rattle.xb_value.specs.declared.value.Value.{Value, out-Value, Tuple}
