@@ -1,10 +1,10 @@
 -- What an expression comes to, kind by kind.
-use Rattle.std.proofs.Common.{◌≡◌, ℕ, List, [], ◌∷◌, ◌++◌, map, Bool, true, false, ◌&&◌, Option, Some, None, refl, sym, ap, ◌∙◌, append_assoc}
+use Rattle.std.proofs.Common.{◌≡◌, List, [], ◌∷◌, ◌++◌, map, Bool, ◌&&◌, Option, Some, None, sym, ap, ◌∙◌, append_assoc}
 use Rattle.std.specs.Prelude.{if◌then◌else◌, not}
 use Rattle.xb_span.specs.declared.span.Span.{Span}
 use Rattle.xb_span.specs.declared.fault.Fault.{Fault}
 use Rattle.dslx_narrow_tree.specs.Names.{callee_of}
-use Rattle.dslx_narrow_tree.specs.Judging.{Scope, Judged, Seen, seen, seen_step, call_seen, type_alone, faults_alone, sum_type, sum_faults, all_alone, join_faults, are_tokens, is_token, token_faults, held_faults, channel_faults, argument_faults, recv_type, recv_faults, send_type, send_faults, received_type, word_type, port_named, is_free, sends_type, sent_faults, broken, broken_where}
+use Rattle.dslx_narrow_tree.specs.Judging.{Scope, Judged, Seen, seen, seen_step, call_seen, type_alone, faults_alone, sum_type, sum_faults, is_token, token_faults, channel_faults, recv_type, recv_faults, send_type, send_faults, received_type, word_type, port_named, is_free, sends_type, sent_faults, broken_where}
 use Rattle.dslx_narrow_tree.specs.declared.ident.Ident.{Ident}
 use Rattle.dslx_narrow_tree.specs.declared.proc.Direction.TheVariants.{In, Out}
 use Rattle.dslx_narrow_tree.specs.declared.value.SourceType.{SourceType}

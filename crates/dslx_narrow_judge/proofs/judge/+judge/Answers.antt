@@ -1,11 +1,11 @@
 use Rattle.std.proofs.Common.{◌≡◌, ◌++◌, ◌∷◌, [], ◌&&◌, List, map, sym, ap, ◌∙◌, subst, IfOk, Some, None}
 use Rattle.std.specs.Prelude.{if◌then◌else◌}
 use Rattle.dslx_narrow_tree.specs.Names.{callee_of}
-use Rattle.dslx_narrow_tree.specs.Judging.{Scope, Seen, seen, call_seen, token_faults, sent_faults, is_free, port_named, word_type, received_type, recv_type, recv_faults, send_type, send_faults}
+use Rattle.dslx_narrow_tree.specs.Judging.{Seen, seen, call_seen, token_faults, sent_faults, is_free, port_named, word_type, received_type, recv_type, recv_faults, send_type, send_faults}
 use Rattle.dslx_narrow_tree.specs.declared.proc.Direction.TheVariants.{In, Out}
 use Rattle.dslx_narrow_tree.specs.declared.value.SourceType.TheVariants as ty
-use Rattle.dslx_narrow_tree.specs.declared.expr.Expr.{Expr, Call, Add}
-use Rattle.dslx_narrow_judge.specs.Sights.{Judges, Shows}
+use Rattle.dslx_narrow_tree.specs.declared.expr.Expr.{Expr, Add}
+use Rattle.dslx_narrow_judge.specs.Sights.{Judges}
 use Rattle.dslx_narrow_judge.proofs.Seen.{seen-Call, judged_add, received, sent}
 use Rattle.dslx_narrow_judge.proofs.Lists.{two_is, three_is, recv_empty, recv_one, recv_more, send_empty, send_one, send_two, send_more}
 use Rattle.dslx_narrow_judge.proofs.judge.+judge.Goals as goal
