@@ -1,5 +1,5 @@
 -- One activation of a proc: what it does at each site, and then the next state.
-use Rattle.std.specs.Prelude.{ℕ, List, [], ◌∷◌, ◌++◌, Bool, true, false, Option, Some, None, slice_get}
+use Rattle.std.specs.Prelude.{ℕ, List, [], ◌∷◌, ◌++◌, Bool, true, false, Option, Some, None}
 use Rattle.xb_bits.specs.Word.{Word}
 use Rattle.xb_value.specs.declared.value.Value.{Value}
 use Rattle.xb_value.specs.declared.value.Value as plain
@@ -7,14 +7,12 @@ use Rattle.net_core.specs.Behavior.{Turn, Skip, Receive, Give}
 use Rattle.dslx_narrow_tree.specs.Names.{callee_of}
 use Rattle.dslx_narrow_tree.specs.Values.{Environment, value_of, word_of, matched, state_value, plain_of}
 use Rattle.dslx_narrow_tree.specs.declared.callee.Callee.{Callee}
-use Rattle.dslx_narrow_tree.specs.declared.callee.Callee.TheVariants.{Join, Recv, Send, Unknown}
-use Rattle.dslx_narrow_tree.specs.declared.ident.Ident.{Ident}
+use Rattle.dslx_narrow_tree.specs.declared.callee.Callee.TheVariants.{Recv, Send}
 use Rattle.dslx_narrow_tree.specs.declared.proc.Proc.{Proc}
 use Rattle.dslx_narrow_tree.specs.declared.proc.Stmt.{Stmt}
 use Rattle.dslx_narrow_tree.specs.declared.proc.Stmt.TheVariants.{Let, Bare}
 use Rattle.dslx_narrow_tree.specs.declared.value.SourceValue.{SourceValue}
-use Rattle.dslx_narrow_tree.specs.declared.value.SourceValue.TheVariants.{Bits, Unit, Token, Received}
-use Rattle.dslx_narrow_tree.specs.declared.pattern.Pattern.{Pattern}
+use Rattle.dslx_narrow_tree.specs.declared.value.SourceValue.TheVariants.{Unit, Token, Received}
 use Rattle.dslx_narrow_tree.specs.declared.expr.Expr.{Expr, out-Expr}
 use Rattle.dslx_narrow_tree.specs.declared.expr.Expr.TheOpen.{Expr-F}
 

@@ -1,12 +1,11 @@
 -- The judgement of statements and blocks, and their counts.
-use Rattle.std.specs.Prelude.{ℕ, suc, List, [], ◌∷◌, ◌++◌, ◌+◌, ◌<◌, nat_lt, not, map, sum, Bool, true, false, cond, Option, Some, None, if◌then◌else◌}
+use Rattle.std.specs.Prelude.{ℕ, List, [], ◌∷◌, ◌++◌, ◌+◌, nat_lt, not, map, sum, Bool, true, false, Option, Some, None, if◌then◌else◌}
 use Rattle.xb_span.specs.declared.span.Span.{Span}
 use Rattle.xb_span.specs.declared.fault.Fault.{Fault}
 use Rattle.xb_span.specs.declared.fault.Fault.TheVariants.{Passed}
-use Rattle.xb_span.specs.declared.limit.Limit.{Limit}
 use Rattle.xb_span.specs.declared.limit.What.TheVariants.{Size}
-use Rattle.dslx_narrow_tree.specs.Judging.{Local, Scope, Judged, Seen, seen, broken, broken_where, is_type, value_type, value_faults, faults_alone, type_alone}
-use Rattle.dslx_narrow_tree.specs.Patterns.{Bound, bound_by}
+use Rattle.dslx_narrow_tree.specs.Judging.{Local, Scope, Judged, Seen, seen, broken_where, is_type, value_faults, faults_alone, type_alone}
+use Rattle.dslx_narrow_tree.specs.Patterns.{bound_by}
 use Rattle.dslx_narrow_tree.specs.declared.ident.Ident.{Ident}
 use Rattle.dslx_narrow_tree.specs.declared.expr.Expr.{Expr, fold-Expr}
 use Rattle.dslx_narrow_tree.specs.declared.expr.Expr.TheOpen.{Expr-F}

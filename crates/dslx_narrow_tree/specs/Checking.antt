@@ -1,15 +1,13 @@
 -- The faults of a text, and the one that is named.
-use Rattle.std.specs.Prelude.{ℕ, suc, List, [], ◌∷◌, ◌++◌, ◌==◌, ◌&&◌, nat_lt, not, map, length, Bool, true, false, Option, Some, None, if◌then◌else◌}
+use Rattle.std.specs.Prelude.{ℕ, List, [], ◌∷◌, ◌++◌, ◌&&◌, nat_lt, not, map, length, Bool, true, false, Option, Some, None, if◌then◌else◌}
 use Rattle.std.specs.Str.{bytes_eq}
 use Rattle.std.specs.List.{list_all}
-use Rattle.xb_span.specs.declared.span.Span.{Span}
 use Rattle.xb_span.specs.declared.fault.Fault.{Fault}
 use Rattle.xb_span.specs.declared.fault.Fault.TheVariants.{Whole, Passed}
-use Rattle.xb_span.specs.declared.limit.Limit.{Limit}
 use Rattle.xb_span.specs.declared.limit.What.TheVariants.{Sites, Instances}
 use Rattle.xb_span.specs.Fault.{first_of}
-use Rattle.dslx_narrow_tree.specs.Names.{is_named, is_reserved}
-use Rattle.dslx_narrow_tree.specs.Judging.{Local, Scope, broken, broken_where, written_type, is_direction, is_type, port_of, port_in}
+use Rattle.dslx_narrow_tree.specs.Names.{is_named}
+use Rattle.dslx_narrow_tree.specs.Judging.{Scope, broken, broken_where, written_type, is_direction, is_type, port_of, port_in}
 use Rattle.dslx_narrow_tree.specs.Patterns.{declared_faults}
 use Rattle.dslx_narrow_tree.specs.Blocks.{block_faults, count_sites}
 use Rattle.dslx_narrow_tree.specs.declared.ident.Ident.{Ident}

@@ -2,11 +2,9 @@
 --
 -- A node has a type only where it breaks no rule and its parts have theirs; a rule that needs a type which isn't there
 -- doesn't apply.
-use Rattle.std.specs.Prelude.{ℕ, List, [], ◌∷◌, ◌++◌, ◌==◌, ◌^◌, ◌&&◌, nat_lt, not, map, Bool, true, false, Option, Some, None, if◌then◌else◌}
+use Rattle.std.specs.Prelude.{ℕ, List, [], ◌∷◌, ◌++◌, ◌==◌, ◌^◌, ◌&&◌, nat_lt, not, Bool, true, false, Option, Some, None, if◌then◌else◌}
 use Rattle.std.specs.Str.{bytes_eq}
-use Rattle.std.specs.List.{list_all}
 use Rattle.xb_span.specs.declared.span.Span.{Span}
-use Rattle.xb_span.specs.declared.span.Rule.{Rule}
 use Rattle.xb_span.specs.declared.fault.Fault.{Fault}
 use Rattle.xb_span.specs.declared.fault.Fault.TheVariants.{Broken}
 use Rattle.dslx_narrow_tree.specs.Names.{callee_of, is_named}

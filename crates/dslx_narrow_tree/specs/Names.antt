@@ -1,5 +1,5 @@
 -- Which names stand for something of the language's own.
-use Rattle.std.specs.Prelude.{ℕ, List, [], ◌∷◌, codes, Bool, ◌||◌, if◌then◌else◌}
+use Rattle.std.specs.Prelude.{ℕ, List, codes, Bool, ◌||◌, if◌then◌else◌}
 use Rattle.std.specs.Str.{bytes_eq}
 use Rattle.std.specs.List.{list_any}
 use Rattle.dslx_narrow_tree.specs.declared.callee.Callee.{Callee}

@@ -1,17 +1,15 @@
 -- The network of a text: its top proc, whose channels are the outside's.
-use Rattle.std.specs.Prelude.{ℕ, suc, List, [], ◌∷◌, map, Bool, true, false, Option, Some, None, slice_get, get_or, nat_lt, length, if◌then◌else◌}
+use Rattle.std.specs.Prelude.{ℕ, suc, List, [], ◌∷◌, map, Option, Some, None, slice_get, get_or, nat_lt, length, if◌then◌else◌}
 use Rattle.std.specs.Str.{bytes_eq}
-use Rattle.xb_bits.specs.Word.{Word}
 use Rattle.xb_value.specs.declared.ty.Ty.{Ty}
 use Rattle.xb_value.specs.declared.ty.Ty as ty
-use Rattle.xb_value.specs.declared.value.Value.{Value}
 use Rattle.xb_value.specs.Width.{width_of}
 use Rattle.net_core.specs.declared.net.Net.{Net}
 use Rattle.net_core.specs.declared.net.ProcHead.{ProcHead}
 use Rattle.net_core.specs.declared.net.Chan.{Chan}
 use Rattle.net_core.specs.declared.net.Site.{Site}
 use Rattle.net_core.specs.declared.net.Kind.{Kind}
-use Rattle.net_core.specs.declared.net.Kind.TheVariants.{Input, Output, Inner}
+use Rattle.net_core.specs.declared.net.Kind.TheVariants.{Input, Output}
 use Rattle.net_core.specs.Behavior.{Behavior}
 use Rattle.xb_span.specs.declared.limit.Limit.{Limit}
 use Rattle.xb_span.specs.declared.limit.What.TheVariants.{Channels}
