@@ -1,0 +1,2 @@
+-- the tree of a chain of operators, by their levels
+pub mod Levels
