@@ -1,0 +1,3 @@
+mod OneTree
+mod Stepping
+mod Tails

@@ -1,0 +1,12 @@
+-- how a tree is built from steps and tokens
+pub mod Building
+-- nothing built, and parts that aren't there
+pub mod Empty
+-- which tokens read as which tree, and how others are refused
+pub mod Reads
+-- what tokens do to the nesting
+pub mod Roles
+-- what each rule makes of the parts of its symbols
+pub mod Rules
+-- contracts of this crate's private functions
+pub mod Inner
