@@ -9,3 +9,6 @@ mod sample;
 pub use machine::{Asked, Machine, Ports};
 pub use queue::Queue;
 pub use sample::{Action, Begun, Next, Sample, SampleSite};
+
+#[cfg(test)]
+mod tests;
