@@ -1,10 +1,9 @@
 -- Each step keeps the rule of a channel.
-use Rattle.std.proofs.Common.{◌≡◌, ◌≢◌, ℕ, zero, suc, ◌+◌, ◌<◌, ◌≤◌, true, false, true≢false, Bool, List, [], ◌∷◌, ◌++◌, length, set, sym, refl, ap, ◌∙◌, subst, ⊎_elim, arith, Some, map, drop, take, inl, inr}
-use Rattle.std.specs.Prelude.{slice_get, ◌⊎◌}
+use Rattle.std.proofs.Common.{◌≡◌, ◌≢◌, ℕ, zero, suc, ◌+◌, ◌≤◌, true, false, true≢false, Bool, List, [], ◌∷◌, ◌++◌, length, set, sym, refl, ap, ◌∙◌, subst, ⊎_elim, arith, Some, inl, inr}
+use Rattle.std.specs.Prelude.{slice_get}
 use mathlib.Core.Option.{some, some-ne-none}
 use lib.ListN.{get_elem?}
 use Rattle.std.proofs.lemmas.Option.{slice_get_within}
-use Rattle.std.proofs.lemmas.List.{length-append}
 use Rattle.crossbeam_queue.specs.Fifo.{Pushes, Pops, Forks, Merges, Learns}
 use Rattle.crossbeam_queue.proofs.Lists.{at_set, at_snoc}
 use Rattle.xb_bits.specs.Word.{Word}
@@ -13,7 +12,7 @@ use Rattle.chan_queue.specs.declared.view.View.{View}
 use Rattle.chan_queue.specs.declared.item.Item.{Item}
 use Rattle.chan_queue.specs.declared.item.Item.TheVariants as item
 use Rattle.chan_queue.specs.Channel.{Standing, KnowsSending, KnowsReceiving, IsOpening, Lies, IsChannel, unopened, opened, sending, receiving, both, spent, between, MaySend, MayReceive, IsTold}
-use Rattle.chan_queue.specs.Steps.{IsItemOf}
+use Rattle.chan_queue.specs.Steps.{IsItemOf, Sends}
 use Rattle.chan_queue.proofs.Lies.{none_lie, count_lies, lies_sent, IsFirst, first_lies}
 
 at_end : (l : List View) (a b : View) (j : ℕ) → get_elem? l j ≢ some b → get_elem? (l ++ a ∷ []) j ≡ some b → j ≡ length l
@@ -143,7 +142,7 @@ module _ {S : Type 0} where
 
   -- a word lands
   pub sends_word : (n pass : ℕ) (v : View) (word : Word) → v.sends ≡ true → v.opens ≡ false → v.depth ≡ n → MaySend v word
-      → Pushes (IsChannel {S = S}) n pass v (item.Word word) (λ w. w ≡ record v { sent = suc v.sent })
+      → Pushes (IsChannel {S = S}) n pass v (item.Word word) (Sends {S = S} v (item.Word word))
   sends_word n pass v word sends shut depth may items views room h at =
       let mine = h.sender pass v at sends in
       let here = lies_words h.at.opens h.at.words h.at.received h.at.sent items (sym mine.opens ∙ shut) h.lies in
@@ -153,7 +152,7 @@ module _ {S : Type 0} where
     where
       go : items ≡ between h.at.words h.at.received h.at.sent → length items ≡ length (between {S = S} h.at.words h.at.received h.at.sent)
           → h.at.received + length (between {S = S} h.at.words h.at.received h.at.sent) ≡ h.at.sent
-          → MaySend v word → (w : View) × IsChannel (items ++ item.Word word ∷ []) (set views pass w) × (w ≡ record v { sent = suc v.sent })
+          → MaySend v word → (w : View) × IsChannel (items ++ item.Word word ∷ []) (set views pass w) × Sends {S = S} v (item.Word word) w
       go here count all (inr full) =
           let mine = h.sender pass v at sends in
           absurd (omega (arith, room, count, all, full.1, mine.sent, mine.limit, mine.depth, h.limit, depth))
@@ -176,7 +175,7 @@ module _ {S : Type 0} where
               receiver = all_set (Receiver now) views pass w (λ t. let r = h.receiver pass v at t in record { only = r.only; opens = r.opens; words = r.words; limit = r.limit; depth = r.depth; received = r.received; told = omega (arith, r.told) })
                   (λ j u other e t. let r = h.receiver j u e t in record { only = r.only; opens = r.opens; words = r.words; limit = r.limit; depth = r.depth; received = r.received; told = omega (arith, r.told) });
             },
-            refl,
+            (refl, (word, refl, next)),
           )
 
   -- where a word finds no room, the queue holds as many as its depth

@@ -1,5 +1,5 @@
 -- What a channel's queue holds, and what its passes know.
-use Rattle.std.specs.Prelude.{◌≡◌, ℕ, suc, zero, ◌+◌, ◌<◌, ◌≤◌, ◌⊎◌, Bool, true, false, List, [], ◌∷◌, length, take, drop, map, slice_get, Some}
+use Rattle.std.specs.Prelude.{◌≡◌, ℕ, ◌+◌, ◌<◌, ◌≤◌, ◌⊎◌, Bool, true, false, List, [], ◌∷◌, length, take, drop, map, slice_get, Some}
 use mathlib.Core.Option.{some}
 use lib.ListN.{get_elem?}
 use Rattle.xb_bits.specs.Word.{Word}
@@ -7,7 +7,6 @@ use Rattle.chan_queue.specs.Stream.{Stream}
 use Rattle.chan_queue.specs.declared.view.View.{View}
 use Rattle.chan_queue.specs.declared.item.Item.{Item}
 use Rattle.chan_queue.specs.declared.item.Item.TheVariants as item
-use Rattle.chan_queue.specs.declared.item.Opening.{Opening}
 
 -- a channel at a moment: its stream and depth, whether its opening lies in the queue, how many words were sent and
 -- received, and the numbers of the passes that may send and receive

@@ -4,12 +4,12 @@ use crossbeam_queue::Pass;
 
 /// The right to send on a channel. It has no bytes, and goes where its proc goes.
 #[derive(Drop)]
-pub struct SendPass<'a, S> {
-    pub(crate) pass: Pass<Item<'a, S>, View>,
+pub struct SendPass<S> {
+    pub(crate) pass: Pass<Item<S>, View>,
 }
 
 /// The right to receive from a channel.
 #[derive(Drop)]
-pub struct RecvPass<'a, S> {
-    pub(crate) pass: Pass<Item<'a, S>, View>,
+pub struct RecvPass<S> {
+    pub(crate) pass: Pass<Item<S>, View>,
 }

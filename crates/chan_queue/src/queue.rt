@@ -12,25 +12,25 @@ use xb_bits::Bits;
 
 /// The queue of a channel between two procs.
 #[derive(Drop)]
-pub struct ChanQueue<'a, S> {
-    line: RuledArrayQueue<Item<'a, S>, View, ChannelRule>,
+pub struct ChanQueue<S> {
+    line: RuledArrayQueue<Item<S>, View, ChannelRule>,
     chan: u32,
 }
 
 /// A new channel of a run, with a place for `depth` words, and the passes of its two ends.
 ///
 /// It takes all the memory that the channel ever needs.
-pub fn make<'a, S: Streams, R: Wait>(
+pub fn make<S: Streams, R: Wait>(
     rt: &R,
     alloc: Global,
-    run: &'a S,
+    run: S,
     chan: u32,
     depth: u32,
-) -> Result<(ChanQueue<'a, S>, SendPass<'a, S>, RecvPass<'a, S>), AllocError>
+) -> Result<(ChanQueue<S>, SendPass<S>, RecvPass<S>), AllocError>
     requires { 0 < depth }
     ensures { IfOk result (λ made. IsSender made.0 made.1 × IsReceiver made.0 made.2 × (made.0.chan ≡ chan)
-        × (sender_knows made.1 ≡ sender_of (S.stream run.entry.now chan) depth 0 0)
-        × (receiver_knows made.2 ≡ receiver_of (S.stream run.entry.now chan) depth 0 0)) }
+        × (sender_knows made.1 ≡ sender_of (S.stream run chan) depth 0 0)
+        × (receiver_knows made.2 ≡ receiver_of (S.stream run chan) depth 0 0)) }
 {
     let (line, mut pass) = RuledArrayQueue::ruled(alloc, depth as usize)?;
     let item = Item::Opening(Opening { run, chan, depth });
@@ -50,7 +50,7 @@ pub fn make<'a, S: Streams, R: Wait>(
     ))
 }
 
-impl<'a, S> ChanQueue<'a, S> {
+impl<S: Streams> ChanQueue<S> {
     /// The channel's number in its run.
     pub fn chan(&self) -> u32
         ensures { result ≡ self.now.chan }
@@ -61,17 +61,13 @@ impl<'a, S> ChanQueue<'a, S> {
     /// Sends the next word of the stream. Where the channel holds as many words as its depth, the word comes back.
     ///
     /// It answers `Ok` where fewer words were sent past those of which the pass was told that they were received.
-    pub fn send<R: Wait>(
-        &self,
-        rt: &R,
-        sender: &mut SendPass<'a, S>,
-        word: Bits,
-    ) -> Result<(), Bits>
+    pub fn send<R: Wait>(&self, rt: &R, sender: &mut SendPass<S>, word: Bits) -> Result<(), Bits>
         requires pass { IsSender self.now sender.old }
         requires word { MaySend (sender_knows sender.old) word }
         ensures pass { IsSender self.now sender.new }
         ensures word { MatchResult result
-            (λ _. sender_knows sender.new ≡ record (sender_knows sender.old) { sent = suc (sender_knows sender.old).sent })
+            (λ _. (slice_get (sender_knows sender.old).words (sender_knows sender.old).sent ≡ Some word)
+            × (sender_knows sender.new ≡ record (sender_knows sender.old) { sent = suc (sender_knows sender.old).sent }))
             (λ back. (back ≡ word) × (sender_knows sender.new ≡ sender_knows sender.old)
             × ((sender_knows sender.old).told_received + (sender_knows sender.old).depth ≤ (sender_knows sender.old).sent)) }
     {
@@ -87,7 +83,7 @@ impl<'a, S> ChanQueue<'a, S> {
     /// Receives the next word of the stream, unless the channel holds none.
     ///
     /// It answers a word where the pass was told of more sends than it received.
-    pub fn recv<R: Wait>(&self, rt: &R, receiver: &mut RecvPass<'a, S>) -> Option<Bits>
+    pub fn recv<R: Wait>(&self, rt: &R, receiver: &mut RecvPass<S>) -> Option<Bits>
         requires pass { IsReceiver self.now receiver.old }
         requires word { MayReceive (receiver_knows receiver.old) }
         ensures pass { IsReceiver self.now receiver.new }
@@ -103,18 +99,14 @@ impl<'a, S> ChanQueue<'a, S> {
     }
 
     /// The two ends tell each other how many words they sent and received.
-    pub fn meet(
-        &self,
-        sender: SendPass<'a, S>,
-        receiver: RecvPass<'a, S>,
-    ) -> (SendPass<'a, S>, RecvPass<'a, S>)
+    pub fn meet(&self, sender: SendPass<S>, receiver: RecvPass<S>) -> (SendPass<S>, RecvPass<S>)
         requires sender { IsSender self.now sender }
         requires receiver { IsReceiver self.now receiver }
         ensures sender { IsSender self.now result.0
-            × (sender_knows result.0 ≡ sending (both (sender_knows sender.entry) (receiver_knows receiver.entry))) }
+            × (sender_knows result.0 ≡ sending (both (sender_knows sender) (receiver_knows receiver))) }
         ensures receiver { IsReceiver self.now result.1
-            × (receiver_knows result.1 ≡ receiving (both (sender_knows sender.entry) (receiver_knows receiver.entry))) }
-        ensures told { IsTold (both (sender_knows sender.entry) (receiver_knows receiver.entry)) }
+            × (receiver_knows result.1 ≡ receiving (both (sender_knows sender) (receiver_knows receiver))) }
+        ensures told { IsTold (both (sender_knows sender) (receiver_knows receiver)) }
     {
         let SendPass { mut pass } = sender;
         let RecvPass { pass: other } = receiver;

@@ -26,7 +26,7 @@ pub struct View {
 
 pub struct ChannelRule;
 
-impl<'a, S> Protocol<Item<'a, S>, View> for ChannelRule {
+impl<S> Protocol<Item<S>, View> for ChannelRule {
     ghost use Rattle.chan_queue.specs.Channel.{IsChannel, unopened};
 
     ghost holds = { IsChannel };
@@ -37,13 +37,13 @@ impl<'a, S> Protocol<Item<'a, S>, View> for ChannelRule {
 // That the channel opens is put into the empty queue.
 pub struct Opens;
 
-impl<'a, S: Streams> Outcome<Item<'a, S>, View> for Opens {
+impl<S: Streams> Outcome<Item<S>, View> for Opens {
     ghost use Rattle.chan_queue.specs.Steps.{Opens};
 
     ghost then = { Opens S.stream };
 }
 
-impl<'a, S> Lesson<Item<'a, S>, View> for Opens {
+impl<S> Lesson<Item<S>, View> for Opens {
     ghost use Rattle.std.specs.Prelude.{◌≡◌, length};
 
     ghost fact = { λ v items. length items ≡ 0 };
@@ -52,13 +52,13 @@ impl<'a, S> Lesson<Item<'a, S>, View> for Opens {
 // And taken out again.
 pub struct Opened;
 
-impl<'a, S> Outcome<Item<'a, S>, View> for Opened {
+impl<S> Outcome<Item<S>, View> for Opened {
     ghost use Rattle.std.specs.Prelude.{◌≡◌, false};
 
     ghost then = { λ v x w. w ≡ record v { opens = false } };
 }
 
-impl<'a, S> Lesson<Item<'a, S>, View> for Opened {
+impl<S> Lesson<Item<S>, View> for Opened {
     ghost use Rattle.std.specs.Prelude.{◌≡◌, length};
 
     ghost fact = { λ v items. length items ≡ 1 };
@@ -67,13 +67,13 @@ impl<'a, S> Lesson<Item<'a, S>, View> for Opened {
 // A word is sent, or finds no room.
 pub struct Sends;
 
-impl<'a, S> Outcome<Item<'a, S>, View> for Sends {
-    ghost use Rattle.std.specs.Prelude.{◌≡◌, suc};
+impl<S> Outcome<Item<S>, View> for Sends {
+    ghost use Rattle.chan_queue.specs.Steps.{Sends};
 
-    ghost then = { λ v x w. w ≡ record v { sent = suc v.sent } };
+    ghost then = { Sends };
 }
 
-impl<'a, S> Lesson<Item<'a, S>, View> for Sends {
+impl<S> Lesson<Item<S>, View> for Sends {
     ghost use Rattle.std.specs.Prelude.{◌≤◌, ◌+◌, length};
 
     ghost fact = { λ v items. v.told_received + length items ≤ v.sent };
@@ -82,13 +82,13 @@ impl<'a, S> Lesson<Item<'a, S>, View> for Sends {
 // A word is received, or there is none.
 pub struct Receives;
 
-impl<'a, S> Outcome<Item<'a, S>, View> for Receives {
+impl<S> Outcome<Item<S>, View> for Receives {
     ghost use Rattle.chan_queue.specs.Steps.{Receives};
 
     ghost then = { Receives };
 }
 
-impl<'a, S> Lesson<Item<'a, S>, View> for Receives {
+impl<S> Lesson<Item<S>, View> for Receives {
     ghost use Rattle.std.specs.Prelude.{◌≤◌, ◌+◌, length};
 
     ghost fact = { λ v items. v.told_sent ≤ v.received + length items };
@@ -116,7 +116,7 @@ impl Join<View> for Ends {
 // What both ends know together.
 pub struct Meets;
 
-impl<'a, S> Lesson<Item<'a, S>, View> for Meets {
+impl<S> Lesson<Item<S>, View> for Meets {
     ghost use Rattle.chan_queue.specs.Channel.{IsTold};
 
     ghost fact = { λ v items. IsTold v };

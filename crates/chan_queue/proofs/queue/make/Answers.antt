@@ -9,7 +9,7 @@ ruled-requires-clause-rule g c = begins
 pub push_as-requires-clause-rule : goal.push_as-requires-clause-rule
 push_as-requires-clause-rule g c =
     let fresh = c.in_ok-line.ensures.3 in
-    (opens _ _ _ _ (g.S.Streams.stream c.args.run.now c.args.chan) c.args.depth fresh tt, nothing_yet _ _ fresh)
+    (opens _ _ _ _ (g.S.Streams.stream c.args.run c.args.chan) c.args.depth fresh tt, nothing_yet _ _ fresh)
 
 pub pop_as-requires-clause-rule : goal.pop_as-requires-clause-rule
 pop_as-requires-clause-rule g c =
