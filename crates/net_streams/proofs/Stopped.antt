@@ -29,7 +29,7 @@ HasSite b (Recv i) = (site : Site) × (slice_get b.sites i ≡ Some site) × (si
 HasSite b (Send i w) = (site : Site) × (slice_get b.sites i ≡ Some site) × (site.sends ≡ true)
 HasSite b (End s) = Unit {0}
 
-behind : (sites : List Site) (i : ℕ) (site : Site) (rest : List Site) → drop i sites ≡ site ∷ rest → (slice_get sites i ≡ Some site) × (drop (suc i) sites ≡ rest)
+pub behind : (sites : List Site) (i : ℕ) (site : Site) (rest : List Site) → drop i sites ≡ site ∷ rest → (slice_get sites i ≡ Some site) × (drop (suc i) sites ≡ rest)
 behind [] zero site rest e = cc
 behind [] (suc i) site rest e = cc
 behind (x ∷ xs) zero site rest e = let h : x ≡ site = cc in let r : xs ≡ rest = cc in (ap Some h, r)

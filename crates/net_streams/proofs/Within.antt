@@ -143,7 +143,7 @@ module _ (run : Run) (p : ℕ) (proc : Proc) (made : List Event) (event : Event)
   stays rest split = subst (λ xs. IsFront (made ++ event ∷ []) xs) (sym split) (IsFront-append_both made (event ∷ []) (event ∷ rest) (refl, tt))
 
   -- where it has made all of the final cut, it can't go
-  tests : final_cut run p ≡ made → finds_word proc.behavior.sites (words_at run (final_cut run)) made event && fits_after proc.behavior.sites (room_at run (final_cut run)) made event ≡ false
+  pub tests : final_cut run p ≡ made → finds_word proc.behavior.sites (words_at run (final_cut run)) made event && fits_after proc.behavior.sites (room_at run (final_cut run)) made event ≡ false
   unfolding goes_by
   tests same =
       let b = proc.behavior in
