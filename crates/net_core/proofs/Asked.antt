@@ -18,7 +18,7 @@ use Rattle.net_core.specs.Shows.{Shows, progress_of, channel_of, IsBehaviorOf}
 use Rattle.lists.proofs.Lemmas.Places.{read_is}
 use Rattle.net_core.specs.Inner.Making.{has_word, has_room, TriesReceive, TriesSend, IsAtSiteOf, IsStandingFor, CanMake, TriesEvent}
 use Rattle.net_core.proofs.Openings.{EventAt, receives_at, sends_at, ends_with, next_at}
-use Rattle.net_core.proofs.Shown.{shows_unchanged, stepped_is, stepped_stays, progress_is, site_fits, stands_at, goes_receive, goes_send, goes_end, goes_done}
+use Rattle.net_core.proofs.Shown.{site_data, shows_unchanged, stepped_is, stepped_stays, progress_is, site_fits, stands_at, goes_receive, goes_send, goes_end, goes_done}
 use Rattle.net_core.proofs.Events.{IsAtSite, receive_shows, send_shows, end_shows}
 
 module _ (run : Run) (cut : Cut) (config : Config) (sh : Shows run cut config) (p : ℕ) (proc : Proc) (proc_is : slice_get run.procs p ≡ Some proc)
@@ -26,10 +26,10 @@ module _ (run : Run) (cut : Cut) (config : Config) (sh : Shows run cut config) (
   event_stands : (e : Event) → EventAt proc.behavior (position_in run cut p proc).state (position_in run cut p proc).got (position_in run cut p proc).done e → IsStandingFor config p e
   event_stands _ (receives_at i site later place stands turn) =
       let fits = site_fits run cut config sh p proc proc_is i site place in
-      (progress_of run cut p proc, site.chan, channel_of run cut site.chan fits.chan, stands_at run cut config sh p proc proc_is i site place fits.chan fits.chan_is)
+      (site_data run cut p proc site fits.chan, stands_at run cut config sh p proc proc_is i site place fits.chan fits.chan_is)
   event_stands _ (sends_at i site w later place stands turn) =
       let fits = site_fits run cut config sh p proc proc_is i site place in
-      (progress_of run cut p proc, site.chan, channel_of run cut site.chan fits.chan, stands_at run cut config sh p proc proc_is i site place fits.chan fits.chan_is)
+      (site_data run cut p proc site fits.chan, stands_at run cut config sh p proc proc_is i site place fits.chan fits.chan_is)
   event_stands _ (ends_with stands) =
       let few = sh.run_fits.activations in
       (progress_of run cut p proc, progress_is run cut config sh p proc proc_is, omega (arith, few, active))
@@ -51,13 +51,13 @@ module _ (run : Run) (cut : Cut) (config : Config) (sh : Shows run cut config) (
       let fits = site_fits run cut config sh p proc proc_is i site place in
       let at = stands_at run cut config sh p proc proc_is i site place fits.chan fits.chan_is in
       let ours = fits.receives (in_direction i site Receive place turn) in
-      made (progress_of run cut p proc) site.chan (channel_of run cut site.chan fits.chan) at
+      made (site_data run cut p proc site fits.chan) at
       ∙ sym (goes_receive run cut config sh p proc proc_is i site place fits.chan ours active next)
   event_can _ (sends_at i site w later place stands turn) next can made =
       let fits = site_fits run cut config sh p proc proc_is i site place in
       let at = stands_at run cut config sh p proc proc_is i site place fits.chan fits.chan_is in
       let sends = in_direction i site (Give w) place turn in
-      made (progress_of run cut p proc) site.chan (channel_of run cut site.chan fits.chan) at
+      made (site_data run cut p proc site fits.chan) at
       ∙ sym (goes_send run cut config sh p proc proc_is i site w place fits.chan fits.chan_is (fits.no_send sends) (fits.sends sends) active next)
   event_can _ (ends_with stands) next can made = made ∙ sym (goes_end run cut config sh p proc proc_is _ active next)
 
@@ -65,7 +65,7 @@ module _ (run : Run) (cut : Cut) (config : Config) (sh : Shows run cut config) (
       → proc.behavior.turn (position_in run cut p proc).state (position_in run cut p proc).got i ≡ Receive
       → goes_by run cut p (Some proc) ≡ has_word (channel_of run cut site.chan chan)
       → receiver run site.chan ≡ p → next_of proc.behavior (position_in run cut p proc) ≡ Recv i → (made : Bool)
-      → TriesReceive config new p i (progress_of run cut p proc) site.chan (channel_of run cut site.chan chan) made
+      → TriesReceive config new p i (site_data run cut p proc site chan) made
       → (made ≡ goes_by run cut p (Some proc)) × Shows run (stepped run cut p) new
   receive_tried new i site chan at_site turn goes ours next true t =
       let h = goes ∙ t.0 in
@@ -80,7 +80,7 @@ module _ (run : Run) (cut : Cut) (config : Config) (sh : Shows run cut config) (
       → IsWordOf (proc.behavior.width site.chan) w → sender run site.chan ≡ p → chan.kind ≢ Input
       → goes_by run cut p (Some proc) ≡ has_room (channel_of run cut site.chan chan)
       → next_of proc.behavior (position_in run cut p proc) ≡ Send i w → (made : Bool)
-      → TriesSend config new p i (progress_of run cut p proc) site.chan (channel_of run cut site.chan chan) w made
+      → TriesSend config new p i (site_data run cut p proc site chan) w made
       → (made ≡ goes_by run cut p (Some proc)) × Shows run (stepped run cut p) new
   send_tried new i site w chan at_site turn is_word ours no_input goes next true t =
       let h = goes ∙ t.0 in
@@ -99,7 +99,7 @@ module _ (run : Run) (cut : Cut) (config : Config) (sh : Shows run cut config) (
       let ours = fits.receives (in_direction i site Receive place turn) in
       receive_tried new i site fits.chan (record { proc_is = proc_is; place = place; chan_is = fits.chan_is; width = fits.width; stands = stands }) turn
       (goes_receive run cut config sh p proc proc_is i site place fits.chan ours active next) ours next made
-      (t (progress_of run cut p proc) site.chan (channel_of run cut site.chan fits.chan) at)
+      (t (site_data run cut p proc site fits.chan) at)
   event_tried new _ (sends_at i site w later place stands turn) next made t =
       let fits = site_fits run cut config sh p proc proc_is i site place in
       let at = stands_at run cut config sh p proc proc_is i site place fits.chan fits.chan_is in
@@ -107,7 +107,7 @@ module _ (run : Run) (cut : Cut) (config : Config) (sh : Shows run cut config) (
       send_tried new i site w fits.chan (record { proc_is = proc_is; place = place; chan_is = fits.chan_is; width = fits.width; stands = stands }) turn
       (turn_fits i site (Give w) place stands turn) (fits.sends sends) (fits.no_send sends)
       (goes_send run cut config sh p proc proc_is i site w place fits.chan fits.chan_is (fits.no_send sends) (fits.sends sends) active next) next made
-      (t (progress_of run cut p proc) site.chan (channel_of run cut site.chan fits.chan) at)
+      (t (site_data run cut p proc site fits.chan) at)
   event_tried new _ (ends_with stands) next made t =
       let h = goes_end run cut config sh p proc proc_is _ active next in
       let is = stepped_is run cut p proc proc_is h ∙ ap (λ e. with_event cut p e) next in

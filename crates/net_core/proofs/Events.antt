@@ -19,7 +19,7 @@ use Rattle.net_core.specs.Cuts.{Proc, Run, Cut, sender, receiver, IsWithin, coun
 use Rattle.net_core.specs.Machine.{Position, opened, moved, position_after, position_in, next_of, goes_by, with_event, stepped}
 use Rattle.net_core.specs.WellFormed.{AreWordsOf}
 use Rattle.net_core.specs.Shows.{Shows, progress_at, progress_of, channel_of}
-use Rattle.net_core.specs.Inner.Making.{Receives, Sends, Ends}
+use Rattle.net_core.specs.Inner.Making.{IsReceiveMade, IsSendMade, IsEndMade}
 use Rattle.lists.proofs.Lemmas.Fronts.{IsFront-length}
 use Rattle.net_core.proofs.Reach.{words_at_grow}
 use Rattle.xb_value.specs.Typing.{IsOfType}
@@ -30,7 +30,7 @@ use Rattle.net_core.proofs.Openings.{open_send, open_receive, open_first}
 use Rattle.net_core.proofs.Flows.{words_at-receive, words_at-end, words_at-send_other, words_at-send, received_at-send, received_at-end, received_at-receive_other, received_at-receive, received_at-by, with_event-here, with_event-other}
 use Rattle.lists.proofs.Lemmas.Places.{slice_get-set, slice_get-set_other}
 use Rattle.net_core.proofs.Flows.{same_there}
-use Rattle.net_core.proofs.Shown.{stepped_is, chan_at-there}
+use Rattle.net_core.proofs.Shown.{site_data, stepped_is, chan_at-there}
 
 -- what every event leaves: the parts of `Shows` that don't depend on which event it is
 module _ (run : Run) (cut : Cut) (old : Config) (sh : Shows run cut old) (p : ℕ) (proc : Proc) (proc_is : slice_get run.procs p ≡ Some proc)
@@ -142,7 +142,7 @@ pub receive_shows : (run : Run) (cut : Cut) (old new : Config) (p : ℕ) (proc :
     → proc.behavior.turn (position_in run cut p proc).state (position_in run cut p proc).got i ≡ Receive
     → receiver run site.chan ≡ p
     → next_of proc.behavior (position_in run cut p proc) ≡ Recv i → goes_by run cut p (Some proc) ≡ true
-    → Receives old new p i (progress_of run cut p proc) site.chan (channel_of run cut site.chan chan) word
+    → IsReceiveMade old new p i (site_data run cut p proc site chan) word
     → Shows run (with_event cut p (Recv i)) new
 receive_shows run cut old new p proc i site chan word sh at_site turn ours next goes made =
     let b = proc.behavior in
@@ -196,7 +196,7 @@ pub send_shows : (run : Run) (cut : Cut) (old new : Config) (p : ℕ) (proc : Pr
     → proc.behavior.turn (position_in run cut p proc).state (position_in run cut p proc).got i ≡ Give word
     → IsWordOf (proc.behavior.width site.chan) word → sender run site.chan ≡ p → chan.kind ≢ Input
     → next_of proc.behavior (position_in run cut p proc) ≡ Send i word → goes_by run cut p (Some proc) ≡ true
-    → Sends old new p i (progress_of run cut p proc) site.chan (channel_of run cut site.chan chan) word
+    → IsSendMade old new p i (site_data run cut p proc site chan) word
     → Shows run (with_event cut p (Send i word)) new
 send_shows run cut old new p proc i site chan word sh at_site turn is_word ours no_input next goes made =
     let b = proc.behavior in
@@ -245,7 +245,7 @@ send_shows run cut old new p proc i site chan word sh at_site turn is_word ours 
 pub end_shows : (run : Run) (cut : Cut) (old new : Config) (p : ℕ) (proc : Proc) (s : Value)
     → Shows run cut old → slice_get run.procs p ≡ Some proc → IsOfType proc.behavior.state s
     → next_of proc.behavior (position_in run cut p proc) ≡ End s → goes_by run cut p (Some proc) ≡ true
-    → Ends old new p (progress_of run cut p proc) s
+    → IsEndMade old new p (progress_of run cut p proc) s
     → Shows run (with_event cut p (End s)) new
 end_shows run cut old new p proc s sh proc_is typed next goes made =
     let b = proc.behavior in

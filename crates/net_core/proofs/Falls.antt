@@ -5,18 +5,18 @@ use Rattle.std.specs.Prelude.{slice_get, slice_set, sum_by}
 use Rattle.std.proofs.lemmas.List.Sums.{sum_by-set}
 use Rattle.xb_bits.specs.Word.{Word}
 use Rattle.net_core.specs.declared.net.Site.{Site}
+use Rattle.net_core.specs.declared.net.Chan.{Chan}
 use Rattle.net_core.specs.declared.event.Event.{Event}
 use Rattle.net_core.specs.declared.config.Config.{Config}
 use Rattle.net_core.specs.declared.progress.Progress.{Progress}
-use Rattle.net_core.specs.declared.channel.Channel.{Channel}
 use Rattle.net_core.specs.Behavior.{Behavior}
 use Rattle.net_core.specs.Cuts.{Proc, Run, Cut}
 use Rattle.net_core.specs.Machine.{position_in, next_of}
-use Rattle.net_core.specs.Shows.{Shows, progress_of, channel_of, IsBehaviorOf, IsUnchanged, progress_left, events_left}
+use Rattle.net_core.specs.Shows.{Shows, progress_of, IsBehaviorOf, IsUnchanged, progress_left, events_left}
 use Rattle.net_core.specs.Inner.Making.{TriesReceive, TriesSend, TriesEvent}
 use Rattle.std.proofs.lemmas.Option.{get_or_from_slice_get}
 use Rattle.net_core.proofs.Openings.{EventAt, receives_at, sends_at, ends_with, next_at}
-use Rattle.net_core.proofs.Shown.{progress_is, site_fits, stands_at}
+use Rattle.net_core.proofs.Shown.{site_data, progress_is, site_fits, stands_at}
 
 at_least : (m k : ℕ) → 1 ≤ m → k ≤ m * k
 at_least zero k h = absurd (omega (arith, h))
@@ -46,32 +46,32 @@ module _ (run : Run) (cut : Cut) (config : Config) (sh : Shows run cut config) (
       let e = ap (λ n. sum_by (progress_left n) new.procs.items) same ∙ ap (λ ps. sum_by (progress_left config.activations) ps) set in
       omega (arith, s, e)
 
-  receive_falls : (new : Config) (i : ℕ) (site : Site) (chan : ℕ) (channel : Channel) → (position_in run cut p proc).done ≤ i → slice_get proc.behavior.sites i ≡ Some site → (made : Bool)
-      → TriesReceive config new p i (progress_of run cut p proc) chan channel made → MatchBool made (events_left new < events_left config) (IsUnchanged config new)
-  receive_falls new i site chan channel later place true t =
+  receive_falls : (new : Config) (i : ℕ) (site : Site) (chan : Chan) → (position_in run cut p proc).done ≤ i → slice_get proc.behavior.sites i ≡ Some site → (made : Bool)
+      → TriesReceive config new p i (site_data run cut p proc site chan) made → MatchBool made (events_left new < events_left config) (IsUnchanged config new)
+  receive_falls new i site chan later place true t =
       let at = position_in run cut p proc in
       let open_turns : 1 ≤ config.activations - at.ends = omega (arith, active, sh.activations) in
       moved_falls new _ t.1.1.activations t.1.1.procs (site_falls (config.activations - at.ends) (length proc.behavior.sites) at.done i open_turns later (slice_get_within proc.behavior.sites i site place))
-  receive_falls new i site chan channel later place false t = t.1
+  receive_falls new i site chan later place false t = t.1
 
-  send_falls : (new : Config) (i : ℕ) (site : Site) (chan : ℕ) (channel : Channel) (w : Word) → (position_in run cut p proc).done ≤ i → slice_get proc.behavior.sites i ≡ Some site → (made : Bool)
-      → TriesSend config new p i (progress_of run cut p proc) chan channel w made → MatchBool made (events_left new < events_left config) (IsUnchanged config new)
-  send_falls new i site chan channel w later place true t =
+  send_falls : (new : Config) (i : ℕ) (site : Site) (chan : Chan) (w : Word) → (position_in run cut p proc).done ≤ i → slice_get proc.behavior.sites i ≡ Some site → (made : Bool)
+      → TriesSend config new p i (site_data run cut p proc site chan) w made → MatchBool made (events_left new < events_left config) (IsUnchanged config new)
+  send_falls new i site chan w later place true t =
       let at = position_in run cut p proc in
       let open_turns : 1 ≤ config.activations - at.ends = omega (arith, active, sh.activations) in
       moved_falls new _ t.1.activations t.1.procs (site_falls (config.activations - at.ends) (length proc.behavior.sites) at.done i open_turns later (slice_get_within proc.behavior.sites i site place))
-  send_falls new i site chan channel w later place false t = t.1
+  send_falls new i site chan w later place false t = t.1
 
   event_falls : (new : Config) (e : Event) → EventAt proc.behavior (position_in run cut p proc).state (position_in run cut p proc).got (position_in run cut p proc).done e
       → (made : Bool) → TriesEvent config new p e made → MatchBool made (events_left new < events_left config) (IsUnchanged config new)
   event_falls new _ (receives_at i site later place stands turn) made t =
       let fits = site_fits run cut config sh p proc proc_is i site place in
       let at = stands_at run cut config sh p proc proc_is i site place fits.chan fits.chan_is in
-      receive_falls new i site site.chan (channel_of run cut site.chan fits.chan) later place made (t (progress_of run cut p proc) site.chan (channel_of run cut site.chan fits.chan) at)
+      receive_falls new i site fits.chan later place made (t (site_data run cut p proc site fits.chan) at)
   event_falls new _ (sends_at i site w later place stands turn) made t =
       let fits = site_fits run cut config sh p proc proc_is i site place in
       let at = stands_at run cut config sh p proc proc_is i site place fits.chan fits.chan_is in
-      send_falls new i site site.chan (channel_of run cut site.chan fits.chan) w later place made (t (progress_of run cut p proc) site.chan (channel_of run cut site.chan fits.chan) at)
+      send_falls new i site fits.chan w later place made (t (site_data run cut p proc site fits.chan) at)
   event_falls new _ (ends_with stands) made t =
       let at = position_in run cut p proc in
       let ended = t.1 (progress_of run cut p proc) (progress_is run cut config sh p proc proc_is) in

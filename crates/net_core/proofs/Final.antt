@@ -12,14 +12,16 @@ use Rattle.net_core.specs.Behavior.{chan_at}
 use Rattle.net_core.specs.Cuts.{Proc, Run, Cut, sites_of, sites_at, words_sent, count_received, words_at, room_at, fits_after, longest_fit, trace_of, round, final_cut}
 use Rattle.lists.specs.Front.{IsFront}
 use Rattle.net_core.specs.Machine.{opened, position_in, next_of, finds_word, goes_by, goes}
-use Rattle.net_core.specs.Outcomes.{stall_for, stall_in}
+use Rattle.net_core.specs.Outcomes.{count_ends, stall_for, stall_in}
 use Rattle.lists.proofs.Lemmas.Fronts.{IsFront-refl, IsFront-trans, IsFront-length}
 use Rattle.net_core.proofs.Reach.{longest_fit_step}
+use Rattle.net_core.proofs.Resume.{trace_from}
 use Rattle.net_core.proofs.Rounds.{final_stays}
 use Rattle.net_core.proofs.Steps.{goes_extends}
 use Rattle.net_core.proofs.Confluence.{final_fixed}
 use Rattle.net_core.proofs.Flows.{words_sent-append}
 use Rattle.net_core.proofs.Receives.{received_within}
+use Rattle.net_core.proofs.Ends.{ends_are_counted}
 use Rattle.net_core.proofs.Stalls.{stall_active}
 use Rattle.net_core.proofs.Counted.{final_trace, final_reach, final_in_trace, some_trace, no_trace}
 
@@ -119,13 +121,17 @@ final_room run p c j l =
     (subst (λ ys. j < length (words_sent (sites_at run p) c ys)) (sym (final_reach run p)) l)
 
 -- a proc that can't go and isn't done waits for something
-pub stuck_stalls : (run : Run) (cut : Cut) (p : ℕ) (proc : Proc) → goes_by run cut p (Some proc) ≡ false → (position_in run cut p proc).ends < run.activations
+pub stuck_stalls : (run : Run) (cut : Cut) (p : ℕ) (proc : Proc) → IsFront (cut p) (trace_from proc.behavior run.activations (opened proc) (words_at run cut))
+    → goes_by run cut p (Some proc) ≡ false → count_ends (cut p) < run.activations
     → (stall : Stall) × (stall_in run cut p proc ≡ Some stall)
 unfolding goes_by finds_word fits_after
-stuck_stalls run cut p proc stuck active = by_event (next_of proc.behavior (position_in run cut p proc)) refl
+stuck_stalls run cut p proc front stuck few = by_event (next_of proc.behavior (position_in run cut p proc)) refl
   where
+    active : (position_in run cut p proc).ends < run.activations
+    active = omega (arith, few, ends_are_counted proc (cut p) (words_at run cut))
+
     waits : (e : Event) → next_of proc.behavior (position_in run cut p proc) ≡ e → stall_in run cut p proc ≡ stall_for proc.behavior.sites (position_in run cut p proc).ends e
-    waits e next = stall_active run cut p proc active ∙ ap (λ x. stall_for proc.behavior.sites (position_in run cut p proc).ends x) next
+    waits e next = stall_active run cut p proc front active ∙ ap (λ x. stall_for proc.behavior.sites (position_in run cut p proc).ends x) next
 
     by_event : (e : Event) → next_of proc.behavior (position_in run cut p proc) ≡ e → (stall : Stall) × (stall_in run cut p proc ≡ Some stall)
     by_event (Recv i) next = (record { activation = (position_in run cut p proc).ends; sends = false; chan = chan_at proc.behavior.sites i }, waits (Recv i) next)
@@ -133,6 +139,7 @@ stuck_stalls run cut p proc stuck active = by_event (next_of proc.behavior (posi
     by_event (End s) next =
         let at = position_in run cut p proc in
         let b = proc.behavior in
+        let more = active in
         let open_now : nat_lt at.ends run.activations ≡ true = grind (arith, nat_tests) in
         let can = ap (λ t. t && (finds_word b.sites (words_at run cut) (cut p) (next_of b at) && fits_after b.sites (room_at run cut) (cut p) (next_of b at))) open_now
         ∙ ap (λ e. finds_word b.sites (words_at run cut) (cut p) e && fits_after b.sites (room_at run cut) (cut p) e) next in

@@ -10,10 +10,10 @@ use Rattle.net_core.specs.declared.config.Config.{Config}
 use Rattle.net_core.specs.declared.outcome.Stall.{Stall}
 use Rattle.net_core.specs.Behavior.{Behavior, IsOpen, KeepsTypes, next_event}
 use Rattle.net_core.specs.Trace.{Histories, trace}
-use Rattle.net_core.specs.Cuts.{Proc, Run, Cut, IsWithin, empty_cut, sites_at, words_sent, count_received, words_at, room_at, round, unbounded_round, final_cut, unbounded_cut}
+use Rattle.net_core.specs.Cuts.{Proc, Run, Cut, IsWithin, empty_cut, sites_at, words_sent, count_received, words_at, room_at, trace_of, round, unbounded_round, final_cut, unbounded_cut}
 use Rattle.lists.specs.Front.{IsFront}
-use Rattle.net_core.specs.Machine.{opened, position_in, position_after, next_of, finds_word, goes_by, goes, after_steps}
-use Rattle.net_core.specs.Outcomes.{stall_in, outcome_of}
+use Rattle.net_core.specs.Machine.{opened, position_after, next_of, finds_word, goes_by, goes, after_steps}
+use Rattle.net_core.specs.Outcomes.{count_ends, stall_in, outcome_of}
 use Rattle.net_core.specs.declared.net.Net.{Net}
 use Rattle.net_core.specs.WellFormed.{IsNet, IsInputs, IsOutcome, AreBehaviorsOf, EachKeepsTypes, run_of}
 use Rattle.net_core.specs.Shows.{Shows}
@@ -26,7 +26,7 @@ use Rattle.net_core.proofs.Receives.{received_within, stops_at, goes_further}
 use Rattle.net_core.proofs.Nexts.{next_after, event_fits}
 use Rattle.net_core.proofs.Rounds.{final_stays, unbounded_stays}
 use Rattle.net_core.proofs.Confluence.{steps_within_final, steps_end_final, stuck_is_final}
-use Rattle.net_core.proofs.Counted.{counted_below, counted_final}
+use Rattle.net_core.proofs.Counted.{counted_below, counted_final, final_in_trace, some_trace}
 use Rattle.net_core.proofs.TypedRuns.{outcome_fits}
 use Rattle.net_core.proofs.Final.{final_stuck, final_received, final_room, stuck_stalls}
 -- what a proc does at a site, and then at those behind it
@@ -34,6 +34,8 @@ unfoldable pub use Rattle.net_core.proofs.Resume.{event_turn}
 pub use Rattle.net_core.proofs.Resume.{event_site}
 -- the bodies of the procs of a run, in their order
 pub use Rattle.net_core.proofs.Bodies.{behavior_there, count_behaviors, each_keeps, behaviors_zipped}
+-- the state and the ends of a position are those of the events before it
+pub use Rattle.net_core.proofs.Ends.{state_is, ends_are_counted}
 -- a configuration in which nothing changed shows the same
 pub use Rattle.net_core.proofs.Shown.{shows_unchanged}
 
@@ -106,9 +108,12 @@ only_sent_words_are_received = final_received
 pub each_sent_word_had_room : (run : Run) (p c j : ℕ) → j < length (words_sent (sites_at run p) c (final_cut run p)) → room_at run (final_cut run) c j ≡ true
 each_sent_word_had_room = final_room
 
-pub who_is_not_done_waits : (run : Run) (p : ℕ) (proc : Proc) → slice_get run.procs p ≡ Some proc → (position_in run (final_cut run) p proc).ends < run.activations
+pub who_is_not_done_waits : (run : Run) (p : ℕ) (proc : Proc) → slice_get run.procs p ≡ Some proc → count_ends (final_cut run p) < run.activations
     → (stall : Stall) × (stall_in run (final_cut run) p proc ≡ Some stall)
-who_is_not_done_waits run p proc e l = stuck_stalls run (final_cut run) p proc (subst (λ o. goes_by run (final_cut run) p o ≡ false) e (final_stuck run p)) l
+who_is_not_done_waits run p proc e l =
+    let made = subst (λ o. IsFront (final_cut run p) (trace_of run.activations (words_at run (final_cut run)) o)) e (final_in_trace run p) in
+    stuck_stalls run (final_cut run) p proc (some_trace run.activations (words_at run (final_cut run)) proc (final_cut run p) made)
+    (subst (λ o. goes_by run (final_cut run) p o ≡ false) e (final_stuck run p)) l
 
 pub outcomes_fit : (net : Net) (behaviors : List Behavior) (inputs : List (List Word)) (n : ℕ) (depths : List ℕ)
     → IsNet net → AreBehaviorsOf net behaviors → EachKeepsTypes behaviors → IsInputs net inputs → n < 2 ^ 32

@@ -12,9 +12,10 @@ pub mod Asked
 pub mod Falls
 pub mod Starts
 pub mod Bodies
-pub mod Stalls
 pub mod Receives
 pub mod Nexts
+pub mod Ends
+pub mod Stalls
 pub mod Counted
 pub mod Final
 pub mod TypedRuns

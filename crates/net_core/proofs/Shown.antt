@@ -16,7 +16,7 @@ use Rattle.net_core.specs.Cuts.{Proc, Run, Cut, sender, receiver, words_sent, co
 use Rattle.net_core.specs.Machine.{position_in, next_of, finds_word, goes_by, with_event, stepped_by, stepped}
 use Rattle.net_core.specs.WellFormed.{SiteFits}
 use Rattle.net_core.specs.Shows.{Shows, progress_of, channel_of, IsUnchanged}
-use Rattle.net_core.specs.Inner.Making.{has_word, has_room, StandsAt}
+use Rattle.net_core.specs.Inner.Making.{has_word, has_room, SiteData, IsSiteData}
 use Rattle.net_core.proofs.Flows.{words_at-sent, received_at-by}
 
 pub chan_at-there : (sites : List Site) (i : ℕ) (site : Site) → slice_get sites i ≡ Some site → chan_at sites i ≡ site.chan
@@ -63,6 +63,10 @@ and_true : (b : Bool) → b && true ≡ b
 and_true true = refl
 and_true false = refl
 
+-- what the machine holds for a site of a proc, by a cut
+abbrev pub site_data : Run → Cut → ℕ → Proc → Site → Chan → SiteData
+site_data run cut p proc site chan = record { progress = progress_of run cut p proc; chan = site.chan; channel = channel_of run cut site.chan chan }
+
 -- what is known of a proc that stands in a configuration
 module _ (run : Run) (cut : Cut) (config : Config) (sh : Shows run cut config) (p : ℕ) (proc : Proc) (proc_is : slice_get run.procs p ≡ Some proc) where
   pub progress_is : slice_get config.procs.items p ≡ Some (progress_of run cut p proc)
@@ -72,7 +76,7 @@ module _ (run : Run) (cut : Cut) (config : Config) (sh : Shows run cut config) (
   site_fits i site place = sh.run_fits.sites p i proc site (record { proc_is = proc_is; place = place })
 
   pub stands_at : (i : ℕ) (site : Site) → slice_get proc.behavior.sites i ≡ Some site → (chan : Chan) → slice_get run.chans site.chan ≡ Some chan
-      → StandsAt config p i (progress_of run cut p proc) site.chan (channel_of run cut site.chan chan)
+      → IsSiteData config p i (site_data run cut p proc site chan)
   stands_at i site place chan chan_is =
       record {
         proc = progress_is;

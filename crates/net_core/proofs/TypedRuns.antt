@@ -38,6 +38,7 @@ use Rattle.net_core.proofs.Openings.{EventAt, receives_at, sends_at, ends_with, 
 use Rattle.net_core.proofs.Shown.{chan_at-there}
 use Rattle.net_core.proofs.Nexts.{event_fits}
 use Rattle.net_core.proofs.Counted.{final_in_trace, some_trace}
+use Rattle.net_core.proofs.Ends.{state_is, stall_is}
 use Rattle.net_core.proofs.Starts.{run_fits, opening_typed, head_of}
 
 -- an activation stands at a position
@@ -208,14 +209,16 @@ module _ (run : Run) (fits : IsRun run) (opens : (p : ℕ) (proc : Proc) → sli
   unfolding final_cut
   final_typed = rounds_typed (most_events run)
 
-  pub final_stands : (p : ℕ) (proc : Proc) → slice_get run.procs p ≡ Some proc → StandsAt proc.behavior (position_in run (final_cut run) p proc)
-  final_stands p proc e =
+  final_made : (p : ℕ) (proc : Proc) → slice_get run.procs p ≡ Some proc → IsFront (final_cut run p) (trace_from proc.behavior run.activations (opened proc) (words_at run (final_cut run)))
+  final_made p proc e =
       let f = subst (λ o. IsFront (final_cut run p) (trace_of run.activations (words_at run (final_cut run)) o)) e (final_in_trace run p) in
-      (made_fits (final_cut run) final_typed p proc e (final_cut run p) (some_trace run.activations (words_at run (final_cut run)) proc (final_cut run p) f)).1
+      some_trace run.activations (words_at run (final_cut run)) proc (final_cut run p) f
+
+  pub final_stands : (p : ℕ) (proc : Proc) → slice_get run.procs p ≡ Some proc → StandsAt proc.behavior (position_in run (final_cut run) p proc)
+  final_stands p proc e = (made_fits (final_cut run) final_typed p proc e (final_cut run p) (final_made p proc e)).1
 
   stall_there : (p : ℕ) (proc : Proc) → slice_get run.procs p ≡ Some proc → (stall : Stall) → stall_in run (final_cut run) p proc ≡ Some stall → stall.chan < length run.chans
-  unfolding stall_in
-  stall_there p proc e stall h = go (nat_lt at.ends run.activations) h
+  stall_there p proc e stall h = go (nat_lt at.ends run.activations) (sym (stall_is run (final_cut run) p proc (final_made p proc e)) ∙ h)
     where
       at : Position
       at = position_in run (final_cut run) p proc
@@ -282,7 +285,8 @@ module _ (net : Net) (well : IsNet net) (bs : List Behavior) (fit : AreBehaviors
             let same = same_there (slice_get net.procs p) own.0 head own.1 e in
             let open_there = final_stands run run_is opens_is given.words p found.0 found.1 in
             subst (λ (s : ProcEnd). IsOfType head.state s.state) found.2
-            (subst (λ (t : Ty). IsOfType t (position_in run cut p found.0).state) (own.2 ∙ ap (λ (h : ProcHead). h.state) same) open_there.state);
+            (subst (λ v. IsOfType head.state v) (state_is found.0 (cut p) (words_at run cut))
+            (subst (λ (t : Ty). IsOfType t (position_in run cut p found.0).state) (own.2 ∙ ap (λ (h : ProcHead). h.state) same) open_there.state));
         stalls = λ p stand stall f g.
             let there = sym (indexed_get (end_of run cut) 0 p p run.procs (omega arith)) ∙ f in
             let found = has_value (end_of run cut p) (slice_get run.procs p) stand there in

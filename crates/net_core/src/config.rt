@@ -84,13 +84,12 @@ fn streams(alloc: Global, channels: Vec<Channel>) -> Result<Seq<Stream>, AllocEr
 }
 
 impl Config {
-    ghost use Rattle.std.specs.Prelude.{List, ◌≡◌, ◌<◌, ◌≤◌, ◌+◌, ◌^◌, ℕ, IsTrue, OnOk, OnErr, IfOk, length, map, slice_get, Some, MatchBool, ⊤};
+    ghost use Rattle.std.specs.Prelude.{List, ◌≡◌, ◌<◌, ◌≤◌, ◌+◌, ◌^◌, ℕ, IsTrue, OnOk, OnErr, IfOk, length, map, slice_get, Some, MatchBool};
     ghost use Rattle.xb_bits.specs.Word.{Word};
     ghost use Rattle.net_core.specs.declared.net.Site.{Site};
     ghost use Rattle.net_core.specs.declared.progress.Progress.{Progress};
-    ghost use Rattle.net_core.specs.declared.channel.Channel.{Channel};
-    ghost use Rattle.net_core.specs.Inner.Making.{has_word, has_room, IsPlaced, AtPlace, IsPlacedOn, AtPlaceOn, OfProc, HasSite, OfSite};
-    ghost use Rattle.net_core.specs.Inner.Making.{Receives, Sends, Ends, TriesReceive, TriesSend, IsStandingFor, CanMake, TriesEvent};
+    ghost use Rattle.net_core.specs.Inner.Making.{has_word, has_room, SiteData, IsSiteData};
+    ghost use Rattle.net_core.specs.Inner.Making.{IsReceiveMade, IsSendMade, IsEndMade, TriesReceive, TriesSend, IsStandingFor, CanMake, TriesEvent};
     ghost use Rattle.lists.specs.Indexed.{indexed};
     ghost use Rattle.net_core.specs.Outcomes.{outcome_of, stall_in, behaviors_of};
     ghost use Rattle.net_core.specs.Behavior.{Behavior};
@@ -229,8 +228,8 @@ impl Config {
 
     /// There is a word for a proc's site.
     fn has_word_at(&self, p: usize, site: u32) -> bool
-        requires { IsPlaced self.now p site }
-        ensures { AtPlace self.now p site (λ progress chan channel. result ≡ has_word channel) }
+        requires { (here : SiteData) × IsSiteData self.now p site here }
+        ensures { (here : SiteData) → IsSiteData self.now p site here → result ≡ has_word here.channel }
     {
         let chan = self.chan_of(p, site) as usize;
         self.channels[chan].has_word()
@@ -238,8 +237,8 @@ impl Config {
 
     /// There is room for a word of a proc's site.
     fn has_room_at(&self, p: usize, site: u32) -> bool
-        requires { IsPlaced self.now p site }
-        ensures { AtPlace self.now p site (λ progress chan channel. result ≡ has_room channel) }
+        requires { (here : SiteData) × IsSiteData self.now p site here }
+        ensures { (here : SiteData) → IsSiteData self.now p site here → result ≡ has_room here.channel }
     {
         let chan = self.chan_of(p, site) as usize;
         self.channels[chan].has_room()
@@ -247,17 +246,18 @@ impl Config {
 
     /// The channel of a proc's site.
     fn chan_of(&self, p: usize, site: u32) -> u32
-        requires { HasSite self.now p site }
-        ensures { OfSite self.now p site (λ at. result ≡ at.chan) }
+        requires { (here : SiteData) × IsSiteData self.now p site here }
+        ensures { (progress : Progress) (at : Site) → slice_get self.now.procs.items p ≡ Some progress →
+            slice_get progress.sites site ≡ Some at → result ≡ at.chan }
     {
         self.procs[p].chan_at(site)
     }
 
     /// A proc receives the next word of its site's channel.
     fn receive(&mut self, p: usize, site: u32, chan: usize) -> Result<(), AllocError>
-        requires { IsPlacedOn self.old p site chan (λ channel. IsTrue (has_word channel)) }
-        ensures ok { OnOk result (AtPlaceOn self.old p site chan (λ progress channel.
-            ((word : Word) × Receives self.old self.new p site progress chan channel word))) }
+        requires { (here : SiteData) × IsSiteData self.old p site here × (here.chan ≡ chan) × IsTrue (has_word here.channel) }
+        ensures ok { OnOk result ((here : SiteData) → IsSiteData self.old p site here → here.chan ≡ chan →
+            (word : Word) × IsReceiveMade self.old self.new p site here word) }
         ensures err { OnErr result (IsUnchanged self.old self.new) }
     {
         let channel = &mut self.channels[chan];
@@ -268,9 +268,9 @@ impl Config {
 
     /// A proc receives at a site, if there is a word.
     fn try_receive(&mut self, p: usize, site: u32) -> Result<bool, AllocError>
-        requires { IsPlaced self.old p site }
-        ensures ok { IfOk result (λ made. AtPlace self.old p site (λ progress chan channel.
-            TriesReceive self.old self.new p site progress chan channel made)) }
+        requires { (here : SiteData) × IsSiteData self.old p site here }
+        ensures ok { IfOk result (λ made. (here : SiteData) → IsSiteData self.old p site here →
+            TriesReceive self.old self.new p site here made) }
         ensures err { OnErr result (IsUnchanged self.old self.new) }
     {
         let chan = self.chan_of(p, site) as usize;
@@ -283,9 +283,9 @@ impl Config {
 
     /// A proc sends a word at a site.
     fn send(&mut self, p: usize, site: u32, chan: usize, word: Bits) -> Result<(), AllocError>
-        requires { IsPlacedOn self.old p site chan (λ _. ⊤) }
-        ensures ok { OnOk result (AtPlaceOn self.old p site chan (λ progress channel.
-            Sends self.old self.new p site progress chan channel word)) }
+        requires { (here : SiteData) × IsSiteData self.old p site here × (here.chan ≡ chan) }
+        ensures ok { OnOk result ((here : SiteData) → IsSiteData self.old p site here → here.chan ≡ chan →
+            IsSendMade self.old self.new p site here word) }
         ensures err { OnErr result (IsUnchanged self.old self.new) }
     {
         self.channels[chan].send(word)?;
@@ -295,9 +295,9 @@ impl Config {
 
     /// A proc sends a word at a site, if there is room.
     fn try_send(&mut self, p: usize, site: u32, word: Bits) -> Result<bool, AllocError>
-        requires { IsPlaced self.old p site }
-        ensures ok { IfOk result (λ made. AtPlace self.old p site (λ progress chan channel.
-            TriesSend self.old self.new p site progress chan channel word made)) }
+        requires { (here : SiteData) × IsSiteData self.old p site here }
+        ensures ok { IfOk result (λ made. (here : SiteData) → IsSiteData self.old p site here →
+            TriesSend self.old self.new p site here word made) }
         ensures err { OnErr result (IsUnchanged self.old self.new) }
     {
         let chan = self.chan_of(p, site) as usize;
@@ -311,7 +311,7 @@ impl Config {
     /// An activation of a proc ends with a state, and its next one begins.
     fn end(&mut self, alloc: Global, p: usize, state: Value)
         requires { (progress : Progress) × (slice_get self.old.procs.items p ≡ Some progress) × (progress.ends + 1 < 2 ^ 32) }
-        ensures { OfProc self.old p (λ progress. Ends self.old self.new p progress state) }
+        ensures { (progress : Progress) → slice_get self.old.procs.items p ≡ Some progress → IsEndMade self.old self.new p progress state }
     {
         self.procs[p].end(alloc, state);
     }

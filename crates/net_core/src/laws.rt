@@ -12,8 +12,8 @@ ghost use Rattle.net_core.specs.Trace.{Histories, trace};
 ghost use Rattle.net_core.specs.Cuts.{Proc, Run, Cut, IsWithin, empty_cut, sites_at, words_sent, count_received, words_at, room_at};
 ghost use Rattle.lists.specs.Front.{IsFront};
 ghost use Rattle.net_core.specs.Cuts.{round, unbounded_round, final_cut, unbounded_cut};
-ghost use Rattle.net_core.specs.Machine.{goes, opened, next_of, finds_word, position_after, position_in, after_steps};
-ghost use Rattle.net_core.specs.Outcomes.{stall_in, outcome_of};
+ghost use Rattle.net_core.specs.Machine.{goes, opened, next_of, finds_word, position_after, after_steps};
+ghost use Rattle.net_core.specs.Outcomes.{count_ends, stall_in, outcome_of};
 ghost use Rattle.net_core.specs.declared.net.Net.{Net};
 ghost use Rattle.net_core.specs.WellFormed.{IsNet, IsInputs, IsOutcome, AreBehaviorsOf, EachKeepsTypes, run_of};
 ghost use Rattle.net_core.specs.Shows.{Shows};
@@ -136,7 +136,7 @@ pub fn each_sent_word_had_room()
 /// A proc that isn't done in the final cut waits for something.
 pub fn who_is_not_done_waits()
     ensures { (run : Run) (p : ℕ) (proc : Proc) → slice_get run.procs p ≡ Some proc →
-        (position_in run (final_cut run) p proc).ends < run.activations →
+        count_ends (final_cut run p) < run.activations →
         (stall : Stall) × (stall_in run (final_cut run) p proc ≡ Some stall) }
 {}
 
