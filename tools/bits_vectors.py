@@ -1,16 +1,18 @@
 #!/usr/bin/env python3
-"""Works the vectors of xb_bits' tests again, by Python's whole numbers, and compares.
+"""Works the vectors of xb_bits' and xb_value's tests again, by Python's whole numbers, and compares.
 
 usage: bits_vectors.py [--print]
 
-Each call NAME_is(&rt, ..) in crates/xb_bits/src/tests.rt is a vector: a width, numbers, and the number that is wanted.
-It fails where a wanted number is not the one that the formulas below give. With --print each vector is printed.
+Each row of the table of a test NAME_vectors in crates/value_samples/src/bits.rt is a vector: a width, numbers, and the
+number that is wanted; each call NAME_are(&rt, alloc, ..) in words.rt there is two widths or a width and a count, a flat word, and the
+text of the value in it. It fails where what is wanted is not what the formulas below give. With --print each vector is
+printed.
 """
 import os
 import re
 import sys
 
-TEXT = os.path.join(os.path.dirname(os.path.abspath(__file__)), '..', 'crates', 'xb_bits', 'src', 'tests.rt')
+TESTS = os.path.join(os.path.dirname(os.path.abspath(__file__)), '..', 'crates', 'value_samples', 'src')
 
 
 def signed(width, a):
@@ -76,10 +78,47 @@ def worked(name, arguments):
     return ONE[name](width, a)
 
 
-def main():
-    text = open(TEXT, encoding='utf-8').read()
+def number_text(width, value):
+    """A number of so many bits, each hexadecimal digit of which is written."""
+    return '0x%0*x' % ((width + 3) // 4, value)
+
+
+def parts(widths, word):
+    """The numbers side by side in a word, the first in its high places."""
+    texts = []
+    for width in reversed(widths):
+        texts.insert(0, number_text(width, word & ones(width)))
+        word >>= width
+    return ', '.join(texts)
+
+
+FLAT = {
+    'halves': lambda high, low, word: '(%s)' % parts([high, low], word),
+    'rows': lambda width, count, word: '[%s]' % parts([width] * count, word),
+}
+
+
+def flat_words():
+    """How many vectors of flat words there are, and how many are wrong."""
+    text = open(os.path.join(TESTS, 'words.rt'), encoding='utf-8').read()
     count = wrong = 0
-    for name, arguments in re.findall(r'^    (\w+)_is\(\s*&rt,(.*?)\);', text, re.M | re.S):
+    for name, arguments, want in re.findall(r'^    (\w+)_are\(\s*&rt,\s*alloc,([^"]*),\s*"([^"]*)",?\s*\)\?;', text, re.M):
+        given = [number(a) for a in arguments.split(',') if a.strip()]
+        got = FLAT[name](*given)
+        count += 1
+        if '--print' in sys.argv:
+            print(name, *map(hex, given), '->', got)
+        if got != want:
+            wrong += 1
+            print('%s %s: %s is wanted, %s is worked' % (name, ' '.join(map(hex, given)), want, got))
+    return count, wrong
+
+
+def main():
+    text = open(os.path.join(TESTS, 'bits.rt'), encoding='utf-8').read()
+    count, wrong = flat_words()
+    tables = re.findall(r'^fn (\w+)_vectors\(rt: HostRuntime\) \{\n    for \(.*?\) in \[(.*?)^    \] \{', text, re.M | re.S)
+    for name, arguments in [(name, row) for name, rows in tables for row in re.findall(r'\((.*?)\)', rows, re.S)]:
         *given, want = [number(a) for a in arguments.split(',') if a.strip()]
         got = worked(name, given)
         count += 1

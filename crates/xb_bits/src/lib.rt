@@ -21,6 +21,3 @@ pub use order::{cmp_s, cmp_u};
 pub use parts::{concat, dyn_slice, sext, slice, zext};
 pub use places::{clz, ctz, rev};
 pub use shifts::{shll, shra, shrl};
-
-#[cfg(test)]
-mod tests;

@@ -2,13 +2,14 @@
 use Rattle.std.proofs.Common.{◌≡◌, ℕ, ◌+◌, ◌<◌, ◌≤◌, List, [], ◌∷◌, ◌++◌, length, length-append, take, drop, get_or, map, append_assoc, append-nil, true, false, IsTrue, Option, Some, None, refl, sym, ap, subst, ◌∙◌, arith}
 use Rattle.std.proofs.lemmas.List.{take_more, length-take-le, take-append-drop}
 use Rattle.std.proofs.Math.Seq.{take-length}
+use Rattle.lists.specs.Fault.{Begins, IsFirstFault}
 use Rattle.xb_value.specs.declared.token.Bracket.{Bracket}
 use Rattle.xb_value.specs.declared.token.Token.{Token}
 use Rattle.xb_value.specs.declared.token.Token.TheVariants.{Number, Close}
 use Rattle.xb_value.specs.declared.scan.Class.TheVariants.{Closes}
 use Rattle.xb_value.specs.declared.scan.Mode.{Mode}
 use Rattle.xb_value.specs.declared.scan.Mode.TheVariants.{Start, First, Next, Zero, Hex, Digits, After}
-use Rattle.xb_value.specs.Form.{Form, form_text, form_tokens, is_form, closing, Begins, NeverBegins, Spells, IsFirstFault}
+use Rattle.xb_value.specs.Form.{Form, form_text, form_tokens, is_form, closing, IsValueText, Spells}
 use Rattle.xb_value.specs.Inner.Scanner.{class_of, Scan, scan, step, ended, started}
 use Rattle.xb_value.specs.Inner.ScannerState.{Stepped}
 use Rattle.xb_value.proofs.Found.{outcome, and_then, Ends, found}
@@ -53,16 +54,16 @@ some_end After ks ts p = (map closing ks, close_all ks ts p)
 abbrev pub StandsBehind : Scan → List ℕ → Type 0
 StandsBehind s t = (rest : List ℕ) → outcome started 0 (t ++ rest) ≡ outcome s (length t) rest
 
-pub stands_begins : (s : Scan) (t : List ℕ) → StandsBehind s t → Begins t
+pub stands_begins : (s : Scan) (t : List ℕ) → StandsBehind s t → Begins IsValueText t
 stands_begins s t stands =
     let more = some_end s.mode s.stack s.tokens (length t) in
     let whole = found (t ++ more.0) (more.1.0, stands more.0 ∙ more.1.1) in
-    (whole.0, whole.1, (more.0, whole.2))
+    (more.0, whole)
 
-pub refused_never : (s : Scan) (t : List ℕ) (b : ℕ) → StandsBehind s t → step s (length t) (class_of b) ≡ None → NeverBegins (t ++ b ∷ [])
-refused_never s t b stands refused f rest formed is =
-    let read : Some (form_tokens 0 f) ≡ None =
-    sym (taken f formed) ∙ ap (outcome started 0) (is ∙ append_assoc t (b ∷ []) rest) ∙ stands (b ∷ rest)
+pub refused_never : (s : Scan) (t : List ℕ) (b : ℕ) → StandsBehind s t → step s (length t) (class_of b) ≡ None → Begins IsValueText (t ++ b ∷ []) → ⊥
+refused_never s t b stands refused (rest, whole) =
+    let read : Some (form_tokens 0 whole.0) ≡ None =
+    sym (taken whole.0 whole.1) ∙ ap (outcome started 0) (whole.2 ∙ append_assoc t (b ∷ []) rest) ∙ stands (b ∷ rest)
     ∙ ap (and_then (λ u. outcome u (length t + 1) rest)) refused in
     absurd (cc)
 
@@ -106,16 +107,16 @@ front_length t i h = length-take-le i t h
 step_at : (s : Scan) (t : List ℕ) (i b : ℕ) (r : Option Scan) → i ≤ length t → step s i (class_of b) ≡ r → step s (length (take i t)) (class_of b) ≡ r
 step_at s t i b r h e = ap (λ p. step s p (class_of b)) (front_length t i h) ∙ e
 
-pub fault_at : (s : Scan) (t : List ℕ) (i b : ℕ) → i < length t → b ≡ get_or t i 0 → StandsBehind s (take i t) → step s i (class_of b) ≡ None → IsFirstFault t i
+pub fault_at : (s : Scan) (t : List ℕ) (i b : ℕ) → i < length t → b ≡ get_or t i 0 → StandsBehind s (take i t) → step s i (class_of b) ≡ None → IsFirstFault IsValueText t i
 fault_at s t i b h is stands refused =
     let front : take (i + 1) t ≡ take i t ++ b ∷ [] = take_more t i 0 h ∙ ap (λ c. take i t ++ c ∷ []) (sym is) in
-    let never : NeverBegins (take (i + 1) t) =
-    subst NeverBegins (sym front) (refused_never s (take i t) b stands (step_at s t i b None (omega arith) refused)) in
+    let never : Begins IsValueText (take (i + 1) t) → ⊥ =
+    subst (λ u. Begins IsValueText u → ⊥) (sym front) (refused_never s (take i t) b stands (step_at s t i b None (omega arith) refused)) in
     record {
       within = omega arith;
       before = stands_begins s (take i t) stands;
       never = λ _. never;
-      none = λ f formed e. never f (drop (i + 1) t) formed (e ∙ sym (take-append-drop (i + 1) t));
+      none = λ r. never (drop (i + 1) t, (r.0, r.1, r.2 ∙ sym (take-append-drop (i + 1) t)));
     }
 
 pub stands_next : (s u : Scan) (t : List ℕ) (i b : ℕ) → i < length t → b ≡ get_or t i 0 → StandsBehind s (take i t) → step s i (class_of b) ≡ Some u → StandsBehind u (take (i + 1) t)
@@ -126,14 +127,14 @@ stands_next s u t i b h is stands went =
 take_whole : (t : List ℕ) (i : ℕ) → length t ≤ i → i ≤ length t → take i t ≡ t
 take_whole t i h k = let same : i ≡ length t = omega arith in ap (λ j. take j t) same ∙ take-length t
 
-pub fault_at_end : (s : Scan) (t : List ℕ) (i : ℕ) → length t ≤ i → i ≤ length t → StandsBehind s (take i t) → ended s ≡ None → IsFirstFault t i
+pub fault_at_end : (s : Scan) (t : List ℕ) (i : ℕ) → length t ≤ i → i ≤ length t → StandsBehind s (take i t) → ended s ≡ None → IsFirstFault IsValueText t i
 fault_at_end s t i h k stands end =
     let whole : take i t ≡ t = take_whole t i h k in
     record {
       within = k;
       before = stands_begins s (take i t) stands;
       never = λ less. absurd (omega arith);
-      none = unended_none s t (subst (StandsBehind s) whole stands) end;
+      none = λ r. unended_none s t (subst (StandsBehind s) whole stands) end r.0 r.1 r.2;
     }
 
 pub spelled_at_end : (s : Scan) (t : List ℕ) (i : ℕ) (us : List Token) → length t ≤ i → i ≤ length t → StandsBehind s (take i t) → ended s ≡ Some us → Spells t us

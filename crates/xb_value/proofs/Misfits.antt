@@ -1,20 +1,19 @@
 -- The reader answers the first part of a text that misfits the type.
-use Rattle.std.proofs.Common.{◌≡◌, ℕ, zero, suc, ◌+◌, ◌==◌, List, [], ◌∷◌, ◌++◌, length, map, append_assoc, append-nil, Bool, true, false, if◌then◌else◌, IsTrue, Option, Some, None, Result, Ok, Err, refl, sym, ap, ap₂, subst, ◌∙◌, arith}
+use Rattle.std.proofs.Common.{◌≡◌, ℕ, suc, ◌+◌, ◌==◌, List, [], ◌∷◌, ◌++◌, length, map, append_assoc, Bool, true, false, if◌then◌else◌, Option, Some, None, Ok, Err, refl, sym, ap, subst, ◌∙◌, arith}
 use Rattle.std.proofs.lemmas.Bool.Decides.{nat_tests}
 use Rattle.std.proofs.lemmas.List.{length-map}
 use Rattle.std.specs.Str.Parse.{digits_value}
 use Rattle.xb_bits.specs.Word.{word}
-use Rattle.xb_value.specs.declared.token.Bracket.{Bracket}
 use Rattle.xb_value.specs.declared.token.Bracket.TheVariants.{Round, Square}
 use Rattle.xb_value.specs.declared.token.Token.{Token}
-use Rattle.xb_value.specs.declared.token.Token.TheVariants.{Number, Open, Close}
+use Rattle.xb_value.specs.declared.token.Token.TheVariants.{Open, Close}
 use Rattle.xb_value.specs.declared.ty.Ty.{Ty}
 use Rattle.xb_value.specs.declared.ty.Ty as ty
 use Rattle.xb_value.specs.declared.ty.Ty.TheOpen.{Ty-F}
 use Rattle.xb_value.specs.declared.value.Value.{Value, Bits, Tuple, Array}
 use Rattle.xb_value.specs.Form.{Form, Items, number, empty, group, last, next, form_text, form_tokens, items_tokens}
 use Rattle.xb_value.specs.Misfit.{Part, Parts, placed_items, inside, number_fits, brackets_fit, each_part, all_parts, with_parts, parts_step, parts_of, first_misfit}
-use Rattle.xb_value.specs.Inner.Reading.{Answer, Answers, Reader, parts_at, more_than, and_more, read_each, read_times, left, bracketed, read_bits, read_tuple, read_array, read_step, read_as}
+use Rattle.xb_value.specs.Inner.Reading.{Answer, ListAnswer, Reader, parts_at, more_than, and_more, read_each, read_times, bracketed, read_bits, read_tuple, read_array, read_step, read_as}
 use Rattle.xb_value.specs.Typing.{is_word_of}
 use Rattle.xb_value.proofs.Lemmas.Types as types
 use Rattle.xb_value.proofs.Lemmas.Types.{EachHas, ty_induction}
@@ -57,7 +56,7 @@ abbrev pub Tells : List Token → Option ℕ → Answer → Type 0
 Tells us None a = (v : Value) × (a ≡ Ok (v, us))
 Tells us (Some p) a = a ≡ Err p
 
-abbrev TellsAll : List Token → Option ℕ → Answers → Type 0
+abbrev TellsAll : List Token → Option ℕ → ListAnswer → Type 0
 TellsAll us None a = (vs : List Value) × (a ≡ Ok (vs, us))
 TellsAll us (Some p) a = a ≡ Err p
 
@@ -75,7 +74,7 @@ first_misfit-append ((at, true) ∷ xs) ys = first_misfit-append xs ys
 first_misfit-append ((at, false) ∷ xs) ys = refl
 
 -- a value and then more
-tells_more : (us vs : List Token) (o p : Option ℕ) (a : Answer) (later : List Token → Answers) → Tells vs o a → TellsAll us p (later vs)
+tells_more : (us vs : List Token) (o p : Option ℕ) (a : Answer) (later : List Token → ListAnswer) → Tells vs o a → TellsAll us p (later vs)
     → TellsAll us (or_else o p) (and_more later a)
 tells_more us vs None None a later h k =
     (h.0 ∷ k.0, ap (and_more later) h.1 ∙ ap (more_than h.0) k.1)
@@ -119,7 +118,7 @@ times_tells at (next k f m is) t us reads =
     (tells_more us rest (first_misfit (parts_of t (at + k) f)) _ (read_as t (form_tokens (at + k) f ++ rest)) (read_times n (read_as t)) (reads (at + k) f rest) later))
 
 -- the values in brackets
-tells_bracketed : (us : List Token) (at : ℕ) (o : Option ℕ) (make : List Value → Value) (a : Answers) → TellsAll (Close ∷ us) o a → Tells us o (bracketed at make a)
+tells_bracketed : (us : List Token) (at : ℕ) (o : Option ℕ) (make : List Value → Value) (a : ListAnswer) → TellsAll (Close ∷ us) o a → Tells us o (bracketed at make a)
 tells_bracketed us at None make a h = (make h.0, ap (bracketed at make) h.1)
 tells_bracketed us at (Some p) make a h = ap (bracketed at make) h
 

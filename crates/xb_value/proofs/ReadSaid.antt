@@ -9,7 +9,7 @@ use Rattle.xb_value.specs.declared.token.Bracket.TheVariants.{Round, Square}
 use Rattle.xb_value.specs.declared.token.Token.{Token}
 use Rattle.xb_value.specs.declared.token.Token.TheVariants.{Number, Open, Close}
 use Rattle.xb_value.specs.declared.value.Value.{Value, Bits, Tuple, Array}
-use Rattle.xb_value.specs.Inner.Reading.{Answer, Answers, Reader, and_more, more_than, read_each, read_times, read_as, read_step, bracketed, parts_at}
+use Rattle.xb_value.specs.Inner.Reading.{Answer, ListAnswer, Reader, and_more, more_than, read_each, read_times, read_as, read_step, bracketed, parts_at}
 use Rattle.xb_value.specs.Shape.{unplaced, shape_of, all_of, Says}
 use Rattle.xb_value.specs.Typing.{IsOfType, fits, is_word_of, each_passes}
 use Rattle.xb_value.proofs.Shapes.{parted, number_of, group_of, counts_values}
@@ -31,7 +31,7 @@ is_word w n some most below =
     and_true _ _ (and_true _ _ (and_true _ _ same least) greatest) range
 
 -- a value, and values behind it
-said_more : (r : Reader) (later : List Token → Answers) (v : Value) (vs : List Value) (ts xs ys us : List Token)
+said_more : (r : Reader) (later : List Token → ListAnswer) (v : Value) (vs : List Value) (ts xs ys us : List Token)
     → ts ≡ xs ++ ys → ((zs : List Token) → r (xs ++ zs) ≡ Ok (v, zs)) → later (ys ++ us) ≡ Ok (vs, us) → and_more later (r (ts ++ us)) ≡ Ok (v ∷ vs, us)
 said_more r later v vs ts xs ys us is one all =
     ap (λ zs. and_more later (r (zs ++ us))) is

@@ -9,7 +9,7 @@ use Rattle.xb_value.specs.declared.token.Bracket.TheVariants.{Round, Square}
 use Rattle.xb_value.specs.declared.token.Token.{Token}
 use Rattle.xb_value.specs.declared.token.Token.TheVariants.{Number, Open, Close}
 use Rattle.xb_value.specs.declared.value.Value.{Value, Bits, Tuple, Array}
-use Rattle.xb_value.specs.Inner.Reading.{Answer, Answers, Reader, more_than, and_more, read_each, read_times, read_bits, read_tuple, read_array, read_as, read_step, left, bracketed, parts_at, reading, value_in}
+use Rattle.xb_value.specs.Inner.Reading.{Answer, ListAnswer, Reader, more_than, and_more, read_each, read_times, read_bits, read_tuple, read_array, read_as, read_step, left, bracketed, parts_at, reading, value_in}
 use Rattle.xb_value.specs.Shape.{unplaced, shape_of, all_of, Says}
 use Rattle.xb_value.specs.Typing.{IsOfType, is_word_of}
 use Rattle.xb_value.proofs.ReadSaid.{reads_said}
@@ -38,11 +38,11 @@ takes_bits w (Number at n ∷ ts) = by_case (is_word_of w (word w n))
 takes_bits w (Open at b ∷ ts) = tt
 takes_bits w (Close ∷ ts) = tt
 
-takes_more : (later : List Token → Answers) (ts : List Token) (first : Answer) → Takes shape_of ts first → ((us : List Token) → Takes shapes_of us (later us)) → Takes shapes_of ts (and_more later first)
+takes_more : (later : List Token → ListAnswer) (ts : List Token) (first : Answer) → Takes shape_of ts first → ((us : List Token) → Takes shapes_of us (later us)) → Takes shapes_of ts (and_more later first)
 takes_more later ts (Err at) one all = tt
 takes_more later ts (Ok r) one all = by_case (later r.1) (all r.1)
   where
-    by_case : (a : Answers) → Takes shapes_of r.1 a → Takes shapes_of ts (more_than r.0 a)
+    by_case : (a : ListAnswer) → Takes shapes_of r.1 a → Takes shapes_of ts (more_than r.0 a)
     by_case (Err at) h = tt
     by_case (Ok s) h = (
       one.0 ++ h.0,
@@ -58,7 +58,7 @@ takes_times : (n : ℕ) (t : Ty) → TakesSaid t → (ts : List Token) → Takes
 takes_times zero t takes ts = ([], refl, refl)
 takes_times (suc n) t takes ts = takes_more (read_times n (read_as t)) ts (read_as t ts) (takes ts) (takes_times n t takes)
 
-takes_bracketed : (at : ℕ) (b : Bracket) (make : List Value → Value) (ts : List Token) (a : Answers)
+takes_bracketed : (at : ℕ) (b : Bracket) (make : List Value → Value) (ts : List Token) (a : ListAnswer)
     → ((vs : List Value) → shape_of (make vs) ≡ Open 0 b ∷ (shapes_of vs ++ Close ∷ [])) → Takes shapes_of ts a → Takes shape_of (Open at b ∷ ts) (bracketed at make a)
 takes_bracketed at b make ts (Err fault) made all = tt
 takes_bracketed at b make ts (Ok r) made all = by_case r.1 all.1

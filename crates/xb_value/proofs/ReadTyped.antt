@@ -11,10 +11,10 @@ use Rattle.xb_value.specs.declared.reader.ValueError.{ValueError}
 use Rattle.xb_value.specs.declared.reader.ValueError.TheVariants.{Syntax, Shape, OutOfMemory}
 use Rattle.xb_value.specs.declared.value.Value.{Value, Bits, Tuple, Array}
 use Rattle.xb_value.specs.declared.value.Value.TheViews.{outs-Bits, outs-Tuple, outs-Array}
-use Rattle.xb_value.specs.Form.{Spells, form_tokens, form_text}
+use Rattle.xb_value.specs.Form.{Spells, form_tokens}
 use Rattle.xb_value.specs.Inner.Scanner.{started}
 use Rattle.xb_value.specs.Reads.{Reads}
-use Rattle.xb_value.specs.Inner.Reading.{Answer, Answers, Reader, more_than, and_more, read_each, read_times, read_bits, read_tuple, read_array, read_as, read_step, left, bracketed, parts_at, reading, value_in, whole}
+use Rattle.xb_value.specs.Inner.Reading.{Answer, ListAnswer, Reader, more_than, and_more, read_each, read_times, read_bits, read_tuple, read_array, read_as, read_step, left, bracketed, parts_at, reading, value_in, whole}
 use Rattle.xb_value.specs.Refusal.{IsRefusal}
 use Rattle.xb_value.specs.Misfit.{Misfits, parts_of, first_misfit}
 use Rattle.xb_value.proofs.Misfits.{Tells, tells}
@@ -50,12 +50,12 @@ read_bits_typed w (Open at b ∷ ts) = tt
 read_bits_typed w (Close ∷ ts) = tt
 
 -- one more value
-more_read : (P : Value → Type 0) (Q R : List Value → Type 0) (later : List Token → Answers) (first : Answer)
+more_read : (P : Value → Type 0) (Q R : List Value → Type 0) (later : List Token → ListAnswer) (first : Answer)
     → ((v : Value) (vs : List Value) → P v → Q vs → R (v ∷ vs)) → IfRead P first → ((ts : List Token) → IfRead Q (later ts)) → IfRead R (and_more later first)
 more_read P Q R later (Err at) join one all = tt
 more_read P Q R later (Ok r) join one all = by_case (later r.1) (all r.1)
   where
-    by_case : (a : Answers) → IfRead Q a → IfRead R (more_than r.0 a)
+    by_case : (a : ListAnswer) → IfRead Q a → IfRead R (more_than r.0 a)
     by_case (Ok s) h = join r.0 s.0 one h
     by_case (Err at) h = tt
 
@@ -72,7 +72,7 @@ times_typed (suc n) t typed ts =
     (read_times n (read_as t)) (read_as t ts) (λ v vs h k. (ap suc k.0, and_true _ _ h k.1)) (typed ts) (times_typed n t typed)
 
 -- the values in brackets
-bracketed_typed : (P : Value → Type 0) (Q : List Value → Type 0) (at : ℕ) (make : List Value → Value) (a : Answers)
+bracketed_typed : (P : Value → Type 0) (Q : List Value → Type 0) (at : ℕ) (make : List Value → Value) (a : ListAnswer)
     → ((vs : List Value) → Q vs → P (make vs)) → IfRead Q a → IfRead P (bracketed at make a)
 bracketed_typed P Q at make (Err fault) join all = tt
 bracketed_typed P Q at make (Ok r) join all = by_case r.1

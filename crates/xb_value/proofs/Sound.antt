@@ -10,7 +10,7 @@ use Rattle.xb_value.specs.declared.scan.Class.TheVariants.{Space, Comma, Ex, Ope
 use Rattle.xb_value.specs.declared.scan.Mode.{Mode}
 use Rattle.xb_value.specs.declared.scan.Mode.TheVariants.{Start, First, Next, Zero, Hex, Digits, After}
 use Rattle.xb_value.specs.Inner.Scanner.{Scan, scan, begin, close, follow, first, next, digits, step, step_in, is_same}
-use Rattle.xb_value.specs.Inner.ScannerState.{IsSound, IsSmall}
+use Rattle.xb_value.specs.Inner.ScannerState.{FitsDigits, IsSmall}
 
 -- one more digit
 more_below : (n v d : ℕ) → v < 2 ^ (4 * n) → d < 16 → v * 16 + d < 2 ^ (4 * (n + 1))
@@ -26,11 +26,11 @@ digits_fit v n d h less small =
     let below : v * 16 + d < 2 ^ (4 * (n + 1)) = more_below n v d h small in
     omega arith
 
-abbrev IsSoundStep : Option Scan → Type 0
-IsSoundStep None = Unit {0}
-IsSoundStep (Some t) = IsSound t.mode
+abbrev FitsDigitsStep : Option Scan → Type 0
+FitsDigitsStep None = Unit {0}
+FitsDigitsStep (Some t) = FitsDigits t.mode
 
-begin_sound : (ks : List Bracket) (ts : List Token) (p : ℕ) (c : Class) → IsSoundStep (begin ks ts p c)
+begin_sound : (ks : List Bracket) (ts : List Token) (p : ℕ) (c : Class) → FitsDigitsStep (begin ks ts p c)
 begin_sound ks ts p (Digit zero) = tt
 begin_sound ks ts p (Digit (suc d)) = tt
 begin_sound ks ts p (Opens b) = tt
@@ -40,15 +40,15 @@ begin_sound ks ts p Ex = tt
 begin_sound ks ts p (Closes b) = tt
 begin_sound ks ts p Other = tt
 
-close_sound : (ks : List Bracket) (ts : List Token) (b : Bracket) → IsSoundStep (close ks ts b)
+close_sound : (ks : List Bracket) (ts : List Token) (b : Bracket) → FitsDigitsStep (close ks ts b)
 close_sound [] ts b = tt
 close_sound (k ∷ ks) ts b = by_case (is_same k b)
   where
-    by_case : (t : Bool) → IsSoundStep (if t then (Some (scan ks (ts ++ Close ∷ []) After)) else None)
+    by_case : (t : Bool) → FitsDigitsStep (if t then (Some (scan ks (ts ++ Close ∷ []) After)) else None)
     by_case true = tt
     by_case false = tt
 
-follow_sound : (ks : List Bracket) (ts : List Token) (c : Class) → IsSoundStep (follow ks ts c)
+follow_sound : (ks : List Bracket) (ts : List Token) (c : Class) → FitsDigitsStep (follow ks ts c)
 follow_sound [] ts c = tt
 follow_sound (k ∷ ks) ts Space = tt
 follow_sound (k ∷ ks) ts Comma = tt
@@ -58,7 +58,7 @@ follow_sound (k ∷ ks) ts (Opens b) = tt
 follow_sound (k ∷ ks) ts (Digit d) = tt
 follow_sound (k ∷ ks) ts Other = tt
 
-first_sound : (ks : List Bracket) (ts : List Token) (p : ℕ) (c : Class) → IsSoundStep (first ks ts p c)
+first_sound : (ks : List Bracket) (ts : List Token) (p : ℕ) (c : Class) → FitsDigitsStep (first ks ts p c)
 first_sound ks ts p Space = tt
 first_sound ks ts p (Closes b) = close_sound ks ts b
 first_sound ks ts p (Digit d) = begin_sound ks ts p (Digit d)
@@ -67,7 +67,7 @@ first_sound ks ts p Comma = tt
 first_sound ks ts p Ex = tt
 first_sound ks ts p Other = tt
 
-next_sound : (ks : List Bracket) (ts : List Token) (p : ℕ) (c : Class) → IsSoundStep (next ks ts p c)
+next_sound : (ks : List Bracket) (ts : List Token) (p : ℕ) (c : Class) → FitsDigitsStep (next ks ts p c)
 next_sound ks ts p Space = tt
 next_sound ks ts p (Closes b) = tt
 next_sound ks ts p (Digit d) = begin_sound ks ts p (Digit d)
@@ -76,10 +76,10 @@ next_sound ks ts p Comma = tt
 next_sound ks ts p Ex = tt
 next_sound ks ts p Other = tt
 
-digits_sound : (ks : List Bracket) (ts : List Token) (at n v : ℕ) (c : Class) → v < 2 ^ (4 * n) → IsSmall c → IsSoundStep (digits ks ts at n v c)
+digits_sound : (ks : List Bracket) (ts : List Token) (at n v : ℕ) (c : Class) → v < 2 ^ (4 * n) → IsSmall c → FitsDigitsStep (digits ks ts at n v c)
 digits_sound ks ts at n v (Digit d) h small = by_case (nat_lt n 32)
   where
-    by_case : (t : Bool) → IsSoundStep (if t then (Some (scan ks ts (Digits at (n + 1) (v * 16 + d)))) else None)
+    by_case : (t : Bool) → FitsDigitsStep (if t then (Some (scan ks ts (Digits at (n + 1) (v * 16 + d)))) else None)
     by_case true = more_below n v d h small
     by_case false = tt
 digits_sound ks ts at n v Space h small = follow_sound ks (ts ++ Number at v ∷ []) Space
@@ -89,7 +89,7 @@ digits_sound ks ts at n v (Opens b) h small = follow_sound ks (ts ++ Number at v
 digits_sound ks ts at n v (Closes b) h small = follow_sound ks (ts ++ Number at v ∷ []) (Closes b)
 digits_sound ks ts at n v Other h small = follow_sound ks (ts ++ Number at v ∷ []) Other
 
-zero_sound : (ks : List Bracket) (ts : List Token) (at p : ℕ) (c : Class) → IsSoundStep (step_in (Zero at) ks ts p c)
+zero_sound : (ks : List Bracket) (ts : List Token) (at p : ℕ) (c : Class) → FitsDigitsStep (step_in (Zero at) ks ts p c)
 zero_sound ks ts at p Ex = tt
 zero_sound ks ts at p Space = tt
 zero_sound ks ts at p Comma = tt
@@ -98,7 +98,7 @@ zero_sound ks ts at p (Closes b) = tt
 zero_sound ks ts at p (Digit d) = tt
 zero_sound ks ts at p Other = tt
 
-hex_sound : (ks : List Bracket) (ts : List Token) (at p : ℕ) (c : Class) → IsSmall c → IsSoundStep (step_in (Hex at) ks ts p c)
+hex_sound : (ks : List Bracket) (ts : List Token) (at p : ℕ) (c : Class) → IsSmall c → FitsDigitsStep (step_in (Hex at) ks ts p c)
 hex_sound ks ts at p (Digit d) small = small
 hex_sound ks ts at p Ex small = tt
 hex_sound ks ts at p Space small = tt
@@ -107,7 +107,7 @@ hex_sound ks ts at p (Opens b) small = tt
 hex_sound ks ts at p (Closes b) small = tt
 hex_sound ks ts at p Other small = tt
 
-sound_in : (m : Mode) (ks : List Bracket) (ts : List Token) (p : ℕ) (c : Class) → IsSound m → IsSmall c → IsSoundStep (step_in m ks ts p c)
+sound_in : (m : Mode) (ks : List Bracket) (ts : List Token) (p : ℕ) (c : Class) → FitsDigits m → IsSmall c → FitsDigitsStep (step_in m ks ts p c)
 sound_in Start ks ts p c h small = begin_sound ks ts p c
 sound_in First ks ts p c h small = first_sound ks ts p c
 sound_in Next ks ts p c h small = next_sound ks ts p c
@@ -117,5 +117,5 @@ sound_in (Digits at n v) ks ts p c h small = digits_sound ks ts at n v c h small
 sound_in After ks ts p c h small = follow_sound ks ts c
 
 -- a step keeps it
-pub step_sound : (s t : Scan) (p : ℕ) (c : Class) → IsSound s.mode → IsSmall c → step s p c ≡ Some t → IsSound t.mode
-step_sound s t p c h small e = subst IsSoundStep e (sound_in s.mode s.stack s.tokens p c h small)
+pub step_sound : (s t : Scan) (p : ℕ) (c : Class) → FitsDigits s.mode → IsSmall c → step s p c ≡ Some t → FitsDigits t.mode
+step_sound s t p c h small e = subst FitsDigitsStep e (sound_in s.mode s.stack s.tokens p c h small)

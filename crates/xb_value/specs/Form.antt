@@ -1,5 +1,5 @@
 -- How values are spelled: the texts that are read.
-use Rattle.std.specs.Prelude.{ℕ, ◌+◌, ◌<◌, ◌≤◌, ◌≡◌, take, List, [], ◌∷◌, ◌++◌, length, replicate, Bool, true, ◌&&◌, nat_le, IsTrue}
+use Rattle.std.specs.Prelude.{ℕ, ◌+◌, ◌≡◌, List, [], ◌∷◌, ◌++◌, length, replicate, Bool, true, ◌&&◌, nat_le, IsTrue}
 use Rattle.std.specs.List.{list_all}
 use Rattle.std.specs.Char.{is_ascii_hexdigit}
 use Rattle.std.specs.Str.Parse.{digits_value}
@@ -71,21 +71,10 @@ abbrev mutual
 
 -- ---- which texts
 
--- some value text begins with the text
-abbrev pub Begins : List ℕ → Type 0
-Begins t = (f : Form) × IsTrue (is_form f) × ((rest : List ℕ) × (form_text f ≡ t ++ rest))
-
--- no value text begins with the text
-abbrev pub NeverBegins : List ℕ → Type 0
-NeverBegins t = (f : Form) (rest : List ℕ) → IsTrue (is_form f) → form_text f ≡ t ++ rest → ⊥
+-- the text is a value text
+abbrev pub IsValueText : List ℕ → Type 0
+IsValueText t = (f : Form) × IsTrue (is_form f) × (form_text f ≡ t)
 
 -- the text is a value text, with these numbers and brackets
 abbrev pub Spells : List ℕ → List Token → Type 0
 Spells t ts = (f : Form) × IsTrue (is_form f) × (form_text f ≡ t) × (form_tokens 0 f ≡ ts)
-
--- the first byte with which the text is the front of no value text, or its end
-pub record IsFirstFault (t : List ℕ) (at : ℕ) : Type 0 where
-  pub within : at ≤ length t
-  pub before : Begins (take at t)
-  pub never : at < length t → NeverBegins (take (at + 1) t)
-  pub none : (f : Form) → IsTrue (is_form f) → form_text f ≡ t → ⊥

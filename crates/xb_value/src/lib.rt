@@ -20,6 +20,3 @@ pub use ty::{Ty, leaves};
 pub use unflat_word::unflat;
 pub use value::Value;
 pub use writer::{push_value, value_text};
-
-#[cfg(test)]
-mod tests;

@@ -6,7 +6,7 @@ ghost use Rattle.xb_value.specs.Form.{Spells};
 ghost use Rattle.xb_value.specs.Reads.{Reads};
 ghost use Rattle.xb_value.specs.Inner.Reading.{reading, read_as, read_each, read_times, read_bits, read_tuple, read_array, parts_at};
 ghost use Rattle.xb_value.specs.Refusal.{IsRefusal};
-ghost use Rattle.xb_value.specs.Inner.Answers.{IsAnswer, IsFault, IsNoBracket, IsUnclosed};
+ghost use Rattle.xb_value.specs.Inner.Answers.{IsAnswer, IsFaultOrNoMemory, IsNoBracket, IsUnclosed};
 ghost use Rattle.xb_value.specs.Shape.{Says};
 ghost use Rattle.xb_value.specs.Typing.{IsOfType, is_word_of};
 ghost use Rattle.xb_value.specs.declared.value.Value.{Value};
@@ -79,7 +79,7 @@ struct Inside<'a> {
 /// Reads a value of the type.
 #[cycle(read)]
 fn take_value<'a>(alloc: Global, ty: &Ty, tokens: &'a [Token]) -> Result<Taken<'a>, ValueError>
-    ensures { MatchResult result (λ taken. read_as ty.now tokens.now ≡ Ok (taken.value, taken.rest.now)) (λ e. IsFault e (read_as ty.now tokens.now)) }
+    ensures { MatchResult result (λ taken. read_as ty.now tokens.now ≡ Ok (taken.value, taken.rest.now)) (λ e. IsFaultOrNoMemory e (read_as ty.now tokens.now)) }
 {
     match ty {
         Ty::Bits(width) => take_bits(*width, tokens),
@@ -91,7 +91,7 @@ fn take_value<'a>(alloc: Global, ty: &Ty, tokens: &'a [Token]) -> Result<Taken<'
 /// Reads a tuple of values of the types.
 #[cycle(read)]
 fn take_tuple<'a>(alloc: Global, parts: &[Ty], tokens: &'a [Token]) -> Result<Taken<'a>, ValueError>
-    ensures { MatchResult result (λ taken. read_tuple (map read_as parts.now) tokens.now ≡ Ok (taken.value, taken.rest.now)) (λ e. IsFault e (read_tuple (map read_as parts.now) tokens.now)) }
+    ensures { MatchResult result (λ taken. read_tuple (map read_as parts.now) tokens.now ≡ Ok (taken.value, taken.rest.now)) (λ e. IsFaultOrNoMemory e (read_tuple (map read_as parts.now) tokens.now)) }
 {
     let inside = enter(tokens, Bracket::Round)?;
     if inside.count != parts.len() as u64 {
@@ -112,7 +112,7 @@ fn take_array<'a>(
     count: u64,
     tokens: &'a [Token],
 ) -> Result<Taken<'a>, ValueError>
-    ensures { MatchResult result (λ taken. read_array (read_as part.now) count tokens.now ≡ Ok (taken.value, taken.rest.now)) (λ e. IsFault e (read_array (read_as part.now) count tokens.now)) }
+    ensures { MatchResult result (λ taken. read_array (read_as part.now) count tokens.now ≡ Ok (taken.value, taken.rest.now)) (λ e. IsFaultOrNoMemory e (read_array (read_as part.now) count tokens.now)) }
 {
     let inside = enter(tokens, Bracket::Square)?;
     if inside.count != count {
@@ -132,7 +132,7 @@ fn take_each<'a>(
     parts: &[Ty],
     tokens: &'a [Token],
 ) -> Result<TakenAll<'a>, ValueError>
-    ensures { MatchResult result (λ taken. read_each (map read_as parts.now) tokens.now ≡ Ok (taken.values, taken.rest.now)) (λ e. IsFault e (read_each (map read_as parts.now) tokens.now)) }
+    ensures { MatchResult result (λ taken. read_each (map read_as parts.now) tokens.now ≡ Ok (taken.values, taken.rest.now)) (λ e. IsFaultOrNoMemory e (read_each (map read_as parts.now) tokens.now)) }
 {
     let mut values = Seq::new(alloc);
     let mut rest = tokens;
@@ -152,7 +152,7 @@ fn take_times<'a>(
     part: &Ty,
     tokens: &'a [Token],
 ) -> Result<TakenAll<'a>, ValueError>
-    ensures { MatchResult result (λ taken. read_times count (read_as part.now) tokens.now ≡ Ok (taken.values, taken.rest.now)) (λ e. IsFault e (read_times count (read_as part.now) tokens.now)) }
+    ensures { MatchResult result (λ taken. read_times count (read_as part.now) tokens.now ≡ Ok (taken.values, taken.rest.now)) (λ e. IsFaultOrNoMemory e (read_times count (read_as part.now) tokens.now)) }
 {
     let mut values = Seq::new(alloc);
     let mut rest = tokens;
@@ -166,7 +166,7 @@ fn take_times<'a>(
 
 /// Reads a number of the width.
 fn take_bits<'a>(width: u64, tokens: &'a [Token]) -> Result<Taken<'a>, ValueError>
-    ensures { MatchResult result (λ taken. read_bits width tokens.now ≡ Ok (taken.value, taken.rest.now)) (λ e. IsFault e (read_bits width tokens.now)) }
+    ensures { MatchResult result (λ taken. read_bits width tokens.now ≡ Ok (taken.value, taken.rest.now)) (λ e. IsFaultOrNoMemory e (read_bits width tokens.now)) }
 {
     match tokens.split_first() {
         Some((Token::Number(at, number), rest)) => match bits_of(width, *number) {

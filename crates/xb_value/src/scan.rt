@@ -2,7 +2,7 @@
 
 ghost use Rattle.std.specs.Prelude.{◌≡◌, ◌<◌, ◌*◌, ◌^◌, IfOk, reverse, length};
 ghost use Rattle.xb_value.specs.Inner.Scanner.{class_of, started, step, begin, first, next, digits, follow, close, step_in, ended};
-ghost use Rattle.xb_value.specs.Inner.ScannerState.{state_of, Stepped, IsSound, IsSmall};
+ghost use Rattle.xb_value.specs.Inner.ScannerState.{state_of, Stepped, FitsDigits, IsSmall};
 ghost use Rattle.xb_value.specs.Inner.Scanned.{IsScanOf};
 ghost use Rattle.std.specs.Option.{option_map};
 
@@ -103,7 +103,7 @@ impl Scanner {
 
     /// Takes a byte at its place, or answers that no value text goes on so.
     fn step(&mut self, at: u32, class: Class) -> Result<bool, AllocError>
-        requires sound { IsSound self.old.mode }
+        requires sound { FitsDigits self.old.mode }
         requires small { IsSmall class }
         ensures { IfOk result (λ went. Stepped (step (state_of self.old) at class) went (state_of self.new)) }
     {

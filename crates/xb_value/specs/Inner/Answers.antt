@@ -15,10 +15,10 @@ IsAnswer (Err OutOfMemory) r = Unit {0}
 IsAnswer _ _ = ⊥
 
 -- an error that the numbers and brackets give, or want of memory
-abbrev pub IsFault : {A : Type 0} → ValueError → Result A ℕ → Type 0
-IsFault (Syntax at) r = ⊥
-IsFault (Shape at) r = r ≡ Err at
-IsFault OutOfMemory r = Unit {0}
+abbrev pub IsFaultOrNoMemory : {A : Type 0} → ValueError → Result A ℕ → Type 0
+IsFaultOrNoMemory (Syntax at) r = ⊥
+IsFaultOrNoMemory (Shape at) r = r ≡ Err at
+IsFaultOrNoMemory OutOfMemory r = Unit {0}
 
 -- the place to name where no such bracket opens
 abbrev pub IsNoBracket : List Token → Bracket → ValueError → Type 0

@@ -1,5 +1,5 @@
 -- Which value of a type the numbers and brackets of a text say, or the place of the first that does not fit.
-use Rattle.std.specs.Prelude.{◌≡◌, ℕ, zero, suc, ◌==◌, List, [], ◌∷◌, length, if◌then◌else◌, Result, Ok, Err}
+use Rattle.std.specs.Prelude.{ℕ, zero, suc, ◌==◌, List, [], ◌∷◌, length, if◌then◌else◌, Result, Ok, Err}
 use Rattle.xb_bits.specs.Word.{word}
 use Rattle.xb_value.specs.declared.ty.Ty.{Ty, fold-Ty}
 use Rattle.xb_value.specs.declared.ty.Ty.TheOpen.{Ty-F}
@@ -17,8 +17,8 @@ abbrev pub Reader : Type 0
 Reader = List Token → Answer
 
 -- the same of several values
-abbrev pub Answers : Type 0
-Answers = Result (List Value × List Token) ℕ
+abbrev pub ListAnswer : Type 0
+ListAnswer = Result (List Value × List Token) ℕ
 
 -- Numbers and brackets are read from the front. What no text spells, as a bracket that closes nothing, has the fault 0.
 
@@ -32,19 +32,19 @@ parts_at (suc depth) (Open at b ∷ ts) = parts_at (suc (suc depth)) ts
 parts_at zero (Close ∷ ts) = 0
 parts_at (suc depth) (Close ∷ ts) = parts_at depth ts
 
-abbrev pub more_than : Value → Answers → Answers
+abbrev pub more_than : Value → ListAnswer → ListAnswer
 more_than v (Ok r) = Ok (v ∷ r.0, r.1)
 more_than v (Err at) = Err at
 
-abbrev pub and_more : (List Token → Answers) → Answer → Answers
+abbrev pub and_more : (List Token → ListAnswer) → Answer → ListAnswer
 and_more later (Ok r) = more_than r.0 (later r.1)
 and_more later (Err at) = Err at
 
-abbrev pub read_each : List Reader → List Token → Answers
+abbrev pub read_each : List Reader → List Token → ListAnswer
 read_each [] ts = Ok ([], ts)
 read_each (r ∷ rs) ts = and_more (read_each rs) (r ts)
 
-abbrev pub read_times : ℕ → Reader → List Token → Answers
+abbrev pub read_times : ℕ → Reader → List Token → ListAnswer
 read_times zero r ts = Ok ([], ts)
 read_times (suc n) r ts = and_more (read_times n r) (r ts)
 
@@ -53,7 +53,7 @@ abbrev pub left : ℕ → (List Value → Value) → List Value → List Token �
 left at make vs (Close ∷ ts) = Ok (make vs, ts)
 left at make vs _ = Err at
 
-abbrev pub bracketed : ℕ → (List Value → Value) → Answers → Answer
+abbrev pub bracketed : ℕ → (List Value → Value) → ListAnswer → Answer
 bracketed at make (Ok r) = left at make r.0 r.1
 bracketed at make (Err fault) = Err fault
 

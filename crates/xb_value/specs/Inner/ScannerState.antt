@@ -18,9 +18,9 @@ Stepped (Some s) true t = t ≡ s
 Stepped _ _ t = ⊥
 
 -- a number has at most 4 bits a digit
-abbrev pub IsSound : Mode → Type 0
-IsSound (Digits at n v) = v < 2 ^ (4 * n)
-IsSound _ = Unit {0}
+abbrev pub FitsDigits : Mode → Type 0
+FitsDigits (Digits at n v) = v < 2 ^ (4 * n)
+FitsDigits _ = Unit {0}
 
 abbrev pub IsSmall : Class → Type 0
 IsSmall (Digit d) = d < 16

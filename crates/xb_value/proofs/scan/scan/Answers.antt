@@ -1,5 +1,6 @@
 use Rattle.std.proofs.Common.{◌≡◌, get_or, Some, None, option_map, refl, sym, ap, ap₂, subst, ◌∙◌, arith}
-use Rattle.xb_value.specs.Form.{IsFirstFault, Spells}
+use Rattle.lists.specs.Fault.{IsFirstFault}
+use Rattle.xb_value.specs.Form.{IsValueText, Spells}
 use Rattle.xb_value.specs.Inner.Scanner.{class_of, step, ended}
 use Rattle.xb_value.specs.Inner.ScannerState.{state_of, Stepped}
 use Rattle.xb_value.proofs.Faults.{fault_at, fault_at_end, spelled_at_end, stands_next, stepped_refused, stepped_went}
@@ -16,7 +17,7 @@ returns-then-not-branch c =
     let answered = subst (λ w. Stepped (step s c.bytes.at c.class_of.result) w (state_of c.step.new.self)) c.if-not-branch.true c.in_ok-step.ensures in
     let refused : step s i (class_of b) ≡ None =
     ap₂ (λ p k. step s p k) (sym place) (sym c.class_of.ensures.value) ∙ stepped_refused (step s c.bytes.at c.class_of.result) (state_of c.step.new.self) answered in
-    subst (IsFirstFault t) (sym place) (fault_at s t i b c.bytes-test.true refl c.bytes.invariant.stands refused)
+    subst (IsFirstFault IsValueText t) (sym place) (fault_at s t i b c.bytes-test.true refl c.bytes.invariant.stands refused)
 
 pub bytes-preserved : goal.bytes-preserved
 bytes-preserved c =
@@ -48,5 +49,5 @@ returns-in-None c =
     let s = state_of c.bytes.scanner in
     let t = c.args.text.now in
     let end : ended s ≡ None = sym c.in_ok-tokens.ensures ∙ ap (option_map (λ v. v.items)) c.in-None.is in
-    subst (IsFirstFault t) (sym c.bytes.invariant.place)
+    subst (IsFirstFault IsValueText t) (sym c.bytes.invariant.place)
     (fault_at_end s t c.bytes.byte-index c.bytes-test.false c.bytes.auto.byte-index-end c.bytes.invariant.stands end)

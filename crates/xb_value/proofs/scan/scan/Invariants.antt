@@ -1,5 +1,5 @@
 use Rattle.std.proofs.Common.{◌≡◌, take}
-use Rattle.xb_value.specs.Inner.ScannerState.{state_of, IsSound}
+use Rattle.xb_value.specs.Inner.ScannerState.{state_of, FitsDigits}
 use Rattle.xb_value.proofs.Faults.{StandsBehind}
 use Rattle.xb_value.proofs.scan.scan.Given as goal
 
@@ -7,6 +7,6 @@ abbrev pub invariant-bytes : goal.invariant-bytes
 invariant-bytes l =
     record {
       place : l.at ≡ l.byte-index;
-      sound : IsSound l.scanner.mode;
+      sound : FitsDigits l.scanner.mode;
       stands : StandsBehind (state_of l.scanner) (take l.byte-index l.text);
     }
