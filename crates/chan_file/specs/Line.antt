@@ -22,11 +22,11 @@ is_channel_name (c ∷ cs) = begins_word c && list_all is_name_byte cs
 abbrev pub is_channel_line : List ℕ → Bool
 is_channel_line line = bytes_eq (codes "chan ") (take 5 line) && is_channel_name (drop 5 line)
 
-pub data Form : Type 0 where
-  blank : Form
-  channel : List ℕ → Form
-  other : Form
+pub data LineShape : Type 0 where
+  blank : LineShape
+  channel : List ℕ → LineShape
+  other : LineShape
 
 -- what a line is: nothing, a channel's name, or else it can only be a word
-abbrev pub line_form : List ℕ → Form
+abbrev pub line_form : List ℕ → LineShape
 line_form line = if says_nothing line then blank else (if is_channel_line line then (channel (drop 5 line)) else other)

@@ -13,7 +13,7 @@ use Rattle.cmd_answer.specs.Fault.{Fault, named, status_of}
 use Rattle.cmd_answer.specs.Step.{Then, goes_on, stops, IsOne, IsOfCommand, IsGivenByCommand, DueBy, Gives}
 use Rattle.cmd_answer.specs.Loads.{Loads, whole, past_limit}
 use Rattle.cmd_answer.specs.Events.{FileEvents, SinkEvents, file_events}
-use Rattle.cmd_answer.specs.Done.{IsBehindLoads, StopsBy, IsRefused, IsDone, IsLast, IsCounted, GivesDue}
+use Rattle.cmd_answer.specs.Done.{IsBehindLoads, StopsBy, IsRefused, IsDone, IsLast, IsBackedByBytes, GivesDue}
 use Rattle.cmd_answer.specs.Response.{Writes, ShowsRefusal}
 use Rattle.cmd_answer.specs.Answered.{Answers, wrote, refused, no_memory, unread, unwritten, IsAnswered}
 
@@ -93,7 +93,7 @@ last_behind : (before names : List (List ℕ)) (name : List ℕ) → IsLast name
 last_behind before names name last = (before ++ last.0, ap (λ t. before ++ t) last.1 ∙ sym (append_assoc before last.0 (name ∷ [])))
 
 module _ {F : Type 0} (asked : F → List (List ℕ)) (faults taken : F → ℕ) where
-  counted_later : (old mid new : F) (fault : Fault) → taken old ≤ taken mid → IsCounted (file_events asked faults taken mid new) fault → IsCounted (file_events asked faults taken old new) fault
+  counted_later : (old mid new : F) (fault : Fault) → taken old ≤ taken mid → IsBackedByBytes (file_events asked faults taken mid new) fault → IsBackedByBytes (file_events asked faults taken old new) fault
   counted_later old mid new (TooBig name) rises is = omega arith
   counted_later old mid new _ rises is = tt
 
@@ -110,7 +110,7 @@ module _ {F : Type 0} (asked : F → List (List ℕ)) (faults taken : F → ℕ)
 
 -- ---- commands
 
-counted_behind : (files : FileEvents) (fault : code.Fault (Bor (List ℕ))) → IsBehindLoads fault → IsCounted files (named fault)
+counted_behind : (files : FileEvents) (fault : code.Fault (Bor (List ℕ))) → IsBehindLoads fault → IsBackedByBytes files (named fault)
 counted_behind files Usage is = tt
 counted_behind files (TooBig name) is = absurd is
 counted_behind files (Text name error) is = tt

@@ -25,15 +25,15 @@ abbrev pub IsLast : List (List ℕ) → List ℕ → Type 0
 IsLast names name = (before : List (List ℕ)) × (names ≡ before ++ name ∷ [])
 
 -- a file counts as past the limit only where so many bytes were taken
-abbrev pub IsCounted : FileEvents → Fault → Type 0
-IsCounted files (TooBig name) = files.took_past_limit
-IsCounted files _ = Unit {0}
+abbrev pub IsBackedByBytes : FileEvents → Fault → Type 0
+IsBackedByBytes files (TooBig name) = files.took_past_limit
+IsBackedByBytes files _ = Unit {0}
 
 -- why there is no output, after these names were asked for
 abbrev pub IsRefused : (Result (List ℕ) Fault → Type 0) → FileEvents → List (List ℕ) → Refusal → Type 0
 IsRefused due files names refusal.OutOfMemory = files.sound
 IsRefused due files names (refusal.Unread name) = files.faulted × IsLast names name.now
-IsRefused due files names (refusal.Fault fault) = due (Err (named fault)) × files.sound × IsCounted files (named fault)
+IsRefused due files names (refusal.Fault fault) = due (Err (named fault)) × files.sound × IsBackedByBytes files (named fault)
 
 -- a command that names files gave the text that is due, or refused
 abbrev pub GivesDue : {V : Type 0} → (V → List ℕ) → (Result (List ℕ) Fault → Type 0) → FileEvents → List (List ℕ) → Result V Refusal → Type 0

@@ -37,5 +37,5 @@ sink_events written faults old new = record {
 }
 
 -- the bytes were added, or a front of them where a fault was counted
-abbrev pub Shows : SinkEvents → List ℕ → Type 0
-Shows sink line = sink.puts line ⊎ sink.breaks_off line
+abbrev pub PutsOrBreaksOff : SinkEvents → List ℕ → Type 0
+PutsOrBreaksOff sink line = sink.puts line ⊎ sink.breaks_off line

@@ -3,12 +3,12 @@ use Rattle.std.specs.Prelude.{◌≡◌, ◌++◌, ◌⊎◌, ℕ, List, codes}
 use Rattle.cmd_answer.specs.declared.refusal.Refusal.{Refusal}
 use Rattle.cmd_answer.specs.declared.refusal.Refusal.TheVariants as refusal
 use Rattle.cmd_answer.specs.Fault.{line_of, named, status_of}
-use Rattle.cmd_answer.specs.Events.{SinkEvents, Shows}
+use Rattle.cmd_answer.specs.Events.{SinkEvents, PutsOrBreaksOff}
 
 -- the output was written and nothing else, or it broke off
 abbrev pub Writes : SinkEvents → SinkEvents → List ℕ → ℕ → Type 0
 Writes out err text status =
-    ((status ≡ 0) × out.puts text × err.untouched) ⊎ ((status ≡ 5) × out.breaks_off text × Shows err (codes "cannot write\n"))
+    ((status ≡ 0) × out.puts text × err.untouched) ⊎ ((status ≡ 5) × out.breaks_off text × PutsOrBreaksOff err (codes "cannot write\n"))
 
 -- the line and the status of a refusal
 abbrev pub refusal_line : Refusal → List ℕ
@@ -22,4 +22,4 @@ refusal_status (refusal.Unread name) = 4
 refusal_status (refusal.Fault fault) = status_of fault
 
 abbrev pub ShowsRefusal : SinkEvents → SinkEvents → Refusal → ℕ → Type 0
-ShowsRefusal out err refused status = out.untouched × (status ≡ refusal_status refused) × Shows err (refusal_line refused)
+ShowsRefusal out err refused status = out.untouched × (status ≡ refusal_status refused) × PutsOrBreaksOff err (refusal_line refused)

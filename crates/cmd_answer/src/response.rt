@@ -1,5 +1,5 @@
 ghost use Rattle.std.specs.Prelude.{◌≡◌, ◌≤◌, MatchResult};
-ghost use Rattle.cmd_answer.specs.Events.{Shows, sink_events};
+ghost use Rattle.cmd_answer.specs.Events.{PutsOrBreaksOff, sink_events};
 ghost use Rattle.cmd_answer.specs.Response.{ShowsRefusal, Writes, refusal_line, refusal_status};
 
 use crate::pieces::put_pieces;
@@ -35,7 +35,7 @@ pub fn respond<O: Sink, E: Sink>(
 
 /// Puts the line of a refusal, or as much of it as the stream takes.
 fn put_refusal<S: Sink>(sink: &mut S, refusal: &Refusal<'_>)
-    ensures { Shows (sink_events S.written S.faults sink.old sink.new) (refusal_line refusal.now) }
+    ensures { PutsOrBreaksOff (sink_events S.written S.faults sink.old sink.new) (refusal_line refusal.now) }
 {
     let _ = match *refusal {
         Refusal::OutOfMemory => put_pieces(sink, &[Piece::Text("out of memory\n")]),

@@ -11,17 +11,17 @@ use denote.Ref.{Bor}
 use Rattle.dslx_token.specs.Inner.Names.{AreDeclared, has_name, kind_by}
 use Rattle.dslx_token.specs.Kinds.{declares, heads_callable, heads_struct, heads_type, kind_declared, name_kind, settled}
 use Rattle.dslx_token.specs.Lexeme.{Lexeme}
-use Rattle.dslx_token.specs.Tokens.{at_end, next, here, later, lexeme_at, place_of, IsFirstOdd, OddAt, PlainTokens, Stands, Tokens}
+use Rattle.dslx_token.specs.Tokens.{at_end, next, here, later, lexeme_at, place_of, IsFirstOdd, OddAt, PlainTokens, IsNextToken, Tokens}
 use Rattle.dslx_token.proofs.LongestTokens.{longest_is_one}
 use Rattle.dslx_token.proofs.TokenBytes.{some_token}
 
 -- a text that begins with a token isn't empty
-token_then_some : (token rest : List ℕ) → Stands token rest → token ++ rest ≢ []
+token_then_some : (token rest : List ℕ) → IsNextToken token rest → token ++ rest ≢ []
 token_then_some [] rest stands e = some_token stands.longest.is_token
 token_then_some (c ∷ cs) rest stands e = cc
 
 -- the same token stands there
-same_token : (a x b y : List ℕ) → Stands a x → Stands b y → a ++ x ≡ b ++ y → (a ≡ b) × (x ≡ y)
+same_token : (a x b y : List ℕ) → IsNextToken a x → IsNextToken b y → a ++ x ≡ b ++ y → (a ≡ b) × (x ≡ y)
 same_token a x b y sa sb e = longest_is_one a b x y sa.longest sb.longest e
 
 pub one_plain_list : (text rest : List ℕ) (ls ms : List Lexeme) → PlainTokens text rest ls → PlainTokens text rest ms → ls ≡ ms

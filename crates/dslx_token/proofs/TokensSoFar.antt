@@ -7,7 +7,7 @@ use Rattle.dslx_token.specs.Blank.{after_blank, behind_blank}
 use Rattle.dslx_token.specs.Characters.{is_white}
 use Rattle.dslx_token.specs.Inner.Fronts.{IsTokenLen}
 use Rattle.dslx_token.specs.Lexeme.{Lexeme}
-use Rattle.dslx_token.specs.Tokens.{at_end, next, here, later, lexeme_at, place_of, BeginsNoToken, IsFirstOdd, OddAt, PlainTokens, Stands}
+use Rattle.dslx_token.specs.Tokens.{at_end, next, here, later, lexeme_at, place_of, BeginsNoToken, IsFirstOdd, OddAt, PlainTokens, IsNextToken}
 
 -- the tokens of the text are these, and then those of some text whose front is blank up to the rest
 pub record AreTokensSoFar (text : List ℕ) (done : List Lexeme) (rest : List ℕ) : Type 0 where
@@ -39,7 +39,7 @@ none_so_far text rest e = record {
 }
 
 -- one more
-pub one_more_so_far : (text : List ℕ) (done : List Lexeme) (rest token after behind : List ℕ) → AreTokensSoFar text done rest → rest ≡ token ++ after → Stands token after → behind ≡ after_blank after → AreTokensSoFar text (done ++ lexeme_at (place_of text rest) token ∷ []) behind
+pub one_more_so_far : (text : List ℕ) (done : List Lexeme) (rest token after behind : List ℕ) → AreTokensSoFar text done rest → rest ≡ token ++ after → IsNextToken token after → behind ≡ after_blank after → AreTokensSoFar text (done ++ lexeme_at (place_of text rest) token ∷ []) behind
 one_more_so_far text done rest token after behind so_far e stands blank = record {
   unread = after;
   rest_is = blank;

@@ -14,14 +14,14 @@ pub record IsLongestToken (token rest : List ℕ) : Type 0 where
 
 -- the token stands at the front of a text, with this rest behind it: the longest one, and where that is a number, it
 -- is below 2^128 and no letter follows it
-pub record Stands (token rest : List ℕ) : Type 0 where
+pub record IsNextToken (token rest : List ℕ) : Type 0 where
   pub longest : IsLongestToken token rest
   pub no_letter : is_number token ≡ true → is_ascii_alphabetic (slice_index rest 0) ≡ false
   pub in_range : is_number token ≡ true → number_value token < 2 ^ 128
 
 -- no token stands at the front of this text
 abbrev pub BeginsNoToken : List ℕ → Type 0
-BeginsNoToken text = (token rest : List ℕ) → text ≡ token ++ rest → ¬ Stands token rest
+BeginsNoToken text = (token rest : List ℕ) → text ≡ token ++ rest → ¬ IsNextToken token rest
 
 -- the bytes that stand at this place, with their kind by themselves
 abbrev pub lexeme_at : ℕ → List ℕ → Lexeme
@@ -34,7 +34,7 @@ place_of text rest = length text - length rest
 -- the tokens of a rest of the text, each by itself, and behind them the mark at the text's end
 pub data PlainTokens (text : List ℕ) : List ℕ → List Lexeme → Type 0 where
   at_end : (rest : List ℕ) → after_blank rest ≡ [] → PlainTokens text rest (lexeme_at (length text) [] ∷ [])
-  next : (rest token behind : List ℕ) (more : List Lexeme) → after_blank rest ≡ token ++ behind → Stands token behind → PlainTokens text behind more → PlainTokens text rest (lexeme_at (place_of text (token ++ behind)) token ∷ more)
+  next : (rest token behind : List ℕ) (more : List Lexeme) → after_blank rest ≡ token ++ behind → IsNextToken token behind → PlainTokens text behind more → PlainTokens text rest (lexeme_at (place_of text (token ++ behind)) token ∷ more)
 
 -- the text's tokens, in order, with the mark at its end
 pub record Tokens (text : List ℕ) (tokens : List Lexeme) : Type 0 where
@@ -45,7 +45,7 @@ pub record Tokens (text : List ℕ) (tokens : List Lexeme) : Type 0 where
 -- in a rest of the text, this is where the first character stands that begins no token
 pub data OddAt (text : List ℕ) : List ℕ → ℕ → Type 0 where
   here : (rest : List ℕ) → after_blank rest ≢ [] → BeginsNoToken (after_blank rest) → OddAt text rest (place_of text (after_blank rest))
-  later : (rest token behind : List ℕ) (at : ℕ) → after_blank rest ≡ token ++ behind → Stands token behind → OddAt text behind at → OddAt text rest at
+  later : (rest token behind : List ℕ) (at : ℕ) → after_blank rest ≡ token ++ behind → IsNextToken token behind → OddAt text behind at → OddAt text rest at
 
 -- the place of the text's first character that begins no token
 abbrev pub IsFirstOdd : List ℕ → ℕ → Type 0

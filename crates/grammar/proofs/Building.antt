@@ -14,8 +14,8 @@ use Rattle.grammar.specs.Derivation.{IsRule, IsDerivation, start_of}
 use Rattle.grammar.specs.Tree.{Forest, Grows, IsParseTree, productions_of}
 use Rattle.grammar.specs.Tree.Grows.{empty, leaf, branch}
 use Rattle.grammar.specs.Steps.{steps_of}
-use Rattle.grammar.specs.Inner.Tasks.{Gives, body_of, reads, tasks_of}
-use Rattle.grammar.specs.Inner.Tasks.Gives.{none, shift, expand, reduce}
+use Rattle.grammar.specs.Inner.Tasks.{TasksGive, body_of, reads, tasks_of}
+use Rattle.grammar.specs.Inner.Tasks.TasksGive.{none, shift, expand, reduce}
 use Rattle.grammar.proofs.Deriving.{IsRule-body}
 use Rattle.grammar.proofs.Trees.{parse-tree, same-forest, within-drop}
 
@@ -23,7 +23,7 @@ reads-append : (a b : List Symbol) → reads (a ++ b) ≡ reads a ++ reads b
 reads-append a b = map-append (λ x. Visit x) a b
 
 -- to visit symbols gives the steps of what they grow to
-pub gives-of : {rules : List Rule} {s : List Symbol} {f : Forest} → Grows rules s f → {tasks : List Task} {ps : List ℕ} {steps : List Step} → Gives rules tasks ps steps → Gives rules (reads s ++ tasks) (productions_of f ++ ps) (steps_of f ++ steps)
+pub gives-of : {rules : List Rule} {s : List Symbol} {f : Forest} → Grows rules s f → {tasks : List Task} {ps : List ℕ} {steps : List Step} → TasksGive rules tasks ps steps → TasksGive rules (reads s ++ tasks) (productions_of f ++ ps) (steps_of f ++ steps)
 gives-of empty k = k
 gives-of (leaf g) k = shift (gives-of g k)
 gives-of {rules} (branch {p = p} b {s = s} {below = below} {right = right} r g h) {tasks = tasks} {ps = ps} {steps = steps} k =
@@ -31,13 +31,13 @@ gives-of {rules} (branch {p = p} b {s = s} {below = below} {right = right} r g h
     let here : productions_of below ++ (productions_of right ++ ps) ≡ (productions_of below ++ productions_of right) ++ ps = sym (append_assoc (productions_of below) (productions_of right) ps) in
     let there : steps_of below ++ (made.Reduce p ∷ (steps_of right ++ steps)) ≡ (steps_of below ++ made.Reduce p ∷ steps_of right) ++ steps = sym (append_assoc (steps_of below) (made.Reduce p ∷ steps_of right) steps) in
     expand b r
-    (subst (λ xs. Gives rules (reads b ++ Reduce p ∷ (reads s ++ tasks)) xs ((steps_of below ++ made.Reduce p ∷ steps_of right) ++ steps)) here
-    (subst (λ ys. Gives rules (reads b ++ Reduce p ∷ (reads s ++ tasks)) (productions_of below ++ (productions_of right ++ ps)) ys) there inner))
+    (subst (λ xs. TasksGive rules (reads b ++ Reduce p ∷ (reads s ++ tasks)) xs ((steps_of below ++ made.Reduce p ∷ steps_of right) ++ steps)) here
+    (subst (λ ys. TasksGive rules (reads b ++ Reduce p ∷ (reads s ++ tasks)) (productions_of below ++ (productions_of right ++ ps)) ys) there inner))
 
 -- what `steps` keeps: the tasks, from the top of the stack, give the steps that are still wanted
 abbrev pub Goes : Syntax → List ℕ → List Task → ℕ → List Step → Type 0
 Goes y ps tasks next steps =
-    (rest : List Step) × Gives y.rules (reverse tasks) (drop next ps) rest × ((ts : List ℕ) (f : Forest) → IsParseTree y ps ts f → steps_of f ≡ steps ++ rest)
+    (rest : List Step) × TasksGive y.rules (reverse tasks) (drop next ps) rest × ((ts : List ℕ) (f : Forest) → IsParseTree y ps ts f → steps_of f ≡ steps ++ rest)
 
 popped : (items rest : List Task) (x : Task) → items ≡ rest ++ x ∷ [] → reverse items ≡ x ∷ reverse rest
 popped items rest x e = ap reverse e ∙ reverse-append rest (x ∷ [])
@@ -53,8 +53,8 @@ goes-start y ps d first second none' e f n =
     let tasks : reverse second ≡ reads (start_of y) ++ [] = ap reverse (f ∙ ap (λ x. x ++ Visit (Nonterminal 0) ∷ []) e) in
     let given = gives-of t.1.grows none in (
       steps_of t.0 ++ [],
-      subst (λ x. Gives y.rules x ps (steps_of t.0 ++ [])) (sym tasks)
-          (subst (λ x. Gives y.rules (reads (start_of y) ++ []) x (steps_of t.0 ++ [])) (append-nil (productions_of t.0) ∙ t.1.productions) given),
+      subst (λ x. TasksGive y.rules x ps (steps_of t.0 ++ [])) (sym tasks)
+          (subst (λ x. TasksGive y.rules (reads (start_of y) ++ []) x (steps_of t.0 ++ [])) (append-nil (productions_of t.0) ∙ t.1.productions) given),
       λ us g h. ap steps_of (one-tree y ps us d.0 g t.0 h t.1) ∙ sym (append-nil (steps_of t.0)) ∙ ap (λ x. x ++ (steps_of t.0 ++ [])) (sym n),
     )
 
@@ -63,12 +63,12 @@ goes-start y ps d first second none' e f n =
 record Shifted (rules : List Rule) (tasks : List Task) (ps : List ℕ) (steps : List Step) (x : Step) : Type 0 where
   pub others : List Step
   pub is : steps ≡ x ∷ others
-  pub gives : Gives rules tasks ps others
+  pub gives : TasksGive rules tasks ps others
 
-shifted : {rules : List Rule} {t : ℕ} {tasks : List Task} {ps : List ℕ} {steps : List Step} → Gives rules (Visit (Terminal t) ∷ tasks) ps steps → Shifted rules tasks ps steps made.Shift
+shifted : {rules : List Rule} {t : ℕ} {tasks : List Task} {ps : List ℕ} {steps : List Step} → TasksGive rules (Visit (Terminal t) ∷ tasks) ps steps → Shifted rules tasks ps steps made.Shift
 shifted (shift {steps = others} g) = record { others = others; is = refl; gives = g }
 
-reduced : {rules : List Rule} {p : ℕ} {tasks : List Task} {ps : List ℕ} {steps : List Step} → Gives rules (Reduce p ∷ tasks) ps steps → Shifted rules tasks ps steps (made.Reduce p)
+reduced : {rules : List Rule} {p : ℕ} {tasks : List Task} {ps : List ℕ} {steps : List Step} → TasksGive rules (Reduce p ∷ tasks) ps steps → Shifted rules tasks ps steps (made.Reduce p)
 reduced (reduce {steps = others} g) = record { others = others; is = refl; gives = g }
 
 record Expanded (rules : List Rule) (n : ℕ) (tasks : List Task) (ps : List ℕ) (steps : List Step) : Type 0 where
@@ -77,9 +77,9 @@ record Expanded (rules : List Rule) (n : ℕ) (tasks : List Task) (ps : List ℕ
   pub others : List ℕ
   pub is : ps ≡ number ∷ others
   pub rule : IsRule rules number n body
-  pub gives : Gives rules (reads body ++ Reduce number ∷ tasks) others steps
+  pub gives : TasksGive rules (reads body ++ Reduce number ∷ tasks) others steps
 
-expanded : {rules : List Rule} {n : ℕ} {tasks : List Task} {ps : List ℕ} {steps : List Step} → Gives rules (Visit (Nonterminal n) ∷ tasks) ps steps → Expanded rules n tasks ps steps
+expanded : {rules : List Rule} {n : ℕ} {tasks : List Task} {ps : List ℕ} {steps : List Step} → TasksGive rules (Visit (Nonterminal n) ∷ tasks) ps steps → Expanded rules n tasks ps steps
 expanded (expand {p = p} b {ps = others} r g) = record { number = p; body = b; others = others; is = refl; rule = r; gives = g }
 
 one-more : (y : Syntax) (ps : List ℕ) (steps more rest others : List Step) (x : Step) → rest ≡ x ∷ others → more ≡ steps ++ x ∷ [] → ((ts : List ℕ) (f : Forest) → IsParseTree y ps ts f → steps_of f ≡ steps ++ rest) → (ts : List ℕ) (f : Forest) → IsParseTree y ps ts f → steps_of f ≡ more ++ others
@@ -88,12 +88,12 @@ one-more y ps steps more rest others x e m whole ts f t =
 
 pub goes-shift : (y : Syntax) (ps : List ℕ) (items left : List Task) (task : Task) (symbol : Symbol) (t next : ℕ) (steps more : List Step) → Goes y ps items next steps → items ≡ left ++ task ∷ [] → task ≡ Visit symbol → symbol ≡ Terminal t → more ≡ steps ++ made.Shift ∷ [] → Goes y ps left next more
 goes-shift y ps items left task symbol t next steps more g e i j m =
-    let x = shifted (subst (λ r. Gives y.rules r (drop next ps) g.0) (popped items left task e ∙ ap (λ r. r ∷ reverse left) (i ∙ ap (λ r. Visit r) j)) g.1) in
+    let x = shifted (subst (λ r. TasksGive y.rules r (drop next ps) g.0) (popped items left task e ∙ ap (λ r. r ∷ reverse left) (i ∙ ap (λ r. Visit r) j)) g.1) in
     (x.others, x.gives, one-more y ps steps more g.0 x.others made.Shift x.is m g.2)
 
 pub goes-reduce : (y : Syntax) (ps : List ℕ) (items left : List Task) (task : Task) (p next : ℕ) (steps more : List Step) → Goes y ps items next steps → items ≡ left ++ task ∷ [] → task ≡ Reduce p → more ≡ steps ++ made.Reduce p ∷ [] → Goes y ps left next more
 goes-reduce y ps items left task p next steps more g e i m =
-    let x = reduced (subst (λ r. Gives y.rules r (drop next ps) g.0) (popped items left task e ∙ ap (λ r. r ∷ reverse left) i) g.1) in
+    let x = reduced (subst (λ r. TasksGive y.rules r (drop next ps) g.0) (popped items left task e ∙ ap (λ r. r ∷ reverse left) i) g.1) in
     (x.others, x.gives, one-more y ps steps more g.0 x.others (made.Reduce p) x.is m g.2)
 
 -- where a nonterminal is on top, the next production is one of its
@@ -104,7 +104,7 @@ pub record Next (y : Syntax) (ps : List ℕ) (left : List Task) (next n : ℕ) (
   pub listed : slice_index_or ps next 0 < length y.rules
   pub others : drop next ps ≡ slice_index_or ps next 0 ∷ drop (next + 1) ps
   pub rest : List Step
-  pub gives : Gives y.rules (reads body ++ Reduce (slice_index_or ps next 0) ∷ reverse left) (drop (next + 1) ps) rest
+  pub gives : TasksGive y.rules (reads body ++ Reduce (slice_index_or ps next 0) ∷ reverse left) (drop (next + 1) ps) rest
   pub whole : (ts : List ℕ) (f : Forest) → IsParseTree y ps ts f → steps_of f ≡ steps ++ rest
 
 at-drop : (xs : List ℕ) (i x : ℕ) (ys : List ℕ) → drop i xs ≡ x ∷ ys → slice_index_or xs i 0 ≡ x
@@ -115,7 +115,7 @@ at-drop (y ∷ xs) (suc i) x ys e = at-drop xs i x ys e
 
 pub goes-next : (y : Syntax) (ps : List ℕ) (items left : List Task) (task : Task) (symbol : Symbol) (n next : ℕ) (steps : List Step) → Goes y ps items next steps → items ≡ left ++ task ∷ [] → task ≡ Visit symbol → symbol ≡ Nonterminal n → Next y ps left next n steps
 goes-next y ps items left task symbol n next steps g e i j =
-    let x = expanded (subst (λ r. Gives y.rules r (drop next ps) g.0) (popped items left task e ∙ ap (λ r. r ∷ reverse left) (i ∙ ap (λ r. Visit r) j)) g.1) in
+    let x = expanded (subst (λ r. TasksGive y.rules r (drop next ps) g.0) (popped items left task e ∙ ap (λ r. r ∷ reverse left) (i ∙ ap (λ r. Visit r) j)) g.1) in
     let here = at-drop ps next x.number x.others x.is in
     let behind : drop (next + 1) ps ≡ x.others = sym (drop-drop 1 next ps) ∙ ap (drop 1) x.is in
     let rule : IsRule y.rules (slice_index_or ps next 0) n x.body = subst (λ p. IsRule y.rules p n x.body) (sym here) x.rule in
@@ -126,7 +126,7 @@ goes-next y ps items left task symbol n next steps g e i j =
       listed = slice_get_within y.rules (slice_index_or ps next 0) _ rule;
       others = x.is ∙ ap (λ r. r ∷ x.others) (sym here) ∙ ap (λ r. slice_index_or ps next 0 ∷ r) (sym behind);
       rest = g.0;
-      gives = subst (λ r. Gives y.rules (reads x.body ++ Reduce (slice_index_or ps next 0) ∷ reverse left) r g.0) (sym behind) (subst (λ p. Gives y.rules (reads x.body ++ Reduce p ∷ reverse left) x.others g.0) (sym here) x.gives);
+      gives = subst (λ r. TasksGive y.rules (reads x.body ++ Reduce (slice_index_or ps next 0) ∷ reverse left) r g.0) (sym behind) (subst (λ p. TasksGive y.rules (reads x.body ++ Reduce p ∷ reverse left) x.others g.0) (sym here) x.gives);
       whole = g.2;
     }
 
@@ -145,7 +145,7 @@ goes-expand y ps left with' all next n steps given x e a =
     let p = slice_index_or ps next 0 in
     let bodies : given.1 ≡ x.body = IsRule-body y.rules p given.0 n given.1 x.body given.2 x.rule in
     let tasks : reverse all ≡ reads x.body ++ Reduce p ∷ reverse left = pushed left with' all p given.1 e a ∙ ap (λ b. reads b ++ Reduce p ∷ reverse left) bodies in
-    (x.rest, subst (λ r. Gives y.rules r (drop (next + 1) ps) x.rest) (sym tasks) x.gives, x.whole)
+    (x.rest, subst (λ r. TasksGive y.rules r (drop (next + 1) ps) x.rest) (sym tasks) x.gives, x.whole)
 
 -- each task that is done leaves less to do
 pub less-visit : (rules : List Rule) (ps : List ℕ) (items left : List Task) (task : Task) (next : ℕ) → items ≡ left ++ task ∷ [] → length (reverse left) + tasks_of rules (drop next ps) < length (reverse items) + tasks_of rules (drop next ps)
@@ -164,8 +164,8 @@ less-expand y ps items left with' all task next n steps given x i e a =
 -- Where no task is left, all steps were made.
 pub goes-end : (y : Syntax) (ps : List ℕ) (tasks : List Task) (next : ℕ) (steps : List Step) → Goes y ps tasks next steps → reverse tasks ≡ [] → (ts : List ℕ) (f : Forest) → IsParseTree y ps ts f → steps ≡ steps_of f
 goes-end y ps tasks next steps g e ts f t =
-    let nothing-left : g.0 ≡ [] = no-steps (subst (λ r. Gives y.rules r (drop next ps) g.0) e g.1) in
+    let nothing-left : g.0 ≡ [] = no-steps (subst (λ r. TasksGive y.rules r (drop next ps) g.0) e g.1) in
     sym (g.2 ts f t ∙ ap (λ r. steps ++ r) nothing-left ∙ append-nil steps)
   where
-    no-steps : {ps : List ℕ} {steps : List Step} → Gives y.rules [] ps steps → steps ≡ []
+    no-steps : {ps : List ℕ} {steps : List Step} → TasksGive y.rules [] ps steps → steps ≡ []
     no-steps none = refl

@@ -7,7 +7,7 @@ use Rattle.net_core.specs.Cuts.{Run, Cut, final_cut}
 use Rattle.net_core.specs.Machine.{goes, stepped}
 use Rattle.net_core.specs.Shows.{Shows, IsUnchanged, events_left, progress_left}
 use Rattle.net_core.proofs.Lemmas.{stuck_shows_the_final_cut, shows_unchanged}
-use Rattle.net_run.specs.Rounds.{Advances, Passes, ShowsSince}
+use Rattle.net_run.specs.Rounds.{Advances, AllAdvance, ShowsSince}
 
 -- some cut is shown
 pub shows_some : (run : Run) (cut : Cut) (config : Config) (moved : Bool) → ShowsSince run cut config moved → (next : Cut) × Shows run next config
@@ -34,7 +34,7 @@ pub advances_end : (run : Run) (cut : Cut) (p : ℕ) (old new : Config) (moved :
 advances_end run cut p old new true s h same = (s.0, shows_unchanged run s.0 old new s.1 same)
 advances_end run cut p old new false s h same = (shows_unchanged run cut old new s same, sym (h cut s).0)
 
-pub passes_some : (run : Run) (cut : Cut) (count : ℕ) (config : Config) (moved : Bool) → Passes run cut count config moved → (next : Cut) × Shows run next config
+pub passes_some : (run : Run) (cut : Cut) (count : ℕ) (config : Config) (moved : Bool) → AllAdvance run cut count config moved → (next : Cut) × Shows run next config
 passes_some run cut count config true s = s
 passes_some run cut count config false s = (cut, s.0)
 
@@ -43,15 +43,15 @@ advanced_some run cut p new true s = s
 advanced_some run cut p new false s = (cut, s.0)
 
 -- one proc more was let go, and made an event
-pub passes_moved : (run : Run) (cut : Cut) (p count : ℕ) (old new : Config) (moved : Bool) → Passes run cut p old moved
-    → ((r : Cut) → Shows run r old → Advances run r p new true) → Passes run cut count new true
+pub passes_moved : (run : Run) (cut : Cut) (p count : ℕ) (old new : Config) (moved : Bool) → AllAdvance run cut p old moved
+    → ((r : Cut) → Shows run r old → Advances run r p new true) → AllAdvance run cut count new true
 passes_moved run cut p count old new moved s h =
     let at = passes_some run cut p old moved s in
     h at.0 at.1
 
 -- one proc more was let go, and made none
-pub passes_stayed : (run : Run) (cut : Cut) (p : ℕ) (old new : Config) (moved : Bool) → Passes run cut p old moved
-    → ((r : Cut) → Shows run r old → Advances run r p new false) → Passes run cut (p + 1) new moved
+pub passes_stayed : (run : Run) (cut : Cut) (p : ℕ) (old new : Config) (moved : Bool) → AllAdvance run cut p old moved
+    → ((r : Cut) → Shows run r old → Advances run r p new false) → AllAdvance run cut (p + 1) new moved
 passes_stayed run cut p old new true s h = let t = h s.0 s.1 in (s.0, t.0)
 passes_stayed run cut p old new false s h =
     let t = h cut s.0 in
@@ -62,6 +62,6 @@ passes_stayed run cut p old new false s h =
     go q l (inr ne) stuck = s.1 q (omega (arith, l, ne))
 
 -- a round in which no proc could go shows the final cut
-pub round_ends : (run : Run) (cut : Cut) (count : ℕ) (new : Config) → Passes run cut count new false → length run.procs ≡ count → Shows run (final_cut run) new
+pub round_ends : (run : Run) (cut : Cut) (count : ℕ) (new : Config) → AllAdvance run cut count new false → length run.procs ≡ count → Shows run (final_cut run) new
 round_ends run cut count new s e =
     stuck_shows_the_final_cut run cut new s.0 (λ p l. s.1 p (omega (arith, l, e)))

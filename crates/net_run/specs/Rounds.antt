@@ -11,9 +11,9 @@ Advances run cut p new true = (next : Cut) × Shows run next new
 Advances run cut p new false = Shows run cut new × (goes run cut p ≡ false)
 
 -- the first procs were let go: where none made an event, none of them can go and the cut is the same
-abbrev pub Passes : Run → Cut → ℕ → Config → Bool → Type 0
-Passes run cut count new true = (next : Cut) × Shows run next new
-Passes run cut count new false = Shows run cut new × ((p : ℕ) → p < count → goes run cut p ≡ false)
+abbrev pub AllAdvance : Run → Cut → ℕ → Config → Bool → Type 0
+AllAdvance run cut count new true = (next : Cut) × Shows run next new
+AllAdvance run cut count new false = Shows run cut new × ((p : ℕ) → p < count → goes run cut p ≡ false)
 
 -- what a configuration shows while procs are let go from a cut: that cut, until one made an event
 abbrev pub ShowsSince : Run → Cut → Config → Bool → Type 0

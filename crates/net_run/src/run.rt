@@ -4,7 +4,7 @@ ghost use Rattle.net_core.specs.Machine.{goes};
 ghost use Rattle.net_core.specs.Outcomes.{behaviors_of, outcome_of};
 ghost use Rattle.net_core.specs.WellFormed.{IsNet, IsInputs, IsDepths, IsOutcome, AreBehaviorsOf, run_of};
 ghost use Rattle.net_core.specs.Shows.{Shows, IsAskedWith, WhereAsked, IsRunWith, WhereRun, events_left};
-ghost use Rattle.net_run.specs.Rounds.{Advances, Passes};
+ghost use Rattle.net_run.specs.Rounds.{Advances, AllAdvance};
 
 use net_core::{Body, Config, Inputs, Net, Outcome};
 use std::alloc::{AllocError, Global};
@@ -48,7 +48,7 @@ fn run_to_end<B: Body>(alloc: Global, config: &mut Config, bodies: &[B]) -> Resu
 fn round<B: Body>(alloc: Global, config: &mut Config, bodies: &[B]) -> Result<bool, AllocError>
     requires { IsRunWith config.old (map B.behavior bodies.now) }
     ensures passes { IfOk result (λ moved. WhereRun config.old (map B.behavior bodies.now) (λ run cut.
-        Passes run cut (length bodies.now) config.new moved)) }
+        AllAdvance run cut (length bodies.now) config.new moved)) }
     ensures falls { IfOk result (λ moved.
         MatchBool moved (events_left config.new < events_left config.old) (events_left config.new ≡ events_left config.old)) }
 {

@@ -7,7 +7,7 @@ use denote.Ref.{Bor}
 use Rattle.dslx_token.specs.Characters.{is_binary_digit}
 use Rattle.dslx_token.specs.Lexical.{IsToken}
 use Rattle.dslx_token.specs.Spelling.{Spelling}
-use Rattle.dslx_token.specs.Tokens.{IsLongestToken, Stands}
+use Rattle.dslx_token.specs.Tokens.{IsLongestToken, IsNextToken}
 
 -- bytes that go on a number
 abbrev pub goes_on_decimal : ℕ → Bool
@@ -33,7 +33,7 @@ pub record IsFrontLen (text : List ℕ) (len : ℕ) : Type 0 where
 pub record IsTokenLen (text : List ℕ) (len : ℕ) : Type 0 where
   pub some : 0 < len
   pub within : len ≤ length text
-  pub stands : Stands (take len text) (drop len text)
+  pub stands : IsNextToken (take len text) (drop len text)
 
 -- no token at all is a front of the text
 abbrev pub HasNoFront : List ℕ → Type 0

@@ -13,11 +13,11 @@ abbrev pub reads : List Symbol → List Task
 reads s = map (λ x. Visit x) s
 
 -- Done from the first task on, with these productions, the tasks give these steps.
-pub data Gives (rules : List Rule) : List Task → List ℕ → List Step → Type 0 where
-  none : Gives rules [] [] []
-  shift : {t : ℕ} {tasks : List Task} {ps : List ℕ} {steps : List Step} → Gives rules tasks ps steps → Gives rules (Visit (Terminal t) ∷ tasks) ps (made.Shift ∷ steps)
-  expand : {p n : ℕ} (b : List Symbol) {tasks : List Task} {ps : List ℕ} {steps : List Step} → IsRule rules p n b → Gives rules (reads b ++ Reduce p ∷ tasks) ps steps → Gives rules (Visit (Nonterminal n) ∷ tasks) (p ∷ ps) steps
-  reduce : {p : ℕ} {tasks : List Task} {ps : List ℕ} {steps : List Step} → Gives rules tasks ps steps → Gives rules (Reduce p ∷ tasks) ps (made.Reduce p ∷ steps)
+pub data TasksGive (rules : List Rule) : List Task → List ℕ → List Step → Type 0 where
+  none : TasksGive rules [] [] []
+  shift : {t : ℕ} {tasks : List Task} {ps : List ℕ} {steps : List Step} → TasksGive rules tasks ps steps → TasksGive rules (Visit (Terminal t) ∷ tasks) ps (made.Shift ∷ steps)
+  expand : {p n : ℕ} (b : List Symbol) {tasks : List Task} {ps : List ℕ} {steps : List Step} → IsRule rules p n b → TasksGive rules (reads b ++ Reduce p ∷ tasks) ps steps → TasksGive rules (Visit (Nonterminal n) ∷ tasks) (p ∷ ps) steps
+  reduce : {p : ℕ} {tasks : List Task} {ps : List ℕ} {steps : List Step} → TasksGive rules tasks ps steps → TasksGive rules (Reduce p ∷ tasks) ps (made.Reduce p ∷ steps)
 
 -- the body of a rule, by its number
 abbrev pub body_of : Option Rule → List Symbol

@@ -2,7 +2,7 @@ use Rattle.std.proofs.Common.{◌≡◌, ◌+◌, ◌<◌, subst, sym, arith, le
 use Rattle.std.proofs.lemmas.Bool.{MatchBool-at_true, MatchBool-at_false}
 use Rattle.net_core.specs.Shows.{events_left}
 use Rattle.net_core.proofs.Lemmas.{behavior_there}
-use Rattle.net_run.specs.Rounds.{Passes, Advances}
+use Rattle.net_run.specs.Rounds.{AllAdvance, Advances}
 use Rattle.net_run.proofs.Going.{passes_some, passes_moved, passes_stayed, falls_on, falls_same}
 use Rattle.net_run.proofs.run.round.Goals as goal
 use Rattle.net_run.proofs.run.round.Goals.{then-branch, else-branch}
@@ -19,7 +19,7 @@ loop-p-preserved g c =
       | then-branch w ↦ (
         (λ run cut sh e.
             let is = behavior_there g.B.Body.behavior run c.args.bodies.now c.loop-p.p c.index-bodies-p.result e c.loop-p-test.true c.index-bodies-p.is in
-            subst (λ m. Passes run cut (c.loop-p.p + 1) c.advance.new.config m) (sym w.moved-is)
+            subst (λ m. AllAdvance run cut (c.loop-p.p + 1) c.advance.new.config m) (sym w.moved-is)
             (passes_moved run cut c.loop-p.p (c.loop-p.p + 1) c.loop-p.config c.advance.new.config c.loop-p.moved (c.loop-p.invariant.0 run cut sh e)
             (λ r shown. subst (λ m. Advances run r c.loop-p.p c.advance.new.config m) w.if-branch.true (c.in_ok-advance.ensures.advances run r shown is)))),
         subst (λ m. MatchBool m (events_left c.advance.new.config < events_left c.args.config.now) (events_left c.advance.new.config ≡ events_left c.args.config.now)) (sym w.moved-is)
@@ -28,7 +28,7 @@ loop-p-preserved g c =
       | else-branch w ↦ (
         (λ run cut sh e.
             let is = behavior_there g.B.Body.behavior run c.args.bodies.now c.loop-p.p c.index-bodies-p.result e c.loop-p-test.true c.index-bodies-p.is in
-            subst (λ m. Passes run cut (c.loop-p.p + 1) c.advance.new.config m) (sym w.moved-is)
+            subst (λ m. AllAdvance run cut (c.loop-p.p + 1) c.advance.new.config m) (sym w.moved-is)
             (passes_stayed run cut c.loop-p.p c.loop-p.config c.advance.new.config c.loop-p.moved (c.loop-p.invariant.0 run cut sh e)
             (λ r shown. subst (λ m. Advances run r c.loop-p.p c.advance.new.config m) w.if-branch.false (c.in_ok-advance.ensures.advances run r shown is)))),
         subst (λ m. MatchBool m (events_left c.advance.new.config < events_left c.args.config.now) (events_left c.advance.new.config ≡ events_left c.args.config.now)) (sym w.moved-is)
@@ -39,4 +39,4 @@ loop-p-preserved g c =
 pub returns-clause-passes : goal.returns-clause-passes
 returns-clause-passes g c run cut sh e =
     let all : c.loop-p.p ≡ length c.args.bodies.now = omega arith in
-    subst (λ count. Passes run cut count c.loop-p.config c.loop-p.moved) all (c.loop-p.invariant.0 run cut sh e)
+    subst (λ count. AllAdvance run cut count c.loop-p.config c.loop-p.moved) all (c.loop-p.invariant.0 run cut sh e)

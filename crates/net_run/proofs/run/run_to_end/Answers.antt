@@ -1,6 +1,6 @@
 use Rattle.std.proofs.Common.{subst, length}
 use Rattle.net_core.proofs.Lemmas.{count_behaviors}
-use Rattle.net_run.specs.Rounds.{Passes}
+use Rattle.net_run.specs.Rounds.{AllAdvance}
 use Rattle.net_run.proofs.Going.{passes_some, round_ends}
 use Rattle.net_run.proofs.run.run_to_end.Goals as goal
 
@@ -13,5 +13,5 @@ pub returns : goal.returns
 returns g c run cut sh e =
     let at = c.loop.invariant run cut sh e in
     let passed = c.in_ok-round.ensures.passes run at.0 at.1 e in
-    let stopped = subst (λ moved. Passes run at.0 (length c.args.bodies.now) c.round.new.config moved) c.if-branch.false passed in
+    let stopped = subst (λ moved. AllAdvance run at.0 (length c.args.bodies.now) c.round.new.config moved) c.if-branch.false passed in
     round_ends run at.0 (length c.args.bodies.now) c.round.new.config stopped (count_behaviors g.B.Body.behavior run c.args.bodies.now e)
