@@ -111,14 +111,14 @@ fn rows_are<R: Abort>(
 ) -> Result<(), Fail>
     requires width { 1 ≤ width }
     requires count { 1 ≤ count }
-    requires most { width * count ≤ 128 }
-    requires number { number < 2 ^ (width * count) }
+    requires most { count * width ≤ 128 }
+    requires number { number < 2 ^ (count * width) }
 {
     let ty = Ty::Array(
         Boxed::new(alloc, Ty::Bits(u64::from(width)))?,
         u64::from(count),
     );
-    let value = unflat(alloc, &ty, Bits::new(width * count, number))?;
+    let value = unflat(alloc, &ty, Bits::new(count * width, number))?;
     assert_eq!(rt; value_text(alloc, &value)?.as_str(), want);
     Ok(())
 }
