@@ -1,1 +1,2 @@
+-- what a table has for a name
 pub mod Found

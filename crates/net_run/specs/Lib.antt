@@ -1,1 +1,2 @@
+-- what going round the procs does to a configuration
 pub mod Rounds
