@@ -4,7 +4,7 @@ use Rattle.std.specs.Prelude.{◌==◌, ◌&&◌, ◌||◌, ◌<◌, ◌^◌, �
 use Rattle.std.specs.Str.{IsAscii}
 use Rattle.std.specs.Char.{is_ascii_digit}
 use Rattle.dslx_grammar.specs.declared.generated.kind.TheConstants.{ARGS, ARROW, AS, BOTHNAME, DOT, END, FIELDS, FN, FUNNAME, LBRACE, LT, NAME, NUMBER, PATH, PROC, SIGNED, STRING, STRUCT, STRUCTNAME, TYPE, TYPENAME, UNSIGNED}
-use Rattle.dslx_token.specs.Characters.{begins_word}
+use Rattle.texts.specs.Words.{begins_word}
 use Rattle.dslx_token.specs.Lexeme.{Lexeme}
 use Rattle.dslx_token.specs.Lexical.{is_sized, is_width, number_value}
 use Rattle.dslx_token.specs.Spelling.{keywords, marks, kind_among}

@@ -3,13 +3,9 @@ use Rattle.std.specs.Prelude.{◌≡◌, ◌==◌, ◌&&◌, ◌||◌, ℕ, Bool
 use Rattle.std.specs.List.{list_all, list_any}
 use Rattle.std.specs.Char.{is_ascii_digit, is_ascii_hexdigit}
 use Rattle.std.specs.Str.Parse.{digits_value}
-use Rattle.dslx_token.specs.Characters.{begins_word, is_word_byte, is_binary_digit}
+use Rattle.texts.specs.Words.{is_word}
+use Rattle.dslx_token.specs.Characters.{is_binary_digit}
 use Rattle.dslx_token.specs.Spelling.{marks}
-
--- a letter or `_`, then letters, digits and `_`: a name, a keyword or the wildcard
-abbrev pub is_word : List ℕ → Bool
-is_word [] = false
-is_word (c ∷ cs) = begins_word c && list_all is_word_byte cs
 
 -- a digit, then digits and `_`
 abbrev pub is_grouped : (ℕ → Bool) → List ℕ → Bool

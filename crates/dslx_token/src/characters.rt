@@ -1,19 +1,7 @@
 //! Which characters tokens are made of.
 
 ghost use Rattle.std.specs.Prelude.{◌≡◌, slice_index};
-ghost use Rattle.dslx_token.specs.Characters.{begins_word, is_binary_digit, is_white, is_word_byte};
-
-pub fn begins_word(byte: u8) -> bool
-    ensures { result ≡ begins_word byte }
-{
-    byte.is_ascii_alphabetic() || byte == b'_'
-}
-
-pub fn is_word_byte(byte: u8) -> bool
-    ensures { result ≡ is_word_byte byte }
-{
-    byte.is_ascii_alphanumeric() || byte == b'_'
-}
+ghost use Rattle.dslx_token.specs.Characters.{is_binary_digit, is_white};
 
 pub fn is_white(byte: u8) -> bool
     ensures { result ≡ is_white byte }

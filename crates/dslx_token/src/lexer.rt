@@ -7,12 +7,13 @@ ghost use Rattle.dslx_token.specs.Tokens.{BeginsNoToken, PlainTokens};
 ghost use Rattle.dslx_token.specs.Refusal.{IsRefusal};
 
 use crate::blank::skip_blank;
-use crate::characters::{begins_word, byte_at};
+use crate::characters::byte_at;
 use crate::number::{number_len, number_value};
 use crate::spelling::first_mark;
 use crate::token::Token;
 use crate::word::word_len;
 use std::alloc::Global;
+use texts::begins_word;
 use xb_span::ReadError;
 
 /// The tokens of a text, each with the kind that it has by itself, and the mark at the text's end.
