@@ -5,8 +5,6 @@ mod asking;
 mod body;
 mod checks;
 mod sample;
-#[cfg(test)]
-mod tests;
 
 pub use asking::ask_and_step;
 pub use checks::{bodies_fit, depths_fit, inputs_fit, net_fits};
