@@ -1,54 +1,67 @@
+ghost use Rattle.std.specs.Prelude.{◌≡◌, slice_get, Some};
+ghost use Rattle.net_core.specs.Behavior.{KeepsTypes};
+ghost use Rattle.ir_verify.specs.Verified.{IsVerified};
+ghost use Rattle.ir_typed.proofs.Packages.{proc_keeps_types};
+ghost use Rattle.ir_tree.specs.Activations.{activation};
+
 use crate::walk::Walk;
-use ir_tree::{Channel, Package, Proc};
-use net_core::Event;
+use ir_tree::{Package, Proc};
+use net_core::{Body, Event};
 use std::alloc::{AllocError, Global};
 use xb_bits::Bits;
 use xb_value::Value;
 
-/// A proc of a package, as what its sites do. It borrows the package, and takes no memory of its own.
-#[derive(Clone, Copy)]
+/// A proc of a verified package, as what its sites do. It borrows the package, and takes no memory of its own.
 pub struct IrBody<'a> {
-    pub channels: &'a [Channel],
-    pub proc: &'a Proc,
+    ir: &'a Package,
+    number: u32,
+    proc: &'a Proc,
+    ghost verified: { IsVerified ir.now },
+    ghost there: { slice_get ir.now.procs number ≡ Some proc.now },
 }
 
 impl<'a> IrBody<'a> {
-    ghost use Rattle.std.specs.Prelude.{◌≡◌, ◌<◌, length, slice_get, IfOk, Some};
-    ghost use Rattle.ir_eval.specs.Bodies.{FitsBody, behavior_of};
-    ghost use Rattle.net_core.specs.Behavior.{next_event};
+    ghost use Rattle.std.specs.Prelude.{◌≡◌, ◌<◌, length, slice_get, Some};
+    ghost use Rattle.ir_verify.specs.Verified.{IsVerified};
+    ghost use Rattle.ir_tree.specs.Activations.{activation};
     ghost use Rattle.ir_tree.specs.Networks.{behaviors_of};
 
     /// The proc of this number.
-    pub fn new(ir: &'a Package, p: u32) -> IrBody<'a>
-        requires { p < length ir.now.procs }
-        ensures { slice_get (behaviors_of ir.now) p ≡ Some (behavior_of result) }
+    pub fn new(ir: &'a Package, number: u32) -> IrBody<'a>
+        requires verified { IsVerified ir.now }
+        requires there { number < length ir.now.procs }
+        ensures { slice_get (behaviors_of ir.now) number ≡ Some (activation result.ir.now.channels result.proc.now) }
     {
         let procs = ir.procs.as_slice();
         IrBody {
-            channels: ir.channels.as_slice(),
-            proc: &procs[p as usize],
+            ir,
+            number,
+            proc: &procs[number as usize],
         }
     }
+}
 
-    /// The next event of an activation that began in `state` and is past its first `done` sites, at which it received the
-    /// words `got`. It evaluates the nodes up to that event, once each.
-    pub fn next_event(
+impl Body for IrBody<'_> {
+    ghost behavior = { λ body. activation body.ir.now.channels body.proc.now };
+
+    /// The nodes up to the event are evaluated, once each.
+    fn next(
         &self,
         alloc: Global,
         state: &Value,
         got: &[Bits],
         done: u32,
-    ) -> Result<Event, AllocError>
-        requires { FitsBody self.now }
-        ensures { IfOk result (λ event. event ≡ next_event (behavior_of self.now) state.now got.now done) }
-    {
+    ) -> Result<Event, AllocError> {
+        let channels = self.ir.channels.as_slice();
         let mut walk = Walk::new(alloc);
         'nodes: for node in self.proc.nodes.as_slice() {
-            match walk.step(alloc, self.channels, state, got, done, node)? {
+            match walk.step(alloc, channels, state, got, done, node)? {
                 None => {}
                 Some(event) => return Ok(event),
             }
         }
         walk.end(alloc, state, self.proc.next)
     }
+
+    ghost keeps_types = { λ body. proc_keeps_types body.ir.now body.verified body.number body.proc.now body.there };
 }

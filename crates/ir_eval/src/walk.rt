@@ -6,7 +6,8 @@ ghost use Rattle.xb_value.specs.Unflat.{unflat_of};
 ghost use Rattle.xb_value.specs.Width.{width_of};
 ghost use Rattle.ir_tree.specs.NodeValues.{heard, channel_type};
 ghost use Rattle.ir_tree.specs.Activations.{sent_by, first_word};
-ghost use Rattle.ir_eval.specs.Bodies.{AreChannels, IsWordType, word_or, received_word};
+ghost use Rattle.ir_typed.specs.Typed.{AreChannels, IsWordType};
+ghost use Rattle.ir_eval.specs.Bodies.{word_or, received_word};
 
 use crate::operation::nothing;
 use crate::scope::{Scope, is_on, pure_value};
@@ -90,14 +91,14 @@ fn sent_by(scope: &Scope, node: &Node) -> Bits
 }
 
 impl Walk {
-    ghost use Rattle.std.specs.Prelude.{◌≡◌, ◌<◌, ◌≤◌, ◌+◌, ◌^◌, ◌∷◌, ◌++◌, [], List, IfOk, OnOk, MatchOption};
+    ghost use Rattle.std.specs.Prelude.{◌≡◌, ◌<◌, ◌≤◌, ◌+◌, ◌^◌, ◌∷◌, ◌++◌, [], length, List, IfOk, OnOk, MatchOption};
     ghost use Rattle.net_core.specs.declared.event.Event.TheVariants.{End};
-    ghost use Rattle.ir_tree.specs.NodeValues.{operand_value};
+    ghost use Rattle.ir_tree.specs.NodeValues.{operand_value, role_of};
     ghost use Rattle.net_core.specs.Behavior.{next_event};
     ghost use Rattle.ir_tree.specs.declared.node.Node.{Node};
     ghost use Rattle.ir_tree.specs.declared.package.Proc.{Proc};
-    ghost use Rattle.ir_tree.specs.Activations.{activation};
-    ghost use Rattle.ir_eval.specs.Bodies.{AreChannels};
+    ghost use Rattle.ir_tree.specs.Activations.{activation, sites_by};
+    ghost use Rattle.ir_typed.specs.Typed.{AreChannels};
     ghost use Rattle.ir_eval.specs.Inner.Walks.{StandsAt};
 
     /// Before the first node.
@@ -147,10 +148,10 @@ impl Walk {
     ) -> Result<Option<Event>, AllocError>
         requires channels { AreChannels channels.now }
         requires site { self.old.site < 2 ^ 32 }
-        requires taken { self.old.taken < 2 ^ 32 }
+        requires taken { self.old.taken + 1 < 2 ^ 64 }
         ensures step { IfOk result (λ step. (proc : Proc) (left : List Node) → StandsAt channels.now proc state.now got.now done self.old (node.now ∷ left) →
             MatchOption step (StandsAt channels.now proc state.now got.now done self.new left) (λ event. event ≡ next_event (activation channels.now proc) state.now got.now done)) }
-        ensures site { self.new.site ≤ self.old.site + 1 }
+        ensures site { self.new.site ≤ self.old.site + length (sites_by (role_of node.now) []) }
         ensures taken { self.new.taken ≤ self.old.taken + 1 }
     {
         let nothing_there = nothing(alloc);

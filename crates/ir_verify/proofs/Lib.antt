@@ -4,3 +4,4 @@ pub mod ConstantCases
 pub mod SameTypes
 pub mod Noted
 pub mod Walks
+pub mod Selectors

@@ -118,14 +118,15 @@ abbrev pub extend_fits : ℕ → Types → List Operand → IrType → Bool
 extend_fits width scope os result =
     is_bits_of width result && list_all (λ o. is_bits_where (λ v. nat_le v width) (type_in scope o)) os
 
--- one case or more, and no more than the selector has numbers; a default exactly where they are fewer. No list has 2^64 cases
+-- one case or more, and no more than the selector has numbers; a default exactly where they are fewer. No selector is wider
+-- than 128 bits
 abbrev pub defaults : Bool → Option Operand → Bool
 defaults fewer None = not fewer
 defaults fewer (Some d) = fewer
 
 abbrev pub cases_count : ℕ → Option Operand → ℕ → Bool
 cases_count count default k =
-    nat_lt 0 count && (nat_le count (2 ^ min k 64) && defaults (nat_lt count (2 ^ min k 64)) default)
+    nat_lt 0 count && (nat_le count (2 ^ min k 128) && defaults (nat_lt count (2 ^ min k 128)) default)
 
 abbrev pub is_like : Types → IrType → Option Operand → Bool
 is_like scope result None = true

@@ -1,0 +1,9 @@
+pub mod Checked
+pub mod Words
+pub mod Tests
+pub mod Scopes
+pub mod Operations
+pub mod Nodes
+pub mod Walks
+pub mod Ends
+pub mod Packages

@@ -1,0 +1,2 @@
+-- which values stand behind nodes, and what is known of a proc of a verified package
+pub mod Typed
