@@ -1,7 +1,7 @@
 ghost use Rattle.std.specs.Prelude.{◌≡◌, slice_get, Some};
 ghost use Rattle.net_core.specs.Behavior.{KeepsTypes};
 ghost use Rattle.ir_verify.specs.Verified.{IsVerified};
-ghost use Rattle.ir_typed.proofs.Packages.{proc_keeps_types};
+ghost use Rattle.ir_typed.proofs.Lemmas.{keeps_types};
 ghost use Rattle.ir_tree.specs.Activations.{activation};
 
 use crate::walk::Walk;
@@ -63,5 +63,5 @@ impl Body for IrBody<'_> {
         walk.end(alloc, state, self.proc.next)
     }
 
-    ghost keeps_types = { λ body. proc_keeps_types body.ir.now body.verified body.number body.proc.now body.there };
+    ghost keeps_types = { λ body. keeps_types body.ir.now body.verified body.number body.proc.now body.there };
 }

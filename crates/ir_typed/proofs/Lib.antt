@@ -7,3 +7,4 @@ pub mod Nodes
 pub mod Walks
 pub mod Ends
 pub mod Packages
+pub mod Lemmas

@@ -42,8 +42,8 @@ use Rattle.ir_verify.specs.Types.{is_bits, is_bits_of, is_bits_where, is_tuple_w
 use Rattle.ir_verify.specs.Constants.{constant_fits, number_fits}
 use Rattle.ir_verify.specs.Constants as constants
 use Rattle.ir_verify.specs.Fitting.{Types, type_in, all_bits_of, all_bits, compare_fits, shift_fits, concat_fits, elements_fit, parts_fit, slice_fits, dynamic_fits, extend_fits, defaults, cases_count, is_like, sel_fits, part_is, tuple_index_fits, update_fits, index_fits}
-use Rattle.ir_verify.proofs.IrTypes.{ty_of-Tuple}
-use Rattle.ir_verify.proofs.ConstantCases as cases
+use Rattle.ir_verify.proofs.Lemmas.IrTypes.{ty_of-Tuple}
+use Rattle.ir_verify.proofs.Lemmas.ConstantCases as cases
 use Rattle.ir_tree.specs.declared.ir_type.IrType.TheViews as ir_views
 use Rattle.ir_typed.proofs.Checked.{both_true, and_true}
 use Rattle.ir_typed.proofs.Words.{binary_word_of, unary_word_of, bit_word, shift_word_of, reduce_word_of, extend_word_of, slice_word_of}

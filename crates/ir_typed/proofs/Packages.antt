@@ -189,9 +189,6 @@ proc_of ir h q proc e =
     let c = checked ir h in
     procs_verified ir.channels (channels_words [] [] 0 ir.channels c.channels) [] [] 0 (nothing_seen ir.channels) ir.procs c.procs q proc e
 
-pub proc_keeps_types : (ir : Package) → IsVerified ir → (q : ℕ) (proc : Proc) → slice_get ir.procs q ≡ Some proc → KeepsTypes (activation ir.channels proc)
-proc_keeps_types ir h q proc e = keeps_types ir.channels proc (proc_of ir h q proc e)
-
 -- ---- its network
 
 map_there : {A B : Type 0} (f : A → B) (xs : List A) (i : ℕ) (y : B) → slice_get (map f xs) i ≡ Some y → (x : A) × (slice_get xs i ≡ Some x) × (f x ≡ y)

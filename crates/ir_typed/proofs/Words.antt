@@ -1,5 +1,5 @@
 -- What operations make of words are words.
-use Rattle.std.proofs.Common.{ℕ, suc, ◌+◌, ◌-◌, ◌*◌, ◌/◌, ◌%◌, ◌^◌, ◌<◌, ◌≤◌, min, lit<, Bool, true, false, refl, sym, subst, ◌∙◌, arith, bit_and}
+use Rattle.std.proofs.Common.{ℕ, zero, suc, ◌+◌, ◌-◌, ◌*◌, ◌/◌, ◌%◌, ◌^◌, ◌<◌, ◌≤◌, min, lit<, Bool, true, false, refl, sym, subst, ◌∙◌, arith, bit_and}
 use Rattle.std.specs.Prelude.{if◌then◌else◌, pos, negsuc, count_ones}
 use Rattle.std.specs.Int.{int_shr}
 use Rattle.std.proofs.Math.Nat.{div-le_self, mod-le}
@@ -7,7 +7,10 @@ use Rattle.std.proofs.Math.Pow.{pow_mono}
 use Rattle.std.proofs.lemmas.Nat.{mod_below, pow_pos, and_le_l, or_lt, xor_lt}
 use Rattle.xb_bits.specs.Word.{Word, word}
 use Rattle.xb_bits.specs.Sign.{signed_bits}
-use Rattle.xb_bits.proofs.PlaceLemmas.{reversed_below}
+use Rattle.xb_bits.specs.Places.{reversed_bits}
+use Rattle.std.specs.Int.{bit_at}
+use Rattle.std.proofs.Math.Nat.{pow-suc}
+use Rattle.std.proofs.lemmas.Nat.Bits.{bit_at-lt}
 use Rattle.net_core.specs.Behavior.{IsWordOf}
 use Rattle.delay_model.specs.declared.op.Binary.{Binary}
 use Rattle.delay_model.specs.declared.op.Binary.TheVariants as binary
@@ -49,6 +52,19 @@ rest_below a b k h = let rest : a % b ≤ a = mod-le a b in omega arith
 
 and_below : (a b k : ℕ) → a < k → bit_and a b < k
 and_below a b k h = let less : bit_and a b ≤ a = and_le_l a b in omega arith
+
+high_place : (b n r : ℕ) → b < 2 → r < n → b * n + r < n * 2
+high_place zero n r h k = omega arith
+high_place (suc zero) n r h k = omega arith
+high_place (suc (suc b)) n r h k = absurd (omega arith)
+
+reversed_below : (p a : ℕ) → reversed_bits p a < 2 ^ p
+unfolding reversed_bits
+reversed_below zero a = omega arith
+reversed_below (suc p) a =
+    let rest : reversed_bits p (a / 2) < 2 ^ p = reversed_below p (a / 2) in
+    let bit : bit_at a 0 < 2 = bit_at-lt a 0 in
+    rw (pow-suc 2 p) (high_place (bit_at a 0) (2 ^ p) (reversed_bits p (a / 2)) bit rest)
 
 same_range : (w : ℕ) (x y : Word) → IsWordOf w x → IsWordOf w y → y.value < 2 ^ x.width
 same_range w x y h k = subst (λ v. y.value < 2 ^ v) (k.fits ∙ sym h.fits) k.word.in_range

@@ -1,6 +1,5 @@
-pub mod IrTypes
+pub mod Lemmas
 pub mod Counts
-pub mod ConstantCases
 pub mod SameTypes
 pub mod Noted
 pub mod Walks

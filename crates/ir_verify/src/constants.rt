@@ -10,7 +10,7 @@ use crate::types::{bounded, sizes_of};
 use ir_tree::{Constant, IrType};
 
 /// Whether the constant writes a value of the type. It takes time as the constant is long.
-#[tactic(auto, using(crate::proofs::IrTypes::ty_of_split))]
+#[tactic(auto, using(crate::proofs::Lemmas::IrTypes::ty_of_split))]
 pub fn constant_fits(constant: &Constant, ty: &IrType) -> bool
     ensures { result ≡ constant_fits (ty_of ty.now) constant.now }
 {

@@ -8,7 +8,7 @@ use Rattle.std.proofs.lemmas.List.{length-map}
 use Rattle.ir_tree.specs.Types.{bounded, arrays_of}
 use Rattle.ir_verify.specs.Constants.{each_fits, constant_fits, base_of}
 use Rattle.ir_verify.specs.Inner.Scaled.{own_fits}
-use Rattle.ir_verify.proofs.ConstantCases.{each_fits-lengths, base_case, array_case, array_number, array_tuple, array_short, rest_is, number-Bits, number-Token, number-Tuple, tuple-Bits, tuple-Token, tuple-Tuple, array-base}
+use Rattle.ir_verify.proofs.Lemmas.ConstantCases.{each_fits-lengths, base_case, array_case, array_number, array_tuple, array_short, rest_is, number-Bits, number-Token, number-Tuple, tuple-Bits, tuple-Token, tuple-Tuple, array-base}
 use Rattle.ir_verify.proofs.constants.+fits.Goals as goal
 
 pub each_fits-returns-then-parts-types : goal.each_fits-returns-then-parts-types

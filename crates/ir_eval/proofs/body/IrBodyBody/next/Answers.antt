@@ -2,7 +2,7 @@ use Rattle.std.proofs.Common.{◌≡◌, ◌≤◌, sym, length, ap, ◌∙◌, 
 use Rattle.std.proofs.lemmas.List.{drop_all}
 use Rattle.net_core.specs.declared.event.Event.{Event}
 use Rattle.ir_typed.specs.Typed.{AreChannels}
-use Rattle.ir_typed.proofs.Packages.{proc_of}
+use Rattle.ir_typed.proofs.Lemmas.{verified_proc}
 use Rattle.ir_tree.specs.Activations.{sites_of}
 use Rattle.ir_eval.specs.Inner.Walks.{StandsAt}
 use Rattle.ir_eval.proofs.WalkSteps.{moved, stands_first, end_next}
@@ -19,12 +19,12 @@ nodes-init c = record {
 pub step-requires-clause-channels : goal.step-requires-clause-channels
 step-requires-clause-channels c =
     let body = c.args.self.now in
-    subst AreChannels (sym c.as_slice-channels.ensures) (proc_of body.ir.now body.verified body.number body.proc.now body.there).word_types
+    subst AreChannels (sym c.as_slice-channels.ensures) (verified_proc body.ir.now body.verified body.number body.proc.now body.there).word_types
 
 pub step-requires-clause-site : goal.step-requires-clause-site
 step-requires-clause-site c =
     let body = c.args.self.now in
-    let few : length (sites_of body.proc.now.nodes) ≤ 32 = (proc_of body.ir.now body.verified body.number body.proc.now body.there).sites in
+    let few : length (sites_of body.proc.now.nodes) ≤ 32 = (verified_proc body.ir.now body.verified body.number body.proc.now body.there).sites in
     omega (arith, c.nodes.invariant.few, few)
 
 becomes : {E : Type 0} (r : Result Event E) (a b : Event) → a ≡ b → IfOk r (λ event. event ≡ a) → IfOk r (λ event. event ≡ b)

@@ -15,7 +15,7 @@ use Rattle.ir_tree.specs.declared.ir_type.IrType.TheViews as views
 use Rattle.ir_tree.specs.Types.{ty_of, arrays_of, bounded}
 use Rattle.ir_verify.specs.Constants.{constant_fits, fits_step, number_fits, tuple_fits, array_fits, each_fits, base_of, base_step}
 use Rattle.ir_verify.specs.Inner.Scaled.{own_fits}
-use Rattle.ir_verify.proofs.IrTypes.{ty_of_split, type_cases}
+use Rattle.ir_verify.proofs.Lemmas.IrTypes.{ty_of_split, type_cases}
 
 pub fits-Bits : (w : ℕ) (c : Constant) → constant_fits (ty.Bits w) c ≡ number_fits w (out-Constant c)
 fits-Bits w c = ap (λ (f : Constant → Bool). f c) (types.fold-Bits (Constant → Bool) fits_step w)
