@@ -15,6 +15,7 @@ use xb_value::Value;
 /// What the proc of a checked design does.
 ///
 /// Each call goes through the steps of the activation from its start, so it costs the size of `next`.
+#[derive(Drop)]
 pub struct SourceBody<'a> {
     core: &'a Core,
     ghost typed: { IsTrue (is_typed core.now) },

@@ -15,7 +15,8 @@ use Rattle.xb_span.specs.declared.read_error.ReadError.{ReadError}
 use Rattle.xb_span.specs.declared.read_error.ReadError.TheVariants.{Syntax, Broken, Over, OutOfMemory}
 use Rattle.dslx_narrow_parser.specs.Building.{built, module_of}
 use Rattle.dslx_narrow_parser.specs.Empty.{empty}
-use Rattle.dslx_narrow_parser.specs.Reads.{IsFault, IsRefusal, IsSyntaxFault, IsTooDeep, IsWithin, Reads, kinds_of, roles_of}
+use Rattle.dslx_narrow_parser.specs.Reads.{IsFault, IsReading, IsRefusal, IsSyntaxFault, IsTooDeep, IsWithin, Reads, kinds_of, misplaced, roles_of, too_deep, whole}
+use Rattle.xb_span.specs.declared.limit.Limit.{Limit}
 use Rattle.dslx_nesting.specs.Nesting.{first_past}
 use Rattle.lists.proofs.Lemmas.Faults.{IsFirstFault-unique}
 use Rattle.xb_span.specs.declared.limit.What.TheVariants.{Nesting}
@@ -82,3 +83,32 @@ fault_at ls place at (Some t) e within starts fault first = record { place = pla
 pub kinds_length : (ls : List Lexeme) → length (kinds_of ls) ≡ length ls
 kinds_length [] = refl
 kinds_length (l ∷ ls) = ap suc (kinds_length ls)
+
+-- ---- one reading
+
+same_place : (ls : List Lexeme) (at also : ℕ) → IsSyntaxFault ls at → IsSyntaxFault ls also → at ≡ also
+same_place ls at also a b =
+    let place = IsFirstFault-unique (IsSentence narrow) (kinds_of ls) a.place b.place a.fault b.fault in
+    let one : Some a.token ≡ Some b.token = sym a.here ∙ (ap (slice_get ls) place ∙ b.here) in
+    let same : a.token ≡ b.token = cc in
+    a.starts ∙ (ap (λ (t : Lexeme). t.span.from) same ∙ sym b.starts)
+
+not_both : (ls : List Lexeme) (at : ℕ) (limit : Limit) → IsSyntaxFault ls at → IsTooDeep ls limit → ⊥
+not_both ls at limit a b =
+    let before = b.first a.place a.fault in
+    let behind = a.first b.deep b.passed in
+    omega (arith, before, behind)
+
+read_whole : (ls : List Lexeme) (limit : Limit) → IsWithin ls → IsTooDeep ls limit → ⊥
+read_whole ls limit within deep = let both : None ≡ Some deep.deep = sym within ∙ deep.passed in cc
+
+pub one_answer : TheLaws → (ls : List Lexeme) (a b : Result Module ReadError) → IsReading ls a → IsReading ls b → a ≡ b
+one_answer laws ls a b (whole m is within) (whole n also here) = ap Ok (one_module laws ls m n is also)
+one_answer laws ls a b (whole m is within) (misplaced at fault) = absurd (fault.fault.none (is.productions, derivation_of laws ls m is))
+one_answer laws ls a b (whole m is within) (too_deep limit deep) = absurd (read_whole ls limit within deep)
+one_answer laws ls a b (misplaced at fault) (whole n also here) = absurd (fault.fault.none (also.productions, derivation_of laws ls n also))
+one_answer laws ls a b (misplaced at fault) (misplaced also other) = ap (λ n. Err (Syntax n)) (same_place ls at also fault other)
+one_answer laws ls a b (misplaced at fault) (too_deep limit deep) = absurd (not_both ls at limit fault deep)
+one_answer laws ls a b (too_deep limit deep) (whole n also here) = absurd (read_whole ls limit here deep)
+one_answer laws ls a b (too_deep limit deep) (misplaced at fault) = absurd (not_both ls at limit fault deep)
+one_answer laws ls a b (too_deep limit deep) (too_deep most other) = ap (λ l. Err (Over l)) (deep.limit_is ∙ sym other.limit_is)

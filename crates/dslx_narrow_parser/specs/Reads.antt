@@ -1,5 +1,5 @@
 -- Which tokens read as which tree, and how the others are refused.
-use Rattle.std.specs.Prelude.{◌≡◌, ◌<◌, ◌≤◌, ℕ, List, map, Option, None, Some, slice_get}
+use Rattle.std.specs.Prelude.{◌≡◌, ◌<◌, ◌≤◌, ℕ, List, map, Option, None, Some, Result, Ok, Err, slice_get}
 use Rattle.grammar.specs.Derivation.{IsSentence}
 use Rattle.grammar.specs.Steps.{steps_of}
 use Rattle.grammar.specs.Tree.{Forest, IsParseTree}
@@ -61,3 +61,9 @@ IsRefusal ls (Syntax at) = IsSyntaxFault ls at
 IsRefusal ls (Broken rule span) = ⊥
 IsRefusal ls (Over limit) = IsTooDeep ls limit
 IsRefusal ls OutOfMemory = Unit {0}
+
+-- what the tokens give, but for want of memory: their tree, or why they are refused
+pub data IsReading (ls : List Lexeme) : Result Module ReadError → Type 0 where
+  whole : (m : Module) → Reads ls m → IsWithin ls → IsReading ls (Ok m)
+  misplaced : (at : ℕ) → IsSyntaxFault ls at → IsReading ls (Err (Syntax at))
+  too_deep : (limit : Limit) → IsTooDeep ls limit → IsReading ls (Err (Over limit))

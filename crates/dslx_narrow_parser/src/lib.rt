@@ -9,10 +9,12 @@
 mod blocks;
 mod builder;
 mod exprs;
+mod laws;
 mod reader;
 mod rule;
 mod shift;
 mod stack;
 mod state;
 
+pub use laws::one_reading;
 pub use reader::parse;

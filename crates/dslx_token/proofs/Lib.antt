@@ -1,5 +1,6 @@
 mod Digits
 mod FittingTokens
+mod LastToken
 mod LongestTokens
 mod NameSets
 mod OneReading

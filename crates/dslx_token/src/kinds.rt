@@ -1,6 +1,7 @@
 //! The tokens of a text with their kinds.
 
-ghost use Rattle.std.specs.Prelude.{◌≡◌, ◌<◌, ◌^◌, ◌⊎◌, ℕ, List, length, IfErr, IfOk, IsErrAnd, MatchResult, OnOk};
+ghost use Rattle.std.specs.Prelude.{◌≡◌, ◌<◌, ◌^◌, ◌⊎◌, ℕ, List, length, map, IfErr, IfOk, IsErrAnd, MatchResult, OnOk};
+ghost use Rattle.grammar.specs.Answer.{EndsWith};
 ghost use Rattle.dslx_token.specs.Inner.Names.{kind_by};
 ghost use Rattle.dslx_token.specs.Kinds.{name_kind, settled};
 ghost use Rattle.dslx_token.specs.Lexeme.{Lexeme};
@@ -23,6 +24,9 @@ pub fn tokens(alloc: Global, text: &str) -> Result<Vec<Token<'_>>, ReadError>
 
     // What is found are the text's tokens.
     ensures found { IfOk result (λ tokens. Tokens text.now tokens.items) }
+
+    // The last of them is the mark at the text's end.
+    ensures ended { IfOk result (λ tokens. EndsWith (map (λ l. l.kind) tokens.items) END) }
 
     // Whatever list is the text's tokens is found, unless memory ran out.
     ensures only { (ls : List Lexeme) → Tokens text.now ls

@@ -1,0 +1,8 @@
+mod Accepted
+mod Configs
+mod Expressions
+mod Patterns
+mod Reading
+mod Sound
+mod Statements
+mod Tops
