@@ -4,4 +4,4 @@
 pub mod laws;
 mod row;
 
-pub use row::{has_room, has_word};
+pub use row::RowFifo;

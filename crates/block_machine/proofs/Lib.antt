@@ -17,3 +17,5 @@ pub mod Offered
 pub mod Exact
 pub mod Lemmas
 pub mod Handshakes
+pub mod Circuits
+pub mod Tables

@@ -95,23 +95,6 @@ follow i got next (AwaitRoom w) = stopped i got (Some (Send i w))
 abbrev pub at_site : ℕ → List Word → Turn → Bool → Word → Option Word → Bool → (List Word → Walk) → Walk
 at_site i got turn done kept offer room next = follow i got next (step_of turn done kept offer room)
 
--- along so many sites from place i on, in an activation from a state that received these words before
-unfoldable pub walk : Behavior → (ℕ → Bool) → (ℕ → Word) → Ports → Value → List Word → ℕ → ℕ → Walk
-walk b done kept ports s got i zero = stopped i got None
-walk b done kept ports s got i (suc n) =
-    let chan = chan_at b.sites i in
-    at_site i got (b.turn s got i) (done i) (kept i) (ports.offer chan) (ports.room chan) (λ got'. walk b done kept ports s got' (suc i) n)
-
--- what a stage does in a cycle. One that holds no activation does nothing
-abbrev pub if_full : Bool → ℕ → Walk → Walk
-if_full true i w = w
-if_full false i w = stopped i [] None
-
-unfoldable pub in_stage : Pipeline → Contents → Ports → ℕ → Walk
-in_stage q c ports j =
-    if_full (c.full j) (first q j)
-    (walk q.proc.behavior c.done c.kept ports (brought c j).state (brought c j).got (first q j) (first q (suc j) - first q j))
-
 -- an activation leaves the final stage: the stage holds one, and it waits for nothing
 abbrev pub leaves : Bool → Bool → Bool
 leaves full waits = full && not waits
@@ -119,29 +102,6 @@ leaves full waits = full && not waits
 -- it goes on into the next stage where that is free or its activation goes on too
 abbrev pub moves_on : Bool → Bool → Bool → Bool → Bool
 moves_on full waits next_full next_moves = (full && not waits) && (not next_full || next_moves)
-
--- a stage's activation goes on, where so many stages stand behind the stage
-abbrev pub moves_before : Pipeline → Contents → Ports → ℕ → ℕ → Bool
-moves_before q c ports zero j = leaves (c.full j) (is_some (in_stage q c ports j).waits)
-moves_before q c ports (suc n) j =
-    moves_on (c.full j) (is_some (in_stage q c ports j).waits) (c.full (suc j)) (moves_before q c ports n (suc j))
-
-unfoldable pub moves : Pipeline → Contents → Ports → ℕ → Bool
-moves q c ports j = moves_before q c ports (q.stages - suc j) j
-
--- a site's word goes through its port
-abbrev pub is_at : ℕ → Deed → Bool
-is_at i (Takes k w) = k == i
-is_at i (Gives k w) = k == i
-
-abbrev pub goes_at : Pipeline → Contents → Ports → ℕ → Bool
-goes_at q c ports i = list_any (is_at i) (in_stage q c ports (q.stage i)).deeds
-
--- the word that a receive of a place receives now, or the one kept
-abbrev pub kept_after : Word → ℕ → List Deed → Word
-kept_after kept i [] = kept
-kept_after kept i (Takes k w ∷ deeds) = if k == i then w else kept_after kept i deeds
-kept_after kept i (Gives k w ∷ deeds) = kept_after kept i deeds
 
 -- a stage holds an activation after a cycle in which one comes in, or in which it keeps its own. In stage 0 one may begin
 -- where the last one ends its turn, or where the turn stands there and isn't taken on
@@ -155,29 +115,100 @@ turn_next ends turn moves = ends || (turn && not moves)
 abbrev pub done_next : Bool → Bool → Bool → Bool
 done_next done goes moves = (done || goes) && not moves
 
-abbrev pub full_after : Pipeline → Contents → Ports → ℕ → Bool
-full_after q c ports zero = turn_next (moves q c ports q.last) (c.full 0) (moves q c ports 0)
-full_after q c ports (suc j) = full_next (moves q c ports j) (c.full (suc j)) (moves q c ports (suc j))
+-- a site's word goes through its port
+abbrev pub is_at : ℕ → Deed → Bool
+is_at i (Takes k w) = k == i
+is_at i (Gives k w) = k == i
 
-abbrev pub held_after : Pipeline → Contents → Ports → ℕ → Begun
-held_after q c ports zero = c.held 0
-held_after q c ports (suc j) =
-    if moves q c ports j then record { state = (brought c j).state; got = (in_stage q c ports j).got } else c.held (suc j)
+-- the word that a receive of a place receives now, or the one kept
+abbrev pub kept_after : Word → ℕ → List Deed → Word
+kept_after kept i [] = kept
+kept_after kept i (Takes k w ∷ deeds) = if k == i then w else kept_after kept i deeds
+kept_after kept i (Gives k w ∷ deeds) = kept_after kept i deeds
 
--- the registers after a cycle
-unfoldable pub after_cycle : Pipeline → Contents → Ports → Contents
-after_cycle q c ports = record {
-  full = full_after q c ports;
-  state = if moves q c ports q.last then q.proc.behavior.next_state (brought c q.last).state (in_stage q c ports q.last).got else c.state;
-  held = held_after q c ports;
-  done = λ i. done_next (c.done i) (goes_at q c ports i) (moves q c ports (q.stage i));
-  kept = λ i. kept_after (c.kept i) i (in_stage q c ports (q.stage i)).deeds;
+-- what stands between the registers: what happens at a site, which stages move, and what registers hold after a cycle
+pub record Circuit : Type 0 where
+  pub step : Turn → Bool → Word → Option Word → Bool → Step
+  pub leaves : Bool → Bool → Bool
+  pub moves_on : Bool → Bool → Bool → Bool → Bool
+  pub full_next : Bool → Bool → Bool → Bool
+  pub turn_next : Bool → Bool → Bool → Bool
+  pub done_next : Bool → Bool → Bool → Bool
+  -- the word that a receive keeps, by the one that it has, the one that is there, its place, and what goes through ports
+  pub keep : Word → Option Word → ℕ → List Deed → Word
+
+abbrev pub circuit : Circuit
+circuit = record {
+  step = step_of;
+  leaves = leaves;
+  moves_on = moves_on;
+  full_next = full_next;
+  turn_next = turn_next;
+  done_next = done_next;
+  keep = λ kept offer i deeds. kept_after kept i deeds;
 }
 
+-- along so many sites from place i on, in an activation from a state that received these words before
+abbrev pub walk_by : Circuit → Behavior → (ℕ → Bool) → (ℕ → Word) → Ports → Value → List Word → ℕ → ℕ → Walk
+walk_by x b done kept ports s got i zero = stopped i got None
+walk_by x b done kept ports s got i (suc n) =
+    let chan = chan_at b.sites i in
+    follow i got (λ got'. walk_by x b done kept ports s got' (suc i) n) (x.step (b.turn s got i) (done i) (kept i) (ports.offer chan) (ports.room chan))
+
+unfoldable pub walk : Behavior → (ℕ → Bool) → (ℕ → Word) → Ports → Value → List Word → ℕ → ℕ → Walk
+walk b done kept ports s got i n = walk_by circuit b done kept ports s got i n
+
+-- what a stage does in a cycle. One that holds no activation does nothing
+abbrev pub if_full : Bool → ℕ → Walk → Walk
+if_full true i w = w
+if_full false i w = stopped i [] None
+
+unfoldable pub in_stage : Pipeline → Contents → Ports → ℕ → Walk
+in_stage q c ports j =
+    if_full (c.full j) (first q j)
+    (walk q.proc.behavior c.done c.kept ports (brought c j).state (brought c j).got (first q j) (first q (suc j) - first q j))
+
+-- a stage's activation goes on, where so many stages stand behind the stage
+abbrev pub moves_through : Circuit → (ℕ → Bool) → (ℕ → Walk) → ℕ → ℕ → Bool
+moves_through x full stage zero j = x.leaves (full j) (is_some (stage j).waits)
+moves_through x full stage (suc n) j =
+    x.moves_on (full j) (is_some (stage j).waits) (full (suc j)) (moves_through x full stage n (suc j))
+
+abbrev pub moves_before : Pipeline → Contents → Ports → ℕ → ℕ → Bool
+moves_before q c ports n j = moves_through circuit c.full (in_stage q c ports) n j
+
+unfoldable pub moves : Pipeline → Contents → Ports → ℕ → Bool
+moves q c ports j = moves_before q c ports (q.stages - suc j) j
+
+-- the registers after a cycle, by what each stage does and which stages move
+abbrev pub full_after : Circuit → Pipeline → Contents → (ℕ → Bool) → ℕ → Bool
+full_after x q c moves zero = x.turn_next (moves q.last) (c.full 0) (moves 0)
+full_after x q c moves (suc j) = x.full_next (moves j) (c.full (suc j)) (moves (suc j))
+
+abbrev pub held_after : Contents → (ℕ → Walk) → (ℕ → Bool) → ℕ → Begun
+held_after c stage moves zero = c.held 0
+held_after c stage moves (suc j) =
+    if moves j then record { state = (brought c j).state; got = (stage j).got } else c.held (suc j)
+
+abbrev pub contents_after : Circuit → Pipeline → Contents → Ports → (ℕ → Walk) → (ℕ → Bool) → Contents
+contents_after x q c ports stage moves = record {
+  full = full_after x q c moves;
+  state = if moves q.last then q.proc.behavior.next_state (brought c q.last).state (stage q.last).got else c.state;
+  held = held_after c stage moves;
+  done = λ i. x.done_next (c.done i) (list_any (is_at i) (stage (q.stage i)).deeds) (moves (q.stage i));
+  kept = λ i. x.keep (c.kept i) (ports.offer (chan_at q.proc.behavior.sites i)) i (stage (q.stage i)).deeds;
+}
+
+unfoldable pub after_cycle : Pipeline → Contents → Ports → Contents
+after_cycle q c ports = contents_after circuit q c ports (in_stage q c ports) (moves q c ports)
+
 -- all that goes through ports in a cycle, at so many stages from stage k on
+abbrev pub deeds_through : (ℕ → Walk) → ℕ → ℕ → List Deed
+deeds_through stage k zero = []
+deeds_through stage k (suc n) = (stage k).deeds ++ deeds_through stage (suc k) n
+
 abbrev pub deeds_of : Pipeline → Contents → Ports → ℕ → ℕ → List Deed
-deeds_of q c ports k zero = []
-deeds_of q c ports k (suc n) = (in_stage q c ports k).deeds ++ deeds_of q c ports (suc k) n
+deeds_of q c ports k n = deeds_through (in_stage q c ports) k n
 
 unfoldable pub deeds_in : Pipeline → Contents → Ports → List Deed
 deeds_in q c ports = deeds_of q c ports 0 q.stages
@@ -190,9 +221,12 @@ event_list (Some e) = e ∷ []
 abbrev pub asked_by : Walk → List Event
 asked_by walk = map event_of walk.deeds ++ event_list walk.waits
 
+abbrev pub asked_through : (ℕ → Walk) → ℕ → ℕ → List Event
+asked_through stage k zero = []
+asked_through stage k (suc n) = asked_by (stage k) ++ asked_through stage (suc k) n
+
 abbrev pub asked_of : Pipeline → Contents → Ports → ℕ → ℕ → List Event
-asked_of q c ports k zero = []
-asked_of q c ports k (suc n) = asked_by (in_stage q c ports k) ++ asked_of q c ports (suc k) n
+asked_of q c ports k n = asked_through (in_stage q c ports) k n
 
 unfoldable pub asked_in : Pipeline → Contents → Ports → List Event
 asked_in q c ports = asked_of q c ports 0 q.stages

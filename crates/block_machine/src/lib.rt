@@ -3,7 +3,7 @@
 
 pub mod laws;
 mod logic;
+mod table;
 
-pub use logic::{
-    SiteTurn, Step, done_next, full_next, kept_next, leaves, moves_on, site_step, turn_next,
-};
+pub use logic::{Handling, Logic, SiteTurn, Step, pipeline_logic};
+pub use table::{Table2, Table3};

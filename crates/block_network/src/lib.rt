@@ -2,3 +2,6 @@
 #![tactic(auto)]
 
 pub mod laws;
+mod ports;
+
+pub use ports::{offer, room};

@@ -1,14 +1,12 @@
-//! Small pipelines that run cycle by cycle, made of the logic that the laws of pipelined hardware speak of, for worked
-//! examples.
+//! Small pipelines that run cycle by cycle, by a logic that is given, and what they do is what the laws of pipelined
+//! hardware speak of.
 #![tactic(auto)]
 
 mod machine;
-mod queue;
 mod sample;
 
 pub use machine::{Asked, Machine, Ports};
-pub use queue::Queue;
-pub use sample::{Action, Begun, Next, Sample, SampleSite};
+pub use sample::{Action, Begun, Next, Sample, SampleSite, word};
 
 #[cfg(test)]
 mod tests;

@@ -1,7 +1,19 @@
-use crate::sample::{Begun, Sample, word};
-use block_machine::{
-    Step, done_next, full_next, kept_next, leaves, moves_on, site_step, turn_next,
-};
+ghost use Rattle.std.specs.Prelude.{◌≡◌, ◌||◌, ◌+◌, ◌-◌, ◌≤◌, ◌<◌, ℕ, ◌++◌, suc, Bool, false, true, None, Some, List, [], length, get_or, slice_set, slice_get, map, is_some, unwrap_or, if◌then◌else◌};
+ghost use Rattle.xb_bits.specs.Word.{Word};
+ghost use Rattle.xb_value.specs.declared.value.Value.{Value};
+ghost use Rattle.net_core.specs.declared.net.Site.{Site};
+ghost use Rattle.net_core.specs.declared.event.Event.TheVariants.{Recv, Send};
+ghost use Rattle.net_core.specs.Behavior.{chan_at};
+ghost use Rattle.net_core.specs.declared.event.Event.{Event};
+ghost use Rattle.block_machine.specs.Cycle as cycle;
+ghost use Rattle.block_machine.specs.Cycle.{Contents, Takes, Gives, opened, brought, stopped, behind_deed, walk_by, moves_through, asked_through};
+ghost use Rattle.block_machine.specs.Circuits.{stage_by, moves_by, cycle_by, asks_by};
+ghost use Rattle.block_machine.specs.Logic.{circuit_of, at2};
+ghost use Rattle.block_samples.specs.Samples.{bits_of, last_word, site_of, behavior_of, pipeline_of, ports_of, IsSmall};
+ghost use Rattle.block_samples.specs.Shows.{no_word, no_begun, first_some, site_step, ShowsBegun, ShowsAsked, ShowsWalk, Shows, Keeps};
+
+use crate::sample::{Begun, Sample};
+use block_machine::{Logic, Step};
 use xb_bits::Bits;
 
 /// What stands at the ports in a cycle, by channel.
@@ -18,12 +30,15 @@ pub struct Asked {
     pub words: [Option<Bits>; 4],
 }
 
-/// How far an activation comes in a stage in a cycle.
+/// How far an activation comes in a stage in a cycle: the words that it takes, which sites go, whether it waits, and
+/// what it drives.
 #[derive(Clone, Copy)]
 struct Walk {
     begun: Begun,
     went: [bool; 4],
+    took: [Option<Bits>; 4],
     waits: bool,
+    asked: Asked,
 }
 
 /// The registers of a sample's pipeline.
@@ -31,164 +46,275 @@ struct Walk {
 pub struct Machine {
     pub full: [bool; 4],
     pub done: [bool; 4],
-    state: u128,
+    state: Bits,
     held: [Begun; 4],
     kept: [Bits; 4],
 }
 
 /// The flag of a number, or no.
-fn flag(flags: &[bool], i: usize) -> bool {
+fn flag(flags: &[bool], i: usize) -> bool
+    ensures { result ≡ get_or flags.now i false }
+{
     match flags.get(i) {
         Some(flag) => *flag,
         None => false,
     }
 }
 
-fn set(flags: &mut [bool], i: usize) {
-    if let Some(flag) = flags.get_mut(i) {
-        *flag = true;
+fn set(flags: &mut [bool], i: usize)
+    ensures { flags.new ≡ slice_set flags.old i true }
+{
+    if i < flags.len() {
+        flags[i] = true;
     }
 }
 
-fn offer_at(offers: &[Option<Bits>], i: usize) -> Option<Bits> {
+fn offer_at(offers: &[Option<Bits>], i: usize) -> Option<Bits>
+    ensures { result ≡ get_or offers.now i None }
+{
     match offers.get(i) {
         Some(offer) => *offer,
         None => None,
     }
 }
 
-fn set_word(words: &mut [Option<Bits>], i: usize, new: Bits) {
-    if let Some(word) = words.get_mut(i) {
-        *word = Some(new);
+fn set_word(words: &mut [Option<Bits>], i: usize, new: Bits)
+    ensures { words.new ≡ slice_set words.old i (Some new) }
+{
+    if i < words.len() {
+        words[i] = Some(new);
     }
 }
 
-fn kept_at(kept: &[Bits], i: usize) -> Bits {
+fn kept_at(kept: &[Bits], i: usize) -> Bits
+    ensures { result ≡ get_or kept.now i no_word }
+{
     match kept.get(i) {
         Some(word) => *word,
-        None => word(0),
+        None => Bits::new(1, 0),
     }
 }
 
-fn begun_at(held: &[Begun], i: usize) -> Begun {
+fn begun_at(held: &[Begun], i: usize) -> Begun
+    ensures { result ≡ get_or held.now i no_begun }
+{
     match held.get(i) {
         Some(begun) => *begun,
         None => Begun {
-            state: 0,
+            state: Bits::new(1, 0),
             got: None,
         },
     }
 }
 
-fn walk_at(walks: &[Walk], i: usize) -> Walk {
-    match walks.get(i) {
-        Some(walk) => *walk,
-        None => Walk::idle(),
+/// Whether the flag of a number is set in one or the other.
+fn any_flag(flags: &[bool], others: &[bool], i: usize) -> bool
+    ensures { result ≡ (get_or flags.now i false || get_or others.now i false) }
+{
+    flag(flags, i) || flag(others, i)
+}
+
+/// The one, or the other where there is none.
+fn either(one: Option<Bits>, other: Option<Bits>) -> Option<Bits>
+    ensures { result ≡ first_some one other }
+{
+    match one {
+        Some(word) => Some(word),
+        None => other,
+    }
+}
+
+/// The word that a site keeps, by the one that it has, the one that it receives, and the one that is there.
+fn keep(logic: &Logic, kept: Bits, took: Option<Bits>, offer: Option<Bits>) -> Bits
+    ensures { result ≡ (if at2 logic.now.keeps (is_some took) (is_some offer) then unwrap_or (first_some took offer) kept else kept) }
+{
+    if !logic.keeps.at(took.is_some(), offer.is_some()) {
+        return kept;
+    }
+    match either(took, offer) {
+        Some(word) => word,
+        None => kept,
     }
 }
 
 impl Asked {
     /// Nothing is asked.
-    pub fn nothing() -> Asked {
+    pub fn nothing() -> Asked
+        ensures { (sites : List Site) → ShowsAsked sites result [] }
+    {
         Asked {
             ready: [false; 4],
             words: [None; 4],
         }
     }
+
+    /// This, and what is asked further on.
+    fn and(self, other: Asked) -> Asked
+        ensures { (sites : List Site) (es fs : List Event) → ShowsAsked sites self es → ShowsAsked sites other fs → ShowsAsked sites result (es ++ fs) }
+    {
+        Asked {
+            ready: [
+                any_flag(&self.ready, &other.ready, 0),
+                any_flag(&self.ready, &other.ready, 1),
+                any_flag(&self.ready, &other.ready, 2),
+                any_flag(&self.ready, &other.ready, 3),
+            ],
+            words: [
+                either(offer_at(&self.words, 0), offer_at(&other.words, 0)),
+                either(offer_at(&self.words, 1), offer_at(&other.words, 1)),
+                either(offer_at(&self.words, 2), offer_at(&other.words, 2)),
+                either(offer_at(&self.words, 3), offer_at(&other.words, 3)),
+            ],
+        }
+    }
 }
 
 impl Walk {
-    fn idle() -> Walk {
+    fn stopped(begun: Begun) -> Walk
+        ensures begun { result.begun ≡ begun }
+        ensures shows { (sites : List Site) (i : ℕ) (got : List Word) → begun.got ≡ last_word got → ShowsWalk sites result (stopped i got None) }
+    {
         Walk {
-            begun: Begun {
-                state: 0,
-                got: None,
-            },
+            begun,
             went: [false; 4],
+            took: [None; 4],
             waits: false,
+            asked: Asked::nothing(),
         }
     }
 
-    fn follow(&mut self, asked: &mut Asked, place: usize, chan: usize, step: Step) {
-        match step {
-            Step::Pass => {}
-            Step::Recall(word) => self.begun.got = Some(word),
-            Step::Take(word) => {
-                self.begun.got = Some(word);
-                set(&mut self.went, place);
-                set(&mut asked.ready, chan);
-            }
-            Step::Put(word) => {
-                set(&mut self.went, place);
-                set_word(&mut asked.words, chan, word);
-            }
-            Step::AwaitWord => {
-                self.waits = true;
-                set(&mut asked.ready, chan);
-            }
-            Step::AwaitRoom(word) => {
-                self.waits = true;
-                set_word(&mut asked.words, chan, word);
-            }
-        }
+    /// It asks for a word, and waits.
+    fn awaiting_word(begun: Begun, chan: usize) -> Walk
+        ensures begun { result.begun ≡ begun }
+        ensures shows { (sites : List Site) (i : ℕ) (got : List Word) → chan ≡ chan_at sites i → begun.got ≡ last_word got → ShowsWalk sites result (stopped i got (Some (Recv i))) }
+    {
+        let mut walk = Walk::stopped(begun);
+        walk.waits = true;
+        set(&mut walk.asked.ready, chan);
+        walk
+    }
+
+    /// It offers this word, and waits.
+    fn awaiting_room(begun: Begun, chan: usize, word: Bits) -> Walk
+        ensures begun { result.begun ≡ begun }
+        ensures shows { (sites : List Site) (i : ℕ) (got : List Word) → chan ≡ chan_at sites i → begun.got ≡ last_word got → ShowsWalk sites result (stopped i got (Some (Send i word))) }
+    {
+        let mut walk = Walk::stopped(begun);
+        walk.waits = true;
+        set_word(&mut walk.asked.words, chan, word);
+        walk
+    }
+
+    /// The same, behind a word that is received at a place.
+    fn take(&mut self, place: usize, chan: usize, word: Bits)
+        ensures begun { self.new.begun ≡ self.old.begun }
+        ensures shows { (sites : List Site) (of : cycle.Walk) → chan ≡ chan_at sites place → ShowsWalk sites self.old of → ShowsWalk sites self.new (behind_deed (Takes place word) of) }
+    {
+        set(&mut self.went, place);
+        set_word(&mut self.took, place, word);
+        set(&mut self.asked.ready, chan);
+    }
+
+    /// The same, behind one that is sent.
+    fn give(&mut self, place: usize, chan: usize, word: Bits)
+        ensures begun { self.new.begun ≡ self.old.begun }
+        ensures shows { (sites : List Site) (of : cycle.Walk) → chan ≡ chan_at sites place → ShowsWalk sites self.old of → ShowsWalk sites self.new (behind_deed (Gives place word) of) }
+    {
+        set(&mut self.went, place);
+        set_word(&mut self.asked.words, chan, word);
     }
 }
 
 impl Machine {
-    /// After reset: stage 0 has the turn, and nothing else is in use.
-    pub fn reset(state: u128) -> Machine {
+    /// After reset, in this state: stage 0 has the turn, and nothing else is in use.
+    pub fn reset(state: Bits) -> Machine
+        ensures { (sample : Sample) → IsSmall sample → Shows sample result (opened (pipeline_of sample state)) }
+    {
+        let begun = Begun { state, got: None };
         Machine {
             full: [true, false, false, false],
             done: [false; 4],
             state,
-            held: [Begun {
-                state: 0,
-                got: None,
-            }; 4],
-            kept: [word(0); 4],
+            held: [begun; 4],
+            kept: [Bits::new(1, 0); 4],
         }
     }
 
-    /// One clock cycle.
-    pub fn cycle(&mut self, sample: &Sample, ports: &Ports) -> Asked {
-        let mut asked = Asked::nothing();
-        let walks = self.walks(sample, ports, &mut asked);
-        let moves = self.moves(sample, &walks);
-        self.next_sites(sample, ports, &walks, &moves);
-        self.next_stages(sample, &walks, &moves);
+    /// One clock cycle by this logic: what it drives.
+    pub fn cycle(&mut self, logic: &Logic, sample: &Sample, ports: &Ports) -> Asked
+        ensures registers { (opening : Word) (c : Contents) → IsSmall sample.now → Shows sample.now self.old c → Shows sample.now self.new (cycle_by (circuit_of logic.now) (pipeline_of sample.now opening) c (ports_of ports.now)) }
+        ensures asked { (opening : Word) (c : Contents) → IsSmall sample.now → Shows sample.now self.old c → ShowsAsked (map site_of sample.now.sites.now) result (asks_by (circuit_of logic.now) (pipeline_of sample.now opening) c (ports_of ports.now)) }
+    {
+        let asked = self.asked(logic, sample, ports);
+        let next = Machine {
+            full: self.next_full(logic, sample, ports),
+            done: self.next_done(logic, sample, ports),
+            state: self.next_state(logic, sample, ports),
+            held: self.next_held(logic, sample, ports),
+            kept: self.next_kept(logic, sample, ports),
+        };
+        *self = next;
         asked
     }
 
-    fn walks(&self, sample: &Sample, ports: &Ports, asked: &mut Asked) -> [Walk; 4] {
-        [
-            self.walk(sample, ports, asked, 0),
-            self.walk(sample, ports, asked, 1),
-            self.walk(sample, ports, asked, 2),
-            self.walk(sample, ports, asked, 3),
-        ]
+    /// What happens at a site to which an activation has come.
+    fn step(
+        &self,
+        logic: &Logic,
+        sample: &Sample,
+        ports: &Ports,
+        begun: &Begun,
+        place: usize,
+    ) -> Step
+        ensures { result ≡ site_step (circuit_of logic.now) sample.now ports.now begun.now (get_or self.now.done place false) (get_or self.now.kept place no_word) place }
+    {
+        let turn = sample.turn(begun, place);
+        let chan = sample.chan(place);
+        logic.step(
+            &turn,
+            flag(&self.done, place),
+            kept_at(&self.kept, place),
+            offer_at(&ports.offer, chan),
+            flag(&ports.room, chan),
+        )
     }
 
-    fn walk(&self, sample: &Sample, ports: &Ports, asked: &mut Asked, stage: usize) -> Walk {
-        let mut walk = Walk::idle();
-        if !flag(&self.full, stage) {
-            return walk;
+    /// Along so many sites from a place on.
+    fn walk(
+        &self,
+        logic: &Logic,
+        sample: &Sample,
+        ports: &Ports,
+        begun: &Begun,
+        place: usize,
+        left: usize,
+    ) -> Walk
+        requires { place + left ≤ length sample.now.sites.now }
+        ensures state { result.begun.state ≡ begun.now.state }
+        ensures shows { (done : ℕ → Bool) (kept : ℕ → Word) (s : Value) (got : List Word) → Keeps sample.now self.now done kept → begun.now.state ≡ bits_of s → begun.now.got ≡ last_word got → ShowsWalk (map site_of sample.now.sites.now) result (walk_by (circuit_of logic.now) (behavior_of sample.now) done kept (ports_of ports.now) s got place left) }
+    {
+        if left == 0 {
+            return Walk::stopped(*begun);
         }
-        walk.begun = self.brought(stage);
-        for (place, site) in sample.sites.iter().enumerate() {
-            if site.stage == stage && !walk.waits {
-                let turn = site.action.turn(walk.begun);
-                let done = flag(&self.done, place);
-                let kept = kept_at(&self.kept, place);
-                let offer = offer_at(&ports.offer, site.chan);
-                let room = flag(&ports.room, site.chan);
-                let step = site_step(turn, done, kept, offer, room);
-                walk.follow(asked, place, site.chan, step);
-            }
+        let chan = sample.chan(place);
+        let step = self.step(logic, sample, ports, begun, place);
+        let then = begun.behind(&step);
+        let mut walk = self.walk(logic, sample, ports, &then, place + 1, left - 1);
+        match step {
+            Step::Pass => {}
+            Step::Recall(_word) => {}
+            Step::Take(word) => walk.take(place, chan, word),
+            Step::Put(word) => walk.give(place, chan, word),
+            Step::AwaitWord => walk = Walk::awaiting_word(*begun, chan),
+            Step::AwaitRoom(word) => walk = Walk::awaiting_room(*begun, chan, word),
         }
         walk
     }
 
-    fn brought(&self, stage: usize) -> Begun {
+    /// What came into a stage.
+    fn brought(&self, stage: usize) -> Begun
+        ensures { (sample : Sample) (c : Contents) → Shows sample self.now c → stage < sample.stages → ShowsBegun result (brought c stage) }
+    {
         if stage == 0 {
             Begun {
                 state: self.state,
@@ -199,83 +325,199 @@ impl Machine {
         }
     }
 
-    /// Downward from the final stage.
-    fn moves(&self, sample: &Sample, walks: &[Walk; 4]) -> [bool; 4] {
-        let third = self.stage_moves(sample, walks, 3, false);
-        let second = self.stage_moves(sample, walks, 2, third);
-        let first = self.stage_moves(sample, walks, 1, second);
-        let zeroth = self.stage_moves(sample, walks, 0, first);
-        [zeroth, first, second, third]
+    /// What a stage does.
+    fn in_stage(&self, logic: &Logic, sample: &Sample, ports: &Ports, stage: usize) -> Walk
+        ensures state { (c : Contents) → Shows sample.now self.now c → stage < sample.now.stages → result.begun.state ≡ bits_of (brought c stage).state }
+        ensures shows { (opening : Word) (c : Contents) → IsSmall sample.now → Shows sample.now self.now c → stage < sample.now.stages → ShowsWalk (map site_of sample.now.sites.now) result (stage_by (circuit_of logic.now) (pipeline_of sample.now opening) c (ports_of ports.now) stage) }
+    {
+        let begun = self.brought(stage);
+        if stage >= 4 || !flag(&self.full, stage) {
+            return Walk::stopped(Begun {
+                state: begun.state,
+                got: None,
+            });
+        }
+        let from = sample.first(stage);
+        let until = sample.first(stage + 1);
+        self.walk(
+            logic,
+            sample,
+            ports,
+            &begun,
+            from,
+            until.saturating_sub(from),
+        )
     }
 
-    fn stage_moves(
+    /// Whether a stage's activation goes on, where so many stages stand behind the stage.
+    fn moves_before(
         &self,
+        logic: &Logic,
         sample: &Sample,
-        walks: &[Walk; 4],
+        ports: &Ports,
+        behind: usize,
         stage: usize,
-        next_moves: bool,
-    ) -> bool {
-        let next = stage.wrapping_add(1);
+    ) -> bool
+        requires { stage + behind < 4 }
+        ensures { (opening : Word) (c : Contents) → IsSmall sample.now → Shows sample.now self.now c → stage + behind < sample.now.stages → result ≡ moves_through (circuit_of logic.now) c.full (stage_by (circuit_of logic.now) (pipeline_of sample.now opening) c (ports_of ports.now)) behind stage }
+    {
         let full = flag(&self.full, stage);
-        let waits = walk_at(walks, stage).waits;
-        if next == sample.stages {
-            leaves(full, waits)
+        let waits = self.in_stage(logic, sample, ports, stage).waits;
+        if behind == 0 {
+            return logic.leaves(full, waits);
+        }
+        let next_full = flag(&self.full, stage + 1);
+        let next_moves = self.moves_before(logic, sample, ports, behind - 1, stage + 1);
+        logic.moves_on(full, waits, next_full, next_moves)
+    }
+
+    /// Whether a stage's activation goes on.
+    fn moves(&self, logic: &Logic, sample: &Sample, ports: &Ports, stage: usize) -> bool
+        ensures { (opening : Word) (c : Contents) → IsSmall sample.now → Shows sample.now self.now c → stage < sample.now.stages → result ≡ moves_by (circuit_of logic.now) (pipeline_of sample.now opening) c (ports_of ports.now) stage }
+    {
+        if stage < sample.stages && sample.stages <= 4 {
+            self.moves_before(logic, sample, ports, sample.stages - 1 - stage, stage)
         } else {
-            moves_on(full, waits, flag(&self.full, next), next_moves)
+            false
         }
     }
 
-    fn next_sites(&mut self, sample: &Sample, ports: &Ports, walks: &[Walk; 4], moves: &[bool; 4]) {
-        for (place, site) in sample.sites.iter().enumerate() {
-            let went = flag(&walk_at(walks, site.stage).went, place);
-            let offer = offer_at(&ports.offer, site.chan);
-            if let Some(done) = self.done.get_mut(place) {
-                *done = done_next(*done, went, flag(moves, site.stage));
-            }
-            if let Some(kept) = self.kept.get_mut(place) {
-                *kept = kept_next(*kept, went, offer);
-            }
-        }
-    }
-
-    fn next_stages(&mut self, sample: &Sample, walks: &[Walk; 4], moves: &[bool; 4]) {
-        let ends = flag(moves, sample.last);
-        if ends {
-            self.state = sample.next.state(walk_at(walks, sample.last).begun);
-        }
-        self.full = self.next_full(sample, moves, ends);
-        self.held = self.next_begun(walks, moves);
-    }
-
-    fn next_full(&self, sample: &Sample, moves: &[bool; 4], ends: bool) -> [bool; 4] {
-        [
-            turn_next(ends, self.full[0], moves[0]),
-            full_next(sample.stages > 1 && moves[0], self.full[1], moves[1]),
-            full_next(sample.stages > 2 && moves[1], self.full[2], moves[2]),
-            full_next(sample.stages > 3 && moves[2], self.full[3], moves[3]),
-        ]
-    }
-
-    fn next_begun(&self, walks: &[Walk; 4], moves: &[bool; 4]) -> [Begun; 4] {
-        [
-            self.held[0],
-            self.next_held(walks, moves, 0, 1),
-            self.next_held(walks, moves, 1, 2),
-            self.next_held(walks, moves, 2, 3),
-        ]
-    }
-
-    fn next_held(
+    /// What so many stages ask, from one on.
+    fn asked_from(
         &self,
-        walks: &[Walk; 4],
-        moves: &[bool; 4],
-        before: usize,
+        logic: &Logic,
+        sample: &Sample,
+        ports: &Ports,
         stage: usize,
-    ) -> Begun {
-        if flag(moves, before) {
-            walk_at(walks, before).begun
+        left: usize,
+    ) -> Asked
+        requires { stage + left ≤ 4 }
+        ensures { (opening : Word) (c : Contents) → IsSmall sample.now → Shows sample.now self.now c → stage + left ≤ sample.now.stages → ShowsAsked (map site_of sample.now.sites.now) result (asked_through (stage_by (circuit_of logic.now) (pipeline_of sample.now opening) c (ports_of ports.now)) stage left) }
+    {
+        if left == 0 {
+            return Asked::nothing();
+        }
+        let here = self.in_stage(logic, sample, ports, stage).asked;
+        here.and(self.asked_from(logic, sample, ports, stage + 1, left - 1))
+    }
+
+    /// What all stages ask.
+    fn asked(&self, logic: &Logic, sample: &Sample, ports: &Ports) -> Asked
+        ensures { (opening : Word) (c : Contents) → IsSmall sample.now → Shows sample.now self.now c → ShowsAsked (map site_of sample.now.sites.now) result (asks_by (circuit_of logic.now) (pipeline_of sample.now opening) c (ports_of ports.now)) }
+    {
+        if sample.stages <= 4 {
+            self.asked_from(logic, sample, ports, 0, sample.stages)
+        } else {
+            Asked::nothing()
+        }
+    }
+
+    /// The state in which the next activation begins.
+    fn next_state(&self, logic: &Logic, sample: &Sample, ports: &Ports) -> Bits
+        ensures { (opening : Word) (c : Contents) → IsSmall sample.now → Shows sample.now self.now c → result ≡ bits_of (cycle_by (circuit_of logic.now) (pipeline_of sample.now opening) c (ports_of ports.now)).state }
+    {
+        if self.moves(logic, sample, ports, sample.last) {
+            let walk = self.in_stage(logic, sample, ports, sample.last);
+            sample.next.state(&walk.begun)
+        } else {
+            self.state
+        }
+    }
+
+    /// Whether a stage past 0 holds an activation in the next cycle.
+    fn stage_full(&self, logic: &Logic, sample: &Sample, ports: &Ports, stage: usize) -> bool
+        requires { 0 < stage }
+        ensures { (opening : Word) (c : Contents) → IsSmall sample.now → Shows sample.now self.now c → stage < sample.now.stages → result ≡ (cycle_by (circuit_of logic.now) (pipeline_of sample.now opening) c (ports_of ports.now)).full stage }
+    {
+        let comes = self.moves(logic, sample, ports, stage - 1);
+        let full = flag(&self.full, stage);
+        let moves = self.moves(logic, sample, ports, stage);
+        stage < sample.stages && logic.full_next.at(comes, full, moves)
+    }
+
+    /// Whether an activation may begin in the next cycle.
+    fn next_turn(&self, logic: &Logic, sample: &Sample, ports: &Ports) -> bool
+        ensures { (opening : Word) (c : Contents) → IsSmall sample.now → Shows sample.now self.now c → result ≡ (cycle_by (circuit_of logic.now) (pipeline_of sample.now opening) c (ports_of ports.now)).full 0 }
+    {
+        let ends = self.moves(logic, sample, ports, sample.last);
+        let turn = flag(&self.full, 0);
+        let moves = self.moves(logic, sample, ports, 0);
+        logic.turn_next.at(ends, turn, moves)
+    }
+
+    /// What comes into a stage past 0, or stays there.
+    fn comes_in(&self, logic: &Logic, sample: &Sample, ports: &Ports, stage: usize) -> Begun
+        requires { 0 < stage }
+        ensures { (opening : Word) (c : Contents) → IsSmall sample.now → Shows sample.now self.now c → stage < sample.now.stages → ShowsBegun result ((cycle_by (circuit_of logic.now) (pipeline_of sample.now opening) c (ports_of ports.now)).held stage) }
+    {
+        if self.moves(logic, sample, ports, stage - 1) {
+            self.in_stage(logic, sample, ports, stage - 1).begun
         } else {
             begun_at(&self.held, stage)
         }
+    }
+
+    /// Whether a site is done in the next cycle.
+    fn site_done(&self, logic: &Logic, sample: &Sample, ports: &Ports, place: usize) -> bool
+        ensures { (opening : Word) (c : Contents) → IsSmall sample.now → Shows sample.now self.now c → place < length sample.now.sites.now → result ≡ (cycle_by (circuit_of logic.now) (pipeline_of sample.now opening) c (ports_of ports.now)).done place }
+    {
+        let stage = sample.stage(place);
+        let went = flag(&self.in_stage(logic, sample, ports, stage).went, place);
+        let moves = self.moves(logic, sample, ports, stage);
+        logic.done_next.at(flag(&self.done, place), went, moves)
+    }
+
+    /// The word that a site keeps in the next cycle.
+    fn site_kept(&self, logic: &Logic, sample: &Sample, ports: &Ports, place: usize) -> Bits
+        ensures { (opening : Word) (c : Contents) → IsSmall sample.now → Shows sample.now self.now c → place < length sample.now.sites.now → result ≡ (cycle_by (circuit_of logic.now) (pipeline_of sample.now opening) c (ports_of ports.now)).kept place }
+    {
+        let kept = kept_at(&self.kept, place);
+        let offer = offer_at(&ports.offer, sample.chan(place));
+        let walk = self.in_stage(logic, sample, ports, sample.stage(place));
+        keep(logic, kept, offer_at(&walk.took, place), offer)
+    }
+
+    fn next_full(&self, logic: &Logic, sample: &Sample, ports: &Ports) -> [bool; 4]
+        ensures { (opening : Word) (c : Contents) → IsSmall sample.now → Shows sample.now self.now c → (j : ℕ) → j < sample.now.stages → get_or result j false ≡ (cycle_by (circuit_of logic.now) (pipeline_of sample.now opening) c (ports_of ports.now)).full j }
+    {
+        [
+            self.next_turn(logic, sample, ports),
+            self.stage_full(logic, sample, ports, 1),
+            self.stage_full(logic, sample, ports, 2),
+            self.stage_full(logic, sample, ports, 3),
+        ]
+    }
+
+    fn next_held(&self, logic: &Logic, sample: &Sample, ports: &Ports) -> [Begun; 4]
+        ensures { (opening : Word) (c : Contents) → IsSmall sample.now → Shows sample.now self.now c → (j : ℕ) → 0 < j → j < sample.now.stages → ShowsBegun (get_or result j no_begun) ((cycle_by (circuit_of logic.now) (pipeline_of sample.now opening) c (ports_of ports.now)).held j) }
+    {
+        [
+            begun_at(&self.held, 0),
+            self.comes_in(logic, sample, ports, 1),
+            self.comes_in(logic, sample, ports, 2),
+            self.comes_in(logic, sample, ports, 3),
+        ]
+    }
+
+    fn next_done(&self, logic: &Logic, sample: &Sample, ports: &Ports) -> [bool; 4]
+        ensures { (opening : Word) (c : Contents) → IsSmall sample.now → Shows sample.now self.now c → (i : ℕ) → i < length sample.now.sites.now → get_or result i false ≡ (cycle_by (circuit_of logic.now) (pipeline_of sample.now opening) c (ports_of ports.now)).done i }
+    {
+        [
+            self.site_done(logic, sample, ports, 0),
+            self.site_done(logic, sample, ports, 1),
+            self.site_done(logic, sample, ports, 2),
+            self.site_done(logic, sample, ports, 3),
+        ]
+    }
+
+    fn next_kept(&self, logic: &Logic, sample: &Sample, ports: &Ports) -> [Bits; 4]
+        ensures { (opening : Word) (c : Contents) → IsSmall sample.now → Shows sample.now self.now c → (i : ℕ) → i < length sample.now.sites.now → get_or result i no_word ≡ (cycle_by (circuit_of logic.now) (pipeline_of sample.now opening) c (ports_of ports.now)).kept i }
+    {
+        [
+            self.site_kept(logic, sample, ports, 0),
+            self.site_kept(logic, sample, ports, 1),
+            self.site_kept(logic, sample, ports, 2),
+            self.site_kept(logic, sample, ports, 3),
+        ]
     }
 }

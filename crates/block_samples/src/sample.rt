@@ -1,15 +1,30 @@
-use block_machine::SiteTurn;
+ghost use Rattle.std.specs.Prelude.{◌≡◌, slice_get, unwrap_or, length};
+ghost use Rattle.xb_bits.specs.Word.{Word};
+ghost use Rattle.block_machine.specs.Pipeline.{count_before};
+ghost use Rattle.block_samples.specs.Samples.{byte, more_than, turn_by, turn_at, next_by, stage_at, chan_of};
+ghost use Rattle.block_samples.specs.Shows.{got_behind};
+
+use block_machine::{SiteTurn, Step};
 use xb_bits::Bits;
 
 /// A word of 8 bits.
-pub fn word(value: u128) -> Bits {
+pub fn word(value: u128) -> Bits
+    ensures { result ≡ byte value }
+{
     Bits::new(8, value % 256)
+}
+
+/// So much more than a word, modulo 256.
+fn sum(word: Bits, more: u128) -> Bits
+    ensures { result ≡ more_than word more }
+{
+    self::word(word.value() % 256 + more % 256)
 }
 
 /// An activation: the state in which it began, and the last word that it received.
 #[derive(Clone, Copy)]
 pub struct Begun {
-    pub state: u128,
+    pub state: Bits,
     pub got: Option<Bits>,
 }
 
@@ -51,15 +66,90 @@ pub struct Sample<'a> {
     pub next: Next,
 }
 
+impl Begun {
+    /// The same activation behind a site where this happens.
+    pub fn behind(&self, step: &Step) -> Begun
+        ensures state { result.state ≡ self.now.state }
+        ensures got { result.got ≡ got_behind step.now self.now.got }
+    {
+        match step {
+            Step::Recall(word) | Step::Take(word) => Begun {
+                state: self.state,
+                got: Some(*word),
+            },
+            Step::Pass | Step::Put(_) | Step::AwaitWord | Step::AwaitRoom(_) => *self,
+        }
+    }
+
+    /// The last word received, or 0.
+    fn last(&self) -> Bits
+        ensures { result ≡ unwrap_or self.now.got (byte 0) }
+    {
+        match self.got {
+            Some(word) => word,
+            None => word(0),
+        }
+    }
+}
+
+impl Sample<'_> {
+    /// The place of the first site of a stage: how many stand in earlier stages.
+    pub fn first(&self, stage: usize) -> usize
+        ensures { result ≡ count_before (λ i. stage_at (slice_get self.now.sites.now i)) stage (length self.now.sites.now) }
+    {
+        let mut count: usize = 0;
+        let mut place: usize = 0;
+        while place < self.sites.len() {
+            if self.stage(place) < stage {
+                count += 1;
+            }
+            place += 1;
+        }
+        count
+    }
+
+    /// The stage of the site of a place.
+    pub fn stage(&self, place: usize) -> usize
+        ensures { result ≡ stage_at (slice_get self.now.sites.now place) }
+    {
+        match self.sites.get(place) {
+            Some(site) => site.stage,
+            None => 0,
+        }
+    }
+
+    /// What an activation does at the site of a place.
+    pub fn turn(&self, begun: &Begun, place: usize) -> SiteTurn
+        ensures { result ≡ turn_at (slice_get self.now.sites.now place) begun.now.state begun.now.got }
+    {
+        match self.sites.get(place) {
+            Some(site) => site.action.turn(begun),
+            None => SiteTurn::Skip,
+        }
+    }
+
+    /// The channel of the site of a place.
+    pub fn chan(&self, place: usize) -> usize
+        ensures { result ≡ chan_of (slice_get self.now.sites.now place) }
+    {
+        match self.sites.get(place) {
+            Some(site) => site.chan,
+            None => 0,
+        }
+    }
+}
+
 impl Action {
     /// What an activation does at a site of this kind.
-    pub fn turn(self, begun: Begun) -> SiteTurn {
+    pub fn turn(&self, begun: &Begun) -> SiteTurn
+        ensures { result ≡ turn_by self.now begun.now.state begun.now.got }
+    {
         match self {
             Action::Receive => SiteTurn::Receive,
-            Action::SendState(more) => SiteTurn::Give(word(begun.state.wrapping_add(more))),
-            Action::SendWord(more) => SiteTurn::Give(word(got_value(begun).wrapping_add(more))),
+            Action::SendState(more) => SiteTurn::Give(sum(begun.state, *more)),
+            Action::SendWord(more) => SiteTurn::Give(sum(begun.last(), *more)),
             Action::ReceiveIfOdd => {
-                if begun.state % 2 == 1 {
+                if begun.state.value() % 2 == 1 {
                     SiteTurn::Receive
                 } else {
                     SiteTurn::Skip
@@ -71,18 +161,12 @@ impl Action {
 
 impl Next {
     /// The state after this activation.
-    pub fn state(self, begun: Begun) -> u128 {
+    pub fn state(&self, begun: &Begun) -> Bits
+        ensures { result ≡ next_by self.now begun.now.state begun.now.got }
+    {
         match self {
-            Next::Add(more) => begun.state.wrapping_add(more),
-            Next::Word => got_value(begun),
+            Next::Add(more) => sum(begun.state, *more),
+            Next::Word => begun.last(),
         }
-    }
-}
-
-/// The last word received as a number, or 0.
-fn got_value(begun: Begun) -> u128 {
-    match begun.got {
-        Some(word) => word.value(),
-        None => 0,
     }
 }

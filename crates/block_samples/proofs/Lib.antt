@@ -1,0 +1,5 @@
+mod Tables
+mod Walks
+mod Steps
+mod Registers
+mod Machines

@@ -1,0 +1,39 @@
+-- The registers.
+use Rattle.std.proofs.Common.{◌≡◌, ℕ, ◌<◌, [], ◌∷◌, refl, sym, ap, arith, true, false, Bool, None}
+use Rattle.std.specs.Prelude.{◌==◌}
+use Rattle.xb_bits.specs.Word.{Word}
+use Rattle.xb_value.specs.declared.value.Value.TheViews.{outs-Bits}
+use Rattle.block_machine.specs.Cycle.{opened}
+use Rattle.block_samples.specs.declared.sample.Begun.{Begun}
+use Rattle.block_samples.specs.declared.sample.Sample.{Sample}
+use Rattle.block_samples.specs.Samples.{bits_in, bits_of, pipeline_of, IsSmall}
+use Rattle.block_samples.specs.Shows.{no_word, no_begun, ShowsBegun, Shows}
+use Rattle.block_samples.proofs.Tables.{four, eq_apart}
+
+pub reset_shows : (sample : Sample) → IsSmall sample → (state kept : Word) → kept ≡ no_word
+    → Shows sample
+    (record {
+      full = true ∷ false ∷ false ∷ false ∷ [];
+      done = false ∷ false ∷ false ∷ false ∷ [];
+      state = state;
+      held = record { state = state; got = None } ∷ record { state = state; got = None } ∷ record { state = state; got = None } ∷ record { state = state; got = None } ∷ [];
+      kept = kept ∷ kept ∷ kept ∷ kept ∷ [];
+    })
+    (opened (pipeline_of sample state))
+unfolding opened
+reset_shows sample small state kept e = record {
+  full = λ j l. four (λ (i : ℕ) (b : Bool). b ≡ (i == 0)) true false false false false refl (apart 1 (omega arith)) (apart 2 (omega arith)) (apart 3 (omega arith)) j (let s = small.stages in omega arith);
+  state = the_state;
+  held = λ j z l. four (λ (i : ℕ) (b : Begun). ShowsBegun b (record { state = (pipeline_of sample state).proc.opening; got = [] })) _ _ _ _ no_begun begins begins begins begins j (let s = small.stages in omega arith);
+  done = λ i l. four (λ (k : ℕ) (b : Bool). b ≡ false) false false false false false refl refl refl refl i (let s = small.sites in omega arith);
+  kept = λ i l. four (λ (k : ℕ) (w : Word). w ≡ no_word) kept kept kept kept no_word e e e e i (let s = small.sites in omega arith);
+}
+  where
+    apart : (i : ℕ) → 0 < i → false ≡ (i == 0)
+    apart i l = sym (eq_apart i 0 (λ e. omega arith))
+
+    the_state : state ≡ bits_of (pipeline_of sample state).proc.opening
+    the_state = sym (ap bits_in (outs-Bits state))
+
+    begins : ShowsBegun (record { state = state; got = None }) (record { state = (pipeline_of sample state).proc.opening; got = [] })
+    begins = record { state = the_state; got = refl }

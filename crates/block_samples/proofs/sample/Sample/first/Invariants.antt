@@ -1,0 +1,14 @@
+use Rattle.std.proofs.Common.{◌≡◌, ◌≤◌, ◌-◌, length}
+use Rattle.std.specs.Prelude.{slice_get}
+use Rattle.block_machine.specs.Pipeline.{count_before}
+use Rattle.block_samples.specs.Samples.{stage_at}
+use Rattle.block_samples.proofs.sample.Sample.first.Given as goal
+
+abbrev pub invariant-loop-place : goal.invariant-loop-place
+invariant-loop-place l =
+    (l.count ≡ count_before (λ i. stage_at (slice_get l.self.sites.now i)) l.stage l.place)
+    × (l.count ≤ l.place)
+    × (l.place ≤ length l.self.sites.now)
+
+abbrev pub decreases-loop-place : goal.decreases-loop-place
+decreases-loop-place l = length l.self.sites.now - l.place
