@@ -6,11 +6,11 @@ use Rattle.xb_value.specs.declared.value.Value.TheViews.{outs-Bits}
 use Rattle.block_machine.specs.Cycle.{opened}
 use Rattle.block_samples.specs.declared.sample.Begun.{Begun}
 use Rattle.block_samples.specs.declared.sample.Sample.{Sample}
-use Rattle.block_samples.specs.Samples.{bits_in, bits_of, pipeline_of, IsSmall}
+use Rattle.block_samples.specs.Samples.{bits_in, bits_of, pipeline_of, FitsMachine}
 use Rattle.block_samples.specs.Shows.{no_word, no_begun, ShowsBegun, Shows}
 use Rattle.block_samples.proofs.Tables.{four, eq_apart}
 
-pub reset_shows : (sample : Sample) → IsSmall sample → (state kept : Word) → kept ≡ no_word
+pub reset_shows : (sample : Sample) → FitsMachine sample → (state kept : Word) → kept ≡ no_word
     → Shows sample
     (record {
       full = true ∷ false ∷ false ∷ false ∷ [];

@@ -99,7 +99,7 @@ abbrev pub ports_of : Ports → cycle.Ports
 ports_of ports = record { offer = λ c. get_or ports.offer c None; room = λ c. get_or ports.room c false }
 
 -- at most four sites and stages, each site and the end of the turn in one of the stages
-pub record IsSmall (sample : Sample) : Type 0 where
+pub record FitsMachine (sample : Sample) : Type 0 where
   pub sites : length sample.sites.now ≤ 4
   pub stages : sample.stages ≤ 4
   pub last : sample.last < sample.stages
