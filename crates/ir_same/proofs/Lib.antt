@@ -1,0 +1,3 @@
+mod Takings
+mod Openings
+mod Same
