@@ -20,6 +20,22 @@ DESIGN = """proc Inc { a: chan<u8> in; b: chan<u8> out;
 OUTCOME = "in a 2: 0x00 0xff\nout b 2: 0x01 0x00\nproc Inc state () stalled 2 recv a\n"
 USAGE = "usage: xls check, ir, opt, schedule, verilog, run, sim or gen\n"
 RUN = "run inc.x in.txt --activations 5"
+SUM = DESIGN.replace("Inc", "Sum").replace("init { () }", "init { u8:250 }").replace("(s: ())", "(s: u8)") \
+    .replace("send(t, b, x + u8:1);", "send(t, b, s + x); s + x")
+# Two procs, of which the last is the top: three channels of two widths, in another order than the members.
+PAIR = """// only checked
+proc Other { config() { } init { u1:1 } next(s: u1) { s + s } }
+proc Pair { p: chan<u128> in; q: chan<u1> in; r: chan<u128> out;
+  config(r: chan<u128> out, q: chan<u1> in, p: chan<u128> in,) { (p, q, r) }
+  init { let one = u128:1; one + one }
+  next(n: u128) {
+    let (t, x) = recv(join(), q);
+    let (u, y) = recv(t, p);
+    let v = send(join(u, t), r, y + n + u128:0xf_0);
+    n + y
+  } }
+"""
+WORDS = "# none of q's third\nchan q\n0x1\n0x0\nchan p\n0x0f\n0xffffffffffffffffffffffffffffffff\n\n0x5\n"
 PAST_LIMIT = "limit file: 4194305, at most 4194304\n"
 
 # what it is, the words, the output, the error line, the status
@@ -29,6 +45,13 @@ CASES = [
     ("a run without words of the input", "run inc.x empty --activations 5",
      "in a 0:\nout b 0:\nproc Inc state () stalled 0 recv a\n", "", 0),
     ("a check", "check inc.x", "ok procs 1 channels 2\n", "", 0),
+    ("a running sum", "run sum.x sum.txt --activations 2",
+     "in a 2: 0x05 0x01\nout b 2: 0xff 0x00\nproc Sum state 0x00 done\n", "", 0),
+    ("the last proc is the top", "check pair.x", "ok procs 1 channels 3\n", "", 0),
+    ("words of two inputs", "run pair.x pair.txt --activations 9",
+     "out r 2: 0x00000000000000000000000000000101 0x00000000000000000000000000000100\n"
+     "in q 2: 0x1 0x0\nin p 2: 0x0000000000000000000000000000000f 0xffffffffffffffffffffffffffffffff\n"
+     "proc Pair state 0x00000000000000000000000000000010 stalled 2 recv q\n", "", 0),
     ("no words", "", "", USAGE, 2),
     ("a request for help", "--help", "", USAGE, 2),
     ("a request for help of a command", "run --help", "", USAGE, 2),
@@ -42,11 +65,161 @@ CASES = [
     ("a second file that isn't there, before a text that is no design", "run in.txt missing.txt --activations 5",
      "", "cannot read missing.txt\n", 4),
     ("a text that is no design", "check in.txt", "", "in.txt: syntax at 0\n", 6),
-    ("a file at the limit, which is no design", "check limit.x", "", "limit.x: syntax at 0\n", 6),
+    ("bytes that are no text", "check bytes.x", "", "bytes.x: syntax at 5\n", 6),
+    ("a file at the limit, without a proc", "check limit.x", "", "limit.x: rule 32 at 0..0\n", 7),
     ("a file past the limit", "check big.x", "", "big.x: " + PAST_LIMIT, 8),
     ("a second file past the limit", "run inc.x big.x --activations 5", "", "big.x: " + PAST_LIMIT, 8),
     ("a file of no words", "run inc.x inc.x --activations 5", "", "inc.x: input syntax at 0\n", 10),
+    ("a design at fault, before words at fault", "run in.txt inc.x --activations 5", "", "in.txt: syntax at 0\n", 6),
 ]
+
+# ---- designs that are refused. In each text the part at fault stands between marks, which are left out of the file.
+
+# what it is, the piece of the design that is changed, the new piece with the marks, the rule
+BROKEN = [
+    ("a name that nothing declares", "x + u8:1", "[[y]] + u8:1", 1),
+    ("a call of another name", "x + u8:1", "[[clz]](x)", 1),
+    ("a channel as a value", "x + u8:1", "[[a]]", 1),
+    ("two members of one name", "b: chan<u8> out;", "[[a]]: chan<u8> out;", 2),
+    ("a proc by a builtin's name", "Inc", "[[rev]]", 2),
+    ("a local by the name of a proc", "let (t, x)", "let (t, [[Inc]])", 2),
+    ("one name twice in a pattern", "let (t, x)", "let (x, [[x]])", 2),
+    ("a number past its width", "u8:1)", "[[u8:256]])", 6),
+    ("a pair out of bits", "let (t, x) = recv(join(), a);", "let [[(t, x)]] = u8:1;", 8),
+    ("another next state", "{ let (t, x) = recv(join(), a); send(t, b, x + u8:1); }",
+     "[[{ let (t, x) = recv(join(), a); send(t, b, x + u8:1); x }]]", 9),
+    ("another opening state", "{ () }", "[[{ u8:1 }]]", 9),
+    ("a word of another width", "x + u8:1", "[[u16:1]]", 9),
+    ("a word as a token", "send(t,", "send([[x]],", 9),
+    ("too few arguments", "send(t, b, x + u8:1)", "[[send(t, b)]]", 10),
+    ("a sum of two widths", "x + u8:1", "[[x + u16:1]]", 12),
+    ("an effect inside an expression", "x + u8:1", "[[send(t, b, x)]]", 28),
+    ("a token as a word", "x + u8:1", "[[t]]", 28),
+    ("a receive from an output", "recv(join(), a)", "[[recv(join(), b)]]", 29),
+    ("a second site at one end", "send(t, b, x + u8:1);", "send(t, b, x); [[send(t, b, x)]];", 29),
+    ("ends in another order", "config(a: chan<u8> in, b: chan<u8> out) { (a, b) }",
+     "[[config(a: chan<u8> in, b: chan<u8> out) { (b, a) }]]", 30),
+    ("an end that isn't used", "config(a: chan<u8> in, b: chan<u8> out) { (a, b) }",
+     "[[config(a: chan<u8> in, b: chan<u8> out) { (a) }]]", 30),
+    ("a channel without bits", "b: chan<u8> out;", "b: chan<[[()]]> out;", 31),
+    ("the part that ends first, before a lower rule", "send(t, b, x + u8:1)", "let z = [[u8:256]]; send(t, b, y)", 6),
+    ("the part that ends first, though it begins later", "(a, b) }\n  init { () }", "(a, [[c]]) }\n  init { u8:1 }", 1),
+    ("the lower rule at one end", "x + u8:1", "[[send(t, a, x)]]", 28),
+]
+
+# what it is, the piece of the design that is changed, the new piece with a mark at the fault
+UNREAD = [
+    ("a keyword as a name", "Inc", "[[proc"),
+    ("a type outside the language", "s: ()", "s: [[s8"),
+    ("an operator outside the language", "x + u8:1", "x [[- u8:1"),
+    ("a number without a type", "x + u8:1", "x + [[1"),
+    ("a letter behind a number", "x + u8:1", "x + u8:[[08_a"),
+    ("a number of 129 bits", "x + u8:1", "x + u8:[[" + str(2 ** 128)),
+    ("a character of no token, behind a misplaced token", "Inc", "proc [[\u00e9"),
+    ("a text that ends too early", "x + u8:1); } }\n", "x +[["),
+    ("a text behind the end of a proc", "; } }", "; } } [[}"),
+]
+
+
+def sums(count):
+    return "x" + " + u8:1" * count
+
+
+def many(count, ends, body):
+    """A proc with so many outputs."""
+    outs = [f"c{i}: chan<u1> out" for i in range(count)]
+    names = ", ".join(f"c{i}" for i in range(count))
+    sends = " ".join(f"send(join(), c{i}, u1:1);" for i in range(body))
+    return f"proc P {{ {'; '.join(outs)}; config({', '.join(outs)}) {{ ({names}) }} init {{ () }} next(s: ()) {{ {sends} }} }}"
+
+
+def changed(old, new):
+    assert old in DESIGN
+    return DESIGN.replace(old, new, 1)
+
+
+LONG = "init { " + "let _ = u8:1; " * 32767
+# what it is, the design, its line behind the file's name, or None where it is accepted
+LIMITS = [
+    ("128 open at a token", changed("x + u8:1", sums(125)), None),
+    ("129 open at a token", changed("x + u8:1", sums(126)), "limit nesting: 129, at most 128"),
+    ("a misplaced token that is nested too deep", changed("x + u8:1", sums(125) + " + ["), "syntax"),
+    ("a misplaced token behind one nested too deep", changed("x + u8:1", sums(125) + " + u8 ["),
+     "limit nesting: 129, at most 128"),
+    ("a token nested too deep behind a misplaced one", changed("x + u8:1", "[" + sums(126)), "syntax"),
+    ("65,536 nodes", changed("init { ()", LONG + "()"), None),
+    ("65,537 nodes or more", changed("init { ()", LONG + "let _ = u8:1; ()"), "limit size: 65537, at most 65536"),
+    ("32 sites", many(32, 32, 32), None),
+    ("33 sites", many(33, 33, 33), "limit sites: 33, at most 32"),
+    ("1,024 channels", many(1024, 1024, 1), None),
+    ("1,025 channels", many(1025, 1025, 1), "limit channels: 1025, at most 1024"),
+    ("a rule before the channels", many(1025, 1025, 1).replace("u1:1);", "u1:2);"), "rule"),
+    ("4,097 procs, before all rules", "".join(f"proc P{i} {{ config() {{ }} init {{ x }} next(s: ()) {{ }} }}\n"
+                                             for i in range(4097)), "limit instances: 4097, at most 4096"),
+]
+
+# what it is, the words of inc.x with a mark at the fault, the cause
+INPUTS = [
+    ("no word", "chan a\n[[0xg0\n", "syntax"),
+    ("a word before any channel", "[[0x00\nchan a\n", "syntax"),
+    ("a space at the end", "chan a\n[[0x00 \n", "syntax"),
+    ("an output", "chan a\n0x00\n[[chan b\n", "name"),
+    ("a channel twice", "chan a\n# twice\n[[chan a\n0x00", "twice"),
+    ("a word past its width", "chan a\n0xff\n[[0x100\n", "type"),
+    ("a tuple where bits are wanted", "chan a\n[[(0x00)\n", "type"),
+    ("two faults", "chan a\n[[0x100\n0xg0\n", "type"),
+]
+
+
+def spot(text):
+    """The text without its marks, and the bytes where they stood."""
+    places = []
+    for mark in ("[[", "]]"):
+        if mark in text:
+            places.append(len(text[:text.index(mark)].encode()))
+            text = text.replace(mark, "", 1)
+    return text, places
+
+
+def refusals():
+    """Each design that is refused, with its words, its output and its line."""
+    for what, old, new, rule in BROKEN:
+        text, (start, end) = spot(changed(old, new))
+        yield what, text, "", f"f.x: rule {rule} at {start}..{end}\n", 7
+    for what, old, new in UNREAD:
+        text, (start,) = spot(changed(old, new))
+        yield what, text, "", f"f.x: syntax at {start}\n", 6
+    for what, text, line in LIMITS:
+        if line is None:
+            yield what, text, "ok procs 1 channels %d\n" % text.split("config")[0].count("chan<"), "", 0
+        elif line == "syntax":
+            at = text.index("[", text.index("send"))
+            yield what, text, "", f"f.x: syntax at {at}\n", 6
+        elif line == "rule":
+            at = text.index("u1:2")
+            yield what, text, "", f"f.x: rule 6 at {at}..{at + 4}\n", 7
+        else:
+            yield what, text, "", f"f.x: {line}\n", 8
+
+
+def check_refusals(program, folder):
+    """Each refusal of a design or of a channel file, with its exact place."""
+    count = 0
+    for what, text, out, err, status in refusals():
+        with open(os.path.join(folder, "f.x"), "w", encoding="utf-8") as file:
+            file.write(text)
+        done = subprocess.run([program, "check", "f.x"], cwd=folder, capture_output=True, text=True, check=False)
+        differs(what, (done.stdout, done.stderr, done.returncode), (out, err, status))
+        count += 1
+    for what, marked, cause in INPUTS:
+        text, (at,) = spot(marked)
+        with open(os.path.join(folder, "f.txt"), "w", encoding="utf-8") as file:
+            file.write(text)
+        done = subprocess.run([program, *"run inc.x f.txt --activations 5".split()], cwd=folder, capture_output=True,
+                              text=True, check=False)
+        differs(what, (done.stdout, done.stderr, done.returncode), ("", f"f.txt: input {cause} at {at}\n", 10))
+        count += 1
+    return count
 
 
 def differs(what, got, wanted):
@@ -57,10 +230,12 @@ def differs(what, got, wanted):
 
 def lay_out(folder):
     files = {"inc.x": DESIGN, "in.txt": "chan a\n0x00\n0xff\n", "empty": "", "big.x": " " * 4194305,
-             "limit.x": " " * 4194304}
+             "limit.x": " " * 4194304, "sum.x": SUM, "sum.txt": "chan a\n0x05\n0x01\n", "pair.x": PAIR, "pair.txt": WORDS}
     for name, text in files.items():
         with open(os.path.join(folder, name), "w", encoding="utf-8") as file:
             file.write(text)
+    with open(os.path.join(folder, "bytes.x"), "wb") as file:
+        file.write(b"proc \xff \xff")
     os.mkdir(os.path.join(folder, "directory"))
 
 
@@ -112,9 +287,10 @@ def main():
     with tempfile.TemporaryDirectory() as folder:
         lay_out(folder)
         check_cases(program, folder)
+        refused = check_refusals(program, folder)
         check_streams(program, folder)
         check_memory(program, folder)
-    print(f"{len(CASES)} cases, streams and memory: the program answers as it should")
+    print(f"{len(CASES)} cases, {refused} refusals, streams and memory: the program answers as it should")
 
 
 if __name__ == "__main__":

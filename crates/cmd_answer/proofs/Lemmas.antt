@@ -11,9 +11,11 @@ use Rattle.std.specs.Borrow.{Bor}
 use Rattle.cmd_answer.specs.declared.fault.Fault as code
 use Rattle.cmd_answer.specs.Fault.{Fault, named, status_of}
 use Rattle.cmd_answer.specs.Step.{Then, goes_on, stops, IsOne, IsOfCommand, IsGivenByCommand, DueBy, Gives}
-use Rattle.cmd_answer.specs.Loads.{Loads, whole, past_limit}
+use Rattle.cmd_answer.specs.Loads.{Loads, whole, past_limit, OfText, accepts, rejects}
+use Rattle.xb_span.specs.declared.read_error.ReadError.{ReadError}
+use Rattle.xb_span.specs.declared.read_error.ReadError.TheVariants.{Syntax, Broken, Over, OutOfMemory}
 use Rattle.cmd_answer.specs.Events.{FileEvents, SinkEvents, file_events}
-use Rattle.cmd_answer.specs.Done.{IsBehindLoads, StopsBy, IsRefused, IsDone, IsLast, IsBackedByBytes, GivesDue}
+use Rattle.cmd_answer.specs.Done.{text_refusal, RefusesFor, IsBehindLoads, StopsBy, IsRefused, IsDone, IsLast, IsBackedByBytes, GivesDue}
 use Rattle.cmd_answer.specs.Response.{Writes, ShowsRefusal}
 use Rattle.cmd_answer.specs.Answered.{Answers, wrote, refused, no_memory, unread, unwritten, IsAnswered}
 
@@ -107,6 +109,24 @@ module _ {F : Type 0} (asked : F → List (List ℕ)) (faults taken : F → ℕ)
   -- the names of loads one after the other
   pub asks_later : (old mid new : F) (before names : List (List ℕ)) → asked mid ≡ asked old ++ before → asked new ≡ asked mid ++ names → asked new ≡ asked old ++ (before ++ names)
   asks_later old mid new before names first next = next ∙ ap (λ t. t ++ names) first ∙ append_assoc (asked old) before names
+
+-- ---- readers of texts
+
+-- a reader that refuses a file's text stops the command
+pub stops_at_text : {A : Type 0} (name : Bor (List ℕ)) (reader : Result A ReadError → Type 0) (error : ReadError) → RefusesFor reader error → StopsBy (OfText name.now reader) (text_refusal name error)
+stops_at_text name reader (Syntax at) is = (rejects (Syntax at) is, tt)
+stops_at_text name reader (Broken rule span) is = (rejects (Broken rule span) is, tt)
+stops_at_text name reader (Over limit) is = (rejects (Over limit) is, tt)
+stops_at_text name reader OutOfMemory is = tt
+
+-- a reader that gives one thing gives one thing of a file's text
+pub of_text_is_one : {A : Type 0} (name : List ℕ) (reader : Result A ReadError → Type 0) → ((a b : Result A ReadError) → reader a → reader b → a ≡ b) → IsOne (OfText name reader)
+of_text_is_one name reader one a b (accepts x is) (accepts y also) = let same : x ≡ y = let e = one (Ok x) (Ok y) is also in cc in ap Ok same
+of_text_is_one {A} name reader one a b (accepts x is) (rejects e also) = let no : ◌≡◌ {A = Result A ReadError} (Ok x) (Err e) = one (Ok x) (Err e) is also in absurd (cc)
+of_text_is_one {A} name reader one a b (rejects e is) (accepts x also) = let no : ◌≡◌ {A = Result A ReadError} (Err e) (Ok x) = one (Err e) (Ok x) is also in absurd (cc)
+of_text_is_one {A} name reader one a b (rejects e is) (rejects f also) =
+    let same : ◌≡◌ {A = ReadError} e f = let h : ◌≡◌ {A = Result A ReadError} (Err e) (Err f) = one (Err e) (Err f) is also in cc in
+    ap (λ x. Err (Text name x)) same
 
 -- ---- commands
 

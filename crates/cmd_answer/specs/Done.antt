@@ -1,9 +1,12 @@
 -- What a command did: what is due, but for want of memory and faults of the outside.
 use Rattle.std.specs.Prelude.{◌≡◌, ℕ, List, [], ◌∷◌, ◌++◌, Result, Ok, Err}
 use Rattle.lists.specs.Front.{IsFront}
+use Rattle.std.specs.Borrow.{Bor}
+use Rattle.xb_span.specs.declared.read_error.ReadError.{ReadError}
+use Rattle.xb_span.specs.declared.read_error.ReadError.TheVariants.{OutOfMemory}
 use Rattle.cmd_answer.specs.declared.refusal.Refusal.{Refusal}
 use Rattle.cmd_answer.specs.declared.refusal.Refusal.TheVariants as refusal
-use Rattle.cmd_answer.specs.declared.fault.Fault.TheVariants.{Usage, TooBig}
+use Rattle.cmd_answer.specs.declared.fault.Fault.TheVariants.{Usage, TooBig, Text}
 use Rattle.cmd_answer.specs.declared.fault.Fault as code
 use Rattle.cmd_answer.specs.Fault.{Fault, named}
 use Rattle.cmd_answer.specs.Events.{FileEvents}
@@ -19,6 +22,16 @@ abbrev pub StopsBy : {A : Type 0} → (Result A Fault → Type 0) → Refusal �
 StopsBy step refusal.OutOfMemory = Unit {0}
 StopsBy step (refusal.Unread name) = ⊥
 StopsBy step (refusal.Fault fault) = step (Err (named fault)) × IsBehindLoads fault
+
+-- the refusal of the text of a file, for a fault of the text or for want of memory
+abbrev pub text_refusal : Bor (List ℕ) → ReadError → Refusal
+text_refusal name OutOfMemory = refusal.OutOfMemory
+text_refusal name error = refusal.Fault (Text name error)
+
+-- a reader refuses for this, or for want of memory
+abbrev pub RefusesFor : {A : Type 0} → (Result A ReadError → Type 0) → ReadError → Type 0
+RefusesFor reader OutOfMemory = Unit {0}
+RefusesFor reader error = reader (Err error)
 
 -- the last of the names
 abbrev pub IsLast : List (List ℕ) → List ℕ → Type 0

@@ -21,6 +21,7 @@ pub fn load<'a, F: Files>(
     ensures asks { F.asked files.new ≡ F.asked files.old ++ name.entry.now ∷ [] }
     ensures taken_never_falls { F.taken files.old ≤ F.taken files.new }
     ensures loaded { IfOk result (λ bytes. DueBy (F.told files.old) (λ holds. Loads holds name.entry.now) (Ok bytes.items)) }
+    ensures short { IfOk result (λ bytes. length bytes.items < 2 ^ 32) }
     ensures sound { OnOk result (F.faults files.new ≡ F.faults files.old) }
     ensures refused { IfErr result (IsRefused (DueBy (F.told files.old) (λ holds. Loads holds name.entry.now))
         (file_events F.asked F.faults F.taken files.old files.new) (name.entry.now ∷ [])) }

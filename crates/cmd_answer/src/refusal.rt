@@ -1,8 +1,10 @@
 ghost use Rattle.std.specs.Prelude.{◌≡◌};
+ghost use Rattle.cmd_answer.specs.Done.{text_refusal};
 ghost use Rattle.cmd_answer.specs.Response.{refusal_status};
 
 use crate::fault::Fault;
 use std::alloc::AllocError;
+use xb_span::ReadError;
 
 /// Why a command gives no output.
 #[derive(Clone, Copy)]
@@ -20,6 +22,20 @@ impl From<AllocError> for Refusal<'_> {
 
     fn from(_error: AllocError) -> Self {
         Refusal::OutOfMemory
+    }
+}
+
+impl<'a> Refusal<'a> {
+    /// The refusal of the text of a file, by its reader's.
+    pub fn of_text(name: &'a str, error: ReadError) -> Refusal<'a>
+        ensures { result ≡ text_refusal name.entry error }
+    {
+        match error {
+            ReadError::Syntax(_) => Refusal::Fault(Fault::Text(name, error)),
+            ReadError::Broken(_, _) => Refusal::Fault(Fault::Text(name, error)),
+            ReadError::Over(_) => Refusal::Fault(Fault::Text(name, error)),
+            ReadError::OutOfMemory => Refusal::OutOfMemory,
+        }
     }
 }
 

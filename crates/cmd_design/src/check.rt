@@ -1,14 +1,16 @@
-ghost use Rattle.std.specs.Prelude.{◌≡◌, Ok, IfOk, IfErr};
+ghost use Rattle.std.specs.Prelude.{◌≡◌, ◌<◌, ◌^◌, Ok, length, IfOk, IfErr};
 ghost use Rattle.cmd_answer.specs.Done.{IsDone, StopsBy};
 ghost use Rattle.cmd_answer.specs.Events.{file_events};
 ghost use Rattle.cmd_answer.specs.Step.{DueBy};
 ghost use Rattle.cmd_words.specs.Named.{named_check};
-ghost use Rattle.cmd_design.specs.Commands.{accepted, check, check_files, check_text};
+ghost use Rattle.cmd_design.specs.Commands.{check, check_files, check_text};
+ghost use Rattle.cmd_design.specs.Written.{accepted};
 
-use crate::source::design_of;
+use crate::source::read_design;
 use cmd_answer::{Refusal, load};
 use cmd_words::Check;
-use std::alloc::Global;
+use net_core::Net;
+use std::alloc::{AllocError, Global};
 use xb_io::Files;
 
 /// `check FILE`
@@ -26,13 +28,22 @@ pub fn check_design<'a, F: Files>(
 }
 
 /// What `check` gives once the file is loaded.
-fn check_loaded<'a>(alloc: Global, name: &'a str, design: &[u8]) -> Result<Vec<u8>, Refusal<'a>>
-    ensures gives { IfOk result (λ text. check_text name.entry.now design.now (Ok text.items)) }
-    ensures refused { IfErr result (StopsBy (check_text name.entry.now design.now)) }
+fn check_loaded<'a>(alloc: Global, name: &'a str, bytes: &[u8]) -> Result<Vec<u8>, Refusal<'a>>
+    requires { length bytes.now < 2 ^ 32 }
+    ensures gives { IfOk result (λ text. check_text name.entry.now bytes.now (Ok text.items)) }
+    ensures refused { IfErr result (StopsBy (check_text name.entry.now bytes.now)) }
 {
-    let _design = design_of(alloc, name, design)?;
-    match Vec::from_slice(alloc, b"ok procs 1 channels 2\n") {
-        Ok(text) => Ok(text),
-        Err(_) => Err(Refusal::OutOfMemory),
-    }
+    let design = read_design(alloc, name, bytes)?;
+    let text = accepted(alloc, &design.net)?;
+    Ok(text)
+}
+
+/// What is written of a network that was accepted.
+pub fn accepted(alloc: Global, net: &Net) -> Result<Vec<u8>, AllocError>
+    ensures { IfOk result (λ text. text.items ≡ accepted net.now) }
+{
+    let procs = net.procs.len();
+    let channels = net.chans.len();
+    let text = format!(in alloc; "ok procs {procs} channels {channels}\n")?;
+    Ok(text.into_bytes())
 }

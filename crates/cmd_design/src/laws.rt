@@ -1,19 +1,16 @@
-//! Laws of the commands, each the contract of a function that does nothing.
-ghost use Rattle.std.specs.Prelude.{◌≡◌, ℕ, List};
+//! Laws of the commands, each the contract of a function that calls the laws below it.
+
+ghost use Rattle.std.specs.Prelude.{ℕ, List};
 ghost use Rattle.xb_io.specs.Contents.{Contents};
 ghost use Rattle.cmd_answer.specs.Step.{IsOne};
 ghost use Rattle.cmd_words.specs.declared.request.Check.{Check};
 ghost use Rattle.cmd_words.specs.declared.request.Run.{Run};
 ghost use Rattle.cmd_design.specs.Commands.{check, run};
-ghost use Rattle.cmd_design.specs.OneProc.{OneProc, Reads};
-
-/// A text reads as one design at most.
-pub fn one_design()
-    ensures { (text : List ℕ) (p q : OneProc) → Reads text p → Reads text q → p ≡ q }
-{}
 
 /// What the files hold determines what each command gives.
 pub fn one_answer()
     ensures check { (holds : Contents) (said : Check (List ℕ)) → IsOne (check holds said) }
     ensures run { (holds : Contents) (said : Run (List ℕ)) → IsOne (run holds said) }
-{}
+{
+    dslx_narrow::one_design();
+}

@@ -1,21 +1,18 @@
-//! The commands of a DSLX design: `check` and `run`.
+//! The commands of a design: `check` and `run`.
 //!
-//! A design has one form so far: a proc that receives a word of eight bits, adds a constant, and sends the sum. What
-//! each command gives stands in `specs/Commands`, step by step.
+//! What each gives stands in `specs/Commands`, and what is written in `specs/Written`. [`run_text`] writes what a run of any
+//! network shows, whatever its procs are made of.
 //!
-//! Cost: reading is linear in the bytes of the files, and a run in the words that it takes.
+//! Cost: linear in the files, and in the events of a run.
 #![tactic(auto)]
 
 mod check;
-mod design;
-mod inputs;
 pub mod laws;
-mod names;
-mod network;
-mod output;
 mod run;
+mod running;
 mod source;
-mod tokens;
 
-pub use check::check_design;
+pub use check::{accepted, check_design};
 pub use run::run_design;
+pub use running::{depths, run_text};
+pub use source::{inputs_of, read_design};

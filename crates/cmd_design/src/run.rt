@@ -1,16 +1,21 @@
-ghost use Rattle.std.specs.Prelude.{◌≡◌, Ok, IfOk, IfErr};
+ghost use Rattle.std.specs.Prelude.{◌≡◌, ◌<◌, ◌^◌, ◌∷◌, [], Ok, length, IfOk, IfErr};
 ghost use Rattle.cmd_answer.specs.Done.{IsDone, StopsBy};
 ghost use Rattle.cmd_answer.specs.Events.{file_events};
 ghost use Rattle.cmd_answer.specs.Step.{DueBy};
 ghost use Rattle.cmd_words.specs.Named.{named_run};
 ghost use Rattle.cmd_design.specs.Commands.{run, run_files, run_texts};
+ghost use Rattle.cmd_design.specs.Written.{depths_of, run_text};
+ghost use Rattle.net_core.specs.WellFormed.{IsInputs};
+ghost use Rattle.dslx_narrow.specs.Designs.{IsRunnable};
+ghost use Rattle.dslx_narrow_core.specs.Evaluation.{behavior_of_core};
 
-use crate::network::run;
-use crate::output::outcome_text;
-use crate::source::{design_of, inputs_of};
+use crate::running::{depths, run_text};
+use crate::source::{inputs_of, read_design};
 use cmd_answer::{Refusal, load};
 use cmd_words::Run;
-use std::alloc::Global;
+use dslx_narrow::{Design, SourceBody};
+use net_core::Inputs;
+use std::alloc::{AllocError, Global};
 use xb_io::Files;
 
 /// `run FILE INPUTS --activations N`
@@ -32,14 +37,32 @@ pub fn run_design<'a, F: Files>(
 fn run_loaded<'a>(
     alloc: Global,
     said: &Run<&'a str>,
-    design: &[u8],
-    inputs: &[u8],
+    bytes: &[u8],
+    file: &[u8],
 ) -> Result<Vec<u8>, Refusal<'a>>
-    ensures gives { IfOk result (λ text. run_texts (named_run said.now) design.now inputs.now (Ok text.items)) }
-    ensures refused { IfErr result (StopsBy (run_texts (named_run said.now) design.now inputs.now)) }
+    requires design { length bytes.now < 2 ^ 32 }
+    requires inputs { length file.now < 2 ^ 32 }
+    ensures gives { IfOk result (λ text. run_texts (named_run said.now) bytes.now file.now (Ok text.items)) }
+    ensures refused { IfErr result (StopsBy (run_texts (named_run said.now) bytes.now file.now)) }
 {
-    let design = design_of(alloc, said.design, design)?;
-    let words = inputs_of(alloc, said.inputs, inputs, &design)?;
-    let outcome = run(alloc, design.addend(), &words, said.activations)?;
-    Ok(outcome_text(alloc, &design, &outcome)?)
+    let design = read_design(alloc, said.design, bytes)?;
+    let inputs = inputs_of(alloc, said.inputs, file, &design.net)?;
+    let text = ran(alloc, &design, &inputs, said.activations)?;
+    Ok(text)
+}
+
+/// What a run of a design shows.
+fn ran(
+    alloc: Global,
+    design: &Design,
+    inputs: &Inputs,
+    activations: u32,
+) -> Result<Vec<u8>, AllocError>
+    requires design { IsRunnable design.now }
+    requires inputs { IsInputs design.now.net inputs.now.words }
+    ensures { IfOk result (λ text. text.items ≡ run_text design.now.net (behavior_of_core design.now.core ∷ []) inputs.now activations (depths_of design.now.net)) }
+{
+    let depths = depths(alloc, &design.net)?;
+    let body = SourceBody::new(&design.core);
+    run_text(alloc, &design.net, &[body], inputs, activations, &depths)
 }

@@ -1,47 +1,46 @@
-ghost use Rattle.std.specs.Prelude.{◌≡◌, Ok, IfOk, IfErr, map, true};
-ghost use Rattle.xb_bits.specs.Word.{word};
+//! The steps that read files.
+
+ghost use Rattle.std.specs.Prelude.{◌≡◌, ◌<◌, ◌^◌, Ok, length, IfOk, IfErr};
+ghost use Rattle.net_core.specs.WellFormed.{IsNet, IsInputs};
 ghost use Rattle.cmd_answer.specs.Done.{StopsBy};
 ghost use Rattle.cmd_design.specs.Commands.{ReadsDesign, ReadsInputs};
-ghost use Rattle.cmd_design.specs.Design.{plain};
-ghost use Rattle.cmd_design.specs.OneProc.{is_one_proc};
+ghost use Rattle.cmd_design.specs.Inner.{IsRead};
 
-use crate::design::{Design, read_design};
-use crate::inputs::read_inputs;
-use chan_file::Cause;
-use cmd_answer::{Fault, Refusal};
+use chan_file::{InputError, read_inputs};
+use cmd_answer::{Fault, Refusal, read_text};
+use dslx_narrow::Design;
+use net_core::{Inputs, Net};
 use std::alloc::Global;
-use xb_span::ReadError;
 
-/// The design that a text reads as.
-pub fn design_of<'a, 'b>(
-    alloc: Global,
-    name: &'a str,
-    text: &'b [u8],
-) -> Result<Design<'b>, Refusal<'a>>
-    ensures reads { IfOk result (λ design. ReadsDesign name.entry.now text.entry.now (Ok (plain design))) }
-    ensures one_proc { IfOk result (λ design. is_one_proc (plain design) ≡ true) }
-    ensures refused { IfErr result (StopsBy (ReadsDesign name.entry.now text.entry.now)) }
+/// The design of a file's bytes.
+pub fn read_design<'a>(alloc: Global, name: &'a str, bytes: &[u8]) -> Result<Design, Refusal<'a>>
+    requires { length bytes.now < 2 ^ 32 }
+    ensures reads { IfOk result (λ design. IsRead name.entry.now bytes.now design) }
+    ensures refused { IfErr result (StopsBy (ReadsDesign name.entry.now bytes.now)) }
 {
-    match read_design(alloc, text) {
-        Ok(Some(design)) => Ok(design),
-        Ok(None) => Err(Refusal::Fault(Fault::Text(name, ReadError::Syntax(0)))),
-        Err(_) => Err(Refusal::OutOfMemory),
+    let text = read_text(name, bytes)?;
+    match dslx_narrow::read_design(alloc, text, None) {
+        Ok(design) => Ok(design),
+        Err(error) => Err(Refusal::of_text(name, error)),
     }
 }
 
-/// The words that a channel file says for the input of a design.
+/// The words that a channel file says for the inputs of a network.
 pub fn inputs_of<'a>(
     alloc: Global,
     name: &'a str,
     file: &[u8],
-    design: &Design<'_>,
-) -> Result<Vec<u8>, Refusal<'a>>
-    ensures says { IfOk result (λ words. ReadsInputs name.entry.now file.now (plain design.now) (Ok (map (word 8) words.items))) }
-    ensures refused { IfErr result (StopsBy (ReadsInputs name.entry.now file.now (plain design.now))) }
+    net: &Net,
+) -> Result<Inputs, Refusal<'a>>
+    requires net { IsNet net.now }
+    requires short { length file.now < 2 ^ 32 }
+    ensures says { IfOk result (λ inputs. ReadsInputs name.entry.now file.now net.now (Ok inputs)) }
+    ensures fits { IfOk result (λ inputs. IsInputs net.now inputs.words) }
+    ensures refused { IfErr result (StopsBy (ReadsInputs name.entry.now file.now net.now)) }
 {
-    match read_inputs(alloc, file, design.input) {
-        Ok(Some(words)) => Ok(words),
-        Ok(None) => Err(Refusal::Fault(Fault::Input(name, Cause::Syntax, 0))),
-        Err(_) => Err(Refusal::OutOfMemory),
+    match read_inputs(alloc, file, net) {
+        Ok(inputs) => Ok(inputs),
+        Err(InputError::Input(cause, at)) => Err(Refusal::Fault(Fault::Input(name, cause, at))),
+        Err(InputError::OutOfMemory) => Err(Refusal::OutOfMemory),
     }
 }

@@ -12,20 +12,26 @@ use Rattle.cmd_answer.specs.Step.{IsOne, DueBy}
 use Rattle.cmd_words.specs.CommandLine.{said_by}
 use Rattle.cmd_words.specs.declared.request.Request.{Request}
 use Rattle.cmd_words.specs.declared.request.Request.TheVariants.{Check, Run}
-use Rattle.cmd_design.proofs.Lemmas.{check_is_one, run_is_one}
+use Rattle.cmd_design.specs.Commands as design
+use Rattle.cmd_words.specs.declared.request.Check.{Check as SaidCheck}
+use Rattle.cmd_words.specs.declared.request.Run.{Run as SaidRun}
 use Rattle.xls_cmd.specs.Answer.{due, due_for, files_of, given_by, named_files, named_for, status_for}
 
 -- each command gives one thing
-given_is_one : (said : Request (List ℕ)) (holds : Contents) → IsOne (given_by said holds)
-given_is_one (Check said) holds = check_is_one holds said
-given_is_one (Run said) holds = run_is_one holds said
+pub record TheLaws : Type 0 where
+  pub check : (holds : Contents) (said : SaidCheck (List ℕ)) → IsOne (design.check holds said)
+  pub run : (holds : Contents) (said : SaidRun (List ℕ)) → IsOne (design.run holds said)
 
-due_for_is_one : (said : Option (Request (List ℕ))) (holds : Contents) → IsOne (due_for said (Some holds))
-due_for_is_one None holds a b is also = is ∙ sym also
-due_for_is_one (Some said) holds a b is also = given_is_one said holds a b is.1 also.1
+given_is_one : TheLaws → (said : Request (List ℕ)) (holds : Contents) → IsOne (given_by said holds)
+given_is_one laws (Check said) holds = laws.check holds said
+given_is_one laws (Run said) holds = laws.run holds said
 
-pub due_is_one : (words : List (List ℕ)) (holds : Contents) → IsOne (due words (Some holds))
-due_is_one words holds = due_for_is_one (said_by words) holds
+due_for_is_one : TheLaws → (said : Option (Request (List ℕ))) (holds : Contents) → IsOne (due_for said (Some holds))
+due_for_is_one laws None holds a b is also = is ∙ sym also
+due_for_is_one laws (Some said) holds a b is also = given_is_one laws said holds a b is.1 also.1
+
+pub due_is_one : TheLaws → (words : List (List ℕ)) (holds : Contents) → IsOne (due words (Some holds))
+due_is_one laws words holds = due_for_is_one laws (said_by words) holds
 
 -- ---- the command of the words
 
@@ -54,9 +60,9 @@ complete_at due' files names out err status faulted broken given one is risen br
 complete_at due' files names out err status faulted broken given one is risen breaks (unread name last faulted' untouched shows) no_fault whole = absurd (no_fault (risen faulted'))
 complete_at due' files names out err status faulted broken given one is risen breaks (unwritten text due sound broke shows) no_fault whole = absurd (whole (breaks text broke))
 
-pub completely : (words : List (List ℕ)) (told : Option Contents) (files : FileEvents) (names : List (List ℕ)) (out err : SinkEvents) (status : ℕ) (faulted broken : Type 0) →
+pub completely : ((words : List (List ℕ)) (holds : Contents) → IsOne (due words (Some holds))) → (words : List (List ℕ)) (told : Option Contents) (files : FileEvents) (names : List (List ℕ)) (out err : SinkEvents) (status : ℕ) (faulted broken : Type 0) →
     (files.faulted → faulted) → ((bytes : List ℕ) → out.breaks_off bytes → broken) → Answers (due words told) files names out err status →
     IfSome told (λ holds. (given : Result (List ℕ) Fault) → due words (Some holds) given → ¬ faulted → ¬ broken → (status ≡ status_for given) ⊎ (status ≡ 3))
-completely words None files names out err status faulted broken risen breaks answers = tt
-completely words (Some holds) files names out err status faulted broken risen breaks answers = λ given is no_fault whole.
-    complete_at (due words (Some holds)) files names out err status faulted broken given (due_is_one words holds) is risen breaks answers no_fault whole
+completely one words None files names out err status faulted broken risen breaks answers = tt
+completely one words (Some holds) files names out err status faulted broken risen breaks answers = λ given is no_fault whole.
+    complete_at (due words (Some holds)) files names out err status faulted broken given (one words holds) is risen breaks answers no_fault whole

@@ -6,6 +6,7 @@ ghost use Rattle.cmd_answer.specs.Events.{file_events, sink_events};
 ghost use Rattle.cmd_answer.specs.Fault.{Fault as Cause};
 ghost use Rattle.xls_cmd.specs.Answer.{due, named_files, status_for};
 
+use crate::laws::one_answer;
 use cmd_answer::{Fault, Refusal, respond};
 use cmd_design::{check_design, run_design};
 use cmd_words::{Request, read_words};
@@ -38,6 +39,7 @@ pub fn xls_main<R: Threads + Wait + Sync, F: Files, O: Sink, E: Sink, G: Gate + 
         ¬ HasRisen (F.faults files.old) (F.faults files.new) → ¬ HasRisen (O.faults out.old) (O.faults out.new) →
         (result ≡ status_for given) ⊎ (result ≡ 3)) }
 {
+    one_answer();
     let given = execute(alloc, words, files);
     respond(given, out, err)
 }

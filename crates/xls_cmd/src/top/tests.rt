@@ -103,17 +103,28 @@ fn runs_write_the_outcome(rt: HostRuntime) -> Result<(), Fail> {
 
 #[test]
 fn other_designs_are_refused(rt: HostRuntime) -> Result<(), Fail> {
-    for (old, new) in [
-        ("Inc", "a"),
-        ("Inc", "proc"),
-        ("Inc", "clz"),
-        ("u8:1", "u8:256"),
-        ("x + u8", "y + u8"),
-        ("(a, b)", "(b, a)"),
-        ("; } }", "; } } é"),
-        ("// ", "/ "),
+    for (old, new, status, err) in [
+        ("Inc", "proc", 6, "inc.x: syntax at 5\n"),
+        ("; } }", "; } } é", 6, "inc.x: syntax at 183\n"),
+        ("Inc", "clz", 7, "inc.x: rule 2 at 5..8\n"),
+        ("u8:1)", "u8:256)", 7, "inc.x: rule 6 at 172..178\n"),
+        ("x + u8", "y + u8", 7, "inc.x: rule 1 at 168..169\n"),
+        ("(a, b) }", "(b, a) }", 7, "inc.x: rule 30 at 46..96\n"),
+        ("u8:1)", "u16:1)", 7, "inc.x: rule 12 at 168..177\n"),
+        (
+            "recv(join(), a)",
+            "recv(join(), b)",
+            7,
+            "inc.x: rule 29 at 140..155\n",
+        ),
+        (
+            "send(t, b, x + u8:1)",
+            "let z = u8:256; send(t, b, y)",
+            7,
+            "inc.x: rule 6 at 165..171\n",
+        ),
     ] {
-        let mut design = String::from_str(rt.alloc(), "// \n")?;
+        let mut design = String::new(rt.alloc());
         let (front, back) = INC.split_once(old).unwrap_or((INC, ""));
         design.push_str(front)?;
         design.push_str(new)?;
@@ -121,9 +132,9 @@ fn other_designs_are_refused(rt: HostRuntime) -> Result<(), Fail> {
         expect(
             &rt,
             &run(&rt, WORDS, design.as_str(), "")?,
-            6,
+            status,
             "",
-            "inc.x: syntax at 0\n",
+            err,
             new,
         )?;
     }
@@ -132,22 +143,14 @@ fn other_designs_are_refused(rt: HostRuntime) -> Result<(), Fail> {
 
 #[test]
 fn other_channel_files_are_refused(rt: HostRuntime) -> Result<(), Fail> {
-    for inputs in [
-        "chan b\n",
-        "chan a\n0x100\n",
-        "chan a\n0xg0\n",
-        "chan a\n\n0x00\n",
-        "0x00\n",
-        "chan a\nchan a\n",
+    for (inputs, err) in [
+        ("chan a\n0x00\nchan b\n", "in.txt: input name at 12\n"),
+        ("chan a\n0x100\n", "in.txt: input type at 7\n"),
+        ("chan a\n0xg0\n", "in.txt: input syntax at 7\n"),
+        ("0x00\n", "in.txt: input syntax at 0\n"),
+        ("chan a\nchan a\n", "in.txt: input twice at 7\n"),
     ] {
-        expect(
-            &rt,
-            &run(&rt, WORDS, INC, inputs)?,
-            10,
-            "",
-            "in.txt: input syntax at 0\n",
-            inputs,
-        )?;
+        expect(&rt, &run(&rt, WORDS, INC, inputs)?, 10, "", err, inputs)?;
     }
     Ok(())
 }
@@ -316,14 +319,14 @@ fn the_earlier_check_refuses(rt: HostRuntime) -> Result<(), Fail> {
         &run(&rt, WORDS, "proc", "chan b")?,
         6,
         "",
-        "inc.x: syntax at 0\n",
+        "inc.x: syntax at 4\n",
         "design, inputs",
     )?;
     // A channel file of no form, before a sink that fails.
     let design = MemFile::new(alloc, "inc.x", INC.as_bytes())?;
     let inputs = MemFile::new(alloc, "in.txt", b"chan b")?;
     let mut files = MemFiles::new(vec![in alloc; design, inputs]?, Vec::new(alloc));
-    let line = "in.txt: input syntax at 0\n";
+    let line = "in.txt: input name at 0\n";
     expect(
         &rt,
         &call(&rt, WORDS, &mut files, 0, 1000)?,

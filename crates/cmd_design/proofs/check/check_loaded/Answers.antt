@@ -1,14 +1,18 @@
+use Rattle.std.proofs.Common.{Ok, ap, ◌∙◌}
 use Rattle.cmd_answer.specs.Done.{StopsBy}
 use Rattle.cmd_answer.specs.Step.{Gives, goes_on}
 use Rattle.cmd_answer.proofs.Lemmas.{stops_in_first, err_handed}
-use Rattle.cmd_design.specs.Commands.{ReadsDesign, check_text, accepted}
-use Rattle.std.proofs.Common.{Ok, ap}
-use Rattle.cmd_design.specs.Design.{plain}
+use Rattle.dslx_narrow_tree.specs.Network.{network_of}
+use Rattle.cmd_design.specs.Commands.{ReadsDesign, check_text, top}
+use Rattle.cmd_design.specs.Written.{accepted}
 use Rattle.cmd_design.proofs.check.check_loaded.Goals as goal
 
-pub returns-in_err-_design-clause-refused : goal.returns-in_err-_design-clause-refused
-returns-in_err-_design-clause-refused c = err_handed c.from_residual.result c.in_err-_design.field-0.0 (StopsBy (check_text c.args.name.now c.args.design.now)) c.from_residual.ensures.1
-    (stops_in_first (ReadsDesign c.args.name.now c.args.design.now) (λ design. Gives (Ok accepted)) c.in_err-_design.field-0.0 c.in_err-_design.ensures.refused)
+pub returns-in_err-design-clause-refused : goal.returns-in_err-design-clause-refused
+returns-in_err-design-clause-refused c =
+    err_handed c.from_residual.result c.in_err-design.field-0.0 (StopsBy (check_text c.args.name.now c.args.bytes.now)) c.from_residual.ensures.1
+    (stops_in_first (ReadsDesign c.args.name.now c.args.bytes.now) (λ m. Gives (Ok (accepted (network_of m top)))) c.in_err-design.field-0.0 c.in_err-design.ensures.refused)
 
-pub returns-in-Ok-clause-gives : goal.returns-in-Ok-clause-gives
-returns-in-Ok-clause-gives c = goes_on (plain c.in_ok-_design._design) (Ok c.in-Ok.text.items) c.in_ok-_design.ensures.reads (ap Ok c.in-Ok.ensures.items)
+pub returns-clause-gives : goal.returns-clause-gives
+returns-clause-gives c =
+    let is = c.in_ok-design.ensures.reads in
+    goes_on is.tree (Ok c.in_ok-text.text.items) is.reads (ap Ok (c.in_ok-text.ensures ∙ ap accepted is.is.network))

@@ -1,8 +1,8 @@
-use Rattle.cmd_design.proofs.OneMeaning.{check_is_one, run_is_one}
+use Rattle.cmd_design.proofs.Steps.{check_is_one, run_is_one}
 use Rattle.cmd_design.proofs.laws.one_answer.Goals as goal
 
 pub returns-clause-check : goal.returns-clause-check
-returns-clause-check c = check_is_one
+returns-clause-check c = check_is_one c.one_design.ensures
 
 pub returns-clause-run : goal.returns-clause-run
-returns-clause-run c = run_is_one
+returns-clause-run c = run_is_one c.one_design.ensures

@@ -1,10 +1,8 @@
-use Rattle.std.proofs.Common.{map}
-use Rattle.xb_bits.specs.Word.{word}
-use Rattle.cmd_design.specs.Commands.{says, says_nothing}
+use Rattle.cmd_design.specs.Commands.{says, at_fault}
 use Rattle.cmd_design.proofs.source.inputs_of.Goals as goal
 
-pub returns-in-Ok-Some-clause-says : goal.returns-in-Ok-Some-clause-says
-returns-in-Ok-Some-clause-says c = says (map (word 8) c.in-Ok-Some.words.items) (rw c.in-Ok-Some.field-0-is at c.in-Ok-Some.ensures.found)
+pub returns-in-Ok-clause-says : goal.returns-in-Ok-clause-says
+returns-in-Ok-clause-says c = says c.in-Ok.inputs c.in-Ok.ensures.reads
 
-pub returns-in-Ok-None-clause-refused : goal.returns-in-Ok-None-clause-refused
-returns-in-Ok-None-clause-refused c = (says_nothing (rw c.in-Ok-None.field-0-is at c.in-Ok-None.ensures.none), tt)
+pub returns-in-Err-Input-clause-refused : goal.returns-in-Err-Input-clause-refused
+returns-in-Err-Input-clause-refused c = (at_fault c.in-Err-Input.cause c.in-Err-Input.at (rw c.in-Err-Input.field-0-is at c.in-Err-Input.ensures.reads), tt)

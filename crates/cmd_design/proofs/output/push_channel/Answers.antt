@@ -1,6 +1,0 @@
-use Rattle.std.proofs.Common.{rules}
-use Rattle.std.proofs.lemmas.List.{append_assoc, length-map}
-use Rattle.cmd_design.proofs.output.push_channel.Goals as goal
-
-pub returns : goal.returns
-returns c = search (rules, append_assoc, length-map)

@@ -1,0 +1,41 @@
+//! What a run of a network shows.
+
+ghost use Rattle.std.specs.Prelude.{◌≡◌, IfOk, map};
+ghost use Rattle.net_core.specs.WellFormed.{IsNet, IsInputs, IsDepths, AreBehaviorsOf};
+ghost use Rattle.cmd_design.specs.Written.{depths_of, run_text};
+
+use chan_file::outcome_text;
+use net_core::{Body, Inputs, Net};
+use net_run::run_one;
+use std::alloc::{AllocError, Global};
+
+/// The text of what a run shows, in which each proc makes at most so many activations.
+pub fn run_text<B: Body>(
+    alloc: Global,
+    net: &Net,
+    bodies: &[B],
+    inputs: &Inputs,
+    activations: u32,
+    depths: &[u32],
+) -> Result<Vec<u8>, AllocError>
+    requires net { IsNet net.now }
+    requires bodies { AreBehaviorsOf net.now (map B.behavior bodies.now) }
+    requires inputs { IsInputs net.now inputs.now.words }
+    requires depths { IsDepths net.now depths.now }
+    ensures { IfOk result (λ text. text.items ≡ run_text net.now (map B.behavior bodies.now) inputs.now activations depths.now) }
+{
+    let outcome = run_one(alloc, net, bodies, inputs, activations, depths)?;
+    let text = outcome_text(alloc, net, &outcome)?;
+    Ok(text.into_bytes())
+}
+
+/// The depth that each channel of a network has.
+pub fn depths(alloc: Global, net: &Net) -> Result<Vec<u32>, AllocError>
+    ensures { IfOk result (λ depths. depths.items ≡ depths_of net.now) }
+{
+    net.chans
+        .as_slice()
+        .iter()
+        .map(|chan| chan.depth)
+        .collect(alloc)
+}
