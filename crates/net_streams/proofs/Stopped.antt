@@ -116,7 +116,7 @@ no_trace n words [] f = refl
 no_trace n words (x ∷ xs) f = absurd f
 
 -- the words of the outside are there from the start
-input_words : (run : Run) (cut : Cut) (c : ℕ) (chan : Chan) → slice_get run.chans c ≡ Some chan → chan.kind ≡ Input → words_at run cut c ≡ get_or run.inputs c []
+pub input_words : (run : Run) (cut : Cut) (c : ℕ) (chan : Chan) → slice_get run.chans c ≡ Some chan → chan.kind ≡ Input → words_at run cut c ≡ get_or run.inputs c []
 unfolding words_at words_by
 input_words run cut c chan e is = ap (λ o. words_by run cut c o) e ∙ by_kind chan.kind is
   where

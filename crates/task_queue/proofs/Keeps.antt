@@ -1,5 +1,5 @@
 -- Each step keeps the rule of a run queue.
-use Rattle.std.proofs.Common.{◌≡◌, ◌≢◌, ℕ, zero, suc, ◌+◌, ◌-◌, ◌<◌, ◌≤◌, true, false, Bool, List, [], ◌∷◌, ◌++◌, length, set, sym, refl, ap, ◌∙◌, subst, ⊎_elim, arith, Some, None, Option, eqb, cond, inl, inr}
+use Rattle.std.proofs.Common.{◌≡◌, ◌≢◌, ℕ, zero, suc, ◌+◌, ◌<◌, ◌≤◌, true, false, Bool, List, [], ◌∷◌, ◌++◌, length, set, sym, refl, ap, ◌∙◌, subst, ⊎_elim, arith, Some, None, Option, eqb, cond, inl, inr}
 use Rattle.std.specs.Prelude.{sum_by, ◌⊎◌, ◌||◌}
 use Rattle.std.specs.List.{list_any}
 use Rattle.std.proofs.lemmas.Bool.Decides.{nat_tests}
@@ -74,9 +74,9 @@ all_set : {V : Type 0} (F : ℕ → V → Type 0) (views : List V) (pass : ℕ) 
 all_set {V} F views pass w mine others j u e = ⊎_elim (λ (x : (j ≡ pass) × (w ≡ u)). subst (λ (y : ℕ × V). F y.0 y.1) (λ i. (sym x.0 i, x.1 i)) mine)
     (λ (x : (j ≢ pass) × (get_elem? views j ≡ some u)). others j u x.0 x.1) (at_set views pass j w u e)
 
-module _ {T N : Type 0} (number : T → ℕ) (run : T → N) where
+module _ {T N : Type 0} (number : T → ℕ) (run : T → N) (fact : T → Type 0) where
   abbrev Rule : List T → List (Hand N) → Type 0
-  Rule = IsRunQueue number run
+  Rule = IsRunQueue number run fact
 
   -- of a pass: what it knows if it has a part, and that it holds nothing if it has none
   abbrev Fits : Roll N → ℕ → Hand N → Type 0
@@ -102,9 +102,9 @@ module _ {T N : Type 0} (number : T → ℕ) (run : T → N) where
       nothing zero u other e = other refl
       nothing (suc j) u other e = some-ne-none u (sym e)
 
-  each_append : (home : Option N) (items : List T) (x : T) → EachOf number run home items → home ≡ Some (run x) → EachOf number run home (items ++ x ∷ [])
-  each_append home [] x each e = (e, tt)
-  each_append home (y ∷ ys) x each e = (each.0, each_append home ys x each.1 e)
+  each_append : (home : Option N) (items : List T) (x : T) → EachOf number run fact home items → home ≡ Some (run x) → fact x → EachOf number run fact home (items ++ x ∷ [])
+  each_append home [] x each e f = (e, f, tt)
+  each_append home (y ∷ ys) x each e f = (each.0, each.1, each_append home ys x each.2 e f)
 
   -- a queue of which no task was started is empty
   empty_first : (items : List T) (views : List (Hand N)) (h : Rule items views) → h.at.count ≡ 0 → items ≡ []
@@ -126,9 +126,9 @@ module _ {T N : Type 0} (number : T → ℕ) (run : T → N) where
   others_idle views pass v at whole all j u other e = omega (arith, two_below (λ (x : Hand N). x.parts) views pass j v u other at e, whole, all)
 
   -- a task is started
-  pub starts : (n pass : ℕ) (v : Hand N) (x : T) → v.parts ≡ 1024 → number x ≡ v.count → (v.count ≡ 0) ⊎ (v.run ≡ Some (run x))
+  pub starts : (n pass : ℕ) (v : Hand N) (x : T) → v.parts ≡ 1024 → number x ≡ v.count → (v.count ≡ 0) ⊎ (v.run ≡ Some (run x)) → fact x
       → Pushes Rule n pass v x (λ w. w ≡ record v { count = suc v.count; run = Some (run x) })
-  starts n pass v x whole next home items views room h at =
+  starts n pass v x whole next home holds items views room h at =
       let part : 0 < v.parts = omega (arith, whole) in
       let mine = h.knows pass v at part in
       let now : Roll N = record { count = suc h.at.count; run = Some (run x) } in
@@ -142,26 +142,26 @@ module _ {T N : Type 0} (number : T → ℕ) (run : T → N) where
           at = now;
           parts = omega (arith, sum_set (λ (u : Hand N). u.parts) views pass v w at, h.parts);
           once = λ f. omega (arith, sum_set (λ (u : Hand N). sum_by f u.held) views pass v w at, h.once f, sum_append (λ (y : T). f (number y)) items (x ∷ []), sum_one (λ (y : T). f (number y)) x, ap f (next ∙ mine.count));
-          each = each_append (Some (run x)) items x (same home) refl;
+          each = each_append (Some (run x)) items x (same home) refl holds;
           knows = λ j u e. (all j u e).0;
           idle = λ j u e. (all j u e).1;
         },
         refl,
       )
     where
-      same : (v.count ≡ 0) ⊎ (v.run ≡ Some (run x)) → EachOf number run (Some (run x)) items
+      same : (v.count ≡ 0) ⊎ (v.run ≡ Some (run x)) → EachOf number run fact (Some (run x)) items
       same (inl none) =
           let part : 0 < v.parts = omega (arith, whole) in
           let empty = empty_first items views h (sym (h.knows pass v at part).count ∙ none) in
-          subst (λ xs. EachOf number run (Some (run x)) xs) (sym empty) tt
+          subst (λ xs. EachOf number run fact (Some (run x)) xs) (sym empty) tt
       same (inr e) =
           let part : 0 < v.parts = omega (arith, whole) in
-          subst (λ r. EachOf number run r items) (sym (h.knows pass v at part).run ∙ e) h.each
+          subst (λ r. EachOf number run fact r items) (sym (h.knows pass v at part).run ∙ e) h.each
 
   -- a task is put back
-  pub puts : (n pass : ℕ) (v : Hand N) (x : T) → 0 < v.parts → is_held (number x) v.held ≡ true → v.run ≡ Some (run x)
+  pub puts : (n pass : ℕ) (v : Hand N) (x : T) → 0 < v.parts → is_held (number x) v.held ≡ true → v.run ≡ Some (run x) → fact x
       → Pushes Rule n pass v x (λ w. w ≡ record v { held = without (number x) v.held })
-  puts n pass v x part held home items views room h at =
+  puts n pass v x part held home holds items views room h at =
       let mine = h.knows pass v at part in
       let w : Hand N = record v { held = without (number x) v.held } in
       let all : (j : ℕ) (u : Hand N) → get_elem? (set views pass w) j ≡ some u → Fits h.at j u =
@@ -171,7 +171,7 @@ module _ {T N : Type 0} (number : T → ℕ) (run : T → N) where
           at = h.at;
           parts = omega (arith, sum_set (λ (u : Hand N). u.parts) views pass v w at, h.parts);
           once = λ f. omega (arith, sum_set (λ (u : Hand N). sum_by f u.held) views pass v w at, h.once f, sum_append (λ (y : T). f (number y)) items (x ∷ []), sum_one (λ (y : T). f (number y)) x, sum_without f (number x) v.held held);
-          each = each_append h.at.run items x h.each (sym mine.run ∙ home);
+          each = each_append h.at.run items x h.each (sym mine.run ∙ home) holds;
           knows = λ j u e. (all j u e).0;
           idle = λ j u e. (all j u e).1;
         },
@@ -179,7 +179,7 @@ module _ {T N : Type 0} (number : T → ℕ) (run : T → N) where
       )
 
   -- a task is taken
-  pub takes : (pass : ℕ) (v : Hand N) → 0 < v.parts → Pops Rule pass v (λ x w. (w ≡ record v { held = v.held ++ number x ∷ [] }) × (v.run ≡ Some (run x)))
+  pub takes : (pass : ℕ) (v : Hand N) → 0 < v.parts → Pops Rule pass v (λ x w. (w ≡ record v { held = v.held ++ number x ∷ [] }) × (v.run ≡ Some (run x)) × fact x)
   takes pass v part x items views h at =
       let mine = h.knows pass v at part in
       let w : Hand N = record v { held = v.held ++ number x ∷ [] } in
@@ -190,11 +190,11 @@ module _ {T N : Type 0} (number : T → ℕ) (run : T → N) where
           at = h.at;
           parts = omega (arith, sum_set (λ (u : Hand N). u.parts) views pass v w at, h.parts);
           once = λ f. omega (arith, sum_set (λ (u : Hand N). sum_by f u.held) views pass v w at, h.once f, sum_by-cons (λ (y : T). f (number y)) x items, sum_append f v.held (number x ∷ []), sum_one f (number x));
-          each = h.each.1;
+          each = h.each.2;
           knows = λ j u e. (all j u e).0;
           idle = λ j u e. (all j u e).1;
         },
-        (refl, mine.run ∙ h.each.0),
+        (refl, mine.run ∙ h.each.0, h.each.1),
       )
 
   -- a pass with all parts knows all

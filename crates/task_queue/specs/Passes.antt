@@ -1,5 +1,5 @@
 -- The passes of a run queue, beside it.
-use Rattle.std.specs.Prelude.{◌≡◌, ℕ, ◌<◌, ◌≤◌}
+use Rattle.std.specs.Prelude.{ℕ, ◌<◌, ◌≤◌}
 use Rattle.crossbeam_queue.specs.Passes.{view, IsPassOf, ruled_capacity}
 use Rattle.task_queue.specs.declared.hand.Hand.{Hand}
 use Rattle.task_queue.specs.declared.queue.TaskQueue.{TaskQueue}

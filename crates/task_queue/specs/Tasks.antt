@@ -1,5 +1,5 @@
 -- Where the tasks of a run stand: in the queue, or in the hand of a pass.
-use Rattle.std.specs.Prelude.{◌≡◌, ℕ, zero, suc, ◌+◌, ◌-◌, ◌<◌, ◌≤◌, ◌==◌, Bool, true, List, [], ◌∷◌, ◌++◌, length, sum_by, if◌then◌else◌, Option, Some, None}
+use Rattle.std.specs.Prelude.{◌≡◌, ℕ, zero, suc, ◌+◌, ◌-◌, ◌<◌, ◌==◌, Bool, List, [], ◌∷◌, ◌++◌, sum_by, if◌then◌else◌, Option, Some, None}
 use Rattle.std.specs.List.{list_any}
 use mathlib.Core.Option.{some}
 use lib.ListN.{get_elem?}
@@ -50,11 +50,11 @@ module _ {N : Type 0} where
   abbrev pub spent : Hand N
   spent = record { parts = 0; count = 0; run = None; held = [] }
 
-module _ {T N : Type 0} (number : T → ℕ) (run : T → N) where
-  -- each task is of this run
+module _ {T N : Type 0} (number : T → ℕ) (run : T → N) (fact : T → Type 0) where
+  -- each task is of this run, and its fact holds
   abbrev pub EachOf : Option N → List T → Type 0
   EachOf home [] = Unit {0}
-  EachOf home (x ∷ xs) = (home ≡ Some (run x)) × EachOf home xs
+  EachOf home (x ∷ xs) = (home ≡ Some (run x)) × fact x × EachOf home xs
 
   -- the rule of a run queue: each number below the count stands once, in the queue or in a hand
   pub record IsRunQueue (items : List T) (views : List (Hand N)) : Type 0 where

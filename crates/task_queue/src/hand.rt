@@ -12,6 +12,9 @@ pub trait Numbered<N>: Drop {
     /// The run, for contracts alone.
     ghost run_of: { Self → N };
 
+    /// What holds of each task that waits: who puts a task shows it, and who takes one knows it.
+    ghost fact: { Self → Type 0 };
+
     fn number(&self) -> u32
         ensures { result ≡ number_of self.now };
 }
@@ -30,7 +33,7 @@ pub struct TaskRule;
 impl<N, T: Numbered<N>> Protocol<T, Hand<N>> for TaskRule {
     ghost use Rattle.task_queue.specs.Tasks.{IsRunQueue, unused};
 
-    ghost holds = { IsRunQueue T.number_of T.run_of };
+    ghost holds = { IsRunQueue T.number_of T.run_of T.fact };
 
     ghost first = { unused };
 }
@@ -72,7 +75,7 @@ pub struct Takes;
 impl<N, T: Numbered<N>> Outcome<T, Hand<N>> for Takes {
     ghost use Rattle.std.specs.Prelude.{◌≡◌, ◌++◌, ◌∷◌, [], Some};
 
-    ghost then = { λ v x w. (w ≡ record v { held = v.held ++ T.number_of x ∷ [] }) × (v.run ≡ Some (T.run_of x)) };
+    ghost then = { λ v x w. (w ≡ record v { held = v.held ++ T.number_of x ∷ [] }) × (v.run ≡ Some (T.run_of x)) × T.fact x };
 }
 
 impl<N, T: Numbered<N>> Lesson<T, Hand<N>> for Takes {

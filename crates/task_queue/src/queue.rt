@@ -40,6 +40,7 @@ impl<N, T: Numbered<N>> TaskQueue<N, T> {
         requires whole { (knows pass.old).parts ≡ 1024 }
         requires number { T.number_of task ≡ (knows pass.old).count }
         requires room { (knows pass.old).count < capacity_of self.now }
+        requires fact { T.fact task }
         requires run { ((knows pass.old).count ≡ 0) ⊎ ((knows pass.old).run ≡ Some (T.run_of task)) }
         ensures pass { IsTaskPass self.now pass.new }
         ensures started { knows pass.new ≡ record (knows pass.old) { count = suc (knows pass.old).count; run = Some (T.run_of task) } }
@@ -55,6 +56,7 @@ impl<N, T: Numbered<N>> TaskQueue<N, T> {
         requires pass { IsTaskPass self.now pass.old }
         requires held { IsTrue (is_held (T.number_of task) (knows pass.old).held) }
         requires run { (knows pass.old).run ≡ Some (T.run_of task) }
+        requires fact { T.fact task }
         ensures pass { IsTaskPass self.now pass.new }
         ensures put { knows pass.new ≡ record (knows pass.old) { held = without (T.number_of task) (knows pass.old).held } }
     {
@@ -72,7 +74,7 @@ impl<N, T: Numbered<N>> TaskQueue<N, T> {
         ensures taken { MatchOption result
             ((knows pass.new ≡ knows pass.old) × ((knows pass.old).parts ≡ 1024 → AreAllBelow (knows pass.old).count (knows pass.old).held))
             (λ task. (knows pass.new ≡ record (knows pass.old) { held = (knows pass.old).held ++ T.number_of task ∷ [] })
-            × ((knows pass.old).run ≡ Some (T.run_of task))) }
+            × ((knows pass.old).run ≡ Some (T.run_of task)) × T.fact task) }
     {
         self.line.pop_as::<Takes, R>(rt, &mut pass.pass)
     }

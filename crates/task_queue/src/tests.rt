@@ -12,6 +12,8 @@ impl Numbered<u32> for Job {
 
     ghost run_of = { λ job. 5 };
 
+    ghost fact = { λ job. Unit {0} };
+
     fn number(&self) -> u32 {
         self.number
     }

@@ -1,0 +1,4 @@
+pub mod Rights
+pub mod Ports
+pub mod Steps
+pub mod Idle

@@ -1,0 +1,13 @@
+//! A proc that moves from thread to thread: where it stands, what it sent and received, and its rights to its channels.
+#![tactic(auto)]
+
+mod home;
+mod port;
+mod task;
+
+pub use home::Home;
+pub use port::{Inlet, Outlet};
+pub use task::{Ended, Task};
+
+#[cfg(test)]
+mod tests;

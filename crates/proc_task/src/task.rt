@@ -1,0 +1,293 @@
+ghost use Rattle.std.specs.Prelude.{◌≡◌, ◌<◌, ◌≤◌, ◌+◌, suc, true, false, length, slice_get, Some, IfOk, OnOk, OnErr, MatchBool};
+ghost use Rattle.net_core.specs.declared.event.Event.TheVariants as event;
+ghost use Rattle.net_core.specs.Behavior.{chan_at};
+ghost use Rattle.net_core.specs.Cuts.{Proc};
+ghost use Rattle.net_core.specs.Outcomes.{stall_for};
+ghost use Rattle.proc_task.specs.Moving.{IsTask, IsNewTask, IsBefore, IsHeldAt, Waits, IsSameTask, IsSameButOutlet, IsSameButInlet, IsSameButPorts, MeetAt, HasMetAt, IsAtSiteIn, end_at, position_of};
+
+use crate::home::Home;
+use crate::port::{Inlet, Outlet, meet};
+use chan_queue::Streams;
+use net_core::{Event, ProcEnd, Site, Stall};
+use std::alloc::{AllocError, Global};
+use std::sync::Wait;
+use task_queue::Numbered;
+use xb_bits::Bits;
+use xb_value::Value;
+
+/// A proc that moves from thread to thread: where it stands, what went over its channels, and its rights to them.
+#[derive(Drop)]
+pub struct Task<S, H> {
+    home: H,
+    number: u32,
+    sites: Vec<Site>,
+    places: Vec<u32>,
+    state: Value,
+    got: Vec<Bits>,
+    done: u32,
+    ends: u32,
+    count: u64,
+    outlets: Vec<Outlet<S>>,
+    inlets: Vec<Inlet<S>>,
+}
+
+/// Where a task's proc stands in the end, and what went over its channels.
+#[derive(Drop)]
+pub struct Ended<S> {
+    pub end: ProcEnd,
+    pub outlets: Vec<Outlet<S>>,
+    pub inlets: Vec<Inlet<S>>,
+}
+
+impl<S: Streams, H: Home<S>> Numbered<H> for Task<S, H> {
+    ghost number_of = { λ task. task.number };
+
+    ghost run_of = { λ task. task.home };
+
+    ghost fact = { λ task. IsTask (H.run task.home) (H.lines task.home) task };
+
+    fn number(&self) -> u32 {
+        self.number
+    }
+}
+
+impl<S: Streams, H: Home<S>> Task<S, H> {
+    /// A proc that has made no event, with one outlet or inlet for each end of a channel that has a site, and the place
+    /// of its outlet or inlet for each site.
+    pub fn new(
+        alloc: Global,
+        home: H,
+        number: u32,
+        sites: Vec<Site>,
+        state: Value,
+        places: Vec<u32>,
+        outlets: Vec<Outlet<S>>,
+        inlets: Vec<Inlet<S>>,
+    ) -> Task<S, H>
+        requires { IsNewTask (H.run home) (H.lines home) number sites.items state places.items outlets.items inlets.items }
+        ensures task { IsTask (H.run home) (H.lines home) result }
+        ensures of { (result.home ≡ home) × (result.number ≡ number) × (result.count ≡ 0) }
+    {
+        Task {
+            home,
+            number,
+            sites,
+            places,
+            state,
+            got: Vec::new(alloc),
+            done: 0,
+            ends: 0,
+            count: 0,
+            outlets,
+            inlets,
+        }
+    }
+
+    /// An outlet of the task meets the inlet of the same channel of another one.
+    pub fn meet(&mut self, outlet: u32, other: &mut Task<S, H>, inlet: u32)
+        requires task { IsTask (H.run self.old.home) (H.lines self.old.home) self.old }
+        requires other { IsTask (H.run self.old.home) (H.lines self.old.home) other.old }
+        requires ends { MeetAt self.old.outlets.items outlet other.old.inlets.items inlet }
+        ensures task { IsTask (H.run self.new.home) (H.lines self.new.home) self.new }
+        ensures other { IsTask (H.run self.new.home) (H.lines self.new.home) other.new }
+        ensures same { IsSameButOutlet outlet self.old self.new × IsSameButInlet inlet other.old other.new }
+        ensures met { HasMetAt (H.run self.new.home) self.new.outlets.items outlet other.new.inlets.items inlet }
+    {
+        meet(
+            &self.home,
+            &mut self.outlets[outlet as usize],
+            &mut other.inlets[inlet as usize],
+        );
+    }
+
+    /// An outlet of the task meets its own inlet of the same channel.
+    pub fn meet_self(&mut self, outlet: u32, inlet: u32)
+        requires task { IsTask (H.run self.old.home) (H.lines self.old.home) self.old }
+        requires ends { MeetAt self.old.outlets.items outlet self.old.inlets.items inlet }
+        ensures task { IsTask (H.run self.new.home) (H.lines self.new.home) self.new }
+        ensures same { IsSameButPorts outlet inlet self.old self.new }
+        ensures met { HasMetAt (H.run self.new.home) self.new.outlets.items outlet self.new.inlets.items inlet }
+    {
+        meet(
+            &self.home,
+            &mut self.outlets[outlet as usize],
+            &mut self.inlets[inlet as usize],
+        );
+    }
+
+    /// Where the task stands, and what went over its channels. It asks the body once, unless the proc is done.
+    pub fn finish(self, alloc: Global) -> Result<Ended<S>, AllocError>
+        requires { IsTask (H.run self.home) (H.lines self.home) self }
+        ensures { IfOk result (λ ended. (proc : Proc) → slice_get (H.run self.home).procs self.number ≡ Some proc →
+            (ended.end ≡ end_at (H.run self.home) proc (position_of self)) × (ended.outlets.items ≡ self.outlets.items) × (ended.inlets.items ≡ self.inlets.items)) }
+    {
+        let stall = self.stall(alloc)?;
+        let Task {
+            state,
+            ends,
+            outlets,
+            inlets,
+            ..
+        } = self;
+        let end = ProcEnd { state, ends, stall };
+        Ok(Ended {
+            end,
+            outlets,
+            inlets,
+        })
+    }
+
+    /// What it waits for, unless it is done.
+    fn stall(&self, alloc: Global) -> Result<Option<Stall>, AllocError>
+        requires { IsTask (H.run self.now.home) (H.lines self.now.home) self.now }
+        ensures { IfOk result (λ stall. (proc : Proc) → slice_get (H.run self.now.home).procs self.now.number ≡ Some proc →
+            stall ≡ (end_at (H.run self.now.home) proc (position_of self.now)).stall) }
+    {
+        if self.ends >= self.home.activations() {
+            return Ok(None);
+        }
+        let event = self.home.next(
+            alloc,
+            self.number,
+            &self.state,
+            self.got.as_slice(),
+            self.done,
+        )?;
+        Ok(self.stall_at(&event))
+    }
+
+    /// What it waits for where this event comes next.
+    fn stall_at(&self, event: &Event) -> Option<Stall>
+        requires { IsAtSiteIn self.now.sites.items event.now }
+        ensures { result ≡ stall_for self.now.sites.items self.now.ends event.now }
+    {
+        let activation = self.ends;
+        match event {
+            Event::Recv(site) => Some(Stall {
+                activation,
+                sends: false,
+                chan: self.chan_at(*site),
+            }),
+            Event::Send(site, _) => Some(Stall {
+                activation,
+                sends: true,
+                chan: self.chan_at(*site),
+            }),
+            Event::End(_) => None,
+        }
+    }
+
+    /// The channel of a site.
+    fn chan_at(&self, site: u32) -> u32
+        requires { site < length self.now.sites.items }
+        ensures { result ≡ chan_at self.now.sites.items site }
+    {
+        self.sites[site as usize].chan
+    }
+
+    /// Makes events until `most` are made, the proc is done, or the next event has no word or no room.
+    ///
+    /// It asks the body once for each event that it makes, and once for one that waits.
+    pub fn advance<R: Wait>(&mut self, rt: &R, alloc: Global, most: u32) -> Result<u32, AllocError>
+        requires { IsTask (H.run self.old.home) (H.lines self.old.home) self.old }
+        ensures task { IsTask (H.run self.new.home) (H.lines self.new.home) self.new }
+        ensures same { IsSameTask self.old self.new }
+        ensures made { IfOk result (λ made. (made ≤ most) × (self.new.count ≡ self.old.count + made)) }
+        ensures fewer { IfOk result (λ made. made < most → Waits (H.run self.new.home) self.new) }
+        ensures err { OnErr result (self.old.count ≤ self.new.count) }
+    {
+        for made in 0..most {
+            if !self.step(rt, alloc)? {
+                return Ok(made);
+            }
+        }
+        Ok(most)
+    }
+
+    /// Makes the next event, if the proc isn't done and there is a word, or room.
+    fn step<R: Wait>(&mut self, rt: &R, alloc: Global) -> Result<bool, AllocError>
+        requires { IsTask (H.run self.old.home) (H.lines self.old.home) self.old }
+        ensures task { IsTask (H.run self.new.home) (H.lines self.new.home) self.new }
+        ensures same { IsSameTask self.old self.new }
+        ensures made { IfOk result (λ made. MatchBool made (self.new.count ≡ suc self.old.count)
+            ((self.new.count ≡ self.old.count) × Waits (H.run self.new.home) self.new)) }
+        ensures err { OnErr result (self.new.count ≡ self.old.count) }
+    {
+        if self.ends >= self.home.activations() {
+            return Ok(false);
+        }
+        let event = self.home.next(
+            alloc,
+            self.number,
+            &self.state,
+            self.got.as_slice(),
+            self.done,
+        )?;
+        match event {
+            Event::Recv(site) => self.try_receive(rt, site),
+            Event::Send(site, word) => self.try_send(rt, site, word),
+            Event::End(state) => {
+                self.end(state);
+                Ok(true)
+            }
+        }
+    }
+
+    /// Receives at a site, if there is a word.
+    fn try_receive<R: Wait>(&mut self, rt: &R, site: u32) -> Result<bool, AllocError>
+        requires task { IsTask (H.run self.old.home) (H.lines self.old.home) self.old }
+        requires next { IsBefore (H.run self.old.home) self.old (event.Recv site) }
+        ensures task { IsTask (H.run self.new.home) (H.lines self.new.home) self.new }
+        ensures same { IsSameTask self.old self.new }
+        ensures made { IfOk result (λ made. MatchBool made (self.new.count ≡ suc self.old.count)
+            ((self.new.count ≡ self.old.count) × Waits (H.run self.new.home) self.new)) }
+        ensures err { OnErr result (self.new.count ≡ self.old.count) }
+    {
+        self.got.reserve(1)?;
+        let place = self.places[site as usize] as usize;
+        match self.inlets[place].take(rt, &self.home) {
+            Some(word) => {
+                self.got.push_reserved(word);
+                self.done = site + 1;
+                self.count += 1;
+                Ok(true)
+            }
+            None => Ok(false),
+        }
+    }
+
+    /// Sends a word at a site, if there is room.
+    fn try_send<R: Wait>(&mut self, rt: &R, site: u32, word: Bits) -> Result<bool, AllocError>
+        requires task { IsTask (H.run self.old.home) (H.lines self.old.home) self.old }
+        requires next { IsBefore (H.run self.old.home) self.old (event.Send site word) }
+        ensures task { IsTask (H.run self.new.home) (H.lines self.new.home) self.new }
+        ensures same { IsSameTask self.old self.new }
+        ensures made { IfOk result (λ made. MatchBool made (self.new.count ≡ suc self.old.count)
+            ((self.new.count ≡ self.old.count) × Waits (H.run self.new.home) self.new)) }
+        ensures err { OnErr result (self.new.count ≡ self.old.count) }
+    {
+        let place = self.places[site as usize] as usize;
+        if self.outlets[place].put(rt, &self.home, word)? {
+            self.done = site + 1;
+            self.count += 1;
+            Ok(true)
+        } else {
+            Ok(false)
+        }
+    }
+
+    /// The activation ends with a state, and the next one begins.
+    fn end(&mut self, state: Value)
+        requires task { IsTask (H.run self.old.home) (H.lines self.old.home) self.old }
+        requires next { IsBefore (H.run self.old.home) self.old (event.End state) }
+        ensures task { IsTask (H.run self.new.home) (H.lines self.new.home) self.new }
+        ensures same { IsSameTask self.old self.new }
+        ensures made { self.new.count ≡ suc self.old.count }
+    {
+        self.state = state;
+        self.got.clear();
+        self.done = 0;
+        self.ends += 1;
+        self.count += 1;
+    }
+}

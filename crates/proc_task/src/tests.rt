@@ -1,0 +1,80 @@
+ghost use Rattle.std.specs.Prelude.{◌≡◌, [], Some, List, Option};
+ghost use Rattle.proc_task.specs.Moving.{IsTask};
+ghost use Rattle.proc_task.specs.Idle.{idle_run};
+
+use super::*;
+use chan_queue::{ChanQueue, Streams};
+use net_core::Event;
+use std::alloc::{AllocError, Global};
+use std::test::Fail;
+use task_queue::Numbered;
+use xb_bits::Bits;
+use xb_value::Value;
+
+/// The run of one proc without sites, which makes three activations and keeps its state.
+#[derive(Clone, Copy)]
+struct Idle;
+
+impl Streams for Idle {
+    ghost use Rattle.std.specs.Prelude.{[]};
+
+    ghost stream = { λ run chan. record { words = []; received = 0 } };
+}
+
+impl Home<Idle> for Idle {
+    ghost run = { λ home. idle_run };
+
+    ghost lines = { λ home. [] };
+
+    fn activations(&self) -> u32 {
+        3
+    }
+
+    fn input_word(&self, _chan: u32, _place: u64) -> Option<Bits> {
+        None
+    }
+
+    fn line(&self, _chan: u32) -> &ChanQueue<Idle> {
+        unreachable!()
+    }
+
+    fn next(
+        &self,
+        alloc: Global,
+        _number: u32,
+        state: &Value,
+        _got: &[Bits],
+        _done: u32,
+    ) -> Result<Event, AllocError> {
+        Ok(Event::End(state.copy(alloc)?))
+    }
+}
+
+/// The task of its proc.
+fn idle_task(alloc: Global) -> Task<Idle, Idle>
+    ensures { IsTask idle_run [] result }
+{
+    let state = Value::Bits(Bits::new(8, 5));
+    Task::new(
+        alloc,
+        Idle,
+        0,
+        Vec::new(alloc),
+        state,
+        Vec::new(alloc),
+        Vec::new(alloc),
+        Vec::new(alloc),
+    )
+}
+
+#[test]
+fn a_proc_without_sites_ends_its_activations(rt: HostRuntime) -> Result<(), Fail> {
+    let mut task = idle_task(rt.alloc());
+    assert_eq!(rt; task.number(), 0);
+    assert_eq!(rt; task.advance(&rt, rt.alloc(), 2)?, 2);
+    assert_eq!(rt; task.advance(&rt, rt.alloc(), 5)?, 1);
+    let ended = task.finish(rt.alloc())?;
+    assert_eq!(rt; ended.end.ends, 3);
+    assert_eq!(rt; ended.end.stall, None);
+    Ok(())
+}
