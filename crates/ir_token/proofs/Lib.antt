@@ -1,0 +1,3 @@
+mod OneCut
+mod CutsSoFar
+mod FrontFacts

@@ -1,0 +1,8 @@
+-- what stands at the front of a text: a word, a number or a mark
+pub mod Fronts
+-- the kinds of tokens, by themselves and in a text
+pub mod Kinds
+-- the tokens of a text, and the first character that begins none
+pub mod Tokens
+-- contracts of this crate's private functions
+pub mod Inner

@@ -1,0 +1,69 @@
+//! The token at the front of a text.
+
+ghost use Rattle.std.specs.Prelude.{◌≡◌, ◌≤◌, length, None, IfSome, MatchOption};
+ghost use Rattle.ir_token.specs.Inner.Entries.{HasFront};
+ghost use Rattle.ir_token.specs.Fronts.{word_goes_on, name_len, number_front, token_front};
+
+use crate::characters::{byte_at, mark_kind};
+use crate::number::{digits_len, value_of_number};
+use ir_grammar::kind::END;
+use texts::{begins_word, is_word_byte};
+
+fn word_goes_on(byte: u8, behind: u8) -> bool
+    ensures { result ≡ word_goes_on byte behind }
+{
+    is_word_byte(byte) || byte == b'.' || byte == b'/' && behind != b'/'
+}
+
+/// How far the word at the front of a text goes.
+fn name_len(text: &[u8]) -> usize
+    ensures len { result ≡ name_len text.now }
+    ensures within { result ≤ length text.now }
+{
+    let mut at = 0;
+    'word: while at < text.len() {
+        if !word_goes_on(text[at], byte_at(text, at + 1)) {
+            return at;
+        }
+        at += 1;
+    }
+    at
+}
+
+/// The length of the number at the front of a text, where it is below 2^128.
+fn number_front(text: &[u8]) -> Option<usize>
+    ensures front { result ≡ number_front text.now }
+    ensures within { IfSome result (λ len. len ≤ length text.now) }
+{
+    let len = digits_len(text);
+    match value_of_number(&text[..len]) {
+        Some(_) => Some(len),
+        None => None,
+    }
+}
+
+/// The length of the token at the front of a text that isn't empty.
+pub fn token_len(text: &[u8]) -> Option<usize>
+    requires { 1 ≤ length text.now }
+    ensures { MatchOption result (token_front text.now ≡ None) (λ len. HasFront text.now len) }
+{
+    token_front(text)
+}
+
+/// The same, by the definition alone.
+fn token_front(text: &[u8]) -> Option<usize>
+    requires { 1 ≤ length text.now }
+    ensures front { result ≡ token_front text.now }
+    ensures within { IfSome result (λ len. len ≤ length text.now) }
+{
+    let first = byte_at(text, 0);
+    if begins_word(first) {
+        Some(name_len(text))
+    } else if first.is_ascii_digit() {
+        number_front(text)
+    } else if mark_kind(first) == END {
+        None
+    } else {
+        Some(1)
+    }
+}
