@@ -65,11 +65,16 @@ CASES = [
     ("a second file that isn't there, before a text that is no design", "run in.txt missing.txt --activations 5",
      "", "cannot read missing.txt\n", 4),
     ("a text that is no design", "check in.txt", "", "in.txt: syntax at 0\n", 6),
+    ("a text without a proc", "check empty", "", "empty: rule 32 at 0..0\n", 7),
+    ("a sum of two widths", "check sums.x", "", "sums.x: rule 12 at 59..71\n", 7),
     ("bytes that are no text", "check bytes.x", "", "bytes.x: syntax at 5\n", 6),
     ("a file at the limit, without a proc", "check limit.x", "", "limit.x: rule 32 at 0..0\n", 7),
     ("a file past the limit", "check big.x", "", "big.x: " + PAST_LIMIT, 8),
     ("a second file past the limit", "run inc.x big.x --activations 5", "", "big.x: " + PAST_LIMIT, 8),
     ("a file of no words", "run inc.x inc.x --activations 5", "", "inc.x: input syntax at 0\n", 10),
+    ("a file that names an output", "run inc.x output.txt --activations 5", "", "output.txt: input name at 0\n", 10),
+    ("a word past its width", "run inc.x wide.txt --activations 5", "", "wide.txt: input type at 7\n", 10),
+    ("a run without words", "run inc.x", "", USAGE, 2),
     ("a design at fault, before words at fault", "run in.txt inc.x --activations 5", "", "in.txt: syntax at 0\n", 6),
 ]
 
@@ -230,7 +235,9 @@ def differs(what, got, wanted):
 
 def lay_out(folder):
     files = {"inc.x": DESIGN, "in.txt": "chan a\n0x00\n0xff\n", "empty": "", "big.x": " " * 4194305,
-             "limit.x": " " * 4194304, "sum.x": SUM, "sum.txt": "chan a\n0x05\n0x01\n", "pair.x": PAIR, "pair.txt": WORDS}
+             "limit.x": " " * 4194304, "sum.x": SUM, "sum.txt": "chan a\n0x05\n0x01\n", "pair.x": PAIR, "pair.txt": WORDS,
+             "sums.x": "proc M { config() { () } init { () } next(s: ()) { let x = u8:1 + u16:1; () } }",
+             "output.txt": "chan b", "wide.txt": "chan a\n0x100\n"}
     for name, text in files.items():
         with open(os.path.join(folder, name), "w", encoding="utf-8") as file:
             file.write(text)

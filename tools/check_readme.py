@@ -34,6 +34,8 @@ def commands(text):
 
 
 def main():
+    # The program is built first, where that is to be done, so that the builder says nothing later.
+    subprocess.run([os.path.join(TOP, "xls")], stdout=subprocess.DEVNULL, stderr=subprocess.DEVNULL, check=False)
     count = 0
     for path in sys.argv[1:]:
         with open(path, encoding="utf-8") as file:
