@@ -4,3 +4,5 @@ pub mod Steps
 pub mod Work
 -- the steps as the code makes them
 pub mod Stepping
+-- a search of what a thing reaches
+pub mod Searching

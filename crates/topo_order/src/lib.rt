@@ -4,9 +4,11 @@
 //! its path in a vector: it doesn't recurse, however long a chain is.
 #![tactic(auto)]
 
+mod search;
 mod sorting;
 mod walk;
 
+pub use search::needs_itself;
 pub use sorting::{Sorted, sort};
 
 #[cfg(test)]
