@@ -1,0 +1,9 @@
+pub mod Settling
+pub mod Giving
+pub mod Storing
+pub mod Cycling
+pub mod Ordering
+pub mod NewOrder
+pub mod RunOrder
+pub mod Making
+pub mod Showing

@@ -1,0 +1,42 @@
+-- A simulator: the module, and what it stands at.
+use Rattle.std.specs.Prelude.{◌≡◌, ℕ, ◌<◌, List, [], ◌∷◌, ◌++◌, length, All, false}
+use Rattle.xb_bits.specs.Word.{Word}
+use Rattle.vlog_tree.specs.declared.module.VModule.{VModule}
+use Rattle.vlog_tree.specs.declared.row.Row.{Row}
+use Rattle.vlog_tree.specs.declared.row.Outs.{Outs}
+use Rattle.vlog_tree.specs.Value.{Values, bit}
+use Rattle.vlog_tree.specs.Signals.{Declared, IsSignal, signals}
+use Rattle.vlog_tree.specs.declared.signal.Role.TheVariants.{Held}
+use Rattle.vlog_tree.specs.Meaning.{AreDriven}
+use Rattle.vlog_tree.specs.Settled.{values_of, widths_of, IsOrdered}
+use Rattle.vlog_tree.specs.WellFormed.{IsWired}
+use Rattle.vlog_tree.specs.Signals.{declared_widths}
+use Rattle.vlog_tree.specs.Rows.{Runs}
+use Rattle.cycle_sim.specs.Ordered.{taken}
+
+-- what callers see of a simulator: the module, and a number for each of its signals. Of a register it is what the
+-- register holds next, of every other signal what it had in the last cycle
+pub record SimState : Type 0 where
+  pub design : VModule
+  pub words : List Word
+
+-- these places are an order in which each assignment reads only what is there before it, and all of them
+pub record IsOrder (m : VModule) (places : List ℕ) : Type 0 where
+  pub within : All (λ place. place < length m.assignments) places
+  pub ordered : IsOrdered (taken m.assignments places)
+  pub covers : (values : Values) → AreDriven values (taken m.assignments places) → AreDriven values m.assignments
+
+-- what a simulator keeps true
+pub record IsRunning (m : VModule) (places : List ℕ) (words before : List Word) : Type 0 where
+  pub wired : IsWired m
+  pub order : IsOrder m places
+  pub covers : length words ≡ length (signals m)
+  pub widths : widths_of words ≡ declared_widths m
+  pub clock : values_of words 0 ≡ bit (false)
+  pub room : length before ≡ length words
+
+-- the simulator stands where the module stands after these rows, over which it has shown these
+pub record StandsAfter (now : SimState) (rows : List Row) (outs : List Outs) : Type 0 where
+  pub held : Values
+  pub runs : Runs now.design rows outs held
+  pub registers : (s : ℕ) (d : Declared) → IsSignal now.design s d → d.role ≡ Held → values_of now.words s ≡ held s
