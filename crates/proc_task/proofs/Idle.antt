@@ -1,6 +1,7 @@
 -- A proc without sites, whose state stays, for the test.
 use Rattle.std.proofs.Common.{◌≡◌, ℕ, zero, suc, ◌<◌, ◌^◌, List, [], ◌∷◌, length, drop, Some, refl, ap, sym, ◌∙◌, subst, arith}
-use Rattle.std.specs.Prelude.{slice_get}
+use Rattle.std.specs.Prelude.{slice_get, Option}
+use Rattle.chan_queue.specs.declared.queue.ChanQueue.{ChanQueue}
 use Rattle.xb_bits.specs.Word.{Word, word}
 use Rattle.xb_value.specs.declared.value.Value as value
 use Rattle.xb_value.specs.Typing.{bits_fit}
@@ -56,8 +57,8 @@ fits = record {
     none : (i : ℕ) (site : Site) → slice_get idle.sites i ≡ Some site → ⊥
     none i site e = cc
 
-pub idle_opens : {S : Type 0} → IsNewTask {S = S} idle_run [] 0 [] (value.Bits (word 8 5)) [] [] []
-idle_opens = record {
+pub idle_opens : {S : Type 0} (lines : List (Option (ChanQueue S))) → IsNewTask {S = S} idle_run lines 0 [] (value.Bits (word 8 5)) [] [] []
+idle_opens lines = record {
   typed = record { fits = fits; words = λ c chan e. cc };
   proc = record { opening = value.Bits (word 8 5); behavior = idle };
   proc_is = refl;
@@ -77,7 +78,7 @@ idle_opens = record {
 }
 
 module _ {S : Type 0} where
-  pub idle_opens_as : (sites : List Site) (w : Word) (places : List ℕ) (outlets : List (Outlet S)) (inlets : List (Inlet S))
-      → sites ≡ [] → w ≡ word 8 5 → places ≡ [] → outlets ≡ [] → inlets ≡ [] → IsNewTask idle_run [] 0 sites (value.Bits w) places outlets inlets
-  idle_opens_as sites w places outlets inlets a b c d e =
-      subst (λ (x : List Site × Word × List ℕ × List (Outlet S) × List (Inlet S)). IsNewTask idle_run [] 0 x.0 (value.Bits x.1) x.2 x.3 x.4) (λ i. (sym a i, sym b i, sym c i, sym d i, sym e i)) idle_opens
+  pub idle_opens_as : (lines : List (Option (ChanQueue S))) (sites : List Site) (w : Word) (places : List ℕ) (outlets : List (Outlet S)) (inlets : List (Inlet S))
+      → sites ≡ [] → w ≡ word 8 5 → places ≡ [] → outlets ≡ [] → inlets ≡ [] → IsNewTask idle_run lines 0 sites (value.Bits w) places outlets inlets
+  idle_opens_as lines sites w places outlets inlets a b c d e =
+      subst (λ (x : List Site × Word × List ℕ × List (Outlet S) × List (Inlet S)). IsNewTask idle_run lines 0 x.0 (value.Bits x.1) x.2 x.3 x.4) (λ i. (sym a i, sym b i, sym c i, sym d i, sym e i)) (idle_opens lines)

@@ -11,20 +11,26 @@ use task_queue::Numbered;
 use xb_bits::Bits;
 use xb_value::Value;
 
-/// The run of one proc without sites, which makes three activations and keeps its state.
+/// A run in which no word goes over a channel.
 #[derive(Clone, Copy)]
-struct Idle;
+struct NoWords;
 
-impl Streams for Idle {
+impl Streams for NoWords {
     ghost use Rattle.std.specs.Prelude.{[]};
 
     ghost stream = { λ run chan. record { words = []; received = 0 } };
 }
 
-impl Home<Idle> for Idle {
+/// The run of one proc without sites, which makes three activations and keeps its state, and queues of which it uses none.
+#[derive(Clone, Copy)]
+struct Idle<'a> {
+    lines: &'a [Option<ChanQueue<NoWords>>],
+}
+
+impl<'a> Home<NoWords> for Idle<'a> {
     ghost run = { λ home. idle_run };
 
-    ghost lines = { λ home. [] };
+    ghost lines = { λ home. home.lines.now };
 
     fn activations(&self) -> u32 {
         3
@@ -34,8 +40,11 @@ impl Home<Idle> for Idle {
         None
     }
 
-    fn line(&self, _chan: u32) -> &ChanQueue<Idle> {
-        unreachable!()
+    fn line(&self, chan: u32) -> &ChanQueue<NoWords> {
+        match &self.lines[chan as usize] {
+            Some(line) => line,
+            None => unreachable!(),
+        }
     }
 
     fn next(
@@ -51,13 +60,13 @@ impl Home<Idle> for Idle {
 }
 
 /// The task of its proc.
-fn idle_task(alloc: Global) -> Task<Idle, Idle>
-    ensures { IsTask idle_run [] result }
+fn idle_task<'a>(alloc: Global, lines: &'a [Option<ChanQueue<NoWords>>]) -> Task<NoWords, Idle<'a>>
+    ensures { IsTask idle_run result.home.lines.now result }
 {
     let state = Value::Bits(Bits::new(8, 5));
     Task::new(
         alloc,
-        Idle,
+        Idle { lines },
         0,
         Vec::new(alloc),
         state,
@@ -69,7 +78,7 @@ fn idle_task(alloc: Global) -> Task<Idle, Idle>
 
 #[test]
 fn a_proc_without_sites_ends_its_activations(rt: HostRuntime) -> Result<(), Fail> {
-    let mut task = idle_task(rt.alloc());
+    let mut task = idle_task(rt.alloc(), &[]);
     assert_eq!(rt; task.number(), 0);
     assert_eq!(rt; task.advance(&rt, rt.alloc(), 2)?, 2);
     assert_eq!(rt; task.advance(&rt, rt.alloc(), 5)?, 1);
