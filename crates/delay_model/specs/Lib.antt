@@ -2,3 +2,5 @@
 pub mod Names
 -- how many operands an operation takes, and its attributes
 pub mod Signatures
+-- how long operations take, by which width
+pub mod Delays
