@@ -13,7 +13,7 @@ kinds = kind.AMP ∷ kind.ANDAND ∷ kind.ARGS ∷ kind.ARROW ∷ kind.AS ∷ ki
 
 -- the nonterminals by their names, the start first
 unfoldable pub nonterminals : List ℕ
-nonterminals = nonterminal.MODULE ∷ nonterminal.ITEMS ∷ nonterminal.ITEM ∷ nonterminal.DEFINITION ∷ nonterminal.ANY_NAME ∷ nonterminal.OPEN_BRACE ∷ nonterminal.OPEN_ANGLE ∷ nonterminal.FUNCTION ∷ nonterminal.RESULT_TYPE ∷ nonterminal.PARAMETERS ∷ nonterminal.PARAMETERS_MORE ∷ nonterminal.PARAMETER ∷ nonterminal.PARAMETER_DEFAULT ∷ nonterminal.ARGUMENTS_DECLARED ∷ nonterminal.ARGUMENTS_DECLARED_MORE ∷ nonterminal.ARGUMENT_DECLARED ∷ nonterminal.CONSTANT ∷ nonterminal.CONSTANT_TYPE ∷ nonterminal.ALIAS ∷ nonterminal.STRUCTURE ∷ nonterminal.ENUMERATION ∷ nonterminal.MEMBERS ∷ nonterminal.MEMBERS_MORE ∷ nonterminal.MEMBER ∷ nonterminal.PROC ∷ nonterminal.PROC_MEMBERS ∷ nonterminal.PROC_MEMBER ∷ nonterminal.END ∷ nonterminal.DIRECTION ∷ nonterminal.PARTS ∷ nonterminal.PARTS_INIT_NEXT ∷ nonterminal.PARTS_CONFIG_NEXT ∷ nonterminal.PARTS_CONFIG_INIT ∷ nonterminal.CONFIG ∷ nonterminal.ENDS ∷ nonterminal.ENDS_MORE ∷ nonterminal.END_DECLARED ∷ nonterminal.MAKINGS ∷ nonterminal.CHANNEL ∷ nonterminal.CHANNEL_MADE ∷ nonterminal.CHANNEL_END ∷ nonterminal.CHANNEL_DEPTH ∷ nonterminal.SPAWN ∷ nonterminal.SPAWN_ARGS ∷ nonterminal.CONFIG_RESULT ∷ nonterminal.NAMES ∷ nonterminal.NAMES_MORE ∷ nonterminal.INIT ∷ nonterminal.NEXT ∷ nonterminal.ARGS_MORE ∷ nonterminal.ARG ∷ nonterminal.ARG_NAME ∷ nonterminal.SIGNED ∷ nonterminal.TYPE ∷ nonterminal.BASE ∷ nonterminal.BASE_KEYWORD ∷ nonterminal.TYPE_TAIL ∷ nonterminal.SIZE ∷ nonterminal.TYPES ∷ nonterminal.TYPES_MORE ∷ nonterminal.BLOCK ∷ nonterminal.STATEMENTS ∷ nonterminal.STATEMENT_END ∷ nonterminal.LET ∷ nonterminal.LET_PATTERN ∷ nonterminal.LET_NAME ∷ nonterminal.LET_COLON ∷ nonterminal.LET_TYPE ∷ nonterminal.PATTERN ∷ nonterminal.PLAIN_PATTERN ∷ nonterminal.PATTERN_NAME ∷ nonterminal.PATTERNS ∷ nonterminal.PATTERNS_MORE ∷ nonterminal.EXPR ∷ nonterminal.OPERANDS ∷ nonterminal.BINARY ∷ nonterminal.OPERAND ∷ nonterminal.PREFIXES ∷ nonterminal.CASTS ∷ nonterminal.CAST ∷ nonterminal.POSTS ∷ nonterminal.INDEX_END ∷ nonterminal.PART ∷ nonterminal.ATOM ∷ nonterminal.TYPED ∷ nonterminal.NAME_TAIL ∷ nonterminal.FUNCTION_TAIL ∷ nonterminal.STRUCT_TAIL ∷ nonterminal.BOTH_TAIL ∷ nonterminal.CALL ∷ nonterminal.CALL_WITH_ARGS ∷ nonterminal.EXPRS ∷ nonterminal.EXPRS_MORE ∷ nonterminal.FIELDS ∷ nonterminal.FIELD_LIST ∷ nonterminal.FIELD_VALUE ∷ nonterminal.FIELD_MORE ∷ nonterminal.PARENTHESIS ∷ nonterminal.PARENTHESIS_END ∷ nonterminal.ELEMENTS ∷ nonterminal.ELEMENTS_MORE ∷ nonterminal.ELEMENTS_NEXT ∷ nonterminal.ELEMENTS_END ∷ nonterminal.IF ∷ nonterminal.ELSE ∷ nonterminal.MATCH ∷ nonterminal.ARMS ∷ nonterminal.ARMS_MORE ∷ nonterminal.ARM ∷ nonterminal.ALTERNATIVES ∷ nonterminal.FOR ∷ nonterminal.FOR_TYPE ∷ nonterminal.FOR_RANGE ∷ nonterminal.HEADED_BLOCK ∷ []
+nonterminals = nonterminal.MODULE ∷ nonterminal.ITEMS ∷ nonterminal.ITEM ∷ nonterminal.DEFINITION ∷ nonterminal.ANY_NAME ∷ nonterminal.OPEN_BRACE ∷ nonterminal.OPEN_ANGLE ∷ nonterminal.FUNCTION ∷ nonterminal.RESULT_TYPE ∷ nonterminal.PARAMETERS ∷ nonterminal.PARAMETERS_MORE ∷ nonterminal.PARAMETER ∷ nonterminal.PARAMETER_DEFAULT ∷ nonterminal.ARGUMENTS_DECLARED ∷ nonterminal.ARGUMENTS_DECLARED_MORE ∷ nonterminal.ARGUMENT_DECLARED ∷ nonterminal.CONSTANT ∷ nonterminal.CONSTANT_TYPE ∷ nonterminal.ALIAS ∷ nonterminal.STRUCTURE ∷ nonterminal.ENUMERATION ∷ nonterminal.MEMBERS ∷ nonterminal.MEMBERS_MORE ∷ nonterminal.MEMBER ∷ nonterminal.PROC ∷ nonterminal.PROC_MEMBERS ∷ nonterminal.PROC_MEMBER ∷ nonterminal.END ∷ nonterminal.DIRECTION ∷ nonterminal.PARTS ∷ nonterminal.PARTS_INIT_NEXT ∷ nonterminal.PARTS_CONFIG_NEXT ∷ nonterminal.PARTS_CONFIG_INIT ∷ nonterminal.CONFIG ∷ nonterminal.ENDS ∷ nonterminal.ENDS_MORE ∷ nonterminal.END_DECLARED ∷ nonterminal.MAKINGS ∷ nonterminal.CHANNEL ∷ nonterminal.CHANNEL_MADE ∷ nonterminal.CHANNEL_END ∷ nonterminal.CHANNEL_DEPTH ∷ nonterminal.SPAWN ∷ nonterminal.SPAWN_ARGS ∷ nonterminal.CONFIG_RESULT ∷ nonterminal.NAMES ∷ nonterminal.NAMES_MORE ∷ nonterminal.INIT ∷ nonterminal.NEXT ∷ nonterminal.ARGS_MORE ∷ nonterminal.ARG ∷ nonterminal.ARG_NAME ∷ nonterminal.SIGNED ∷ nonterminal.TYPE ∷ nonterminal.BASE ∷ nonterminal.BASE_KEYWORD ∷ nonterminal.TYPE_TAIL ∷ nonterminal.SIZE ∷ nonterminal.NAME_SIZE ∷ nonterminal.TYPES ∷ nonterminal.TYPES_MORE ∷ nonterminal.BLOCK ∷ nonterminal.STATEMENTS ∷ nonterminal.STATEMENT_END ∷ nonterminal.BARE ∷ nonterminal.LET ∷ nonterminal.LET_PATTERN ∷ nonterminal.LET_NAME ∷ nonterminal.LET_COLON ∷ nonterminal.LET_TYPE ∷ nonterminal.PATTERN ∷ nonterminal.PLAIN_PATTERN ∷ nonterminal.PATTERN_NAME ∷ nonterminal.PATTERNS ∷ nonterminal.PATTERNS_MORE ∷ nonterminal.EXPR ∷ nonterminal.OPERANDS ∷ nonterminal.BINARY ∷ nonterminal.OPERAND ∷ nonterminal.PREFIXED ∷ nonterminal.CASTS ∷ nonterminal.CAST ∷ nonterminal.POSTS ∷ nonterminal.INDEX_END ∷ nonterminal.PART ∷ nonterminal.ATOM ∷ nonterminal.ALIAS_NAME ∷ nonterminal.TYPED ∷ nonterminal.NAME_TAIL ∷ nonterminal.FUNCTION_TAIL ∷ nonterminal.STRUCT_TAIL ∷ nonterminal.BOTH_TAIL ∷ nonterminal.CALL ∷ nonterminal.CALL_WITH_ARGS ∷ nonterminal.EXPRS ∷ nonterminal.EXPRS_MORE ∷ nonterminal.FIELDS ∷ nonterminal.FIELD_LIST ∷ nonterminal.FIELD_VALUE ∷ nonterminal.FIELD_MORE ∷ nonterminal.PARENTHESIS ∷ nonterminal.PARENTHESIS_END ∷ nonterminal.ELEMENTS ∷ nonterminal.ELEMENTS_MORE ∷ nonterminal.ELEMENTS_NEXT ∷ nonterminal.ELEMENTS_END ∷ nonterminal.IF ∷ nonterminal.ELSE ∷ nonterminal.MATCH ∷ nonterminal.ARMS ∷ nonterminal.ARMS_MORE ∷ nonterminal.ARM ∷ nonterminal.ALTERNATIVES ∷ nonterminal.FOR ∷ nonterminal.FOR_TYPE ∷ nonterminal.FOR_RANGE ∷ nonterminal.HEADED_BLOCK ∷ []
 
 -- of each rule the name, the nonterminal, and what it may be rewritten to
 unfoldable pub named_rules : List NamedRule
@@ -112,7 +112,7 @@ named_rules =
     named production.ARG__ANY_NAME nonterminal.ARG (Nonterminal nonterminal.ANY_NAME ∷ Nonterminal nonterminal.ARG_NAME ∷ []) ∷
     named production.ARG__LBRACE nonterminal.ARG (Terminal kind.LBRACE ∷ Nonterminal nonterminal.EXPR ∷ Terminal kind.RBRACE ∷ []) ∷
     named production.ARG_NAME__COLON nonterminal.ARG_NAME (Terminal kind.COLON ∷ Nonterminal nonterminal.SIGNED ∷ []) ∷
-    named production.ARG_NAME__SIZE nonterminal.ARG_NAME (Nonterminal nonterminal.SIZE ∷ Nonterminal nonterminal.TYPE_TAIL ∷ Terminal kind.COLON ∷ Nonterminal nonterminal.SIGNED ∷ []) ∷
+    named production.ARG_NAME__NAME_SIZE nonterminal.ARG_NAME (Nonterminal nonterminal.NAME_SIZE ∷ Nonterminal nonterminal.TYPE_TAIL ∷ Terminal kind.COLON ∷ Nonterminal nonterminal.SIGNED ∷ []) ∷
     named production.ARG_NAME__NONE nonterminal.ARG_NAME [] ∷
     named production.SIGNED__MINUS nonterminal.SIGNED (Terminal kind.MINUS ∷ Terminal kind.NUMBER ∷ []) ∷
     named production.SIGNED__NUMBER nonterminal.SIGNED (Terminal kind.NUMBER ∷ []) ∷
@@ -127,21 +127,23 @@ named_rules =
     named production.TYPE_TAIL__SIZE nonterminal.TYPE_TAIL (Nonterminal nonterminal.SIZE ∷ Nonterminal nonterminal.TYPE_TAIL ∷ []) ∷
     named production.TYPE_TAIL__NONE nonterminal.TYPE_TAIL [] ∷
     named production.SIZE nonterminal.SIZE (Terminal kind.LBRACKET ∷ Nonterminal nonterminal.EXPR ∷ Terminal kind.RBRACKET ∷ []) ∷
+    named production.NAME_SIZE nonterminal.NAME_SIZE (Terminal kind.LBRACKET ∷ Nonterminal nonterminal.EXPR ∷ Terminal kind.RBRACKET ∷ []) ∷
     named production.TYPES__TYPE nonterminal.TYPES (Nonterminal nonterminal.TYPE ∷ Nonterminal nonterminal.TYPES_MORE ∷ []) ∷
     named production.TYPES__NONE nonterminal.TYPES [] ∷
     named production.TYPES_MORE__COMMA nonterminal.TYPES_MORE (Terminal kind.COMMA ∷ Nonterminal nonterminal.TYPES ∷ []) ∷
     named production.TYPES_MORE__NONE nonterminal.TYPES_MORE [] ∷
     named production.BLOCK nonterminal.BLOCK (Terminal kind.LBRACE ∷ Nonterminal nonterminal.STATEMENTS ∷ Terminal kind.RBRACE ∷ []) ∷
-    named production.STATEMENTS__LET nonterminal.STATEMENTS (Terminal kind.LET ∷ Nonterminal nonterminal.LET ∷ Terminal kind.SEMI ∷ Nonterminal nonterminal.STATEMENTS ∷ []) ∷
+    named production.STATEMENTS__LET nonterminal.STATEMENTS (Nonterminal nonterminal.LET ∷ Nonterminal nonterminal.STATEMENTS ∷ []) ∷
     named production.STATEMENTS__EXPR nonterminal.STATEMENTS (Nonterminal nonterminal.EXPR ∷ Nonterminal nonterminal.STATEMENT_END ∷ []) ∷
     named production.STATEMENTS__NONE nonterminal.STATEMENTS [] ∷
-    named production.STATEMENT_END__SEMI nonterminal.STATEMENT_END (Terminal kind.SEMI ∷ Nonterminal nonterminal.STATEMENTS ∷ []) ∷
+    named production.STATEMENT_END__BARE nonterminal.STATEMENT_END (Nonterminal nonterminal.BARE ∷ Nonterminal nonterminal.STATEMENTS ∷ []) ∷
     named production.STATEMENT_END__NONE nonterminal.STATEMENT_END [] ∷
-    named production.LET nonterminal.LET (Nonterminal nonterminal.LET_PATTERN ∷ Terminal kind.ASSIGN ∷ Nonterminal nonterminal.EXPR ∷ []) ∷
+    named production.BARE nonterminal.BARE (Terminal kind.SEMI ∷ []) ∷
+    named production.LET nonterminal.LET (Terminal kind.LET ∷ Nonterminal nonterminal.LET_PATTERN ∷ Terminal kind.ASSIGN ∷ Nonterminal nonterminal.EXPR ∷ Terminal kind.SEMI ∷ []) ∷
     named production.LET_PATTERN__PLAIN_PATTERN nonterminal.LET_PATTERN (Nonterminal nonterminal.PLAIN_PATTERN ∷ Nonterminal nonterminal.LET_TYPE ∷ []) ∷
     named production.LET_PATTERN__ANY_NAME nonterminal.LET_PATTERN (Nonterminal nonterminal.ANY_NAME ∷ Nonterminal nonterminal.LET_NAME ∷ []) ∷
     named production.LET_NAME__PATH nonterminal.LET_NAME (Terminal kind.PATH ∷ Nonterminal nonterminal.ANY_NAME ∷ Nonterminal nonterminal.LET_TYPE ∷ []) ∷
-    named production.LET_NAME__SIZE nonterminal.LET_NAME (Nonterminal nonterminal.SIZE ∷ Nonterminal nonterminal.TYPE_TAIL ∷ Terminal kind.COLON ∷ Nonterminal nonterminal.SIGNED ∷ Nonterminal nonterminal.LET_TYPE ∷ []) ∷
+    named production.LET_NAME__NAME_SIZE nonterminal.LET_NAME (Nonterminal nonterminal.NAME_SIZE ∷ Nonterminal nonterminal.TYPE_TAIL ∷ Terminal kind.COLON ∷ Nonterminal nonterminal.SIGNED ∷ Nonterminal nonterminal.LET_TYPE ∷ []) ∷
     named production.LET_NAME__COLON nonterminal.LET_NAME (Terminal kind.COLON ∷ Nonterminal nonterminal.LET_COLON ∷ []) ∷
     named production.LET_NAME__NONE nonterminal.LET_NAME [] ∷
     named production.LET_COLON__SIGNED nonterminal.LET_COLON (Nonterminal nonterminal.SIGNED ∷ Nonterminal nonterminal.LET_TYPE ∷ []) ∷
@@ -157,7 +159,7 @@ named_rules =
     named production.PLAIN_PATTERN__LPAREN nonterminal.PLAIN_PATTERN (Terminal kind.LPAREN ∷ Nonterminal nonterminal.PATTERNS ∷ Terminal kind.RPAREN ∷ []) ∷
     named production.PATTERN_NAME__PATH nonterminal.PATTERN_NAME (Terminal kind.PATH ∷ Nonterminal nonterminal.ANY_NAME ∷ []) ∷
     named production.PATTERN_NAME__COLON nonterminal.PATTERN_NAME (Terminal kind.COLON ∷ Nonterminal nonterminal.SIGNED ∷ []) ∷
-    named production.PATTERN_NAME__SIZE nonterminal.PATTERN_NAME (Nonterminal nonterminal.SIZE ∷ Nonterminal nonterminal.TYPE_TAIL ∷ Terminal kind.COLON ∷ Nonterminal nonterminal.SIGNED ∷ []) ∷
+    named production.PATTERN_NAME__NAME_SIZE nonterminal.PATTERN_NAME (Nonterminal nonterminal.NAME_SIZE ∷ Nonterminal nonterminal.TYPE_TAIL ∷ Terminal kind.COLON ∷ Nonterminal nonterminal.SIGNED ∷ []) ∷
     named production.PATTERN_NAME__NONE nonterminal.PATTERN_NAME [] ∷
     named production.PATTERNS__PATTERN nonterminal.PATTERNS (Nonterminal nonterminal.PATTERN ∷ Nonterminal nonterminal.PATTERNS_MORE ∷ []) ∷
     named production.PATTERNS__NONE nonterminal.PATTERNS [] ∷
@@ -185,10 +187,10 @@ named_rules =
     named production.BINARY__GE nonterminal.BINARY (Terminal kind.GE ∷ []) ∷
     named production.BINARY__ANDAND nonterminal.BINARY (Terminal kind.ANDAND ∷ []) ∷
     named production.BINARY__OROR nonterminal.BINARY (Terminal kind.OROR ∷ []) ∷
-    named production.OPERAND nonterminal.OPERAND (Nonterminal nonterminal.PREFIXES ∷ Nonterminal nonterminal.ATOM ∷ Nonterminal nonterminal.POSTS ∷ Nonterminal nonterminal.CASTS ∷ []) ∷
-    named production.PREFIXES__MINUS nonterminal.PREFIXES (Terminal kind.MINUS ∷ Nonterminal nonterminal.PREFIXES ∷ []) ∷
-    named production.PREFIXES__BANG nonterminal.PREFIXES (Terminal kind.BANG ∷ Nonterminal nonterminal.PREFIXES ∷ []) ∷
-    named production.PREFIXES__NONE nonterminal.PREFIXES [] ∷
+    named production.OPERAND nonterminal.OPERAND (Nonterminal nonterminal.PREFIXED ∷ Nonterminal nonterminal.CASTS ∷ []) ∷
+    named production.PREFIXED__MINUS nonterminal.PREFIXED (Terminal kind.MINUS ∷ Nonterminal nonterminal.PREFIXED ∷ []) ∷
+    named production.PREFIXED__BANG nonterminal.PREFIXED (Terminal kind.BANG ∷ Nonterminal nonterminal.PREFIXED ∷ []) ∷
+    named production.PREFIXED__ATOM nonterminal.PREFIXED (Nonterminal nonterminal.ATOM ∷ Nonterminal nonterminal.POSTS ∷ []) ∷
     named production.CASTS__CAST nonterminal.CASTS (Nonterminal nonterminal.CAST ∷ Nonterminal nonterminal.CASTS ∷ []) ∷
     named production.CASTS__NONE nonterminal.CASTS [] ∷
     named production.CAST nonterminal.CAST (Terminal kind.AS ∷ Nonterminal nonterminal.TYPE ∷ []) ∷
@@ -202,7 +204,7 @@ named_rules =
     named production.PART__NUMBER nonterminal.PART (Terminal kind.NUMBER ∷ []) ∷
     named production.ATOM__NUMBER nonterminal.ATOM (Terminal kind.NUMBER ∷ []) ∷
     named production.ATOM__BASE_KEYWORD nonterminal.ATOM (Nonterminal nonterminal.BASE_KEYWORD ∷ Nonterminal nonterminal.TYPE_TAIL ∷ Terminal kind.COLON ∷ Nonterminal nonterminal.TYPED ∷ []) ∷
-    named production.ATOM__TYPENAME nonterminal.ATOM (Terminal kind.TYPENAME ∷ Nonterminal nonterminal.TYPE_TAIL ∷ Terminal kind.COLON ∷ Nonterminal nonterminal.TYPED ∷ []) ∷
+    named production.ATOM__ALIAS_NAME nonterminal.ATOM (Nonterminal nonterminal.ALIAS_NAME ∷ Nonterminal nonterminal.TYPE_TAIL ∷ Terminal kind.COLON ∷ Nonterminal nonterminal.TYPED ∷ []) ∷
     named production.ATOM__ELEMENTS nonterminal.ATOM (Nonterminal nonterminal.ELEMENTS ∷ []) ∷
     named production.ATOM__TRUE nonterminal.ATOM (Terminal kind.TRUE ∷ []) ∷
     named production.ATOM__FALSE nonterminal.ATOM (Terminal kind.FALSE ∷ []) ∷
@@ -215,6 +217,7 @@ named_rules =
     named production.ATOM__IF nonterminal.ATOM (Nonterminal nonterminal.IF ∷ []) ∷
     named production.ATOM__MATCH nonterminal.ATOM (Nonterminal nonterminal.MATCH ∷ []) ∷
     named production.ATOM__FOR nonterminal.ATOM (Nonterminal nonterminal.FOR ∷ []) ∷
+    named production.ALIAS_NAME nonterminal.ALIAS_NAME (Terminal kind.TYPENAME ∷ []) ∷
     named production.TYPED__SIGNED nonterminal.TYPED (Nonterminal nonterminal.SIGNED ∷ []) ∷
     named production.TYPED__ELEMENTS nonterminal.TYPED (Nonterminal nonterminal.ELEMENTS ∷ []) ∷
     named production.NAME_TAIL__PATH nonterminal.NAME_TAIL (Terminal kind.PATH ∷ Nonterminal nonterminal.ANY_NAME ∷ []) ∷

@@ -118,114 +118,120 @@ pub const TYPE_TAIL: u8 = 56;
 
 pub const SIZE: u8 = 57;
 
-pub const TYPES: u8 = 58;
+pub const NAME_SIZE: u8 = 58;
 
-pub const TYPES_MORE: u8 = 59;
+pub const TYPES: u8 = 59;
 
-pub const BLOCK: u8 = 60;
+pub const TYPES_MORE: u8 = 60;
 
-pub const STATEMENTS: u8 = 61;
+pub const BLOCK: u8 = 61;
 
-pub const STATEMENT_END: u8 = 62;
+pub const STATEMENTS: u8 = 62;
 
-pub const LET: u8 = 63;
+pub const STATEMENT_END: u8 = 63;
 
-pub const LET_PATTERN: u8 = 64;
+pub const BARE: u8 = 64;
 
-pub const LET_NAME: u8 = 65;
+pub const LET: u8 = 65;
 
-pub const LET_COLON: u8 = 66;
+pub const LET_PATTERN: u8 = 66;
 
-pub const LET_TYPE: u8 = 67;
+pub const LET_NAME: u8 = 67;
 
-pub const PATTERN: u8 = 68;
+pub const LET_COLON: u8 = 68;
 
-pub const PLAIN_PATTERN: u8 = 69;
+pub const LET_TYPE: u8 = 69;
 
-pub const PATTERN_NAME: u8 = 70;
+pub const PATTERN: u8 = 70;
 
-pub const PATTERNS: u8 = 71;
+pub const PLAIN_PATTERN: u8 = 71;
 
-pub const PATTERNS_MORE: u8 = 72;
+pub const PATTERN_NAME: u8 = 72;
 
-pub const EXPR: u8 = 73;
+pub const PATTERNS: u8 = 73;
 
-pub const OPERANDS: u8 = 74;
+pub const PATTERNS_MORE: u8 = 74;
 
-pub const BINARY: u8 = 75;
+pub const EXPR: u8 = 75;
 
-pub const OPERAND: u8 = 76;
+pub const OPERANDS: u8 = 76;
 
-pub const PREFIXES: u8 = 77;
+pub const BINARY: u8 = 77;
 
-pub const CASTS: u8 = 78;
+pub const OPERAND: u8 = 78;
 
-pub const CAST: u8 = 79;
+pub const PREFIXED: u8 = 79;
 
-pub const POSTS: u8 = 80;
+pub const CASTS: u8 = 80;
 
-pub const INDEX_END: u8 = 81;
+pub const CAST: u8 = 81;
 
-pub const PART: u8 = 82;
+pub const POSTS: u8 = 82;
 
-pub const ATOM: u8 = 83;
+pub const INDEX_END: u8 = 83;
 
-pub const TYPED: u8 = 84;
+pub const PART: u8 = 84;
 
-pub const NAME_TAIL: u8 = 85;
+pub const ATOM: u8 = 85;
 
-pub const FUNCTION_TAIL: u8 = 86;
+pub const ALIAS_NAME: u8 = 86;
 
-pub const STRUCT_TAIL: u8 = 87;
+pub const TYPED: u8 = 87;
 
-pub const BOTH_TAIL: u8 = 88;
+pub const NAME_TAIL: u8 = 88;
 
-pub const CALL: u8 = 89;
+pub const FUNCTION_TAIL: u8 = 89;
 
-pub const CALL_WITH_ARGS: u8 = 90;
+pub const STRUCT_TAIL: u8 = 90;
 
-pub const EXPRS: u8 = 91;
+pub const BOTH_TAIL: u8 = 91;
 
-pub const EXPRS_MORE: u8 = 92;
+pub const CALL: u8 = 92;
 
-pub const FIELDS: u8 = 93;
+pub const CALL_WITH_ARGS: u8 = 93;
 
-pub const FIELD_LIST: u8 = 94;
+pub const EXPRS: u8 = 94;
 
-pub const FIELD_VALUE: u8 = 95;
+pub const EXPRS_MORE: u8 = 95;
 
-pub const FIELD_MORE: u8 = 96;
+pub const FIELDS: u8 = 96;
 
-pub const PARENTHESIS: u8 = 97;
+pub const FIELD_LIST: u8 = 97;
 
-pub const PARENTHESIS_END: u8 = 98;
+pub const FIELD_VALUE: u8 = 98;
 
-pub const ELEMENTS: u8 = 99;
+pub const FIELD_MORE: u8 = 99;
 
-pub const ELEMENTS_MORE: u8 = 100;
+pub const PARENTHESIS: u8 = 100;
 
-pub const ELEMENTS_NEXT: u8 = 101;
+pub const PARENTHESIS_END: u8 = 101;
 
-pub const ELEMENTS_END: u8 = 102;
+pub const ELEMENTS: u8 = 102;
 
-pub const IF: u8 = 103;
+pub const ELEMENTS_MORE: u8 = 103;
 
-pub const ELSE: u8 = 104;
+pub const ELEMENTS_NEXT: u8 = 104;
 
-pub const MATCH: u8 = 105;
+pub const ELEMENTS_END: u8 = 105;
 
-pub const ARMS: u8 = 106;
+pub const IF: u8 = 106;
 
-pub const ARMS_MORE: u8 = 107;
+pub const ELSE: u8 = 107;
 
-pub const ARM: u8 = 108;
+pub const MATCH: u8 = 108;
 
-pub const ALTERNATIVES: u8 = 109;
+pub const ARMS: u8 = 109;
 
-pub const FOR: u8 = 110;
+pub const ARMS_MORE: u8 = 110;
 
-pub const FOR_TYPE: u8 = 111;
+pub const ARM: u8 = 111;
 
-pub const FOR_RANGE: u8 = 112;
+pub const ALTERNATIVES: u8 = 112;
 
-pub const HEADED_BLOCK: u8 = 113;
+pub const FOR: u8 = 113;
+
+pub const FOR_TYPE: u8 = 114;
+
+pub const FOR_RANGE: u8 = 115;
+
+pub const HEADED_BLOCK: u8 = 116;

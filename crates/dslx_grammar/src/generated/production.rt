@@ -284,8 +284,8 @@ pub const ARG__LBRACE: u16 = 92;
 /// `arg_name = COLON signed`
 pub const ARG_NAME__COLON: u16 = 93;
 
-/// `arg_name = size type_tail COLON signed`
-pub const ARG_NAME__SIZE: u16 = 94;
+/// `arg_name = name_size type_tail COLON signed`
+pub const ARG_NAME__NAME_SIZE: u16 = 94;
 
 /// `arg_name = (nothing)`
 pub const ARG_NAME__NONE: u16 = 95;
@@ -329,446 +329,455 @@ pub const TYPE_TAIL__NONE: u16 = 107;
 /// `size = LBRACKET expr RBRACKET`
 pub const SIZE: u16 = 108;
 
+/// `name_size = LBRACKET expr RBRACKET`
+pub const NAME_SIZE: u16 = 109;
+
 /// `types = type types_more`
-pub const TYPES__TYPE: u16 = 109;
+pub const TYPES__TYPE: u16 = 110;
 
 /// `types = (nothing)`
-pub const TYPES__NONE: u16 = 110;
+pub const TYPES__NONE: u16 = 111;
 
 /// `types_more = COMMA types`
-pub const TYPES_MORE__COMMA: u16 = 111;
+pub const TYPES_MORE__COMMA: u16 = 112;
 
 /// `types_more = (nothing)`
-pub const TYPES_MORE__NONE: u16 = 112;
+pub const TYPES_MORE__NONE: u16 = 113;
 
 /// `block = LBRACE statements RBRACE`
-pub const BLOCK: u16 = 113;
+pub const BLOCK: u16 = 114;
 
-/// `statements = LET let SEMI statements`
-pub const STATEMENTS__LET: u16 = 114;
+/// `statements = let statements`
+pub const STATEMENTS__LET: u16 = 115;
 
 /// `statements = expr statement_end`
-pub const STATEMENTS__EXPR: u16 = 115;
+pub const STATEMENTS__EXPR: u16 = 116;
 
 /// `statements = (nothing)`
-pub const STATEMENTS__NONE: u16 = 116;
+pub const STATEMENTS__NONE: u16 = 117;
 
-/// `statement_end = SEMI statements`
-pub const STATEMENT_END__SEMI: u16 = 117;
+/// `statement_end = bare statements`
+pub const STATEMENT_END__BARE: u16 = 118;
 
 /// `statement_end = (nothing)`
-pub const STATEMENT_END__NONE: u16 = 118;
+pub const STATEMENT_END__NONE: u16 = 119;
 
-/// `let = let_pattern ASSIGN expr`
-pub const LET: u16 = 119;
+/// `bare = SEMI`
+pub const BARE: u16 = 120;
+
+/// `let = LET let_pattern ASSIGN expr SEMI`
+pub const LET: u16 = 121;
 
 /// `let_pattern = plain_pattern let_type`
-pub const LET_PATTERN__PLAIN_PATTERN: u16 = 120;
+pub const LET_PATTERN__PLAIN_PATTERN: u16 = 122;
 
 /// `let_pattern = any_name let_name`
-pub const LET_PATTERN__ANY_NAME: u16 = 121;
+pub const LET_PATTERN__ANY_NAME: u16 = 123;
 
 /// `let_name = PATH any_name let_type`
-pub const LET_NAME__PATH: u16 = 122;
+pub const LET_NAME__PATH: u16 = 124;
 
-/// `let_name = size type_tail COLON signed let_type`
-pub const LET_NAME__SIZE: u16 = 123;
+/// `let_name = name_size type_tail COLON signed let_type`
+pub const LET_NAME__NAME_SIZE: u16 = 125;
 
 /// `let_name = COLON let_colon`
-pub const LET_NAME__COLON: u16 = 124;
+pub const LET_NAME__COLON: u16 = 126;
 
 /// `let_name = (nothing)`
-pub const LET_NAME__NONE: u16 = 125;
+pub const LET_NAME__NONE: u16 = 127;
 
 /// `let_colon = signed let_type`
-pub const LET_COLON__SIGNED: u16 = 126;
+pub const LET_COLON__SIGNED: u16 = 128;
 
 /// `let_colon = type`
-pub const LET_COLON__TYPE: u16 = 127;
+pub const LET_COLON__TYPE: u16 = 129;
 
 /// `let_type = COLON type`
-pub const LET_TYPE__COLON: u16 = 128;
+pub const LET_TYPE__COLON: u16 = 130;
 
 /// `let_type = (nothing)`
-pub const LET_TYPE__NONE: u16 = 129;
+pub const LET_TYPE__NONE: u16 = 131;
 
 /// `pattern = plain_pattern`
-pub const PATTERN__PLAIN_PATTERN: u16 = 130;
+pub const PATTERN__PLAIN_PATTERN: u16 = 132;
 
 /// `pattern = any_name pattern_name`
-pub const PATTERN__ANY_NAME: u16 = 131;
+pub const PATTERN__ANY_NAME: u16 = 133;
 
 /// `plain_pattern = WILD`
-pub const PLAIN_PATTERN__WILD: u16 = 132;
+pub const PLAIN_PATTERN__WILD: u16 = 134;
 
 /// `plain_pattern = TRUE`
-pub const PLAIN_PATTERN__TRUE: u16 = 133;
+pub const PLAIN_PATTERN__TRUE: u16 = 135;
 
 /// `plain_pattern = FALSE`
-pub const PLAIN_PATTERN__FALSE: u16 = 134;
+pub const PLAIN_PATTERN__FALSE: u16 = 136;
 
 /// `plain_pattern = base_keyword type_tail COLON signed`
-pub const PLAIN_PATTERN__BASE_KEYWORD: u16 = 135;
+pub const PLAIN_PATTERN__BASE_KEYWORD: u16 = 137;
 
 /// `plain_pattern = LPAREN patterns RPAREN`
-pub const PLAIN_PATTERN__LPAREN: u16 = 136;
+pub const PLAIN_PATTERN__LPAREN: u16 = 138;
 
 /// `pattern_name = PATH any_name`
-pub const PATTERN_NAME__PATH: u16 = 137;
+pub const PATTERN_NAME__PATH: u16 = 139;
 
 /// `pattern_name = COLON signed`
-pub const PATTERN_NAME__COLON: u16 = 138;
+pub const PATTERN_NAME__COLON: u16 = 140;
 
-/// `pattern_name = size type_tail COLON signed`
-pub const PATTERN_NAME__SIZE: u16 = 139;
+/// `pattern_name = name_size type_tail COLON signed`
+pub const PATTERN_NAME__NAME_SIZE: u16 = 141;
 
 /// `pattern_name = (nothing)`
-pub const PATTERN_NAME__NONE: u16 = 140;
+pub const PATTERN_NAME__NONE: u16 = 142;
 
 /// `patterns = pattern patterns_more`
-pub const PATTERNS__PATTERN: u16 = 141;
+pub const PATTERNS__PATTERN: u16 = 143;
 
 /// `patterns = (nothing)`
-pub const PATTERNS__NONE: u16 = 142;
+pub const PATTERNS__NONE: u16 = 144;
 
 /// `patterns_more = COMMA patterns`
-pub const PATTERNS_MORE__COMMA: u16 = 143;
+pub const PATTERNS_MORE__COMMA: u16 = 145;
 
 /// `patterns_more = (nothing)`
-pub const PATTERNS_MORE__NONE: u16 = 144;
+pub const PATTERNS_MORE__NONE: u16 = 146;
 
 /// `expr = operand operands`
-pub const EXPR: u16 = 145;
+pub const EXPR: u16 = 147;
 
 /// `operands = binary operand operands`
-pub const OPERANDS__BINARY: u16 = 146;
+pub const OPERANDS__BINARY: u16 = 148;
 
 /// `operands = (nothing)`
-pub const OPERANDS__NONE: u16 = 147;
+pub const OPERANDS__NONE: u16 = 149;
 
 /// `binary = STAR`
-pub const BINARY__STAR: u16 = 148;
+pub const BINARY__STAR: u16 = 150;
 
 /// `binary = SLASH`
-pub const BINARY__SLASH: u16 = 149;
+pub const BINARY__SLASH: u16 = 151;
 
 /// `binary = PERCENT`
-pub const BINARY__PERCENT: u16 = 150;
+pub const BINARY__PERCENT: u16 = 152;
 
 /// `binary = PLUS`
-pub const BINARY__PLUS: u16 = 151;
+pub const BINARY__PLUS: u16 = 153;
 
 /// `binary = MINUS`
-pub const BINARY__MINUS: u16 = 152;
+pub const BINARY__MINUS: u16 = 154;
 
 /// `binary = CONCAT`
-pub const BINARY__CONCAT: u16 = 153;
+pub const BINARY__CONCAT: u16 = 155;
 
 /// `binary = SHL`
-pub const BINARY__SHL: u16 = 154;
+pub const BINARY__SHL: u16 = 156;
 
 /// `binary = SHR`
-pub const BINARY__SHR: u16 = 155;
+pub const BINARY__SHR: u16 = 157;
 
 /// `binary = AMP`
-pub const BINARY__AMP: u16 = 156;
+pub const BINARY__AMP: u16 = 158;
 
 /// `binary = CARET`
-pub const BINARY__CARET: u16 = 157;
+pub const BINARY__CARET: u16 = 159;
 
 /// `binary = PIPE`
-pub const BINARY__PIPE: u16 = 158;
+pub const BINARY__PIPE: u16 = 160;
 
 /// `binary = EQ`
-pub const BINARY__EQ: u16 = 159;
+pub const BINARY__EQ: u16 = 161;
 
 /// `binary = NE`
-pub const BINARY__NE: u16 = 160;
+pub const BINARY__NE: u16 = 162;
 
 /// `binary = LT`
-pub const BINARY__LT: u16 = 161;
+pub const BINARY__LT: u16 = 163;
 
 /// `binary = LE`
-pub const BINARY__LE: u16 = 162;
+pub const BINARY__LE: u16 = 164;
 
 /// `binary = GT`
-pub const BINARY__GT: u16 = 163;
+pub const BINARY__GT: u16 = 165;
 
 /// `binary = GE`
-pub const BINARY__GE: u16 = 164;
+pub const BINARY__GE: u16 = 166;
 
 /// `binary = ANDAND`
-pub const BINARY__ANDAND: u16 = 165;
+pub const BINARY__ANDAND: u16 = 167;
 
 /// `binary = OROR`
-pub const BINARY__OROR: u16 = 166;
+pub const BINARY__OROR: u16 = 168;
 
-/// `operand = prefixes atom posts casts`
-pub const OPERAND: u16 = 167;
+/// `operand = prefixed casts`
+pub const OPERAND: u16 = 169;
 
-/// `prefixes = MINUS prefixes`
-pub const PREFIXES__MINUS: u16 = 168;
+/// `prefixed = MINUS prefixed`
+pub const PREFIXED__MINUS: u16 = 170;
 
-/// `prefixes = BANG prefixes`
-pub const PREFIXES__BANG: u16 = 169;
+/// `prefixed = BANG prefixed`
+pub const PREFIXED__BANG: u16 = 171;
 
-/// `prefixes = (nothing)`
-pub const PREFIXES__NONE: u16 = 170;
+/// `prefixed = atom posts`
+pub const PREFIXED__ATOM: u16 = 172;
 
 /// `casts = cast casts`
-pub const CASTS__CAST: u16 = 171;
+pub const CASTS__CAST: u16 = 173;
 
 /// `casts = (nothing)`
-pub const CASTS__NONE: u16 = 172;
+pub const CASTS__NONE: u16 = 174;
 
 /// `cast = AS type`
-pub const CAST: u16 = 173;
+pub const CAST: u16 = 175;
 
 /// `posts = LBRACKET expr index_end posts`
-pub const POSTS__LBRACKET: u16 = 174;
+pub const POSTS__LBRACKET: u16 = 176;
 
 /// `posts = DOT part posts`
-pub const POSTS__DOT: u16 = 175;
+pub const POSTS__DOT: u16 = 177;
 
 /// `posts = (nothing)`
-pub const POSTS__NONE: u16 = 176;
+pub const POSTS__NONE: u16 = 178;
 
 /// `index_end = RBRACKET`
-pub const INDEX_END__RBRACKET: u16 = 177;
+pub const INDEX_END__RBRACKET: u16 = 179;
 
 /// `index_end = COLON expr RBRACKET`
-pub const INDEX_END__COLON: u16 = 178;
+pub const INDEX_END__COLON: u16 = 180;
 
 /// `index_end = PLUSCOLON type RBRACKET`
-pub const INDEX_END__PLUSCOLON: u16 = 179;
+pub const INDEX_END__PLUSCOLON: u16 = 181;
 
 /// `part = any_name`
-pub const PART__ANY_NAME: u16 = 180;
+pub const PART__ANY_NAME: u16 = 182;
 
 /// `part = NUMBER`
-pub const PART__NUMBER: u16 = 181;
+pub const PART__NUMBER: u16 = 183;
 
 /// `atom = NUMBER`
-pub const ATOM__NUMBER: u16 = 182;
+pub const ATOM__NUMBER: u16 = 184;
 
 /// `atom = base_keyword type_tail COLON typed`
-pub const ATOM__BASE_KEYWORD: u16 = 183;
+pub const ATOM__BASE_KEYWORD: u16 = 185;
 
-/// `atom = TYPENAME type_tail COLON typed`
-pub const ATOM__TYPENAME: u16 = 184;
+/// `atom = alias_name type_tail COLON typed`
+pub const ATOM__ALIAS_NAME: u16 = 186;
 
 /// `atom = elements`
-pub const ATOM__ELEMENTS: u16 = 185;
+pub const ATOM__ELEMENTS: u16 = 187;
 
 /// `atom = TRUE`
-pub const ATOM__TRUE: u16 = 186;
+pub const ATOM__TRUE: u16 = 188;
 
 /// `atom = FALSE`
-pub const ATOM__FALSE: u16 = 187;
+pub const ATOM__FALSE: u16 = 189;
 
 /// `atom = NAME name_tail`
-pub const ATOM__NAME: u16 = 188;
+pub const ATOM__NAME: u16 = 190;
 
 /// `atom = FUNNAME function_tail`
-pub const ATOM__FUNNAME: u16 = 189;
+pub const ATOM__FUNNAME: u16 = 191;
 
 /// `atom = STRUCTNAME struct_tail`
-pub const ATOM__STRUCTNAME: u16 = 190;
+pub const ATOM__STRUCTNAME: u16 = 192;
 
 /// `atom = BOTHNAME both_tail`
-pub const ATOM__BOTHNAME: u16 = 191;
+pub const ATOM__BOTHNAME: u16 = 193;
 
 /// `atom = LPAREN parenthesis`
-pub const ATOM__LPAREN: u16 = 192;
+pub const ATOM__LPAREN: u16 = 194;
 
 /// `atom = block`
-pub const ATOM__BLOCK: u16 = 193;
+pub const ATOM__BLOCK: u16 = 195;
 
 /// `atom = if`
-pub const ATOM__IF: u16 = 194;
+pub const ATOM__IF: u16 = 196;
 
 /// `atom = match`
-pub const ATOM__MATCH: u16 = 195;
+pub const ATOM__MATCH: u16 = 197;
 
 /// `atom = for`
-pub const ATOM__FOR: u16 = 196;
+pub const ATOM__FOR: u16 = 198;
+
+/// `alias_name = TYPENAME`
+pub const ALIAS_NAME: u16 = 199;
 
 /// `typed = signed`
-pub const TYPED__SIGNED: u16 = 197;
+pub const TYPED__SIGNED: u16 = 200;
 
 /// `typed = elements`
-pub const TYPED__ELEMENTS: u16 = 198;
+pub const TYPED__ELEMENTS: u16 = 201;
 
 /// `name_tail = PATH any_name`
-pub const NAME_TAIL__PATH: u16 = 199;
+pub const NAME_TAIL__PATH: u16 = 202;
 
 /// `name_tail = call`
-pub const NAME_TAIL__CALL: u16 = 200;
+pub const NAME_TAIL__CALL: u16 = 203;
 
 /// `name_tail = (nothing)`
-pub const NAME_TAIL__NONE: u16 = 201;
+pub const NAME_TAIL__NONE: u16 = 204;
 
 /// `function_tail = PATH any_name`
-pub const FUNCTION_TAIL__PATH: u16 = 202;
+pub const FUNCTION_TAIL__PATH: u16 = 205;
 
 /// `function_tail = call`
-pub const FUNCTION_TAIL__CALL: u16 = 203;
+pub const FUNCTION_TAIL__CALL: u16 = 206;
 
 /// `function_tail = call_with_args`
-pub const FUNCTION_TAIL__CALL_WITH_ARGS: u16 = 204;
+pub const FUNCTION_TAIL__CALL_WITH_ARGS: u16 = 207;
 
 /// `function_tail = (nothing)`
-pub const FUNCTION_TAIL__NONE: u16 = 205;
+pub const FUNCTION_TAIL__NONE: u16 = 208;
 
 /// `struct_tail = PATH any_name`
-pub const STRUCT_TAIL__PATH: u16 = 206;
+pub const STRUCT_TAIL__PATH: u16 = 209;
 
 /// `struct_tail = call`
-pub const STRUCT_TAIL__CALL: u16 = 207;
+pub const STRUCT_TAIL__CALL: u16 = 210;
 
 /// `struct_tail = fields`
-pub const STRUCT_TAIL__FIELDS: u16 = 208;
+pub const STRUCT_TAIL__FIELDS: u16 = 211;
 
 /// `struct_tail = (nothing)`
-pub const STRUCT_TAIL__NONE: u16 = 209;
+pub const STRUCT_TAIL__NONE: u16 = 212;
 
 /// `both_tail = PATH any_name`
-pub const BOTH_TAIL__PATH: u16 = 210;
+pub const BOTH_TAIL__PATH: u16 = 213;
 
 /// `both_tail = call`
-pub const BOTH_TAIL__CALL: u16 = 211;
+pub const BOTH_TAIL__CALL: u16 = 214;
 
 /// `both_tail = call_with_args`
-pub const BOTH_TAIL__CALL_WITH_ARGS: u16 = 212;
+pub const BOTH_TAIL__CALL_WITH_ARGS: u16 = 215;
 
 /// `both_tail = fields`
-pub const BOTH_TAIL__FIELDS: u16 = 213;
+pub const BOTH_TAIL__FIELDS: u16 = 216;
 
 /// `both_tail = (nothing)`
-pub const BOTH_TAIL__NONE: u16 = 214;
+pub const BOTH_TAIL__NONE: u16 = 217;
 
 /// `call = LPAREN exprs RPAREN`
-pub const CALL: u16 = 215;
+pub const CALL: u16 = 218;
 
 /// `call_with_args = ARGS arg args_more GT LPAREN exprs RPAREN`
-pub const CALL_WITH_ARGS: u16 = 216;
+pub const CALL_WITH_ARGS: u16 = 219;
 
 /// `exprs = expr exprs_more`
-pub const EXPRS__EXPR: u16 = 217;
+pub const EXPRS__EXPR: u16 = 220;
 
 /// `exprs = (nothing)`
-pub const EXPRS__NONE: u16 = 218;
+pub const EXPRS__NONE: u16 = 221;
 
 /// `exprs_more = COMMA exprs`
-pub const EXPRS_MORE__COMMA: u16 = 219;
+pub const EXPRS_MORE__COMMA: u16 = 222;
 
 /// `exprs_more = (nothing)`
-pub const EXPRS_MORE__NONE: u16 = 220;
+pub const EXPRS_MORE__NONE: u16 = 223;
 
 /// `fields = FIELDS field_list RBRACE`
-pub const FIELDS: u16 = 221;
+pub const FIELDS: u16 = 224;
 
 /// `field_list = any_name field_value field_more`
-pub const FIELD_LIST__ANY_NAME: u16 = 222;
+pub const FIELD_LIST__ANY_NAME: u16 = 225;
 
 /// `field_list = REST expr`
-pub const FIELD_LIST__REST: u16 = 223;
+pub const FIELD_LIST__REST: u16 = 226;
 
 /// `field_list = (nothing)`
-pub const FIELD_LIST__NONE: u16 = 224;
+pub const FIELD_LIST__NONE: u16 = 227;
 
 /// `field_value = COLON expr`
-pub const FIELD_VALUE__COLON: u16 = 225;
+pub const FIELD_VALUE__COLON: u16 = 228;
 
 /// `field_value = (nothing)`
-pub const FIELD_VALUE__NONE: u16 = 226;
+pub const FIELD_VALUE__NONE: u16 = 229;
 
 /// `field_more = COMMA field_list`
-pub const FIELD_MORE__COMMA: u16 = 227;
+pub const FIELD_MORE__COMMA: u16 = 230;
 
 /// `field_more = (nothing)`
-pub const FIELD_MORE__NONE: u16 = 228;
+pub const FIELD_MORE__NONE: u16 = 231;
 
 /// `parenthesis = RPAREN`
-pub const PARENTHESIS__RPAREN: u16 = 229;
+pub const PARENTHESIS__RPAREN: u16 = 232;
 
 /// `parenthesis = expr parenthesis_end`
-pub const PARENTHESIS__EXPR: u16 = 230;
+pub const PARENTHESIS__EXPR: u16 = 233;
 
 /// `parenthesis_end = RPAREN`
-pub const PARENTHESIS_END__RPAREN: u16 = 231;
+pub const PARENTHESIS_END__RPAREN: u16 = 234;
 
 /// `parenthesis_end = COMMA exprs RPAREN`
-pub const PARENTHESIS_END__COMMA: u16 = 232;
+pub const PARENTHESIS_END__COMMA: u16 = 235;
 
 /// `elements = LBRACKET expr elements_more RBRACKET`
-pub const ELEMENTS: u16 = 233;
+pub const ELEMENTS: u16 = 236;
 
 /// `elements_more = COMMA elements_next`
-pub const ELEMENTS_MORE__COMMA: u16 = 234;
+pub const ELEMENTS_MORE__COMMA: u16 = 237;
 
 /// `elements_more = (nothing)`
-pub const ELEMENTS_MORE__NONE: u16 = 235;
+pub const ELEMENTS_MORE__NONE: u16 = 238;
 
 /// `elements_next = expr elements_more`
-pub const ELEMENTS_NEXT__EXPR: u16 = 236;
+pub const ELEMENTS_NEXT__EXPR: u16 = 239;
 
 /// `elements_next = DOTS elements_end`
-pub const ELEMENTS_NEXT__DOTS: u16 = 237;
+pub const ELEMENTS_NEXT__DOTS: u16 = 240;
 
 /// `elements_next = (nothing)`
-pub const ELEMENTS_NEXT__NONE: u16 = 238;
+pub const ELEMENTS_NEXT__NONE: u16 = 241;
 
 /// `elements_end = COMMA`
-pub const ELEMENTS_END__COMMA: u16 = 239;
+pub const ELEMENTS_END__COMMA: u16 = 242;
 
 /// `elements_end = (nothing)`
-pub const ELEMENTS_END__NONE: u16 = 240;
+pub const ELEMENTS_END__NONE: u16 = 243;
 
 /// `if = IF expr headed_block ELSE else`
-pub const IF: u16 = 241;
+pub const IF: u16 = 244;
 
 /// `else = block`
-pub const ELSE__BLOCK: u16 = 242;
+pub const ELSE__BLOCK: u16 = 245;
 
 /// `else = if`
-pub const ELSE__IF: u16 = 243;
+pub const ELSE__IF: u16 = 246;
 
 /// `match = MATCH expr LBRACE arms RBRACE`
-pub const MATCH: u16 = 244;
+pub const MATCH: u16 = 247;
 
 /// `arms = arm arms_more`
-pub const ARMS__ARM: u16 = 245;
+pub const ARMS__ARM: u16 = 248;
 
 /// `arms = (nothing)`
-pub const ARMS__NONE: u16 = 246;
+pub const ARMS__NONE: u16 = 249;
 
 /// `arms_more = COMMA arms`
-pub const ARMS_MORE__COMMA: u16 = 247;
+pub const ARMS_MORE__COMMA: u16 = 250;
 
 /// `arms_more = (nothing)`
-pub const ARMS_MORE__NONE: u16 = 248;
+pub const ARMS_MORE__NONE: u16 = 251;
 
 /// `arm = pattern alternatives DARROW expr`
-pub const ARM: u16 = 249;
+pub const ARM: u16 = 252;
 
 /// `alternatives = PIPE pattern alternatives`
-pub const ALTERNATIVES__PIPE: u16 = 250;
+pub const ALTERNATIVES__PIPE: u16 = 253;
 
 /// `alternatives = (nothing)`
-pub const ALTERNATIVES__NONE: u16 = 251;
+pub const ALTERNATIVES__NONE: u16 = 254;
 
 /// `for = FOR LPAREN pattern COMMA pattern RPAREN for_type for_range`
-pub const FOR: u16 = 252;
+pub const FOR: u16 = 255;
 
 /// `for_type = COLON type`
-pub const FOR_TYPE__COLON: u16 = 253;
+pub const FOR_TYPE__COLON: u16 = 256;
 
 /// `for_type = (nothing)`
-pub const FOR_TYPE__NONE: u16 = 254;
+pub const FOR_TYPE__NONE: u16 = 257;
 
 /// `for_range = IN expr REST expr headed_block LPAREN expr RPAREN`
-pub const FOR_RANGE: u16 = 255;
+pub const FOR_RANGE: u16 = 258;
 
 /// `headed_block = LBRACE statements RBRACE`
-pub const HEADED_BLOCK: u16 = 256;
+pub const HEADED_BLOCK: u16 = 259;

@@ -7,7 +7,7 @@ use grammar::Symbol::{Nonterminal, Terminal};
 use grammar::{Production, Span, Symbol};
 
 /// The bodies of the productions, one behind the other.
-pub static SYMBOLS: [Symbol; 476] = [
+pub static SYMBOLS: [Symbol; 481] = [
     // module = items
     Nonterminal(nonterminal::ITEMS),
     // items = item items
@@ -306,8 +306,8 @@ pub static SYMBOLS: [Symbol; 476] = [
     // arg_name = COLON signed
     Terminal(kind::COLON),
     Nonterminal(nonterminal::SIGNED),
-    // arg_name = size type_tail COLON signed
-    Nonterminal(nonterminal::SIZE),
+    // arg_name = name_size type_tail COLON signed
+    Nonterminal(nonterminal::NAME_SIZE),
     Nonterminal(nonterminal::TYPE_TAIL),
     Terminal(kind::COLON),
     Nonterminal(nonterminal::SIGNED),
@@ -347,6 +347,10 @@ pub static SYMBOLS: [Symbol; 476] = [
     Terminal(kind::LBRACKET),
     Nonterminal(nonterminal::EXPR),
     Terminal(kind::RBRACKET),
+    // name_size = LBRACKET expr RBRACKET
+    Terminal(kind::LBRACKET),
+    Nonterminal(nonterminal::EXPR),
+    Terminal(kind::RBRACKET),
     // types = type types_more
     Nonterminal(nonterminal::TYPE),
     Nonterminal(nonterminal::TYPES_MORE),
@@ -359,23 +363,25 @@ pub static SYMBOLS: [Symbol; 476] = [
     Terminal(kind::LBRACE),
     Nonterminal(nonterminal::STATEMENTS),
     Terminal(kind::RBRACE),
-    // statements = LET let SEMI statements
-    Terminal(kind::LET),
+    // statements = let statements
     Nonterminal(nonterminal::LET),
-    Terminal(kind::SEMI),
     Nonterminal(nonterminal::STATEMENTS),
     // statements = expr statement_end
     Nonterminal(nonterminal::EXPR),
     Nonterminal(nonterminal::STATEMENT_END),
     // statements = (nothing)
-    // statement_end = SEMI statements
-    Terminal(kind::SEMI),
+    // statement_end = bare statements
+    Nonterminal(nonterminal::BARE),
     Nonterminal(nonterminal::STATEMENTS),
     // statement_end = (nothing)
-    // let = let_pattern ASSIGN expr
+    // bare = SEMI
+    Terminal(kind::SEMI),
+    // let = LET let_pattern ASSIGN expr SEMI
+    Terminal(kind::LET),
     Nonterminal(nonterminal::LET_PATTERN),
     Terminal(kind::ASSIGN),
     Nonterminal(nonterminal::EXPR),
+    Terminal(kind::SEMI),
     // let_pattern = plain_pattern let_type
     Nonterminal(nonterminal::PLAIN_PATTERN),
     Nonterminal(nonterminal::LET_TYPE),
@@ -386,8 +392,8 @@ pub static SYMBOLS: [Symbol; 476] = [
     Terminal(kind::PATH),
     Nonterminal(nonterminal::ANY_NAME),
     Nonterminal(nonterminal::LET_TYPE),
-    // let_name = size type_tail COLON signed let_type
-    Nonterminal(nonterminal::SIZE),
+    // let_name = name_size type_tail COLON signed let_type
+    Nonterminal(nonterminal::NAME_SIZE),
     Nonterminal(nonterminal::TYPE_TAIL),
     Terminal(kind::COLON),
     Nonterminal(nonterminal::SIGNED),
@@ -431,8 +437,8 @@ pub static SYMBOLS: [Symbol; 476] = [
     // pattern_name = COLON signed
     Terminal(kind::COLON),
     Nonterminal(nonterminal::SIGNED),
-    // pattern_name = size type_tail COLON signed
-    Nonterminal(nonterminal::SIZE),
+    // pattern_name = name_size type_tail COLON signed
+    Nonterminal(nonterminal::NAME_SIZE),
     Nonterminal(nonterminal::TYPE_TAIL),
     Terminal(kind::COLON),
     Nonterminal(nonterminal::SIGNED),
@@ -491,18 +497,18 @@ pub static SYMBOLS: [Symbol; 476] = [
     Terminal(kind::ANDAND),
     // binary = OROR
     Terminal(kind::OROR),
-    // operand = prefixes atom posts casts
-    Nonterminal(nonterminal::PREFIXES),
+    // operand = prefixed casts
+    Nonterminal(nonterminal::PREFIXED),
+    Nonterminal(nonterminal::CASTS),
+    // prefixed = MINUS prefixed
+    Terminal(kind::MINUS),
+    Nonterminal(nonterminal::PREFIXED),
+    // prefixed = BANG prefixed
+    Terminal(kind::BANG),
+    Nonterminal(nonterminal::PREFIXED),
+    // prefixed = atom posts
     Nonterminal(nonterminal::ATOM),
     Nonterminal(nonterminal::POSTS),
-    Nonterminal(nonterminal::CASTS),
-    // prefixes = MINUS prefixes
-    Terminal(kind::MINUS),
-    Nonterminal(nonterminal::PREFIXES),
-    // prefixes = BANG prefixes
-    Terminal(kind::BANG),
-    Nonterminal(nonterminal::PREFIXES),
-    // prefixes = (nothing)
     // casts = cast casts
     Nonterminal(nonterminal::CAST),
     Nonterminal(nonterminal::CASTS),
@@ -541,8 +547,8 @@ pub static SYMBOLS: [Symbol; 476] = [
     Nonterminal(nonterminal::TYPE_TAIL),
     Terminal(kind::COLON),
     Nonterminal(nonterminal::TYPED),
-    // atom = TYPENAME type_tail COLON typed
-    Terminal(kind::TYPENAME),
+    // atom = alias_name type_tail COLON typed
+    Nonterminal(nonterminal::ALIAS_NAME),
     Nonterminal(nonterminal::TYPE_TAIL),
     Terminal(kind::COLON),
     Nonterminal(nonterminal::TYPED),
@@ -575,6 +581,8 @@ pub static SYMBOLS: [Symbol; 476] = [
     Nonterminal(nonterminal::MATCH),
     // atom = for
     Nonterminal(nonterminal::FOR),
+    // alias_name = TYPENAME
+    Terminal(kind::TYPENAME),
     // typed = signed
     Nonterminal(nonterminal::SIGNED),
     // typed = elements
@@ -744,7 +752,7 @@ pub static SYMBOLS: [Symbol; 476] = [
 ];
 
 /// The productions, with the kinds before which each is taken.
-pub static PRODUCTIONS: [Production; 257] = [
+pub static PRODUCTIONS: [Production; 260] = [
     // module = items
     Production {
         head: nonterminal::MODULE,
@@ -1403,7 +1411,7 @@ pub static PRODUCTIONS: [Production; 257] = [
         end: 204,
         chosen: 0x800,
     },
-    // arg_name = size type_tail COLON signed
+    // arg_name = name_size type_tail COLON signed
     Production {
         head: nonterminal::ARG_NAME,
         first: 204,
@@ -1508,1046 +1516,1067 @@ pub static PRODUCTIONS: [Production; 257] = [
         end: 230,
         chosen: 0x200000000,
     },
+    // name_size = LBRACKET expr RBRACKET
+    Production {
+        head: nonterminal::NAME_SIZE,
+        first: 230,
+        end: 233,
+        chosen: 0x200000000,
+    },
     // types = type types_more
     Production {
         head: nonterminal::TYPES,
-        first: 230,
-        end: 232,
+        first: 233,
+        end: 235,
         chosen: 0xe41000011004000180,
     },
     // types = (nothing)
     Production {
         head: nonterminal::TYPES,
-        first: 232,
-        end: 232,
+        first: 235,
+        end: 235,
         chosen: 0x100000000000000,
     },
     // types_more = COMMA types
     Production {
         head: nonterminal::TYPES_MORE,
-        first: 232,
-        end: 234,
+        first: 235,
+        end: 237,
         chosen: 0x1000,
     },
     // types_more = (nothing)
     Production {
         head: nonterminal::TYPES_MORE,
-        first: 234,
-        end: 234,
+        first: 237,
+        end: 237,
         chosen: 0x100000000000000,
     },
     // block = LBRACE statements RBRACE
     Production {
         head: nonterminal::BLOCK,
-        first: 234,
-        end: 237,
+        first: 237,
+        end: 240,
         chosen: 0x100000000,
     },
-    // statements = LET let SEMI statements
+    // statements = let statements
     Production {
         head: nonterminal::STATEMENTS,
-        first: 237,
-        end: 241,
+        first: 240,
+        end: 242,
         chosen: 0x800000000,
     },
     // statements = expr statement_end
     Production {
         head: nonterminal::STATEMENTS,
-        first: 241,
-        end: 243,
+        first: 242,
+        end: 244,
         chosen: 0xec100009d3264001c0,
     },
     // statements = (nothing)
     Production {
         head: nonterminal::STATEMENTS,
-        first: 243,
-        end: 243,
+        first: 244,
+        end: 244,
         chosen: 0x20000000000000,
     },
-    // statement_end = SEMI statements
+    // statement_end = bare statements
     Production {
         head: nonterminal::STATEMENT_END,
-        first: 243,
-        end: 245,
+        first: 244,
+        end: 246,
         chosen: 0x200000000000000,
     },
     // statement_end = (nothing)
     Production {
         head: nonterminal::STATEMENT_END,
-        first: 245,
-        end: 245,
+        first: 246,
+        end: 246,
         chosen: 0x20000000000000,
     },
-    // let = let_pattern ASSIGN expr
+    // bare = SEMI
+    Production {
+        head: nonterminal::BARE,
+        first: 246,
+        end: 247,
+        chosen: 0x200000000000000,
+    },
+    // let = LET let_pattern ASSIGN expr SEMI
     Production {
         head: nonterminal::LET,
-        first: 245,
-        end: 248,
-        chosen: 0x1ec1000011004400180,
+        first: 247,
+        end: 252,
+        chosen: 0x800000000,
     },
     // let_pattern = plain_pattern let_type
     Production {
         head: nonterminal::LET_PATTERN,
-        first: 248,
-        end: 250,
+        first: 252,
+        end: 254,
         chosen: 0x1c81000001000400080,
     },
     // let_pattern = any_name let_name
     Production {
         head: nonterminal::LET_PATTERN,
-        first: 250,
-        end: 252,
+        first: 254,
+        end: 256,
         chosen: 0x240000010004000100,
     },
     // let_name = PATH any_name let_type
     Production {
         head: nonterminal::LET_NAME,
-        first: 252,
-        end: 255,
+        first: 256,
+        end: 259,
         chosen: 0x400000000000,
     },
-    // let_name = size type_tail COLON signed let_type
+    // let_name = name_size type_tail COLON signed let_type
     Production {
         head: nonterminal::LET_NAME,
-        first: 255,
-        end: 260,
+        first: 259,
+        end: 264,
         chosen: 0x200000000,
     },
     // let_name = COLON let_colon
     Production {
         head: nonterminal::LET_NAME,
-        first: 260,
-        end: 262,
+        first: 264,
+        end: 266,
         chosen: 0x800,
     },
     // let_name = (nothing)
     Production {
         head: nonterminal::LET_NAME,
-        first: 262,
-        end: 262,
+        first: 266,
+        end: 266,
         chosen: 0x20,
     },
     // let_colon = signed let_type
     Production {
         head: nonterminal::LET_COLON,
-        first: 262,
-        end: 264,
+        first: 266,
+        end: 268,
         chosen: 0x88000000000,
     },
     // let_colon = type
     Production {
         head: nonterminal::LET_COLON,
-        first: 264,
-        end: 265,
+        first: 268,
+        end: 269,
         chosen: 0xe41000011004000180,
     },
     // let_type = COLON type
     Production {
         head: nonterminal::LET_TYPE,
-        first: 265,
-        end: 267,
+        first: 269,
+        end: 271,
         chosen: 0x800,
     },
     // let_type = (nothing)
     Production {
         head: nonterminal::LET_TYPE,
-        first: 267,
-        end: 267,
+        first: 271,
+        end: 271,
         chosen: 0x20,
     },
     // pattern = plain_pattern
     Production {
         head: nonterminal::PATTERN,
-        first: 267,
-        end: 268,
+        first: 271,
+        end: 272,
         chosen: 0x1c81000001000400080,
     },
     // pattern = any_name pattern_name
     Production {
         head: nonterminal::PATTERN,
-        first: 268,
-        end: 270,
+        first: 272,
+        end: 274,
         chosen: 0x240000010004000100,
     },
     // plain_pattern = WILD
     Production {
         head: nonterminal::PLAIN_PATTERN,
-        first: 270,
-        end: 271,
+        first: 274,
+        end: 275,
         chosen: 0x1000000000000000000,
     },
     // plain_pattern = TRUE
     Production {
         head: nonterminal::PLAIN_PATTERN,
-        first: 271,
-        end: 272,
+        first: 275,
+        end: 276,
         chosen: 0x80000000000000000,
     },
     // plain_pattern = FALSE
     Production {
         head: nonterminal::PLAIN_PATTERN,
-        first: 272,
-        end: 273,
+        first: 276,
+        end: 277,
         chosen: 0x400000,
     },
     // plain_pattern = base_keyword type_tail COLON signed
     Production {
         head: nonterminal::PLAIN_PATTERN,
-        first: 273,
-        end: 277,
+        first: 277,
+        end: 281,
         chosen: 0xc01000000000000080,
     },
     // plain_pattern = LPAREN patterns RPAREN
     Production {
         head: nonterminal::PLAIN_PATTERN,
-        first: 277,
-        end: 280,
+        first: 281,
+        end: 284,
         chosen: 0x1000000000,
     },
     // pattern_name = PATH any_name
     Production {
         head: nonterminal::PATTERN_NAME,
-        first: 280,
-        end: 282,
+        first: 284,
+        end: 286,
         chosen: 0x400000000000,
     },
     // pattern_name = COLON signed
     Production {
         head: nonterminal::PATTERN_NAME,
-        first: 282,
-        end: 284,
+        first: 286,
+        end: 288,
         chosen: 0x800,
     },
-    // pattern_name = size type_tail COLON signed
+    // pattern_name = name_size type_tail COLON signed
     Production {
         head: nonterminal::PATTERN_NAME,
-        first: 284,
-        end: 288,
+        first: 288,
+        end: 292,
         chosen: 0x200000000,
     },
     // pattern_name = (nothing)
     Production {
         head: nonterminal::PATTERN_NAME,
-        first: 288,
-        end: 288,
+        first: 292,
+        end: 292,
         chosen: 0x101000000011000,
     },
     // patterns = pattern patterns_more
     Production {
         head: nonterminal::PATTERNS,
-        first: 288,
-        end: 290,
+        first: 292,
+        end: 294,
         chosen: 0x1ec1000011004400180,
     },
     // patterns = (nothing)
     Production {
         head: nonterminal::PATTERNS,
-        first: 290,
-        end: 290,
+        first: 294,
+        end: 294,
         chosen: 0x100000000000000,
     },
     // patterns_more = COMMA patterns
     Production {
         head: nonterminal::PATTERNS_MORE,
-        first: 290,
-        end: 292,
+        first: 294,
+        end: 296,
         chosen: 0x1000,
     },
     // patterns_more = (nothing)
     Production {
         head: nonterminal::PATTERNS_MORE,
-        first: 292,
-        end: 292,
+        first: 296,
+        end: 296,
         chosen: 0x100000000000000,
     },
     // expr = operand operands
     Production {
         head: nonterminal::EXPR,
-        first: 292,
-        end: 294,
+        first: 296,
+        end: 298,
         chosen: 0xec100009d3264001c0,
     },
     // operands = binary operand operands
     Production {
         head: nonterminal::OPERANDS,
-        first: 294,
-        end: 297,
+        first: 298,
+        end: 301,
         chosen: 0xac0392a418202203,
     },
     // operands = (nothing)
     Production {
         head: nonterminal::OPERANDS,
-        first: 297,
-        end: 297,
+        first: 301,
+        end: 301,
         chosen: 0x3e4000100001800,
     },
     // binary = STAR
     Production {
         head: nonterminal::BINARY,
-        first: 297,
-        end: 298,
+        first: 301,
+        end: 302,
         chosen: 0x8000000000000000,
     },
     // binary = SLASH
     Production {
         head: nonterminal::BINARY,
-        first: 298,
-        end: 299,
+        first: 302,
+        end: 303,
         chosen: 0x2000000000000000,
     },
     // binary = PERCENT
     Production {
         head: nonterminal::BINARY,
-        first: 299,
-        end: 300,
+        first: 303,
+        end: 304,
         chosen: 0x800000000000,
     },
     // binary = PLUS
     Production {
         head: nonterminal::BINARY,
-        first: 300,
-        end: 301,
+        first: 304,
+        end: 305,
         chosen: 0x2000000000000,
     },
     // binary = MINUS
     Production {
         head: nonterminal::BINARY,
-        first: 301,
-        end: 302,
+        first: 305,
+        end: 306,
         chosen: 0x8000000000,
     },
     // binary = CONCAT
     Production {
         head: nonterminal::BINARY,
-        first: 302,
-        end: 303,
+        first: 306,
+        end: 307,
         chosen: 0x2000,
     },
     // binary = SHL
     Production {
         head: nonterminal::BINARY,
-        first: 303,
-        end: 304,
+        first: 307,
+        end: 308,
         chosen: 0x400000000000000,
     },
     // binary = SHR
     Production {
         head: nonterminal::BINARY,
-        first: 304,
-        end: 305,
+        first: 308,
+        end: 309,
         chosen: 0x800000000000000,
     },
     // binary = AMP
     Production {
         head: nonterminal::BINARY,
-        first: 305,
-        end: 306,
+        first: 309,
+        end: 310,
         chosen: 0x1,
     },
     // binary = CARET
     Production {
         head: nonterminal::BINARY,
-        first: 306,
-        end: 307,
+        first: 310,
+        end: 311,
         chosen: 0x200,
     },
     // binary = PIPE
     Production {
         head: nonterminal::BINARY,
-        first: 307,
-        end: 308,
+        first: 311,
+        end: 312,
         chosen: 0x1000000000000,
     },
     // binary = EQ
     Production {
         head: nonterminal::BINARY,
-        first: 308,
-        end: 309,
+        first: 312,
+        end: 313,
         chosen: 0x200000,
     },
     // binary = NE
     Production {
         head: nonterminal::BINARY,
-        first: 309,
-        end: 310,
+        first: 313,
+        end: 314,
         chosen: 0x20000000000,
     },
     // binary = LT
     Production {
         head: nonterminal::BINARY,
-        first: 310,
-        end: 311,
+        first: 314,
+        end: 315,
         chosen: 0x2000000000,
     },
     // binary = LE
     Production {
         head: nonterminal::BINARY,
-        first: 311,
-        end: 312,
+        first: 315,
+        end: 316,
         chosen: 0x400000000,
     },
     // binary = GT
     Production {
         head: nonterminal::BINARY,
-        first: 312,
-        end: 313,
+        first: 316,
+        end: 317,
         chosen: 0x10000000,
     },
     // binary = GE
     Production {
         head: nonterminal::BINARY,
-        first: 313,
-        end: 314,
+        first: 317,
+        end: 318,
         chosen: 0x8000000,
     },
     // binary = ANDAND
     Production {
         head: nonterminal::BINARY,
-        first: 314,
-        end: 315,
+        first: 318,
+        end: 319,
         chosen: 0x2,
     },
     // binary = OROR
     Production {
         head: nonterminal::BINARY,
-        first: 315,
-        end: 316,
+        first: 319,
+        end: 320,
         chosen: 0x100000000000,
     },
-    // operand = prefixes atom posts casts
+    // operand = prefixed casts
     Production {
         head: nonterminal::OPERAND,
-        first: 316,
-        end: 320,
-        chosen: 0xec100009d3264001c0,
-    },
-    // prefixes = MINUS prefixes
-    Production {
-        head: nonterminal::PREFIXES,
         first: 320,
         end: 322,
-        chosen: 0x8000000000,
+        chosen: 0xec100009d3264001c0,
     },
-    // prefixes = BANG prefixes
+    // prefixed = MINUS prefixed
     Production {
-        head: nonterminal::PREFIXES,
+        head: nonterminal::PREFIXED,
         first: 322,
         end: 324,
+        chosen: 0x8000000000,
+    },
+    // prefixed = BANG prefixed
+    Production {
+        head: nonterminal::PREFIXED,
+        first: 324,
+        end: 326,
         chosen: 0x40,
     },
-    // prefixes = (nothing)
+    // prefixed = atom posts
     Production {
-        head: nonterminal::PREFIXES,
-        first: 324,
-        end: 324,
+        head: nonterminal::PREFIXED,
+        first: 326,
+        end: 328,
         chosen: 0xec1000095326400180,
     },
     // casts = cast casts
     Production {
         head: nonterminal::CASTS,
-        first: 324,
-        end: 326,
+        first: 328,
+        end: 330,
         chosen: 0x10,
     },
     // casts = (nothing)
     Production {
         head: nonterminal::CASTS,
-        first: 326,
-        end: 326,
+        first: 330,
+        end: 330,
         chosen: 0xafe792a518203a03,
     },
     // cast = AS type
     Production {
         head: nonterminal::CAST,
-        first: 326,
-        end: 328,
+        first: 330,
+        end: 332,
         chosen: 0x10,
     },
     // posts = LBRACKET expr index_end posts
     Production {
         head: nonterminal::POSTS,
-        first: 328,
-        end: 332,
+        first: 332,
+        end: 336,
         chosen: 0x200000000,
     },
     // posts = DOT part posts
     Production {
         head: nonterminal::POSTS,
-        first: 332,
-        end: 335,
+        first: 336,
+        end: 339,
         chosen: 0x20000,
     },
     // posts = (nothing)
     Production {
         head: nonterminal::POSTS,
-        first: 335,
-        end: 335,
+        first: 339,
+        end: 339,
         chosen: 0xafe792a518203a13,
     },
     // index_end = RBRACKET
     Production {
         head: nonterminal::INDEX_END,
-        first: 335,
-        end: 336,
+        first: 339,
+        end: 340,
         chosen: 0x40000000000000,
     },
     // index_end = COLON expr RBRACKET
     Production {
         head: nonterminal::INDEX_END,
-        first: 336,
-        end: 339,
+        first: 340,
+        end: 343,
         chosen: 0x800,
     },
     // index_end = PLUSCOLON type RBRACKET
     Production {
         head: nonterminal::INDEX_END,
-        first: 339,
-        end: 342,
+        first: 343,
+        end: 346,
         chosen: 0x4000000000000,
     },
     // part = any_name
     Production {
         head: nonterminal::PART,
-        first: 342,
-        end: 343,
+        first: 346,
+        end: 347,
         chosen: 0x240000010004000100,
     },
     // part = NUMBER
     Production {
         head: nonterminal::PART,
-        first: 343,
-        end: 344,
+        first: 347,
+        end: 348,
         chosen: 0x80000000000,
     },
     // atom = NUMBER
     Production {
         head: nonterminal::ATOM,
-        first: 344,
-        end: 345,
+        first: 348,
+        end: 349,
         chosen: 0x80000000000,
     },
     // atom = base_keyword type_tail COLON typed
     Production {
         head: nonterminal::ATOM,
-        first: 345,
-        end: 349,
-        chosen: 0xc01000000000000080,
-    },
-    // atom = TYPENAME type_tail COLON typed
-    Production {
-        head: nonterminal::ATOM,
         first: 349,
         end: 353,
+        chosen: 0xc01000000000000080,
+    },
+    // atom = alias_name type_tail COLON typed
+    Production {
+        head: nonterminal::ATOM,
+        first: 353,
+        end: 357,
         chosen: 0x200000000000000000,
     },
     // atom = elements
     Production {
         head: nonterminal::ATOM,
-        first: 353,
-        end: 354,
+        first: 357,
+        end: 358,
         chosen: 0x200000000,
     },
     // atom = TRUE
     Production {
         head: nonterminal::ATOM,
-        first: 354,
-        end: 355,
+        first: 358,
+        end: 359,
         chosen: 0x80000000000000000,
     },
     // atom = FALSE
     Production {
         head: nonterminal::ATOM,
-        first: 355,
-        end: 356,
+        first: 359,
+        end: 360,
         chosen: 0x400000,
     },
     // atom = NAME name_tail
     Production {
         head: nonterminal::ATOM,
-        first: 356,
-        end: 358,
+        first: 360,
+        end: 362,
         chosen: 0x10000000000,
     },
     // atom = FUNNAME function_tail
     Production {
         head: nonterminal::ATOM,
-        first: 358,
-        end: 360,
+        first: 362,
+        end: 364,
         chosen: 0x4000000,
     },
     // atom = STRUCTNAME struct_tail
     Production {
         head: nonterminal::ATOM,
-        first: 360,
-        end: 362,
+        first: 364,
+        end: 366,
         chosen: 0x40000000000000000,
     },
     // atom = BOTHNAME both_tail
     Production {
         head: nonterminal::ATOM,
-        first: 362,
-        end: 364,
+        first: 366,
+        end: 368,
         chosen: 0x100,
     },
     // atom = LPAREN parenthesis
     Production {
         head: nonterminal::ATOM,
-        first: 364,
-        end: 366,
+        first: 368,
+        end: 370,
         chosen: 0x1000000000,
     },
     // atom = block
     Production {
         head: nonterminal::ATOM,
-        first: 366,
-        end: 367,
+        first: 370,
+        end: 371,
         chosen: 0x100000000,
     },
     // atom = if
     Production {
         head: nonterminal::ATOM,
-        first: 367,
-        end: 368,
+        first: 371,
+        end: 372,
         chosen: 0x20000000,
     },
     // atom = match
     Production {
         head: nonterminal::ATOM,
-        first: 368,
-        end: 369,
+        first: 372,
+        end: 373,
         chosen: 0x4000000000,
     },
     // atom = for
     Production {
         head: nonterminal::ATOM,
-        first: 369,
-        end: 370,
+        first: 373,
+        end: 374,
         chosen: 0x2000000,
+    },
+    // alias_name = TYPENAME
+    Production {
+        head: nonterminal::ALIAS_NAME,
+        first: 374,
+        end: 375,
+        chosen: 0x200000000000000000,
     },
     // typed = signed
     Production {
         head: nonterminal::TYPED,
-        first: 370,
-        end: 371,
+        first: 375,
+        end: 376,
         chosen: 0x88000000000,
     },
     // typed = elements
     Production {
         head: nonterminal::TYPED,
-        first: 371,
-        end: 372,
+        first: 376,
+        end: 377,
         chosen: 0x200000000,
     },
     // name_tail = PATH any_name
     Production {
         head: nonterminal::NAME_TAIL,
-        first: 372,
-        end: 374,
+        first: 377,
+        end: 379,
         chosen: 0x400000000000,
     },
     // name_tail = call
     Production {
         head: nonterminal::NAME_TAIL,
-        first: 374,
-        end: 375,
+        first: 379,
+        end: 380,
         chosen: 0x1000000000,
     },
     // name_tail = (nothing)
     Production {
         head: nonterminal::NAME_TAIL,
-        first: 375,
-        end: 375,
+        first: 380,
+        end: 380,
         chosen: 0xafe792a718223a13,
     },
     // function_tail = PATH any_name
     Production {
         head: nonterminal::FUNCTION_TAIL,
-        first: 375,
-        end: 377,
+        first: 380,
+        end: 382,
         chosen: 0x400000000000,
     },
     // function_tail = call
     Production {
         head: nonterminal::FUNCTION_TAIL,
-        first: 377,
-        end: 378,
+        first: 382,
+        end: 383,
         chosen: 0x1000000000,
     },
     // function_tail = call_with_args
     Production {
         head: nonterminal::FUNCTION_TAIL,
-        first: 378,
-        end: 379,
+        first: 383,
+        end: 384,
         chosen: 0x4,
     },
     // function_tail = (nothing)
     Production {
         head: nonterminal::FUNCTION_TAIL,
-        first: 379,
-        end: 379,
+        first: 384,
+        end: 384,
         chosen: 0xafe792a718223a13,
     },
     // struct_tail = PATH any_name
     Production {
         head: nonterminal::STRUCT_TAIL,
-        first: 379,
-        end: 381,
+        first: 384,
+        end: 386,
         chosen: 0x400000000000,
     },
     // struct_tail = call
     Production {
         head: nonterminal::STRUCT_TAIL,
-        first: 381,
-        end: 382,
+        first: 386,
+        end: 387,
         chosen: 0x1000000000,
     },
     // struct_tail = fields
     Production {
         head: nonterminal::STRUCT_TAIL,
-        first: 382,
-        end: 383,
+        first: 387,
+        end: 388,
         chosen: 0x800000,
     },
     // struct_tail = (nothing)
     Production {
         head: nonterminal::STRUCT_TAIL,
-        first: 383,
-        end: 383,
+        first: 388,
+        end: 388,
         chosen: 0xafe792a718223a13,
     },
     // both_tail = PATH any_name
     Production {
         head: nonterminal::BOTH_TAIL,
-        first: 383,
-        end: 385,
+        first: 388,
+        end: 390,
         chosen: 0x400000000000,
     },
     // both_tail = call
     Production {
         head: nonterminal::BOTH_TAIL,
-        first: 385,
-        end: 386,
+        first: 390,
+        end: 391,
         chosen: 0x1000000000,
     },
     // both_tail = call_with_args
     Production {
         head: nonterminal::BOTH_TAIL,
-        first: 386,
-        end: 387,
+        first: 391,
+        end: 392,
         chosen: 0x4,
     },
     // both_tail = fields
     Production {
         head: nonterminal::BOTH_TAIL,
-        first: 387,
-        end: 388,
+        first: 392,
+        end: 393,
         chosen: 0x800000,
     },
     // both_tail = (nothing)
     Production {
         head: nonterminal::BOTH_TAIL,
-        first: 388,
-        end: 388,
+        first: 393,
+        end: 393,
         chosen: 0xafe792a718223a13,
     },
     // call = LPAREN exprs RPAREN
     Production {
         head: nonterminal::CALL,
-        first: 388,
-        end: 391,
+        first: 393,
+        end: 396,
         chosen: 0x1000000000,
     },
     // call_with_args = ARGS arg args_more GT LPAREN exprs RPAREN
     Production {
         head: nonterminal::CALL_WITH_ARGS,
-        first: 391,
-        end: 398,
+        first: 396,
+        end: 403,
         chosen: 0x4,
     },
     // exprs = expr exprs_more
     Production {
         head: nonterminal::EXPRS,
-        first: 398,
-        end: 400,
+        first: 403,
+        end: 405,
         chosen: 0xec100009d3264001c0,
     },
     // exprs = (nothing)
     Production {
         head: nonterminal::EXPRS,
-        first: 400,
-        end: 400,
+        first: 405,
+        end: 405,
         chosen: 0x100000000000000,
     },
     // exprs_more = COMMA exprs
     Production {
         head: nonterminal::EXPRS_MORE,
-        first: 400,
-        end: 402,
+        first: 405,
+        end: 407,
         chosen: 0x1000,
     },
     // exprs_more = (nothing)
     Production {
         head: nonterminal::EXPRS_MORE,
-        first: 402,
-        end: 402,
+        first: 407,
+        end: 407,
         chosen: 0x100000000000000,
     },
     // fields = FIELDS field_list RBRACE
     Production {
         head: nonterminal::FIELDS,
-        first: 402,
-        end: 405,
+        first: 407,
+        end: 410,
         chosen: 0x800000,
     },
     // field_list = any_name field_value field_more
     Production {
         head: nonterminal::FIELD_LIST,
-        first: 405,
-        end: 408,
+        first: 410,
+        end: 413,
         chosen: 0x240000010004000100,
     },
     // field_list = REST expr
     Production {
         head: nonterminal::FIELD_LIST,
-        first: 408,
-        end: 410,
+        first: 413,
+        end: 415,
         chosen: 0x80000000000000,
     },
     // field_list = (nothing)
     Production {
         head: nonterminal::FIELD_LIST,
-        first: 410,
-        end: 410,
+        first: 415,
+        end: 415,
         chosen: 0x20000000000000,
     },
     // field_value = COLON expr
     Production {
         head: nonterminal::FIELD_VALUE,
-        first: 410,
-        end: 412,
+        first: 415,
+        end: 417,
         chosen: 0x800,
     },
     // field_value = (nothing)
     Production {
         head: nonterminal::FIELD_VALUE,
-        first: 412,
-        end: 412,
+        first: 417,
+        end: 417,
         chosen: 0x20000000001000,
     },
     // field_more = COMMA field_list
     Production {
         head: nonterminal::FIELD_MORE,
-        first: 412,
-        end: 414,
+        first: 417,
+        end: 419,
         chosen: 0x1000,
     },
     // field_more = (nothing)
     Production {
         head: nonterminal::FIELD_MORE,
-        first: 414,
-        end: 414,
+        first: 419,
+        end: 419,
         chosen: 0x20000000000000,
     },
     // parenthesis = RPAREN
     Production {
         head: nonterminal::PARENTHESIS,
-        first: 414,
-        end: 415,
+        first: 419,
+        end: 420,
         chosen: 0x100000000000000,
     },
     // parenthesis = expr parenthesis_end
     Production {
         head: nonterminal::PARENTHESIS,
-        first: 415,
-        end: 417,
+        first: 420,
+        end: 422,
         chosen: 0xec100009d3264001c0,
     },
     // parenthesis_end = RPAREN
     Production {
         head: nonterminal::PARENTHESIS_END,
-        first: 417,
-        end: 418,
+        first: 422,
+        end: 423,
         chosen: 0x100000000000000,
     },
     // parenthesis_end = COMMA exprs RPAREN
     Production {
         head: nonterminal::PARENTHESIS_END,
-        first: 418,
-        end: 421,
+        first: 423,
+        end: 426,
         chosen: 0x1000,
     },
     // elements = LBRACKET expr elements_more RBRACKET
     Production {
         head: nonterminal::ELEMENTS,
-        first: 421,
-        end: 425,
+        first: 426,
+        end: 430,
         chosen: 0x200000000,
     },
     // elements_more = COMMA elements_next
     Production {
         head: nonterminal::ELEMENTS_MORE,
-        first: 425,
-        end: 427,
+        first: 430,
+        end: 432,
         chosen: 0x1000,
     },
     // elements_more = (nothing)
     Production {
         head: nonterminal::ELEMENTS_MORE,
-        first: 427,
-        end: 427,
+        first: 432,
+        end: 432,
         chosen: 0x40000000000000,
     },
     // elements_next = expr elements_more
     Production {
         head: nonterminal::ELEMENTS_NEXT,
-        first: 427,
-        end: 429,
+        first: 432,
+        end: 434,
         chosen: 0xec100009d3264001c0,
     },
     // elements_next = DOTS elements_end
     Production {
         head: nonterminal::ELEMENTS_NEXT,
-        first: 429,
-        end: 431,
+        first: 434,
+        end: 436,
         chosen: 0x40000,
     },
     // elements_next = (nothing)
     Production {
         head: nonterminal::ELEMENTS_NEXT,
-        first: 431,
-        end: 431,
+        first: 436,
+        end: 436,
         chosen: 0x40000000000000,
     },
     // elements_end = COMMA
     Production {
         head: nonterminal::ELEMENTS_END,
-        first: 431,
-        end: 432,
+        first: 436,
+        end: 437,
         chosen: 0x1000,
     },
     // elements_end = (nothing)
     Production {
         head: nonterminal::ELEMENTS_END,
-        first: 432,
-        end: 432,
+        first: 437,
+        end: 437,
         chosen: 0x40000000000000,
     },
     // if = IF expr headed_block ELSE else
     Production {
         head: nonterminal::IF,
-        first: 432,
-        end: 437,
+        first: 437,
+        end: 442,
         chosen: 0x20000000,
     },
     // else = block
     Production {
         head: nonterminal::ELSE,
-        first: 437,
-        end: 438,
+        first: 442,
+        end: 443,
         chosen: 0x100000000,
     },
     // else = if
     Production {
         head: nonterminal::ELSE,
-        first: 438,
-        end: 439,
+        first: 443,
+        end: 444,
         chosen: 0x20000000,
     },
     // match = MATCH expr LBRACE arms RBRACE
     Production {
         head: nonterminal::MATCH,
-        first: 439,
-        end: 444,
+        first: 444,
+        end: 449,
         chosen: 0x4000000000,
     },
     // arms = arm arms_more
     Production {
         head: nonterminal::ARMS,
-        first: 444,
-        end: 446,
+        first: 449,
+        end: 451,
         chosen: 0x1ec1000011004400180,
     },
     // arms = (nothing)
     Production {
         head: nonterminal::ARMS,
-        first: 446,
-        end: 446,
+        first: 451,
+        end: 451,
         chosen: 0x20000000000000,
     },
     // arms_more = COMMA arms
     Production {
         head: nonterminal::ARMS_MORE,
-        first: 446,
-        end: 448,
+        first: 451,
+        end: 453,
         chosen: 0x1000,
     },
     // arms_more = (nothing)
     Production {
         head: nonterminal::ARMS_MORE,
-        first: 448,
-        end: 448,
+        first: 453,
+        end: 453,
         chosen: 0x20000000000000,
     },
     // arm = pattern alternatives DARROW expr
     Production {
         head: nonterminal::ARM,
-        first: 448,
-        end: 452,
+        first: 453,
+        end: 457,
         chosen: 0x1ec1000011004400180,
     },
     // alternatives = PIPE pattern alternatives
     Production {
         head: nonterminal::ALTERNATIVES,
-        first: 452,
-        end: 455,
+        first: 457,
+        end: 460,
         chosen: 0x1000000000000,
     },
     // alternatives = (nothing)
     Production {
         head: nonterminal::ALTERNATIVES,
-        first: 455,
-        end: 455,
+        first: 460,
+        end: 460,
         chosen: 0x10000,
     },
     // for = FOR LPAREN pattern COMMA pattern RPAREN for_type for_range
     Production {
         head: nonterminal::FOR,
-        first: 455,
-        end: 463,
+        first: 460,
+        end: 468,
         chosen: 0x2000000,
     },
     // for_type = COLON type
     Production {
         head: nonterminal::FOR_TYPE,
-        first: 463,
-        end: 465,
+        first: 468,
+        end: 470,
         chosen: 0x800,
     },
     // for_type = (nothing)
     Production {
         head: nonterminal::FOR_TYPE,
-        first: 465,
-        end: 465,
+        first: 470,
+        end: 470,
         chosen: 0x40000000,
     },
     // for_range = IN expr REST expr headed_block LPAREN expr RPAREN
     Production {
         head: nonterminal::FOR_RANGE,
-        first: 465,
-        end: 473,
+        first: 470,
+        end: 478,
         chosen: 0x40000000,
     },
     // headed_block = LBRACE statements RBRACE
     Production {
         head: nonterminal::HEADED_BLOCK,
-        first: 473,
-        end: 476,
+        first: 478,
+        end: 481,
         chosen: 0x100000000,
     },
 ];
 
 /// Where the alternatives of each nonterminal stand.
-pub static SPANS: [Span; 114] = [
+pub static SPANS: [Span; 117] = [
     // module
     Span { first: 0, end: 1 },
     // items
@@ -2676,284 +2705,299 @@ pub static SPANS: [Span; 114] = [
         first: 108,
         end: 109,
     },
-    // types
+    // name_size
     Span {
         first: 109,
-        end: 111,
+        end: 110,
+    },
+    // types
+    Span {
+        first: 110,
+        end: 112,
     },
     // types_more
     Span {
-        first: 111,
-        end: 113,
+        first: 112,
+        end: 114,
     },
     // block
     Span {
-        first: 113,
-        end: 114,
+        first: 114,
+        end: 115,
     },
     // statements
     Span {
-        first: 114,
-        end: 117,
+        first: 115,
+        end: 118,
     },
     // statement_end
     Span {
-        first: 117,
-        end: 119,
+        first: 118,
+        end: 120,
+    },
+    // bare
+    Span {
+        first: 120,
+        end: 121,
     },
     // let
     Span {
-        first: 119,
-        end: 120,
+        first: 121,
+        end: 122,
     },
     // let_pattern
     Span {
-        first: 120,
-        end: 122,
+        first: 122,
+        end: 124,
     },
     // let_name
     Span {
-        first: 122,
-        end: 126,
-    },
-    // let_colon
-    Span {
-        first: 126,
+        first: 124,
         end: 128,
     },
-    // let_type
+    // let_colon
     Span {
         first: 128,
         end: 130,
     },
-    // pattern
+    // let_type
     Span {
         first: 130,
         end: 132,
     },
-    // plain_pattern
+    // pattern
     Span {
         first: 132,
-        end: 137,
+        end: 134,
+    },
+    // plain_pattern
+    Span {
+        first: 134,
+        end: 139,
     },
     // pattern_name
     Span {
-        first: 137,
-        end: 141,
-    },
-    // patterns
-    Span {
-        first: 141,
+        first: 139,
         end: 143,
     },
-    // patterns_more
+    // patterns
     Span {
         first: 143,
         end: 145,
     },
-    // expr
+    // patterns_more
     Span {
         first: 145,
-        end: 146,
+        end: 147,
+    },
+    // expr
+    Span {
+        first: 147,
+        end: 148,
     },
     // operands
     Span {
-        first: 146,
-        end: 148,
+        first: 148,
+        end: 150,
     },
     // binary
     Span {
-        first: 148,
-        end: 167,
+        first: 150,
+        end: 169,
     },
     // operand
     Span {
-        first: 167,
-        end: 168,
+        first: 169,
+        end: 170,
     },
-    // prefixes
+    // prefixed
     Span {
-        first: 168,
-        end: 171,
+        first: 170,
+        end: 173,
     },
     // casts
     Span {
-        first: 171,
-        end: 173,
+        first: 173,
+        end: 175,
     },
     // cast
     Span {
-        first: 173,
-        end: 174,
+        first: 175,
+        end: 176,
     },
     // posts
     Span {
-        first: 174,
-        end: 177,
+        first: 176,
+        end: 179,
     },
     // index_end
     Span {
-        first: 177,
-        end: 180,
+        first: 179,
+        end: 182,
     },
     // part
     Span {
-        first: 180,
-        end: 182,
+        first: 182,
+        end: 184,
     },
     // atom
     Span {
-        first: 182,
-        end: 197,
+        first: 184,
+        end: 199,
+    },
+    // alias_name
+    Span {
+        first: 199,
+        end: 200,
     },
     // typed
     Span {
-        first: 197,
-        end: 199,
+        first: 200,
+        end: 202,
     },
     // name_tail
     Span {
-        first: 199,
-        end: 202,
+        first: 202,
+        end: 205,
     },
     // function_tail
     Span {
-        first: 202,
-        end: 206,
+        first: 205,
+        end: 209,
     },
     // struct_tail
     Span {
-        first: 206,
-        end: 210,
+        first: 209,
+        end: 213,
     },
     // both_tail
     Span {
-        first: 210,
-        end: 215,
+        first: 213,
+        end: 218,
     },
     // call
     Span {
-        first: 215,
-        end: 216,
+        first: 218,
+        end: 219,
     },
     // call_with_args
     Span {
-        first: 216,
-        end: 217,
+        first: 219,
+        end: 220,
     },
     // exprs
     Span {
-        first: 217,
-        end: 219,
+        first: 220,
+        end: 222,
     },
     // exprs_more
     Span {
-        first: 219,
-        end: 221,
+        first: 222,
+        end: 224,
     },
     // fields
     Span {
-        first: 221,
-        end: 222,
+        first: 224,
+        end: 225,
     },
     // field_list
     Span {
-        first: 222,
-        end: 225,
+        first: 225,
+        end: 228,
     },
     // field_value
     Span {
-        first: 225,
-        end: 227,
+        first: 228,
+        end: 230,
     },
     // field_more
     Span {
-        first: 227,
-        end: 229,
+        first: 230,
+        end: 232,
     },
     // parenthesis
     Span {
-        first: 229,
-        end: 231,
-    },
-    // parenthesis_end
-    Span {
-        first: 231,
-        end: 233,
-    },
-    // elements
-    Span {
-        first: 233,
+        first: 232,
         end: 234,
     },
-    // elements_more
+    // parenthesis_end
     Span {
         first: 234,
         end: 236,
     },
-    // elements_next
+    // elements
     Span {
         first: 236,
+        end: 237,
+    },
+    // elements_more
+    Span {
+        first: 237,
         end: 239,
     },
-    // elements_end
+    // elements_next
     Span {
         first: 239,
-        end: 241,
-    },
-    // if
-    Span {
-        first: 241,
         end: 242,
     },
-    // else
+    // elements_end
     Span {
         first: 242,
         end: 244,
     },
-    // match
+    // if
     Span {
         first: 244,
         end: 245,
     },
-    // arms
+    // else
     Span {
         first: 245,
         end: 247,
     },
-    // arms_more
+    // match
     Span {
         first: 247,
-        end: 249,
+        end: 248,
     },
-    // arm
+    // arms
     Span {
-        first: 249,
+        first: 248,
         end: 250,
     },
-    // alternatives
+    // arms_more
     Span {
         first: 250,
         end: 252,
     },
-    // for
+    // arm
     Span {
         first: 252,
         end: 253,
     },
-    // for_type
+    // alternatives
     Span {
         first: 253,
         end: 255,
     },
-    // for_range
+    // for
     Span {
         first: 255,
         end: 256,
     },
-    // headed_block
+    // for_type
     Span {
         first: 256,
-        end: 257,
+        end: 258,
+    },
+    // for_range
+    Span {
+        first: 258,
+        end: 259,
+    },
+    // headed_block
+    Span {
+        first: 259,
+        end: 260,
     },
 ];
