@@ -5,7 +5,7 @@ use Rattle.std.proofs.lemmas.Bool.Decides.{nat_tests}
 use Rattle.std.proofs.lemmas.List.{length-append}
 use Rattle.lists.specs.Front.{IsFront}
 use Rattle.lists.proofs.Lemmas.Fronts.{IsFront-append}
-use Rattle.block_fifo.specs.Fifo.{given_in, put_in, after_cycle, Since, empty, one_more, Cycle, after_cycles}
+use Rattle.block_fifo.specs.Fifo.{given_in, put_in, after_cycle, SinceReset, empty, one_more, Cycle, after_cycles}
 
 -- what is left behind what is given
 abbrev pub kept_in : {A : Type 0} → List A → Bool → List A
@@ -24,7 +24,7 @@ put_is_all put given words asked new e =
     ap (λ z. z ++ new) (e ∙ ap (λ z. given ++ z) (given_then_kept words asked) ∙ sym (append_assoc given (given_in words asked) (kept_in words asked)))
     ∙ append_assoc (given ++ given_in words asked) (kept_in words asked) new
 
-all_put : {A : Type 0} (depth : ℕ) (cycles : List (Cycle A)) (since : Since A) → since.put ≡ since.given ++ since.words
+all_put : {A : Type 0} (depth : ℕ) (cycles : List (Cycle A)) (since : SinceReset A) → since.put ≡ since.given ++ since.words
     → (after_cycles depth since cycles).put ≡ (after_cycles depth since cycles).given ++ (after_cycles depth since cycles).words
 all_put depth [] since e = e
 all_put depth (cycle ∷ more) since e =
@@ -66,7 +66,7 @@ fits_on {A = A} depth words asked offered l = go offered (nat_lt (length words) 
     go None true e = let h = length-append (kept_in words asked) [] in omega (arith, h, short)
     go (Some w) true e = let h = length-append (kept_in words asked) (w ∷ []) in let r = lt_from _ _ e in omega (arith, h, short, r)
 
-all_fit : {A : Type 0} (depth : ℕ) (cycles : List (Cycle A)) (since : Since A) → length since.words ≤ depth → length (after_cycles depth since cycles).words ≤ depth
+all_fit : {A : Type 0} (depth : ℕ) (cycles : List (Cycle A)) (since : SinceReset A) → length since.words ≤ depth → length (after_cycles depth since cycles).words ≤ depth
 all_fit depth [] since l = l
 all_fit depth (cycle ∷ more) since l = all_fit depth more (one_more depth since cycle.asked cycle.offered) (fits_on depth since.words cycle.asked cycle.offered l)
 

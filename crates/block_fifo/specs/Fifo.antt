@@ -20,15 +20,15 @@ abbrev pub after_cycle : {A : Type 0} → ℕ → List A → Bool → Option A �
 after_cycle depth words asked offered = (if asked then drop 1 words else words) ++ put_in depth words offered
 
 -- the words that are in it, and all that were given and put in since it was empty
-pub record Since (A : Type 0) : Type 0 where
+pub record SinceReset (A : Type 0) : Type 0 where
   pub words : List A
   pub given : List A
   pub put : List A
 
-abbrev pub empty : {A : Type 0} → Since A
+abbrev pub empty : {A : Type 0} → SinceReset A
 empty = record { words = []; given = []; put = [] }
 
-abbrev pub one_more : {A : Type 0} → ℕ → Since A → Bool → Option A → Since A
+abbrev pub one_more : {A : Type 0} → ℕ → SinceReset A → Bool → Option A → SinceReset A
 one_more depth since asked offered = record {
   words = after_cycle depth since.words asked offered;
   given = since.given ++ given_in since.words asked;
@@ -40,6 +40,6 @@ pub record Cycle (A : Type 0) : Type 0 where
   pub asked : Bool
   pub offered : Option A
 
-abbrev pub after_cycles : {A : Type 0} → ℕ → Since A → List (Cycle A) → Since A
+abbrev pub after_cycles : {A : Type 0} → ℕ → SinceReset A → List (Cycle A) → SinceReset A
 after_cycles depth since [] = since
 after_cycles depth since (cycle ∷ more) = after_cycles depth (one_more depth since cycle.asked cycle.offered) more

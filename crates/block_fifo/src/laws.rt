@@ -4,7 +4,7 @@
 ghost use Rattle.std.specs.Prelude.{◌≡◌, ◌≤◌, ◌<◌, ℕ, Bool, List, length, is_some, Option, Some};
 ghost use Rattle.lists.specs.Front.{IsFront};
 ghost use Rattle.xb_bits.specs.Word.{Word};
-ghost use Rattle.block_fifo.specs.Fifo.{Cycle, Since, empty, one_more, next_word, after_cycles};
+ghost use Rattle.block_fifo.specs.Fifo.{Cycle, SinceReset, empty, one_more, next_word, after_cycles};
 ghost use Rattle.block_fifo.specs.Fifo as fifo;
 ghost use Rattle.block_fifo.specs.Row.{Row, RowHolds, row_after};
 ghost use Rattle.block_fifo.specs.Row as row;

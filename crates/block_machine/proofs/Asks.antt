@@ -10,7 +10,7 @@ use Rattle.net_core.specs.declared.event.Event.TheVariants.{Recv, Send, End}
 use Rattle.net_core.specs.Behavior.{Behavior, IsInDirection, chan_at}
 use Rattle.net_core.specs.Cuts.{words_sent, count_received}
 use Rattle.block_machine.specs.Pipeline.{Pipeline, IsPipeline, first}
-use Rattle.block_machine.specs.Cycle.{Ports, Contents, Deed, event_of, in_stage, event_list, asked_by, asked_of, asked_in}
+use Rattle.block_machine.specs.Cycle.{Ports, Registers, Deed, event_of, in_stage, event_list, asked_by, asked_of, asked_in}
 use Rattle.block_machine.specs.Since.{at_reset, after_cycles}
 use Rattle.block_machine.proofs.Choices.{if_plus, eqb-eq}
 use Rattle.block_machine.proofs.Walks.{Goes, ends, skips, takes, gives, no_word, no_room}
@@ -199,10 +199,10 @@ uses_found q is c d ports s got got' i n p deeds waits (no_room {n = m} w t o) l
     found_here q is c d s got i (suc m) m (Send i w) refl l (inr (w, t, refl)) 0 (zero_or_not 0) (λ x. absurd (x refl)) h
 
 -- a stage
-abbrev stage_uses : Pipeline → Contents → Ports → ℕ → Bool → ℕ → ℕ
+abbrev stage_uses : Pipeline → Registers → Ports → ℕ → Bool → ℕ → ℕ
 stage_uses q c ports ch d j = uses q.proc.behavior.sites ch d (asked_by (in_stage q c ports j))
 
-stage_once : (q : Pipeline) → IsPipeline q → (c : Contents) (ports : Ports) (acts : ℕ → Act) (ch : ℕ) (d : Bool) (j : ℕ) → IsHeld q c j (acts j) → stage_uses q c ports ch d j ≤ 1
+stage_once : (q : Pipeline) → IsPipeline q → (c : Registers) (ports : Ports) (acts : ℕ → Act) (ch : ℕ) (d : Bool) (j : ℕ) → IsHeld q c j (acts j) → stage_uses q c ports ch d j ≤ 1
 stage_once q is c ports acts ch d j held = go (cases (c.full j))
   where
     go : (c.full j ≡ true) ⊎ (c.full j ≡ false) → uses q.proc.behavior.sites ch d (asked_by (in_stage q c ports j)) ≤ 1
@@ -219,7 +219,7 @@ stage_once q is c ports acts ch d j held = go (cases (c.full j))
         omega arith)
 
 -- and the stage that it stands in
-record InStage (q : Pipeline) (c : Contents) (ch : ℕ) (d : Bool) (j : ℕ) : Type 0 where
+record InStage (q : Pipeline) (c : Registers) (ch : ℕ) (d : Bool) (j : ℕ) : Type 0 where
   place : ℕ
   from : first q j ≤ place
   until : place < first q (suc j)
@@ -227,7 +227,7 @@ record InStage (q : Pipeline) (c : Contents) (ch : ℕ) (d : Bool) (j : ℕ) : T
   full : c.full j ≡ true
   on : OnEnd q.proc.behavior ch d place
 
-stage_found : (q : Pipeline) → IsPipeline q → (c : Contents) (ports : Ports) (acts : ℕ → Act) (ch : ℕ) (d : Bool) (j : ℕ) → IsHeld q c j (acts j)
+stage_found : (q : Pipeline) → IsPipeline q → (c : Registers) (ports : Ports) (acts : ℕ → Act) (ch : ℕ) (d : Bool) (j : ℕ) → IsHeld q c j (acts j)
     → (stage_uses q c ports ch d j ≡ 0 → ⊥) → InStage q c ch d j
 stage_found q is c ports acts ch d j held h = go (cases (c.full j))
   where
@@ -244,7 +244,7 @@ stage_found q is c ports acts ch d j held h = go (cases (c.full j))
         record { place = r.place; from = from; until = until; stage = stage_at q is r.place j from until; full = f; on = r.on }
 
 -- two stages aren't both asked at an end
-not_two : (q : Pipeline) → IsPipeline q → (c : Contents) (o ch : ℕ) (d : Bool) → HasTurn q c o → (j k : ℕ) → j < k → InStage q c ch d j → InStage q c ch d k → ⊥
+not_two : (q : Pipeline) → IsPipeline q → (c : Registers) (o ch : ℕ) (d : Bool) → HasTurn q c o → (j k : ℕ) → j < k → InStage q c ch d j → InStage q c ch d k → ⊥
 not_two q is c o ch d turn j k l one two =
     let grows = first_grows q is (suc j) k l in
     let a = one.until in let b = two.from in
@@ -254,7 +254,7 @@ not_two q is c o ch d turn j k l one two =
     let g = full_open q c o turn k (omega arith) two.full in
     omega arith
 
-rest_unused : (q : Pipeline) (c : Contents) (ports : Ports) (ch : ℕ) (d : Bool) (n k : ℕ) → ((j : ℕ) → k ≤ j → j < k + n → stage_uses q c ports ch d j ≡ 0)
+rest_unused : (q : Pipeline) (c : Registers) (ports : Ports) (ch : ℕ) (d : Bool) (n k : ℕ) → ((j : ℕ) → k ≤ j → j < k + n → stage_uses q c ports ch d j ≡ 0)
     → uses q.proc.behavior.sites ch d (asked_of q c ports k n) ≡ 0
 rest_unused q c ports ch d zero k h = refl
 rest_unused q c ports ch d (suc n) k h =
@@ -263,7 +263,7 @@ rest_unused q c ports ch d (suc n) k h =
     let sum = uses-append q.proc.behavior.sites ch d (asked_by (in_stage q c ports k)) (asked_of q c ports (suc k) n) in
     omega (arith, here, more, sum)
 
-uses_total : (q : Pipeline) → IsPipeline q → (c : Contents) (ports : Ports) (acts : ℕ → Act) (o ch : ℕ) (d : Bool) → HasTurn q c o → ((j : ℕ) → j < q.stages → IsHeld q c j (acts j))
+uses_total : (q : Pipeline) → IsPipeline q → (c : Registers) (ports : Ports) (acts : ℕ → Act) (o ch : ℕ) (d : Bool) → HasTurn q c o → ((j : ℕ) → j < q.stages → IsHeld q c j (acts j))
     → (n k : ℕ) → k + n ≤ q.stages → uses q.proc.behavior.sites ch d (asked_of q c ports k n) ≤ 1
 uses_total q is c ports acts o ch d turn held zero k l = omega arith
 uses_total q is c ports acts o ch d turn held (suc n) k l =
@@ -290,7 +290,7 @@ uses_total q is c ports acts o ch d turn held (suc n) k l =
         omega (arith, once, none, sum)
 
 -- at most one site of each end is asked
-pub one_sends : (q : Pipeline) → IsPipeline q → (c : Contents) (ports : Ports) (acts : ℕ → Act) (o ch : ℕ) → HasTurn q c o → ((j : ℕ) → j < q.stages → IsHeld q c j (acts j))
+pub one_sends : (q : Pipeline) → IsPipeline q → (c : Registers) (ports : Ports) (acts : ℕ → Act) (o ch : ℕ) → HasTurn q c o → ((j : ℕ) → j < q.stages → IsHeld q c j (acts j))
     → length (words_sent q.proc.behavior.sites ch (asked_in q c ports)) ≤ 1
 unfolding asked_in
 one_sends q is c ports acts o ch turn held =
@@ -298,7 +298,7 @@ one_sends q is c ports acts o ch turn held =
     let b = sent_uses q.proc.behavior.sites ch (asked_of q c ports 0 q.stages) in
     omega (arith, a, b)
 
-pub one_receives : (q : Pipeline) → IsPipeline q → (c : Contents) (ports : Ports) (acts : ℕ → Act) (o ch : ℕ) → HasTurn q c o → ((j : ℕ) → j < q.stages → IsHeld q c j (acts j))
+pub one_receives : (q : Pipeline) → IsPipeline q → (c : Registers) (ports : Ports) (acts : ℕ → Act) (o ch : ℕ) → HasTurn q c o → ((j : ℕ) → j < q.stages → IsHeld q c j (acts j))
     → count_received q.proc.behavior.sites ch (asked_in q c ports) ≤ 1
 unfolding asked_in
 one_receives q is c ports acts o ch turn held =

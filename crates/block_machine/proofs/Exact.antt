@@ -12,7 +12,7 @@ use Rattle.net_core.specs.declared.event.Event.{Event}
 use Rattle.net_core.specs.Behavior.{Behavior, IsInDirection, Give, chan_at}
 use Rattle.net_core.specs.Cuts.{words_sent}
 use Rattle.block_machine.specs.Pipeline.{Pipeline, IsPipeline, first}
-use Rattle.block_machine.specs.Cycle.{Ports, Contents, opened, brought, Deed, in_stage, moves_before, moves, after_cycle, deeds_in}
+use Rattle.block_machine.specs.Cycle.{Ports, Registers, opened, brought, Deed, in_stage, moves_before, moves, after_cycle, deeds_in}
 use Rattle.block_machine.specs.Since.{gave, Since, at_reset, one_more, after_cycles}
 use Rattle.block_machine.specs.Steady.{IsFed, AreFed, SendsOnce}
 use Rattle.block_machine.proofs.Choices.{eqb-eq, eq-eqb, eq_apart, if_none}
@@ -26,7 +26,7 @@ use Rattle.block_machine.proofs.Gathering.{all_only}
 use Rattle.block_machine.proofs.Standing.{given_of, idle_gives}
 
 -- the sites of a stage, none of which is done, from the first one on
-fresh_goes : (q : Pipeline) (c : Contents) (ports : Ports) (j : ℕ) → c.full j ≡ true → IsClean q c j → first q j ≤ first q (suc j)
+fresh_goes : (q : Pipeline) (c : Registers) (ports : Ports) (j : ℕ) → c.full j ≡ true → IsClean q c j → first q j ≤ first q (suc j)
     → IsGoing q.proc.behavior ports (brought c j).state (brought c j).got (first q j) (first q (suc j) - first q j) (in_stage q c ports j)
 fresh_goes q c ports j f clean l =
     subst (IsGoing q.proc.behavior ports (brought c j).state (brought c j).got (first q j) (first q (suc j) - first q j)) (sym (stage_walk q c ports j f))
@@ -104,11 +104,11 @@ gives_one b ch place ports at on s got got' i n p deeds waits (no_word t o) e l 
 gives_one b ch place ports at on s got got' i n p deeds waits (no_room w t o) e l r only = cc
 
 -- in each cycle every stage that holds an activation moves, and no site is done
-record Runs (q : Pipeline) (c : Contents) (k : ℕ) : Type 0 where
+record Runs (q : Pipeline) (c : Registers) (k : ℕ) : Type 0 where
   full : (j : ℕ) → j < q.stages → c.full j ≡ nat_le j k
   clean : (j : ℕ) → j < q.stages → IsClean q c j
 
-stage_passes : (q : Pipeline) → IsPipeline q → (c : Contents) (ports : Ports) → IsFed ports → (j : ℕ) → IsClean q c j → is_some (in_stage q c ports j).waits ≡ false
+stage_passes : (q : Pipeline) → IsPipeline q → (c : Registers) (ports : Ports) → IsFed ports → (j : ℕ) → IsClean q c j → is_some (in_stage q c ports j).waits ≡ false
 stage_passes q is c ports fed j clean = go (cases (c.full j))
   where
     none_is : (waits : Option Event) → waits ≡ None → is_some waits ≡ false
@@ -121,7 +121,7 @@ stage_passes q is c ports fed j clean = go (cases (c.full j))
         none_is w.waits (fed_passes q.proc.behavior ports fed (brought c j).state (brought c j).got w.got (first q j) (first q (suc j) - first q j) w.place w.deeds w.waits
         (fresh_goes q c ports j f clean (first_grows q is j (suc j) (omega arith))))
 
-all_move : (q : Pipeline) → IsPipeline q → (c : Contents) (ports : Ports) → IsFed ports → ((j : ℕ) → j < q.stages → IsClean q c j) → (n j : ℕ) → j + n < q.stages → moves_before q c ports n j ≡ c.full j
+all_move : (q : Pipeline) → IsPipeline q → (c : Registers) (ports : Ports) → IsFed ports → ((j : ℕ) → j < q.stages → IsClean q c j) → (n j : ℕ) → j + n < q.stages → moves_before q c ports n j ≡ c.full j
 all_move q is c ports fed clean zero j l = let e = stage_passes q is c ports fed j (clean j (omega arith)) in rw e (and_true (c.full j))
   where
     and_true : (x : Bool) → (x && true) ≡ x
@@ -137,11 +137,11 @@ all_move q is c ports fed clean (suc n) j l =
     free true false = refl
     free false y = refl
 
-all_moves : (q : Pipeline) → IsPipeline q → (c : Contents) (ports : Ports) → IsFed ports → ((j : ℕ) → j < q.stages → IsClean q c j) → (j : ℕ) → j < q.stages → moves q c ports j ≡ c.full j
+all_moves : (q : Pipeline) → IsPipeline q → (c : Registers) (ports : Ports) → IsFed ports → ((j : ℕ) → j < q.stages → IsClean q c j) → (j : ℕ) → j < q.stages → moves q c ports j ≡ c.full j
 unfolding moves
 all_moves q is c ports fed clean j l = all_move q is c ports fed clean (q.stages - suc j) j (omega arith)
 
-runs_on : (q : Pipeline) → IsPipeline q → q.last ≡ 0 → (c : Contents) (k : ℕ) (ports : Ports) → IsFed ports → Runs q c k → Runs q (after_cycle q c ports) (suc k)
+runs_on : (q : Pipeline) → IsPipeline q → q.last ≡ 0 → (c : Registers) (k : ℕ) (ports : Ports) → IsFed ports → Runs q c k → Runs q (after_cycle q c ports) (suc k)
 runs_on q is last c k ports fed runs = record { full = full; clean = clean }
   where
     moved : (j : ℕ) → j < q.stages → moves q c ports j ≡ c.full j
@@ -198,7 +198,7 @@ chan_of (x ∷ xs) zero site e = let h : x ≡ site = cc in ap (λ (y : Site). y
 chan_of (x ∷ xs) (suc i) site e = chan_of xs i site e
 
 -- the words that a cycle sends on the channel
-given_once : (q : Pipeline) → IsPipeline q → (ch place : ℕ) → SendsOnce q ch place → (c : Contents) (k : ℕ) (ports : Ports) → IsFed ports → Runs q c k
+given_once : (q : Pipeline) → IsPipeline q → (ch place : ℕ) → SendsOnce q ch place → (c : Registers) (k : ℕ) (ports : Ports) → IsFed ports → Runs q c k
     → length (gave q.proc.behavior.sites ch (deeds_in q c ports)) ≡ cond (nat_le (q.stage place) k) 1 0
 unfolding deeds_in
 given_once q is ch place once c k ports fed runs =

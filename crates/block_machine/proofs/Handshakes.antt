@@ -9,7 +9,7 @@ use Rattle.net_core.specs.declared.event.Event.{Event}
 use Rattle.net_core.specs.Behavior.{Behavior, IsInDirection, chan_at}
 use Rattle.net_core.specs.Cuts.{words_sent, count_received}
 use Rattle.block_machine.specs.Pipeline.{Pipeline, IsPipeline, ReceivesNowhere, first}
-use Rattle.block_machine.specs.Cycle.{Ports, Contents, Deed, event_of, in_stage, event_list, asked_by, asked_of, asked_in, deeds_of, deeds_in}
+use Rattle.block_machine.specs.Cycle.{Ports, Registers, Deed, event_of, in_stage, event_list, asked_by, asked_of, asked_in, deeds_of, deeds_in}
 use Rattle.block_machine.specs.Since.{took, gave, Since, at_reset, one_more, after_cycles}
 use Rattle.block_machine.proofs.Choices.{eqb-eq, if_none}
 use Rattle.block_machine.proofs.Walks.{Goes, ends, skips, takes, gives, no_word, no_room}
@@ -24,11 +24,11 @@ use Rattle.block_machine.proofs.Prefixes.{past_at_reset, stands_at_reset, stands
 use Rattle.block_machine.proofs.Offered.{none_sent}
 use Rattle.block_machine.proofs.Asks.{one_receives}
 
-deeds_are : (q : Pipeline) (c : Contents) (ports : Ports) → deeds_in q c ports ≡ deeds_of q c ports 0 q.stages
+deeds_are : (q : Pipeline) (c : Registers) (ports : Ports) → deeds_in q c ports ≡ deeds_of q c ports 0 q.stages
 unfolding deeds_in
 deeds_are q c ports = refl
 
-asks_are : (q : Pipeline) (c : Contents) (ports : Ports) → asked_in q c ports ≡ asked_of q c ports 0 q.stages
+asks_are : (q : Pipeline) (c : Registers) (ports : Ports) → asked_in q c ports ≡ asked_of q c ports 0 q.stages
 unfolding asked_in
 asks_are q c ports = refl
 
@@ -44,7 +44,7 @@ none_waits b ch ports free s got got' i n p deeds waits (no_word t o) = refl
 none_waits b ch ports free s got got' i n p deeds waits (no_room w t o) =
     if_none (eqb (chan_at b.sites i) ch) w [] (λ x. let e = eqb-eq _ _ x in let y = rw e at o in cc) refl
 
-stage_sends : (q : Pipeline) (c : Contents) (ports : Ports) (acts : ℕ → Act) (ch j : ℕ) → IsHeld q c j (acts j) → ports.room ch ≡ true
+stage_sends : (q : Pipeline) (c : Registers) (ports : Ports) (acts : ℕ → Act) (ch j : ℕ) → IsHeld q c j (acts j) → ports.room ch ≡ true
     → words_sent q.proc.behavior.sites ch (asked_by (in_stage q c ports j)) ≡ gave q.proc.behavior.sites ch (in_stage q c ports j).deeds
 stage_sends q c ports acts ch j held free = go (cases (c.full j))
   where
@@ -59,7 +59,7 @@ stage_sends q c ports acts ch j held free = go (cases (c.full j))
         words_sent-append q.proc.behavior.sites ch (map event_of s.deeds) (event_list s.waits)
         ∙ append_none _ _ (none_waits q.proc.behavior ch ports free (acts j).state (acts j).got s.got (acts j).place (first q (suc j) - (acts j).place) s.place s.deeds s.waits (goes_on q c ports acts j held f))
 
-all_sends : (q : Pipeline) (c : Contents) (ports : Ports) (acts : ℕ → Act) (ch : ℕ) → ((j : ℕ) → j < q.stages → IsHeld q c j (acts j)) → ports.room ch ≡ true
+all_sends : (q : Pipeline) (c : Registers) (ports : Ports) (acts : ℕ → Act) (ch : ℕ) → ((j : ℕ) → j < q.stages → IsHeld q c j (acts j)) → ports.room ch ≡ true
     → (n k : ℕ) → k + n ≤ q.stages → words_sent q.proc.behavior.sites ch (asked_of q c ports k n) ≡ gave q.proc.behavior.sites ch (deeds_of q c ports k n)
 all_sends q c ports acts ch held free zero k l = refl
 all_sends q c ports acts ch held free (suc n) k l =
@@ -68,7 +68,7 @@ all_sends q c ports acts ch held free (suc n) k l =
     ∙ ap (λ x. gave q.proc.behavior.sites ch (in_stage q c ports k).deeds ++ x) (all_sends q c ports acts ch held free n (suc k) (omega arith))
     ∙ sym (gave-append q.proc.behavior.sites ch (in_stage q c ports k).deeds (deeds_of q c ports (suc k) n))
 
-stage_blocked : (q : Pipeline) (c : Contents) (ports : Ports) (acts : ℕ → Act) (ch j : ℕ) → IsHeld q c j (acts j) → ports.room ch ≡ false
+stage_blocked : (q : Pipeline) (c : Registers) (ports : Ports) (acts : ℕ → Act) (ch j : ℕ) → IsHeld q c j (acts j) → ports.room ch ≡ false
     → gave q.proc.behavior.sites ch (in_stage q c ports j).deeds ≡ []
 stage_blocked q c ports acts ch j held full = go (cases (c.full j))
   where
@@ -78,7 +78,7 @@ stage_blocked q c ports acts ch j held full = go (cases (c.full j))
         let s = in_stage q c ports j in
         none_sent q.proc.behavior ch ports full (acts j).state (acts j).got s.got (acts j).place (first q (suc j) - (acts j).place) s.place s.deeds s.waits (goes_on q c ports acts j held f)
 
-all_blocked : (q : Pipeline) (c : Contents) (ports : Ports) (acts : ℕ → Act) (ch : ℕ) → ((j : ℕ) → j < q.stages → IsHeld q c j (acts j)) → ports.room ch ≡ false
+all_blocked : (q : Pipeline) (c : Registers) (ports : Ports) (acts : ℕ → Act) (ch : ℕ) → ((j : ℕ) → j < q.stages → IsHeld q c j (acts j)) → ports.room ch ≡ false
     → (n k : ℕ) → k + n ≤ q.stages → gave q.proc.behavior.sites ch (deeds_of q c ports k n) ≡ []
 all_blocked q c ports acts ch held full zero k l = unfold words_sent in refl
 all_blocked q c ports acts ch held full (suc n) k l =
@@ -92,7 +92,7 @@ pub sent_words_go_where_there_is_room : (q : Pipeline) → IsPipeline q → (cyc
 unfolding deeds_in asked_in
 sent_words_go_where_there_is_room q is cycles ports chan = go (cases (ports.room chan))
   where
-    c : Contents
+    c : Registers
     c = (after_cycles q (at_reset q) cycles).contents
 
     go : (ports.room chan ≡ true) ⊎ (ports.room chan ≡ false)
@@ -143,7 +143,7 @@ takes_none b ch ports there s got got' i n p deeds waits (gives {n = m} {deeds =
 takes_none b ch ports there s got got' i n p deeds waits (no_word t o) = refl
 takes_none b ch ports there s got got' i n p deeds waits (no_room v t o) = refl
 
-stage_takes : (q : Pipeline) (c : Contents) (ports : Ports) (acts : ℕ → Act) (ch j : ℕ) (w : Word) → IsHeld q c j (acts j) → ports.offer ch ≡ Some w
+stage_takes : (q : Pipeline) (c : Registers) (ports : Ports) (acts : ℕ → Act) (ch j : ℕ) (w : Word) → IsHeld q c j (acts j) → ports.offer ch ≡ Some w
     → AreAll w (took q.proc.behavior.sites ch (in_stage q c ports j).deeds)
     × (count_received q.proc.behavior.sites ch (asked_by (in_stage q c ports j)) ≡ length (took q.proc.behavior.sites ch (in_stage q c ports j).deeds))
 stage_takes q c ports acts ch j w held there = go (cases (c.full j))
@@ -160,7 +160,7 @@ stage_takes q c ports acts ch j w held there = go (cases (c.full j))
         let none = r.1 in
         (r.0, omega (arith, sum, taken, none))
 
-all_take : (q : Pipeline) (c : Contents) (ports : Ports) (acts : ℕ → Act) (ch : ℕ) (w : Word) → ((j : ℕ) → j < q.stages → IsHeld q c j (acts j)) → ports.offer ch ≡ Some w
+all_take : (q : Pipeline) (c : Registers) (ports : Ports) (acts : ℕ → Act) (ch : ℕ) (w : Word) → ((j : ℕ) → j < q.stages → IsHeld q c j (acts j)) → ports.offer ch ≡ Some w
     → (n k : ℕ) → k + n ≤ q.stages
     → AreAll w (took q.proc.behavior.sites ch (deeds_of q c ports k n))
     × (count_received q.proc.behavior.sites ch (asked_of q c ports k n) ≡ length (took q.proc.behavior.sites ch (deeds_of q c ports k n)))
@@ -175,7 +175,7 @@ all_take q c ports acts ch w held there (suc n) k l =
     let b = more.1 in
     (subst (AreAll w) (sym split) (all-append w _ _ here.0 more.0), omega (arith, sum, long, a, b))
 
-stage_takes_none : (q : Pipeline) (c : Contents) (ports : Ports) (acts : ℕ → Act) (ch j : ℕ) → IsHeld q c j (acts j) → ports.offer ch ≡ None
+stage_takes_none : (q : Pipeline) (c : Registers) (ports : Ports) (acts : ℕ → Act) (ch j : ℕ) → IsHeld q c j (acts j) → ports.offer ch ≡ None
     → took q.proc.behavior.sites ch (in_stage q c ports j).deeds ≡ []
 stage_takes_none q c ports acts ch j held there = go (cases (c.full j))
   where
@@ -185,7 +185,7 @@ stage_takes_none q c ports acts ch j held there = go (cases (c.full j))
         let s = in_stage q c ports j in
         takes_none q.proc.behavior ch ports there (acts j).state (acts j).got s.got (acts j).place (first q (suc j) - (acts j).place) s.place s.deeds s.waits (goes_on q c ports acts j held f)
 
-each_takes_none : (q : Pipeline) (c : Contents) (ports : Ports) (ch : ℕ) → ((j : ℕ) → j < q.stages → took q.proc.behavior.sites ch (in_stage q c ports j).deeds ≡ [])
+each_takes_none : (q : Pipeline) (c : Registers) (ports : Ports) (ch : ℕ) → ((j : ℕ) → j < q.stages → took q.proc.behavior.sites ch (in_stage q c ports j).deeds ≡ [])
     → (n k : ℕ) → k + n ≤ q.stages → took q.proc.behavior.sites ch (deeds_of q c ports k n) ≡ []
 each_takes_none q c ports ch each zero k l = refl
 each_takes_none q c ports ch each (suc n) k l =
@@ -205,7 +205,7 @@ pub received_words_go_where_they_are_asked : (q : Pipeline) → IsPipeline q →
     ≡ cond (eqb (count_received q.proc.behavior.sites chan (asked_in q (after_cycles q (at_reset q) cycles).contents ports)) 0) [] (option_to_list (ports.offer chan))
 received_words_go_where_they_are_asked q is cycles ports chan = go (ports.offer chan) refl
   where
-    c : Contents
+    c : Registers
     c = (after_cycles q (at_reset q) cycles).contents
 
     opened_deeds : deeds_in q c ports ≡ deeds_of q c ports 0 q.stages
@@ -246,7 +246,7 @@ takes_nowhere q is ch nowhere ports s got got' i n p deeds waits (gives {n = m} 
 takes_nowhere q is ch nowhere ports s got got' i n p deeds waits (no_word t o) l = refl
 takes_nowhere q is ch nowhere ports s got got' i n p deeds waits (no_room v t o) l = refl
 
-stage_nowhere : (q : Pipeline) → IsPipeline q → (ch : ℕ) → ReceivesNowhere q ch → (c : Contents) (ports : Ports) (acts : ℕ → Act) (j : ℕ) → IsHeld q c j (acts j)
+stage_nowhere : (q : Pipeline) → IsPipeline q → (ch : ℕ) → ReceivesNowhere q ch → (c : Registers) (ports : Ports) (acts : ℕ → Act) (j : ℕ) → IsHeld q c j (acts j)
     → took q.proc.behavior.sites ch (in_stage q c ports j).deeds ≡ []
 stage_nowhere q is ch nowhere c ports acts j held = go (cases (c.full j))
   where

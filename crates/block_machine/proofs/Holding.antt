@@ -6,7 +6,7 @@ use Rattle.std.specs.List.{list_any}
 use Rattle.xb_bits.specs.Word.{Word}
 use Rattle.xb_value.specs.declared.value.Value.{Value}
 use Rattle.block_machine.specs.Pipeline.{Pipeline, IsPipeline, first}
-use Rattle.block_machine.specs.Cycle.{Ports, Begun, Contents, brought, Walk, walk, in_stage, moves, is_at, kept_after, after_cycle}
+use Rattle.block_machine.specs.Cycle.{Ports, Begun, Registers, brought, Walk, walk, in_stage, moves, is_at, kept_after, after_cycle}
 use Rattle.block_machine.proofs.Walks.{IsGoing, walk_goes, passes_all, place_range, nothing_outside}
 use Rattle.block_machine.proofs.Fronts.{IsDone, none, done_range, done_then, done_walk, done_stays, goes_done, kept_stays}
 use Rattle.block_machine.proofs.Stages.{stage_at, first_grows, first_zero}
@@ -19,27 +19,27 @@ pub record Act : Type 0 where
   pub place : ℕ
 
 -- it stands behind the stage's done sites
-pub record Holds (q : Pipeline) (c : Contents) (j : ℕ) (act : Act) : Type 0 where
+pub record Holds (q : Pipeline) (c : Registers) (j : ℕ) (act : Act) : Type 0 where
   pub state : (brought c j).state ≡ act.state
   pub done : IsDone q.proc.behavior c.done c.kept act.state (brought c j).got (first q j) act.got act.place
   pub until : act.place ≤ first q (suc j)
   pub undone : (k : ℕ) → act.place ≤ k → k < first q (suc j) → c.done k ≡ false
 
 -- no site of a stage is done
-abbrev pub IsClean : Pipeline → Contents → ℕ → Type 0
+abbrev pub IsClean : Pipeline → Registers → ℕ → Type 0
 IsClean q c j = (k : ℕ) → first q j ≤ k → k < first q (suc j) → c.done k ≡ false
 
-pub record IsHeld (q : Pipeline) (c : Contents) (j : ℕ) (act : Act) : Type 0 where
+pub record IsHeld (q : Pipeline) (c : Registers) (j : ℕ) (act : Act) : Type 0 where
   pub full : c.full j ≡ true → Holds q c j act
   pub free : c.full j ≡ false → IsClean q c j
 
-pub stage_walk : (q : Pipeline) (c : Contents) (ports : Ports) (j : ℕ) → c.full j ≡ true
+pub stage_walk : (q : Pipeline) (c : Registers) (ports : Ports) (j : ℕ) → c.full j ≡ true
     → in_stage q c ports j ≡ walk q.proc.behavior c.done c.kept ports (brought c j).state (brought c j).got (first q j) (first q (suc j) - first q j)
 unfolding in_stage
 stage_walk q c ports j f = rw f
 
 -- the walk of a stage goes on from where its activation stands
-pub stage_goes : (q : Pipeline) (c : Contents) (ports : Ports) (j : ℕ) (act : Act) → c.full j ≡ true → Holds q c j act
+pub stage_goes : (q : Pipeline) (c : Registers) (ports : Ports) (j : ℕ) (act : Act) → c.full j ≡ true → Holds q c j act
     → IsGoing q.proc.behavior ports act.state act.got act.place (first q (suc j) - act.place) (in_stage q c ports j)
 stage_goes q c ports j act f h =
     let e = h.state in
@@ -60,30 +60,30 @@ and_false true = refl
 and_false false = refl
 
 -- the done bit of a site after a cycle
-done_after : (q : Pipeline) → IsPipeline q → (c : Contents) (ports : Ports) (j k : ℕ) → first q j ≤ k → k < first q (suc j)
+done_after : (q : Pipeline) → IsPipeline q → (c : Registers) (ports : Ports) (j k : ℕ) → first q j ≤ k → k < first q (suc j)
     → (after_cycle q c ports).done k ≡ ((c.done k || list_any (is_at k) (in_stage q c ports j).deeds) && not (moves q c ports j))
 unfolding after_cycle
 done_after q is c ports j k l r = ap (λ s. (c.done k || list_any (is_at k) (in_stage q c ports s).deeds) && not (moves q c ports s)) (stage_at q is k j l r)
 
-word_after : (q : Pipeline) → IsPipeline q → (c : Contents) (ports : Ports) (j k : ℕ) → first q j ≤ k → k < first q (suc j)
+word_after : (q : Pipeline) → IsPipeline q → (c : Registers) (ports : Ports) (j k : ℕ) → first q j ≤ k → k < first q (suc j)
     → (after_cycle q c ports).kept k ≡ kept_after (c.kept k) k (in_stage q c ports j).deeds
 unfolding after_cycle
 word_after q is c ports j k l r = ap (λ s. kept_after (c.kept k) k (in_stage q c ports s).deeds) (stage_at q is k j l r)
 
 -- a stage that moved has no done site
-pub cleared_by_moving : (q : Pipeline) → IsPipeline q → (c : Contents) (ports : Ports) (j : ℕ) → moves q c ports j ≡ true → IsClean q (after_cycle q c ports) j
+pub cleared_by_moving : (q : Pipeline) → IsPipeline q → (c : Registers) (ports : Ports) (j : ℕ) → moves q c ports j ≡ true → IsClean q (after_cycle q c ports) j
 cleared_by_moving q is c ports j m k l r =
     done_after q is c ports j k l r ∙ (rw m (and_false (c.done k || list_any (is_at k) (in_stage q c ports j).deeds)))
 
 -- nor has one that held no activation
-pub clean_stays : (q : Pipeline) → IsPipeline q → (c : Contents) (ports : Ports) (j : ℕ) → c.full j ≡ false → IsClean q c j → IsClean q (after_cycle q c ports) j
+pub clean_stays : (q : Pipeline) → IsPipeline q → (c : Registers) (ports : Ports) (j : ℕ) → c.full j ≡ false → IsClean q c j → IsClean q (after_cycle q c ports) j
 clean_stays q is c ports j f clean k l r =
     let e = idle q c ports j f in
     let d = clean k l r in
     done_after q is c ports j k l r ∙ rw (e, d)
 
 -- a stage keeps its activation
-pub holds_on : (q : Pipeline) → IsPipeline q → (c : Contents) (ports : Ports) (j : ℕ) (act : Act) → c.full j ≡ true → Holds q c j act → moves q c ports j ≡ false
+pub holds_on : (q : Pipeline) → IsPipeline q → (c : Registers) (ports : Ports) (j : ℕ) (act : Act) → c.full j ≡ true → Holds q c j act → moves q c ports j ≡ false
     → brought (after_cycle q c ports) j ≡ brought c j
     → Holds q (after_cycle q c ports) j (walked act (in_stage q c ports j))
 holds_on q is c ports j act f h m same =
@@ -119,13 +119,13 @@ holds_on q is c ports j act f h m same =
     none_of : (x y z : Bool) → x ≡ false → y ≡ false → ((x || y) && not z) ≡ false
     none_of x y z e f = rw (e, f)
 
-brought_in : (q : Pipeline) (c : Contents) (ports : Ports) (j : ℕ) → moves q c ports j ≡ true
+brought_in : (q : Pipeline) (c : Registers) (ports : Ports) (j : ℕ) → moves q c ports j ≡ true
     → brought (after_cycle q c ports) (suc j) ≡ record { state = (brought c j).state; got = (in_stage q c ports j).got }
 unfolding after_cycle
 brought_in q c ports j m = rw m
 
 -- the activation that comes into a stage
-pub comes_in : (q : Pipeline) → IsPipeline q → (c : Contents) (ports : Ports) (j : ℕ) (act : Act) → moves q c ports j ≡ true → Holds q c j act
+pub comes_in : (q : Pipeline) → IsPipeline q → (c : Registers) (ports : Ports) (j : ℕ) (act : Act) → moves q c ports j ≡ true → Holds q c j act
     → IsClean q (after_cycle q c ports) (suc j)
     → Holds q (after_cycle q c ports) (suc j) (walked act (in_stage q c ports j))
 comes_in q is c ports j act m h clean =
@@ -145,7 +145,7 @@ comes_in q is c ports j act m h clean =
     }
 
 -- an activation begins in stage 0
-pub begins : (q : Pipeline) → IsPipeline q → (c : Contents) (s : Value) → c.state ≡ s → IsClean q c 0 → Holds q c 0 (record { state = s; got = []; place = 0 })
+pub begins : (q : Pipeline) → IsPipeline q → (c : Registers) (s : Value) → c.state ≡ s → IsClean q c 0 → Holds q c 0 (record { state = s; got = []; place = 0 })
 begins q is c s e clean =
     let z = first_zero q is in
     record {

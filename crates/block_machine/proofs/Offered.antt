@@ -12,7 +12,7 @@ use Rattle.net_core.specs.declared.event.Event.TheVariants.{Recv, Send, End}
 use Rattle.net_core.specs.Behavior.{Behavior, chan_at}
 use Rattle.net_core.specs.Cuts.{words_sent}
 use Rattle.block_machine.specs.Pipeline.{Pipeline, IsPipeline, first}
-use Rattle.block_machine.specs.Cycle.{Ports, Contents, Deed, event_of, in_stage, event_list, asked_by, asked_of, asked_in, after_cycle}
+use Rattle.block_machine.specs.Cycle.{Ports, Registers, Deed, event_of, in_stage, event_list, asked_by, asked_of, asked_in, after_cycle}
 use Rattle.block_machine.specs.Since.{gave, at_reset, after_cycles}
 use Rattle.block_machine.proofs.Choices.{eqb-eq, if_none}
 use Rattle.block_machine.proofs.Walks.{Goes, ends, skips, takes, gives, no_word, no_room}
@@ -41,7 +41,7 @@ none_sent b ch ports full s got got' i n p deeds waits (no_word t o) = refl
 none_sent b ch ports full s got got' i n p deeds waits (no_room w t o) = refl
 
 -- the stage and the site that offer a word
-pub record Offers (q : Pipeline) (c : Contents) (ports : Ports) (ch : ℕ) (w : Word) (k n : ℕ) : Type 0 where
+pub record Offers (q : Pipeline) (c : Registers) (ports : Ports) (ch : ℕ) (w : Word) (k n : ℕ) : Type 0 where
   pub stage : ℕ
   pub from : k ≤ stage
   pub until : stage < k + n
@@ -61,7 +61,7 @@ waiting_offers sites ch (Some (Send i v)) w ws e = go (eqb (chan_at sites i) ch)
     go true x y = let h : v ≡ w = cc in (i, ap (λ z. Some (Send i z)) h, x)
     go false x y = cc
 
-stage_offers : (q : Pipeline) (c : Contents) (ports : Ports) (acts : ℕ → Act) (ch j : ℕ) → IsHeld q c j (acts j) → ports.room ch ≡ false → (w : Word) (ws : List Word)
+stage_offers : (q : Pipeline) (c : Registers) (ports : Ports) (acts : ℕ → Act) (ch j : ℕ) → IsHeld q c j (acts j) → ports.room ch ≡ false → (w : Word) (ws : List Word)
     → words_sent q.proc.behavior.sites ch (asked_by (in_stage q c ports j)) ≡ w ∷ ws
     → (i : ℕ) × ((in_stage q c ports j).waits ≡ Some (Send i w)) × (eqb (chan_at q.proc.behavior.sites i) ch ≡ true)
 stage_offers q c ports acts ch j held full w ws e = go (cases (c.full j))
@@ -75,7 +75,7 @@ stage_offers q c ports acts ch j held full w ws e = go (cases (c.full j))
         let all = rw none at sum in
         waiting_offers q.proc.behavior.sites ch s.waits w ws (sym all ∙ e)
 
-some_offers : (q : Pipeline) (c : Contents) (ports : Ports) (acts : ℕ → Act) (ch : ℕ) → ((j : ℕ) → j < q.stages → IsHeld q c j (acts j)) → ports.room ch ≡ false → (w : Word) (ws : List Word)
+some_offers : (q : Pipeline) (c : Registers) (ports : Ports) (acts : ℕ → Act) (ch : ℕ) → ((j : ℕ) → j < q.stages → IsHeld q c j (acts j)) → ports.room ch ≡ false → (w : Word) (ws : List Word)
     → (n k : ℕ) → k + n ≤ q.stages → words_sent q.proc.behavior.sites ch (asked_of q c ports k n) ≡ w ∷ ws → Offers q c ports ch w k n
 some_offers q c ports acts ch held full w ws zero k l e = absurd (unfold words_sent in cc)
 some_offers q c ports acts ch held full w ws (suc n) k l e =
@@ -97,7 +97,7 @@ some_offers q c ports acts ch held full w ws (suc n) k l e =
         record { stage = k; from = omega arith; until = omega arith; site = r.0; waits = r.1; chan = r.2 }
 
 -- what a stage asks is asked
-is_asked : (q : Pipeline) (c : Contents) (ports : Ports) (ch : ℕ) (w : Word) (j site : ℕ) (others : List Event) → asked_by (in_stage q c ports j) ≡ Send site w ∷ others
+is_asked : (q : Pipeline) (c : Registers) (ports : Ports) (ch : ℕ) (w : Word) (j site : ℕ) (others : List Event) → asked_by (in_stage q c ports j) ≡ Send site w ∷ others
     → eqb (chan_at q.proc.behavior.sites site) ch ≡ true → (n k : ℕ) → k ≤ j → j < k + n
     → (xs : List Word) × (ys : List Word) × (words_sent q.proc.behavior.sites ch (asked_of q c ports k n) ≡ xs ++ w ∷ ys)
 is_asked q c ports ch w j site others e on zero k l h = absurd (omega arith)
@@ -136,7 +136,7 @@ alone [] [] zs w e l = e
 alone [] (y ∷ ys) zs w e l = absurd (let h = ap length e in omega (arith, h, l))
 alone (x ∷ xs) ys zs w e l = absurd (let h = ap length e in let k = length-append xs (w ∷ ys) in omega (arith, h, l, k))
 
-asked_all : (q : Pipeline) (c : Contents) (ports : Ports) → asked_in q c ports ≡ asked_of q c ports 0 q.stages
+asked_all : (q : Pipeline) (c : Registers) (ports : Ports) → asked_in q c ports ≡ asked_of q c ports 0 q.stages
 unfolding asked_in
 asked_all q c ports = refl
 

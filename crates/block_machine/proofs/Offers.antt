@@ -8,7 +8,7 @@ use Rattle.net_core.specs.declared.event.Event.{Event}
 use Rattle.net_core.specs.declared.event.Event.TheVariants.{Recv, Send}
 use Rattle.net_core.specs.Behavior.{Behavior, Receive, Give}
 use Rattle.block_machine.specs.Pipeline.{Pipeline, IsPipeline, first}
-use Rattle.block_machine.specs.Cycle.{Ports, Contents, Deed, event_of, in_stage, moves, event_list, asked_by, after_cycle}
+use Rattle.block_machine.specs.Cycle.{Ports, Registers, Deed, event_of, in_stage, moves, event_list, asked_by, after_cycle}
 use Rattle.block_machine.specs.Since.{at_reset, after_cycles}
 use Rattle.block_machine.proofs.Choices.{or_kept}
 use Rattle.block_machine.proofs.Walks.{Goes, ends, skips, takes, gives, no_word, no_room}
@@ -53,26 +53,26 @@ asks_first b ports s got got' i n p deeds waits (no_room w t o) l e (inl m) = ab
 asks_first b ports s got got' i n p deeds waits (no_room w t o) l e (inr m) = ([], let y = m.1 in let v : w ≡ m.0 = cc in let x = m.2 in rw (x, v) refl)
 
 -- a stage that waits holds an activation, and keeps it
-waits_full : (q : Pipeline) (c : Contents) (ports : Ports) (j : ℕ) (e : Event) → (in_stage q c ports j).waits ≡ Some e → c.full j ≡ true
+waits_full : (q : Pipeline) (c : Registers) (ports : Ports) (j : ℕ) (e : Event) → (in_stage q c ports j).waits ≡ Some e → c.full j ≡ true
 waits_full q c ports j e w = go (cases (c.full j))
   where
     go : (c.full j ≡ true) ⊎ (c.full j ≡ false) → c.full j ≡ true
     go (inl f) = f
     go (inr f) = absurd (let i = idle q c ports j f in let x = rw i at w in cc)
 
-waits_still : (q : Pipeline) (c : Contents) (ports : Ports) (j : ℕ) (e : Event) → (in_stage q c ports j).waits ≡ Some e → moves q c ports j ≡ false
+waits_still : (q : Pipeline) (c : Registers) (ports : Ports) (j : ℕ) (e : Event) → (in_stage q c ports j).waits ≡ Some e → moves q c ports j ≡ false
 waits_still q c ports j e w = go (cases (moves q c ports j))
   where
     go : (moves q c ports j ≡ true) ⊎ (moves q c ports j ≡ false) → moves q c ports j ≡ false
     go (inl m) = absurd (let x = (moving q c ports j m).waits in cc)
     go (inr m) = m
 
-stays_full : (q : Pipeline) (c : Contents) (ports : Ports) (j : ℕ) → c.full j ≡ true → moves q c ports j ≡ false → (after_cycle q c ports).full j ≡ true
+stays_full : (q : Pipeline) (c : Registers) (ports : Ports) (j : ℕ) → c.full j ≡ true → moves q c ports j ≡ false → (after_cycle q c ports).full j ≡ true
 stays_full q c ports zero f m = full_zero q c ports ∙ or_kept _ _ _ f m
 stays_full q c ports (suc j) f m = full_suc q c ports j ∙ or_kept _ _ _ f m
 
 -- a stage of the turn that holds an activation is the one that has it
-pub full_open : (q : Pipeline) (c : Contents) (o : ℕ) → HasTurn q c o → (j : ℕ) → j ≤ q.last → c.full j ≡ true → j ≡ o
+pub full_open : (q : Pipeline) (c : Registers) (o : ℕ) → HasTurn q c o → (j : ℕ) → j ≤ q.last → c.full j ≡ true → j ≡ o
 full_open q c o turn j l f = go (same_number j o)
   where
     go : (j ≡ o) ⊎ (j ≡ o → ⊥) → j ≡ o
@@ -80,7 +80,7 @@ full_open q c o turn j l f = go (same_number j o)
     go (inr ne) = absurd (let x = turn.alone j l ne in cc)
 
 -- and nothing comes into it
-act_stays : (q : Pipeline) (c : Contents) (ports : Ports) (acts : ℕ → Act) (o : ℕ) → HasTurn q c o → (j : ℕ) → j < q.stages → c.full j ≡ true → moves q c ports j ≡ false
+act_stays : (q : Pipeline) (c : Registers) (ports : Ports) (acts : ℕ → Act) (o : ℕ) → HasTurn q c o → (j : ℕ) → j < q.stages → c.full j ≡ true → moves q c ports j ≡ false
     → acts_after q c ports acts j ≡ walked (acts j) (in_stage q c ports j)
 act_stays q c ports acts o turn zero l f m = let e = none_begins (cases (moves q c ports q.last)) in rw e refl
   where
@@ -98,7 +98,7 @@ act_stays q c ports acts o turn (suc j) l f m = let e = none_comes (cases (moves
     none_comes (inl x) = absurd (let y = next_is_free q c ports j l x f in cc)
 
 -- what waits in a stage is the first that it asks in the next cycle
-pub waiting_stands : (q : Pipeline) → IsPipeline q → (c : Contents) (ports next : Ports) (acts : ℕ → Act) (o : ℕ) → HasTurn q c o → ((j : ℕ) → j < q.stages → IsHeld q c j (acts j))
+pub waiting_stands : (q : Pipeline) → IsPipeline q → (c : Registers) (ports next : Ports) (acts : ℕ → Act) (o : ℕ) → HasTurn q c o → ((j : ℕ) → j < q.stages → IsHeld q c j (acts j))
     → (j : ℕ) (event : Event) → j < q.stages → (in_stage q c ports j).waits ≡ Some event
     → (others : List Event) × (asked_by (in_stage q (after_cycle q c ports) next j) ≡ event ∷ others)
 waiting_stands q is c ports next acts o turn held j event l w =

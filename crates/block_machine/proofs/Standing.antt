@@ -10,7 +10,7 @@ use Rattle.net_core.specs.Behavior.{Behavior, IsInDirection}
 use Rattle.net_core.specs.Trace.{Histories, trace}
 use Rattle.net_core.specs.Cuts.{words_sent, count_received}
 use Rattle.block_machine.specs.Pipeline.{Pipeline, IsPipeline, IsSameEnd, first}
-use Rattle.block_machine.specs.Cycle.{Ports, Begun, Contents, brought, event_of, in_stage, moves, deeds_of, deeds_in}
+use Rattle.block_machine.specs.Cycle.{Ports, Begun, Registers, brought, event_of, in_stage, moves, deeds_of, deeds_in}
 use Rattle.block_machine.specs.Since.{took, gave, Since}
 use Rattle.block_machine.proofs.Walks.{IsGoing, passes_all, place_range}
 use Rattle.block_machine.proofs.Fronts.{done_range}
@@ -45,10 +45,10 @@ abbrev pub stages_past : Pipeline → ℕ
 stages_past q = q.stages - suc q.last
 
 -- what the stages past the turn's last one still owe, and the activations that they hold, the oldest first
-abbrev pub owed : Pipeline → Contents → (ℕ → Act) → List Event
+abbrev pub owed : Pipeline → Registers → (ℕ → Act) → List Event
 owed q c acts = gather (λ j. left_of q (acts j)) c.full (suc q.last) (stages_past q)
 
-abbrev pub inside : Pipeline → Contents → (ℕ → Act) → List Begun
+abbrev pub inside : Pipeline → Registers → (ℕ → Act) → List Begun
 inside q c acts = gather (λ j. begun_of (acts j)) c.full (suc q.last) (stages_past q)
 
 -- so many activations more, of which one stands here
@@ -75,7 +75,7 @@ pub record Stands (q : Pipeline) (since : Since) (cycles : ℕ) (past : Past) : 
   pub counted : length past.ended ≡ past.ends
 
 -- what the activation that has the turn adds to the events in a cycle
-abbrev pub made_in : Pipeline → Contents → Ports → Past → List Event
+abbrev pub made_in : Pipeline → Registers → Ports → Past → List Event
 made_in q c ports past =
     map event_of (in_stage q c ports past.open_stage).deeds
     ++ cond (moves q c ports q.last) (left_of q (walked (past.acts q.last) (in_stage q c ports q.last)) ++ End (beginning q c ports).state ∷ []) []
@@ -84,7 +84,7 @@ made_in q c ports past =
 abbrev pub top : Pipeline → ℕ
 top q = q.stages - 1
 
-abbrev pub past_after : Pipeline → Contents → Ports → Past → Past
+abbrev pub past_after : Pipeline → Registers → Ports → Past → Past
 past_after q c ports past = record {
   acts = acts_after q c ports past.acts;
   open_stage = open_after q c ports past.open_stage;
@@ -95,7 +95,7 @@ past_after q c ports past = record {
 }
 
 -- the walk of a stage that holds an activation
-pub goes_on : (q : Pipeline) (c : Contents) (ports : Ports) (acts : ℕ → Act) (j : ℕ) → IsHeld q c j (acts j) → c.full j ≡ true
+pub goes_on : (q : Pipeline) (c : Registers) (ports : Ports) (acts : ℕ → Act) (j : ℕ) → IsHeld q c j (acts j) → c.full j ≡ true
     → IsGoing q.proc.behavior ports (acts j).state (acts j).got (acts j).place (first q (suc j) - (acts j).place) (in_stage q c ports j)
 goes_on q c ports acts j held f = stage_goes q c ports j (acts j) f (held.full f)
 
@@ -105,7 +105,7 @@ pub record IsInside (q : Pipeline) (j : ℕ) (act : Act) : Type 0 where
   pub until : act.place ≤ first q (suc j)
   pub all : first q (suc j) ≤ length q.proc.behavior.sites
 
-pub is_inside : (q : Pipeline) (c : Contents) (acts : ℕ → Act) (j : ℕ) → IsHeld q c j (acts j) → c.full j ≡ true → IsInside q j (acts j)
+pub is_inside : (q : Pipeline) (c : Registers) (acts : ℕ → Act) (j : ℕ) → IsHeld q c j (acts j) → c.full j ≡ true → IsInside q j (acts j)
 is_inside q c acts j held f =
     let h = held.full f in
     record {
@@ -115,7 +115,7 @@ is_inside q c acts j held f =
     }
 
 -- where its walk leaves it
-pub walks_within : (q : Pipeline) (c : Contents) (ports : Ports) (acts : ℕ → Act) (j : ℕ) → IsHeld q c j (acts j) → c.full j ≡ true → IsInside q j (walked (acts j) (in_stage q c ports j))
+pub walks_within : (q : Pipeline) (c : Registers) (ports : Ports) (acts : ℕ → Act) (j : ℕ) → IsHeld q c j (acts j) → c.full j ≡ true → IsInside q j (walked (acts j) (in_stage q c ports j))
 walks_within q c ports acts j held f =
     let at = is_inside q c acts j held f in
     let w = in_stage q c ports j in
@@ -123,7 +123,7 @@ walks_within q c ports acts j held f =
     let a = at.from in let b = at.until in let x = r.0 in let y = r.1 in
     record { from = omega arith; until = omega arith; all = at.all }
 
-pub walks_through : (q : Pipeline) (c : Contents) (ports : Ports) (acts : ℕ → Act) (j : ℕ) → IsHeld q c j (acts j) → moves q c ports j ≡ true
+pub walks_through : (q : Pipeline) (c : Registers) (ports : Ports) (acts : ℕ → Act) (j : ℕ) → IsHeld q c j (acts j) → moves q c ports j ≡ true
     → (in_stage q c ports j).place ≡ first q (suc j)
 walks_through q c ports acts j held m =
     let mv = moving q c ports j m in
@@ -134,28 +134,28 @@ walks_through q c ports acts j held m =
     omega arith
 
 -- what goes through the ports of a channel at each stage
-pub given_of : (q : Pipeline) (c : Contents) (ports : Ports) (chan n k : ℕ)
+pub given_of : (q : Pipeline) (c : Registers) (ports : Ports) (chan n k : ℕ)
     → gave q.proc.behavior.sites chan (deeds_of q c ports k n) ≡ all_of (λ j. gave q.proc.behavior.sites chan (in_stage q c ports j).deeds) k n
 given_of q c ports chan zero k = unfold words_sent in refl
 given_of q c ports chan (suc n) k =
     gave-append q.proc.behavior.sites chan (in_stage q c ports k).deeds (deeds_of q c ports (suc k) n)
     ∙ ap (λ x. gave q.proc.behavior.sites chan (in_stage q c ports k).deeds ++ x) (given_of q c ports chan n (suc k))
 
-pub taken_of : (q : Pipeline) (c : Contents) (ports : Ports) (chan n k : ℕ)
+pub taken_of : (q : Pipeline) (c : Registers) (ports : Ports) (chan n k : ℕ)
     → took q.proc.behavior.sites chan (deeds_of q c ports k n) ≡ all_of (λ j. took q.proc.behavior.sites chan (in_stage q c ports j).deeds) k n
 taken_of q c ports chan zero k = refl
 taken_of q c ports chan (suc n) k =
     took-append q.proc.behavior.sites chan (in_stage q c ports k).deeds (deeds_of q c ports (suc k) n)
     ∙ ap (λ x. took q.proc.behavior.sites chan (in_stage q c ports k).deeds ++ x) (taken_of q c ports chan n (suc k))
 
-pub idle_gives : (q : Pipeline) (c : Contents) (ports : Ports) (chan j : ℕ) → c.full j ≡ false → gave q.proc.behavior.sites chan (in_stage q c ports j).deeds ≡ []
+pub idle_gives : (q : Pipeline) (c : Registers) (ports : Ports) (chan j : ℕ) → c.full j ≡ false → gave q.proc.behavior.sites chan (in_stage q c ports j).deeds ≡ []
 unfolding words_sent
 idle_gives q c ports chan j f = let e = idle q c ports j f in rw e refl
 
-pub idle_takes : (q : Pipeline) (c : Contents) (ports : Ports) (chan j : ℕ) → c.full j ≡ false → took q.proc.behavior.sites chan (in_stage q c ports j).deeds ≡ []
+pub idle_takes : (q : Pipeline) (c : Registers) (ports : Ports) (chan j : ℕ) → c.full j ≡ false → took q.proc.behavior.sites chan (in_stage q c ports j).deeds ≡ []
 idle_takes q c ports chan j f = let e = idle q c ports j f in rw e refl
 
-pub past_takes : (q : Pipeline) → IsPipeline q → (c : Contents) (ports : Ports) (acts : ℕ → Act) (chan j : ℕ) → q.last < j → IsHeld q c j (acts j)
+pub past_takes : (q : Pipeline) → IsPipeline q → (c : Registers) (ports : Ports) (acts : ℕ → Act) (chan j : ℕ) → q.last < j → IsHeld q c j (acts j)
     → took q.proc.behavior.sites chan (in_stage q c ports j).deeds ≡ []
 past_takes q is c ports acts chan j l held = go (cases (c.full j))
   where
@@ -170,7 +170,7 @@ past_takes q is c ports acts chan j l held = go (cases (c.full j))
         (goes_on q c ports acts j held f) (omega arith) (omega arith)
 
 -- only the activation that has the turn receives
-pub taken_in : (q : Pipeline) → IsPipeline q → (c : Contents) (ports : Ports) (acts : ℕ → Act) (o chan : ℕ) → HasTurn q c o → ((j : ℕ) → j < q.stages → IsHeld q c j (acts j))
+pub taken_in : (q : Pipeline) → IsPipeline q → (c : Registers) (ports : Ports) (acts : ℕ → Act) (o chan : ℕ) → HasTurn q c o → ((j : ℕ) → j < q.stages → IsHeld q c j (acts j))
     → took q.proc.behavior.sites chan (deeds_in q c ports) ≡ took q.proc.behavior.sites chan (in_stage q c ports o).deeds
 unfolding deeds_in
 taken_in q is c ports acts o chan turn held =
@@ -183,7 +183,7 @@ taken_in q is c ports acts o chan turn held =
     other j l ne (inr x) = idle_takes q c ports chan j (turn.alone j x ne)
 
 -- of those that have not given the turn on it alone sends
-pub given_in : (q : Pipeline) → IsPipeline q → (c : Contents) (ports : Ports) (o chan : ℕ) → HasTurn q c o
+pub given_in : (q : Pipeline) → IsPipeline q → (c : Registers) (ports : Ports) (o chan : ℕ) → HasTurn q c o
     → gave q.proc.behavior.sites chan (deeds_in q c ports)
     ≡ gave q.proc.behavior.sites chan (in_stage q c ports o).deeds ++ all_of (λ j. gave q.proc.behavior.sites chan (in_stage q c ports j).deeds) (suc q.last) (stages_past q)
 unfolding deeds_in
@@ -212,7 +212,7 @@ silent_behind q is chan i j a at l h k from len e s got w t =
     omega arith
 
 -- a stage further on has nothing for a silent channel
-pub silent_stage : (q : Pipeline) → IsPipeline q → (c : Contents) (ports : Ports) (acts : ℕ → Act) (chan i : ℕ) → IsHeld q c i (acts i) → IsSilent q.proc.behavior chan (first q i)
+pub silent_stage : (q : Pipeline) → IsPipeline q → (c : Registers) (ports : Ports) (acts : ℕ → Act) (chan i : ℕ) → IsHeld q c i (acts i) → IsSilent q.proc.behavior chan (first q i)
     → (gave q.proc.behavior.sites chan (in_stage q c ports i).deeds ≡ []) × (c.full i ≡ true → words_sent q.proc.behavior.sites chan (left_of q (walked (acts i) (in_stage q c ports i))) ≡ [])
 silent_stage q is c ports acts chan i held silent = (go (cases (c.full i)), λ f. left_silent f)
   where
@@ -233,7 +233,7 @@ silent_stage q is c ports acts chan i held silent = (go (cases (c.full i)), λ f
         silent_left q.proc.behavior chan (first q i) silent (acts i).state w.got (length q.proc.behavior.sites - w.place) w.place a (omega arith)
 
 -- where a stage sends a word on a channel, those further on have none for it
-pub apart_stages : (q : Pipeline) → IsPipeline q → (c : Contents) (ports : Ports) (acts : ℕ → Act) → ((j : ℕ) → j < q.stages → IsHeld q c j (acts j)) → (chan j : ℕ) → j < q.stages
+pub apart_stages : (q : Pipeline) → IsPipeline q → (c : Registers) (ports : Ports) (acts : ℕ → Act) → ((j : ℕ) → j < q.stages → IsHeld q c j (acts j)) → (chan j : ℕ) → j < q.stages
     → (gave q.proc.behavior.sites chan (in_stage q c ports j).deeds ≡ [])
     ⊎ ((i : ℕ) → j < i → q.last < i → i < q.stages
     → (gave q.proc.behavior.sites chan (in_stage q c ports i).deeds ≡ []) × (c.full i ≡ true → words_sent q.proc.behavior.sites chan (left_of q (walked (acts i) (in_stage q c ports i))) ≡ []))

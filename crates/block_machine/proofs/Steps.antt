@@ -13,7 +13,7 @@ use Rattle.net_core.specs.Behavior.{Behavior}
 use Rattle.net_core.specs.Trace.{Histories, trace}
 use Rattle.net_core.specs.Cuts.{words_sent, count_received}
 use Rattle.block_machine.specs.Pipeline.{Pipeline, IsPipeline, first}
-use Rattle.block_machine.specs.Cycle.{Ports, Begun, Contents, event_of, Walk, in_stage, moves, after_cycle, deeds_in}
+use Rattle.block_machine.specs.Cycle.{Ports, Begun, Registers, event_of, Walk, in_stage, moves, after_cycle, deeds_in}
 use Rattle.block_machine.specs.Since.{took, gave, Since, one_more}
 use Rattle.block_machine.proofs.Rests.{rest, walk_traces}
 use Rattle.block_machine.proofs.Stages.{no_receive, first_all, first_grows}
@@ -34,7 +34,7 @@ unfolding trace_on
 on_suc b k act words = refl
 
 -- the activation that has the turn, and what it makes
-walk_on : (q : Pipeline) (c : Contents) (ports : Ports) (acts : ℕ → Act) (o k : ℕ) → IsHeld q c o (acts o) → c.full o ≡ true → (more : Histories)
+walk_on : (q : Pipeline) (c : Registers) (ports : Ports) (acts : ℕ → Act) (o k : ℕ) → IsHeld q c o (acts o) → c.full o ≡ true → (more : Histories)
     → trace_on q.proc.behavior (suc k) (acts o) (λ ch. took q.proc.behavior.sites ch (in_stage q c ports o).deeds ++ more ch)
     ≡ map event_of (in_stage q c ports o).deeds ++ trace_on q.proc.behavior (suc k) (walked (acts o) (in_stage q c ports o)) more
 walk_on q c ports acts o k held f more =
@@ -47,7 +47,7 @@ walk_on q c ports acts o k held f more =
     ∙ ap (λ es. map event_of w.deeds ++ es) (sym (on_suc q.proc.behavior k (walked (acts o) w) more))
 
 -- at the end of the turn's last stage only sends are left, and then the end
-ends_turn : (q : Pipeline) → IsPipeline q → (c : Contents) (ports : Ports) (acts : ℕ → Act) (k : ℕ) → IsHeld q c q.last (acts q.last) → moves q c ports q.last ≡ true → (more : Histories)
+ends_turn : (q : Pipeline) → IsPipeline q → (c : Registers) (ports : Ports) (acts : ℕ → Act) (k : ℕ) → IsHeld q c q.last (acts q.last) → moves q c ports q.last ≡ true → (more : Histories)
     → trace_on q.proc.behavior (suc k) (walked (acts q.last) (in_stage q c ports q.last)) more
     ≡ (left_of q (walked (acts q.last) (in_stage q c ports q.last)) ++ End (beginning q c ports).state ∷ []) ++ trace_on q.proc.behavior k (beginning q c ports) more
 ends_turn q is c ports acts k held m more =
@@ -70,7 +70,7 @@ traces_next : (q : Pipeline) → IsPipeline q → (since : Since) (cycles : ℕ)
     ≡ (past.events ++ made_in q since.contents ports past) ++ trace_on q.proc.behavior k (acts_after q since.contents ports past.acts (open_after q since.contents ports past.open_stage)) more
 traces_next q is since cycles past st ports n k l e more = go (cases (moves q c ports q.last))
   where
-    c : Contents
+    c : Registers
     c = since.contents
 
     o : ℕ
@@ -147,10 +147,10 @@ words_end sites ch true es s = words_sent-append sites ch es (End s ∷ []) ∙ 
 words_end sites ch false es s = refl
 
 -- what the stages past the turn's last one owe, before and after they move
-walked_left : Pipeline → Contents → Ports → (ℕ → Act) → ℕ → List Event
+walked_left : Pipeline → Registers → Ports → (ℕ → Act) → ℕ → List Event
 walked_left q c ports acts j = left_of q (walked (acts j) (in_stage q c ports j))
 
-owed_split : (q : Pipeline) → IsPipeline q → (c : Contents) (ports : Ports) (acts : ℕ → Act) → ((j : ℕ) → j < q.stages → IsHeld q c j (acts j)) → (ch : ℕ)
+owed_split : (q : Pipeline) → IsPipeline q → (c : Registers) (ports : Ports) (acts : ℕ → Act) → ((j : ℕ) → j < q.stages → IsHeld q c j (acts j)) → (ch : ℕ)
     → words_sent q.proc.behavior.sites ch (owed q c acts)
     ≡ all_of (λ j. gave q.proc.behavior.sites ch (in_stage q c ports j).deeds) (suc q.last) (stages_past q)
     ++ gather (λ j. words_sent q.proc.behavior.sites ch (walked_left q c ports acts j)) c.full (suc q.last) (stages_past q)
@@ -188,7 +188,7 @@ owed_split q is c ports acts held ch =
     only j a (inr h) = inr (λ i x y. h i x (omega arith) y)
 
 -- moving keeps what is gathered in order
-moved_on : {A : Type 0} (q : Pipeline) → IsPipeline q → (c : Contents) (ports : Ports) (acts : ℕ → Act) (f : Act → List A)
+moved_on : {A : Type 0} (q : Pipeline) → IsPipeline q → (c : Registers) (ports : Ports) (acts : ℕ → Act) (f : Act → List A)
     → cond (moves q c ports (top q)) (f (walked (acts (top q)) (in_stage q c ports (top q)))) []
     ++ gather (λ j. f (acts_after q c ports acts j)) (after_cycle q c ports).full (suc q.last) (stages_past q)
     ≡ gather (λ j. f (walked (acts j) (in_stage q c ports j))) c.full (suc q.last) (stages_past q)
@@ -203,7 +203,7 @@ moved_on q is c ports acts f =
     (stages_past q) q.last (omega arith)
 
 -- what leaves the final stage owes nothing
-leaves_clear : (q : Pipeline) → IsPipeline q → (c : Contents) (ports : Ports) (acts : ℕ → Act) → IsHeld q c (top q) (acts (top q))
+leaves_clear : (q : Pipeline) → IsPipeline q → (c : Registers) (ports : Ports) (acts : ℕ → Act) → IsHeld q c (top q) (acts (top q))
     → cond (moves q c ports (top q)) (left_of q (walked (acts (top q)) (in_stage q c ports (top q)))) [] ≡ []
 leaves_clear q is c ports acts held = go (cases (moves q c ports (top q)))
   where
@@ -233,7 +233,7 @@ owes_next q is since cycles past st ports ch =
     ∙ ap (λ x. (since.sent ch ++ x) ++ (still_owed ++ new)) (sym (given_in q is c ports o ch st.turn))
     ∙ ap (λ x. (since.sent ch ++ gave q.proc.behavior.sites ch (deeds_in q c ports)) ++ x) (sym after)
   where
-    c : Contents
+    c : Registers
     c = since.contents
 
     o : ℕ
@@ -306,7 +306,7 @@ older_next q is since cycles past st ports =
     ∙ ap (λ x. past.gone ++ x) (sym (moved_on q is c ports past.acts begun_of))
     ∙ sym (append_assoc past.gone _ _)
   where
-    c : Contents
+    c : Registers
     c = since.contents
 
     ended : List Begun

@@ -7,25 +7,25 @@ use Rattle.net_core.specs.declared.event.Event.{Event}
 use Rattle.net_core.specs.Trace.{trace}
 use Rattle.net_core.specs.Cuts.{words_sent, count_received}
 use Rattle.block_machine.specs.Pipeline.{Pipeline, IsPipeline, first}
-use Rattle.block_machine.specs.Cycle.{Ports, Contents, Circuit, Walk, Deed, brought, walk_by, if_full, moves_through, contents_after, deeds_through, asked_by, asked_through}
+use Rattle.block_machine.specs.Cycle.{Ports, Registers, Circuit, Walk, Deed, brought, walk_by, if_full, moves_through, contents_after, deeds_through, asked_by, asked_through}
 use Rattle.block_machine.specs.Since.{Since, took, gave, at_reset}
 use Rattle.block_machine.specs.Steady.{AreFed, SendsOnce}
 
-abbrev pub stage_by : Circuit → Pipeline → Contents → Ports → ℕ → Walk
+abbrev pub stage_by : Circuit → Pipeline → Registers → Ports → ℕ → Walk
 stage_by x q c ports j =
     if_full (c.full j) (first q j)
     (walk_by x q.proc.behavior c.done c.kept ports (brought c j).state (brought c j).got (first q j) (first q (suc j) - first q j))
 
-abbrev pub moves_by : Circuit → Pipeline → Contents → Ports → ℕ → Bool
+abbrev pub moves_by : Circuit → Pipeline → Registers → Ports → ℕ → Bool
 moves_by x q c ports j = moves_through x c.full (stage_by x q c ports) (q.stages - suc j) j
 
-abbrev pub cycle_by : Circuit → Pipeline → Contents → Ports → Contents
+abbrev pub cycle_by : Circuit → Pipeline → Registers → Ports → Registers
 cycle_by x q c ports = contents_after x q c ports (stage_by x q c ports) (moves_by x q c ports)
 
-abbrev pub deeds_by : Circuit → Pipeline → Contents → Ports → List Deed
+abbrev pub deeds_by : Circuit → Pipeline → Registers → Ports → List Deed
 deeds_by x q c ports = deeds_through (stage_by x q c ports) 0 q.stages
 
-abbrev pub asks_by : Circuit → Pipeline → Contents → Ports → List Event
+abbrev pub asks_by : Circuit → Pipeline → Registers → Ports → List Event
 asks_by x q c ports = asked_through (stage_by x q c ports) 0 q.stages
 
 abbrev pub one_by : Circuit → Pipeline → Since → Ports → Since

@@ -22,7 +22,7 @@ pub record Begun : Type 0 where
   pub got : List Word
 
 -- the registers of a pipeline
-pub record Contents : Type 0 where
+pub record Registers : Type 0 where
   -- the stages that hold an activation. That of stage 0 is the turn: an activation may begin
   pub full : ℕ → Bool
   -- the state in which the next activation begins
@@ -35,7 +35,7 @@ pub record Contents : Type 0 where
   pub kept : ℕ → Word
 
 -- after reset, stage 0 has the turn, and nothing else is in use
-unfoldable pub opened : Pipeline → Contents
+unfoldable pub opened : Pipeline → Registers
 opened q = record {
   full = λ j. j == 0;
   state = q.proc.opening;
@@ -45,7 +45,7 @@ opened q = record {
 }
 
 -- what came into a stage: into stage 0 the state registers, and no word
-abbrev pub brought : Contents → ℕ → Begun
+abbrev pub brought : Registers → ℕ → Begun
 brought c zero = record { state = c.state; got = [] }
 brought c (suc j) = c.held (suc j)
 
@@ -163,7 +163,7 @@ abbrev pub if_full : Bool → ℕ → Walk → Walk
 if_full true i w = w
 if_full false i w = stopped i [] None
 
-unfoldable pub in_stage : Pipeline → Contents → Ports → ℕ → Walk
+unfoldable pub in_stage : Pipeline → Registers → Ports → ℕ → Walk
 in_stage q c ports j =
     if_full (c.full j) (first q j)
     (walk q.proc.behavior c.done c.kept ports (brought c j).state (brought c j).got (first q j) (first q (suc j) - first q j))
@@ -174,23 +174,23 @@ moves_through x full stage zero j = x.leaves (full j) (is_some (stage j).waits)
 moves_through x full stage (suc n) j =
     x.moves_on (full j) (is_some (stage j).waits) (full (suc j)) (moves_through x full stage n (suc j))
 
-abbrev pub moves_before : Pipeline → Contents → Ports → ℕ → ℕ → Bool
+abbrev pub moves_before : Pipeline → Registers → Ports → ℕ → ℕ → Bool
 moves_before q c ports n j = moves_through circuit c.full (in_stage q c ports) n j
 
-unfoldable pub moves : Pipeline → Contents → Ports → ℕ → Bool
+unfoldable pub moves : Pipeline → Registers → Ports → ℕ → Bool
 moves q c ports j = moves_before q c ports (q.stages - suc j) j
 
 -- the registers after a cycle, by what each stage does and which stages move
-abbrev pub full_after : Circuit → Pipeline → Contents → (ℕ → Bool) → ℕ → Bool
+abbrev pub full_after : Circuit → Pipeline → Registers → (ℕ → Bool) → ℕ → Bool
 full_after x q c moves zero = x.turn_next (moves q.last) (c.full 0) (moves 0)
 full_after x q c moves (suc j) = x.full_next (moves j) (c.full (suc j)) (moves (suc j))
 
-abbrev pub held_after : Contents → (ℕ → Walk) → (ℕ → Bool) → ℕ → Begun
+abbrev pub held_after : Registers → (ℕ → Walk) → (ℕ → Bool) → ℕ → Begun
 held_after c stage moves zero = c.held 0
 held_after c stage moves (suc j) =
     if moves j then record { state = (brought c j).state; got = (stage j).got } else c.held (suc j)
 
-abbrev pub contents_after : Circuit → Pipeline → Contents → Ports → (ℕ → Walk) → (ℕ → Bool) → Contents
+abbrev pub contents_after : Circuit → Pipeline → Registers → Ports → (ℕ → Walk) → (ℕ → Bool) → Registers
 contents_after x q c ports stage moves = record {
   full = full_after x q c moves;
   state = if moves q.last then q.proc.behavior.next_state (brought c q.last).state (stage q.last).got else c.state;
@@ -199,7 +199,7 @@ contents_after x q c ports stage moves = record {
   kept = λ i. x.keep (c.kept i) (ports.offer (chan_at q.proc.behavior.sites i)) i (stage (q.stage i)).deeds;
 }
 
-unfoldable pub after_cycle : Pipeline → Contents → Ports → Contents
+unfoldable pub after_cycle : Pipeline → Registers → Ports → Registers
 after_cycle q c ports = contents_after circuit q c ports (in_stage q c ports) (moves q c ports)
 
 -- all that goes through ports in a cycle, at so many stages from stage k on
@@ -207,10 +207,10 @@ abbrev pub deeds_through : (ℕ → Walk) → ℕ → ℕ → List Deed
 deeds_through stage k zero = []
 deeds_through stage k (suc n) = (stage k).deeds ++ deeds_through stage (suc k) n
 
-abbrev pub deeds_of : Pipeline → Contents → Ports → ℕ → ℕ → List Deed
+abbrev pub deeds_of : Pipeline → Registers → Ports → ℕ → ℕ → List Deed
 deeds_of q c ports k n = deeds_through (in_stage q c ports) k n
 
-unfoldable pub deeds_in : Pipeline → Contents → Ports → List Deed
+unfoldable pub deeds_in : Pipeline → Registers → Ports → List Deed
 deeds_in q c ports = deeds_of q c ports 0 q.stages
 
 abbrev pub event_list : Option Event → List Event
@@ -225,16 +225,16 @@ abbrev pub asked_through : (ℕ → Walk) → ℕ → ℕ → List Event
 asked_through stage k zero = []
 asked_through stage k (suc n) = asked_by (stage k) ++ asked_through stage (suc k) n
 
-abbrev pub asked_of : Pipeline → Contents → Ports → ℕ → ℕ → List Event
+abbrev pub asked_of : Pipeline → Registers → Ports → ℕ → ℕ → List Event
 asked_of q c ports k n = asked_through (in_stage q c ports) k n
 
-unfoldable pub asked_in : Pipeline → Contents → Ports → List Event
+unfoldable pub asked_in : Pipeline → Registers → Ports → List Event
 asked_in q c ports = asked_of q c ports 0 q.stages
 
 -- a cycle of the clock with its reset, as a row of a simulation has it: with reset nothing is asked, and what the registers
 -- hold afterwards is what they hold after reset
-abbrev pub asked_in_row : Pipeline → Contents → Bool → Ports → List Event
+abbrev pub asked_in_row : Pipeline → Registers → Bool → Ports → List Event
 asked_in_row q c rst ports = if rst then [] else asked_in q c ports
 
-abbrev pub after_row : Pipeline → Contents → Bool → Ports → Contents
+abbrev pub after_row : Pipeline → Registers → Bool → Ports → Registers
 after_row q c rst ports = if rst then opened q else after_cycle q c ports

@@ -5,7 +5,7 @@ use Rattle.net_core.specs.declared.net.Site.{Site}
 use Rattle.net_core.specs.Behavior.{chan_at}
 use Rattle.net_core.specs.Cuts.{words_sent}
 use Rattle.block_machine.specs.Pipeline.{Pipeline}
-use Rattle.block_machine.specs.Cycle.{Ports, Contents, opened, Deed, Takes, Gives, event_of, after_cycle, deeds_in}
+use Rattle.block_machine.specs.Cycle.{Ports, Registers, opened, Deed, Takes, Gives, event_of, after_cycle, deeds_in}
 
 -- the words received from channel c, and those sent on it
 abbrev pub took : List Site → ℕ → List Deed → List Word
@@ -18,7 +18,7 @@ gave sites c deeds = words_sent sites c (map event_of deeds)
 
 -- the registers, and for each channel the words that have been received and sent through its ports since reset
 pub record Since : Type 0 where
-  pub contents : Contents
+  pub contents : Registers
   pub received : ℕ → List Word
   pub sent : ℕ → List Word
 

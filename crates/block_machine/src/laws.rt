@@ -8,7 +8,7 @@ ghost use Rattle.net_core.specs.Trace.{trace};
 ghost use Rattle.lists.specs.Front.{IsFront};
 ghost use Rattle.net_core.specs.Cuts.{words_sent, count_received};
 ghost use Rattle.block_machine.specs.Pipeline.{Pipeline, IsPipeline, ReceivesNowhere};
-ghost use Rattle.block_machine.specs.Cycle.{Ports, Contents, in_stage, asked_by, asked_in, asked_in_row, after_cycle, after_row, deeds_in, opened};
+ghost use Rattle.block_machine.specs.Cycle.{Ports, Registers, in_stage, asked_by, asked_in, asked_in_row, after_cycle, after_row, deeds_in, opened};
 ghost use Rattle.block_machine.specs.Since.{took, gave, at_reset, after_cycles};
 ghost use Rattle.block_machine.specs.Steady.{AreFed, SendsOnce};
 
@@ -73,8 +73,8 @@ pub fn nothing_is_received_without_a_site()
 
 /// In a cycle with reset nothing is asked, and afterwards the registers hold what they hold after reset.
 pub fn nothing_is_asked_in_reset()
-    ensures asked { (q : Pipeline) (now : Contents) (ports : Ports) → asked_in_row q now true ports ≡ [] }
-    ensures after { (q : Pipeline) (now : Contents) (ports : Ports) → after_row q now true ports ≡ opened q }
+    ensures asked { (q : Pipeline) (now : Registers) (ports : Ports) → asked_in_row q now true ports ≡ [] }
+    ensures after { (q : Pipeline) (now : Registers) (ports : Ports) → after_row q now true ports ≡ opened q }
 {}
 
 /// A pipeline that keeps the turn in stage 0, is always fed and whose words are always taken: where each activation

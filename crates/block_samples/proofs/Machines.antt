@@ -7,7 +7,7 @@ use Rattle.xb_bits.specs.Word.{Word}
 use Rattle.net_core.specs.declared.net.Site.{Site}
 use Rattle.block_machine.specs.Pipeline.{Pipeline, first, count_before}
 use Rattle.block_machine.specs.Cycle as cycle
-use Rattle.block_machine.specs.Cycle.{Circuit, Contents, Deed, Takes, Gives, stopped, brought, walk_by, if_full, moves_through, held_after, full_after, kept_after, asked_by, asked_through}
+use Rattle.block_machine.specs.Cycle.{Circuit, Registers, Deed, Takes, Gives, stopped, brought, walk_by, if_full, moves_through, held_after, full_after, kept_after, asked_by, asked_through}
 use Rattle.block_machine.specs.Circuits.{stage_by}
 use Rattle.block_machine.specs.Logic.{at2, takes_at}
 use Rattle.block_machine.specs.declared.table.Table2.{Table2}
@@ -23,7 +23,7 @@ unfolding first
 first_is sample opening j = ap (λ n. count_before (λ i. stage_at (slice_get sample.sites.now i)) j n) (sym (length-map sample.sites.now site_of))
 
 -- a stage that holds an activation walks along its sites
-pub stage_walks : (x : Circuit) (sample : Sample) (opening : Word) (ports : Ports) (c : Contents) (j from left : ℕ) (walk : Walk)
+pub stage_walks : (x : Circuit) (sample : Sample) (opening : Word) (ports : Ports) (c : Registers) (j from left : ℕ) (walk : Walk)
     → c.full j ≡ true
     → from ≡ count_before (λ i. stage_at (slice_get sample.sites.now i)) j (length sample.sites.now)
     → left ≡ count_before (λ i. stage_at (slice_get sample.sites.now i)) (j + 1) (length sample.sites.now) - from
@@ -41,7 +41,7 @@ stage_walks x sample opening ports c j from left walk f e d shows =
     (subst (λ n. ShowsWalk (map site_of sample.sites.now) walk (walk_by x (behavior_of sample) c.done c.kept (ports_of ports) b.state b.got n left)) begins shows))
 
 -- one that holds none does nothing
-pub stage_idle : (x : Circuit) (sample : Sample) (opening : Word) (ports : Ports) (c : Contents) (j : ℕ) (walk : Walk) → c.full j ≡ false
+pub stage_idle : (x : Circuit) (sample : Sample) (opening : Word) (ports : Ports) (c : Registers) (j : ℕ) (walk : Walk) → c.full j ≡ false
     → ((i : ℕ) → ShowsWalk (map site_of sample.sites.now) walk (stopped i [] None))
     → ShowsWalk (map site_of sample.sites.now) walk (stage_by x (pipeline_of sample opening) c (ports_of ports) j)
 stage_idle x sample opening ports c j walk f shows =
@@ -79,14 +79,14 @@ pub moves_last : (x : Circuit) (full : ℕ → Bool) (stage_of : ℕ → cycle.W
 moves_last x full stage_of zero stage e = refl
 moves_last x full stage_of (suc n) stage e = absurd (omega (arith, e))
 
-pub held_stays : (c : Contents) (stage_of : ℕ → cycle.Walk) (moves : ℕ → Bool) (stage : ℕ) → 0 < stage → moves (stage - 1) ≡ false
+pub held_stays : (c : Registers) (stage_of : ℕ → cycle.Walk) (moves : ℕ → Bool) (stage : ℕ) → 0 < stage → moves (stage - 1) ≡ false
     → held_after c stage_of moves stage ≡ c.held stage
 held_stays c stage_of moves zero l e = absurd (omega (arith, l))
 held_stays c stage_of moves (suc j) l e =
     let less : suc j - 1 ≡ j = omega arith in
     let f = ap moves (sym less) ∙ e in rw f refl
 
-pub held_comes : (c : Contents) (stage_of : ℕ → cycle.Walk) (moves : ℕ → Bool) (stage : ℕ) → 0 < stage → moves (stage - 1) ≡ true
+pub held_comes : (c : Registers) (stage_of : ℕ → cycle.Walk) (moves : ℕ → Bool) (stage : ℕ) → 0 < stage → moves (stage - 1) ≡ true
     → held_after c stage_of moves stage ≡ record { state = (brought c (stage - 1)).state; got = (stage_of (stage - 1)).got }
 held_comes c stage_of moves zero l e = absurd (omega (arith, l))
 held_comes c stage_of moves (suc j) l e =
@@ -97,7 +97,7 @@ held_comes c stage_of moves (suc j) l e =
     same : (i k : ℕ) → i ≡ k → ◌≡◌ {A = cycle.Begun} (record { state = (brought c i).state; got = (stage_of i).got }) (record { state = (brought c k).state; got = (stage_of k).got })
     same i k e = ap (λ (n : ℕ). record { state = (brought c n).state; got = (stage_of n).got }) e
 
-pub full_past : (x : Circuit) (q : Pipeline) (c : Contents) (moves : ℕ → Bool) (stage : ℕ) → 0 < stage
+pub full_past : (x : Circuit) (q : Pipeline) (c : Registers) (moves : ℕ → Bool) (stage : ℕ) → 0 < stage
     → full_after x q c moves stage ≡ x.full_next (moves (stage - 1)) (c.full stage) (moves stage)
 full_past x q c moves zero l = absurd (omega (arith, l))
 full_past x q c moves (suc j) l =

@@ -7,11 +7,11 @@ use Rattle.block_machine.specs.Cycle.{opened}
 use Rattle.block_samples.specs.declared.sample.Begun.{Begun}
 use Rattle.block_samples.specs.declared.sample.Sample.{Sample}
 use Rattle.block_samples.specs.Samples.{bits_in, bits_of, pipeline_of, FitsMachine}
-use Rattle.block_samples.specs.Shows.{no_word, no_begun, ShowsBegun, Shows}
+use Rattle.block_samples.specs.Shows.{no_word, no_begun, ShowsBegun, ShowsMachine}
 use Rattle.block_samples.proofs.Tables.{four, eq_apart}
 
 pub reset_shows : (sample : Sample) → FitsMachine sample → (state kept : Word) → kept ≡ no_word
-    → Shows sample
+    → ShowsMachine sample
     (record {
       full = true ∷ false ∷ false ∷ false ∷ [];
       done = false ∷ false ∷ false ∷ false ∷ [];

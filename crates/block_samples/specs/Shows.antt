@@ -8,7 +8,7 @@ use Rattle.net_core.specs.Cuts.{words_sent, count_received}
 use Rattle.block_machine.specs.declared.logic.Step.{Step}
 use Rattle.block_machine.specs.declared.logic.Step.TheVariants.{Pass, Recall, Take, Put, AwaitWord, AwaitRoom}
 use Rattle.block_machine.specs.Cycle as cycle
-use Rattle.block_machine.specs.Cycle.{Circuit, Contents, Deed, Takes, Gives, brought, is_at, asked_by}
+use Rattle.block_machine.specs.Cycle.{Circuit, Registers, Deed, Takes, Gives, brought, is_at, asked_by}
 use Rattle.block_samples.specs.declared.machine.Asked.{Asked}
 use Rattle.block_samples.specs.declared.machine.Walk.{Walk}
 use Rattle.block_samples.specs.declared.machine.Machine.{Machine}
@@ -72,7 +72,7 @@ pub record ShowsWalk (sites : List Site) (walk : Walk) (of : cycle.Walk) : Type 
   pub asked : ShowsAsked sites walk.asked (asked_by of)
 
 -- the registers, as far as they are in use
-pub record Shows (sample : Sample) (machine : Machine) (c : Contents) : Type 0 where
+pub record ShowsMachine (sample : Sample) (machine : Machine) (c : Registers) : Type 0 where
   pub full : (j : ℕ) → j < sample.stages → get_or machine.full j false ≡ c.full j
   pub state : machine.state ≡ bits_of c.state
   pub held : (j : ℕ) → 0 < j → j < sample.stages → ShowsBegun (get_or machine.held j no_begun) (c.held j)

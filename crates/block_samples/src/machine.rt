@@ -6,11 +6,11 @@ ghost use Rattle.net_core.specs.declared.event.Event.TheVariants.{Recv, Send};
 ghost use Rattle.net_core.specs.Behavior.{chan_at};
 ghost use Rattle.net_core.specs.declared.event.Event.{Event};
 ghost use Rattle.block_machine.specs.Cycle as cycle;
-ghost use Rattle.block_machine.specs.Cycle.{Contents, Takes, Gives, opened, brought, stopped, behind_deed, walk_by, moves_through, asked_through};
+ghost use Rattle.block_machine.specs.Cycle.{Registers, Takes, Gives, opened, brought, stopped, behind_deed, walk_by, moves_through, asked_through};
 ghost use Rattle.block_machine.specs.Circuits.{stage_by, moves_by, cycle_by, asks_by};
 ghost use Rattle.block_machine.specs.Logic.{circuit_of, at2};
 ghost use Rattle.block_samples.specs.Samples.{bits_of, last_word, site_of, behavior_of, pipeline_of, ports_of, FitsMachine};
-ghost use Rattle.block_samples.specs.Shows.{no_word, no_begun, first_some, site_step, ShowsBegun, ShowsAsked, ShowsWalk, Shows, Keeps};
+ghost use Rattle.block_samples.specs.Shows.{no_word, no_begun, first_some, site_step, ShowsBegun, ShowsAsked, ShowsWalk, ShowsMachine, Keeps};
 
 use crate::sample::{Begun, Sample};
 use block_machine::{Logic, Step};
@@ -228,7 +228,7 @@ impl Walk {
 impl Machine {
     /// After reset, in this state: stage 0 has the turn, and nothing else is in use.
     pub fn reset(state: Bits) -> Machine
-        ensures { (sample : Sample) → FitsMachine sample → Shows sample result (opened (pipeline_of sample state)) }
+        ensures { (sample : Sample) → FitsMachine sample → ShowsMachine sample result (opened (pipeline_of sample state)) }
     {
         let begun = Begun { state, got: None };
         Machine {
@@ -242,8 +242,8 @@ impl Machine {
 
     /// One clock cycle by this logic: what it drives.
     pub fn cycle(&mut self, logic: &Logic, sample: &Sample, ports: &Ports) -> Asked
-        ensures registers { (opening : Word) (c : Contents) → FitsMachine sample.now → Shows sample.now self.old c → Shows sample.now self.new (cycle_by (circuit_of logic.now) (pipeline_of sample.now opening) c (ports_of ports.now)) }
-        ensures asked { (opening : Word) (c : Contents) → FitsMachine sample.now → Shows sample.now self.old c → ShowsAsked (map site_of sample.now.sites.now) result (asks_by (circuit_of logic.now) (pipeline_of sample.now opening) c (ports_of ports.now)) }
+        ensures registers { (opening : Word) (c : Registers) → FitsMachine sample.now → ShowsMachine sample.now self.old c → ShowsMachine sample.now self.new (cycle_by (circuit_of logic.now) (pipeline_of sample.now opening) c (ports_of ports.now)) }
+        ensures asked { (opening : Word) (c : Registers) → FitsMachine sample.now → ShowsMachine sample.now self.old c → ShowsAsked (map site_of sample.now.sites.now) result (asks_by (circuit_of logic.now) (pipeline_of sample.now opening) c (ports_of ports.now)) }
     {
         let asked = self.asked(logic, sample, ports);
         let next = Machine {
@@ -313,7 +313,7 @@ impl Machine {
 
     /// What came into a stage.
     fn brought(&self, stage: usize) -> Begun
-        ensures { (sample : Sample) (c : Contents) → Shows sample self.now c → stage < sample.stages → ShowsBegun result (brought c stage) }
+        ensures { (sample : Sample) (c : Registers) → ShowsMachine sample self.now c → stage < sample.stages → ShowsBegun result (brought c stage) }
     {
         if stage == 0 {
             Begun {
@@ -327,8 +327,8 @@ impl Machine {
 
     /// What a stage does.
     fn in_stage(&self, logic: &Logic, sample: &Sample, ports: &Ports, stage: usize) -> Walk
-        ensures state { (c : Contents) → Shows sample.now self.now c → stage < sample.now.stages → result.begun.state ≡ bits_of (brought c stage).state }
-        ensures shows { (opening : Word) (c : Contents) → FitsMachine sample.now → Shows sample.now self.now c → stage < sample.now.stages → ShowsWalk (map site_of sample.now.sites.now) result (stage_by (circuit_of logic.now) (pipeline_of sample.now opening) c (ports_of ports.now) stage) }
+        ensures state { (c : Registers) → ShowsMachine sample.now self.now c → stage < sample.now.stages → result.begun.state ≡ bits_of (brought c stage).state }
+        ensures shows { (opening : Word) (c : Registers) → FitsMachine sample.now → ShowsMachine sample.now self.now c → stage < sample.now.stages → ShowsWalk (map site_of sample.now.sites.now) result (stage_by (circuit_of logic.now) (pipeline_of sample.now opening) c (ports_of ports.now) stage) }
     {
         let begun = self.brought(stage);
         if stage >= 4 || !flag(&self.full, stage) {
@@ -359,7 +359,7 @@ impl Machine {
         stage: usize,
     ) -> bool
         requires { stage + behind < 4 }
-        ensures { (opening : Word) (c : Contents) → FitsMachine sample.now → Shows sample.now self.now c → stage + behind < sample.now.stages → result ≡ moves_through (circuit_of logic.now) c.full (stage_by (circuit_of logic.now) (pipeline_of sample.now opening) c (ports_of ports.now)) behind stage }
+        ensures { (opening : Word) (c : Registers) → FitsMachine sample.now → ShowsMachine sample.now self.now c → stage + behind < sample.now.stages → result ≡ moves_through (circuit_of logic.now) c.full (stage_by (circuit_of logic.now) (pipeline_of sample.now opening) c (ports_of ports.now)) behind stage }
     {
         let full = flag(&self.full, stage);
         let waits = self.in_stage(logic, sample, ports, stage).waits;
@@ -373,7 +373,7 @@ impl Machine {
 
     /// Whether a stage's activation goes on.
     fn moves(&self, logic: &Logic, sample: &Sample, ports: &Ports, stage: usize) -> bool
-        ensures { (opening : Word) (c : Contents) → FitsMachine sample.now → Shows sample.now self.now c → stage < sample.now.stages → result ≡ moves_by (circuit_of logic.now) (pipeline_of sample.now opening) c (ports_of ports.now) stage }
+        ensures { (opening : Word) (c : Registers) → FitsMachine sample.now → ShowsMachine sample.now self.now c → stage < sample.now.stages → result ≡ moves_by (circuit_of logic.now) (pipeline_of sample.now opening) c (ports_of ports.now) stage }
     {
         if stage < sample.stages && sample.stages <= 4 {
             self.moves_before(logic, sample, ports, sample.stages - 1 - stage, stage)
@@ -392,7 +392,7 @@ impl Machine {
         left: usize,
     ) -> Asked
         requires { stage + left ≤ 4 }
-        ensures { (opening : Word) (c : Contents) → FitsMachine sample.now → Shows sample.now self.now c → stage + left ≤ sample.now.stages → ShowsAsked (map site_of sample.now.sites.now) result (asked_through (stage_by (circuit_of logic.now) (pipeline_of sample.now opening) c (ports_of ports.now)) stage left) }
+        ensures { (opening : Word) (c : Registers) → FitsMachine sample.now → ShowsMachine sample.now self.now c → stage + left ≤ sample.now.stages → ShowsAsked (map site_of sample.now.sites.now) result (asked_through (stage_by (circuit_of logic.now) (pipeline_of sample.now opening) c (ports_of ports.now)) stage left) }
     {
         if left == 0 {
             return Asked::nothing();
@@ -403,7 +403,7 @@ impl Machine {
 
     /// What all stages ask.
     fn asked(&self, logic: &Logic, sample: &Sample, ports: &Ports) -> Asked
-        ensures { (opening : Word) (c : Contents) → FitsMachine sample.now → Shows sample.now self.now c → ShowsAsked (map site_of sample.now.sites.now) result (asks_by (circuit_of logic.now) (pipeline_of sample.now opening) c (ports_of ports.now)) }
+        ensures { (opening : Word) (c : Registers) → FitsMachine sample.now → ShowsMachine sample.now self.now c → ShowsAsked (map site_of sample.now.sites.now) result (asks_by (circuit_of logic.now) (pipeline_of sample.now opening) c (ports_of ports.now)) }
     {
         if sample.stages <= 4 {
             self.asked_from(logic, sample, ports, 0, sample.stages)
@@ -414,7 +414,7 @@ impl Machine {
 
     /// The state in which the next activation begins.
     fn next_state(&self, logic: &Logic, sample: &Sample, ports: &Ports) -> Bits
-        ensures { (opening : Word) (c : Contents) → FitsMachine sample.now → Shows sample.now self.now c → result ≡ bits_of (cycle_by (circuit_of logic.now) (pipeline_of sample.now opening) c (ports_of ports.now)).state }
+        ensures { (opening : Word) (c : Registers) → FitsMachine sample.now → ShowsMachine sample.now self.now c → result ≡ bits_of (cycle_by (circuit_of logic.now) (pipeline_of sample.now opening) c (ports_of ports.now)).state }
     {
         if self.moves(logic, sample, ports, sample.last) {
             let walk = self.in_stage(logic, sample, ports, sample.last);
@@ -427,7 +427,7 @@ impl Machine {
     /// Whether a stage past 0 holds an activation in the next cycle.
     fn stage_full(&self, logic: &Logic, sample: &Sample, ports: &Ports, stage: usize) -> bool
         requires { 0 < stage }
-        ensures { (opening : Word) (c : Contents) → FitsMachine sample.now → Shows sample.now self.now c → stage < sample.now.stages → result ≡ (cycle_by (circuit_of logic.now) (pipeline_of sample.now opening) c (ports_of ports.now)).full stage }
+        ensures { (opening : Word) (c : Registers) → FitsMachine sample.now → ShowsMachine sample.now self.now c → stage < sample.now.stages → result ≡ (cycle_by (circuit_of logic.now) (pipeline_of sample.now opening) c (ports_of ports.now)).full stage }
     {
         let comes = self.moves(logic, sample, ports, stage - 1);
         let full = flag(&self.full, stage);
@@ -437,7 +437,7 @@ impl Machine {
 
     /// Whether an activation may begin in the next cycle.
     fn next_turn(&self, logic: &Logic, sample: &Sample, ports: &Ports) -> bool
-        ensures { (opening : Word) (c : Contents) → FitsMachine sample.now → Shows sample.now self.now c → result ≡ (cycle_by (circuit_of logic.now) (pipeline_of sample.now opening) c (ports_of ports.now)).full 0 }
+        ensures { (opening : Word) (c : Registers) → FitsMachine sample.now → ShowsMachine sample.now self.now c → result ≡ (cycle_by (circuit_of logic.now) (pipeline_of sample.now opening) c (ports_of ports.now)).full 0 }
     {
         let ends = self.moves(logic, sample, ports, sample.last);
         let turn = flag(&self.full, 0);
@@ -448,7 +448,7 @@ impl Machine {
     /// What comes into a stage past 0, or stays there.
     fn comes_in(&self, logic: &Logic, sample: &Sample, ports: &Ports, stage: usize) -> Begun
         requires { 0 < stage }
-        ensures { (opening : Word) (c : Contents) → FitsMachine sample.now → Shows sample.now self.now c → stage < sample.now.stages → ShowsBegun result ((cycle_by (circuit_of logic.now) (pipeline_of sample.now opening) c (ports_of ports.now)).held stage) }
+        ensures { (opening : Word) (c : Registers) → FitsMachine sample.now → ShowsMachine sample.now self.now c → stage < sample.now.stages → ShowsBegun result ((cycle_by (circuit_of logic.now) (pipeline_of sample.now opening) c (ports_of ports.now)).held stage) }
     {
         if self.moves(logic, sample, ports, stage - 1) {
             self.in_stage(logic, sample, ports, stage - 1).begun
@@ -459,7 +459,7 @@ impl Machine {
 
     /// Whether a site is done in the next cycle.
     fn site_done(&self, logic: &Logic, sample: &Sample, ports: &Ports, place: usize) -> bool
-        ensures { (opening : Word) (c : Contents) → FitsMachine sample.now → Shows sample.now self.now c → place < length sample.now.sites.now → result ≡ (cycle_by (circuit_of logic.now) (pipeline_of sample.now opening) c (ports_of ports.now)).done place }
+        ensures { (opening : Word) (c : Registers) → FitsMachine sample.now → ShowsMachine sample.now self.now c → place < length sample.now.sites.now → result ≡ (cycle_by (circuit_of logic.now) (pipeline_of sample.now opening) c (ports_of ports.now)).done place }
     {
         let stage = sample.stage(place);
         let went = flag(&self.in_stage(logic, sample, ports, stage).went, place);
@@ -469,7 +469,7 @@ impl Machine {
 
     /// The word that a site keeps in the next cycle.
     fn site_kept(&self, logic: &Logic, sample: &Sample, ports: &Ports, place: usize) -> Bits
-        ensures { (opening : Word) (c : Contents) → FitsMachine sample.now → Shows sample.now self.now c → place < length sample.now.sites.now → result ≡ (cycle_by (circuit_of logic.now) (pipeline_of sample.now opening) c (ports_of ports.now)).kept place }
+        ensures { (opening : Word) (c : Registers) → FitsMachine sample.now → ShowsMachine sample.now self.now c → place < length sample.now.sites.now → result ≡ (cycle_by (circuit_of logic.now) (pipeline_of sample.now opening) c (ports_of ports.now)).kept place }
     {
         let kept = kept_at(&self.kept, place);
         let offer = offer_at(&ports.offer, sample.chan(place));
@@ -478,7 +478,7 @@ impl Machine {
     }
 
     fn next_full(&self, logic: &Logic, sample: &Sample, ports: &Ports) -> [bool; 4]
-        ensures { (opening : Word) (c : Contents) → FitsMachine sample.now → Shows sample.now self.now c → (j : ℕ) → j < sample.now.stages → get_or result j false ≡ (cycle_by (circuit_of logic.now) (pipeline_of sample.now opening) c (ports_of ports.now)).full j }
+        ensures { (opening : Word) (c : Registers) → FitsMachine sample.now → ShowsMachine sample.now self.now c → (j : ℕ) → j < sample.now.stages → get_or result j false ≡ (cycle_by (circuit_of logic.now) (pipeline_of sample.now opening) c (ports_of ports.now)).full j }
     {
         [
             self.next_turn(logic, sample, ports),
@@ -489,7 +489,7 @@ impl Machine {
     }
 
     fn next_held(&self, logic: &Logic, sample: &Sample, ports: &Ports) -> [Begun; 4]
-        ensures { (opening : Word) (c : Contents) → FitsMachine sample.now → Shows sample.now self.now c → (j : ℕ) → 0 < j → j < sample.now.stages → ShowsBegun (get_or result j no_begun) ((cycle_by (circuit_of logic.now) (pipeline_of sample.now opening) c (ports_of ports.now)).held j) }
+        ensures { (opening : Word) (c : Registers) → FitsMachine sample.now → ShowsMachine sample.now self.now c → (j : ℕ) → 0 < j → j < sample.now.stages → ShowsBegun (get_or result j no_begun) ((cycle_by (circuit_of logic.now) (pipeline_of sample.now opening) c (ports_of ports.now)).held j) }
     {
         [
             begun_at(&self.held, 0),
@@ -500,7 +500,7 @@ impl Machine {
     }
 
     fn next_done(&self, logic: &Logic, sample: &Sample, ports: &Ports) -> [bool; 4]
-        ensures { (opening : Word) (c : Contents) → FitsMachine sample.now → Shows sample.now self.now c → (i : ℕ) → i < length sample.now.sites.now → get_or result i false ≡ (cycle_by (circuit_of logic.now) (pipeline_of sample.now opening) c (ports_of ports.now)).done i }
+        ensures { (opening : Word) (c : Registers) → FitsMachine sample.now → ShowsMachine sample.now self.now c → (i : ℕ) → i < length sample.now.sites.now → get_or result i false ≡ (cycle_by (circuit_of logic.now) (pipeline_of sample.now opening) c (ports_of ports.now)).done i }
     {
         [
             self.site_done(logic, sample, ports, 0),
@@ -511,7 +511,7 @@ impl Machine {
     }
 
     fn next_kept(&self, logic: &Logic, sample: &Sample, ports: &Ports) -> [Bits; 4]
-        ensures { (opening : Word) (c : Contents) → FitsMachine sample.now → Shows sample.now self.now c → (i : ℕ) → i < length sample.now.sites.now → get_or result i no_word ≡ (cycle_by (circuit_of logic.now) (pipeline_of sample.now opening) c (ports_of ports.now)).kept i }
+        ensures { (opening : Word) (c : Registers) → FitsMachine sample.now → ShowsMachine sample.now self.now c → (i : ℕ) → i < length sample.now.sites.now → get_or result i no_word ≡ (cycle_by (circuit_of logic.now) (pipeline_of sample.now opening) c (ports_of ports.now)).kept i }
     {
         [
             self.site_kept(logic, sample, ports, 0),

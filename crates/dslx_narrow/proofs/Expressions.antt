@@ -10,7 +10,7 @@ use Rattle.xb_value.proofs.Lemmas.Types.{EachHas}
 use Rattle.xb_span.specs.declared.span.Span.{Span}
 use Rattle.xb_span.specs.declared.fault.Fault.{Fault}
 use Rattle.dslx_narrow_tree.specs.Names.{callee_of}
-use Rattle.dslx_narrow_tree.specs.Judging.{Local, Scope, Judged, Seen, seen, seen_step, call_seen, bound_in, name_judged, value_type, value_faults, type_alone, faults_alone, sum_type, sum_faults, is_token, token_faults, are_tokens, join_faults, broken, broken_where, all_alone, recv_faults, send_faults}
+use Rattle.dslx_narrow_tree.specs.Judging.{Local, Scope, Judged, SeenExpr, seen, seen_step, call_seen, bound_in, name_judged, value_type, value_faults, type_alone, faults_alone, sum_type, sum_faults, is_token, token_faults, are_tokens, join_faults, broken, broken_where, all_alone, recv_faults, send_faults}
 use Rattle.dslx_narrow_tree.specs.declared.callee.Callee.{Callee}
 use Rattle.dslx_narrow_tree.specs.declared.callee.Callee.TheVariants.{Join, Recv, Send, Unknown}
 use Rattle.dslx_narrow_tree.specs.declared.ident.Ident.{Ident}
@@ -149,9 +149,9 @@ number_case true w n types t is h =
 
 number_infers : (span : Span) (w : Width) (n : ℕ) → Infers (expr.Number span w n)
 number_infers span w n scope names types t h e =
-    let s = trees.fold-Number Seen seen_step span w n in
+    let s = trees.fold-Number SeenExpr seen_step span w n in
     ap (λ x. core_type x types) (core-Number span w n names)
-    ∙ number_case (nat_lt n (2 ^ w.bits)) w n types t refl (sym (ap (λ (x : Seen). (x.inside scope).ty) s) ∙ e)
+    ∙ number_case (nat_lt n (2 ^ w.bits)) w n types t refl (sym (ap (λ (x : SeenExpr). (x.inside scope).ty) s) ∙ e)
 
 name_case : (ident : Ident) (o : Option (Option SourceType)) (t : SourceType) → (name_judged ident o).ty ≡ Some t → o ≡ Some (Some t)
 name_case ident None t h = absurd (cc)
@@ -159,23 +159,23 @@ name_case ident (Some ty) t h = ap Some h
 
 name_infers : (ident : Ident) → Infers (expr.Name ident)
 name_infers ident scope names types t h e =
-    let s = trees.fold-Name Seen seen_step ident in
-    let is = name_case ident (bound_in ident.name scope.locals) t (sym (ap (λ (x : Seen). (x.inside scope).ty) s) ∙ e) in
+    let s = trees.fold-Name SeenExpr seen_step ident in
+    let is = name_case ident (bound_in ident.name scope.locals) t (sym (ap (λ (x : SeenExpr). (x.inside scope).ty) s) ∙ e) in
     let b = bound_typed ident.name scope.locals names types (Some t) h is in
     let same : b.ty ≡ t = let f = b.is in cc in
     ap (λ x. core_type x types) (core-Name ident names) ∙ (b.core ∙ ap Some same)
 
 unit_infers : (span : Span) → Infers (expr.Unit span)
 unit_infers span scope names types t h e =
-    let s = trees.fold-Unit Seen seen_step span in
-    let is : Some ty.Unit ≡ Some t = sym (ap (λ (x : Seen). (x.inside scope).ty) s) ∙ e in
+    let s = trees.fold-Unit SeenExpr seen_step span in
+    let is : Some ty.Unit ≡ Some t = sym (ap (λ (x : SeenExpr). (x.inside scope).ty) s) ∙ e in
     ap (λ x. core_type x types) (core-Unit span names) ∙ (type-Unit types ∙ is)
 
 join_case : (b : Bool) (types : SlotTypes) (t : SourceType) → (if b then Some ty.Token else None) ≡ Some t → core_type core.Token types ≡ Some t
 join_case true types t h = type-Token types ∙ h
 join_case false types t h = absurd (cc)
 
-call_case : (callee : Callee) (span : Span) (name : Ident) (args : List Seen) (scope : Scope) (types : SlotTypes) (t : SourceType) → ((call_seen callee span name args).inside scope).ty ≡ Some t → core_type (call_core callee) types ≡ Some t
+call_case : (callee : Callee) (span : Span) (name : Ident) (args : List SeenExpr) (scope : Scope) (types : SlotTypes) (t : SourceType) → ((call_seen callee span name args).inside scope).ty ≡ Some t → core_type (call_core callee) types ≡ Some t
 call_case Join span name args scope types t h = join_case (are_tokens scope args) types t h
 call_case Recv span name args scope types t h = absurd (cc)
 call_case Send span name args scope types t h = absurd (cc)
@@ -183,9 +183,9 @@ call_case Unknown span name args scope types t h = absurd (cc)
 
 call_infers : (span : Span) (name : Ident) (args : List Expr) → Infers (expr.Call span name args)
 call_infers span name args scope names types t h e =
-    let s = trees.fold-Call Seen seen_step span name args in
+    let s = trees.fold-Call SeenExpr seen_step span name args in
     ap (λ x. core_type x types) (core-Call span name args names)
-    ∙ call_case (callee_of name.name) span name (map seen args) scope types t (sym (ap (λ (x : Seen). (x.inside scope).ty) s) ∙ e)
+    ∙ call_case (callee_of name.name) span name (map seen args) scope types t (sym (ap (λ (x : SeenExpr). (x.inside scope).ty) s) ∙ e)
 
 pub alone_is : (o : Option SourceType) (t : SourceType) → value_type o ≡ Some t → o ≡ Some t
 alone_is None t h = absurd (cc)
@@ -207,12 +207,12 @@ sum_infers (Some (ty.Bits v)) (Some (ty.Received w)) ca cb t ha hb h = absurd (c
 
 add_infers : (span : Span) (l r : Expr) → Infers l → Infers r → Infers (expr.Add span l r)
 add_infers span l r hl hr scope names types t h e =
-    let s = trees.fold-Add Seen seen_step span l r in
+    let s = trees.fold-Add SeenExpr seen_step span l r in
     ap (λ x. core_type x types) (core-Add span l r names)
     ∙ (type-Add (core_of l names) (core_of r names) types
     ∙ sum_infers (type_alone scope (seen l)) (type_alone scope (seen r)) (core_type (core_of l names) types) (core_type (core_of r names) types) t
     (λ u is. hl scope names types u h (alone_is ((seen l).inside scope).ty u is)) (λ u is. hr scope names types u h (alone_is ((seen r).inside scope).ty u is))
-    (sym (ap (λ (x : Seen). (x.inside scope).ty) s) ∙ e))
+    (sym (ap (λ (x : SeenExpr). (x.inside scope).ty) s) ∙ e))
 
 pub infers : (e : Expr) → Infers e
 infers = trees.expr_induction Infers number_infers name_infers unit_infers call_infers add_infers
@@ -227,9 +227,9 @@ IsSure e = (scope : Scope) (names : List (List ℕ)) (types : SlotTypes) → Typ
 
 number_sure : (span : Span) (w : Width) (n : ℕ) → IsSure (expr.Number span w n)
 number_sure span w n scope names types h e =
-    let s = trees.fold-Number Seen seen_step span w n in
-    let small : nat_lt n (2 ^ w.bits) ≡ true = kept (nat_lt n (2 ^ w.bits)) 6 span (sym (ap (λ (x : Seen). (x.inside scope).faults) s) ∙ e) in
-    (ty.Bits w.bits, ap (λ (x : Seen). (x.inside scope).ty) s ∙ ap (λ b. if b then Some (ty.Bits w.bits) else None) small)
+    let s = trees.fold-Number SeenExpr seen_step span w n in
+    let small : nat_lt n (2 ^ w.bits) ≡ true = kept (nat_lt n (2 ^ w.bits)) 6 span (sym (ap (λ (x : SeenExpr). (x.inside scope).faults) s) ∙ e) in
+    (ty.Bits w.bits, ap (λ (x : SeenExpr). (x.inside scope).ty) s ∙ ap (λ b. if b then Some (ty.Bits w.bits) else None) small)
 
 name_has : (ident : Ident) (o : Option (Option SourceType)) → (name_judged ident o).faults ≡ [] → ((ty : Option SourceType) → o ≡ Some ty → HasType ty) → HasType (name_judged ident o).ty
 name_has ident None h f = absurd (cc)
@@ -237,13 +237,13 @@ name_has ident (Some ty) h f = f ty refl
 
 name_sure : (ident : Ident) → IsSure (expr.Name ident)
 name_sure ident scope names types h e =
-    let s = trees.fold-Name Seen seen_step ident in
-    let r = name_has ident (bound_in ident.name scope.locals) (sym (ap (λ (x : Seen). (x.inside scope).faults) s) ∙ e)
+    let s = trees.fold-Name SeenExpr seen_step ident in
+    let r = name_has ident (bound_in ident.name scope.locals) (sym (ap (λ (x : SeenExpr). (x.inside scope).faults) s) ∙ e)
     (λ o is. let b = bound_typed ident.name scope.locals names types o h is in (b.ty, b.is)) in
-    (r.0, ap (λ (x : Seen). (x.inside scope).ty) s ∙ r.1)
+    (r.0, ap (λ (x : SeenExpr). (x.inside scope).ty) s ∙ r.1)
 
 unit_sure : (span : Span) → IsSure (expr.Unit span)
-unit_sure span scope names types h e = (ty.Unit, ap (λ (x : Seen). (x.inside scope).ty) (trees.fold-Unit Seen seen_step span))
+unit_sure span scope names types h e = (ty.Unit, ap (λ (x : SeenExpr). (x.inside scope).ty) (trees.fold-Unit SeenExpr seen_step span))
 
 pub token_only : (o : Option SourceType) (span : Span) → HasType o → token_faults o span ≡ [] → o ≡ Some ty.Token
 token_only None span h e = let f = h.1 in absurd (cc)
@@ -269,9 +269,9 @@ call_sure_case Unknown span name args each scope names types h e = absurd (somet
 
 call_sure : (span : Span) (name : Ident) (args : List Expr) → EachHas IsSure args → IsSure (expr.Call span name args)
 call_sure span name args each scope names types h e =
-    let s = trees.fold-Call Seen seen_step span name args in
-    let r = call_sure_case (callee_of name.name) span name args each scope names types h (sym (ap (λ (x : Seen). (x.inside scope).faults) s) ∙ e) in
-    (r.0, ap (λ (x : Seen). (x.inside scope).ty) s ∙ r.1)
+    let s = trees.fold-Call SeenExpr seen_step span name args in
+    let r = call_sure_case (callee_of name.name) span name args each scope names types h (sym (ap (λ (x : SeenExpr). (x.inside scope).faults) s) ∙ e) in
+    (r.0, ap (λ (x : SeenExpr). (x.inside scope).ty) s ∙ r.1)
 
 -- what stands alone without faults
 alone_has : (o : Option SourceType) (span : Span) → HasType o → value_faults o span ≡ [] → HasType (value_type o)
@@ -305,11 +305,11 @@ sum_sure (Some (ty.Received v)) (Some u) span ha hb h = absurd (cc)
 
 add_sure : (span : Span) (l r : Expr) → IsSure l → IsSure r → IsSure (expr.Add span l r)
 add_sure span l r hl hr scope names types h e =
-    let s = trees.fold-Add Seen seen_step span l r in
-    let d = nothing_noted (faults_alone scope (seen l) ++ faults_alone scope (seen r)) (sum_faults (type_alone scope (seen l)) (type_alone scope (seen r)) span) (sym (ap (λ (x : Seen). (x.inside scope).faults) s) ∙ e) in
+    let s = trees.fold-Add SeenExpr seen_step span l r in
+    let d = nothing_noted (faults_alone scope (seen l) ++ faults_alone scope (seen r)) (sum_faults (type_alone scope (seen l)) (type_alone scope (seen r)) span) (sym (ap (λ (x : SeenExpr). (x.inside scope).faults) s) ∙ e) in
     let f = nothing_noted (faults_alone scope (seen l)) (faults_alone scope (seen r)) d.0 in
     let t = sum_sure (type_alone scope (seen l)) (type_alone scope (seen r)) span (alone_sure l hl scope names types h f.0) (alone_sure r hr scope names types h f.1) d.1 in
-    (t.0, ap (λ (x : Seen). (x.inside scope).ty) s ∙ t.1)
+    (t.0, ap (λ (x : SeenExpr). (x.inside scope).ty) s ∙ t.1)
 
 pub sure : (e : Expr) → IsSure e
 sure = trees.expr_induction_all IsSure number_sure name_sure unit_sure call_sure add_sure

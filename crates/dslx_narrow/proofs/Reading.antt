@@ -11,7 +11,7 @@ use Rattle.dslx_token.specs.Lexeme.{Lexeme}
 use Rattle.dslx_token.specs.Tokens.{IsFirstOdd, Tokens}
 use Rattle.dslx_token.specs.Refusal as token
 use Rattle.dslx_narrow_parser.specs.Reads as parser
-use Rattle.dslx_narrow_parser.specs.Reads.{IsReading, IsWithin, Reads, whole, misplaced, too_deep}
+use Rattle.dslx_narrow_parser.specs.Reads.{IsReading, IsShallow, Reads, whole, misplaced, too_deep}
 use Rattle.dslx_narrow_tree.specs.Checking.{first_fault, top_of}
 use Rattle.dslx_narrow_tree.specs.Network.{chan_of, network_if, network_limit}
 use Rattle.dslx_narrow_tree.specs.declared.proc.Module.{Module}
@@ -31,7 +31,7 @@ token_unread text (Broken rule span) is = absurd is
 token_unread text (Over limit) is = absurd is
 token_unread text OutOfMemory is = tt
 
-pub tree_read : {E : Type 0} (text : List ℕ) (ls : List Lexeme) (r : Result Module E) → Tokens text ls → IfOk r (λ m. Reads ls m) → IfOk r (λ m. IsWithin ls) → IfOk r (λ m. ReadsText text (Ok m))
+pub tree_read : {E : Type 0} (text : List ℕ) (ls : List Lexeme) (r : Result Module E) → Tokens text ls → IfOk r (λ m. Reads ls m) → IfOk r (λ m. IsShallow ls) → IfOk r (λ m. ReadsText text (Ok m))
 tree_read text ls (Ok m) tokens reads within = by_tokens ls (Ok m) tokens (whole m reads within)
 tree_read text ls (Err e) tokens reads within = tt
 

@@ -20,7 +20,7 @@ use Rattle.dslx_narrow_tree.proofs.Lemmas.Trees as trees
 use Rattle.xb_value.specs.Typing.{IsOfType}
 use Rattle.net_core.specs.declared.net.Chan.{Chan}
 use Rattle.net_core.specs.declared.net.Site.{Site}
-use Rattle.dslx_narrow_tree.specs.Judging.{Local, Scope, Judged, Seen, seen, seen_step, call_seen, written_type, is_type, type_alone, faults_alone, broken_where}
+use Rattle.dslx_narrow_tree.specs.Judging.{Local, Scope, Judged, SeenExpr, seen, seen_step, call_seen, written_type, is_type, type_alone, faults_alone, broken_where}
 use Rattle.dslx_narrow_tree.specs.Patterns.{declared_faults}
 use Rattle.dslx_narrow_tree.specs.Blocks.{walk, last_judged, result_faults, size_faults, block_faults, count_sites, statement_sites}
 use Rattle.dslx_narrow_tree.specs.Checking.{name_of_end, name_of_ident, end_faults, unknown_ends, config_faults, are_used, ends_fit, site_faults, opening_scope, next_scope, proc_faults}
@@ -130,8 +130,8 @@ IsCounted e = (doing_of e ≡ Values) ⊎ ((seen e).is_effect ≡ true)
 call_counted : (callee : Callee) (span : Span) (name : Ident) (args : List Expr) → callee_of name.name ≡ callee → IsCounted (expr.Call span name args)
 call_counted Join span name args is = inl (ap doing_step (outs-Call span name args) ∙ ap (λ c. call_doing c args) is)
 call_counted Unknown span name args is = inl (ap doing_step (outs-Call span name args) ∙ ap (λ c. call_doing c args) is)
-call_counted Recv span name args is = inr (ap (λ (x : Seen). x.is_effect) (trees.fold-Call Seen seen_step span name args) ∙ ap (λ c. (call_seen c span name (map seen args)).is_effect) is)
-call_counted Send span name args is = inr (ap (λ (x : Seen). x.is_effect) (trees.fold-Call Seen seen_step span name args) ∙ ap (λ c. (call_seen c span name (map seen args)).is_effect) is)
+call_counted Recv span name args is = inr (ap (λ (x : SeenExpr). x.is_effect) (trees.fold-Call SeenExpr seen_step span name args) ∙ ap (λ c. (call_seen c span name (map seen args)).is_effect) is)
+call_counted Send span name args is = inr (ap (λ (x : SeenExpr). x.is_effect) (trees.fold-Call SeenExpr seen_step span name args) ∙ ap (λ c. (call_seen c span name (map seen args)).is_effect) is)
 
 counted : (e : Expr) → IsCounted e
 counted = trees.expr_induction IsCounted

@@ -5,7 +5,7 @@ use Rattle.std.proofs.lemmas.Bool.Decides.{nat_tests}
 use Rattle.xb_value.specs.Width.{width_of}
 use Rattle.net_core.specs.declared.net.Chan.{Chan}
 use Rattle.net_core.specs.declared.net.Site.{Site}
-use Rattle.dslx_narrow_tree.specs.Judging.{Local, Scope, Judged, Seen, seen, value_faults}
+use Rattle.dslx_narrow_tree.specs.Judging.{Local, Scope, Judged, SeenExpr, seen, value_faults}
 use Rattle.dslx_narrow_tree.specs.Patterns.{Bound, binds, bound_by}
 use Rattle.dslx_narrow_tree.specs.Blocks.{judged_whole, Walked, with_locals, walk_let, walk_bare, walk_statement, walk}
 use Rattle.dslx_narrow_tree.specs.Activation.{Doing, Values, Receives, Sends, doing_of}

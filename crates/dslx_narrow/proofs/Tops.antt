@@ -4,7 +4,7 @@ use Rattle.std.specs.Prelude.{if◌then◌else◌, not}
 use Rattle.std.proofs.lemmas.Bool.Decides.{nat_tests}
 use Rattle.xb_span.specs.declared.span.Span.{Span}
 use Rattle.dslx_narrow_tree.specs.Names.{callee_of}
-use Rattle.dslx_narrow_tree.specs.Judging.{Scope, Judged, Seen, seen, seen_step, call_seen, value_type, type_alone, faults_alone, is_token, token_faults, held_faults, channel_faults, unknown_port, argument_faults, all_alone, recv_faults, recv_type, send_faults, send_type, received_type, word_type, port_named, port_at, port_in, port_if, bound_in, is_free, goes, is_direction, is_unused, sends_type, sent_faults, is_type, broken, broken_where}
+use Rattle.dslx_narrow_tree.specs.Judging.{Scope, Judged, SeenExpr, seen, seen_step, call_seen, value_type, type_alone, faults_alone, is_token, token_faults, held_faults, channel_faults, unknown_port, argument_faults, all_alone, recv_faults, recv_type, send_faults, send_type, received_type, word_type, port_named, port_at, port_in, port_if, bound_in, is_free, goes, is_direction, is_unused, sends_type, sent_faults, is_type, broken, broken_where}
 use Rattle.dslx_narrow_tree.specs.Activation.{Doing, Values, Receives, Sends, doing_of, doing_step, call_doing, receive_at, send_at, name_step}
 use Rattle.dslx_narrow_tree.specs.declared.callee.Callee.{Callee}
 use Rattle.dslx_narrow_tree.specs.declared.callee.Callee.TheVariants.{Join, Recv, Send, Unknown}
@@ -99,16 +99,16 @@ SameName e = (ident : Ident) → (seen e).ident ≡ Some ident → name_step (ou
 
 pub same_name : (e : Expr) → SameName e
 same_name = trees.expr_induction SameName
-    (λ span w n ident is. let s = ap (λ (x : Seen). x.ident) (trees.fold-Number Seen seen_step span w n) in absurd (cc))
+    (λ span w n ident is. let s = ap (λ (x : SeenExpr). x.ident) (trees.fold-Number SeenExpr seen_step span w n) in absurd (cc))
     (λ i ident is.
-    let s : (seen (expr.Name i)).ident ≡ Some i = ap (λ (x : Seen). x.ident) (trees.fold-Name Seen seen_step i) in
+    let s : (seen (expr.Name i)).ident ≡ Some i = ap (λ (x : SeenExpr). x.ident) (trees.fold-Name SeenExpr seen_step i) in
     let same : i ≡ ident = cc in
     ap name_step (outs-Name i) ∙ ap (λ (x : Ident). Some x.name) same)
-    (λ span ident is. let s = ap (λ (x : Seen). x.ident) (trees.fold-Unit Seen seen_step span) in absurd (cc))
-    (λ span name args ident is. absurd (call_none (callee_of name.name) span name (map seen args) ident (sym (ap (λ (x : Seen). x.ident) (trees.fold-Call Seen seen_step span name args)) ∙ is)))
-    (λ span l r hl hr ident is. let s = ap (λ (x : Seen). x.ident) (trees.fold-Add Seen seen_step span l r) in absurd (cc))
+    (λ span ident is. let s = ap (λ (x : SeenExpr). x.ident) (trees.fold-Unit SeenExpr seen_step span) in absurd (cc))
+    (λ span name args ident is. absurd (call_none (callee_of name.name) span name (map seen args) ident (sym (ap (λ (x : SeenExpr). x.ident) (trees.fold-Call SeenExpr seen_step span name args)) ∙ is)))
+    (λ span l r hl hr ident is. let s = ap (λ (x : SeenExpr). x.ident) (trees.fold-Add SeenExpr seen_step span l r) in absurd (cc))
   where
-    call_none : (callee : Callee) (span : Span) (name : Ident) (args : List Seen) (ident : Ident) → (call_seen callee span name args).ident ≡ Some ident → ⊥
+    call_none : (callee : Callee) (span : Span) (name : Ident) (args : List SeenExpr) (ident : Ident) → (call_seen callee span name args).ident ≡ Some ident → ⊥
     call_none Join span name args ident h = cc
     call_none Recv span name args ident h = cc
     call_none Send span name args ident h = cc
@@ -207,35 +207,35 @@ send_top e span (t ∷ c ∷ v ∷ x ∷ xs) scope names types h words f = absur
 
 call_top : (callee : Callee) (span : Span) (name : Ident) (args : List Expr) → callee_of name.name ≡ callee → IsTop (expr.Call span name args)
 call_top Join span name args is =
-    let s = trees.fold-Call Seen seen_step span name args in
+    let s = trees.fold-Call SeenExpr seen_step span name args in
     let joined : seen (expr.Call span name args) ≡ call_seen Join span name (map seen args) = s ∙ ap (λ c. call_seen c span name (map seen args)) is in
     plain_top (expr.Call span name args) (ap doing_step (outs-Call span name args) ∙ ap (λ c. call_doing c args) is)
-    (λ scope. ap (λ (x : Seen). x.on_top scope) joined ∙ sym (ap (λ (x : Seen). x.inside scope) joined))
+    (λ scope. ap (λ (x : SeenExpr). x.on_top scope) joined ∙ sym (ap (λ (x : SeenExpr). x.inside scope) joined))
 call_top Unknown span name args is =
-    let s = trees.fold-Call Seen seen_step span name args in
+    let s = trees.fold-Call SeenExpr seen_step span name args in
     let unknown : seen (expr.Call span name args) ≡ call_seen Unknown span name (map seen args) = s ∙ ap (λ c. call_seen c span name (map seen args)) is in
     plain_top (expr.Call span name args) (ap doing_step (outs-Call span name args) ∙ ap (λ c. call_doing c args) is)
-    (λ scope. ap (λ (x : Seen). x.on_top scope) unknown ∙ sym (ap (λ (x : Seen). x.inside scope) unknown))
+    (λ scope. ap (λ (x : SeenExpr). x.on_top scope) unknown ∙ sym (ap (λ (x : SeenExpr). x.inside scope) unknown))
 call_top Recv span name args is = λ scope names types h words f.
-    let whole : seen (expr.Call span name args) ≡ call_seen Recv span name (map seen args) = trees.fold-Call Seen seen_step span name args ∙ ap (λ c. call_seen c span name (map seen args)) is in
+    let whole : seen (expr.Call span name args) ≡ call_seen Recv span name (map seen args) = trees.fold-Call SeenExpr seen_step span name args ∙ ap (λ c. call_seen c span name (map seen args)) is in
     let doing : doing_of (expr.Call span name args) ≡ call_doing Recv args = ap doing_step (outs-Call span name args) ∙ ap (λ c. call_doing c args) is in
-    let r = recv_top (expr.Call span name args) span args scope names types h words (sym (ap (λ (x : Seen). (x.on_top scope).faults) whole) ∙ f) in
+    let r = recv_top (expr.Call span name args) span args scope names types h words (sym (ap (λ (x : SeenExpr). (x.on_top scope).faults) whole) ∙ f) in
     subst (λ d. TopOf d (expr.Call span name args) scope names types ((seen (expr.Call span name args)).on_top scope).ty) (sym doing)
-    (subst (λ o. TopOf (call_doing Recv args) (expr.Call span name args) scope names types o) (sym (ap (λ (x : Seen). (x.on_top scope).ty) whole)) r)
+    (subst (λ o. TopOf (call_doing Recv args) (expr.Call span name args) scope names types o) (sym (ap (λ (x : SeenExpr). (x.on_top scope).ty) whole)) r)
 call_top Send span name args is = λ scope names types h words f.
-    let whole : seen (expr.Call span name args) ≡ call_seen Send span name (map seen args) = trees.fold-Call Seen seen_step span name args ∙ ap (λ c. call_seen c span name (map seen args)) is in
+    let whole : seen (expr.Call span name args) ≡ call_seen Send span name (map seen args) = trees.fold-Call SeenExpr seen_step span name args ∙ ap (λ c. call_seen c span name (map seen args)) is in
     let doing : doing_of (expr.Call span name args) ≡ call_doing Send args = ap doing_step (outs-Call span name args) ∙ ap (λ c. call_doing c args) is in
-    let r = send_top (expr.Call span name args) span args scope names types h words (sym (ap (λ (x : Seen). (x.on_top scope).faults) whole) ∙ f) in
+    let r = send_top (expr.Call span name args) span args scope names types h words (sym (ap (λ (x : SeenExpr). (x.on_top scope).faults) whole) ∙ f) in
     subst (λ d. TopOf d (expr.Call span name args) scope names types ((seen (expr.Call span name args)).on_top scope).ty) (sym doing)
-    (subst (λ o. TopOf (call_doing Send args) (expr.Call span name args) scope names types o) (sym (ap (λ (x : Seen). (x.on_top scope).ty) whole)) r)
+    (subst (λ o. TopOf (call_doing Send args) (expr.Call span name args) scope names types o) (sym (ap (λ (x : SeenExpr). (x.on_top scope).ty) whole)) r)
 
 pub tops : (e : Expr) → IsTop e
 tops = trees.expr_induction IsTop
-    (λ span w n. let s = trees.fold-Number Seen seen_step span w n in plain_top (expr.Number span w n) (ap doing_step (outs-Number span w n)) (λ scope. ap (λ (x : Seen). x.on_top scope) s ∙ sym (ap (λ (x : Seen). x.inside scope) s)))
-    (λ ident. let s = trees.fold-Name Seen seen_step ident in plain_top (expr.Name ident) (ap doing_step (outs-Name ident)) (λ scope. ap (λ (x : Seen). x.on_top scope) s ∙ sym (ap (λ (x : Seen). x.inside scope) s)))
-    (λ span. let s = trees.fold-Unit Seen seen_step span in plain_top (expr.Unit span) (ap doing_step (outs-Unit span)) (λ scope. ap (λ (x : Seen). x.on_top scope) s ∙ sym (ap (λ (x : Seen). x.inside scope) s)))
+    (λ span w n. let s = trees.fold-Number SeenExpr seen_step span w n in plain_top (expr.Number span w n) (ap doing_step (outs-Number span w n)) (λ scope. ap (λ (x : SeenExpr). x.on_top scope) s ∙ sym (ap (λ (x : SeenExpr). x.inside scope) s)))
+    (λ ident. let s = trees.fold-Name SeenExpr seen_step ident in plain_top (expr.Name ident) (ap doing_step (outs-Name ident)) (λ scope. ap (λ (x : SeenExpr). x.on_top scope) s ∙ sym (ap (λ (x : SeenExpr). x.inside scope) s)))
+    (λ span. let s = trees.fold-Unit SeenExpr seen_step span in plain_top (expr.Unit span) (ap doing_step (outs-Unit span)) (λ scope. ap (λ (x : SeenExpr). x.on_top scope) s ∙ sym (ap (λ (x : SeenExpr). x.inside scope) s)))
     (λ span name args. call_top (callee_of name.name) span name args refl)
-    (λ span l r hl hr. let s = trees.fold-Add Seen seen_step span l r in plain_top (expr.Add span l r) (ap doing_step (outs-Add span l r)) (λ scope. ap (λ (x : Seen). x.on_top scope) s ∙ sym (ap (λ (x : Seen). x.inside scope) s)))
+    (λ span l r hl hr. let s = trees.fold-Add SeenExpr seen_step span l r in plain_top (expr.Add span l r) (ap doing_step (outs-Add span l r)) (λ scope. ap (λ (x : SeenExpr). x.on_top scope) s ∙ sym (ap (λ (x : SeenExpr). x.inside scope) s)))
 
 -- ---- where no effect may stand, what breaks no rule is a value
 
@@ -246,11 +246,11 @@ call_value_only : (callee : Callee) (span : Span) (name : Ident) (args : List Ex
 call_value_only Join span name args is = λ scope f. ap doing_step (outs-Call span name args) ∙ ap (λ c. call_doing c args) is
 call_value_only Unknown span name args is = λ scope f. ap doing_step (outs-Call span name args) ∙ ap (λ c. call_doing c args) is
 call_value_only Recv span name args is = λ scope f.
-    let whole : seen (expr.Call span name args) ≡ call_seen Recv span name (map seen args) = trees.fold-Call Seen seen_step span name args ∙ ap (λ c. call_seen c span name (map seen args)) is in
-    absurd (something_noted (recv_faults scope span (map seen args)) (broken 28 span) (sym (ap (λ (x : Seen). (x.inside scope).faults) whole) ∙ f))
+    let whole : seen (expr.Call span name args) ≡ call_seen Recv span name (map seen args) = trees.fold-Call SeenExpr seen_step span name args ∙ ap (λ c. call_seen c span name (map seen args)) is in
+    absurd (something_noted (recv_faults scope span (map seen args)) (broken 28 span) (sym (ap (λ (x : SeenExpr). (x.inside scope).faults) whole) ∙ f))
 call_value_only Send span name args is = λ scope f.
-    let whole : seen (expr.Call span name args) ≡ call_seen Send span name (map seen args) = trees.fold-Call Seen seen_step span name args ∙ ap (λ c. call_seen c span name (map seen args)) is in
-    absurd (something_noted (send_faults scope span (map seen args)) (broken 28 span) (sym (ap (λ (x : Seen). (x.inside scope).faults) whole) ∙ f))
+    let whole : seen (expr.Call span name args) ≡ call_seen Send span name (map seen args) = trees.fold-Call SeenExpr seen_step span name args ∙ ap (λ c. call_seen c span name (map seen args)) is in
+    absurd (something_noted (send_faults scope span (map seen args)) (broken 28 span) (sym (ap (λ (x : SeenExpr). (x.inside scope).faults) whole) ∙ f))
 
 pub values_only : (e : Expr) → IsValue e
 values_only = trees.expr_induction IsValue

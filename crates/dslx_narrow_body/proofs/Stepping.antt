@@ -13,20 +13,20 @@ use Rattle.dslx_narrow_core.specs.declared.design.Step.TheVariants as step
 use Rattle.dslx_narrow_core.specs.declared.design.Shape.{Shape}
 use Rattle.dslx_narrow_core.specs.declared.design.CoreExpr.{CoreExpr}
 use Rattle.dslx_narrow_body.specs.declared.walk.Walk.{Walk}
-use Rattle.dslx_narrow_body.specs.Inner.Walking.{Takes, Steps, event_from_here, received_value}
+use Rattle.dslx_narrow_body.specs.Inner.Walking.{TakesValue, Steps, event_from_here, received_value}
 
 ended_is : (k i : ℕ) → event_after stopped k i ≡ End (state_or_unit None)
 unfolding event_in
 ended_is k i = refl
 
 -- what comes behind a value that was taken apart
-taken : (shape : Shape) (value : Option SourceValue) (got : List Word) (done : ℕ) (old new : Walk) (ended : Option Event) → Takes shape value old new ended → old.site ≤ done → old.received ≤ old.site → (rest : CoreRest) → Type 0
+taken : (shape : Shape) (value : Option SourceValue) (got : List Word) (done : ℕ) (old new : Walk) (ended : Option Event) → TakesValue shape value old new ended → old.site ≤ done → old.received ≤ old.site → (rest : CoreRest) → Type 0
 taken shape value got done old new None h site received rest =
     (event_after (on_slots rest (bind_slots (λ v. shape_match shape v old.bound.items) value) (drop old.received got)) (done - old.site) old.site ≡ event_from_here rest got done new)
 taken shape value got done old new (Some event) h site received rest =
     event_after (on_slots rest (bind_slots (λ v. shape_match shape v old.bound.items) value) (drop old.received got)) (done - old.site) old.site ≡ event
 
-takes_on : (shape : Shape) (value : Option SourceValue) (got : List Word) (done : ℕ) (old new : Walk) (ended : Option Event) → (h : Takes shape value old new ended) → (site : old.site ≤ done) → (received : old.received ≤ old.site) → (rest : CoreRest)
+takes_on : (shape : Shape) (value : Option SourceValue) (got : List Word) (done : ℕ) (old new : Walk) (ended : Option Event) → (h : TakesValue shape value old new ended) → (site : old.site ≤ done) → (received : old.received ≤ old.site) → (rest : CoreRest)
     → taken shape value got done old new ended h site received rest
 unfolding taken
 takes_on shape value got done old new None h site received rest =
@@ -37,7 +37,7 @@ takes_on shape value got done old new (Some event) h site received rest =
     ap (λ o. event_after (on_slots rest o (drop old.received got)) (done - old.site) old.site) h.0 ∙ (ended_is (done - old.site) old.site ∙ sym h.1)
 
 pub bind_steps : (e : CoreExpr) (shape : Shape) (got : List Word) (done : ℕ) (old new : Walk) (ended : Option Event) → old.site ≤ done → old.received ≤ old.site
-    → Takes shape (core_value e old.bound.items) old new ended → Steps (step.Bind e shape) got done old new ended
+    → TakesValue shape (core_value e old.bound.items) old new ended → Steps (step.Bind e shape) got done old new ended
 unfolding taken
 bind_steps e shape got done old new None site received h =
     (takes_on shape (core_value e old.bound.items) got done old new None h site received, omega (arith, h.2), omega (arith, h.1, h.2))
@@ -75,7 +75,7 @@ received_course match rest got r (Some w) h = ap (receive_slots match rest) (dro
 
 pub receive_steps : (shape : Shape) (got : List Word) (done : ℕ) (old mid new : Walk) (word : Option Word) (ended : Option Event) → old.site < done → old.received ≤ old.site
     → slice_get got old.received ≡ word → mid.bound.items ≡ old.bound.items → mid.received ≡ old.received + 1 → mid.site ≡ old.site + 1
-    → Takes shape (received_value word) mid new ended → (c : ℕ) → Steps (step.Receive c shape) got done old new ended
+    → TakesValue shape (received_value word) mid new ended → (c : ℕ) → Steps (step.Receive c shape) got done old new ended
 unfolding taken
 receive_steps shape got done old mid new word None site received is bound r s h c =
     (λ rest. before rest ∙ takes_on shape (received_value word) got done mid new None h (omega (arith, s)) (omega (arith, r, s)) rest, omega (arith, h.2, s), omega (arith, h.1, h.2, r, s))
@@ -126,7 +126,7 @@ send_nothing e shape got done old new is c rest =
 
 pub send_steps : (e : CoreExpr) (shape : Shape) (got : List Word) (done : ℕ) (old mid new : Walk) (w : Word) (ended : Option Event) → old.site < done → old.received ≤ old.site
     → word_in (core_value e old.bound.items) ≡ Some w → mid.bound.items ≡ old.bound.items → mid.received ≡ old.received → mid.site ≡ old.site + 1
-    → Takes shape (Some val.Token) mid new ended → (c : ℕ) → Steps (step.Send c e shape) got done old new ended
+    → TakesValue shape (Some val.Token) mid new ended → (c : ℕ) → Steps (step.Send c e shape) got done old new ended
 unfolding taken
 send_steps e shape got done old mid new w None site received is bound r s h c =
     (λ rest. before rest ∙ takes_on shape (Some val.Token) got done mid new None h (omega (arith, s)) (omega (arith, r, s)) rest, omega (arith, h.2, s), omega (arith, h.1, h.2, r, s))

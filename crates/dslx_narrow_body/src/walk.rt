@@ -1,6 +1,6 @@
 ghost use Rattle.std.specs.Prelude.{ℕ, ◌≡◌, ◌≤◌, IfOk};
 ghost use Rattle.std.specs.Option.{option_copied};
-ghost use Rattle.dslx_narrow_body.specs.Inner.Walking.{Takes, Steps, received_value};
+ghost use Rattle.dslx_narrow_body.specs.Inner.Walking.{TakesValue, Steps, received_value};
 
 use dslx_narrow_core::{CoreExpr, Shape, Step, bind, plain_state, value_of, word_of};
 use dslx_narrow_tree::SourceValue;
@@ -25,7 +25,7 @@ impl Walk {
         shape: &Shape,
         value: Option<SourceValue>,
     ) -> Result<Option<Event>, AllocError>
-        ensures { IfOk result (λ ended. Takes shape.now value self.old self.new ended) }
+        ensures { IfOk result (λ ended. TakesValue shape.now value self.old self.new ended) }
     {
         if let Some(value) = value {
             if bind(shape, value, &mut self.bound)? {

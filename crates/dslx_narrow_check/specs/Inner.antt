@@ -12,17 +12,17 @@ use Rattle.dslx_narrow_tree.specs.declared.proc.Stmt.{Stmt}
 use Rattle.dslx_narrow_tree.specs.Checking.{used_in}
 use Rattle.dslx_narrow_tree.specs.declared.value.SourceType.{SourceType}
 use Rattle.dslx_narrow_judge.specs.declared.sight.Sight.{Sight}
-use Rattle.dslx_narrow_judge.specs.Sights.{AreNames, AreLocals, Shows}
+use Rattle.dslx_narrow_judge.specs.Sights.{AreNames, AreLocals, ShowsScope}
 
 -- the tables are those that a pattern leaves, and its faults are noted
-pub record Binds (bound : Bound) (names : Table Bool) (locals : Table (Option SourceType)) (old new : List Fault) : Type 0 where
+pub record BindsNames (bound : Bound) (names : Table Bool) (locals : Table (Option SourceType)) (old new : List Fault) : Type 0 where
   pub names_are : AreNames names bound.names
   pub locals_are : AreLocals locals bound.locals
   pub noted : new ≡ old ++ bound.faults
 
 -- the tables are those of the scope behind, and the faults are noted
 pub record Walks (walked : Walked) (sight : Sight) (old new : List Fault) : Type 0 where
-  pub shows : Shows sight walked.scope
+  pub shows : ShowsScope sight walked.scope
   pub faults : new ≡ old ++ walked.faults
 
 -- how often each name was used
@@ -36,6 +36,6 @@ ArePorts table ends = (n : List ℕ) → found table n ≡ port_in n ends
 -- some statements of a block are past: what is walked from where the tables stand completes what is walked from the start
 abbrev pub WalksOn : Bool → List (List ℕ) → List Stmt → Scope → List Stmt → Sight → List Fault → List Fault → Type 0
 WalksOn on_top is all scope rest sight old new =
-    (here : Scope) × Shows sight here
+    (here : Scope) × ShowsScope sight here
     × ((walk on_top is rest here).scope ≡ (walk on_top is all scope).scope)
     × (new ++ (walk on_top is rest here).faults ≡ old ++ (walk on_top is all scope).faults)

@@ -1,7 +1,7 @@
 ghost use Rattle.std.specs.Prelude.{◌≡◌, ◌++◌, [], List, ℕ, if◌then◌else◌, OnOk, IfOk};
 ghost use Rattle.dslx_narrow_tree.specs.Judging.{Scope, seen, value_faults};
 ghost use Rattle.dslx_narrow_tree.specs.Blocks.{walk, walk_statement, walk_let, walk_bare, last_judged, result_faults, size_faults, block_faults, used_by};
-ghost use Rattle.dslx_narrow_judge.specs.Sights.{AreNames, Shows, Judges, Notes};
+ghost use Rattle.dslx_narrow_judge.specs.Sights.{AreNames, ShowsScope, Judges, Notes};
 ghost use Rattle.dslx_narrow_check.specs.Inner.{Walks};
 
 use crate::patterns::bind;
@@ -21,7 +21,7 @@ fn statement<'a>(
     sight: &mut Sight<'a>,
     faults: &mut Vec<Fault>,
 ) -> Result<(), AllocError>
-    ensures { OnOk result ((is : List (List ℕ)) (scope : Scope) → AreNames items.now is → Shows sight.old scope →
+    ensures { OnOk result ((is : List (List ℕ)) (scope : Scope) → AreNames items.now is → ShowsScope sight.old scope →
         Walks (walk_statement on_top is statement.now scope) sight.new faults.old.items faults.new.items) }
 {
     match statement {
@@ -39,7 +39,7 @@ fn let_statement<'a>(
     sight: &mut Sight<'a>,
     faults: &mut Vec<Fault>,
 ) -> Result<(), AllocError>
-    ensures { OnOk result ((is : List (List ℕ)) (scope : Scope) → AreNames items.now is → Shows sight.old scope →
+    ensures { OnOk result ((is : List (List ℕ)) (scope : Scope) → AreNames items.now is → ShowsScope sight.old scope →
         Walks (walk_let on_top is pattern.now (seen e.now) scope) sight.new faults.old.items faults.new.items) }
 {
     let ty = whole(on_top, sight, e, faults)?;
@@ -56,7 +56,7 @@ fn bare_statement<'a>(
     sight: &mut Sight<'a>,
     faults: &mut Vec<Fault>,
 ) -> Result<(), AllocError>
-    ensures { OnOk result ((is : List (List ℕ)) (scope : Scope) → AreNames _items.now is → Shows sight.old scope →
+    ensures { OnOk result ((is : List (List ℕ)) (scope : Scope) → AreNames _items.now is → ShowsScope sight.old scope →
         Walks (walk_bare on_top (seen e.now) scope) sight.new faults.old.items faults.new.items) }
 {
     let ty = whole(on_top, sight, e, faults)?;
@@ -77,8 +77,8 @@ fn note_bare(ty: Option<SourceType>, e: &Expr, faults: &mut Vec<Fault>) -> Resul
 
 /// The channel of an effect has a site from here on.
 fn use_channel<'a>(sight: &mut Sight<'a>, e: &'a Expr) -> Result<(), AllocError>
-    ensures { OnOk result ((scope : Scope) → Shows sight.old scope →
-        Shows sight.new (record { locals = scope.locals; members = scope.members; used = used_by (seen e.now).channel scope.used })) }
+    ensures { OnOk result ((scope : Scope) → ShowsScope sight.old scope →
+        ShowsScope sight.new (record { locals = scope.locals; members = scope.members; used = used_by (seen e.now).channel scope.used })) }
 {
     if let Some(ident) = e.channel() {
         sight.used.put(ident.name.as_str(), true)?;
@@ -95,7 +95,7 @@ fn statements<'a>(
     sight: &mut Sight<'a>,
     faults: &mut Vec<Fault>,
 ) -> Result<(), AllocError>
-    ensures { OnOk result ((is : List (List ℕ)) (scope : Scope) → AreNames items.now is → Shows sight.old scope →
+    ensures { OnOk result ((is : List (List ℕ)) (scope : Scope) → AreNames items.now is → ShowsScope sight.old scope →
         Walks (walk on_top is statements.now scope) sight.new faults.old.items faults.new.items) }
 {
     for s in statements {
@@ -160,7 +160,7 @@ pub(crate) fn block<'a>(
     mut sight: Sight<'a>,
     faults: &mut Vec<Fault>,
 ) -> Result<(), AllocError>
-    ensures { OnOk result ((is : List (List ℕ)) (scope : Scope) → AreNames items.now is → Shows sight.entry scope →
+    ensures { OnOk result ((is : List (List ℕ)) (scope : Scope) → AreNames items.now is → ShowsScope sight.entry scope →
         faults.new.items ≡ faults.old.items ++ block_faults on_top is scope wanted block.now) }
 {
     statements(

@@ -2,7 +2,7 @@ ghost use Rattle.std.specs.Prelude.{◌≡◌, ◌++◌, List, ℕ, OnOk};
 ghost use Rattle.dslx_narrow_tree.specs.Judging.{Local};
 ghost use Rattle.dslx_narrow_tree.specs.Patterns.{declared_faults, binds, first_type, second_type, pair_faults};
 ghost use Rattle.dslx_narrow_judge.specs.Sights.{AreNames, AreLocals};
-ghost use Rattle.dslx_narrow_check.specs.Inner.{Binds};
+ghost use Rattle.dslx_narrow_check.specs.Inner.{BindsNames};
 
 use dslx_narrow_judge::note_where;
 use dslx_narrow_tree::{Ident, Pattern, SourceType, is_reserved};
@@ -35,7 +35,7 @@ pub(crate) fn bind<'a>(
     faults: &mut Vec<Fault>,
 ) -> Result<(), AllocError>
     ensures { OnOk result ((is ns : List (List ℕ)) (ls : List Local) → AreNames items.now is → AreNames names.old ns → AreLocals locals.old ls →
-        Binds (binds pattern.now is ty ns ls) names.new locals.new faults.old.items faults.new.items) }
+        BindsNames (binds pattern.now is ty ns ls) names.new locals.new faults.old.items faults.new.items) }
 {
     match pattern {
         Pattern::Wild(_) => Ok(()),

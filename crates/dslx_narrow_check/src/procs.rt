@@ -1,6 +1,6 @@
 ghost use Rattle.std.specs.Prelude.{◌≡◌, ◌++◌, List, [], ℕ, OnOk, IfOk};
 ghost use Rattle.dslx_narrow_tree.specs.Checking.{proc_faults, site_faults, opening_scope, next_scope};
-ghost use Rattle.dslx_narrow_judge.specs.Sights.{AreNames, Shows};
+ghost use Rattle.dslx_narrow_judge.specs.Sights.{AreNames, ShowsScope};
 
 use crate::blocks::block;
 use crate::configs::{note_config, note_ends, ports};
@@ -14,7 +14,7 @@ use xb_span::{Fault, Limit, What};
 
 /// What is in sight in `init`.
 fn opening_sight<'a>(alloc: Global, proc: &'a Proc) -> Result<Sight<'a>, AllocError>
-    ensures { IfOk result (λ sight. Shows sight (opening_scope proc.now)) }
+    ensures { IfOk result (λ sight. ShowsScope sight (opening_scope proc.now)) }
 {
     Ok(Sight {
         locals: Table::new(alloc),
@@ -25,7 +25,7 @@ fn opening_sight<'a>(alloc: Global, proc: &'a Proc) -> Result<Sight<'a>, AllocEr
 
 /// What is in sight in `next`.
 fn next_sight<'a>(alloc: Global, proc: &'a Proc) -> Result<Sight<'a>, AllocError>
-    ensures { IfOk result (λ sight. Shows sight (next_scope proc.now)) }
+    ensures { IfOk result (λ sight. ShowsScope sight (next_scope proc.now)) }
 {
     let mut sight = opening_sight(alloc, proc)?;
     let state = &proc.next.state;

@@ -4,7 +4,7 @@ use Rattle.std.specs.Prelude.{if◌then◌else◌, not}
 use Rattle.xb_span.specs.declared.span.Span.{Span}
 use Rattle.xb_span.specs.declared.fault.Fault.{Fault}
 use Rattle.dslx_narrow_tree.specs.Names.{callee_of}
-use Rattle.dslx_narrow_tree.specs.Judging.{Scope, Judged, Seen, seen, seen_step, call_seen, type_alone, faults_alone, sum_type, sum_faults, is_token, token_faults, channel_faults, recv_type, recv_faults, send_type, send_faults, received_type, word_type, port_named, is_free, sends_type, sent_faults, broken_where}
+use Rattle.dslx_narrow_tree.specs.Judging.{Scope, Judged, SeenExpr, seen, seen_step, call_seen, type_alone, faults_alone, sum_type, sum_faults, is_token, token_faults, channel_faults, recv_type, recv_faults, send_type, send_faults, received_type, word_type, port_named, is_free, sends_type, sent_faults, broken_where}
 use Rattle.dslx_narrow_tree.specs.declared.ident.Ident.{Ident}
 use Rattle.dslx_narrow_tree.specs.declared.proc.Direction.TheVariants.{In, Out}
 use Rattle.dslx_narrow_tree.specs.declared.value.SourceType.{SourceType}
@@ -15,10 +15,10 @@ use Rattle.dslx_narrow_tree.specs.declared.expr.Expr.TheOpen.{Expr-F}
 use Rattle.dslx_narrow_tree.specs.declared.expr.Expr.TheFolds.{fold-Expr, fold-roll-Expr}
 
 pub seen-Call : (span : Span) (name : Ident) (args : List Expr) → seen (Call span name args) ≡ call_seen (callee_of name.name) span name (map seen args)
-seen-Call span name args = ap (fold-Expr Seen seen_step) (sym (rolls-Call span name args)) ∙ fold-roll-Expr Seen seen_step (Expr-F.Call span name args)
+seen-Call span name args = ap (fold-Expr SeenExpr seen_step) (sym (rolls-Call span name args)) ∙ fold-roll-Expr SeenExpr seen_step (Expr-F.Call span name args)
 
 pub seen-Add : (span : Span) (l r : Expr) → seen (Add span l r) ≡ seen_step (Expr-F.Add span (seen l) (seen r))
-seen-Add span l r = ap (fold-Expr Seen seen_step) (sym (rolls-Add span l r)) ∙ fold-roll-Expr Seen seen_step (Expr-F.Add span l r)
+seen-Add span l r = ap (fold-Expr SeenExpr seen_step) (sym (rolls-Add span l r)) ∙ fold-roll-Expr SeenExpr seen_step (Expr-F.Add span l r)
 
 -- what is noted after what
 pub then_noted : (old a b : List Fault) {new more : List Fault} → new ≡ old ++ a → more ≡ new ++ b → more ≡ old ++ (a ++ b)
@@ -33,10 +33,10 @@ judged_add scope e l r span tl tr t old f g new is el nl er nr et nt =
     let s : seen e ≡ seen_step (Expr-F.Add span (seen l) (seen r)) = ap seen is ∙ seen-Add span l r in
     let types : t ≡ sum_type (type_alone scope (seen l)) (type_alone scope (seen r)) = et ∙ (ap (λ x. sum_type x tr) el ∙ ap (sum_type (type_alone scope (seen l))) er) in
     let last : new ≡ g ++ sum_faults (type_alone scope (seen l)) (type_alone scope (seen r)) span = nt ∙ (ap (λ x. g ++ sum_faults x tr span) el ∙ ap (λ x. g ++ sum_faults (type_alone scope (seen l)) x span) er) in
-    (types ∙ sym (ap (λ (x : Seen). (x.inside scope).ty) s), then_noted old _ _ (then_noted old _ _ nl nr) last ∙ sym (ap (λ (x : Seen). old ++ (x.inside scope).faults) s))
+    (types ∙ sym (ap (λ (x : SeenExpr). (x.inside scope).ty) s), then_noted old _ _ (then_noted old _ _ nl nr) last ∙ sym (ap (λ (x : SeenExpr). old ++ (x.inside scope).faults) s))
 
 -- a receive, by its parts
-pub received : (scope : Scope) (span : Span) (token place : Seen) (tt t : Option SourceType) (free : Bool) (word : Option SourceType) (old f g h new : List Fault)
+pub received : (scope : Scope) (span : Span) (token place : SeenExpr) (tt t : Option SourceType) (free : Bool) (word : Option SourceType) (old f g h new : List Fault)
     → tt ≡ (token.inside scope).ty → f ≡ old ++ (token.inside scope).faults
     → g ≡ f ++ token_faults tt token.span → h ≡ g ++ channel_faults scope place place.ident
     → free ≡ is_free scope In place.ident → new ≡ h ++ broken_where (not free) 29 span
@@ -51,7 +51,7 @@ received scope span token place tt t free word old f g h new e1 n1 n2 n3 e2 n4 e
       then_noted old _ _ (then_noted old _ _ (then_noted old _ _ n1 g_is) n3) new_is,
     )
 
-pub sent : (scope : Scope) (span : Span) (token place value : Seen) (tt tv t : Option SourceType) (free fits : Bool) (word : Option SourceType) (old f g h i j new : List Fault)
+pub sent : (scope : Scope) (span : Span) (token place value : SeenExpr) (tt tv t : Option SourceType) (free fits : Bool) (word : Option SourceType) (old f g h i j new : List Fault)
     → tt ≡ (token.inside scope).ty → f ≡ old ++ (token.inside scope).faults
     → g ≡ f ++ token_faults tt token.span → h ≡ g ++ channel_faults scope place place.ident
     → tv ≡ type_alone scope value → i ≡ h ++ faults_alone scope value
@@ -76,5 +76,5 @@ pub add_on_top : (scope : Scope) (e l r : Expr) (span : Span) (t : Option Source
     → (t ≡ ((seen e).inside scope).ty) × (new ≡ old ++ ((seen e).inside scope).faults) → (t ≡ ((seen e).on_top scope).ty) × (new ≡ old ++ ((seen e).on_top scope).faults)
 add_on_top scope e l r span t old new is h =
     let s : seen e ≡ seen_step (Expr-F.Add span (seen l) (seen r)) = ap seen is ∙ seen-Add span l r in
-    let same : (seen e).inside scope ≡ (seen e).on_top scope = ap (λ (x : Seen). x.inside scope) s ∙ sym (ap (λ (x : Seen). x.on_top scope) s) in
+    let same : (seen e).inside scope ≡ (seen e).on_top scope = ap (λ (x : SeenExpr). x.inside scope) s ∙ sym (ap (λ (x : SeenExpr). x.on_top scope) s) in
     (h.0 ∙ ap (λ (j : Judged). j.ty) same, h.1 ∙ ap (λ (j : Judged). old ++ j.faults) same)

@@ -3,7 +3,7 @@ ghost use Rattle.std.specs.Option.{option_copied};
 ghost use Rattle.dslx_narrow_tree.specs.Names.{callee_of};
 ghost use Rattle.dslx_narrow_tree.specs.Judging.{Scope, Judged, seen, name_judged, bound_in, sum_type, sum_faults, call_seen, all_alone, are_tokens, join_faults, channel_faults, argument_faults, recv_type, recv_faults, send_type, send_faults, received_type, broken, broken_where, held_faults};
 ghost use Rattle.dslx_narrow_tree.specs.Blocks.{judged_whole};
-ghost use Rattle.dslx_narrow_judge.specs.Sights.{Judges, JudgesAlone, Notes, Shows};
+ghost use Rattle.dslx_narrow_judge.specs.Sights.{Judges, JudgesAlone, Notes, ShowsScope};
 
 use crate::note::{
     is_token, note_held, note_port, note_sent, note_sum, note_token, note_value, note_where,

@@ -1,7 +1,7 @@
 ghost use Rattle.std.specs.Prelude.{◌≡◌, Option, option_map};
 ghost use Rattle.std.specs.Option.{option_copied};
 ghost use Rattle.dslx_narrow_tree.specs.Judging.{Scope, bound_in, port_at, port_named, is_unused, is_free, goes};
-ghost use Rattle.dslx_narrow_judge.specs.Sights.{Shows};
+ghost use Rattle.dslx_narrow_judge.specs.Sights.{ShowsScope};
 
 use dslx_narrow_tree::{Direction, Ident, Port, SourceType};
 use name_table::Table;
@@ -17,14 +17,14 @@ pub struct Sight<'a> {
 impl Sight<'_> {
     /// What is bound to a name.
     pub fn bound(&self, ident: &Ident) -> Option<Option<SourceType>>
-        ensures { (scope : Scope) → Shows self.now scope → result ≡ bound_in ident.now.name scope.locals }
+        ensures { (scope : Scope) → ShowsScope self.now scope → result ≡ bound_in ident.now.name scope.locals }
     {
         self.locals.get(ident.name.as_str())
     }
 
     /// The end that a name stands for.
     pub fn port(&self, ident: &Ident) -> Option<Port>
-        ensures { (scope : Scope) → Shows self.now scope → result ≡ port_at scope ident.now.name }
+        ensures { (scope : Scope) → ShowsScope self.now scope → result ≡ port_at scope ident.now.name }
     {
         match self.locals.get(ident.name.as_str()) {
             Some(_) => None,
@@ -34,7 +34,7 @@ impl Sight<'_> {
 
     /// The end at which an effect stands.
     pub fn port_named(&self, ident: Option<&Ident>) -> Option<Port>
-        ensures { (scope : Scope) → Shows self.now scope → result ≡ port_named scope (option_copied ident.entry) }
+        ensures { (scope : Scope) → ShowsScope self.now scope → result ≡ port_named scope (option_copied ident.entry) }
     {
         match ident {
             None => None,
@@ -44,7 +44,7 @@ impl Sight<'_> {
 
     /// Whether no effect stands at the end before.
     fn is_unused(&self, ident: Option<&Ident>) -> bool
-        ensures { (scope : Scope) → Shows self.now scope → result ≡ is_unused scope (option_copied ident.entry) }
+        ensures { (scope : Scope) → ShowsScope self.now scope → result ≡ is_unused scope (option_copied ident.entry) }
     {
         match ident {
             None => false,
@@ -54,7 +54,7 @@ impl Sight<'_> {
 
     /// Whether an effect may stand there.
     pub fn is_free(&self, direction: Direction, ident: Option<&Ident>) -> bool
-        ensures { (scope : Scope) → Shows self.now scope → result ≡ is_free scope direction (option_copied ident.entry) }
+        ensures { (scope : Scope) → ShowsScope self.now scope → result ≡ is_free scope direction (option_copied ident.entry) }
     {
         let fits = goes(direction, self.port_named(ident));
         let unused = self.is_unused(ident);

@@ -15,7 +15,7 @@ use Rattle.xb_span.specs.declared.read_error.ReadError.{ReadError}
 use Rattle.xb_span.specs.declared.read_error.ReadError.TheVariants.{Syntax, Broken, Over, OutOfMemory}
 use Rattle.dslx_narrow_parser.specs.Building.{built, module_of}
 use Rattle.dslx_narrow_parser.specs.Empty.{empty}
-use Rattle.dslx_narrow_parser.specs.Reads.{IsFault, IsReading, IsRefusal, IsSyntaxFault, IsTooDeep, IsWithin, Reads, kinds_of, misplaced, roles_of, too_deep, whole}
+use Rattle.dslx_narrow_parser.specs.Reads.{IsFault, IsReading, IsRefusal, IsSyntaxFault, IsTooDeep, IsShallow, Reads, kinds_of, misplaced, roles_of, too_deep, whole}
 use Rattle.xb_span.specs.declared.limit.Limit.{Limit}
 use Rattle.dslx_nesting.specs.Nesting.{first_past}
 use Rattle.lists.proofs.Lemmas.Faults.{IsFirstFault-unique}
@@ -40,7 +40,7 @@ one_module laws ls m n r s =
     r.module_is ∙ ap (λ f. module_of (built (steps_of f) ls empty)) forests.0 ∙ sym s.module_is
 
 -- what is answered for tokens that read as a tree
-pub only_answer : TheLaws → (ls : List Lexeme) (r : Result Module ReadError) → IfOk r (λ m. Reads ls m) → IfErr r (λ e. IsRefusal ls e) → (m : Module) → Reads ls m → IsWithin ls → MatchResult r (λ found. found ≡ m) (λ e. e ≡ OutOfMemory)
+pub only_answer : TheLaws → (ls : List Lexeme) (r : Result Module ReadError) → IfOk r (λ m. Reads ls m) → IfErr r (λ e. IsRefusal ls e) → (m : Module) → Reads ls m → IsShallow ls → MatchResult r (λ found. found ≡ m) (λ e. e ≡ OutOfMemory)
 only_answer laws ls (Ok found) reads refused m is within = one_module laws ls found m reads is
 only_answer laws ls (Err (Syntax at)) reads refused m is within = absurd (refused.fault.none (is.productions, derivation_of laws ls m is))
 only_answer laws ls (Err (Broken rule span)) reads refused m is within = absurd refused
@@ -99,7 +99,7 @@ not_both ls at limit a b =
     let behind = a.first b.deep b.passed in
     omega (arith, before, behind)
 
-read_whole : (ls : List Lexeme) (limit : Limit) → IsWithin ls → IsTooDeep ls limit → ⊥
+read_whole : (ls : List Lexeme) (limit : Limit) → IsShallow ls → IsTooDeep ls limit → ⊥
 read_whole ls limit within deep = let both : None ≡ Some deep.deep = sym within ∙ deep.passed in cc
 
 pub one_answer : TheLaws → (ls : List Lexeme) (a b : Result Module ReadError) → IsReading ls a → IsReading ls b → a ≡ b

@@ -32,8 +32,8 @@ pub record Reads (ls : List Lexeme) (m : Module) : Type 0 where
   pub module_is : m ≡ module_of (built (steps_of forest) ls empty)
 
 -- No token is nested deeper than the limit.
-abbrev pub IsWithin : List Lexeme → Type 0
-IsWithin ls = first_past (roles_of ls) ≡ None
+abbrev pub IsShallow : List Lexeme → Type 0
+IsShallow ls = first_past (roles_of ls) ≡ None
 
 -- This is the place of the first token with which no text of the grammar goes on.
 abbrev pub IsFault : List Lexeme → ℕ → Type 0
@@ -64,6 +64,6 @@ IsRefusal ls OutOfMemory = Unit {0}
 
 -- what the tokens give, but for want of memory: their tree, or why they are refused
 pub data IsReading (ls : List Lexeme) : Result Module ReadError → Type 0 where
-  whole : (m : Module) → Reads ls m → IsWithin ls → IsReading ls (Ok m)
+  whole : (m : Module) → Reads ls m → IsShallow ls → IsReading ls (Ok m)
   misplaced : (at : ℕ) → IsSyntaxFault ls at → IsReading ls (Err (Syntax at))
   too_deep : (limit : Limit) → IsTooDeep ls limit → IsReading ls (Err (Over limit))

@@ -7,7 +7,7 @@ ghost use Rattle.lists.specs.Fault.{IsFirstFault};
 ghost use Rattle.dslx_nesting.specs.Nesting.{first_past};
 ghost use Rattle.dslx_narrow_grammar.specs.Narrow.{narrow};
 ghost use Rattle.dslx_narrow_tree.specs.declared.proc.Module.{Module};
-ghost use Rattle.dslx_narrow_parser.specs.Reads.{IsRefusal, IsWithin, Reads, kinds_of, roles_of};
+ghost use Rattle.dslx_narrow_parser.specs.Reads.{IsRefusal, IsShallow, Reads, kinds_of, roles_of};
 ghost use Rattle.dslx_narrow_parser.specs.Roles.{role_of};
 ghost use Rattle.xb_span.specs.declared.read_error.ReadError.TheVariants.{OutOfMemory};
 
@@ -28,10 +28,10 @@ pub fn parse(alloc: Global, tokens: &[Token]) -> Result<Module, ReadError>
 
     // What is found is the tree of the tokens, and none of them is nested deeper than the limit.
     ensures reads { IfOk result (λ m. Reads tokens.now m) }
-    ensures within { IfOk result (λ _. IsWithin tokens.now) }
+    ensures within { IfOk result (λ _. IsShallow tokens.now) }
 
     // Whatever they read as is found, unless memory ran out or one of them is nested too deep.
-    ensures only { (m : Module) → Reads tokens.now m → IsWithin tokens.now
+    ensures only { (m : Module) → Reads tokens.now m → IsShallow tokens.now
         → MatchResult result (λ found. found ≡ m) (λ e. e ≡ OutOfMemory) }
 
     // A refusal names the first token with which no text goes on, or a limit that an earlier one passes.
@@ -46,7 +46,7 @@ pub fn parse(alloc: Global, tokens: &[Token]) -> Result<Module, ReadError>
 fn read(alloc: Global, tokens: &[Token]) -> Result<Module, ReadError>
     requires { EndsWith (kinds_of tokens.now) END }
     ensures reads { IfOk result (λ m. Reads tokens.now m) }
-    ensures within { IfOk result (λ _. IsWithin tokens.now) }
+    ensures within { IfOk result (λ _. IsShallow tokens.now) }
     ensures refused { IfErr result (λ e. IsRefusal tokens.now e) }
 {
     let kinds = kinds(alloc, tokens)?;
@@ -65,7 +65,7 @@ fn judged(
     requires ended { EndsWith (kinds_of tokens.now) END }
     requires deep { deep ≡ first_past (roles_of tokens.now) }
     ensures reads { IfOk result (λ m. Reads tokens.now m) }
-    ensures within { IfOk result (λ _. IsWithin tokens.now) }
+    ensures within { IfOk result (λ _. IsShallow tokens.now) }
     ensures refused { IfErr result (λ e. IsRefusal tokens.now e) }
 {
     match dslx_narrow_grammar::parse(alloc, kinds) {

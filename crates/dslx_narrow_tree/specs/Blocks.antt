@@ -4,7 +4,7 @@ use Rattle.xb_span.specs.declared.span.Span.{Span}
 use Rattle.xb_span.specs.declared.fault.Fault.{Fault}
 use Rattle.xb_span.specs.declared.fault.Fault.TheVariants.{Passed}
 use Rattle.xb_span.specs.declared.limit.What.TheVariants.{Size}
-use Rattle.dslx_narrow_tree.specs.Judging.{Local, Scope, Judged, Seen, seen, broken_where, is_type, value_faults, faults_alone, type_alone}
+use Rattle.dslx_narrow_tree.specs.Judging.{Local, Scope, Judged, SeenExpr, seen, broken_where, is_type, value_faults, faults_alone, type_alone}
 use Rattle.dslx_narrow_tree.specs.Patterns.{bound_by}
 use Rattle.dslx_narrow_tree.specs.declared.ident.Ident.{Ident}
 use Rattle.dslx_narrow_tree.specs.declared.expr.Expr.{Expr, fold-Expr}
@@ -18,7 +18,7 @@ use Rattle.dslx_narrow_tree.specs.declared.value.SourceType.{SourceType}
 use Rattle.dslx_narrow_tree.specs.declared.value.SourceType.TheVariants.{Unit}
 
 -- an expression as a statement or as the whole value of a `let`: effects stand there at the top of `next` alone
-abbrev pub judged_whole : Bool → Scope → Seen → Judged
+abbrev pub judged_whole : Bool → Scope → SeenExpr → Judged
 judged_whole true scope e = e.on_top scope
 judged_whole false scope e = e.inside scope
 
@@ -35,13 +35,13 @@ pub record Walked : Type 0 where
 abbrev pub with_locals : Scope → List Local → Option Ident → Scope
 with_locals scope locals channel = record { locals = locals; members = scope.members; used = used_by channel scope.used }
 
-abbrev pub walk_let : Bool → List (List ℕ) → Pattern → Seen → Scope → Walked
+abbrev pub walk_let : Bool → List (List ℕ) → Pattern → SeenExpr → Scope → Walked
 walk_let on_top items pattern e scope =
     let judged = judged_whole on_top scope e in
     let bound = bound_by pattern items judged.ty scope.locals in
     record { scope = with_locals scope bound.locals e.channel; faults = judged.faults ++ bound.faults }
 
-abbrev pub walk_bare : Bool → Seen → Scope → Walked
+abbrev pub walk_bare : Bool → SeenExpr → Scope → Walked
 walk_bare on_top e scope =
     let judged = judged_whole on_top scope e in
     record {

@@ -132,7 +132,7 @@ sum_faults (Some (Bits v)) (Some (Bits w)) span = broken_where (not (v == w)) 12
 sum_faults (Some _) (Some _) span = broken 12 span ∷ []
 
 -- an expression as what is around it sees it
-pub record Seen : Type 0 where
+pub record SeenExpr : Type 0 where
   pub span : Span
   -- the name that it is, if it is one
   pub ident : Option Ident
@@ -144,23 +144,23 @@ pub record Seen : Type 0 where
   pub channel : Option Ident
 
 -- its faults where a value stands alone
-abbrev pub faults_alone : Scope → Seen → List Fault
+abbrev pub faults_alone : Scope → SeenExpr → List Fault
 faults_alone scope e = (e.inside scope).faults ++ value_faults (e.inside scope).ty e.span
 
 -- its type there
-abbrev pub type_alone : Scope → Seen → Option SourceType
+abbrev pub type_alone : Scope → SeenExpr → Option SourceType
 type_alone scope e = value_type (e.inside scope).ty
 
-abbrev pub all_alone : Scope → List Seen → List Fault
+abbrev pub all_alone : Scope → List SeenExpr → List Fault
 all_alone scope [] = []
 all_alone scope (e ∷ es) = faults_alone scope e ++ all_alone scope es
 
 -- the operands of a join are tokens
-abbrev pub join_faults : Scope → List Seen → List Fault
+abbrev pub join_faults : Scope → List SeenExpr → List Fault
 join_faults scope [] = []
 join_faults scope (e ∷ es) = (e.inside scope).faults ++ token_faults (e.inside scope).ty e.span ++ join_faults scope es
 
-abbrev pub are_tokens : Scope → List Seen → Bool
+abbrev pub are_tokens : Scope → List SeenExpr → Bool
 are_tokens scope [] = true
 are_tokens scope (e ∷ es) = is_token (e.inside scope).ty && are_tokens scope es
 
@@ -174,7 +174,7 @@ unknown_port ident None = broken 1 ident.span ∷ []
 unknown_port ident (Some port) = []
 
 -- the name of a channel stands for an end; what isn't a name is judged as a value
-abbrev pub channel_faults : Scope → Seen → Option Ident → List Fault
+abbrev pub channel_faults : Scope → SeenExpr → Option Ident → List Fault
 channel_faults scope e None = faults_alone scope e
 channel_faults scope e (Some ident) = unknown_port ident (port_at scope ident.name)
 
@@ -224,28 +224,28 @@ received_type (Some (Bits w)) = Some (Received w)
 received_type _ = None
 
 -- the faults of the arguments of an effect by their places, whatever their number
-abbrev pub argument_faults : Scope → List Seen → List Fault
+abbrev pub argument_faults : Scope → List SeenExpr → List Fault
 argument_faults scope [] = []
 argument_faults scope (t ∷ []) = (t.inside scope).faults ++ held_faults (t.inside scope).ty t.span
 argument_faults scope (t ∷ c ∷ es) =
     (t.inside scope).faults ++ held_faults (t.inside scope).ty t.span ++ channel_faults scope c c.ident ++ all_alone scope es
 
 -- the rules that a receive breaks: its arguments, and then itself
-abbrev pub recv_faults : Scope → Span → List Seen → List Fault
+abbrev pub recv_faults : Scope → Span → List SeenExpr → List Fault
 recv_faults scope span (t ∷ c ∷ []) =
     (t.inside scope).faults ++ token_faults (t.inside scope).ty t.span
     ++ channel_faults scope c c.ident
     ++ broken_where (not (is_free scope In c.ident)) 29 span
 recv_faults scope span es = argument_faults scope es ++ broken 10 span ∷ []
 
-abbrev pub recv_type : Scope → List Seen → Option SourceType
+abbrev pub recv_type : Scope → List SeenExpr → Option SourceType
 recv_type scope (t ∷ c ∷ []) =
     if is_token (t.inside scope).ty && is_free scope In c.ident
     then received_type (word_type (port_named scope c.ident)) else None
 recv_type scope _ = None
 
 -- the same of a send
-abbrev pub send_faults : Scope → Span → List Seen → List Fault
+abbrev pub send_faults : Scope → Span → List SeenExpr → List Fault
 send_faults scope span (t ∷ c ∷ e ∷ []) =
     (t.inside scope).faults ++ token_faults (t.inside scope).ty t.span
     ++ channel_faults scope c c.ident
@@ -254,7 +254,7 @@ send_faults scope span (t ∷ c ∷ e ∷ []) =
     ++ broken_where (not (is_free scope Out c.ident)) 29 span
 send_faults scope span es = argument_faults scope es ++ broken 10 span ∷ []
 
-abbrev pub send_type : Scope → List Seen → Option SourceType
+abbrev pub send_type : Scope → List SeenExpr → Option SourceType
 send_type scope (t ∷ c ∷ e ∷ []) =
     if is_token (t.inside scope).ty && is_free scope Out c.ident
     && sends_type (word_type (port_named scope c.ident)) (type_alone scope e)
@@ -267,15 +267,15 @@ name_judged ident None = record { ty = None; faults = broken 1 ident.span ∷ []
 name_judged ident (Some ty) = record { ty = ty; faults = [] }
 
 -- a judgement that is the same everywhere, of what is no name and no effect
-abbrev pub plain_seen : Span → (Scope → Judged) → Seen
+abbrev pub plain_seen : Span → (Scope → Judged) → SeenExpr
 plain_seen span judged = record { span = span; ident = None; inside = judged; on_top = judged; is_effect = false; channel = None }
 
-abbrev pub second_ident : List Seen → Option Ident
+abbrev pub second_ident : List SeenExpr → Option Ident
 second_ident (t ∷ c ∷ es) = c.ident
 second_ident _ = None
 
 -- an effect stands at the top of `next` alone
-abbrev pub effect_seen : Span → List Seen → (Scope → Judged) → Seen
+abbrev pub effect_seen : Span → List SeenExpr → (Scope → Judged) → SeenExpr
 effect_seen span args judged = record {
   span = span;
   ident = None;
@@ -285,7 +285,7 @@ effect_seen span args judged = record {
   channel = second_ident args;
 }
 
-abbrev pub call_seen : Callee → Span → Ident → List Seen → Seen
+abbrev pub call_seen : Callee → Span → Ident → List SeenExpr → SeenExpr
 call_seen Join span name args =
     plain_seen span (λ scope. record { ty = if are_tokens scope args then Some Token else None; faults = join_faults scope args })
 call_seen Recv span name args =
@@ -295,7 +295,7 @@ call_seen Send span name args =
 call_seen Unknown span name args =
     plain_seen span (λ scope. record { ty = None; faults = all_alone scope args ++ broken 1 name.span ∷ [] })
 
-abbrev pub seen_step : Expr-F Seen → Seen
+abbrev pub seen_step : Expr-F SeenExpr → SeenExpr
 seen_step (Expr-F.Number span w n) =
     plain_seen span (λ scope. record {
       ty = if nat_lt n (2 ^ w.bits) then Some (Bits w.bits) else None;
@@ -318,5 +318,5 @@ seen_step (Expr-F.Add span l r) =
     })
 
 -- an expression as what is around it sees it
-abbrev pub seen : Expr → Seen
-seen = fold-Expr Seen seen_step
+abbrev pub seen : Expr → SeenExpr
+seen = fold-Expr SeenExpr seen_step

@@ -18,7 +18,7 @@ use Rattle.ir_tree.specs.declared.package.Channel.{Channel}
 use Rattle.ir_tree.specs.declared.package.Proc.{Proc}
 use Rattle.ir_tree.specs.Constants.{no_value}
 use Rattle.ir_tree.specs.NodeValues.{role_of, Setting, operand_value, is_on, received, pure_value, no_word, next_site, role_value, values_from, node_values}
-use Rattle.ir_eval.specs.Inner.Stands.{Stands}
+use Rattle.ir_eval.specs.Inner.Stands.{StandsBehind}
 use Rattle.ir_tree.specs.Activations.{sites_by, sites_of, sent_by, turns_by, turns_from, first_word, words_from, setting_of, turns_of, activation}
 
 -- ---- a list from a place on
@@ -61,7 +61,7 @@ events_are : (b : Behavior) (s : Value) (got : List Word) (i : ℕ) (site : Site
 unfolding event_from event_at
 events_are b s got i site sites = refl
 
-pub stands_first : (channels : List Channel) (proc : Proc) (s : Value) (got : List Word) (done : ℕ) → Stands channels proc s got done [] 0 0 proc.nodes
+pub stands_first : (channels : List Channel) (proc : Proc) (s : Value) (got : List Word) (done : ℕ) → StandsBehind channels proc s got done [] 0 0 proc.nodes
 unfolding next_event activation
 stands_first channels proc s got done = record { values_are = refl; words_left = refl; turns_left = refl; sites_left = refl; event = first }
   where
@@ -91,7 +91,7 @@ sites_at n ns r e = ap (λ x. sites_by x (sites_of ns)) e
 
 -- ---- steps
 
-pub stands_pure : (channels : List Channel) (proc : Proc) (s : Value) (got : List Word) (done : ℕ) (values : List Value) (site taken : ℕ) (n : Node) (ns : List Node) → role_of n ≡ role.Pure → Stands channels proc s got done values site taken (n ∷ ns) → Stands channels proc s got done (values ++ pure_value n s values ∷ []) site taken ns
+pub stands_pure : (channels : List Channel) (proc : Proc) (s : Value) (got : List Word) (done : ℕ) (values : List Value) (site taken : ℕ) (n : Node) (ns : List Node) → role_of n ≡ role.Pure → StandsBehind channels proc s got done values site taken (n ∷ ns) → StandsBehind channels proc s got done (values ++ pure_value n s values ∷ []) site taken ns
 unfolding words_at
 stands_pure channels proc s got done values site taken n ns e st =
     record {
@@ -176,17 +176,17 @@ stops channels proc s got done site x rest t e h f =
 
 -- ---- a receive
 
-receive_turn : (channels : List Channel) (proc : Proc) (s : Value) (got : List Word) (done : ℕ) (values : List Value) (site taken : ℕ) (n : Node) (ns : List Node) (predicate : Option Operand) (c : ℕ) (on : Bool) → role_of n ≡ role.Receive predicate c → is_on s values predicate ≡ on → Stands channels proc s got done values site taken (n ∷ ns) → (activation channels proc).turn s got site ≡ (if on then Receive else Skip)
+receive_turn : (channels : List Channel) (proc : Proc) (s : Value) (got : List Word) (done : ℕ) (values : List Value) (site taken : ℕ) (n : Node) (ns : List Node) (predicate : Option Operand) (c : ℕ) (on : Bool) → role_of n ≡ role.Receive predicate c → is_on s values predicate ≡ on → StandsBehind channels proc s got done values site taken (n ∷ ns) → (activation channels proc).turn s got site ≡ (if on then Receive else Skip)
 receive_turn channels proc s got done values site taken n ns predicate c on e o st =
     turn_is channels proc s got site _ _ (sym (turns_at (setting_of channels proc.nodes s got) values site n ns (role.Receive predicate c) e) ∙ st.turns_left)
     ∙ ap (λ b. if b then Receive else Skip) o
 
-pub receive_next : (channels : List Channel) (proc : Proc) (s : Value) (got : List Word) (done : ℕ) (values : List Value) (site taken : ℕ) (n : Node) (ns : List Node) (predicate : Option Operand) (c : ℕ) → role_of n ≡ role.Receive predicate c → is_on s values predicate ≡ true → done ≤ site → Stands channels proc s got done values site taken (n ∷ ns) → Recv site ≡ next_event (activation channels proc) s got done
+pub receive_next : (channels : List Channel) (proc : Proc) (s : Value) (got : List Word) (done : ℕ) (values : List Value) (site taken : ℕ) (n : Node) (ns : List Node) (predicate : Option Operand) (c : ℕ) → role_of n ≡ role.Receive predicate c → is_on s values predicate ≡ true → done ≤ site → StandsBehind channels proc s got done values site taken (n ∷ ns) → Recv site ≡ next_event (activation channels proc) s got done
 unfolding event_at
 receive_next channels proc s got done values site taken n ns predicate c e o h st =
     sym (st.event ∙ stops channels proc s got done site (record { chan = c; sends = false }) (sites_of ns) Receive (sym (sites_at n ns (role.Receive predicate c) e) ∙ st.sites_left) h (receive_turn channels proc s got done values site taken n ns predicate c true e o st))
 
-pub stands_off : (channels : List Channel) (proc : Proc) (s : Value) (got : List Word) (done : ℕ) (values : List Value) (site taken : ℕ) (n : Node) (ns : List Node) (predicate : Option Operand) (c : ℕ) → role_of n ≡ role.Receive predicate c → is_on s values predicate ≡ false → Stands channels proc s got done values site taken (n ∷ ns) → Stands channels proc s got done (values ++ received channels c false no_word ∷ []) (suc site) taken ns
+pub stands_off : (channels : List Channel) (proc : Proc) (s : Value) (got : List Word) (done : ℕ) (values : List Value) (site taken : ℕ) (n : Node) (ns : List Node) (predicate : Option Operand) (c : ℕ) → role_of n ≡ role.Receive predicate c → is_on s values predicate ≡ false → StandsBehind channels proc s got done values site taken (n ∷ ns) → StandsBehind channels proc s got done (values ++ received channels c false no_word ∷ []) (suc site) taken ns
 unfolding words_at words_on
 stands_off channels proc s got done values site taken n ns predicate c e o st =
     record {
@@ -212,7 +212,7 @@ stands_off channels proc s got done values site taken n ns predicate c e o st =
     words : no_word ∷ words_from channels s (values ++ received channels c false no_word ∷ []) (drop taken got) ns ≡ drop site all
     words = sym (words_by_role channels s values (drop taken got) n ns r e ∙ ap (words_on channels s values (drop taken got) ns c) o) ∙ st.words_left
 
-pub stands_on : (channels : List Channel) (proc : Proc) (s : Value) (got : List Word) (done : ℕ) (values : List Value) (site taken : ℕ) (n : Node) (ns : List Node) (predicate : Option Operand) (c : ℕ) → role_of n ≡ role.Receive predicate c → is_on s values predicate ≡ true → site < done → Stands channels proc s got done values site taken (n ∷ ns) → Stands channels proc s got done (values ++ received channels c true (first_word (drop taken got)) ∷ []) (suc site) (suc taken) ns
+pub stands_on : (channels : List Channel) (proc : Proc) (s : Value) (got : List Word) (done : ℕ) (values : List Value) (site taken : ℕ) (n : Node) (ns : List Node) (predicate : Option Operand) (c : ℕ) → role_of n ≡ role.Receive predicate c → is_on s values predicate ≡ true → site < done → StandsBehind channels proc s got done values site taken (n ∷ ns) → StandsBehind channels proc s got done (values ++ received channels c true (first_word (drop taken got)) ∷ []) (suc site) (suc taken) ns
 unfolding words_at words_on
 stands_on channels proc s got done values site taken n ns predicate c e o h st =
     record {
@@ -243,17 +243,17 @@ stands_on channels proc s got done values site taken n ns predicate c e o h st =
 
 -- ---- a send
 
-send_turn : (channels : List Channel) (proc : Proc) (s : Value) (got : List Word) (done : ℕ) (values : List Value) (site taken : ℕ) (n : Node) (ns : List Node) (predicate : Option Operand) (c : ℕ) (on : Bool) → role_of n ≡ role.Send predicate c → is_on s values predicate ≡ on → Stands channels proc s got done values site taken (n ∷ ns) → (activation channels proc).turn s got site ≡ (if on then Give (sent_by n s values) else Skip)
+send_turn : (channels : List Channel) (proc : Proc) (s : Value) (got : List Word) (done : ℕ) (values : List Value) (site taken : ℕ) (n : Node) (ns : List Node) (predicate : Option Operand) (c : ℕ) (on : Bool) → role_of n ≡ role.Send predicate c → is_on s values predicate ≡ on → StandsBehind channels proc s got done values site taken (n ∷ ns) → (activation channels proc).turn s got site ≡ (if on then Give (sent_by n s values) else Skip)
 send_turn channels proc s got done values site taken n ns predicate c on e o st =
     turn_is channels proc s got site _ _ (sym (turns_at (setting_of channels proc.nodes s got) values site n ns (role.Send predicate c) e) ∙ st.turns_left)
     ∙ ap (λ b. if b then Give (sent_by n s values) else Skip) o
 
-pub send_next : (channels : List Channel) (proc : Proc) (s : Value) (got : List Word) (done : ℕ) (values : List Value) (site taken : ℕ) (n : Node) (ns : List Node) (predicate : Option Operand) (c : ℕ) → role_of n ≡ role.Send predicate c → is_on s values predicate ≡ true → done ≤ site → Stands channels proc s got done values site taken (n ∷ ns) → Send site (sent_by n s values) ≡ next_event (activation channels proc) s got done
+pub send_next : (channels : List Channel) (proc : Proc) (s : Value) (got : List Word) (done : ℕ) (values : List Value) (site taken : ℕ) (n : Node) (ns : List Node) (predicate : Option Operand) (c : ℕ) → role_of n ≡ role.Send predicate c → is_on s values predicate ≡ true → done ≤ site → StandsBehind channels proc s got done values site taken (n ∷ ns) → Send site (sent_by n s values) ≡ next_event (activation channels proc) s got done
 unfolding event_at
 send_next channels proc s got done values site taken n ns predicate c e o h st =
     sym (st.event ∙ stops channels proc s got done site (record { chan = c; sends = true }) (sites_of ns) (Give (sent_by n s values)) (sym (sites_at n ns (role.Send predicate c) e) ∙ st.sites_left) h (send_turn channels proc s got done values site taken n ns predicate c true e o st))
 
-pub stands_sent : (channels : List Channel) (proc : Proc) (s : Value) (got : List Word) (done : ℕ) (values : List Value) (site taken : ℕ) (n : Node) (ns : List Node) (predicate : Option Operand) (c : ℕ) → role_of n ≡ role.Send predicate c → (done ≤ site → is_on s values predicate ≡ false) → Stands channels proc s got done values site taken (n ∷ ns) → Stands channels proc s got done (values ++ no_value ∷ []) (suc site) taken ns
+pub stands_sent : (channels : List Channel) (proc : Proc) (s : Value) (got : List Word) (done : ℕ) (values : List Value) (site taken : ℕ) (n : Node) (ns : List Node) (predicate : Option Operand) (c : ℕ) → role_of n ≡ role.Send predicate c → (done ≤ site → is_on s values predicate ≡ false) → StandsBehind channels proc s got done values site taken (n ∷ ns) → StandsBehind channels proc s got done (values ++ no_value ∷ []) (suc site) taken ns
 unfolding words_at
 stands_sent channels proc s got done values site taken n ns predicate c e o st =
     record {
@@ -275,7 +275,7 @@ stands_sent channels proc s got done values site taken n ns predicate c e o st =
 
 -- ---- the end
 
-pub end_next : (channels : List Channel) (proc : Proc) (s : Value) (got : List Word) (done : ℕ) (values : List Value) (site taken : ℕ) → Stands channels proc s got done values site taken [] → End (operand_value s values proc.next) ≡ next_event (activation channels proc) s got done
+pub end_next : (channels : List Channel) (proc : Proc) (s : Value) (got : List Word) (done : ℕ) (values : List Value) (site taken : ℕ) → StandsBehind channels proc s got done values site taken [] → End (operand_value s values proc.next) ≡ next_event (activation channels proc) s got done
 unfolding values_from event_from activation
 end_next channels proc s got done values site taken st =
     ap (λ vs. End (operand_value s vs proc.next)) values_end ∙ sym (st.event ∙ ap (event_from (activation channels proc) s got (max done site)) none ∙ ended)
@@ -294,11 +294,11 @@ end_next channels proc s got done values site taken st =
 
 -- ---- the same in other words
 
-pub moved : (channels : List Channel) (proc : Proc) (s : Value) (got : List Word) (done : ℕ) (vs ws : List Value) (i j k m : ℕ) (left : List Node) → ws ≡ vs → j ≡ i → m ≡ k → Stands channels proc s got done vs i k left → Stands channels proc s got done ws j m left
+pub moved : (channels : List Channel) (proc : Proc) (s : Value) (got : List Word) (done : ℕ) (vs ws : List Value) (i j k m : ℕ) (left : List Node) → ws ≡ vs → j ≡ i → m ≡ k → StandsBehind channels proc s got done vs i k left → StandsBehind channels proc s got done ws j m left
 moved channels proc s got done vs ws i j k m left e f g st =
-    subst (λ x. Stands channels proc s got done x j m left) (sym e)
-    (subst (λ x. Stands channels proc s got done vs x m left) (sym f)
-    (subst (λ x. Stands channels proc s got done vs i x left) (sym g) st))
+    subst (λ x. StandsBehind channels proc s got done x j m left) (sym e)
+    (subst (λ x. StandsBehind channels proc s got done vs x m left) (sym f)
+    (subst (λ x. StandsBehind channels proc s got done vs i x left) (sym g) st))
 
 pub off_or_past : (on : Bool) (done site : ℕ) → (on && nat_le done site) ≡ false → done ≤ site → on ≡ false
 off_or_past true done site e h = absurd (grind (arith, nat_tests))

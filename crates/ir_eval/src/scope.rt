@@ -3,7 +3,7 @@
 ghost use Rattle.std.specs.Prelude.{◌≡◌, [], map, slice_set, IfOk};
 ghost use Rattle.xb_value.specs.declared.value.Value.{Tuple, Array};
 ghost use Rattle.delay_model.specs.declared.op.Op.TheVariants as ops;
-ghost use Rattle.ir_tree.specs.Operations.{plain_value, on_word, on_tuple, on_array, chosen, element_at, indexed, updated, index_value, longer_value};
+ghost use Rattle.ir_tree.specs.Operations.{plain_value, on_word, on_tuple, on_array, chosen, element_at, at_index, updated, index_value, longer_value};
 ghost use Rattle.ir_tree.specs.NodeValues.{operand_value, optional_value, pure_value, is_on};
 
 use crate::operation::{
@@ -218,7 +218,7 @@ fn tuple_index(alloc: Global, index: u128, tuple: &Value) -> Result<Value, Alloc
 }
 
 fn array_index(alloc: Global, array: &Value, index: &Value) -> Result<Value, AllocError>
-    ensures { IfOk result (λ v. v ≡ on_array (λ xs. on_word (indexed xs) index.now) array.now) }
+    ensures { IfOk result (λ v. v ≡ on_array (λ xs. on_word (at_index xs) index.now) array.now) }
 {
     match array {
         Value::Array(parts) => match index {

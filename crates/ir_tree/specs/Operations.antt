@@ -182,15 +182,15 @@ abbrev pub element_at : ℕ → List Value → Value
 element_at i vs = get_or vs i no_value
 
 -- an index past the end is that of the last element
-abbrev pub indexed : List Value → Word → Value
-indexed vs i = element_at (min i.value (length vs - 1)) vs
+abbrev pub at_index : List Value → Word → Value
+at_index vs i = element_at (min i.value (length vs - 1)) vs
 
 -- an index past the end changes nothing
 abbrev pub updated : Value → List Value → Word → Value
 updated e vs i = Array (slice_set vs i.value e)
 
 abbrev pub index_value : Op → Value → List Value → Value
-index_value ops.ArrayIndex i vs = of_one (on_array (λ xs. on_word (indexed xs) i)) vs
+index_value ops.ArrayIndex i vs = of_one (on_array (λ xs. on_word (at_index xs) i)) vs
 index_value ops.ArrayUpdate i vs = of_two (λ x e. on_array (λ xs. on_word (updated e xs) i) x) vs
 index_value _ i vs = no_value
 

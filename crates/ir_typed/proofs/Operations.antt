@@ -37,7 +37,7 @@ use Rattle.ir_tree.specs.declared.node.Operand.{Operand}
 use Rattle.ir_tree.specs.Types.{ty_of, bounded}
 use Rattle.ir_tree.specs.Constants.{no_value, bits_where, constant_value, read_step, number_read, tuple_read, array_read, each_read}
 use Rattle.ir_tree.specs.NodeValues.{operand_value, optional_value}
-use Rattle.ir_tree.specs.Operations.{on_word, on_words, on_tuple, on_array, binary_value, binary_word, unary_word, compare_value, holds, bit, shift_word, reduce_word, number_where, slice_value, dyn_slice_value, extend_value, extend_word, chosen, element_at, indexed, updated}
+use Rattle.ir_tree.specs.Operations.{on_word, on_words, on_tuple, on_array, binary_value, binary_word, unary_word, compare_value, holds, bit, shift_word, reduce_word, number_where, slice_value, dyn_slice_value, extend_value, extend_word, chosen, element_at, at_index, updated}
 use Rattle.ir_verify.specs.Types.{is_bits, is_bits_of, is_bits_where, is_tuple_where, bits_width, width_there, same_type, each_same, is_array_of, is_array_sized, begins_with, sizes_of}
 use Rattle.ir_verify.specs.Constants.{constant_fits, number_fits}
 use Rattle.ir_verify.specs.Constants as constants
@@ -292,7 +292,7 @@ all_at t [] i h less = absurd (omega arith)
 all_at t (v ∷ vs) zero h less = (both_true (fits t v) (list_all (fits t) vs) h).0
 all_at t (v ∷ vs) (suc i) h less = all_at t vs i (both_true (fits t v) (list_all (fits t) vs) h).1 (omega (arith, less))
 
-pub array_index_typed : (scope : Types) (s : Value) (values : List Value) (k : AreOperands scope s values) (i a : Operand) (t : IrType) → IsTrue (index_fits op.ArrayIndex i scope (a ∷ []) t) → IsOfType (ty_of t) (on_array (λ xs. on_word (indexed xs) (operand_value s values i)) (operand_value s values a))
+pub array_index_typed : (scope : Types) (s : Value) (values : List Value) (k : AreOperands scope s values) (i a : Operand) (t : IrType) → IsTrue (index_fits op.ArrayIndex i scope (a ∷ []) t) → IsOfType (ty_of t) (on_array (λ xs. on_word (at_index xs) (operand_value s values i)) (operand_value s values a))
 array_index_typed scope s values k i a t h =
     let both = both_true (is_bits (type_in scope i)) (list_all (λ o. is_array_of (type_in scope o) t) (a ∷ [])) h in
     let q = both_true (is_array_of (type_in scope a) t) true both.1 in
@@ -303,7 +303,7 @@ array_index_typed scope s values k i a t h =
     let some = array_some (type_in scope a) t (k a).sound r in
     let count = parts.count in
     let within : min x.has.word.value (length parts.parts - 1) < length parts.parts = omega arith in
-    subst (IsOfType (ty_of t)) (sym (on_array-Array (λ xs. on_word (indexed xs) (operand_value s values i)) v parts.parts parts.is ∙ on_word-Bits (indexed parts.parts) (operand_value s values i) x.has.word x.has.is))
+    subst (IsOfType (ty_of t)) (sym (on_array-Array (λ xs. on_word (at_index xs) (operand_value s values i)) v parts.parts parts.is ∙ on_word-Bits (at_index parts.parts) (operand_value s values i) x.has.word x.has.is))
     (all_at (ty_of t) parts.parts (min x.has.word.value (length parts.parts - 1)) parts.all within)
 
 all_set : (t : Ty) (vs : List Value) (i : ℕ) (v : Value) → IsTrue (list_all (fits t) vs) → IsOfType t v → IsTrue (list_all (fits t) (slice_set vs i v))

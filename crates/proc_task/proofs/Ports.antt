@@ -9,7 +9,7 @@ use Rattle.net_core.specs.Cuts.{Run}
 use Rattle.proc_task.specs.declared.port.Outlet.{Outlet}
 use Rattle.proc_task.specs.declared.port.Inlet.{Inlet}
 use Rattle.proc_task.specs.Ports.{IsOutlet, IsInlet}
-use Rattle.proc_task.specs.Moving.{HasPorts}
+use Rattle.proc_task.specs.Moving.{HasEnds}
 
 -- what stands at a place of a list in which one place was set
 pub at_set : {A : Type 0} (xs : List A) (i : ℕ) (old new : A) (j : ℕ) (x : A) → slice_get xs i ≡ Some old → slice_get (slice_set xs i new) j ≡ Some x
@@ -45,10 +45,10 @@ told_set told xs i old new was same k = go (cases_eq k i)
         ∙ (ap (option_map told) (slice_get-set xs i old new was) ∙ (ap Some same ∙ (ap (option_map told) (sym was) ∙ ap (λ j. option_map told (slice_get xs j)) (sym e))))
     go (inr apart) = ap (option_map told) (slice_get-set_other xs i k new apart)
 
-module _ {S : Type 0} (run : Run) (lines : List (Option (ChanQueue S))) (sites : List Site) (places : List ℕ) (outlets : List (Outlet S)) (inlets : List (Inlet S)) (has : HasPorts run lines sites places outlets inlets) where
+module _ {S : Type 0} (run : Run) (lines : List (Option (ChanQueue S))) (sites : List Site) (places : List ℕ) (outlets : List (Outlet S)) (inlets : List (Inlet S)) (has : HasEnds run lines sites places outlets inlets) where
   -- one outlet more was used
   pub with_outlet : (place : ℕ) (old new : Outlet S) → slice_get outlets place ≡ Some old → new.chan ≡ old.chan → IsOutlet run lines new
-      → HasPorts run lines sites places (slice_set outlets place new) inlets
+      → HasEnds run lines sites places (slice_set outlets place new) inlets
   with_outlet place old new was chan is = record {
     senders = λ i site e s.
         let h = has.senders i site e s in
@@ -74,7 +74,7 @@ module _ {S : Type 0} (run : Run) (lines : List (Option (ChanQueue S))) (sites :
 
   -- one inlet more was used
   pub with_inlet : (place : ℕ) (old new : Inlet S) → slice_get inlets place ≡ Some old → new.chan ≡ old.chan → IsInlet run lines new
-      → HasPorts run lines sites places outlets (slice_set inlets place new)
+      → HasEnds run lines sites places outlets (slice_set inlets place new)
   with_inlet place old new was chan is = record {
     senders = has.senders;
     receivers = λ i site e s.

@@ -32,7 +32,7 @@ use Rattle.proc_task.specs.declared.port.Outlet.{Outlet}
 use Rattle.proc_task.specs.declared.port.Inlet.{Inlet}
 use Rattle.proc_task.specs.declared.task.Task.{Task}
 use Rattle.proc_task.specs.Ports.{IsOutlet, IsInlet, OutRight, InRight, NextBy, PutBy, TakeBy, IsNextOn, MayPut, MayTake, IsFull, IsDry}
-use Rattle.proc_task.specs.Moving.{HasOutlet, HasInlet, HasPorts, position_of, IsTask, IsNewTask, IsBefore, Waits, IsSameTask, IsAtSiteIn, end_at}
+use Rattle.proc_task.specs.Moving.{HasOutlet, HasInlet, HasEnds, position_of, IsTask, IsNewTask, IsBefore, Waits, IsSameTask, IsAtSiteIn, end_at}
 use Rattle.proc_task.proofs.Ports.{at_set, with_outlet, with_inlet}
 
 apart : (m n : ℕ) → m ≢ n → eqb m n ≡ false
@@ -95,7 +95,7 @@ module _ {S H : Type 0} (run : Run) (lines : List (Option (ChanQueue S))) where
   -- a task by its parts
   build : (t u : Task S H) (is : IsTask run lines t) → u.number ≡ t.number → u.sites.items ≡ t.sites.items → u.places.items ≡ t.places.items
       → (k : ℕ) → u.count ≡ k → (at : Position) → position_of u ≡ at → IsStanding run t.number is.proc k at
-      → HasPorts run lines t.sites.items t.places.items u.outlets.items u.inlets.items
+      → HasEnds run lines t.sites.items t.places.items u.outlets.items u.inlets.items
       → ((j : ℕ) (o : Outlet S) → slice_get u.outlets.items j ≡ Some o → o.words.items ≡ sent_first run t.number is.proc k o.chan)
       → ((j : ℕ) (o : Inlet S) → slice_get u.inlets.items j ≡ Some o → o.received ≡ received_first run t.number is.proc k o.chan)
       → IsTask run lines u
@@ -104,7 +104,7 @@ module _ {S H : Type 0} (run : Run) (lines : List (Option (ChanQueue S))) where
     proc = is.proc;
     standing = subst (λ (x : ℕ × ℕ × Position). IsStanding run x.0 is.proc x.1 x.2) (λ i. (sym number i, sym count i, sym here i)) stands;
     sites = sites ∙ is.sites;
-    ports = subst (λ (x : List Site × List ℕ). HasPorts run lines x.0 x.1 u.outlets.items u.inlets.items) (λ i. (sym sites i, sym places i)) ports;
+    ports = subst (λ (x : List Site × List ℕ). HasEnds run lines x.0 x.1 u.outlets.items u.inlets.items) (λ i. (sym sites i, sym places i)) ports;
     words = λ j o e. subst (λ (x : ℕ × ℕ). o.words.items ≡ sent_first run x.0 is.proc x.1 o.chan) (λ i. (sym number i, sym count i)) (words j o e);
     received = λ j o e. subst (λ (x : ℕ × ℕ). o.received ≡ received_first run x.0 is.proc x.1 o.chan) (λ i. (sym number i, sym count i)) (received j o e);
   }
@@ -114,7 +114,7 @@ module _ {S H : Type 0} (run : Run) (lines : List (Option (ChanQueue S))) where
       → u.count ≡ t.count → position_of u ≡ position_of t → u.outlets.items ≡ t.outlets.items → u.inlets.items ≡ t.inlets.items → IsTask run lines u
   unchanged t u is number sites places count here outlets inlets =
       build t u is number sites places t.count count (position_of t) here is.standing
-      (subst (λ (x : List (Outlet S) × List (Inlet S)). HasPorts run lines t.sites.items t.places.items x.0 x.1) (λ i. (sym outlets i, sym inlets i)) is.ports)
+      (subst (λ (x : List (Outlet S) × List (Inlet S)). HasEnds run lines t.sites.items t.places.items x.0 x.1) (λ i. (sym outlets i, sym inlets i)) is.ports)
       (λ j o e. is.words j o (ap (λ xs. slice_get xs j) (sym outlets) ∙ e))
       (λ j o e. is.received j o (ap (λ xs. slice_get xs j) (sym inlets) ∙ e))
 
@@ -145,7 +145,7 @@ module _ {S H : Type 0} (run : Run) (lines : List (Option (ChanQueue S))) where
         → u.outlets.items ≡ t.outlets.items → u.inlets.items ≡ slice_set t.inlets.items place new → IsTask run lines u
     set_inlet place old new u was ok chan same_count number sites places count here outlets inlets =
         build t u is number sites places t.count count (position_of t) here is.standing
-        (subst (λ (x : List (Outlet S) × List (Inlet S)). HasPorts run lines t.sites.items t.places.items x.0 x.1) (λ j. (sym outlets j, sym inlets j))
+        (subst (λ (x : List (Outlet S) × List (Inlet S)). HasEnds run lines t.sites.items t.places.items x.0 x.1) (λ j. (sym outlets j, sym inlets j))
         (with_inlet run lines t.sites.items t.places.items t.outlets.items t.inlets.items is.ports place old new was chan ok))
         (λ j o e. is.words j o (ap (λ xs. slice_get xs j) (sym outlets) ∙ e))
         (λ j o e. one j o (at_set t.inlets.items place old new j o was (ap (λ xs. slice_get xs j) (sym inlets) ∙ e)))
@@ -163,7 +163,7 @@ module _ {S H : Type 0} (run : Run) (lines : List (Option (ChanQueue S))) where
         → u.outlets.items ≡ slice_set t.outlets.items place new → u.inlets.items ≡ t.inlets.items → IsTask run lines u
     set_outlet place old new u was ok chan same_words number sites places count here outlets inlets =
         build t u is number sites places t.count count (position_of t) here is.standing
-        (subst (λ (x : List (Outlet S) × List (Inlet S)). HasPorts run lines t.sites.items t.places.items x.0 x.1) (λ j. (sym outlets j, sym inlets j))
+        (subst (λ (x : List (Outlet S) × List (Inlet S)). HasEnds run lines t.sites.items t.places.items x.0 x.1) (λ j. (sym outlets j, sym inlets j))
         (with_outlet run lines t.sites.items t.places.items t.outlets.items t.inlets.items is.ports place old new was chan ok))
         (λ j o e. one j o (at_set t.outlets.items place old new j o was (ap (λ xs. slice_get xs j) (sym outlets) ∙ e)))
         (λ j o e. is.received j o (ap (λ xs. slice_get xs j) (sym inlets) ∙ e))
@@ -246,7 +246,7 @@ module _ {S H : Type 0} (run : Run) (lines : List (Option (ChanQueue S))) where
           → u.outlets.items ≡ t.outlets.items → u.inlets.items ≡ slice_set t.inlets.items place new → IsTask run lines u
       after_receive place old new w u at was ok chan more there number sites places count state got done ends outlets inlets =
           build t u is number sites places (suc t.count) count to (λ j. record { state = state j; got = got j; done = done j; ends = ends j }) goes.standing
-          (subst (λ (x : List (Outlet S) × List (Inlet S)). HasPorts run lines t.sites.items t.places.items x.0 x.1) (λ j. (sym outlets j, sym inlets j))
+          (subst (λ (x : List (Outlet S) × List (Inlet S)). HasEnds run lines t.sites.items t.places.items x.0 x.1) (λ j. (sym outlets j, sym inlets j))
           (with_inlet run lines t.sites.items t.places.items t.outlets.items t.inlets.items is.ports place old new was chan ok))
           (λ j o e. is.words j o (ap (λ xs. slice_get xs j) (sym outlets) ∙ e)
           ∙ sym (goes.sent o.chan ∙ (ap (λ ws. sent_first run t.number proc t.count o.chan ++ ws) (words_recv proc.behavior.sites i o.chan) ∙ append-nil _)))
@@ -359,7 +359,7 @@ module _ {S H : Type 0} (run : Run) (lines : List (Option (ChanQueue S))) where
           → u.outlets.items ≡ slice_set t.outlets.items place new → u.inlets.items ≡ t.inlets.items → IsTask run lines u
       after_send place old new u at was ok chan more there number sites places count state got done ends outlets inlets =
           build t u is number sites places (suc t.count) count to (λ j. record { state = state j; got = got j; done = done j; ends = ends j }) goes.standing
-          (subst (λ (x : List (Outlet S) × List (Inlet S)). HasPorts run lines t.sites.items t.places.items x.0 x.1) (λ j. (sym outlets j, sym inlets j))
+          (subst (λ (x : List (Outlet S) × List (Inlet S)). HasEnds run lines t.sites.items t.places.items x.0 x.1) (λ j. (sym outlets j, sym inlets j))
           (with_outlet run lines t.sites.items t.places.items t.outlets.items t.inlets.items is.ports place old new was chan ok))
           (λ j o e. one j o (at_set t.outlets.items place old new j o was (ap (λ xs. slice_get xs j) (sym outlets) ∙ e)))
           (λ j o e. is.received j o (ap (λ xs. slice_get xs j) (sym inlets) ∙ e) ∙ omega (arith, goes.received o.chan, count_send proc.behavior.sites i o.chan w))
@@ -424,7 +424,7 @@ module _ {S H : Type 0} (run : Run) (lines : List (Option (ChanQueue S))) where
         → u.state ≡ s → u.got.items ≡ [] → u.done ≡ 0 → u.ends ≡ suc t.ends → u.outlets.items ≡ t.outlets.items → u.inlets.items ≡ t.inlets.items → IsTask run lines u
     after_end s next u number sites places count state got done ends outlets inlets =
         build t u is number sites places (suc t.count) count (record { state = s; got = []; done = 0; ends = suc t.ends }) (λ j. record { state = state j; got = got j; done = done j; ends = ends j }) goes.standing
-        (subst (λ (x : List (Outlet S) × List (Inlet S)). HasPorts run lines t.sites.items t.places.items x.0 x.1) (λ j. (sym outlets j, sym inlets j)) is.ports)
+        (subst (λ (x : List (Outlet S) × List (Inlet S)). HasEnds run lines t.sites.items t.places.items x.0 x.1) (λ j. (sym outlets j, sym inlets j)) is.ports)
         (λ j o e. is.words j o (ap (λ xs. slice_get xs j) (sym outlets) ∙ e)
         ∙ sym (goes.sent o.chan ∙ (ap (λ ws. sent_first run t.number proc t.count o.chan ++ ws) (words_end proc.behavior.sites s o.chan) ∙ append-nil _)))
         (λ j o e. is.received j o (ap (λ xs. slice_get xs j) (sym inlets) ∙ e) ∙ omega (arith, goes.received o.chan, count_end proc.behavior.sites s o.chan))

@@ -33,7 +33,7 @@ module _ {S : Type 0} where
     pub chan_is : inlet.chan ≡ site.chan
 
   -- the ends of channels of a proc with these sites: one for each end that has a site, with its right
-  pub record HasPorts (run : Run) (lines : List (Option (ChanQueue S))) (sites : List Site) (places : List ℕ) (outlets : List (Outlet S)) (inlets : List (Inlet S)) : Type 0 where
+  pub record HasEnds (run : Run) (lines : List (Option (ChanQueue S))) (sites : List Site) (places : List ℕ) (outlets : List (Outlet S)) (inlets : List (Inlet S)) : Type 0 where
     pub senders : (i : ℕ) (site : Site) → slice_get sites i ≡ Some site → site.sends ≡ true → HasOutlet sites places outlets i site
     pub receivers : (i : ℕ) (site : Site) → slice_get sites i ≡ Some site → site.sends ≡ false → HasInlet sites places inlets i site
     pub outlet : (k : ℕ) (outlet : Outlet S) → slice_get outlets k ≡ Some outlet → IsOutlet run lines outlet
@@ -66,7 +66,7 @@ module _ {S : Type 0} where
     pub opening : proc.opening ≡ state
     pub of_type : IsOfType proc.behavior.state state
     pub sites_are : sites ≡ proc.behavior.sites
-    pub ports : HasPorts run lines sites places outlets inlets
+    pub ports : HasEnds run lines sites places outlets inlets
     pub no_words : (k : ℕ) (outlet : Outlet S) → slice_get outlets k ≡ Some outlet → outlet.words.items ≡ []
     pub none_received : (k : ℕ) (inlet : Inlet S) → slice_get inlets k ≡ Some inlet → inlet.received ≡ 0
 
@@ -91,7 +91,7 @@ module _ {S H : Type 0} where
     pub proc : Proc
     pub standing : IsStanding run task.number proc task.count (position_of task)
     pub sites : task.sites.items ≡ proc.behavior.sites
-    pub ports : HasPorts run lines task.sites.items task.places.items task.outlets.items task.inlets.items
+    pub ports : HasEnds run lines task.sites.items task.places.items task.outlets.items task.inlets.items
     pub words : (k : ℕ) (outlet : Outlet S) → slice_get task.outlets.items k ≡ Some outlet → outlet.words.items ≡ sent_first run task.number proc task.count outlet.chan
     pub received : (k : ℕ) (inlet : Inlet S) → slice_get task.inlets.items k ≡ Some inlet → inlet.received ≡ received_first run task.number proc task.count inlet.chan
 

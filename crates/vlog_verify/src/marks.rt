@@ -1,6 +1,6 @@
 ghost use Rattle.std.specs.Prelude.{◌≡◌, ℕ, List, [], ◌∷◌, ◌++◌, map, false, get_or, IfOk};
 ghost use Rattle.vlog_verify.specs.Verified.{targets, set_targets};
-ghost use Rattle.vlog_verify.specs.Inner.Seen.{Shows, mark_at};
+ghost use Rattle.vlog_verify.specs.Inner.Seen.{ShowsMarks, mark_at};
 
 use std::alloc::{AllocError, Global};
 use vlog_tree::{Assignment, Set};
@@ -14,7 +14,7 @@ pub struct Marks {
 impl Marks {
     /// So many signals, none of which is marked.
     pub fn new(alloc: Global, count: usize) -> Result<Marks, AllocError>
-        ensures { IfOk result (λ marks. Shows count marks []) }
+        ensures { IfOk result (λ marks. ShowsMarks count marks []) }
     {
         Ok(Marks {
             flags: vec![in alloc; false; count]?,
@@ -33,7 +33,7 @@ impl Marks {
 
     /// Marks a signal, if it is there.
     pub fn mark(&mut self, signal: usize)
-        ensures { (count : ℕ) (targets : List ℕ) → Shows count self.old targets → Shows count self.new (targets ++ signal ∷ []) }
+        ensures { (count : ℕ) (targets : List ℕ) → ShowsMarks count self.old targets → ShowsMarks count self.new (targets ++ signal ∷ []) }
     {
         if signal < self.flags.len() {
             self.flags[signal] = true;
@@ -46,7 +46,7 @@ impl Marks {
         count: usize,
         assignments: &[Assignment],
     ) -> Result<Marks, AllocError>
-        ensures { IfOk result (λ marks. Shows count marks (targets assignments.now)) }
+        ensures { IfOk result (λ marks. ShowsMarks count marks (targets assignments.now)) }
     {
         let mut marks = Marks::new(alloc, count)?;
         for assignment in assignments {
@@ -57,7 +57,7 @@ impl Marks {
 
     /// The targets of sets.
     pub fn of_sets(alloc: Global, count: usize, sets: &[Set]) -> Result<Marks, AllocError>
-        ensures { IfOk result (λ marks. Shows count marks (set_targets sets.now)) }
+        ensures { IfOk result (λ marks. ShowsMarks count marks (set_targets sets.now)) }
     {
         let mut marks = Marks::new(alloc, count)?;
         for set in sets {

@@ -6,7 +6,7 @@ ghost use Rattle.vlog_verify.specs.Placed.{nowhere};
 ghost use Rattle.vlog_verify.specs.Checks.{noted, walk, width_at};
 ghost use Rattle.vlog_verify.specs.Parts.{count_of, set_checks, see_set};
 ghost use Rattle.vlog_verify.specs.Verified.{targets, set_targets, signals_checks, ports_checks, end_check, assignments_checks, resets_checks, clocks_checks, set_literals, module_literals, literals_checks};
-ghost use Rattle.vlog_verify.specs.Inner.Seen.{Shows};
+ghost use Rattle.vlog_verify.specs.Inner.Seen.{ShowsMarks};
 
 use crate::checks::{note_rule, note_width};
 use crate::marks::Marks;
@@ -27,7 +27,7 @@ pub fn note_signals(
     places: &Places,
     driven: &Marks,
 ) -> Result<Option<Fault>, AllocError>
-    requires { Shows (count_of design.now) driven.now (targets design.now.assignments) }
+    requires { ShowsMarks (count_of design.now) driven.now (targets design.now.assignments) }
     ensures { IfOk result (λ fault. fault ≡ noted held (signals_checks design.now places.now)) }
 {
     let mut names = Table::new(alloc);
@@ -103,7 +103,7 @@ fn note_sets(
     others: &Marks,
     sets: &[Set],
 ) -> Result<Option<Fault>, AllocError>
-    ensures { (targets : List ℕ) → Shows (count_of design.now) others.now targets →
+    ensures { (targets : List ℕ) → ShowsMarks (count_of design.now) others.now targets →
         IfOk result (λ fault. fault ≡ noted held (walk (λ earlier i set. set_checks design.now is_reset targets (get_or spans.now i nowhere) earlier set) see_set [] 0 sets.now)) }
 {
     let mut earlier = Marks::new(alloc, design.signal_count())?;

@@ -16,11 +16,11 @@ received_value None = None
 received_value (Some w) = Some (Received w)
 
 -- the parts of a value are bound, or the activation ends
-abbrev pub Takes : Shape → Option SourceValue → Walk → Walk → Option Event → Type 0
-Takes shape value old new None =
+abbrev pub TakesValue : Shape → Option SourceValue → Walk → Walk → Option Event → Type 0
+TakesValue shape value old new None =
     (bind_slots (λ v. shape_match shape v old.bound.items) value ≡ Some new.bound.items)
     × (new.received ≡ old.received) × (new.site ≡ old.site)
-Takes shape value old new (Some event) =
+TakesValue shape value old new (Some event) =
     (bind_slots (λ v. shape_match shape v old.bound.items) value ≡ None) × (event ≡ End (state_or_unit None))
 
 -- the event of the rest of an activation from where a walk stands

@@ -12,7 +12,7 @@ use Rattle.ir_tree.specs.Activations.{sites_of, turns_from, words_from, setting_
 -- the nodes that are left, behind those with these values, among which stand this many sites, that
 -- received this many words
 
-pub record Stands (channels : List Channel) (proc : Proc) (s : Value) (got : List Word) (done : ℕ) (values : List Value) (site taken : ℕ) (left : List Node) : Type 0 where
+pub record StandsBehind (channels : List Channel) (proc : Proc) (s : Value) (got : List Word) (done : ℕ) (values : List Value) (site taken : ℕ) (left : List Node) : Type 0 where
   pub values_are : values_from (setting_of channels proc.nodes s got) values site left ≡ node_values (setting_of channels proc.nodes s got) proc.nodes
   pub words_left : words_from channels s values (drop taken got) left ≡ drop site (words_from channels s [] got proc.nodes)
   pub turns_left : turns_from (setting_of channels proc.nodes s got) values site left ≡ drop site (turns_of channels proc.nodes s got)

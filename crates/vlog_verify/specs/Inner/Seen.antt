@@ -18,6 +18,6 @@ abbrev pub mark_at : Marks → ℕ → Bool
 mark_at marks s = get_or marks.flags.items s false
 
 -- of so many signals these targets are marked
-pub record Shows (count : ℕ) (marks : Marks) (targets : List ℕ) : Type 0 where
+pub record ShowsMarks (count : ℕ) (marks : Marks) (targets : List ℕ) : Type 0 where
   pub size : length marks.flags.items ≡ count
   pub each : (s : ℕ) → mark_at marks s ≡ is_target count targets s

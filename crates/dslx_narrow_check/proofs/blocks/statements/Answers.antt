@@ -1,7 +1,7 @@
 use Rattle.std.proofs.Common.{◌≡◌, ◌∷◌, ◌+◌, [], drop, refl, sym, ◌∙◌, subst, arith}
 use Rattle.std.proofs.lemmas.List.{append-nil, drop_all}
 use Rattle.dslx_narrow_tree.specs.Blocks.{walk, walk_statement}
-use Rattle.dslx_narrow_judge.specs.Sights.{Shows}
+use Rattle.dslx_narrow_judge.specs.Sights.{ShowsScope}
 use Rattle.dslx_narrow_check.specs.Inner.{WalksOn}
 use Rattle.dslx_narrow_check.proofs.Noting.{at_item, pushed}
 use Rattle.dslx_narrow_check.proofs.blocks.statements.Goals as goal
@@ -28,6 +28,6 @@ returns c = λ is scope ai sh.
     let none : drop c.loop-s.s-index c.args.statements.now ≡ [] = drop_all c.loop-s.s-index c.args.statements.now (omega (arith, c.loop-s-test.false)) in
     let on = subst (λ xs. WalksOn c.args.on_top is c.args.statements.now scope xs c.loop-s.sight c.args.faults.now.items c.loop-s.faults.items) none (c.loop-s.invariant is scope ai sh) in
     record {
-      shows = subst (λ x. Shows c.loop-s.sight x) on.2 on.1;
+      shows = subst (λ x. ShowsScope c.loop-s.sight x) on.2 on.1;
       faults = sym (append-nil c.loop-s.faults.items) ∙ on.3;
     }

@@ -1,7 +1,7 @@
 use Rattle.std.proofs.Common.{◌≡◌, ◌++◌, ◌∷◌, [], ◌&&◌, List, map, sym, ap, ◌∙◌, subst, IfOk, Some, None}
 use Rattle.std.specs.Prelude.{if◌then◌else◌}
 use Rattle.dslx_narrow_tree.specs.Names.{callee_of}
-use Rattle.dslx_narrow_tree.specs.Judging.{Seen, seen, call_seen, token_faults, sent_faults, is_free, port_named, word_type, received_type, recv_type, recv_faults, send_type, send_faults}
+use Rattle.dslx_narrow_tree.specs.Judging.{SeenExpr, seen, call_seen, token_faults, sent_faults, is_free, port_named, word_type, received_type, recv_type, recv_faults, send_type, send_faults}
 use Rattle.dslx_narrow_tree.specs.declared.proc.Direction.TheVariants.{In, Out}
 use Rattle.dslx_narrow_tree.specs.declared.value.SourceType.TheVariants as ty
 use Rattle.dslx_narrow_tree.specs.declared.expr.Expr.{Expr, Add}
@@ -16,7 +16,7 @@ inside-returns-in-Call t c =
     let s : call_seen (callee_of c.in-Call.name.name) c.in-Call.span c.in-Call.name (map seen c.as_slice.result.now) ≡ seen c.args.e.now =
     ap (λ xs. call_seen (callee_of c.in-Call.name.name) c.in-Call.span c.in-Call.name (map seen xs)) args_is
     ∙ (sym (seen-Call c.in-Call.span c.in-Call.name c.in-Call.args) ∙ ap seen (sym c.in-Call.is)) in
-    subst (λ (x : Seen). IfOk c.call.result (λ ty. Judges c.args.sight.now (λ scope. x.inside scope) c.args.faults.now.items c.call.new.faults.items ty)) s c.call.ensures
+    subst (λ (x : SeenExpr). IfOk c.call.result (λ ty. Judges c.args.sight.now (λ scope. x.inside scope) c.args.faults.now.items c.call.new.faults.items ty)) s c.call.ensures
 
 pub inside-returns-in_ok-note_sum-in-Add : goal.inside-returns-in_ok-note_sum-in-Add
 inside-returns-in_ok-note_sum-in-Add t c = λ scope shows.

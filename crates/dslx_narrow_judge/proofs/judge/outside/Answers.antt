@@ -1,6 +1,6 @@
 use Rattle.std.proofs.Common.{◌≡◌, map, sym, ap, ◌∙◌, subst, IfOk}
 use Rattle.dslx_narrow_tree.specs.Names.{callee_of}
-use Rattle.dslx_narrow_tree.specs.Judging.{Seen, seen, call_seen}
+use Rattle.dslx_narrow_tree.specs.Judging.{SeenExpr, seen, call_seen}
 use Rattle.dslx_narrow_tree.specs.declared.expr.Expr.{Add}
 use Rattle.dslx_narrow_judge.specs.Sights.{Judges}
 use Rattle.dslx_narrow_judge.proofs.Seen.{seen-Call, judged_add, add_on_top}
@@ -12,7 +12,7 @@ returns-in-Call c =
     let s : call_seen (callee_of c.in-Call.name.name) c.in-Call.span c.in-Call.name (map seen c.as_slice.result.now) ≡ seen c.args.e.now =
     ap (λ xs. call_seen (callee_of c.in-Call.name.name) c.in-Call.span c.in-Call.name (map seen xs)) args_is
     ∙ (sym (seen-Call c.in-Call.span c.in-Call.name c.in-Call.args) ∙ ap seen (sym c.in-Call.is)) in
-    subst (λ (x : Seen). IfOk c.called.result (λ ty. Judges c.args.sight.now (λ scope. x.on_top scope) c.args.faults.now.items c.called.new.faults.items ty)) s c.called.ensures
+    subst (λ (x : SeenExpr). IfOk c.called.result (λ ty. Judges c.args.sight.now (λ scope. x.on_top scope) c.args.faults.now.items c.called.new.faults.items ty)) s c.called.ensures
 
 pub returns-in_ok-note_sum-in-Add : goal.returns-in_ok-note_sum-in-Add
 returns-in_ok-note_sum-in-Add c = λ scope shows.

@@ -1,14 +1,14 @@
 use Rattle.std.proofs.Common.{None, subst, ap}
 use Rattle.vlog_verify.specs.Parts.{count_of}
 use Rattle.vlog_verify.specs.Verified.{targets, signals_checks, ports_checks, end_check, assignments_checks, resets_checks, clocks_checks, literals_checks, module_checks}
-use Rattle.vlog_verify.specs.Inner.Seen.{Shows}
+use Rattle.vlog_verify.specs.Inner.Seen.{ShowsMarks}
 use Rattle.vlog_verify.proofs.Judging.{all_noted}
 use Rattle.vlog_verify.proofs.verified.plain_fault.Goals as goal
 
 pub note_signals-requires : goal.note_signals-requires
 note_signals-requires c =
-    subst (λ n. Shows n c.in_ok-driven.driven (targets c.args.design.now.assignments)) c.signal_count.ensures
-    (subst (λ xs. Shows c.signal_count.result c.in_ok-driven.driven (targets xs)) c.as_slice-assignments.ensures c.in_ok-driven.ensures)
+    subst (λ n. ShowsMarks n c.in_ok-driven.driven (targets c.args.design.now.assignments)) c.signal_count.ensures
+    (subst (λ xs. ShowsMarks c.signal_count.result c.in_ok-driven.driven (targets xs)) c.as_slice-assignments.ensures c.in_ok-driven.ensures)
 
 pub returns : goal.returns
 unfolding module_checks

@@ -2,13 +2,13 @@ use Rattle.std.proofs.Common.{◌≡◌, ℕ, List, [], drop, get_or}
 use Rattle.vlog_verify.specs.Placed.{nowhere}
 use Rattle.vlog_verify.specs.Checks.{noted, walk}
 use Rattle.vlog_verify.specs.Parts.{count_of, assignment_checks, see_target}
-use Rattle.vlog_verify.specs.Inner.Seen.{Shows}
+use Rattle.vlog_verify.specs.Inner.Seen.{ShowsMarks}
 use Rattle.vlog_verify.proofs.walks.note_assignments.Given as goal
 
 abbrev pub invariant-assignments : goal.invariant-assignments
 invariant-assignments l = record {
   targets : List ℕ;
-  shows : Shows (count_of l.design) l.earlier targets;
+  shows : ShowsMarks (count_of l.design) l.earlier targets;
   faults : noted l.held (walk (λ earlier i a. assignment_checks l.design (get_or l.spans i nowhere) earlier a) see_target targets l.i (drop l.i l.assignments))
       ≡ noted l.fn.held (walk (λ earlier i a. assignment_checks l.design (get_or l.spans i nowhere) earlier a) see_target [] 0 l.assignments);
 }

@@ -3,7 +3,7 @@ use Rattle.vlog_verify.specs.Placed.{nowhere}
 use Rattle.vlog_verify.specs.Checks.{noted, walk}
 use Rattle.vlog_verify.specs.Parts.{count_of, set_checks, see_set}
 use Rattle.vlog_verify.specs.Verified.{set_targets, resets_checks, clocks_checks}
-use Rattle.vlog_verify.specs.Inner.Seen.{Shows}
+use Rattle.vlog_verify.specs.Inner.Seen.{ShowsMarks}
 use Rattle.vlog_verify.proofs.Steps.{noted-append}
 use Rattle.vlog_verify.proofs.walks.note_branches.Goals as goal
 
@@ -11,12 +11,12 @@ pub returns : goal.returns
 returns c =
     let m = c.args.design.now in
     let pl = c.args.places.now in
-    let resets : Shows (count_of m) c.in_ok-at_reset.at_reset (set_targets m.at_reset) =
-    subst (λ n. Shows n c.in_ok-at_reset.at_reset (set_targets m.at_reset)) c.signal_count-count.ensures
-    (subst (λ xs. Shows c.signal_count-count.result c.in_ok-at_reset.at_reset (set_targets xs)) c.as_slice-resets.ensures c.in_ok-at_reset.ensures) in
-    let clocks : Shows (count_of m) c.in_ok-at_clock.at_clock (set_targets m.at_clock) =
-    subst (λ n. Shows n c.in_ok-at_clock.at_clock (set_targets m.at_clock)) c.signal_count-count.ensures
-    (subst (λ xs. Shows c.signal_count-count.result c.in_ok-at_clock.at_clock (set_targets xs)) c.as_slice-clocks.ensures c.in_ok-at_clock.ensures) in
+    let resets : ShowsMarks (count_of m) c.in_ok-at_reset.at_reset (set_targets m.at_reset) =
+    subst (λ n. ShowsMarks n c.in_ok-at_reset.at_reset (set_targets m.at_reset)) c.signal_count-count.ensures
+    (subst (λ xs. ShowsMarks c.signal_count-count.result c.in_ok-at_reset.at_reset (set_targets xs)) c.as_slice-resets.ensures c.in_ok-at_reset.ensures) in
+    let clocks : ShowsMarks (count_of m) c.in_ok-at_clock.at_clock (set_targets m.at_clock) =
+    subst (λ n. ShowsMarks n c.in_ok-at_clock.at_clock (set_targets m.at_clock)) c.signal_count-count.ensures
+    (subst (λ xs. ShowsMarks c.signal_count-count.result c.in_ok-at_clock.at_clock (set_targets xs)) c.as_slice-clocks.ensures c.in_ok-at_clock.ensures) in
     c.in_ok-held-2.ensures (set_targets m.at_reset) resets
     ∙ ap (λ ss. noted c.in_ok-held.held (walk (λ earlier i set. set_checks m false (set_targets m.at_reset) (get_or ss i nowhere) earlier set) see_set [] 0 c.as_slice-clocks.result.now)) c.as_slice-spans-2.ensures
     ∙ ap (λ xs. noted c.in_ok-held.held (walk (λ earlier i set. set_checks m false (set_targets m.at_reset) (get_or pl.at_clock i nowhere) earlier set) see_set [] 0 xs)) c.as_slice-clocks.ensures

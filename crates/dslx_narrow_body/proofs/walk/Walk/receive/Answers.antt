@@ -1,7 +1,7 @@
 use Rattle.std.proofs.Common.{◌≡◌, ◌+◌, ◌<◌, ◌∙◌, ap, refl, subst, arith}
 use Rattle.std.specs.Prelude.{slice_get}
 use Rattle.dslx_narrow_body.specs.declared.walk.Walk.{Walk}
-use Rattle.dslx_narrow_body.specs.Inner.Walking.{Takes, received_value}
+use Rattle.dslx_narrow_body.specs.Inner.Walking.{TakesValue, received_value}
 use Rattle.dslx_narrow_body.proofs.Stepping.{receive_here, receive_steps}
 use Rattle.dslx_narrow_body.proofs.walk.Walk.receive.Goals as goal
 
@@ -15,4 +15,4 @@ returns c =
     let before : c.args.self.now.site < c.args.done = omega (arith, c.requires.site, c.if-self-done.false) in
     receive_steps c.args.shape.now c.args.got.now c.args.done c.args.self.now mid c.take.new.self (slice_get c.args.got.now c.args.self.now.received) c.in_ok-ended.ended
     before c.requires.received refl refl refl refl
-    (subst (λ v. Takes c.args.shape.now v mid c.take.new.self c.in_ok-ended.ended) value_is c.in_ok-ended.ensures)
+    (subst (λ v. TakesValue c.args.shape.now v mid c.take.new.self c.in_ok-ended.ended) value_is c.in_ok-ended.ensures)

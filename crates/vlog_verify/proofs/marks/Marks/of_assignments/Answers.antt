@@ -1,6 +1,6 @@
 use Rattle.std.proofs.Common.{take, subst, sym, arith, ◌<◌, length}
 use Rattle.vlog_verify.specs.Verified.{targets}
-use Rattle.vlog_verify.specs.Inner.Seen.{Shows}
+use Rattle.vlog_verify.specs.Inner.Seen.{ShowsMarks}
 use Rattle.vlog_verify.proofs.Steps.{targets-more}
 use Rattle.vlog_verify.proofs.marks.Marks.of_assignments.Goals as goal
 
@@ -9,5 +9,5 @@ loop-assignment-preserved c =
     let xs = c.args.assignments.now in
     let i = c.loop-assignment.assignment-index in
     let inside : i < length xs = omega arith in
-    subst (Shows c.args.count c.mark.new.self) (sym (targets-more xs i c.assignment-item.result inside c.assignment-item.is))
+    subst (ShowsMarks c.args.count c.mark.new.self) (sym (targets-more xs i c.assignment-item.result inside c.assignment-item.is))
     (c.mark.ensures c.args.count (targets (take i xs)) c.loop-assignment.invariant)

@@ -1,6 +1,6 @@
 use Rattle.std.proofs.Common.{take, subst, sym, arith, ◌<◌, length}
 use Rattle.vlog_verify.specs.Verified.{set_targets}
-use Rattle.vlog_verify.specs.Inner.Seen.{Shows}
+use Rattle.vlog_verify.specs.Inner.Seen.{ShowsMarks}
 use Rattle.vlog_verify.proofs.Steps.{set_targets-more}
 use Rattle.vlog_verify.proofs.marks.Marks.of_sets.Goals as goal
 
@@ -9,5 +9,5 @@ loop-set-preserved c =
     let xs = c.args.sets.now in
     let i = c.loop-set.set-index in
     let inside : i < length xs = omega arith in
-    subst (Shows c.args.count c.mark.new.self) (sym (set_targets-more xs i c.set-item.result inside c.set-item.is))
+    subst (ShowsMarks c.args.count c.mark.new.self) (sym (set_targets-more xs i c.set-item.result inside c.set-item.is))
     (c.mark.ensures c.args.count (set_targets (take i xs)) c.loop-set.invariant)
