@@ -220,11 +220,11 @@ module _ (run : Run) (cut : Cut) (known : IsCounted run cut) where
           by (inl e) = subst (λ xs. IsFront xs (final_cut run p)) (sym e) (IsFront-refl (final_cut run p))
           by (inr r) = past r.0 r.1 r.2
 
-  longer : IsLonger (words_at run cut) (words_at run (final_cut run))
+  pub longer : IsLonger (words_at run cut) (words_at run (final_cut run))
   longer = words_at_grow run cut (final_cut run) counted_below
 
   -- each proc is within its own reach
-  counted_consistent : IsWithin cut (round run cut)
+  pub counted_consistent : IsWithin cut (round run cut)
   counted_consistent p = go (slice_get run.procs p) refl
     where
       go : (o : Option Proc) → slice_get run.procs p ≡ o → IsFront (cut p) (reach run cut p)

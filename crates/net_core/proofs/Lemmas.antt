@@ -1,7 +1,7 @@
 -- The laws of networks, as lemmas by the names of the functions of `laws` that state them. This module is for other
 -- crates' proofs; nothing else of this folder is.
-use Rattle.std.proofs.Common.{◌≡◌, ℕ, ◌<◌, ◌≤◌, ◌^◌, List, [], ◌∷◌, ◌++◌, length, sym, ◌∙◌, subst, false, true, Some}
-use Rattle.std.specs.Prelude.{slice_get}
+use Rattle.std.proofs.Common.{◌≡◌, ℕ, ◌<◌, ◌≤◌, ◌^◌, List, [], ◌∷◌, ◌++◌, length, sym, ◌∙◌, subst, false, true, Some, None}
+use Rattle.std.specs.Prelude.{slice_get, nat_lt, if◌then◌else◌}
 use mathlib.Core.Path.{fun_ext}
 use Rattle.xb_bits.specs.Word.{Word}
 use Rattle.xb_value.specs.declared.value.Value.{Value}
@@ -12,8 +12,8 @@ use Rattle.net_core.specs.Behavior.{Behavior, IsOpen, KeepsTypes, next_event}
 use Rattle.net_core.specs.Trace.{Histories, trace}
 use Rattle.net_core.specs.Cuts.{Proc, Run, Cut, IsWithin, empty_cut, sites_at, words_sent, count_received, words_at, room_at, trace_of, round, unbounded_round, final_cut, unbounded_cut}
 use Rattle.lists.specs.Front.{IsFront}
-use Rattle.net_core.specs.Machine.{opened, position_after, next_of, finds_word, goes_by, goes, after_steps}
-use Rattle.net_core.specs.Outcomes.{count_ends, stall_in, outcome_of}
+use Rattle.net_core.specs.Machine.{opened, position_after, position_in, next_of, finds_word, goes_by, goes, after_steps}
+use Rattle.net_core.specs.Outcomes.{count_ends, stall_for, stall_in, end_of, outcome_of}
 use Rattle.net_core.specs.declared.net.Net.{Net}
 use Rattle.net_core.specs.WellFormed.{IsNet, IsInputs, IsOutcome, AreBehaviorsOf, EachKeepsTypes, run_of}
 use Rattle.net_core.specs.Shows.{Shows}
@@ -21,13 +21,14 @@ use Rattle.net_core.specs.Counted.{IsCounted}
 use Rattle.net_core.specs.Nexts.{EventFits, WaitsForAWord}
 use Rattle.lists.proofs.Lemmas.Fronts.{IsFront-refl}
 use Rattle.net_core.proofs.Traces.{trace_grows, longer_trace}
-use Rattle.net_core.proofs.Resume.{trace_opened}
+use Rattle.net_core.proofs.Resume.{trace_opened, position_grows}
 use Rattle.net_core.proofs.Receives.{received_within, stops_at, goes_further}
 use Rattle.net_core.proofs.Nexts.{next_after, event_fits}
 use Rattle.net_core.proofs.Rounds.{final_stays, unbounded_stays}
 use Rattle.net_core.proofs.Confluence.{steps_within_final, steps_end_final, stuck_is_final}
-use Rattle.net_core.proofs.Counted.{counted_below, counted_final, final_in_trace, some_trace}
+use Rattle.net_core.proofs.Counted.{counted_below, counted_final, counted_consistent, longer, final_in_trace, some_trace}
 use Rattle.net_core.proofs.TypedRuns.{outcome_fits}
+use Rattle.net_core.proofs.Ends.{reached_in_trace, stall_is, state_is, ends_are_counted}
 use Rattle.net_core.proofs.Final.{final_stuck, final_received, final_room, stuck_stalls}
 -- what a proc does at a site, and then at those behind it
 unfoldable pub use Rattle.net_core.proofs.Resume.{event_turn}
@@ -36,6 +37,12 @@ pub use Rattle.net_core.proofs.Resume.{event_site}
 pub use Rattle.net_core.proofs.Bodies.{behavior_there, count_behaviors, each_keeps, behaviors_zipped}
 -- the state and the ends of a position are those of the events before it
 pub use Rattle.net_core.proofs.Ends.{state_is, ends_are_counted}
+-- where an activation can stand, and its next event there
+pub use Rattle.net_core.proofs.Openings.{EventAt}
+pub use Rattle.net_core.proofs.Openings.{receives_at, sends_at, ends_with, next_at, open_first, open_skip, open_send, open_receive}
+-- the run of a network fits, its procs open in states of their types, and its final words have their widths
+pub use Rattle.net_core.proofs.Starts.{IsZipped, zipped, run_fits, opening_typed}
+pub use Rattle.net_core.proofs.TypedRuns.{final_typed}
 -- a configuration in which nothing changed shows the same
 pub use Rattle.net_core.proofs.Shown.{shows_unchanged}
 
@@ -92,6 +99,13 @@ pub counted_cuts_end_at_the_final_cut : (run : Run) (cut : Cut) → IsCounted ru
     → cut ≡ final_cut run
 counted_cuts_end_at_the_final_cut = counted_final
 
+-- where its procs stand by the words of the cut, they stand by those of the final cut too
+pub counted_cuts_stand : (run : Run) (cut : Cut) → IsCounted run cut → (p : ℕ) (proc : Proc) → slice_get run.procs p ≡ Some proc
+    → position_in run cut p proc ≡ position_after proc.behavior.sites (opened proc) (cut p) (words_at run (final_cut run))
+counted_cuts_stand run cut known p proc e =
+    position_grows proc.behavior run.activations (cut p) (opened proc) (words_at run cut) (words_at run (final_cut run)) (longer run cut known)
+    (reached_in_trace run cut p proc e (counted_consistent run cut known p))
+
 -- the final cut
 pub rounds_settle : (run : Run) → round run (final_cut run) ≡ final_cut run
 rounds_settle = final_stays
@@ -114,6 +128,19 @@ who_is_not_done_waits run p proc e l =
     let made = subst (λ o. IsFront (final_cut run p) (trace_of run.activations (words_at run (final_cut run)) o)) e (final_in_trace run p) in
     stuck_stalls run (final_cut run) p proc (some_trace run.activations (words_at run (final_cut run)) proc (final_cut run p) made)
     (subst (λ o. goes_by run (final_cut run) p o ≡ false) e (final_stuck run p)) l
+
+-- what the outcome says of a proc, by where it stands in the final cut
+pub ends_by_position : (run : Run) (p : ℕ) (proc : Proc) → slice_get run.procs p ≡ Some proc
+    → let at = position_in run (final_cut run) p proc in
+    end_of run (final_cut run) p proc
+    ≡ record { state = at.state; ends = at.ends; stall = if nat_lt at.ends run.activations then stall_for proc.behavior.sites at.ends (next_of proc.behavior at) else None }
+ends_by_position run p proc e =
+    let made = subst (λ o. IsFront (final_cut run p) (trace_of run.activations (words_at run (final_cut run)) o)) e (final_in_trace run p) in
+    let front = some_trace run.activations (words_at run (final_cut run)) proc (final_cut run p) made in
+    let stall = stall_is run (final_cut run) p proc front in
+    let state = state_is proc (final_cut run p) (words_at run (final_cut run)) in
+    let ends = ends_are_counted proc (final_cut run p) (words_at run (final_cut run)) in
+    λ i. record { state = sym state i; ends = sym ends i; stall = stall i }
 
 pub outcomes_fit : (net : Net) (behaviors : List Behavior) (inputs : List (List Word)) (n : ℕ) (depths : List ℕ)
     → IsNet net → AreBehaviorsOf net behaviors → EachKeepsTypes behaviors → IsInputs net inputs → n < 2 ^ 32
