@@ -1,8 +1,11 @@
 -- A token at the front of a text has a length.
-use Rattle.std.proofs.Common.{◌≡◌, ℕ, suc, ◌+◌, ◌<◌, ◌≤◌, ◌^◌, ◌==◌, nat_lt, Bool, true, false, List, [], ◌∷◌, take, drop, length, Option, Some, None, refl, sym, arith}
+use Rattle.std.proofs.Common.{◌≡◌, ℕ, suc, ◌+◌, ◌<◌, ◌≤◌, ◌^◌, ◌==◌, ◌&&◌, nat_lt, Bool, true, false, List, [], ◌∷◌, take, drop, length, Option, Some, None, refl, sym, subst, arith}
 use Rattle.std.specs.Prelude.{if◌then◌else◌, slice_index, IfSome, MatchOption}
 use Rattle.std.specs.List.{prefix_len}
 use Rattle.std.specs.Char.{is_ascii_digit, is_ascii_hexdigit}
+use Rattle.std.specs.Str.{IsAscii}
+use Rattle.std.proofs.lemmas.Str.Ascii.{IsAscii-nil, IsAscii-cons}
+use Rattle.std.proofs.lemmas.Bool.{and_parts}
 use Rattle.std.proofs.lemmas.Bool.Decides.{nat_tests}
 use Rattle.texts.specs.Words.{begins_word}
 use Rattle.ir_grammar.specs.declared.generated.kind.TheConstants.{END}
@@ -53,7 +56,76 @@ front_some c cs =
     (λ none n e. none_gives n e)
     (λ mark n e. is_some 1 n e (omega arith))))
 
+-- ---- its bytes are ASCII
+
+goes_below : (c d : ℕ) → word_goes_on c d ≡ true → c < 128
+goes_below c d h = grind (arith, nat_tests)
+
+digit_below : (c : ℕ) → is_ascii_digit c ≡ true → c < 128
+digit_below c h = grind (arith, nat_tests)
+
+hexadecimal_below : (c : ℕ) → is_ascii_hexdigit c ≡ true → c < 128
+hexadecimal_below c h = grind (arith, nat_tests)
+
+mark_below : (c : ℕ) → (mark_kind c == END) ≡ false → c < 128
+mark_below c h = grind (arith, nat_tests)
+
+word_step : (b : Bool) (c : ℕ) (cs : List ℕ) (n : ℕ) → (b ≡ true → c < 128) → IsAscii (take n cs) → IsAscii (take (if b then suc n else 0) (c ∷ cs))
+word_step true c cs n below rest = IsAscii-cons c (take n cs) (below refl) rest
+word_step false c cs n below rest = IsAscii-nil
+
+word_ascii : (text : List ℕ) → IsAscii (take (name_len text) text)
+word_ascii [] = IsAscii-nil
+word_ascii (c ∷ cs) = word_step (word_goes_on c (slice_index cs 0)) c cs (name_len cs) (goes_below c (slice_index cs 0)) (word_ascii cs)
+
+digits_step : (b : Bool) (c : ℕ) (cs : List ℕ) (n : ℕ) → (b ≡ true → c < 128) → IsAscii (take n cs) → IsAscii (take (if b then (1 + n) else 0) (c ∷ cs))
+digits_step true c cs n below rest = let e : 1 + n ≡ suc n = omega arith in rw e (IsAscii-cons c (take n cs) (below refl) rest)
+digits_step false c cs n below rest = IsAscii-nil
+
+digits_ascii : (p : ℕ → Bool) → ((c : ℕ) → p c ≡ true → c < 128) → (text : List ℕ) → IsAscii (take (prefix_len p text) text)
+digits_ascii p below [] = IsAscii-nil
+digits_ascii p below (c ∷ cs) = digits_step (p c) c cs (prefix_len p cs) (below c) (digits_ascii p below cs)
+
+prefixed_ascii : (text : List ℕ) (n : ℕ) → begins_hexadecimal text ≡ true → IsAscii (take n (drop 2 text)) → IsAscii (take (2 + n) text)
+prefixed_ascii [] n h rest = absurd (cc)
+prefixed_ascii (c ∷ []) n h rest = absurd (grind (arith, nat_tests))
+prefixed_ascii (c ∷ d ∷ cs) n h rest =
+    let both = and_parts (c == 48) ((d == 120) && is_ascii_hexdigit (slice_index cs 0)) h in
+    let second = and_parts (d == 120) (is_ascii_hexdigit (slice_index cs 0)) both.1 in
+    let first_below : c < 128 = grind (arith, nat_tests) in
+    let second_below : d < 128 = grind (arith, nat_tests) in
+    let e : 2 + n ≡ suc (suc n) = omega arith in
+    rw e (IsAscii-cons c (d ∷ take n cs) first_below (IsAscii-cons d (take n cs) second_below rest))
+
+number_step : (b : Bool) (text : List ℕ) → begins_hexadecimal text ≡ b → IsAscii (take (if b then (2 + prefix_len is_ascii_hexdigit (drop 2 text)) else prefix_len is_ascii_digit text) text)
+number_step true text h = prefixed_ascii text (prefix_len is_ascii_hexdigit (drop 2 text)) h (digits_ascii is_ascii_hexdigit hexadecimal_below (drop 2 text))
+number_step false text h = digits_ascii is_ascii_digit digit_below text
+
+number_ascii : (text : List ℕ) → IsAscii (take (digits_len text) text)
+number_ascii text = number_step (begins_hexadecimal text) text refl
+
+of_len : (text : List ℕ) (m n : ℕ) → Some m ≡ Some n → IsAscii (take m text) → IsAscii (take n text)
+of_len text m n e h = let same : m ≡ n = cc in subst (λ k. IsAscii (take k text)) same h
+
+none_ascii : (text : List ℕ) (n : ℕ) → None ≡ Some n → IsAscii (take n text)
+none_ascii text n e = absurd (cc)
+
+pub front_ascii : (c : ℕ) (cs : List ℕ) (len : ℕ) → token_front (c ∷ cs) ≡ Some len → IsAscii (take len (c ∷ cs))
+front_ascii c cs =
+    either_some (begins_word c) (Some (name_len (c ∷ cs))) _ (λ n. IsAscii (take n (c ∷ cs)))
+    (λ h n e. of_len (c ∷ cs) (name_len (c ∷ cs)) n e (word_ascii (c ∷ cs)))
+    (λ other.
+    either_some (is_ascii_digit c) (number_front (c ∷ cs)) _ (λ n. IsAscii (take n (c ∷ cs)))
+    (λ h.
+    either_some (nat_lt (value_of_number (take (digits_len (c ∷ cs)) (c ∷ cs))) (2 ^ 128)) (Some (digits_len (c ∷ cs))) None (λ n. IsAscii (take n (c ∷ cs)))
+    (λ small n e. of_len (c ∷ cs) (digits_len (c ∷ cs)) n e (number_ascii (c ∷ cs)))
+    (λ large n e. none_ascii (c ∷ cs) n e))
+    (λ no_digit.
+    either_some (mark_kind c == END) None (Some 1) (λ n. IsAscii (take n (c ∷ cs)))
+    (λ none n e. none_ascii (c ∷ cs) n e)
+    (λ mark n e. of_len (c ∷ cs) 1 n e (IsAscii-cons c [] (mark_below c mark) IsAscii-nil))))
+
 pub front_found : (text : List ℕ) (o : Option ℕ) → o ≡ token_front text → IfSome o (λ len. len ≤ length text) → MatchOption o (token_front text ≡ None) (λ len. HasFront text len)
 front_found text None e h = sym e
 front_found [] (Some len) e h = absurd (cc)
-front_found (c ∷ cs) (Some len) e h = record { front = sym e; some = front_some c cs len (sym e); within = h }
+front_found (c ∷ cs) (Some len) e h = record { front = sym e; some = front_some c cs len (sym e); within = h; ascii = front_ascii c cs len (sym e) }

@@ -1,5 +1,6 @@
 -- What functions of this crate promise one another.
-use Rattle.std.specs.Prelude.{◌≡◌, ℕ, ◌<◌, ◌≤◌, List, length, Some}
+use Rattle.std.specs.Prelude.{◌≡◌, ℕ, ◌<◌, ◌≤◌, List, take, length, Some}
+use Rattle.std.specs.Str.{IsAscii}
 use denote.Ref.{Bor}
 use Rattle.dslx_token.specs.Spelling.{Spelling}
 use Rattle.ir_token.specs.Fronts.{token_front}
@@ -13,3 +14,4 @@ pub record HasFront (text : List ℕ) (len : ℕ) : Type 0 where
   pub front : token_front text ≡ Some len
   pub some : 0 < len
   pub within : len ≤ length text
+  pub ascii : IsAscii (take len text)

@@ -1,0 +1,6 @@
+mod LastToken
+mod OneTree
+mod OnePackage
+mod Stepping
+mod Tails
+mod Verdicts
