@@ -1,0 +1,6 @@
+-- which checked text stands for a text
+pub mod CoreOf
+-- the value of an expression of a checked text
+pub mod CoreValues
+-- what a checked text means
+pub mod Designs

@@ -1,0 +1,12 @@
+//! A checked text: each instance with its types, and nothing left to look up.
+//!
+//! Its values are plain: a struct is a tuple, an enum is bits, a token is `()`. `specs/` has its meaning.
+#![tactic(auto)]
+
+mod design;
+mod expr;
+mod step;
+
+pub use design::{Child, Design, Function, Instance, MadeChannel, Outer};
+pub use expr::{Arm, CoreBinary, CoreExpr, CoreUnary, Shape, Sign};
+pub use step::{Receive, Send, Step};

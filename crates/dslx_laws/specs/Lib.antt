@@ -1,0 +1,2 @@
+-- the least of several faults
+pub mod Least

@@ -1,0 +1,339 @@
+-- The value of an expression, by recursion on its tree.
+--
+-- An expression has no value where an operand has none or is none of the operator's: what is well typed always has one.
+use Rattle.std.specs.Prelude.{ℕ, zero, suc, List, [], ◌∷◌, ◌++◌, ◌-◌, ◌==◌, nat_lt, map, Bool, true, false, not, Option, Some, None, length, option_map, ℤ, pos, negsuc, ◌-ℤ◌, if◌then◌else◌}
+use Rattle.xb_bits.specs.Word.{Word, word}
+use Rattle.xb_bits.specs.Operations as op
+use Rattle.dslx_tree.specs.declared.block.Stmt.TheOpen.{Stmt-F}
+use Rattle.dslx_tree.specs.declared.block.Block.{Block, Block-F, fold-Block}
+use Rattle.dslx_tree.specs.declared.block.Let.{Let-F}
+use Rattle.dslx_tree.specs.declared.expr.Expr.{Expr, Expr-F, fold-Expr}
+use Rattle.dslx_tree.specs.declared.block.Stmt.TheOpen.{Node-F}
+use Rattle.dslx_tree.specs.declared.expr.Number.{Number-F}
+use Rattle.dslx_tree.specs.declared.expr.Arg.{Arg, Arg-F, fold-Arg}
+use Rattle.dslx_tree.specs.declared.expr.Arm.{Arm-F}
+use Rattle.dslx_tree.specs.declared.expr.For.{For-F}
+use Rattle.dslx_tree.specs.declared.expr.FieldValue.{FieldValue-F}
+use Rattle.dslx_tree.specs.declared.pattern.Pattern.{Pattern, Pattern-F, fold-Pattern}
+use Rattle.dslx_tree.specs.declared.block.Stmt.TheOpen.{Shape-F}
+use Rattle.dslx_tree.specs.declared.type_expr.TypeExpr.{TypeExpr, TypeExpr-F, fold-TypeExpr}
+use Rattle.dslx_tree.specs.declared.block.Stmt.TheOpen.{TypeNode-F}
+use Rattle.dslx_meaning.specs.Lists.{all_some, and_then, with_both, or_else, where_true, is_in, beside, last_of, repeated}
+use Rattle.dslx_meaning.specs.Callees.{CallKind, kind_of_call, Joins, CountsLeading, CountsTrailing, Reverses, AllOnes, SomeOne, Parity, Updates, Calls}
+use Rattle.dslx_meaning.specs.Types.{bits_in}
+use Rattle.dslx_meaning.specs.Values.{same_value, bits_of, unsigned_of, elements_of, fields_of, bool_value, unit_value}
+use Rattle.dslx_meaning.specs.Operators.{number_value, whole_number, index_number, prefix_value, binary_value, truth, cast_value, slice_value, part_value, index_value, element_value, counted, reduced, updated, of_one_type}
+use Rattle.dslx_meaning.specs.Environment.{Env, value_of_name, bind}
+use Rattle.dslx_meaning.specs.declared.ty.DslxType.{DslxType, out-DslxType}
+use Rattle.dslx_meaning.specs.declared.ty.DslxType as ty
+use Rattle.dslx_meaning.specs.declared.ty.DslxType.TheOpen.{DslxType-F}
+use Rattle.dslx_meaning.specs.declared.value.DslxValue.{DslxValue, Bits, Tuple, Array, Struct, Token}
+use Rattle.dslx_meaning.specs.declared.value.SignedWord.{SignedWord}
+use Rattle.dslx_meaning.specs.declared.value.Bare.{Bare}
+
+-- what has a value somewhere
+abbrev pub Evaluates : Type 0
+Evaluates = Env → Option DslxValue
+
+-- an expression: the number that it is, if it is one without a type, and its value
+pub record Meant : Type 0 where
+  pub bare : Option Bare
+  pub value : Evaluates
+
+-- a pattern: what is bound behind it, if a value fits
+abbrev pub Fitting : Type 0
+Fitting = DslxValue → Env → Option Env
+
+-- a written type
+abbrev pub Typing : Type 0
+Typing = Env → Option DslxType
+
+-- a statement: the value of the rest of its block, in which it may have bound names
+abbrev pub Going : Type 0
+Going = Evaluates → Evaluates
+
+-- an arm of a match, and a field of a struct value
+pub record ArmMeant : Type 0 where
+  pub patterns : List Fitting
+  pub value : Evaluates
+
+pub record FieldMeant : Type 0 where
+  pub name : List ℕ
+  pub value : Evaluates
+
+abbrev pub valued : Evaluates → Meant
+valued value = record { bare = None; value = value }
+
+-- ---- numbers
+
+abbrev pub number_meant : Option Typing → Bare → Meant
+number_meant None number = record { bare = Some number; value = λ env. None }
+number_meant (Some ty) number = valued (λ env. and_then (ty env) (λ t. number_value t number))
+
+-- a width, a size, a depth: a number without a type counts as unsigned
+abbrev pub count_in : Option Bare → Option DslxValue → Option ℕ
+count_in None v = and_then v (λ v. and_then (unsigned_of v) (λ w. Some w.value))
+count_in (Some number) v = if number.is_negative then None else Some number.value
+
+abbrev pub some_count : ℕ → Option ℕ
+some_count zero = None
+some_count (suc n) = Some (suc n)
+
+-- a width, a size or a depth is 1 or more
+abbrev pub size_of : Meant → Env → Option ℕ
+size_of e env = and_then (count_in e.bare (e.value env)) some_count
+
+-- a bound of a slice: a number without a type, or a value that is not negative
+abbrev pub bound_in : Option Bare → Option DslxValue → Option ℕ
+bound_in None v = and_then v index_number
+bound_in (Some number) v = if number.is_negative then None else Some number.value
+
+abbrev pub bound_of : Meant → Env → Option ℕ
+bound_of e env = bound_in e.bare (e.value env)
+
+-- ---- types
+
+abbrev pub type_meant : TypeNode-F Going Meant Fitting Typing Evaluates Going Meant ArmMeant Meant FieldMeant Evaluates Meant Fitting Typing → Typing
+type_meant (TypeNode-F.Bits s w) env = Some (ty.Bits s w)
+type_meant (TypeNode-F.Wide s e) env = and_then (size_of e env) (λ w. Some (ty.Bits s w))
+type_meant TypeNode-F.TypeNode::Bool env = Some (ty.Bits false 1)
+type_meant (TypeNode-F.TypeNode::Name name) env = env.items.type_named name
+type_meant (TypeNode-F.TypeNode::Tuple ts) env = and_then (all_some (map (λ (t : Typing). t env) ts)) (λ ts. Some (ty.Tuple ts))
+type_meant (TypeNode-F.TypeNode::Array t e) env = with_both (t env) (size_of e env) (λ t n. Some (ty.Array t n))
+
+-- ---- patterns
+
+-- each value of a tuple fits its own pattern, in order
+abbrev pub fit_each : List Fitting → List DslxValue → Env → Option Env
+fit_each [] [] env = Some env
+fit_each (p ∷ ps) (v ∷ vs) env = and_then (p v env) (fit_each ps vs)
+fit_each [] (v ∷ vs) env = None
+fit_each (p ∷ ps) [] env = None
+
+-- the value is this one
+abbrev pub fit_value : Option DslxValue → DslxValue → Env → Option Env
+fit_value None v env = None
+fit_value (Some w) v env = if same_value v w then Some env else None
+
+abbrev pub shape_meant : Shape-F Going Meant Fitting Typing Evaluates Going Meant ArmMeant Meant FieldMeant Evaluates Meant Fitting Typing → Fitting
+shape_meant Shape-F.Wild v env = Some env
+shape_meant (Shape-F.Shape::Bool b) v env = fit_value (Some (bool_value b)) v env
+shape_meant (Shape-F.Shape::Number n) v env = fit_value (n.value env) v env
+shape_meant (Shape-F.Shape::Name name) v env = if env.items.is_constant name then fit_value (env.items.constant name) v env else Some (bind name v env)
+shape_meant (Shape-F.Shape::Member e a) v env = fit_value (env.items.member e.name a.name) v env
+shape_meant (Shape-F.Shape::Tuple ps) v env = and_then (elements_of v) (λ vs. fit_each ps vs env)
+
+-- ---- literals
+
+-- an element of an array literal that has a type may be a number without one
+abbrev pub element_meant : DslxType → Env → Meant → Option DslxValue
+element_meant t env e = in_type e.bare
+  where
+    in_type : Option Bare → Option DslxValue
+    in_type None = e.value env
+    in_type (Some number) = number_value t number
+
+-- `n` elements, the last one repeated where three dots stand; no more than there is room for
+abbrev pub filled : Bool → ℕ → List DslxValue → Option DslxValue
+filled false n vs = where_true (length vs == n) (Some (Array vs))
+filled true n vs = where_true (not (nat_lt n (length vs))) (option_map (λ last. Array (vs ++ repeated (n - length vs) last)) (last_of vs))
+
+abbrev pub array_at : Env → List Meant → Bool → DslxType-F DslxType → Option DslxValue
+array_at env es dots (DslxType-F.Array t n) = and_then (all_some (map (element_meant t env) es)) (filled dots n)
+array_at env es dots _ = None
+
+abbrev pub values_of : List Meant → Env → Option (List DslxValue)
+values_of es env = all_some (map (λ (e : Meant). e.value env) es)
+
+abbrev pub array_meant : Option Typing → List Meant → Bool → Evaluates
+array_meant None es dots env = and_then (values_of es env) (λ vs. Some (Array vs))
+array_meant (Some ty) es dots env = and_then (ty env) (λ t. array_at env es dots (out-DslxType t))
+
+-- the fields of a struct value that are written, by name
+abbrev pub field_written : List ℕ → List FieldMeant → Option Evaluates
+field_written name [] = None
+field_written name (f ∷ fs) = if is_in name (f.name ∷ []) then Some f.value else field_written name fs
+
+-- a field of the value that gives the others
+abbrev pub field_from : List ℕ → Option DslxValue → Option DslxValue
+field_from field v = and_then v (λ v. and_then (fields_of v) (λ s. beside field s.names s.values))
+
+abbrev pub field_given : Env → Option DslxValue → List ℕ → Option Evaluates → Option DslxValue
+field_given env rest field None = field_from field rest
+field_given env rest field (Some value) = value env
+
+abbrev pub struct_at : Env → List FieldMeant → Option DslxValue → DslxType-F DslxType → Option DslxValue
+struct_at env written rest (DslxType-F.Struct name fields ts) =
+    and_then (all_some (map (λ field. field_given env rest field (field_written field written)) fields)) (λ vs. Some (Struct name fields vs))
+struct_at env written rest _ = None
+
+abbrev pub rest_of : Option Meant → Evaluates
+rest_of None env = None
+rest_of (Some e) env = e.value env
+
+abbrev pub field_of : DslxValue → List ℕ → Option DslxValue
+field_of v name = and_then (fields_of v) (λ s. beside name s.names s.values)
+
+-- ---- control
+
+abbrev pub choose : Option Bool → Option DslxValue → Option DslxValue → Option DslxValue
+choose None a b = None
+choose (Some true) a b = a
+choose (Some false) a b = b
+
+-- what the first pattern that fits binds
+abbrev pub first_fit : List Fitting → Fitting
+first_fit [] v env = None
+first_fit (p ∷ ps) v env = or_else (p v env) (first_fit ps v env)
+
+-- the value of an arm whose pattern fits, and otherwise that of the rest
+abbrev pub take_arm : ArmMeant → Option Env → Option DslxValue → Option DslxValue
+take_arm a None rest = rest
+take_arm a (Some inner) rest = a.value inner
+
+-- the first arm that fits; where none does, the last one
+abbrev pub match_arms : List ArmMeant → DslxValue → Evaluates
+match_arms [] v env = None
+match_arms (a ∷ []) v env = take_arm a (first_fit a.patterns v env) (a.value env)
+match_arms (a ∷ b ∷ as') v env = take_arm a (first_fit a.patterns v env) (match_arms (b ∷ as') v env)
+
+-- the turns that are left of a loop, from an index and what is accumulated so far
+abbrev pub turns_from : (DslxValue → DslxValue → Option DslxValue) → Bool → ℕ → Word → DslxValue → Option DslxValue
+turns_from body signed zero i acc = Some acc
+turns_from body signed (suc n) i acc = and_then (body (Bits signed i) acc) (turns_from body signed n (op.add i (word i.width 1)))
+
+-- how many turns a range has: none where it doesn't rise
+abbrev pub turn_count : SignedWord → SignedWord → ℕ
+turn_count a b = rising (whole_number b -ℤ whole_number a)
+  where
+    rising : ℤ → ℕ
+    rising (pos n) = n
+    rising (negsuc n) = 0
+
+abbrev pub loop_over : (DslxValue → DslxValue → Option DslxValue) → DslxValue → SignedWord → SignedWord → Option DslxValue
+loop_over body start a b = where_true (of_one_type a b) (turns_from body a.signed (turn_count a b) a.word start)
+
+abbrev pub for_meant : For-F Going Meant Fitting Typing Evaluates Going Meant ArmMeant Meant FieldMeant Evaluates Meant Fitting Typing → Evaluates
+for_meant f env =
+    let body : DslxValue → DslxValue → Option DslxValue = λ i acc. and_then (f.index i env) (λ inner. and_then (f.accumulator acc inner) f.body) in
+    and_then (f.start.value env) (λ start.
+    with_both (and_then (f.from.value env) bits_of) (and_then (f.to.value env) bits_of) (loop_over body start))
+
+-- ---- statements
+
+abbrev pub let_meant : Let-F Going Meant Fitting Typing Evaluates Going Meant ArmMeant Meant FieldMeant Evaluates Meant Fitting Typing → Going
+let_meant l rest env = and_then (l.value.value env) (λ v. and_then (l.pattern v env) rest)
+
+abbrev pub stmt_meant : Stmt-F Going Meant Fitting Typing Evaluates Going Meant ArmMeant Meant FieldMeant Evaluates Meant Fitting Typing → Going
+stmt_meant (Stmt-F.Let l) rest env = l rest env
+stmt_meant (Stmt-F.Bare e) rest env = and_then (e.value env) (λ v. rest env)
+
+-- the value of the last expression, () without one
+abbrev pub last_meant : Option Meant → Evaluates
+last_meant None env = Some unit_value
+last_meant (Some e) env = e.value env
+
+abbrev pub statements_meant : List Going → Evaluates → Evaluates
+statements_meant [] last env = last env
+statements_meant (s ∷ ss) last env = s (statements_meant ss last) env
+
+abbrev pub block_meant : Block-F Going Meant Fitting Typing Evaluates Going Meant ArmMeant Meant FieldMeant Evaluates Meant Fitting Typing → Evaluates
+block_meant b = statements_meant b.statements (last_meant b.value)
+
+-- ---- calls
+
+-- effects have no value of their own: an activation gives it
+abbrev pub call_meant : CallKind → List ℕ → Env → List DslxValue → List DslxValue → Option DslxValue
+call_meant Joins name env numbers vs = Some Token
+call_meant CountsLeading name env numbers vs = counted op.clz vs
+call_meant CountsTrailing name env numbers vs = counted op.ctz vs
+call_meant Reverses name env numbers vs = counted op.rev vs
+call_meant AllOnes name env numbers vs = reduced op.and_reduce vs
+call_meant SomeOne name env numbers vs = reduced op.or_reduce vs
+call_meant Parity name env numbers vs = reduced op.xor_reduce vs
+call_meant Updates name env numbers vs = updated vs
+call_meant Calls name env numbers vs = env.items.call name numbers vs
+call_meant _ name env numbers vs = None
+
+-- ---- expressions
+
+abbrev pub node_meant : Node-F Going Meant Fitting Typing Evaluates Going Meant ArmMeant Meant FieldMeant Evaluates Meant Fitting Typing → Meant
+node_meant (Node-F.Node::Number n) = n
+node_meant (Node-F.Node::Bool b) = valued (λ env. Some (bool_value b))
+node_meant (Node-F.Node::Array ty es dots) = valued (array_meant ty es dots)
+node_meant (Node-F.Node::Name name) = valued (value_of_name name)
+node_meant (Node-F.Node::Member e a) = valued (λ env. env.items.member e.name a.name)
+node_meant (Node-F.Call f numbers es) =
+    valued (λ env. with_both (values_of numbers env) (values_of es env) (call_meant (kind_of_call f.name) f.name env))
+node_meant (Node-F.Node::Tuple es) = valued (λ env. and_then (values_of es env) (λ vs. Some (Tuple vs)))
+node_meant (Node-F.Struct s fields rest) =
+    valued (λ env. and_then (env.items.type_named s.name) (λ t. struct_at env fields (rest_of rest env) (out-DslxType t)))
+node_meant (Node-F.Block b) = valued b
+node_meant (Node-F.If c a b) = valued (λ env. choose (and_then (c.value env) truth) (a env) (b.value env))
+node_meant (Node-F.Match e arms) = valued (λ env. and_then (e.value env) (λ v. match_arms arms v env))
+node_meant (Node-F.For f) = valued f
+node_meant (Node-F.Index e i) = valued (λ env. with_both (e.value env) (i.value env) index_value)
+node_meant (Node-F.Slice e a b) = valued (λ env. and_then (e.value env) (λ v. with_both (bound_of a env) (bound_of b env) (slice_value v)))
+node_meant (Node-F.Part e i t) = valued (λ env. with_both (e.value env) (i.value env) (λ v k. and_then (and_then (t env) bits_in) (λ kind. where_true (not kind.signed) (part_value v k kind.width))))
+node_meant (Node-F.Field e name) = valued (λ env. and_then (e.value env) (λ v. field_of v name.name))
+node_meant (Node-F.Element e span k) = valued (λ env. and_then (e.value env) (λ v. element_value v k))
+node_meant (Node-F.Prefix o e) = valued (λ env. and_then (e.value env) (prefix_value o))
+node_meant (Node-F.Cast e t) = valued (λ env. with_both (t env) (e.value env) cast_value)
+node_meant (Node-F.Binary o l r) = valued (λ env. with_both (l.value env) (r.value env) (binary_value o))
+
+abbrev pub expr_meant : Expr-F Going Meant Fitting Typing Evaluates Going Meant ArmMeant Meant FieldMeant Evaluates Meant Fitting Typing → Meant
+expr_meant e = e.node
+
+abbrev pub number_node : Number-F Going Meant Fitting Typing Evaluates Going Meant ArmMeant Meant FieldMeant Evaluates Meant Fitting Typing → Meant
+number_node n = number_meant n.ty (record { is_negative = n.is_negative; value = n.value })
+
+abbrev pub arg_meant : Arg-F Going Meant Fitting Typing Evaluates Going Meant ArmMeant Meant FieldMeant Evaluates Meant Fitting Typing → Meant
+arg_meant a = a.value
+
+abbrev pub arm_meant : Arm-F Going Meant Fitting Typing Evaluates Going Meant ArmMeant Meant FieldMeant Evaluates Meant Fitting Typing → ArmMeant
+arm_meant a = record { patterns = a.patterns; value = a.value.value }
+
+-- a field given by its name alone has the value of that name
+abbrev pub field_value_of : List ℕ → Option Meant → Evaluates
+field_value_of name None env = value_of_name name env
+field_value_of name (Some e) env = e.value env
+
+abbrev pub field_meant : FieldValue-F Going Meant Fitting Typing Evaluates Going Meant ArmMeant Meant FieldMeant Evaluates Meant Fitting Typing → FieldMeant
+field_meant f = record { name = f.name.name; value = field_value_of f.name.name f.value }
+
+abbrev pub pattern_meant : Pattern-F Going Meant Fitting Typing Evaluates Going Meant ArmMeant Meant FieldMeant Evaluates Meant Fitting Typing → Fitting
+pattern_meant p = p.shape
+
+abbrev pub type_expr_meant : TypeExpr-F Going Meant Fitting Typing Evaluates Going Meant ArmMeant Meant FieldMeant Evaluates Meant Fitting Typing → Typing
+type_expr_meant t = t.node
+
+-- ---- the trees
+
+-- an expression
+abbrev pub meant : Expr → Meant
+meant = fold-Expr Going Meant Fitting Typing Evaluates Going Meant ArmMeant Meant FieldMeant Evaluates Meant Fitting Typing
+    stmt_meant node_meant shape_meant type_meant block_meant let_meant arg_meant arm_meant expr_meant field_meant for_meant number_node pattern_meant type_expr_meant
+
+-- the value of an expression, unless it has none
+abbrev pub value_of : Expr → Evaluates
+value_of e = (meant e).value
+
+-- the value of a block
+abbrev pub value_of_block : Block → Evaluates
+value_of_block = fold-Block Going Meant Fitting Typing Evaluates Going Meant ArmMeant Meant FieldMeant Evaluates Meant Fitting Typing
+    stmt_meant node_meant shape_meant type_meant block_meant let_meant arg_meant arm_meant expr_meant field_meant for_meant number_node pattern_meant type_expr_meant
+
+-- the type that is written
+abbrev pub written_type : TypeExpr → Typing
+written_type = fold-TypeExpr Going Meant Fitting Typing Evaluates Going Meant ArmMeant Meant FieldMeant Evaluates Meant Fitting Typing
+    stmt_meant node_meant shape_meant type_meant block_meant let_meant arg_meant arm_meant expr_meant field_meant for_meant number_node pattern_meant type_expr_meant
+
+-- what a pattern binds
+abbrev pub fitted : Pattern → Fitting
+fitted = fold-Pattern Going Meant Fitting Typing Evaluates Going Meant ArmMeant Meant FieldMeant Evaluates Meant Fitting Typing
+    stmt_meant node_meant shape_meant type_meant block_meant let_meant arg_meant arm_meant expr_meant field_meant for_meant number_node pattern_meant type_expr_meant
+
+-- what stands between `<` and `>`
+abbrev pub meant_arg : Arg → Meant
+meant_arg = fold-Arg Going Meant Fitting Typing Evaluates Going Meant ArmMeant Meant FieldMeant Evaluates Meant Fitting Typing
+    stmt_meant node_meant shape_meant type_meant block_meant let_meant arg_meant arm_meant expr_meant field_meant for_meant number_node pattern_meant type_expr_meant
