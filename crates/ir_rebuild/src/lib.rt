@@ -1,0 +1,18 @@
+//! Passes over packages: the one way in which each of them rebuilds a proc, proved once.
+//!
+//! The nodes of a proc are read in line order, and new ones are appended to a new list. A pass says which nodes are kept and what
+//! stands for one of them (`Rewrite`); whatever it says, the new package is verified and means the same (`rebuild`).
+#![tactic(auto)]
+
+mod copies;
+mod keep;
+mod moves;
+mod nodes;
+mod pass;
+mod proc;
+
+pub use copies::{constant_copy, type_copy};
+pub use keep::keep_all;
+pub use nodes::{append, node_of, type_of};
+pub use pass::Rewrite;
+pub use proc::rebuild;

@@ -1,0 +1,29 @@
+//! What a pass is.
+
+use ir_tree::{IrType, Node, Operand, Proc};
+use std::alloc::{AllocError, Global};
+
+/// A pass: which nodes are kept, and what stands for each.
+pub trait Rewrite {
+    ghost use Rattle.std.specs.Prelude.{◌≡◌, true, length, IfOk};
+    ghost use Rattle.ir_rebuild.specs.Built.{AreBuilt, IsPlaced, Rewrites, is_plain_op};
+    ghost use Rattle.ir_rebuild.specs.Kept.{AreKept, StandBefore};
+
+    /// For each node of a proc whether it is kept. Sites are, what the next state is, and the operands of what is kept.
+    fn kept(&self, alloc: Global, proc: &Proc) -> Result<Vec<bool>, AllocError>
+        requires { StandBefore proc.now }
+        ensures { IfOk result (λ kept. AreKept proc.now kept.items) };
+
+    /// What stands for a node that would be appended to these nodes. It appends what it needs, each a plain node.
+    fn rewrite(
+        &self,
+        alloc: Global,
+        state: &IrType,
+        nodes: &mut Vec<Node>,
+        node: Node,
+    ) -> Result<Operand, AllocError>
+        requires built { AreBuilt state.now nodes.old.items }
+        requires placed { IsPlaced state.now nodes.old.items (length nodes.old.items) node }
+        requires plain { is_plain_op node.op ≡ true }
+        ensures { IfOk result (λ o. Rewrites state.now nodes.old.items nodes.new.items node o) };
+}
