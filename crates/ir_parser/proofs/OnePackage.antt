@@ -12,7 +12,7 @@ use Rattle.xb_span.specs.declared.read_error.ReadError.{ReadError}
 use Rattle.xb_span.specs.declared.read_error.ReadError.TheVariants.{Syntax, Broken, Over, OutOfMemory}
 use Rattle.ir_parser.specs.declared.builder.Placed.{Placed}
 use Rattle.ir_parser.specs.Reads.{AreDeep, AreShallow, IsMisplaced, IsRefusal, Reads}
-use Rattle.ir_parser.specs.Texts.{GivesPackage, IsTextOf, accepted, cut_off, misplaced, too_deep, faulty}
+use Rattle.ir_parser.specs.Texts.{GivesPackage, IsIrTextOf, accepted, cut_off, misplaced, too_deep, faulty}
 use Rattle.ir_parser.proofs.OneTree.{TheGrammarLaws, one_placed, same_place, misplaced_or_deep, deep_or_shallow, reads_or_misplaced}
 
 -- what the laws of tokens and grammars say
@@ -23,29 +23,29 @@ pub record TheLaws : Type 0 where
   pub either : (text : List ℕ) (ls : List Lexeme) (at : ℕ) → AreIrTokens text ls → IsCutOffAt text text at → ⊥
 
 module _ (laws : TheLaws) (text : List ℕ) where
-  same_shown : (a b : Placed) → IsTextOf text a → IsTextOf text b → a ≡ b
+  same_shown : (a b : Placed) → IsIrTextOf text a → IsIrTextOf text b → a ≡ b
   same_shown a b is also =
       let same = laws.one text is.tokens also.tokens is.cut also.cut in
       one_placed laws.grammar also.tokens a b (subst (λ ls. Reads ls a) same is.reads) also.reads
 
-  shown_or_misplaced : (a : Placed) (tokens : List Lexeme) (at : ℕ) → IsTextOf text a → AreIrTokens text tokens → IsMisplaced tokens at → ⊥
+  shown_or_misplaced : (a : Placed) (tokens : List Lexeme) (at : ℕ) → IsIrTextOf text a → AreIrTokens text tokens → IsMisplaced tokens at → ⊥
   shown_or_misplaced a tokens at is cut fault =
       reads_or_misplaced laws.grammar tokens a at (subst (λ ls. Reads ls a) (laws.one text is.tokens tokens is.cut cut) is.reads) fault
 
-  shown_or_deep : (a : Placed) (tokens : List Lexeme) (limit : Limit) → IsTextOf text a → AreIrTokens text tokens → AreDeep tokens limit → ⊥
+  shown_or_deep : (a : Placed) (tokens : List Lexeme) (limit : Limit) → IsIrTextOf text a → AreIrTokens text tokens → AreDeep tokens limit → ⊥
   shown_or_deep a tokens limit is cut deep =
       deep_or_shallow tokens limit (subst (λ ls. AreShallow ls) (laws.one text is.tokens tokens is.cut cut) is.shallow) deep
 
-  shown_or_cut_off : (a : Placed) (at : ℕ) → IsTextOf text a → IsCutOffAt text text at → ⊥
+  shown_or_cut_off : (a : Placed) (at : ℕ) → IsIrTextOf text a → IsCutOffAt text text at → ⊥
   shown_or_cut_off a at is odd = laws.either text is.tokens at is.cut odd
 
-  sound_or_faulty : (a b : Placed) (error : ReadError) → IsTextOf text a → IsTextOf text b → first_fault a.tree a.places ≡ None → option_map error_of (first_fault b.tree b.places) ≡ Some error → ⊥
+  sound_or_faulty : (a b : Placed) (error : ReadError) → IsIrTextOf text a → IsIrTextOf text b → first_fault a.tree a.places ≡ None → option_map error_of (first_fault b.tree b.places) ≡ Some error → ⊥
   sound_or_faulty a b error is also sound fault =
       let none : first_fault b.tree b.places ≡ None = subst (λ (p : Placed). first_fault p.tree p.places ≡ None) (same_shown a b is also) sound in
       let e : option_map error_of None ≡ Some error = ap (option_map error_of) (sym none) ∙ fault in
       cc
 
-  same_faulty : (a b : Placed) (e f : ReadError) → IsTextOf text a → IsTextOf text b → option_map error_of (first_fault a.tree a.places) ≡ Some e → option_map error_of (first_fault b.tree b.places) ≡ Some f → e ≡ f
+  same_faulty : (a b : Placed) (e f : ReadError) → IsIrTextOf text a → IsIrTextOf text b → option_map error_of (first_fault a.tree a.places) ≡ Some e → option_map error_of (first_fault b.tree b.places) ≡ Some f → e ≡ f
   same_faulty a b e f is also fault other =
       let same : option_map error_of (first_fault a.tree a.places) ≡ option_map error_of (first_fault b.tree b.places) =
       ap (λ (p : Placed). option_map error_of (first_fault p.tree p.places)) (same_shown a b is also) in
@@ -106,11 +106,11 @@ pub reading_refused : (text : List ℕ) (ls : List Lexeme) → AreIrTokens text 
 reading_refused text ls cut (Ok p) is = tt
 reading_refused text ls cut (Err e) is = refusal_given text ls cut e is
 
-pub reading_shows : (text : List ℕ) (ls : List Lexeme) → AreIrTokens text ls → (r : Result Placed ReadError) → IfOk r (λ p. Reads ls p) → IfOk r (λ _. AreShallow ls) → IfOk r (λ p. IsTextOf text p)
+pub reading_shows : (text : List ℕ) (ls : List Lexeme) → AreIrTokens text ls → (r : Result Placed ReadError) → IfOk r (λ p. Reads ls p) → IfOk r (λ _. AreShallow ls) → IfOk r (λ p. IsIrTextOf text p)
 reading_shows text ls cut (Ok p) reads shallow = record { tokens = ls; cut = cut; reads = reads; shallow = shallow }
 reading_shows text ls cut (Err e) reads shallow = tt
 
 -- rules and limits that refuse
-pub fault_given : (text : List ℕ) (placed : Placed) (e : ReadError) → IsTextOf text placed → (e ≡ OutOfMemory) ⊎ (option_map error_of (first_fault placed.tree placed.places) ≡ Some e) → (e ≡ OutOfMemory) ⊎ GivesPackage text (Err e)
+pub fault_given : (text : List ℕ) (placed : Placed) (e : ReadError) → IsIrTextOf text placed → (e ≡ OutOfMemory) ⊎ (option_map error_of (first_fault placed.tree placed.places) ≡ Some e) → (e ≡ OutOfMemory) ⊎ GivesPackage text (Err e)
 fault_given text placed e is (inl memory) = inl memory
 fault_given text placed e is (inr fault) = inr (faulty placed e is fault)

@@ -12,7 +12,7 @@ use Rattle.ir_parser.specs.declared.builder.Placed.{Placed}
 use Rattle.ir_parser.specs.Reads.{AreDeep, AreShallow, IsMisplaced, Reads}
 
 -- the text is this package, whose lines stand there; it may break rules and pass limits
-pub record IsTextOf (text : List ℕ) (placed : Placed) : Type 0 where
+pub record IsIrTextOf (text : List ℕ) (placed : Placed) : Type 0 where
   pub tokens : List Lexeme
   pub cut : AreIrTokens text tokens
   pub reads : Reads tokens placed
@@ -21,7 +21,7 @@ pub record IsTextOf (text : List ℕ) (placed : Placed) : Type 0 where
 -- What a text gives, but for want of memory: its package, or the one cause of its refusal.
 pub data GivesPackage (text : List ℕ) : Result Package ReadError → Type 0 where
   -- no rule is broken, and no limit is passed
-  accepted : (placed : Placed) → IsTextOf text placed → first_fault placed.tree placed.places ≡ None → GivesPackage text (Ok placed.tree)
+  accepted : (placed : Placed) → IsIrTextOf text placed → first_fault placed.tree placed.places ≡ None → GivesPackage text (Ok placed.tree)
   -- a character begins no token
   cut_off : (at : ℕ) → IsCutOffAt text text at → GivesPackage text (Err (Syntax at))
   -- a token stands where no text of the grammar goes on so
@@ -29,4 +29,4 @@ pub data GivesPackage (text : List ℕ) : Result Package ReadError → Type 0 wh
   -- a token is nested too deep
   too_deep : (tokens : List Lexeme) (limit : Limit) → AreIrTokens text tokens → AreDeep tokens limit → GivesPackage text (Err (Over limit))
   -- the first rule that is broken, or limit that is passed
-  faulty : (placed : Placed) (error : ReadError) → IsTextOf text placed → option_map error_of (first_fault placed.tree placed.places) ≡ Some error → GivesPackage text (Err error)
+  faulty : (placed : Placed) (error : ReadError) → IsIrTextOf text placed → option_map error_of (first_fault placed.tree placed.places) ≡ Some error → GivesPackage text (Err error)

@@ -5,7 +5,7 @@ ghost use Rattle.ir_tree.specs.declared.package.Package.{Package as Ir};
 ghost use Rattle.ir_verify.specs.Verified.{IsVerified, first_fault};
 ghost use Rattle.xb_span.specs.declared.read_error.ReadError.{ReadError as Refusal};
 ghost use Rattle.xb_span.specs.declared.read_error.ReadError.TheVariants.{OutOfMemory};
-ghost use Rattle.ir_parser.specs.Texts.{GivesPackage, IsTextOf};
+ghost use Rattle.ir_parser.specs.Texts.{GivesPackage, IsIrTextOf};
 
 use crate::builder::Placed;
 use crate::laws::one_package;
@@ -59,7 +59,7 @@ fn read(alloc: Global, text: &str) -> Result<Package, ReadError>
 /// What the text shows, by its tokens and the grammar.
 fn shown(alloc: Global, text: &str) -> Result<Placed, ReadError>
     requires { length text.now < 2 ^ 32 }
-    ensures shows { IfOk result (λ placed. IsTextOf text.now placed) }
+    ensures shows { IfOk result (λ placed. IsIrTextOf text.now placed) }
     ensures refused { IfErr result (λ e. (e ≡ OutOfMemory) ⊎ GivesPackage text.now (Err e)) }
 {
     match tokens(alloc, text.as_bytes()) {

@@ -1,0 +1,4 @@
+mod Traces
+mod Runs
+mod Positions
+mod Outcomes
