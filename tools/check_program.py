@@ -36,6 +36,11 @@ proc Pair { p: chan<u128> in; q: chan<u1> in; r: chan<u128> out;
   } }
 """
 WORDS = "# none of q's third\nchan q\n0x1\n0x0\nchan p\n0x0f\n0xffffffffffffffffffffffffffffffff\n\n0x5\n"
+PAIR_OUTCOME = """out r 2: 0x00000000000000000000000000000101 0x00000000000000000000000000000100
+in q 2: 0x1 0x0
+in p 2: 0x0000000000000000000000000000000f 0xffffffffffffffffffffffffffffffff
+proc Pair state 0x00000000000000000000000000000010 stalled 2 recv q
+"""
 PAST_LIMIT = "limit file: 4194305, at most 4194304\n"
 
 # what it is, the words, the output, the error line, the status
@@ -48,10 +53,7 @@ CASES = [
     ("a running sum", "run sum.x sum.txt --activations 2",
      "in a 2: 0x05 0x01\nout b 2: 0xff 0x00\nproc Sum state 0x00 done\n", "", 0),
     ("the last proc is the top", "check pair.x", "ok procs 1 channels 3\n", "", 0),
-    ("words of two inputs", "run pair.x pair.txt --activations 9",
-     "out r 2: 0x00000000000000000000000000000101 0x00000000000000000000000000000100\n"
-     "in q 2: 0x1 0x0\nin p 2: 0x0000000000000000000000000000000f 0xffffffffffffffffffffffffffffffff\n"
-     "proc Pair state 0x00000000000000000000000000000010 stalled 2 recv q\n", "", 0),
+    ("words of two inputs", "run pair.x pair.txt --activations 9", PAIR_OUTCOME, "", 0),
     ("no words", "", "", USAGE, 2),
     ("a request for help", "--help", "", USAGE, 2),
     ("a request for help of a command", "run --help", "", USAGE, 2),
