@@ -1,0 +1,4 @@
+pub mod Delays
+pub mod Slots
+pub mod Pushes
+pub mod Scaled
