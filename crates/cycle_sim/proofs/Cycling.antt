@@ -24,21 +24,22 @@ use Rattle.vlog_tree.specs.declared.module.Storage.{Storage}
 use Rattle.vlog_tree.specs.declared.module.Storage.TheVariants as storage
 use Rattle.vlog_tree.specs.Value.{Values, bit, atom_value, expr_value}
 use Rattle.vlog_tree.specs.Meaning.{IsNow, AreDriven, registers_next, taken_by}
-use Rattle.vlog_tree.specs.Settled.{values_of, widths_of, settled, AreReady, DrivesWires}
+use Rattle.vlog_tree.specs.Settled.{values_of, widths_of, settled, AreReady, DrivesWires, IsUndriven, ReadsSignals}
 use Rattle.vlog_tree.specs.Sound.{IsSoundAssignment}
 use Rattle.vlog_tree.specs.WellFormed.{AreChannelPorts, HasPorts, IsWired, IsSoundSet}
 use Rattle.vlog_tree.specs.Signals.{declared_widths}
 use Rattle.vlog_tree.specs.declared.row.Outs.{Outs}
 use Rattle.vlog_tree.specs.declared.row.Shown.TheVariants as shown
-use Rattle.vlog_tree.specs.Rows.{given, given_at, AreDrivesOf, IsDriveOf, IsRowOf, is_one, shown_channel, shown_at, outs_of, Runs, cycle}
-use Rattle.vlog_tree.proofs.Lemmas.Settling.{values_of-set_same, values_of-set_other, order_means, each_other}
+use Rattle.vlog_tree.specs.Rows.{given, given_at, AreDrivesOf, IsDriveOf, IsRowOf, is_one, shown_channel, shown_at, outs_of, Runs, cycle, start}
+use Rattle.vlog_tree.proofs.Lemmas.Settling.{values_of-set_same, values_of-set_other, order_means, order_only, each_other, atom_same}
 use Rattle.cycle_sim.specs.Ordered.{taken}
-use Rattle.cycle_sim.specs.Sim.{SimState, IsOrder, IsRunning, StandsAfter}
+use Rattle.cycle_sim.specs.Sim.{SimState, IsOrder, IsRunning, SameHeld, StandsAfter}
 use Rattle.cycle_sim.specs.Stored.{driven, all_driven, stored, evaluated, cycled}
 use Rattle.cycle_sim.proofs.Settling.{widths_of-set, take_keeps, sound_still}
 use Rattle.cycle_sim.proofs.Storing.{length-stored, stored_is, taken_by_same, stored_elsewhere, stored_widths}
 use Rattle.vlog_tree.proofs.Lemmas.Fitting.{atom_wide}
-use Rattle.vlog_tree.specs.Forms.{atom_width}
+use Rattle.vlog_tree.specs.Forms.{atom_reads, atom_width, reads}
+use Rattle.cycle_sim.proofs.Reading.{atom_below, reads_below}
 use Rattle.cycle_sim.proofs.Giving.{gives, all_driven_below, all_driven_above, length-all_driven, length-driven}
 
 -- there are three ports for each channel that is driven
@@ -346,7 +347,7 @@ cycling m places words before row running fits = record { targets = targets; siz
 pub runs_on : (m : VModule) (places : List ℕ) (words before after : List Word) (row : Row) → IsRunning m places words before → IsRowOf m row
     → length after ≡ length before → IsRunning m places (cycled m places row words) after
 runs_on m places words before after row running fits same =
-    record { wired = running.wired; order = running.order; covers = known.size ∙ running.covers; widths = known.widths ∙ running.widths; clock = clock; room = same ∙ running.room ∙ sym known.size }
+    record { wired = running.wired; driven = running.driven; order = running.order; covers = known.size ∙ running.covers; widths = known.widths ∙ running.widths; clock = clock; room = same ∙ running.room ∙ sym known.size }
   where
     known : AreCycled m places row words
     known = cycling m places words before row running fits
@@ -384,11 +385,97 @@ shown_same values other at count (d ∷ v ∷ r ∷ rest) room same =
         let valid_same = same (at + 1) (omega (arith, room)) in
         rw (word_same, valid_same)
 
+-- ---- the module can do nothing else
+
+-- what a module does in a cycle is what the simulator does
+now_only : (m : VModule) (places : List ℕ) (words before : List Word) (row : Row) (held values : Values) → IsRunning m places words before → IsRowOf m row
+    → SameHeld m (values_of words) held → IsNow m held (given m row) values
+    → (s : ℕ) → s < length (signals m) → values s ≡ values_of (evaluated m places row words) s
+now_only m places words before row held values running fits same now =
+    order_only (record m { assignments = taken m.assignments places }) held (given m row) values (handed row words) running.order.ordered wires reading driven ready taken_now
+  where
+    handed_is : AreHanded m row words
+    handed_is = handing m places words before row running fits
+
+    wires : DrivesWires m (taken m.assignments places)
+    wires = taken_all (λ a. (d : Declared) × IsSignal m a.target.0 d × (d.role ≡ Driven)) m.assignments places
+        (All-from_recursion (λ a. (d : Declared) × IsSignal m a.target.0 d × (d.role ≡ Driven)) m.assignments running.wired.wires)
+
+    reading : ReadsSignals (length (signals m)) (taken m.assignments places)
+    reading = taken_all (λ a. AllByRecursion (λ s. s < length (signals m)) (reads a.value)) m.assignments places
+        (λ k d h. reads_below (length (signals m)) (slice_index_or m.assignments k d).value (running.wired.assignments k d h).value.known)
+
+    driven : (s : ℕ) (d : Declared) → IsSignal m s d → d.role ≡ Driven → ¬ (IsUndriven (taken m.assignments places) s)
+    driven s d is role undriven = running.driven s d is role (running.order.drives s undriven)
+
+    ready : AreReady (record m { assignments = taken m.assignments places }) held (given m row) (handed row words)
+    ready = record {
+      covers = handed_is.ready.covers;
+      inputs = handed_is.ready.inputs;
+      registers = λ s d is role. handed_is.ready.registers s d is role ∙ same s d is role;
+    }
+
+    taken_now : IsNow (record m { assignments = taken m.assignments places }) held (given m row) values
+    taken_now = record {
+      inputs = now.inputs;
+      registers = now.registers;
+      wires = taken_all (λ a. values a.target.0 ≡ expr_value values a.value) m.assignments places
+          (All-from_recursion (λ a. values a.target.0 ≡ expr_value values a.value) m.assignments now.wires);
+    }
+
+-- the last cycle of a run
+record IsLastCycle (m : VModule) (rows : List Row) (row : Row) (shown : List Outs) (other : Values) : Type 0 where
+  outs : List Outs
+  held : Values
+  values : Values
+  run : Runs m rows outs held
+  now : IsNow m held (given m row) values
+  shown_is : shown ≡ outs ++ outs_of m values ∷ []
+  other_is : other ≡ registers_next m values held
+
+ends_alike : (xs ys : List Row) (x y : Row) → xs ++ x ∷ [] ≡ ys ++ y ∷ [] → (xs ≡ ys) × (x ≡ y)
+ends_alike [] [] x y e = (refl, cc)
+ends_alike [] (b ∷ []) x y e = cc
+ends_alike [] (b ∷ c ∷ ys) x y e = cc
+ends_alike (a ∷ []) [] x y e = cc
+ends_alike (a ∷ b ∷ xs) [] x y e = cc
+ends_alike (a ∷ xs) (b ∷ ys) x y e =
+    let first : a ≡ b = cc in
+    let rest : xs ++ x ∷ [] ≡ ys ++ y ∷ [] = cc in
+    let both = ends_alike xs ys x y rest in
+    (ap (λ z. z ∷ xs) first ∙ ap (λ zs. b ∷ zs) both.0, both.1)
+
+no_end : (ys : List Row) (y : Row) → [] ≡ ys ++ y ∷ [] → ⊥
+no_end [] y e = cc
+no_end (b ∷ ys) y e = cc
+
+last_cycle : (m : VModule) (rows : List Row) (row : Row) (all : List Row) (shown : List Outs) (other : Values) → Runs m all shown other → all ≡ rows ++ row ∷ [] → IsLastCycle m rows row shown other
+last_cycle m rows row _ _ _ start e = absurd (no_end rows row e)
+last_cycle m rows row _ _ _ (cycle before outs held values last run now) e =
+    let both = ends_alike before rows last row e in
+    record {
+      outs = outs;
+      held = held;
+      values = values;
+      run = subst (λ r. Runs m r outs held) both.0 run;
+      now = subst (λ r. IsNow m held (given m r) values) both.1 now;
+      shown_is = refl;
+      other_is = refl;
+    }
+
+-- registers take the same where what they take is the same
+taken_by_values : (sets : List Set) (values other held : Values) (s : ℕ) → AllByRecursion (λ set. atom_value values set.value ≡ atom_value other set.value) sets
+    → taken_by sets values held s ≡ taken_by sets other held s
+taken_by_values [] values other held s h = refl
+taken_by_values (set ∷ sets) values other held s h =
+    ap (λ w. taken_by sets values (λ r. if set.target.0 == r then w else held r) s) h.0
+    ∙ taken_by_values sets values other (λ r. if set.target.0 == r then atom_value other set.value else held r) s h.1
+
 -- behind a cycle the simulator stands where the module does
 pub stands_on : (m : VModule) (places : List ℕ) (words before : List Word) (row : Row) → IsRunning m places words before → IsRowOf m row
     → (rows : List Row) (outs : List Outs) → StandsAfter (record { design = m; words = words }) rows outs
     → StandsAfter (record { design = m; words = cycled m places row words }) (rows ++ row ∷ []) (outs ++ outs_of m (values_of (cycled m places row words)) ∷ [])
-stands_on m places words before row running fits rows outs stood = record { held = registers_next m values stood.held; runs = runs; registers = registers }
+stands_on m places words before row running fits rows outs stood = record { held = registers_next m values stood.held; runs = runs; only = only; registers = registers }
   where
     known : AreCycled m places row words
     known = cycling m places words before row running fits
@@ -440,6 +527,51 @@ stands_on m places words before row running fits rows outs stood = record { held
         known.registers s d is_s role
         ∙ taken_by_same (sets_by m row.reset) values (values_of words) stood.held s (stood.registers s d is_s role)
         ∙ ap (λ sets. taken_by sets values stood.held s) sets_same
+
+    only : (shown_now : List Outs) (other : Values) → Runs m (rows ++ row ∷ []) shown_now other
+        → (shown_now ≡ outs ++ outs_of m (values_of (cycled m places row words)) ∷ []) × SameHeld m other (registers_next m values stood.held)
+    only shown_now other run = (shown_same_now, held_same)
+      where
+        end : IsLastCycle m rows row shown_now other
+        end = last_cycle m rows row (rows ++ row ∷ []) shown_now other run refl
+
+        before_it : (end.outs ≡ outs) × SameHeld m end.held stood.held
+        before_it = stood.only end.outs end.held end.run
+
+        same_values : (s : ℕ) → s < length (signals m) → end.values s ≡ values s
+        same_values = now_only m places words before row end.held end.values running fits (λ s d is role. stood.registers s d is role ∙ sym (before_it.1 s d is role)) end.now
+
+        ports_fit : length m.ports ≤ length (signals m)
+        ports_fit = omega (arith, length-signals m)
+
+        same_shown : outs_of m end.values ≡ outs_of m (values_of (cycled m places row words))
+        same_shown =
+            let ports_size = ap length running.wired.ports.are in
+            let channels = ap (drop 2) running.wired.ports.are in
+            ap (λ list. record { channels = list })
+            (rw channels (shown_same end.values values 2 (length m.ports) running.wired.ports.channels (omega (arith, ports_size)) (λ s h. same_values s (omega (arith, h, ports_fit)))))
+            ∙ sym same_outs
+
+        shown_same_now : shown_now ≡ outs ++ outs_of m (values_of (cycled m places row words)) ∷ []
+        shown_same_now = end.shown_is ∙ ap (λ xs. xs ++ outs_of m end.values ∷ []) before_it.0 ∙ ap (λ o. outs ++ o ∷ []) same_shown
+
+        reset_there : 1 < length (signals m)
+        reset_there = let ports_size = ap length running.wired.ports.are in omega (arith, ports_size, ports_fit)
+
+        set_same : (set : Set) → IsSoundSet m set → atom_value end.values set.value ≡ atom_value values set.value
+        set_same set is_sound = atom_same end.values values set.value
+            (each_other (λ s. s < length (signals m)) (λ s. end.values s ≡ values s) same_values (atom_reads set.value) (atom_below (length (signals m)) set.value is_sound.known))
+
+        sets_alike : (b : Bool) → AllByRecursion (λ set. atom_value end.values set.value ≡ atom_value values set.value) (if b then m.at_clock else m.at_reset)
+        sets_alike true = each_other (IsSoundSet m) (λ set. atom_value end.values set.value ≡ atom_value values set.value) set_same m.at_clock (recursion_from_All (IsSoundSet m) m.at_clock running.wired.clocks)
+        sets_alike false = each_other (IsSoundSet m) (λ set. atom_value end.values set.value ≡ atom_value values set.value) set_same m.at_reset (recursion_from_All (IsSoundSet m) m.at_reset running.wired.resets)
+
+        held_same : SameHeld m other (registers_next m values stood.held)
+        held_same s d is role =
+            ap (λ f. f s) end.other_is
+            ∙ ap (λ w. taken_by (if w.value == 0 then m.at_clock else m.at_reset) end.values end.held s) (same_values 1 reset_there)
+            ∙ taken_by_values (if (values 1).value == 0 then m.at_clock else m.at_reset) end.values values end.held s (sets_alike ((values 1).value == 0))
+            ∙ taken_by_same (if (values 1).value == 0 then m.at_clock else m.at_reset) values end.held stood.held s (before_it.1 s d is role)
 
 -- a vector whose whole content was written
 pub whole : {A : Type 0} (xs ys : List A) (n : ℕ) → length xs ≡ n → take n (xs ++ ys) ≡ xs

@@ -7,3 +7,4 @@ pub mod NewOrder
 pub mod RunOrder
 pub mod Making
 pub mod Showing
+pub mod Reading

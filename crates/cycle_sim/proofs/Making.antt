@@ -9,8 +9,10 @@ use Rattle.vlog_tree.specs.Signals.{Declared, signals, declared_port}
 use Rattle.vlog_tree.specs.Value.{Values, bit}
 use Rattle.vlog_tree.specs.Settled.{values_of, widths_of}
 use Rattle.vlog_tree.specs.WellFormed as wired
-use Rattle.vlog_tree.specs.Rows.{zeros, Runs, start}
-use Rattle.cycle_sim.specs.Sim.{SimState, IsOrder, IsRunning, StandsAfter}
+use Rattle.vlog_tree.specs.Rows.{zeros, Runs, cycle, start}
+use Rattle.vlog_tree.specs.declared.row.Row.{Row}
+use Rattle.vlog_tree.specs.declared.row.Outs.{Outs}
+use Rattle.cycle_sim.specs.Sim.{SimState, IsOrder, IsRunning, SameHeld, StandsAfter}
 use Rattle.cycle_sim.proofs.Cycling.{port_signal}
 
 -- a 0 for each signal
@@ -25,6 +27,7 @@ zero_at (d ∷ ds) (suc s) = zero_at ds s
 pub new_runs : (m : VModule) (places : List ℕ) (before : List Word) → wired.CanRun m → IsOrder m places → length before ≡ length (zero_words m) → IsRunning m places (zero_words m) before
 new_runs m places before runs order room = record {
   wired = runs.wired;
+  driven = runs.driven;
   order = order;
   covers = length-map (signals m) (λ d. word d.width 0);
   widths = fun_ext (λ s. ap (λ w. w.width) (zero_at (signals m) s));
@@ -32,5 +35,14 @@ new_runs m places before runs order room = record {
   room = room;
 }
 
+-- before any row nothing is shown, and registers hold 0
+before_rows : (m : VModule) (rows : List Row) (shown : List Outs) (other : Values) → Runs m rows shown other → rows ≡ [] → (shown ≡ []) × SameHeld m other (zeros m)
+before_rows m _ _ _ start e = (refl, λ s d is_s role. refl)
+before_rows m _ _ _ (cycle rows outs held values row run now) e = absurd (some_row rows row e)
+  where
+    some_row : (rows : List Row) (row : Row) → rows ++ row ∷ [] ≡ [] → ⊥
+    some_row [] row e = cc
+    some_row (r ∷ rows) row e = cc
+
 pub new_stands : (m : VModule) → StandsAfter (record { design = m; words = zero_words m }) [] []
-new_stands m = record { held = zeros m; runs = start; registers = λ s d is_s role. zero_at (signals m) s }
+new_stands m = record { held = zeros m; runs = start; only = λ shown other run. before_rows m [] shown other run refl; registers = λ s d is_s role. zero_at (signals m) s }

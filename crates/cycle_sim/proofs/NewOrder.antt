@@ -14,7 +14,7 @@ use Rattle.vlog_tree.specs.declared.module.Assignment.{Assignment}
 use Rattle.vlog_tree.specs.Forms.{reads}
 use Rattle.vlog_tree.specs.Value.{Values, expr_value}
 use Rattle.vlog_tree.specs.Meaning.{AreDriven}
-use Rattle.vlog_tree.specs.Settled.{IsOrdered}
+use Rattle.vlog_tree.specs.Settled.{IsOrdered, IsUndriven}
 use Rattle.vlog_tree.specs.WellFormed as wired
 use Rattle.cycle_sim.specs.Ordered.{taken}
 use Rattle.cycle_sim.specs.Drivers.{AreDrivers, driver_at, needs_by}
@@ -66,6 +66,7 @@ order_stands m drivers order runs are inside sorted = record {
   within = λ p d h. let there = slice_get-get_or order p d h in same_size (sorted.within p (get_or order p d) there);
   ordered = ordered_of_places m.assignments order runs.apart stands;
   covers = covers;
+  drives = drives;
 }
   where
     same_size : {i : ℕ} → i < length (map (needs_by drivers) m.assignments) → i < length m.assignments
@@ -91,6 +92,11 @@ order_stands m drivers order runs are inside sorted = record {
     covers values driven = each_of_places (λ a. values a.target.0 ≡ expr_value values a.value) m.assignments (λ i a is.
         let place = sorted.all i (rw (length-map m.assignments (needs_by drivers)) (slice_get_within m.assignments i a is)) in
         taken_at (λ b. values b.target.0 ≡ expr_value values b.value) m.assignments order driven place.0 i a place.1 is)
+
+    drives : (s : ℕ) → IsUndriven (taken m.assignments order) s → IsUndriven m.assignments s
+    drives s undriven = each_of_places (λ a. a.target.0 ≢ s) m.assignments (λ i a is.
+        let place = sorted.all i (rw (length-map m.assignments (needs_by drivers)) (slice_get_within m.assignments i a is)) in
+        taken_at (λ b. b.target.0 ≢ s) m.assignments order undriven place.0 i a place.1 is)
 
 -- a need that comes back to itself is a wire that depends on itself
 pub cycle_depends : (m : VModule) (drivers : List (Option ℕ)) (i j : ℕ) (a b : Assignment) → AreDrivers m.assignments drivers

@@ -1,6 +1,6 @@
 -- What is known of the drivers of a module that can run.
 use Rattle.std.proofs.Common.{◌≡◌, ℕ, ◌<◌, List, [], ◌∷◌, ◌++◌, length, map, sym, ap, ◌∙◌, subst, Option, Some, All, slice_index_or, arith}
-use Rattle.std.specs.Prelude.{slice_get, flat_map}
+use Rattle.std.specs.Prelude.{slice_get}
 use Rattle.std.specs.List.{AllByRecursion}
 use Rattle.std.proofs.lemmas.List.Elements.{recursion_from_All}
 use Rattle.std.proofs.lemmas.Option.{slice_get_within, get_or_from_slice_get}
@@ -8,51 +8,15 @@ use Rattle.topo_order.specs.Needs.{AreClosed, IsOrderOf}
 use Rattle.topo_order.specs.Needs as graph
 use Rattle.vlog_tree.specs.declared.module.VModule.{VModule}
 use Rattle.vlog_tree.specs.declared.module.Assignment.{Assignment}
-use Rattle.vlog_tree.specs.declared.expression.Atom.{Atom}
-use Rattle.vlog_tree.specs.declared.expression.Atom.TheVariants as atom
-use Rattle.vlog_tree.specs.declared.expression.Simple.{Simple}
-use Rattle.vlog_tree.specs.declared.expression.Simple.TheVariants as simple
-use Rattle.vlog_tree.specs.declared.expression.Expr.{Expr}
-use Rattle.vlog_tree.specs.declared.expression.Expr.TheVariants as expr
 use Rattle.vlog_tree.specs.Signals.{Declared, signals, declared_widths}
-use Rattle.vlog_tree.specs.Forms.{atom_reads, simple_reads, reads}
-use Rattle.vlog_tree.specs.Sound.{IsKnownAtom, IsKnownSimple, IsKnown, IsSoundAssignment}
+use Rattle.vlog_tree.specs.Forms.{reads}
+use Rattle.vlog_tree.specs.Sound.{IsSoundAssignment}
 use Rattle.vlog_tree.specs.WellFormed as wired
 use Rattle.cycle_sim.specs.Drivers.{AreDrivers, needs_by}
 use Rattle.cycle_sim.specs.Sim.{IsOrder}
+use Rattle.cycle_sim.proofs.Reading.{AllBelow, reads_below}
 use Rattle.cycle_sim.proofs.Ordering.{each_of_places}
 use Rattle.cycle_sim.proofs.NewOrder.{order_stands, cycle_depends, needs_known, needs_closed}
-
-join_each : {A : Type 0} (P : A → Type 0) (xs ys : List A) → AllByRecursion P xs → AllByRecursion P ys → AllByRecursion P (xs ++ ys)
-join_each P [] ys a b = b
-join_each P (x ∷ xs) ys a b = (a.0, join_each P xs ys a.1 b)
-
-abbrev AllBelow : ℕ → List ℕ → Type 0
-AllBelow count xs = AllByRecursion (λ s. s < count) xs
-
-atom_below : (count : ℕ) (a : Atom) → IsKnownAtom count a → AllBelow count (atom_reads a)
-atom_below count (atom.Signal s) h = (h, tt)
-atom_below count (atom.Literal l) h = tt
-
-atoms_below : (count : ℕ) (atoms : List Atom) → AllByRecursion (IsKnownAtom count) atoms → AllBelow count (flat_map atom_reads atoms)
-atoms_below count [] h = tt
-atoms_below count (a ∷ rest) h = join_each (λ s. s < count) (atom_reads a) (flat_map atom_reads rest) (atom_below count a h.0) (atoms_below count rest h.1)
-
-simple_below : (count : ℕ) (x : Simple) → IsKnownSimple count x → AllBelow count (simple_reads x)
-simple_below count (simple.Atom a) h = atom_below count a h
-simple_below count (simple.Binary _ a b) h = join_each (λ s. s < count) (atom_reads a) (atom_reads b) (atom_below count a h.0) (atom_below count b h.1)
-simple_below count (simple.Unary _ a) h = atom_below count a h
-simple_below count (simple.Slice s _ _) h = (h, tt)
-simple_below count (simple.Concat atoms) h = atoms_below count atoms h
-
--- what is known reads signals of the module alone
-pub reads_below : (count : ℕ) (x : Expr) → IsKnown count x → AllBelow count (reads x)
-reads_below count (expr.Simple x) h = simple_below count x h
-reads_below count (expr.SignedOrder _ a b) h = (h.0, (h.1, tt))
-reads_below count (expr.SignedShift a k) h = (h.0, atom_below count k h.1)
-reads_below count (expr.Choice c a b) h =
-    join_each (λ s. s < count) (atom_reads c) (simple_reads a ++ simple_reads b) (atom_below count c h.0)
-    (join_each (λ s. s < count) (simple_reads a) (simple_reads b) (simple_below count a h.1) (simple_below count b h.2))
 
 -- each assignment of a module that can run is sound
 sound_of : (m : VModule) → wired.CanRun m → (i : ℕ) (a : Assignment) → slice_get m.assignments i ≡ Some a → IsSoundAssignment (length (signals m)) (declared_widths m) a

@@ -63,5 +63,6 @@ pub record IsWired (m : VModule) : Type 0 where
 pub record CanRun (m : VModule) : Type 0 where
   pub wired : IsWired m
   pub apart : DriveApart m.assignments
+  pub driven : AreAllDriven m
   pub acyclic : (s : ℕ) → ¬ (ReadsThrough m s s)
   pub few : length m.assignments < 2 ^ 32

@@ -29,7 +29,7 @@ use Rattle.vlog_tree.specs.Signals.{Declared, IsSignal, signals, declared_port, 
 use Rattle.vlog_tree.specs.Forms.{Widths, atom_width, atom_reads, simple_reads, reads, atom_literals, simple_literals, literals, fits}
 use Rattle.vlog_tree.specs.Sound.{IsKnownAtom, IsKnownSimple, IsKnown, IsSoundAssignment}
 use Rattle.vlog_tree.specs.WellFormed.{ReadsThrough, reads_it, by_way, DriveApart, IsSoundSet, AreChannelPorts, HasPorts, IsWired, CanRun}
-use Rattle.vlog_tree.specs.Settled.{DrivesWires}
+use Rattle.vlog_tree.specs.Settled.{AreAllDriven, DrivesWires, IsUndriven}
 use Rattle.vlog_verify.specs.declared.places.Places.{Places}
 use Rattle.vlog_verify.specs.Checks.{PartCheck, note, noted, walk, width_at, seen_after}
 use Rattle.vlog_verify.specs.Placed.{nowhere, signal_span}
@@ -134,6 +134,38 @@ signals_wide : (m : VModule) (places : Places) (names : List (List ℕ)) (i : �
 signals_wide m places names i [] h s d at = cc
 signals_wide m places names i (x ∷ xs) h zero d at = let same : x ≡ d = cc in subst (λ e. e.width ≤ 128) same (not_over x.width h.1.1.0)
 signals_wide m places names i (x ∷ xs) h (suc s) d at = signals_wide m places (see_name names x) (suc i) xs h.1.1.1 s d at
+
+-- ---- each wire has a driver
+
+both_false : (a b : Bool) → (a && not b) ≡ false → a ≡ true → b ≡ true
+both_false true b h e = no_not b h
+both_false false b h e = cc
+
+signals_driven : (m : VModule) (places : Places) (names : List (List ℕ)) (i : ℕ) (ds : List Declared)
+    → AreClear (walk (λ names s d. signal_checks m (targets m.assignments) (signal_span m places s) names s d) see_name names i ds)
+    → (s j : ℕ) (d : Declared) → j ≡ i + s → slice_get ds s ≡ Some d → d.role ≡ Driven → is_target (count_of m) (targets m.assignments) j ≡ true
+signals_driven m places names i [] h s j d at_j at role = cc
+signals_driven m places names i (x ∷ xs) h zero j d at_j at role =
+    let same : x ≡ d = cc in
+    let here : j ≡ i = omega arith in
+    let is : is_driven (Some x.role) ≡ true = ap (λ (e : Declared). is_driven (Some e.role)) same ∙ ap (λ r. is_driven (Some r)) role in
+    ap (is_target (count_of m) (targets m.assignments)) here ∙ both_false (is_driven (Some x.role)) (is_target (count_of m) (targets m.assignments) i) h.1.0 is
+signals_driven m places names i (x ∷ xs) h (suc s) j d at_j at role =
+    signals_driven m places (see_name names x) (suc i) xs h.1.1.1 s j d (omega arith) at role
+
+undriven_unlisted : (xs : List Assignment) (s : ℕ) → IsUndriven xs s → is_listed (targets xs) s ≡ false
+undriven_unlisted [] s h = refl
+undriven_unlisted (x ∷ xs) s h = go (x.target.0 == s) refl (undriven_unlisted xs s h.1)
+  where
+    go : (b : Bool) → (x.target.0 == s) ≡ b → is_listed (targets xs) s ≡ false → (b || is_listed (targets xs) s) ≡ false
+    go true e rest = absurd (h.0 (eqb-true x.target.0 s e))
+    go false e rest = rest
+
+all_driven : (m : VModule) (places : Places) → AreClear (signals_checks m places) → AreAllDriven m
+all_driven m places clear s d is role undriven =
+    let target = signals_driven m places [] 0 (signals m) clear s s d (omega arith) is role in
+    let listed = (both (nat_lt s (count_of m)) (is_listed (targets m.assignments) s) target).1 in
+    let wrong : true ≡ false = sym listed ∙ undriven_unlisted m.assignments s undriven in cc
 
 -- ---- literals
 
@@ -495,6 +527,7 @@ can_run m places judged few =
         clocks = all_set m false (set_targets m.at_reset) places.at_clock [] 0 m.at_clock clocks_clear (narrow_back (set_literals m.at_reset) (set_literals m.at_clock) narrow_sets);
       };
       apart = apart_of m places [] 0 m.assignments good assignments_clear;
+      driven = all_driven m places signals_clear;
       acyclic = acyclic_of m drives free;
       few = few;
     }
