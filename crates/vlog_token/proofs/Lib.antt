@@ -1,0 +1,4 @@
+mod OneCut
+mod CutsSoFar
+mod FrontFacts
+mod Powers

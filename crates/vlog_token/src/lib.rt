@@ -1,0 +1,21 @@
+//! The tokens of a text of the Verilog subset.
+//!
+//! [`tokens`] cuts a text into words, numbers, literals and marks. Each [`Token`] has its place, its bytes and a kind of
+//! `vlog_grammar::kind`, which its own text says.
+//!
+//! Cost: linear in the text's length, but for a literal of more than 38 digits whose width is near what it needs: that costs
+//! the square of its length.
+#![tactic(auto)]
+
+mod blank;
+mod characters;
+mod front;
+mod kind;
+mod laws;
+mod lexer;
+mod power;
+mod token;
+
+pub use laws::one_list_of_tokens;
+pub use lexer::tokens;
+pub use token::Token;
