@@ -1,0 +1,4 @@
+mod OneTree
+mod Stepping
+mod Tails
+mod Tabling

@@ -1,0 +1,9 @@
+use vlog_tree::VModule;
+use vlog_verify::Places;
+
+/// A module that was read, and where its parts stand in its text.
+#[derive(Drop)]
+pub struct Parsed {
+    pub design: VModule,
+    pub places: Places,
+}
