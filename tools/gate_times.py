@@ -19,7 +19,7 @@ KINDS = ('check', 'tests', 'edits')
 
 
 def processes():
-    """Of each process its parent, its processor time with that of its ended children, and its words."""
+    """Of each process its parent, its own processor time, when it began, and its words."""
     found = {}
     for pid in filter(str.isdigit, os.listdir('/proc')):
         try:
@@ -28,7 +28,7 @@ def processes():
         except OSError:
             continue
         fields = stat[stat.rindex(')') + 2:].split()
-        found[int(pid)] = (int(fields[1]), sum(map(int, fields[11:15])) / TICKS, words)
+        found[int(pid)] = (int(fields[1]), sum(map(int, fields[11:13])) / TICKS, fields[19], words)
     return found
 
 
@@ -47,6 +47,17 @@ def kind_of(words):
     return words[3], 'edits' if words[1] == 'check' else 'tests' if '--test' in words else 'check'
 
 
+def work_of(pid, found):
+    """What a process works on: its own words say so, or those of the nearest process above it that says so."""
+    while pid in found:
+        parent, _, _, words = found[pid]
+        what = kind_of(words)
+        if what:
+            return what
+        pid = parent
+    return None
+
+
 def watch(command):
     """Runs the command; gives its status, the seconds by the clock, and the processor time of each crate and kind."""
     start = time.monotonic()
@@ -54,13 +65,13 @@ def watch(command):
     gate = subprocess.Popen(command)
     while gate.poll() is None:
         found = processes()
-        for pid, (_, seconds, words) in found.items():
-            what = kind_of(words)
+        for pid, (_, seconds, began, _) in found.items():
+            what = work_of(pid, found)
             if what and descends(pid, gate.pid, found):
-                spent[what, pid] = max(seconds, spent.get((what, pid), 0))
+                spent[what, pid, began] = seconds
         time.sleep(0.3)
     totals = collections.Counter()
-    for (what, _), seconds in spent.items():
+    for (what, _, _), seconds in spent.items():
         totals[what] += seconds
     return gate.returncode, time.monotonic() - start, totals
 
