@@ -25,7 +25,7 @@ use Rattle.net_streams.specs.Streams.{StandsBefore, stands}
 use Rattle.net_streams.specs.Moves.{IsTyped, IsStanding, GoesOn, first_events, sent_first, received_first}
 use Rattle.net_streams.proofs.Within.{chan_there, sent_append, received_append, made_or_next, same_number, inner_words}
 use Rattle.net_streams.proofs.Within as within
-use Rattle.net_streams.proofs.Openings.{EventAt, receives_at, sends_at, ends_with, next_at, open_first, open_send, open_receive}
+use Rattle.net_core.proofs.Lemmas.{EventAt, receives_at, sends_at, ends_with, next_at, open_first, open_send, open_receive}
 
 -- where one event more is made
 take_next : (k : ℕ) (xs : List Event) (e : Event) (rest : List Event) → xs ≡ take k xs ++ e ∷ rest → (take (suc k) xs ≡ take k xs ++ e ∷ []) × (suc k ≤ length xs)

@@ -2,3 +2,4 @@ pub mod Rights
 pub mod Ports
 pub mod Steps
 pub mod Idle
+pub mod Counts

@@ -1,5 +1,5 @@
 -- A task: a proc that moves, and where it stands in its run.
-use Rattle.std.specs.Prelude.{◌≡◌, ◌≢◌, ℕ, ◌<◌, ◌≤◌, ◌⊎◌, true, false, List, [], length, Option, Some, None, slice_get, option_map, nat_lt, if◌then◌else◌}
+use Rattle.std.specs.Prelude.{◌≡◌, ◌≢◌, ℕ, ◌<◌, ◌≤◌, ◌⊎◌, Bool, true, false, List, [], length, Option, Some, None, slice_get, option_map, nat_lt, if◌then◌else◌}
 use Rattle.xb_value.specs.declared.value.Value.{Value}
 use Rattle.xb_value.specs.Typing.{IsOfType}
 use Rattle.net_core.specs.declared.outcome.ProcEnd.{ProcEnd}
@@ -69,6 +69,10 @@ module _ {S : Type 0} where
     pub ports : HasEnds run lines sites places outlets inlets
     pub no_words : (k : ℕ) (outlet : Outlet S) → slice_get outlets k ≡ Some outlet → outlet.words.items ≡ []
     pub none_received : (k : ℕ) (inlet : Inlet S) → slice_get inlets k ≡ Some inlet → inlet.received ≡ 0
+
+-- the proc has a site on the channel, in this direction
+abbrev pub HasSiteOn : Proc → ℕ → Bool → Type 0
+HasSiteOn proc c sends = (i : ℕ) × (site : Site) × (slice_get proc.behavior.sites i ≡ Some site) × (site.sends ≡ sends) × (site.chan ≡ c)
 
 -- where a proc stands, with what it waits for
 abbrev pub end_at : Run → Proc → Position → ProcEnd

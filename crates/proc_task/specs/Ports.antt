@@ -1,5 +1,5 @@
 -- The ends of channels at which a task sends and receives, and what holds of them in a run.
-use Rattle.std.specs.Prelude.{◌≡◌, ℕ, suc, ◌+◌, ◌<◌, ◌≤◌, ◌⊎◌, ◌^◌, List, [], length, Option, Some, None, get_or, slice_get}
+use Rattle.std.specs.Prelude.{◌≡◌, ◌≢◌, ℕ, suc, ◌+◌, ◌<◌, ◌≤◌, ◌⊎◌, ◌^◌, List, [], length, Option, Some, None, get_or, slice_get}
 use Rattle.xb_bits.specs.Word.{Word}
 use Rattle.chan_queue.specs.Passes.{IsSender, IsReceiver, sender_knows, receiver_knows, sender_of, receiver_of}
 use Rattle.chan_queue.specs.declared.pass.SendPass.{SendPass}
@@ -123,3 +123,16 @@ module _ {S : Type 0} where
     pub chan : outlet.chan ≡ inlet.chan
     pub sends : (pass : SendPass S) × (outlet.pass ≡ Some pass)
     pub receives : (pass : RecvPass S) × (inlet.pass ≡ Some pass)
+
+  -- an outlet of this channel stands in the list, or an inlet; or none does
+  abbrev pub IsOutletOn : List (Outlet S) → ℕ → Outlet S → Type 0
+  IsOutletOn outlets c outlet = (k : ℕ) × (slice_get outlets k ≡ Some outlet) × (outlet.chan ≡ c)
+
+  abbrev pub NoOutletOn : List (Outlet S) → ℕ → Type 0
+  NoOutletOn outlets c = (k : ℕ) (outlet : Outlet S) → slice_get outlets k ≡ Some outlet → outlet.chan ≢ c
+
+  abbrev pub IsInletOn : List (Inlet S) → ℕ → Inlet S → Type 0
+  IsInletOn inlets c inlet = (k : ℕ) × (slice_get inlets k ≡ Some inlet) × (inlet.chan ≡ c)
+
+  abbrev pub NoInletOn : List (Inlet S) → ℕ → Type 0
+  NoInletOn inlets c = (k : ℕ) (inlet : Inlet S) → slice_get inlets k ≡ Some inlet → inlet.chan ≢ c

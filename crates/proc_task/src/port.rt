@@ -1,6 +1,6 @@
 ghost use Rattle.std.specs.Prelude.{◌≡◌, ◌∷◌, ◌++◌, [], suc, length, Some, MatchBool, IfOk, IfErr, OnErr, MatchOption, slice_get};
 ghost use Rattle.net_core.specs.Cuts.{words_at, final_cut};
-ghost use Rattle.proc_task.specs.Ports.{IsOutlet, IsInlet, IsNextOn, SentOne, ReceivedOne, MayPut, MayTake, IsFull, IsDry, told_out, told_in, AreEnds, HaveMet};
+ghost use Rattle.proc_task.specs.Ports.{IsOutlet, IsInlet, IsNextOn, SentOne, ReceivedOne, MayPut, MayTake, IsFull, IsDry, told_out, told_in, AreEnds, HaveMet, IsOutletOn, NoOutletOn, IsInletOn, NoInletOn};
 
 use crate::home::Home;
 use chan_queue::{RecvPass, SendPass, Streams};
@@ -121,4 +121,28 @@ pub(crate) fn meet<S: Streams, H: Home<S>>(home: &H, outlet: &mut Outlet<S>, inl
         }
         _ => unreachable!(),
     }
+}
+
+/// The outlet of a channel.
+pub(crate) fn outlet_on<S>(outlets: &[Outlet<S>], chan: u32) -> Option<&Outlet<S>>
+    ensures { MatchOption result (NoOutletOn outlets.now chan) (λ outlet. IsOutletOn outlets.now chan outlet.now) }
+{
+    for outlet in outlets {
+        if outlet.chan == chan {
+            return Some(outlet);
+        }
+    }
+    None
+}
+
+/// The inlet of a channel.
+pub(crate) fn inlet_on<S>(inlets: &[Inlet<S>], chan: u32) -> Option<&Inlet<S>>
+    ensures { MatchOption result (NoInletOn inlets.now chan) (λ inlet. IsInletOn inlets.now chan inlet.now) }
+{
+    for inlet in inlets {
+        if inlet.chan == chan {
+            return Some(inlet);
+        }
+    }
+    None
 }

@@ -3,12 +3,14 @@ ghost use Rattle.net_core.specs.declared.event.Event.TheVariants as event;
 ghost use Rattle.net_core.specs.Behavior.{chan_at};
 ghost use Rattle.net_core.specs.Cuts.{Proc};
 ghost use Rattle.net_core.specs.Outcomes.{stall_for};
-ghost use Rattle.proc_task.specs.Moving.{IsTask, IsNewTask, IsBefore, IsHeldAt, Waits, IsSameTask, IsSameButOutlet, IsSameButInlet, IsSameButPorts, MeetAt, HasMetAt, IsAtSiteIn, end_at, position_of};
+ghost use Rattle.net_streams.specs.Moves.{sent_first, received_first};
+ghost use Rattle.proc_task.specs.Moving.{IsTask, IsNewTask, IsBefore, IsHeldAt, Waits, IsSameTask, IsSameButOutlet, IsSameButInlet, IsSameButPorts, MeetAt, HasMetAt, IsAtSiteIn, HasSiteOn, end_at, position_of};
 
 use crate::home::Home;
-use crate::port::{Inlet, Outlet, meet};
+use crate::port::{Inlet, Outlet, inlet_on, meet, outlet_on};
 use chan_queue::Streams;
 use net_core::{Event, ProcEnd, Site, Stall};
+use proc_round::Steps;
 use std::alloc::{AllocError, Global};
 use std::sync::Wait;
 use task_queue::Numbered;
@@ -48,6 +50,17 @@ impl<S: Streams, H: Home<S>> Numbered<H> for Task<S, H> {
 
     fn number(&self) -> u32 {
         self.number
+    }
+}
+
+impl<S: Streams, H: Home<S>> Steps<H> for Task<S, H> {
+    fn make_events<R: Wait>(
+        &mut self,
+        rt: &R,
+        alloc: Global,
+        most: u32,
+    ) -> Result<u32, AllocError> {
+        self.advance(rt, alloc, most)
     }
 }
 
@@ -135,6 +148,45 @@ impl<S: Streams, H: Home<S>> Task<S, H> {
             outlets,
             inlets,
         })
+    }
+
+    /// Where it stands, and what it waits for. It asks the body once, unless the proc is done.
+    pub fn end(&self, alloc: Global) -> Result<ProcEnd, AllocError>
+        requires { IsTask (H.run self.now.home) (H.lines self.now.home) self.now }
+        ensures { IfOk result (λ end. (proc : Proc) → slice_get (H.run self.now.home).procs self.now.number ≡ Some proc →
+            end ≡ end_at (H.run self.now.home) proc (position_of self.now)) }
+    {
+        let stall = self.stall(alloc)?;
+        let state = self.state.copy(alloc)?;
+        Ok(ProcEnd {
+            state,
+            ends: self.ends,
+            stall,
+        })
+    }
+
+    /// The words that it sent on a channel of one of its sites.
+    pub fn words_on(&self, chan: u32) -> &[Bits]
+        requires { IsTask (H.run self.now.home) (H.lines self.now.home) self.now }
+        ensures { (proc : Proc) → slice_get (H.run self.now.home).procs self.now.number ≡ Some proc → HasSiteOn proc chan true →
+            result.now ≡ sent_first (H.run self.now.home) self.now.number proc self.now.count chan }
+    {
+        match outlet_on(self.outlets.as_slice(), chan) {
+            Some(outlet) => outlet.words.as_slice(),
+            None => &[],
+        }
+    }
+
+    /// How many words it received from a channel of one of its sites.
+    pub fn received_on(&self, chan: u32) -> u64
+        requires { IsTask (H.run self.now.home) (H.lines self.now.home) self.now }
+        ensures { (proc : Proc) → slice_get (H.run self.now.home).procs self.now.number ≡ Some proc → HasSiteOn proc chan false →
+            result ≡ received_first (H.run self.now.home) self.now.number proc self.now.count chan }
+    {
+        match inlet_on(self.inlets.as_slice(), chan) {
+            Some(inlet) => inlet.received,
+            None => 0,
+        }
     }
 
     /// What it waits for, unless it is done.
@@ -227,7 +279,7 @@ impl<S: Streams, H: Home<S>> Task<S, H> {
             Event::Recv(site) => self.try_receive(rt, site),
             Event::Send(site, word) => self.try_send(rt, site, word),
             Event::End(state) => {
-                self.end(state);
+                self.end_with(state);
                 Ok(true)
             }
         }
@@ -277,7 +329,7 @@ impl<S: Streams, H: Home<S>> Task<S, H> {
     }
 
     /// The activation ends with a state, and the next one begins.
-    fn end(&mut self, state: Value)
+    fn end_with(&mut self, state: Value)
         requires task { IsTask (H.run self.old.home) (H.lines self.old.home) self.old }
         requires next { IsBefore (H.run self.old.home) self.old (event.End state) }
         ensures task { IsTask (H.run self.new.home) (H.lines self.new.home) self.new }

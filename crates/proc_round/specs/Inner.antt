@@ -1,0 +1,2 @@
+-- what the workers of a round get, and what they bring back
+pub mod Jobs
