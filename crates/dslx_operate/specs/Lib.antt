@@ -1,0 +1,2 @@
+-- which words an operation takes
+pub mod Fitting
