@@ -1,5 +1,5 @@
 -- What the program answers: its status, its output and its error line together.
-use Rattle.std.specs.Prelude.{◌≡◌, ℕ, List, ◌++◌, Result, Ok, Err, codes}
+use Rattle.std.specs.Prelude.{ℕ, List, ◌++◌, Result, Ok, Err, codes}
 use Rattle.lists.specs.Front.{IsFront}
 use Rattle.cmd_answer.specs.Fault.{Fault, line_of, status_of}
 use Rattle.cmd_answer.specs.Events.{FileEvents, SinkEvents, PutsOrBreaksOff}

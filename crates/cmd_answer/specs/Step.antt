@@ -1,5 +1,5 @@
 -- The steps of a command. Each gives something or a fault; the order of the steps is the order of the causes.
-use Rattle.std.specs.Prelude.{◌≡◌, List, ℕ, Option, IfSome, Result, Ok, Err}
+use Rattle.std.specs.Prelude.{◌≡◌, Option, IfSome, Result, Ok, Err}
 use Rattle.xb_io.specs.Contents.{Contents}
 use Rattle.cmd_answer.specs.declared.fault.Fault.TheVariants.{Usage}
 use Rattle.cmd_answer.specs.Fault.{Fault}

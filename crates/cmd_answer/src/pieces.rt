@@ -1,4 +1,4 @@
-ghost use Rattle.std.specs.Prelude.{◌≡◌, ◌≤◌, OnOk, OnErr, flat_map};
+ghost use Rattle.std.specs.Prelude.{OnOk, OnErr, flat_map};
 ghost use Rattle.xb_span.specs.PieceText.{piece_text};
 ghost use Rattle.cmd_answer.specs.Events.{sink_events};
 

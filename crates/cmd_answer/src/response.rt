@@ -1,6 +1,6 @@
-ghost use Rattle.std.specs.Prelude.{◌≡◌, ◌≤◌, MatchResult};
+ghost use Rattle.std.specs.Prelude.{MatchResult};
 ghost use Rattle.cmd_answer.specs.Events.{PutsOrBreaksOff, sink_events};
-ghost use Rattle.cmd_answer.specs.Response.{ShowsRefusal, Writes, refusal_line, refusal_status};
+ghost use Rattle.cmd_answer.specs.Response.{ShowsRefusal, Writes, refusal_line};
 
 use crate::pieces::put_pieces;
 use crate::refusal::Refusal;

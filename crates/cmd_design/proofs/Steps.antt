@@ -1,5 +1,5 @@
 -- The steps of the commands, one after the other.
-use Rattle.std.proofs.Common.{◌≡◌, ◌<◌, ◌≤◌, ℕ, zero, suc, Bool, true, false, List, [], ◌∷◌, length, map, get_or, Option, Some, None, Result, Ok, Err, refl, sym, ap, ◌∙◌, subst, arith}
+use Rattle.std.proofs.Common.{◌≡◌, ◌<◌, ◌≤◌, ℕ, zero, suc, Bool, true, false, List, [], ◌∷◌, length, map, get_or, Option, Some, Result, Ok, Err, refl, ap, ◌∙◌, arith}
 use Rattle.std.specs.Prelude.{slice_get, if◌then◌else◌}
 use Rattle.std.specs.Str.{is_utf8}
 use Rattle.std.specs.Str.Lossy.{utf8_valid_len}
@@ -13,11 +13,9 @@ use Rattle.net_core.specs.declared.net.Chan.{Chan}
 use Rattle.net_core.specs.declared.net.Inputs.{Inputs}
 use Rattle.net_core.specs.Behavior.{Behavior}
 use Rattle.net_core.specs.WellFormed.{IsDepths}
-use Rattle.chan_file.specs.ChannelFile.{Reads}
 use Rattle.chan_file.specs.declared.refusal.Cause.{Cause}
 use Rattle.chan_file.proofs.Lemmas.Reading.{one_reading}
 use Rattle.cmd_answer.specs.declared.fault.Fault.TheVariants.{Text, Input}
-use Rattle.cmd_answer.specs.declared.refusal.Refusal.{Refusal}
 use Rattle.cmd_answer.specs.Done.{RefusesFor, StopsBy, text_refusal}
 use Rattle.cmd_answer.specs.Fault.{Fault}
 use Rattle.cmd_answer.specs.Loads.{Loads, OfText, accepts, text_of}

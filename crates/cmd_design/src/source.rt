@@ -1,6 +1,6 @@
 //! The steps that read files.
 
-ghost use Rattle.std.specs.Prelude.{◌≡◌, ◌<◌, ◌^◌, Ok, length, IfOk, IfErr};
+ghost use Rattle.std.specs.Prelude.{◌<◌, ◌^◌, Ok, length, IfOk, IfErr};
 ghost use Rattle.net_core.specs.WellFormed.{IsNet, IsInputs};
 ghost use Rattle.cmd_answer.specs.Done.{StopsBy};
 ghost use Rattle.cmd_design.specs.Commands.{ReadsDesign, ReadsInputs};

@@ -1,9 +1,9 @@
 -- What no fault says of the top.
-use Rattle.std.proofs.Common.{◌≡◌, ℕ, Bool, true, false, List, [], ◌∷◌, ◌++◌, map, Option, Some, None, refl, sym, ap, ◌∙◌, subst}
+use Rattle.std.proofs.Common.{◌≡◌, ℕ, Bool, true, false, List, [], ◌∷◌, ◌++◌, map, Option, Some, None, refl, subst}
 use Rattle.std.specs.Prelude.{if◌then◌else◌}
 use Rattle.std.specs.Str.{bytes_eq}
 use Rattle.xb_span.specs.declared.fault.Fault.{Fault}
-use Rattle.xb_span.specs.Fault.{precedes, earlier, first_from, first_of}
+use Rattle.xb_span.specs.Fault.{precedes, first_from, first_of}
 use Rattle.dslx_narrow_tree.specs.Checking.{name_of_proc, proc_faults, procs_faults, instance_faults, top_faults, top_of, last_proc, proc_named, faults_of, first_fault}
 use Rattle.dslx_narrow_tree.specs.declared.proc.Module.{Module}
 use Rattle.dslx_narrow_tree.specs.declared.proc.Proc.{Proc}

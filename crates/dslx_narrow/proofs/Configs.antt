@@ -1,7 +1,7 @@
 -- The ends of a proc without faults: its members are channels of their directions, whose words are bits and whose names
 -- differ.
-use Rattle.std.proofs.Common.{◌≡◌, ℕ, zero, suc, ◌+◌, ◌<◌, ◌≤◌, Bool, true, false, ◌&&◌, List, [], ◌∷◌, ◌++◌, map, get_or, Option, Some, None, IsTrue, refl, sym, ap, ◌∙◌, subst, arith}
-use Rattle.std.specs.Prelude.{slice_get, option_map, if◌then◌else◌, not, ◌||◌, nat_le}
+use Rattle.std.proofs.Common.{◌≡◌, ℕ, zero, suc, ◌+◌, Bool, true, false, ◌&&◌, List, [], ◌∷◌, ◌++◌, map, get_or, Option, Some, None, refl, sym, ap, ◌∙◌, subst, arith}
+use Rattle.std.specs.Prelude.{slice_get, if◌then◌else◌, ◌||◌, nat_le}
 use Rattle.std.specs.Str.{bytes_eq}
 use Rattle.std.proofs.lemmas.Bool.Decides.{nat_tests}
 use Rattle.std.proofs.lemmas.Slice.Eq.{bytes_eq-Decides}
@@ -10,7 +10,7 @@ use Rattle.xb_value.specs.Width.{width_of, HasWidths, widths_step}
 use Rattle.xb_value.proofs.Lemmas.Types.{fold-Bits, width_of-Bits}
 use Rattle.net_core.specs.declared.net.Chan.{Chan}
 use Rattle.dslx_narrow_tree.specs.Names.{is_named, is_reserved}
-use Rattle.dslx_narrow_tree.specs.Judging.{port_in, port_of, written_type, is_direction, is_type, broken, broken_where}
+use Rattle.dslx_narrow_tree.specs.Judging.{port_in, port_of, written_type, is_direction, is_type, broken_where}
 use Rattle.dslx_narrow_tree.specs.Patterns.{declared_faults}
 use Rattle.dslx_narrow_tree.specs.Checking.{name_of_end, name_of_ident, word_faults, end_faults, port_fits, ends_fit}
 use Rattle.dslx_narrow_tree.specs.Network.{plain_type, kind_of, chan_of, place_named}
@@ -21,12 +21,10 @@ use Rattle.dslx_narrow_tree.specs.declared.type_expr.TypeExpr.TheVariants as wri
 use Rattle.dslx_narrow_tree.specs.declared.port.Port.{Port}
 use Rattle.dslx_narrow_tree.specs.declared.proc.End.{End}
 use Rattle.dslx_narrow_tree.specs.declared.proc.Direction.{Direction}
-use Rattle.dslx_narrow_tree.specs.declared.proc.Direction.TheVariants.{In, Out}
-use Rattle.dslx_narrow_tree.specs.declared.value.SourceType.{SourceType}
 use Rattle.dslx_narrow_tree.specs.declared.value.SourceType.TheVariants as ty
 use Rattle.dslx_narrow_core.specs.Networks.{IsWordChan}
 use Rattle.dslx_narrow.proofs.Expressions.{nothing_noted}
-use Rattle.dslx_narrow.proofs.Tops.{HasPort, AreWords, same_type_is, direction_is, both_true}
+use Rattle.dslx_narrow.proofs.Tops.{AreWords, same_type_is, direction_is, both_true}
 use Rattle.dslx_narrow.proofs.Statements.{AreWired}
 
 -- the words of an end without faults are bits

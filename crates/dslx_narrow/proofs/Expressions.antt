@@ -1,5 +1,5 @@
 -- Expressions without faults lower to expressions of their types.
-use Rattle.std.proofs.Common.{◌≡◌, ℕ, zero, suc, ◌+◌, ◌<◌, ◌≤◌, ◌^◌, ◌==◌, Bool, true, false, ◌&&◌, List, [], ◌∷◌, ◌++◌, length, map, Option, Some, None, refl, sym, ap, ◌∙◌, subst, arith}
+use Rattle.std.proofs.Common.{◌≡◌, ℕ, zero, suc, ◌+◌, ◌<◌, ◌^◌, ◌==◌, Bool, true, false, ◌&&◌, List, [], ◌∷◌, ◌++◌, length, map, Option, Some, None, refl, sym, ap, ◌∙◌, subst, arith}
 use Rattle.std.specs.Prelude.{slice_get, if◌then◌else◌, not, nat_lt}
 use Rattle.std.specs.Str.{bytes_eq}
 use Rattle.std.proofs.lemmas.Bool.Decides.{nat_tests}
@@ -8,9 +8,8 @@ use Rattle.xb_bits.specs.Word.{Word, word}
 use Rattle.xb_value.specs.Typing.{is_word_of}
 use Rattle.xb_value.proofs.Lemmas.Types.{EachHas}
 use Rattle.xb_span.specs.declared.span.Span.{Span}
-use Rattle.xb_span.specs.declared.fault.Fault.{Fault}
 use Rattle.dslx_narrow_tree.specs.Names.{callee_of}
-use Rattle.dslx_narrow_tree.specs.Judging.{Local, Scope, Judged, SeenExpr, seen, seen_step, call_seen, bound_in, name_judged, value_type, value_faults, type_alone, faults_alone, sum_type, sum_faults, is_token, token_faults, are_tokens, join_faults, broken, broken_where, all_alone, recv_faults, send_faults}
+use Rattle.dslx_narrow_tree.specs.Judging.{Local, Scope, SeenExpr, seen, seen_step, call_seen, bound_in, name_judged, value_type, value_faults, type_alone, faults_alone, sum_type, sum_faults, is_token, token_faults, are_tokens, join_faults, broken, broken_where, all_alone, recv_faults, send_faults}
 use Rattle.dslx_narrow_tree.specs.declared.callee.Callee.{Callee}
 use Rattle.dslx_narrow_tree.specs.declared.callee.Callee.TheVariants.{Join, Recv, Send, Unknown}
 use Rattle.dslx_narrow_tree.specs.declared.ident.Ident.{Ident}

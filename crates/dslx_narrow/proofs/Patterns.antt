@@ -1,8 +1,8 @@
 -- Patterns without faults take values of their types apart, and bind names with types.
-use Rattle.std.proofs.Common.{◌≡◌, ℕ, List, [], ◌∷◌, ◌++◌, Option, Some, None, refl, sym, ap, ◌∙◌, subst}
+use Rattle.std.proofs.Common.{◌≡◌, ℕ, List, [], ◌∷◌, ◌++◌, Option, Some, refl, sym, ap, ◌∙◌, subst}
 use Rattle.xb_span.specs.declared.span.Span.{Span}
 use Rattle.dslx_narrow_tree.specs.Judging.{Local}
-use Rattle.dslx_narrow_tree.specs.Patterns.{Bound, Binds, binds, binds_step, bind_pair, first_type, second_type, pair_faults, declared_faults}
+use Rattle.dslx_narrow_tree.specs.Patterns.{Bound, Binds, binds, binds_step, bind_pair, first_type, second_type}
 use Rattle.dslx_narrow_tree.specs.declared.ident.Ident.{Ident}
 use Rattle.dslx_narrow_tree.specs.declared.value.SourceType.{SourceType}
 use Rattle.dslx_narrow_tree.specs.declared.value.SourceType.TheVariants as ty

@@ -1,9 +1,7 @@
 -- From a text to its tree and its design, and that it gives one thing.
-use Rattle.std.proofs.Common.{◌≡◌, ◌⊎◌, inl, inr, ℕ, ◌≤◌, zero, suc, List, [], ◌∷◌, map, Option, Some, None, Result, Ok, Err, refl, sym, ap, ◌∙◌, subst, arith}
+use Rattle.std.proofs.Common.{◌≡◌, inl, inr, ℕ, ◌≤◌, zero, suc, List, [], ◌∷◌, map, Option, Some, None, Result, Ok, Err, sym, ap, ◌∙◌, subst, arith}
 use Rattle.std.specs.Prelude.{IfOk, IfErr, IsErrAnd, slice_get}
-use Rattle.xb_span.specs.declared.fault.Fault.{Fault}
 use Rattle.xb_span.specs.declared.limit.Limit.{Limit}
-use Rattle.xb_span.specs.Fault.{error_of}
 use Rattle.xb_span.specs.declared.read_error.ReadError.{ReadError}
 use Rattle.xb_span.specs.declared.read_error.ReadError.TheVariants.{Syntax, Broken, Over, OutOfMemory}
 use Rattle.net_core.specs.declared.net.Chan.{Chan}
@@ -12,7 +10,7 @@ use Rattle.dslx_token.specs.Tokens.{IsFirstOdd, Tokens}
 use Rattle.dslx_token.specs.Refusal as token
 use Rattle.dslx_narrow_parser.specs.Reads as parser
 use Rattle.dslx_narrow_parser.specs.Reads.{IsReading, IsShallow, Reads, whole, misplaced, too_deep}
-use Rattle.dslx_narrow_tree.specs.Checking.{first_fault, top_of}
+use Rattle.dslx_narrow_tree.specs.Checking.{first_fault}
 use Rattle.dslx_narrow_tree.specs.Network.{chan_of, network_if, network_limit}
 use Rattle.dslx_narrow_tree.specs.declared.proc.Module.{Module}
 use Rattle.dslx_narrow_tree.specs.declared.proc.Proc.{Proc}

@@ -1,6 +1,6 @@
 -- A proc without faults lowers to a sound design.
-use Rattle.std.proofs.Common.{◌≡◌, ◌⊎◌, inl, inr, ℕ, ◌+◌, ◌≤◌, Bool, true, false, ◌&&◌, List, [], ◌∷◌, ◌++◌, length, map, Option, Some, None, IsTrue, refl, sym, ap, ◌∙◌, subst, arith}
-use Rattle.std.specs.Prelude.{slice_get, if◌then◌else◌, not, nat_lt, nat_le}
+use Rattle.std.proofs.Common.{◌≡◌, ◌⊎◌, inl, inr, ℕ, ◌+◌, ◌≤◌, Bool, true, false, ◌&&◌, List, [], ◌∷◌, ◌++◌, length, map, Option, Some, None, refl, sym, ap, ◌∙◌, subst, arith}
+use Rattle.std.specs.Prelude.{if◌then◌else◌, nat_lt, nat_le}
 use Rattle.std.proofs.lemmas.Bool.Decides.{nat_tests}
 use Rattle.std.proofs.lemmas.List.{length-append}
 use Rattle.std.proofs.lemmas.List.Sums.{sum_by-cons}
@@ -17,14 +17,12 @@ use Rattle.dslx_narrow_tree.specs.declared.proc.Stmt.TheVariants.{Let, Bare}
 use Rattle.dslx_narrow_tree.specs.declared.expr.Expr as expr
 use Rattle.dslx_narrow_tree.specs.declared.expr.Expr.TheViews.{outs-Number, outs-Name, outs-Unit, outs-Call, outs-Add}
 use Rattle.dslx_narrow_tree.proofs.Lemmas.Trees as trees
-use Rattle.xb_value.specs.Typing.{IsOfType}
 use Rattle.net_core.specs.declared.net.Chan.{Chan}
-use Rattle.net_core.specs.declared.net.Site.{Site}
-use Rattle.dslx_narrow_tree.specs.Judging.{Local, Scope, Judged, SeenExpr, seen, seen_step, call_seen, written_type, is_type, type_alone, faults_alone, broken_where}
+use Rattle.dslx_narrow_tree.specs.Judging.{Scope, SeenExpr, seen, seen_step, call_seen, written_type, is_type}
 use Rattle.dslx_narrow_tree.specs.Patterns.{declared_faults}
 use Rattle.dslx_narrow_tree.specs.Blocks.{walk, last_judged, result_faults, size_faults, block_faults, count_sites, statement_sites}
 use Rattle.dslx_narrow_tree.specs.Checking.{name_of_end, name_of_ident, end_faults, unknown_ends, config_faults, are_used, ends_fit, site_faults, opening_scope, next_scope, proc_faults}
-use Rattle.dslx_narrow_tree.specs.Network.{plain_type, chan_of, channel_of}
+use Rattle.dslx_narrow_tree.specs.Network.{chan_of, channel_of}
 use Rattle.dslx_narrow_tree.specs.declared.width.Width.{Width}
 use Rattle.dslx_narrow_tree.specs.declared.type_expr.TypeExpr.{TypeExpr}
 use Rattle.dslx_narrow_tree.specs.declared.type_expr.TypeExpr.TheVariants as written

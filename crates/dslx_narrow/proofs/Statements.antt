@@ -5,9 +5,9 @@ use Rattle.std.proofs.lemmas.Bool.Decides.{nat_tests}
 use Rattle.xb_value.specs.Width.{width_of}
 use Rattle.net_core.specs.declared.net.Chan.{Chan}
 use Rattle.net_core.specs.declared.net.Site.{Site}
-use Rattle.dslx_narrow_tree.specs.Judging.{Local, Scope, Judged, SeenExpr, seen, value_faults}
-use Rattle.dslx_narrow_tree.specs.Patterns.{Bound, binds, bound_by}
-use Rattle.dslx_narrow_tree.specs.Blocks.{judged_whole, Walked, with_locals, walk_let, walk_bare, walk_statement, walk}
+use Rattle.dslx_narrow_tree.specs.Judging.{Local, Scope, seen, value_faults}
+use Rattle.dslx_narrow_tree.specs.Patterns.{binds, bound_by}
+use Rattle.dslx_narrow_tree.specs.Blocks.{judged_whole, walk_statement, walk}
 use Rattle.dslx_narrow_tree.specs.Activation.{Doing, Values, Receives, Sends, doing_of}
 use Rattle.dslx_narrow_tree.specs.Network.{kind_of, width_in}
 use Rattle.dslx_narrow_tree.specs.declared.proc.End.{End}
@@ -21,7 +21,7 @@ use Rattle.dslx_narrow_tree.specs.declared.pattern.Pattern.{Pattern}
 use Rattle.dslx_narrow_tree.specs.declared.expr.Expr.{Expr}
 use Rattle.dslx_narrow_core.specs.Evaluation.{step_sites, sites_in}
 use Rattle.dslx_narrow_core.specs.Networks.{kind_at}
-use Rattle.dslx_narrow_core.specs.Typing.{SlotTypes, core_type, shape_types, shape_types_step, bind_types, word_types, then_types, step_types, steps_types}
+use Rattle.dslx_narrow_core.specs.Typing.{SlotTypes, shape_types, shape_types_step, bind_types, word_types, then_types, step_types, steps_types}
 use Rattle.dslx_narrow_core.specs.declared.design.Step.{Step}
 use Rattle.dslx_narrow_core.specs.declared.design.Step.TheVariants as step
 use Rattle.dslx_narrow_core.specs.declared.design.Shape.{Shape}

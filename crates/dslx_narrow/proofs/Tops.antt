@@ -4,12 +4,11 @@ use Rattle.std.specs.Prelude.{if◌then◌else◌, not}
 use Rattle.std.proofs.lemmas.Bool.Decides.{nat_tests}
 use Rattle.xb_span.specs.declared.span.Span.{Span}
 use Rattle.dslx_narrow_tree.specs.Names.{callee_of}
-use Rattle.dslx_narrow_tree.specs.Judging.{Scope, Judged, SeenExpr, seen, seen_step, call_seen, value_type, type_alone, faults_alone, is_token, token_faults, held_faults, channel_faults, unknown_port, argument_faults, all_alone, recv_faults, recv_type, send_faults, send_type, received_type, word_type, port_named, port_at, port_in, port_if, bound_in, is_free, goes, is_direction, is_unused, sends_type, sent_faults, is_type, broken, broken_where}
+use Rattle.dslx_narrow_tree.specs.Judging.{Scope, Judged, SeenExpr, seen, seen_step, call_seen, type_alone, faults_alone, is_token, token_faults, channel_faults, argument_faults, recv_faults, recv_type, send_faults, send_type, received_type, word_type, port_named, port_at, port_in, port_if, bound_in, is_free, goes, is_direction, is_unused, sends_type, sent_faults, is_type, broken, broken_where}
 use Rattle.dslx_narrow_tree.specs.Activation.{Doing, Values, Receives, Sends, doing_of, doing_step, call_doing, receive_at, send_at, name_step}
 use Rattle.dslx_narrow_tree.specs.declared.callee.Callee.{Callee}
 use Rattle.dslx_narrow_tree.specs.declared.callee.Callee.TheVariants.{Join, Recv, Send, Unknown}
 use Rattle.dslx_narrow_tree.specs.declared.ident.Ident.{Ident}
-use Rattle.dslx_narrow_tree.specs.declared.width.Width.{Width}
 use Rattle.dslx_narrow_tree.specs.declared.port.Port.{Port}
 use Rattle.dslx_narrow_tree.specs.declared.proc.End.{End}
 use Rattle.dslx_narrow_tree.specs.declared.proc.Direction.{Direction}
@@ -22,7 +21,7 @@ use Rattle.dslx_narrow_tree.specs.declared.expr.Expr.TheViews.{outs-Number, outs
 use Rattle.dslx_narrow_tree.proofs.Lemmas.Trees as trees
 use Rattle.dslx_narrow_core.specs.Typing.{SlotTypes, core_type}
 use Rattle.dslx_narrow_lower.specs.Lowering.{core_of}
-use Rattle.dslx_narrow.proofs.Expressions.{TypedAs, IsTyped, HasType, IsSure, sure, infers, alone_is, alone_sure, token_only, nothing_noted, something_noted, kept}
+use Rattle.dslx_narrow.proofs.Expressions.{TypedAs, IsTyped, HasType, sure, infers, alone_is, alone_sure, token_only, nothing_noted, something_noted, kept}
 
 -- a member's end, of a direction and a width
 abbrev pub HasPort : List End → List ℕ → Direction → ℕ → Type 0

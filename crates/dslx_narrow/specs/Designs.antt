@@ -7,7 +7,7 @@ use Rattle.xb_span.specs.declared.fault.Fault.{Fault}
 use Rattle.xb_span.specs.declared.limit.Limit.{Limit}
 use Rattle.xb_span.specs.Fault.{error_of}
 use Rattle.xb_span.specs.declared.read_error.ReadError.{ReadError}
-use Rattle.xb_span.specs.declared.read_error.ReadError.TheVariants.{Syntax, Broken, Over, OutOfMemory}
+use Rattle.xb_span.specs.declared.read_error.ReadError.TheVariants.{Syntax, Over, OutOfMemory}
 use Rattle.net_core.specs.declared.net.Chan.{Chan}
 use Rattle.net_core.specs.WellFormed.{IsNet, AreBehaviorsOf}
 use Rattle.dslx_token.specs.Lexeme.{Lexeme}

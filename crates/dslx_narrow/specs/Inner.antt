@@ -1,7 +1,7 @@
 -- Contracts of private parts.
 use Rattle.std.specs.Prelude.{ℕ, ◌≡◌, List, Option, Some, Err}
 use Rattle.xb_span.specs.declared.read_error.ReadError.{ReadError}
-use Rattle.xb_span.specs.declared.read_error.ReadError.TheVariants.{Syntax, Broken, Over, OutOfMemory}
+use Rattle.xb_span.specs.declared.read_error.ReadError.TheVariants.{OutOfMemory}
 use Rattle.dslx_narrow_tree.specs.declared.proc.Module.{Module}
 use Rattle.dslx_narrow.specs.Designs.{ReadsText, refusal_of}
 

@@ -1,4 +1,4 @@
-ghost use Rattle.std.specs.Prelude.{◌≡◌, ◌<◌, ◌^◌, Ok, Some, None, length, IfOk, IfErr};
+ghost use Rattle.std.specs.Prelude.{◌≡◌, ◌<◌, ◌^◌, Ok, None, length, IfOk, IfErr};
 ghost use Rattle.std.specs.Option.{option_copied};
 ghost use Rattle.dslx_narrow.specs.Designs.{IsDesign, IsDesignOf, IsRefusal, ReadsText, refusal_of};
 ghost use Rattle.dslx_narrow.specs.Inner.{IsUnread, IsRefusalOf};

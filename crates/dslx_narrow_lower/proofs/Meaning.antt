@@ -1,5 +1,5 @@
 -- A lowered proc means what the proc means.
-use Rattle.std.proofs.Common.{◌≡◌, ℕ, zero, suc, ◌+◌, ◌<◌, ◌≤◌, ◌^◌, Bool, true, false, List, [], ◌∷◌, ◌++◌, length, map, Option, Some, None, refl, sym, ap, ◌∙◌, subst, arith}
+use Rattle.std.proofs.Common.{◌≡◌, ℕ, zero, suc, ◌+◌, ◌<◌, ◌^◌, Bool, true, false, List, [], ◌∷◌, ◌++◌, length, Option, Some, None, refl, sym, ap, ◌∙◌, arith}
 use Rattle.std.specs.Prelude.{slice_get, option_map, if◌then◌else◌, nat_lt}
 use Rattle.std.specs.Str.{bytes_eq}
 use Rattle.std.proofs.lemmas.List.{length-append}
@@ -7,8 +7,8 @@ use Rattle.xb_bits.specs.Word.{Word, word}
 use Rattle.xb_span.specs.declared.span.Span.{Span}
 use Rattle.net_core.specs.Behavior.{Receive, Give}
 use Rattle.dslx_narrow_tree.specs.Names.{callee_of}
-use Rattle.dslx_narrow_tree.specs.Values.{Binding, Environment, value_bound, number_of, call_value, sum_of, value_of, value_step, first_part, second_part, both, then_bind, matched, match_step, state_value}
-use Rattle.dslx_narrow_tree.specs.Activation.{Doing, Values, Receives, Sends, doing_of, Course, stopped, after, Rest, go_on, bind_value, word_in, give_value, receive_word, do_one, do_statement, last_value, do_all, Effect, effects_in, statement_effects, effects_of}
+use Rattle.dslx_narrow_tree.specs.Values.{Environment, value_bound, call_value, sum_of, value_of, value_step, first_part, second_part, both, then_bind, matched, match_step}
+use Rattle.dslx_narrow_tree.specs.Activation.{Doing, Values, Receives, Sends, doing_of, Course, after, Rest, go_on, bind_value, word_in, give_value, receive_word, do_one, do_statement, last_value, do_all}
 use Rattle.dslx_narrow_tree.specs.declared.callee.Callee.{Callee}
 use Rattle.dslx_narrow_tree.specs.declared.callee.Callee.TheVariants.{Join, Recv, Send, Unknown}
 use Rattle.dslx_narrow_tree.specs.declared.ident.Ident.{Ident}
@@ -28,7 +28,7 @@ use Rattle.dslx_narrow_core.specs.declared.design.Shape.{Shape}
 use Rattle.dslx_narrow_core.specs.declared.design.CoreExpr.{CoreExpr}
 use Rattle.dslx_narrow_core.specs.declared.design.CoreExpr as core
 use Rattle.dslx_narrow_core.proofs.Lemmas.Folds as folds
-use Rattle.dslx_narrow_lower.specs.Lowering.{slot_of, slot_core, number_core, call_core, core_of, core_step, shape_of, shape_step, names_behind, names_step, doing_core, statement_core, names_after, steps_of, names_at_end, last_core}
+use Rattle.dslx_narrow_lower.specs.Lowering.{slot_of, slot_core, call_core, core_of, core_step, shape_of, shape_step, names_behind, names_step, doing_core, statement_core, names_after, steps_of, names_at_end, last_core}
 use Rattle.dslx_narrow_tree.proofs.Lemmas.Trees as trees
 
 -- the names and the values of an environment

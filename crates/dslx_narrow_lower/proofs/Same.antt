@@ -1,13 +1,10 @@
 -- The checked design of a proc has the proc's network and does what the proc does.
-use Rattle.std.proofs.Common.{◌≡◌, ℕ, List, [], ◌∷◌, ◌++◌, map, Option, Some, None, refl, sym, ap, ◌∙◌}
+use Rattle.std.proofs.Common.{◌≡◌, ℕ, List, [], ◌∷◌, ◌++◌, map, refl, sym, ap, ◌∙◌}
 use Rattle.std.specs.Prelude.{slice_get}
 use Rattle.xb_bits.specs.Word.{Word}
 use Rattle.xb_value.specs.declared.value.Value.{Value}
-use Rattle.net_core.specs.declared.net.Net.{Net}
-use Rattle.net_core.specs.declared.net.Site.{Site}
-use Rattle.net_core.specs.Behavior.{Behavior, Turn}
 use Rattle.dslx_narrow_tree.specs.Values.{state_value}
-use Rattle.dslx_narrow_tree.specs.Activation.{Doing, Values, Receives, Sends, doing_of, Course, activation, opening_of, Effect, effects_in, statement_effects, effects_of, turn_or_skip, state_or_unit}
+use Rattle.dslx_narrow_tree.specs.Activation.{Doing, Values, Receives, Sends, doing_of, Course, activation, opening_of, effects_in, statement_effects, effects_of, turn_or_skip, state_or_unit}
 use Rattle.dslx_narrow_tree.specs.Network.{channel_of, site_of, state_type, network_of_proc, behavior_of}
 use Rattle.dslx_narrow_tree.specs.declared.proc.Proc.{Proc}
 use Rattle.dslx_narrow_tree.specs.declared.proc.Stmt.{Stmt}
@@ -15,7 +12,6 @@ use Rattle.dslx_narrow_tree.specs.declared.proc.Stmt.TheVariants.{Let, Bare}
 use Rattle.dslx_narrow_tree.specs.declared.expr.Expr.{Expr}
 use Rattle.dslx_narrow_core.specs.Evaluation.{step_sites, sites_in, core_activation, behavior_of_core}
 use Rattle.dslx_narrow_core.specs.Networks.{network_of_core}
-use Rattle.dslx_narrow_core.specs.declared.design.Core.{Core}
 use Rattle.dslx_narrow_core.specs.declared.design.Shape.{Shape}
 use Rattle.dslx_narrow_core.specs.declared.design.Shape as shape
 use Rattle.dslx_narrow_lower.specs.Lowering.{design_of, doing_core, statement_core, names_after, steps_of, shape_of}

@@ -1,4 +1,4 @@
-ghost use Rattle.std.specs.Prelude.{◌≡◌, ◌∷◌, [], map, IfOk};
+ghost use Rattle.std.specs.Prelude.{◌≡◌, [], map, IfOk};
 ghost use Rattle.dslx_narrow_tree.specs.Network.{chan_of, kind_of, plain_type, network_of_proc, behavior_of};
 ghost use Rattle.dslx_narrow_core.specs.Evaluation.{behavior_of_core};
 ghost use Rattle.dslx_narrow_core.specs.Networks.{network_of_core};

@@ -1,4 +1,4 @@
-ghost use Rattle.std.specs.Prelude.{◌≡◌, List, ℕ, IfOk, OnOk};
+ghost use Rattle.std.specs.Prelude.{◌≡◌, List, ℕ, IfOk};
 ghost use Rattle.dslx_narrow_tree.specs.Network.{channel_of};
 ghost use Rattle.dslx_narrow_tree.specs.declared.proc.Proc.{Proc};
 ghost use Rattle.dslx_narrow_lower.specs.Lowering.{steps_of, names_at_end};

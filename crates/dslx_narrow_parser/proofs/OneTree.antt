@@ -1,6 +1,5 @@
 -- Tokens read as one tree at most.
 use Rattle.std.proofs.Common.{◌≡◌, ℕ, zero, suc, ◌<◌, ◌≤◌, Option, length, arith, ◌∷◌, List, ◌++◌, [], refl, ap, sym, ◌∙◌, subst}
-use Rattle.std.proofs.lemmas.List.{append-nil}
 use Rattle.std.specs.Prelude.{Result, Ok, Err, None, Some, IfErr, IfOk, IfSome, MatchResult, slice_get}
 use Rattle.grammar.specs.declared.table.Symbol.{Symbol}
 use Rattle.grammar.specs.Derivation.{Derives, IsDerivation, IsSentence, start_of}

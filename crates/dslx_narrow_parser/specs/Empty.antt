@@ -1,5 +1,5 @@
 -- Nothing built, and what stands for a part that isn't there, as never happens by the grammar.
-use Rattle.std.specs.Prelude.{List, [], None}
+use Rattle.std.specs.Prelude.{[], None}
 use Rattle.std.proofs.Common.{lit≤}
 use Rattle.xb_span.specs.declared.span.Span.{Span}
 use Rattle.dslx_narrow_tree.specs.declared.expr.Expr.{Expr}
@@ -12,7 +12,6 @@ use Rattle.dslx_narrow_tree.specs.declared.proc.Config.{Config}
 use Rattle.dslx_narrow_tree.specs.declared.proc.Direction.TheVariants as directions
 use Rattle.dslx_narrow_tree.specs.declared.proc.End.{End}
 use Rattle.dslx_narrow_tree.specs.declared.proc.Next.{Next}
-use Rattle.dslx_narrow_tree.specs.declared.proc.Proc.{Proc}
 use Rattle.dslx_narrow_tree.specs.declared.type_expr.TypeExpr.{TypeExpr}
 use Rattle.dslx_narrow_tree.specs.declared.type_expr.TypeExpr.TheVariants as types
 use Rattle.dslx_narrow_tree.specs.declared.width.Width.{Width}

@@ -1,5 +1,5 @@
 -- Which tokens read as which tree, and how the others are refused.
-use Rattle.std.specs.Prelude.{◌≡◌, ◌<◌, ◌≤◌, ℕ, List, map, Option, None, Some, Result, Ok, Err, slice_get}
+use Rattle.std.specs.Prelude.{◌≡◌, ◌<◌, ◌≤◌, ℕ, List, map, None, Some, Result, Ok, Err, slice_get}
 use Rattle.grammar.specs.Derivation.{IsSentence}
 use Rattle.grammar.specs.Steps.{steps_of}
 use Rattle.grammar.specs.Tree.{Forest, IsParseTree}

@@ -1,5 +1,5 @@
 -- What each rule of the grammar makes of the parts that its symbols left on the stacks.
-use Rattle.std.specs.Prelude.{ℕ, List, [], ◌∷◌, ◌+◌, ◌-◌, ◌^◌, min, drop, take, reverse, slice_index_or, Option, None, Some}
+use Rattle.std.specs.Prelude.{List, ◌∷◌, ◌+◌, min, drop, take, reverse, None, Some}
 use Rattle.xb_span.specs.declared.span.Span.{Span}
 use Rattle.dslx_narrow_tree.specs.declared.expr.Expr.{Expr}
 use Rattle.dslx_narrow_tree.specs.declared.expr.Expr.TheVariants as exprs

@@ -1,6 +1,6 @@
 //! What the rules of statements, blocks and procs make.
 
-ghost use Rattle.std.specs.Prelude.{◌≡◌, drop, IfOk, OnOk};
+ghost use Rattle.std.specs.Prelude.{◌≡◌, OnOk};
 ghost use Rattle.dslx_narrow_parser.specs.Rules.{bits_type, block_of, config_of, end_of, last_value, let_of, more, next_of, no_statements, proc_of, skip, start, statement_of, unit_type};
 
 use crate::state::{NOWHERE, State, join, no_block, no_config, no_ident, no_next, no_width};

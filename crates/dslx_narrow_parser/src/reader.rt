@@ -1,7 +1,7 @@
 //! Reading the tokens of a text.
 
-ghost use Rattle.std.specs.Prelude.{◌≡◌, ◌≤◌, ◌<◌, ℕ, List, None, Some, length, map, slice_get, IfErr, IfOk, IfSome, MatchResult};
-ghost use Rattle.grammar.specs.Answer.{EndsWith, IfFault};
+ghost use Rattle.std.specs.Prelude.{◌≡◌, ◌≤◌, ◌<◌, ℕ, None, Some, length, map, slice_get, IfErr, IfOk, IfSome, MatchResult};
+ghost use Rattle.grammar.specs.Answer.{EndsWith};
 ghost use Rattle.grammar.specs.Derivation.{IsDerivation, IsSentence};
 ghost use Rattle.lists.specs.Fault.{IsFirstFault};
 ghost use Rattle.dslx_nesting.specs.Nesting.{first_past};

@@ -1,4 +1,4 @@
-ghost use Rattle.std.specs.Prelude.{◌≡◌, ℕ, [], ◌∷◌, drop, take, reverse, IfOk, OnOk};
+ghost use Rattle.std.specs.Prelude.{◌≡◌, [], ◌∷◌, drop, take, reverse, IfOk, OnOk};
 ghost use Rattle.dslx_narrow_parser.specs.Inner.Tops.{top_or};
 
 use std::alloc::{AllocError, Global};

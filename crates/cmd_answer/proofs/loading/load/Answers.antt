@@ -1,4 +1,4 @@
-use Rattle.std.proofs.Common.{rules, arith}
+use Rattle.std.proofs.Common.{rules}
 use Rattle.cmd_answer.proofs.Loaded.{loaded_whole, loaded_past_limit}
 use Rattle.cmd_answer.proofs.loading.load.Goals as goal
 

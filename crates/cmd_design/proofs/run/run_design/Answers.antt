@@ -1,4 +1,4 @@
-use Rattle.std.proofs.Common.{[], ◌∷◌, List, ℕ, Err, sym, subst}
+use Rattle.std.proofs.Common.{[], ◌∷◌, Err, subst}
 use Rattle.cmd_answer.specs.Done.{IsDone, IsRefused}
 use Rattle.cmd_answer.specs.Events.{file_events}
 use Rattle.cmd_answer.specs.Loads.{Loads}

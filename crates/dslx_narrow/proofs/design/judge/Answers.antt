@@ -1,7 +1,6 @@
-use Rattle.std.proofs.Common.{◌≡◌, ◌∷◌, [], ℕ, ◌≤◌, Some, None, sym, ap, ◌∙◌, subst}
+use Rattle.std.proofs.Common.{◌≡◌, Some, sym, ap, ◌∙◌, subst}
 use Rattle.std.specs.Prelude.{slice_get}
 use Rattle.std.specs.Option.{option_copied}
-use Rattle.net_core.specs.declared.net.Chan.{Chan}
 use Rattle.dslx_narrow_tree.specs.Checking.{top_of}
 use Rattle.dslx_narrow_tree.specs.Network.{net_limit}
 use Rattle.dslx_narrow_core.specs.Networks.{IsRefusedBy}

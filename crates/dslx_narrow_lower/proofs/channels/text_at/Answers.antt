@@ -1,4 +1,4 @@
-use Rattle.std.proofs.Common.{ℕ, zero, suc, ◌≡◌, List, [], ◌∷◌, Option, None, map, get_or, refl}
+use Rattle.std.proofs.Common.{ℕ, zero, suc, ◌≡◌, List, [], ◌∷◌, None, map, get_or, refl}
 use Rattle.std.specs.List.{slice_get}
 use Rattle.dslx_narrow_tree.specs.Checking.{name_of_ident}
 use Rattle.dslx_narrow_tree.specs.declared.ident.Ident.{Ident}

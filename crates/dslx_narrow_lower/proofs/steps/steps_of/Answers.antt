@@ -1,7 +1,7 @@
 use Rattle.std.proofs.Common.{◌≡◌, ◌++◌, ◌∷◌, ◌+◌, [], drop, refl, sym, ap, ◌∙◌, subst, arith, append_assoc}
 use Rattle.std.proofs.lemmas.List.{append-nil, drop_all}
 use Rattle.dslx_narrow_tree.specs.Network.{channel_of}
-use Rattle.dslx_narrow_lower.specs.Lowering.{steps_of, names_after, names_at_end, statement_core}
+use Rattle.dslx_narrow_lower.specs.Lowering.{steps_of, names_after}
 use Rattle.dslx_narrow_lower.specs.Inner.{IsSlots, StepsOn}
 use Rattle.dslx_narrow_lower.proofs.Deeds.{at_item}
 use Rattle.dslx_narrow_lower.proofs.steps.steps_of.Goals as goal

@@ -1,4 +1,4 @@
-use Rattle.std.proofs.Common.{◌≡◌, ◌++◌, ℕ, List, drop}
+use Rattle.std.proofs.Common.{ℕ, List, drop}
 use Rattle.dslx_narrow_tree.specs.Network.{channel_of}
 use Rattle.dslx_narrow_tree.specs.declared.proc.Proc.{Proc}
 use Rattle.dslx_narrow_lower.specs.Inner.{IsSlots, KnowsChannels, StepsOn}

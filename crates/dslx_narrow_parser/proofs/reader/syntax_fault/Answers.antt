@@ -1,4 +1,4 @@
-use Rattle.std.proofs.Common.{refl, subst, ap, arith, length, ◌≡◌}
+use Rattle.std.proofs.Common.{refl, subst, ap, arith, length}
 use Rattle.std.specs.Prelude.{slice_get}
 use Rattle.grammar.specs.Derivation.{IsSentence}
 use Rattle.lists.specs.Fault.{IsFirstFault}
