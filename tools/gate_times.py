@@ -5,8 +5,9 @@ usage: gate_times.py [NAME..]
 
 It runs `rt ci --anew`, which proves and tries all from nothing, watches the prover's processes, and writes
 docs/GATE_TIMES.md: the seconds of processor time that each crate's proof, its tests and its must-fail edits took. With
-names it runs `rt ci --anew NAME..` (these crates and those below them) and prints the page instead. Processor time
-depends little on what else the machine does; the time by the clock does. It ends with the status of `rt ci`.
+names it runs `rt ci --anew NAME..` (these crates and those below them) and writes anew the rows of the page that it
+measured. Processor time depends little on what else the machine does; the time by the clock does. It ends with the status
+of `rt ci`.
 """
 import collections
 import os
@@ -16,6 +17,7 @@ import time
 
 TICKS = os.sysconf('SC_CLK_TCK')
 KINDS = ('check', 'tests', 'edits')
+PAGE = 'docs/GATE_TIMES.md'
 
 
 def processes():
@@ -76,27 +78,44 @@ def watch(command):
     return gate.returncode, time.monotonic() - start, totals
 
 
-def page(clock, totals):
-    crates = sorted({crate for crate, _ in totals}, key=lambda crate: -sum(totals[crate, kind] for kind in KINDS))
-    rows = [(crate, *(totals[crate, kind] for kind in KINDS)) for crate in crates]
-    rows.append(('all', *(sum(row[i] for row in rows) for i in (1, 2, 3))))
+def rows_of(totals):
+    """The rows of a run: a crate, and its seconds of each kind."""
+    return {crate: [round(totals[crate, kind]) for kind in KINDS] for crate, _ in totals}
+
+
+def rows_of_page(text):
+    """The rows that a page shows."""
+    cells = (line.strip('| ').split(' | ') for line in text.splitlines() if line.startswith('| '))
+    return {row[0]: [int(cell) for cell in row[1:4]] for row in cells if row[1].isdigit() and row[0] != 'all'}
+
+
+def page(clock, rows):
+    ordered = sorted(rows.items(), key=lambda row: -sum(row[1]))
+    ordered.append(('all', [sum(times[i] for times in rows.values()) for i in range(len(KINDS))]))
     out = ['# What the gate costs', '',
            'Written by tools/gate_times.py: seconds of processor time of a run from nothing. A crate whose check passes 180',
-           'seconds is to be split or made cheaper.', '',
-           '%d processors; %d minutes by the clock.' % (os.cpu_count(), clock / 60), '',
+           'seconds is to be split or made cheaper.', '', clock, '',
            '| crate | check | tests | edits | all |', '|---|---|---|---|---|']
-    out += ['| %s | %d | %d | %d | %d |' % (*row, sum(row[1:])) for row in rows]
+    out += ['| %s | %d | %d | %d | %d |' % (crate, *times, sum(times)) for crate, times in ordered]
     return '\n'.join(out) + '\n'
+
+
+def clock_of_page(text):
+    """The line of a page that says how long its run of all crates took."""
+    return next(line for line in text.splitlines() if line.endswith(' by the clock.'))
 
 
 def main():
     os.chdir(os.path.join(os.path.dirname(os.path.abspath(__file__)), '..'))
     names = sys.argv[1:]
     status, clock, totals = watch(['rt', 'ci', '--anew', *names])
+    rows = rows_of(totals)
+    line = '%d processors; the last run of all crates took %d minutes by the clock.' % (os.cpu_count(), clock / 60)
     if names:
-        print(page(clock, totals))
-    else:
-        open('docs/GATE_TIMES.md', 'w', encoding='utf-8').write(page(clock, totals))
+        shown = open(PAGE, encoding='utf-8').read()
+        rows = {**rows_of_page(shown), **rows}
+        line = clock_of_page(shown)
+    open(PAGE, 'w', encoding='utf-8').write(page(line, rows))
     sys.exit(status)
 
 

@@ -64,6 +64,3 @@ pub fn steps(alloc: Global, productions: &[u16]) -> Result<Vec<Step>, AllocError
 {
     grammar::steps(alloc, &grammar(), productions)
 }
-
-#[cfg(test)]
-mod tests;

@@ -143,6 +143,3 @@ fn push_reversed(stack: &mut Vec<Symbol>, symbols: &[Symbol]) -> Result<(), Allo
     }
     Ok(())
 }
-
-#[cfg(test)]
-mod tests;

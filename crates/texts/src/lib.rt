@@ -13,6 +13,3 @@ pub use lines::{Line, Lines};
 pub use name::Name;
 pub use numbers::{digit_value, number, push_decimal, push_hex};
 pub use words::{begins_word, is_utf8, is_word, is_word_byte};
-
-#[cfg(test)]
-mod tests;

@@ -17,8 +17,6 @@ mod memory_files;
 mod memory_sink;
 mod sink;
 mod stream_sink;
-#[cfg(test)]
-mod tests;
 
 pub use asked::Asked;
 pub use files::{FILE_LIMIT, Files, LoadError};

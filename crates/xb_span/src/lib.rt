@@ -15,6 +15,3 @@ pub use limit::{Limit, What};
 pub use piece::Piece;
 pub use read_error::ReadError;
 pub use span::{Rule, Span};
-
-#[cfg(test)]
-mod tests;

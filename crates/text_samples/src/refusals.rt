@@ -1,9 +1,9 @@
 //! What messages print.
 
-use super::*;
 use std::alloc::AllocError;
 use std::fmt::{self, Write};
 use std::test::Fail;
+use xb_span::{Limit, ReadError, Rule, Span, What};
 
 #[test]
 fn a_limit_prints_its_numbers(rt: HostRuntime) -> Result<(), Fail> {

@@ -1,11 +1,13 @@
-use crate::{
-    FILE_LIMIT, Failed, FaultFreeFiles, Files, HostFiles, LoadError, MemFile, MemFiles, MemSink,
-    Sink, StreamSink,
-};
+//! Files and sinks, in memory and real.
+
 use std::alloc::Global;
 use std::fs;
 use std::io::{self, Write};
 use std::test::Fail;
+use xb_io::{
+    FILE_LIMIT, Failed, FaultFreeFiles, Files, HostFiles, LoadError, MemFile, MemFiles, MemSink,
+    Sink, StreamSink,
+};
 
 fn two_files(alloc: Global) -> Result<Vec<MemFile>, Fail> {
     Ok(vec![in alloc;

@@ -1,7 +1,7 @@
-//! What no clause says.
+//! Printed numbers and names.
 
-use super::*;
 use std::test::Fail;
+use texts::{Name, push_decimal, push_hex};
 
 #[test]
 fn numbers_are_printed(rt: HostRuntime) -> Result<(), Fail> {

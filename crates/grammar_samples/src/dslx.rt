@@ -1,6 +1,9 @@
-use super::*;
-use crate::kind::*;
-use crate::production;
+//! The grammar of DSLX: derivations of constants, functions, procs and operators, and places of faults.
+
+use dslx_grammar::kind::*;
+use dslx_grammar::{parse, parse_tree, production};
+use grammar::ParseError;
+use std::alloc::Global;
 use std::test::Fail;
 
 /// The place of the fault, or the length where there is none.

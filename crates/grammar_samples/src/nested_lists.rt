@@ -3,11 +3,9 @@
 ghost use Rattle.std.specs.Prelude.{◌≡◌};
 ghost use Rattle.grammar.specs.Ll1.{IsLl1};
 
-use super::*;
-use crate::bottom_up::{Step, steps};
-use crate::table::Symbol::{Nonterminal, Terminal};
-use crate::table::{Production, Span};
-use crate::tree::parse_tree;
+use grammar::Symbol::{Nonterminal, Terminal};
+use grammar::{Grammar, ParseError, Production, Span, Step, Symbol, parse, parse_tree, steps};
+use std::alloc::Global;
 use std::test::Fail;
 
 const NAME: u8 = 0;
@@ -99,7 +97,7 @@ static SPANS: [Span; 4] = [
     Span { first: 5, end: 7 },
 ];
 
-#[tactic(auto, unfolding(crate::specs::Ll1::is_ll1))]
+#[tactic(auto, unfolding(grammar::specs::Ll1::is_ll1))]
 fn lists() -> Grammar<'static>
     ensures valid { IsLl1 result }
     ensures end { result.end ≡ END }
