@@ -1,0 +1,44 @@
+//! What an expression of operators and operands makes.
+
+ghost use Rattle.std.specs.Prelude.{◌≡◌, drop, reverse, IfOk, OnOk};
+ghost use Rattle.dslx_operator_rules.specs.Operators.{chain, links_of};
+
+use dslx_atom_rules::pop_expr;
+use dslx_operators::{Link, Operand, tree};
+use dslx_parts::Parts;
+use dslx_tree::Binary;
+use std::alloc::{AllocError, Global};
+
+/// Operands with operators between them.
+pub fn chain(parts: &mut Parts, alloc: Global) -> Result<(), AllocError>
+    ensures { OnOk result (parts.new ≡ chain parts.old) }
+{
+    let count = parts.counts.pop_or(0);
+    let links = take_links(parts, alloc, count)?;
+    let (span, expr) = pop_expr(parts);
+    let Operand { span, expr } = tree(alloc, Operand { span, expr }, links)?;
+    parts.places.push(span)?;
+    parts.exprs.push(expr)
+}
+
+/// Takes the last so many operands with the operators before them, the last one first.
+fn take_links(parts: &mut Parts, alloc: Global, count: usize) -> Result<Vec<Link>, AllocError>
+    ensures links { IfOk result (λ links. reverse links.items
+        ≡ links_of count parts.old.operators parts.old.places parts.old.exprs) }
+    ensures rest { OnOk result (parts.new ≡ record parts.old {
+      operators = drop count parts.old.operators;
+      places = drop count parts.old.places;
+      exprs = drop count parts.old.exprs;
+    }) }
+{
+    let mut links = Vec::new(alloc);
+    'takes: for _ in 0..count {
+        let operator = parts.operators.pop_or(Binary::Mul);
+        let (span, expr) = pop_expr(parts);
+        links.push(Link {
+            operator,
+            operand: Operand { span, expr },
+        })?;
+    }
+    Ok(links)
+}
