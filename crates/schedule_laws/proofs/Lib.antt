@@ -1,0 +1,2 @@
+mod One
+mod Packages

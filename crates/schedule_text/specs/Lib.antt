@@ -1,0 +1,4 @@
+-- the text of schedules
+pub mod Text
+-- the line that says why there is no schedule
+pub mod Infeasible
