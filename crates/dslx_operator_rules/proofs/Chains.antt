@@ -1,10 +1,7 @@
 -- Taking the links of a chain, from the top of the stacks.
 use Rattle.std.proofs.Common.{◌≡◌, ◌<◌, ◌+◌, ◌-◌, ℕ, suc, List, [], ◌∷◌, ◌++◌, drop, reverse, ap, sym, ◌∙◌, arith}
 use Rattle.std.proofs.lemmas.List.{append_assoc, drop-drop, reverse-append}
-use Rattle.dslx_tree.specs.declared.operator.Binary.{Binary}
 use Rattle.dslx_tree.specs.declared.operator.Binary.TheVariants.{Mul}
-use Rattle.dslx_tree.specs.declared.expr.Expr.{Expr}
-use Rattle.xb_span.specs.declared.span.Span.{Span}
 use Rattle.dslx_operators.specs.declared.chain.Link.{Link}
 use Rattle.dslx_parts.specs.declared.parts.Parts.{Parts}
 use Rattle.dslx_parts.specs.Tops.{top_or}
