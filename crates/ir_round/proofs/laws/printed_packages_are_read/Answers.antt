@@ -1,0 +1,18 @@
+use Rattle.std.proofs.Common.{◌≡◌, Result, Ok, subst}
+use Rattle.ir_tree.specs.declared.package.Package.{Package}
+use Rattle.xb_span.specs.declared.read_error.ReadError.{ReadError}
+use Rattle.ir_text.specs.Lines.{package_text}
+use Rattle.ir_parser.specs.Texts.{GivesPackage}
+use Rattle.ir_round.proofs.VerifiedPackages.{printed_reads}
+use Rattle.ir_round.proofs.laws.printed_packages_are_read.Goals as goal
+
+pub returns-clause-read : goal.returns-clause-read
+returns-clause-read c = printed_reads
+
+-- what two readings are is one package
+one_of : (p q : Package) → ◌≡◌ {A = Result Package ReadError} (Ok p) (Ok q) → p ≡ q
+one_of p q e = cc
+
+pub returns-clause-apart : goal.returns-clause-apart
+returns-clause-apart c = λ p q h writable k also e.
+    one_of p q (c.one_package.ensures (package_text q) (Ok p) (Ok q) (subst (λ text. GivesPackage text (Ok p)) e (printed_reads p h writable)) (printed_reads q k also))
