@@ -1,0 +1,13 @@
+mod Core
+mod Says
+mod Grammar
+mod Words
+mod Spelling
+mod Phrases
+mod Whole
+mod Cuts
+mod Texts
+mod Placed
+mod Resolved
+mod Writing
+mod Round

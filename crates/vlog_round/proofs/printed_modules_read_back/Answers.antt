@@ -1,0 +1,5 @@
+use Rattle.vlog_round.proofs.Round.{round}
+use Rattle.vlog_round.proofs.printed_modules_read_back.Goals as goal
+
+pub returns : goal.returns
+returns c = round

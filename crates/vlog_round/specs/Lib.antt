@@ -1,0 +1,2 @@
+-- modules whose names are names of texts
+pub mod Names
