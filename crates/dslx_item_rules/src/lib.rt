@@ -1,0 +1,11 @@
+//! What the rules of statements, blocks, items and procs make of the parts of their symbols.
+//!
+//! The cost of each call is that of the lists that it takes.
+#![tactic(auto)]
+
+mod blocks;
+mod items;
+mod procs;
+mod rule;
+
+pub use rule::{ItemRule, ProcRule, reduce_item, reduce_proc};
