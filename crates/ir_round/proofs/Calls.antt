@@ -33,7 +33,8 @@ use Rattle.ir_parser.specs.declared.state.State.{State}
 use Rattle.ir_parser.specs.Building.{shifted}
 use Rattle.ir_parser.specs.Named.{numbered, place_in}
 use Rattle.ir_parser.specs.Roles.{role_of}
-use Rattle.ir_round.specs.Writable.{attributes_held, constant_held, is_held, is_one_word}
+use Rattle.ir_round.specs.Writable.{is_held, is_one_word}
+use Rattle.ir_round.proofs.Held.{attributes_held, constant_held}
 use Rattle.ir_round.proofs.Walks.{Due, Goes, Point, Turns, a_token, a_tree, complete, complete_then, due_of, lexeme_of, stays, token_then}
 use Rattle.ir_round.proofs.Words.{number_front_is, number_kind, number_shown, word_front, word_shown}
 use Rattle.ir_round.proofs.OpWords.{id_part_is, name_kind, op_id, op_part_is, word_is_one}

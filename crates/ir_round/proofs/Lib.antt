@@ -1,3 +1,4 @@
+mod Held
 mod Walks
 mod Words
 mod OpWords
@@ -17,4 +18,5 @@ mod Places
 mod Classes
 mod VerifiedNodes
 mod Anywhere
+mod Shortness
 mod VerifiedPackages

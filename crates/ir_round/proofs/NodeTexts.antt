@@ -22,7 +22,7 @@ use Rattle.ir_parser.specs.declared.state.State.{State}
 use Rattle.ir_parser.specs.Building.{shifted}
 use Rattle.ir_parser.specs.Empty.{join}
 use Rattle.ir_parser.specs.Rules.{op_or}
-use Rattle.ir_round.specs.Writable.{attributes_held, type_held}
+use Rattle.ir_round.proofs.Held.{attributes_held, type_held}
 use Rattle.ir_round.proofs.Walks.{Due, Goes, Point, a_tree, complete, complete_then, a_token, lexeme_of, stays, token_then}
 use Rattle.ir_round.proofs.Words.{word_front, word_shown}
 use Rattle.ir_round.proofs.OpWords.{id_said_is, op_id_kind, op_id_word, op_part_is}

@@ -19,7 +19,8 @@ use Rattle.ir_text.specs.Lines.{channel_text, lines_text, node_text, package_tex
 use Rattle.ir_parser.specs.declared.state.State.{State}
 use Rattle.ir_parser.specs.Building.{package_of}
 use Rattle.ir_parser.specs.Rules.{places_made, proc_made, proc_of, token_of}
-use Rattle.ir_round.specs.Writable.{constant_held, is_one_word, type_held}
+use Rattle.ir_round.specs.Writable.{is_one_word}
+use Rattle.ir_round.proofs.Held.{constant_held, type_held}
 use Rattle.ir_round.proofs.Walks.{Due, Goes, IsReadTo, Point, a_token, a_tree, at_once, beginning, complete, complete_then, walk_reads}
 use Rattle.ir_round.proofs.Lists.{all_taken, left_over, onto, taken}
 use Rattle.ir_round.proofs.Steps.{behind, by_rule, close_then, colon, comma, equals, keyword_then, left_brace, left_parenthesis, mark_then, open_then, right_brace, right_parenthesis, spot, the_init, the_next, the_package, the_proc, the_st}

@@ -22,7 +22,8 @@ use Rattle.ir_typed.proofs.Tests.{type_induction}
 use Rattle.ir_text.specs.Parts.{sizes_text, type_step, type_text}
 use Rattle.ir_parser.specs.declared.state.State.{State}
 use Rattle.ir_parser.specs.Rules.{sized, sized_step}
-use Rattle.ir_round.specs.Writable.{all_true, are_held, is_held, is_short, type_held, type_held_step}
+use Rattle.ir_round.specs.Writable.{all_true, is_held}
+use Rattle.ir_round.proofs.Held.{are_held, is_short, type_held, type_held_step}
 use Rattle.ir_round.proofs.Walks.{Due, a_tree, complete, Goes, Point, complete_then}
 use Rattle.ir_round.proofs.Words.{ends_words}
 use Rattle.ir_round.proofs.Lists.{left_over, length_onto, one_more, onto, onto_twice, taken}

@@ -18,7 +18,8 @@ use Rattle.ir_tree.specs.declared.constant.Constant.TheFolds.{fold-roll-Constant
 use Rattle.ir_verify.specs.Types.{max_of}
 use Rattle.ir_text.specs.Parts.{constant_step, constant_text}
 use Rattle.ir_parser.specs.declared.state.State.{State}
-use Rattle.ir_round.specs.Writable.{all_true, constant_held, constant_held_step, is_held, is_short}
+use Rattle.ir_round.specs.Writable.{all_true, is_held}
+use Rattle.ir_round.proofs.Held.{constant_held, constant_held_step, is_short}
 use Rattle.ir_round.proofs.Walks.{complete_then, Point}
 use Rattle.ir_round.proofs.Words.{ends_words}
 use Rattle.ir_round.proofs.Lists.{left_over, one_more, onto, taken}

@@ -30,7 +30,7 @@ use Rattle.ir_typed.specs.Typed.{none_broken}
 use Rattle.ir_typed.proofs.Checked.{both_true, not_not_true, parts_not}
 use Rattle.ir_text.specs.Parts.{node_name}
 use Rattle.ir_parser.specs.Named.{place_in}
-use Rattle.ir_round.specs.Writable.{attributes_held, is_short, node_held, type_held}
+use Rattle.ir_round.proofs.Held.{attributes_held, is_short, node_held, type_held}
 use Rattle.ir_round.proofs.Lists.{onto}
 use Rattle.ir_round.proofs.OpWords.{ids_same}
 use Rattle.ir_round.proofs.TypeTexts.{short_below}

@@ -1,5 +1,5 @@
 -- A verified package that can be written can be read.
-use Rattle.std.proofs.Common.{◌≡◌, ◌<◌, ◌≤◌, ℕ, zero, suc, ◌+◌, ◌-◌, ◌^◌, min, Bool, true, false, ◌&&◌, List, [], ◌∷◌, ◌++◌, length, IsTrue, Some, Ok, refl, sym, ap, subst, ◌∙◌, arith}
+use Rattle.std.proofs.Common.{◌≡◌, ◌<◌, ◌≤◌, ℕ, zero, suc, ◌+◌, ◌-◌, ◌^◌, min, Bool, true, false, ◌&&◌, List, [], ◌∷◌, ◌++◌, map, length, codes, IsTrue, Some, Ok, refl, sym, ap, subst, ◌∙◌, arith}
 use Rattle.std.specs.Prelude.{nat_eq, nat_lt, not, slice_get, get_or}
 use Rattle.std.specs.List.{list_all}
 use Rattle.std.proofs.lemmas.Bool.{and_parts}
@@ -27,10 +27,12 @@ use Rattle.ir_typed.specs.Typed.{none_broken}
 use Rattle.ir_typed.proofs.Checked.{both_true, none_noted, not_not_true, parts_not}
 use Rattle.ir_typed.proofs.Lemmas.{network_fits}
 use Rattle.ir_typed.proofs.Tests.{nat_same}
-use Rattle.ir_text.specs.Lines.{package_text}
+use Rattle.ir_text.specs.Lines.{channel_text, lines_text, package_text, proc_text}
 use Rattle.ir_parser.specs.Building.{package_of, placed_of, places_of}
 use Rattle.ir_parser.specs.Texts.{GivesPackage, accepted}
-use Rattle.ir_round.specs.Writable.{IsWritable, channel_held, constant_held, is_one_word, is_short, node_held, proc_held, type_held}
+use Rattle.ir_round.specs.Writable.{IsWritable, channel_writable, is_one_word, proc_writable}
+use Rattle.ir_round.proofs.Shortness.{IsBrief, channels_brief, parts_brief, procs_brief}
+use Rattle.ir_round.proofs.Held.{channel_held, constant_held, is_short, node_held, proc_held, type_held}
 use Rattle.ir_round.proofs.Walks.{IsReadTo}
 use Rattle.ir_round.proofs.Lists.{onto}
 use Rattle.ir_round.proofs.TypeTexts.{short_below}
@@ -164,22 +166,30 @@ all_procs ir = procs_checks ir.channels [] [] 0 (nothing_seen ir.channels) ir.pr
 few_of : (n : ℕ) → IsTrue (not (nat_lt 1024 n)) → n ≤ 1024
 few_of n h = grind (arith, nat_tests)
 
-package_said : (name : List ℕ) (channels : List Channel) (p : Proc) (ps : List Proc) → IsVerified (record { name = name; channels = channels; procs = p ∷ ps }) → IsWritable (record { name = name; channels = channels; procs = p ∷ ps }) → IsPackageSaid name channels p ps
-package_said name channels p ps h writable =
+package_said : (name : List ℕ) (channels : List Channel) (p : Proc) (ps : List Proc) → IsVerified (record { name = name; channels = channels; procs = p ∷ ps }) → IsWritable (record { name = name; channels = channels; procs = p ∷ ps }) → IsBrief (package_text (record { name = name; channels = channels; procs = p ∷ ps })) → IsPackageSaid name channels p ps
+package_said name channels p ps h writable brief =
     let ir : Package = record { name = name; channels = channels; procs = p ∷ ps } in
     let a = parts_not (package_checks nowhere name) (channels_checks [] [] 0 channels ++ all_procs ir) (verified_checks ir h) in
     let b = parts_not (channels_checks [] [] 0 channels) (all_procs ir) a.1 in
     let c = parts_not (procs_checks channels [] [] 0 (nothing_seen channels) (p ∷ ps)) (counts ir) b.1 in
     let d = both_true (not (nat_lt 256 (length (p ∷ ps)))) (not (nat_lt 1024 (length channels)) && true) c.1 in
     let few = few_of (length channels) (both_true (not (nat_lt 1024 (length channels))) true d.1).0 in
-    let first = and_parts (is_one_word name && list_all channel_held channels) (list_all proc_held (p ∷ ps) && true) writable in
-    let one = and_parts (is_one_word name) (list_all channel_held channels) first.0 in
-    let held = and_parts (list_all proc_held (p ∷ ps)) true first.1 in
-    let named = channels_named channels (omega arith) one.1 (own_channels ir h) in
-    let procs = procs_said channels (onto (names_of channels) []) [] [] 0 (nothing_seen channels) (p ∷ ps) named c.0 held.0 in
+    let first = and_parts (is_one_word name && list_all channel_writable channels) (list_all proc_writable (p ∷ ps) && true) writable in
+    let one = and_parts (is_one_word name) (list_all channel_writable channels) first.0 in
+    let two = and_parts (list_all proc_writable (p ∷ ps)) true first.1 in
+    let chan_lines = lines_text (map channel_text channels) in
+    let proc_lines = lines_text (map (proc_text channels) (p ∷ ps)) in
+    let e = parts_brief (codes "package ") (name ++ (codes "\n" ++ (chan_lines ++ proc_lines))) brief in
+    let f = parts_brief name (codes "\n" ++ (chan_lines ++ proc_lines)) e.1 in
+    let g = parts_brief (codes "\n") (chan_lines ++ proc_lines) f.1 in
+    let i = parts_brief chan_lines proc_lines g.1 in
+    let chan_held = channels_brief channels one.1 i.0 in
+    let held = procs_brief channels (p ∷ ps) two.0 i.1 in
+    let named = channels_named channels (omega arith) chan_held (own_channels ir h) in
+    let procs = procs_said channels (onto (names_of channels) []) [] [] 0 (nothing_seen channels) (p ∷ ps) named c.0 held in
     record {
       one = one.0;
-      lines = channels_said [] [] 0 channels (omega arith) b.0 one.1;
+      lines = channels_said [] [] 0 channels (omega arith) b.0 chan_held;
       head = procs.0;
       tail = procs.1;
     }
@@ -192,12 +202,12 @@ gives name channels p ps h r =
     subst (λ x. GivesPackage (package_text ir) (Ok x)) same
     (accepted (placed_of built) r.is (verified_there (package_of built) (places_of built) (subst IsVerified (sym same) h)))
 
-of_procs : (name : List ℕ) (channels : List Channel) (procs : List Proc) → IsVerified (record { name = name; channels = channels; procs = procs }) → IsWritable (record { name = name; channels = channels; procs = procs }) → GivesPackage (package_text (record { name = name; channels = channels; procs = procs })) (Ok (record { name = name; channels = channels; procs = procs }))
-of_procs name channels [] h writable =
-    let first = and_parts (is_one_word name && list_all channel_held channels) (true && false) writable in
+of_procs : (name : List ℕ) (channels : List Channel) (procs : List Proc) → IsVerified (record { name = name; channels = channels; procs = procs }) → IsWritable (record { name = name; channels = channels; procs = procs }) → IsBrief (package_text (record { name = name; channels = channels; procs = procs })) → GivesPackage (package_text (record { name = name; channels = channels; procs = procs })) (Ok (record { name = name; channels = channels; procs = procs }))
+of_procs name channels [] h writable brief =
+    let first = and_parts (is_one_word name && list_all channel_writable channels) (true && false) writable in
     absurd (let never = first.1 in cc)
-of_procs name channels (p ∷ ps) h writable = gives name channels p ps h (package_reads name channels p ps (package_said name channels p ps h writable))
+of_procs name channels (p ∷ ps) h writable brief = gives name channels p ps h (package_reads name channels p ps (package_said name channels p ps h writable brief))
 
 -- the text of a verified package that can be written is that package
-pub printed_reads : (ir : Package) → IsVerified ir → IsWritable ir → GivesPackage (package_text ir) (Ok ir)
-printed_reads ir h writable = of_procs ir.name ir.channels ir.procs h writable
+pub printed_reads : (ir : Package) → IsVerified ir → IsWritable ir → length (package_text ir) < 2 ^ 32 → GivesPackage (package_text ir) (Ok ir)
+printed_reads ir h writable brief = of_procs ir.name ir.channels ir.procs h writable brief

@@ -1,5 +1,5 @@
--- What a package must be for its text to say it, besides breaking no rule: names that are words, numbers and lists as the types of
--- the code hold them, and a proc.
+-- What a package must be for its text to say it, besides breaking no rule: names that are words, numbers as the types of the code
+-- hold them, and a proc.
 use Rattle.std.specs.Prelude.{ℕ, suc, ◌^◌, ◌==◌, ◌&&◌, nat_lt, Bool, true, false, List, [], ◌∷◌, length, IsTrue}
 use Rattle.std.specs.List.{list_all}
 use Rattle.texts.specs.Words.{begins_word}
@@ -20,60 +20,52 @@ abbrev pub is_one_word : List ℕ → Bool
 is_one_word [] = false
 is_one_word (c ∷ cs) = begins_word c && (name_len (c ∷ cs) == suc (length cs))
 
--- no list is longer than memory can be
-abbrev pub is_short : {A : Type 0} → List A → Bool
-is_short xs = nat_lt (length xs) (2 ^ 64)
-
 -- a number that tokens have
 abbrev pub is_held : ℕ → Bool
 is_held n = nat_lt n (2 ^ 128)
 
-abbrev pub are_held : List ℕ → Bool
-are_held ns = list_all is_held ns && is_short ns
-
 abbrev pub all_true : List Bool → Bool
 all_true bs = list_all (λ b. b) bs
 
-abbrev pub type_held_step : IrType-F Bool → Bool
-type_held_step (IrType-F.Bits w ns) = is_held w && are_held ns
-type_held_step (IrType-F.Token ns) = are_held ns
-type_held_step (IrType-F.Tuple ts ns) = (all_true ts && is_short ts) && are_held ns
+abbrev pub type_range_step : IrType-F Bool → Bool
+type_range_step (IrType-F.Bits w ns) = is_held w && list_all is_held ns
+type_range_step (IrType-F.Token ns) = list_all is_held ns
+type_range_step (IrType-F.Tuple ts ns) = all_true ts && list_all is_held ns
 
--- the numbers and the lists of a type
-abbrev pub type_held : IrType → Bool
-type_held = fold-IrType Bool type_held_step
+-- the numbers of a type
+abbrev pub type_in_range : IrType → Bool
+type_in_range = fold-IrType Bool type_range_step
 
-abbrev pub constant_held_step : Constant-F Bool → Bool
-constant_held_step (Constant-F.Number n) = is_held n
-constant_held_step (Constant-F.Tuple cs) = all_true cs && is_short cs
-constant_held_step (Constant-F.Array cs) = all_true cs && is_short cs
+abbrev pub constant_range_step : Constant-F Bool → Bool
+constant_range_step (Constant-F.Number n) = is_held n
+constant_range_step (Constant-F.Tuple cs) = all_true cs
+constant_range_step (Constant-F.Array cs) = all_true cs
 
 -- those of a constant
-abbrev pub constant_held : Constant → Bool
-constant_held = fold-Constant Bool constant_held_step
+abbrev pub constant_in_range : Constant → Bool
+constant_in_range = fold-Constant Bool constant_range_step
 
-abbrev pub attributes_held : Attributes → Bool
-attributes_held attributes.None = true
-attributes_held (attributes.StartAndWidth start width) = is_held start && is_held width
-attributes_held (attributes.Width width) = is_held width
-attributes_held (attributes.NewBitCount width) = is_held width
-attributes_held (attributes.Cases cases default) = is_short cases
-attributes_held (attributes.Index i) = is_held i
-attributes_held (attributes.Indices o) = true
-attributes_held (attributes.Value c) = constant_held c
-attributes_held (attributes.Channel predicate c) = true
+abbrev pub attributes_in_range : Attributes → Bool
+attributes_in_range attributes.None = true
+attributes_in_range (attributes.StartAndWidth start width) = is_held start && is_held width
+attributes_in_range (attributes.Width width) = is_held width
+attributes_in_range (attributes.NewBitCount width) = is_held width
+attributes_in_range (attributes.Cases cases default) = true
+attributes_in_range (attributes.Index i) = is_held i
+attributes_in_range (attributes.Indices o) = true
+attributes_in_range (attributes.Value c) = constant_in_range c
+attributes_in_range (attributes.Channel predicate c) = true
 
 -- a node's id is below 2^32
-abbrev pub node_held : Node → Bool
-node_held n = (nat_lt n.id (2 ^ 32) && type_held n.ty) && (is_short n.operands && attributes_held n.attributes)
+abbrev pub node_in_range : Node → Bool
+node_in_range n = (nat_lt n.id (2 ^ 32) && type_in_range n.ty) && attributes_in_range n.attributes
 
-abbrev pub channel_held : Channel → Bool
-channel_held c = is_one_word c.name && type_held c.ty
+abbrev pub channel_writable : Channel → Bool
+channel_writable c = is_one_word c.name && type_in_range c.ty
 
-abbrev pub proc_held : Proc → Bool
-proc_held p =
-    (is_one_word p.name && (type_held p.state && constant_held p.init))
-    && (list_all node_held p.nodes && is_short p.nodes)
+abbrev pub proc_writable : Proc → Bool
+proc_writable p =
+    (is_one_word p.name && (type_in_range p.state && constant_in_range p.init)) && list_all node_in_range p.nodes
 
 abbrev pub some_there : {A : Type 0} → List A → Bool
 some_there [] = false
@@ -82,7 +74,7 @@ some_there (x ∷ xs) = true
 -- each name is a word, each number one that a token has, and there is a proc
 abbrev pub is_writable : Package → Bool
 is_writable ir =
-    (is_one_word ir.name && list_all channel_held ir.channels) && (list_all proc_held ir.procs && some_there ir.procs)
+    (is_one_word ir.name && list_all channel_writable ir.channels) && (list_all proc_writable ir.procs && some_there ir.procs)
 
 abbrev pub IsWritable : Package → Type 0
 IsWritable ir = IsTrue (is_writable ir)

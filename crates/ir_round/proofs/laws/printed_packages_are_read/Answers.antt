@@ -1,4 +1,4 @@
-use Rattle.std.proofs.Common.{◌≡◌, Result, Ok, subst}
+use Rattle.std.proofs.Common.{◌≡◌, ◌<◌, ◌^◌, List, ℕ, length, Result, Ok, subst}
 use Rattle.ir_tree.specs.declared.package.Package.{Package}
 use Rattle.xb_span.specs.declared.read_error.ReadError.{ReadError}
 use Rattle.ir_text.specs.Lines.{package_text}
@@ -14,5 +14,7 @@ one_of : (p q : Package) → ◌≡◌ {A = Result Package ReadError} (Ok p) (Ok
 one_of p q e = cc
 
 pub returns-clause-apart : goal.returns-clause-apart
-returns-clause-apart c = λ p q h writable k also e.
-    one_of p q (c.one_package.ensures (package_text q) (Ok p) (Ok q) (subst (λ text. GivesPackage text (Ok p)) e (printed_reads p h writable)) (printed_reads q k also))
+returns-clause-apart c = λ p q h writable k also brief e.
+    one_of p q (c.one_package.ensures (package_text q) (Ok p) (Ok q)
+    (subst (λ text. GivesPackage text (Ok p)) e (printed_reads p h writable brief))
+    (printed_reads q k also (subst (λ (text : List ℕ). length text < 2 ^ 32) e brief)))
