@@ -15,7 +15,8 @@ import subprocess
 import sys
 import tempfile
 
-from check_program import DESIGN, OUTCOME, PAIR, PAIR_OUTCOME, RUN, USAGE, WORDS
+from check_program import (CHAIN, CHAIN_OUTCOME, CHAIN_RUN, CHAIN_WORDS, DESIGN, OUTCOME, PAIR, PAIR_OUTCOME, RUN, TWO, TWO_DEEPER,
+                           TWO_RUN, USAGE, WORDS)
 
 FAILING = r"""
 #define _GNU_SOURCE
@@ -66,6 +67,9 @@ CASES = [
     ("check pair.x", ("ok procs 1 channels 3\n", "", 0)),
     ("run pair.x pair.txt --activations 9", (PAIR_OUTCOME, "", 0)),
     (RUN, (OUTCOME, "", 0)),
+    (CHAIN_RUN, (CHAIN_OUTCOME, "", 0)),
+    (TWO_RUN + " --depth 2", (TWO_DEEPER, "", 0)),
+    ("run late.ir chain.txt --activations 3 --from ir", ("", "late.ir: rule 51 at 459..504\n", 7)),
     ("run inc.x", ("", USAGE, 2)),
     ("check missing.x", ("", "cannot read missing.x\n", 4)),
     ("check in.txt", ("", "in.txt: syntax at 0\n", 6)),
@@ -77,7 +81,9 @@ WANTING = ("", "out of memory\n", 3)
 
 def lay_out(folder):
     files = {"inc.x": DESIGN, "in.txt": "chan a\n0x00\n0xff\n", "pair.x": PAIR, "pair.txt": WORDS,
-             "broken.x": DESIGN.replace("x + u8", "y + u8"), "twice.txt": "chan a\nchan a\n"}
+             "broken.x": DESIGN.replace("x + u8", "y + u8"), "twice.txt": "chan a\nchan a\n",
+             "chain.ir": CHAIN, "chain.txt": CHAIN_WORDS, "two.ir": TWO, "empty": "",
+             "late.ir": CHAIN.replace("add(add.6, literal.5, id=7)", "add(add.8, literal.5, id=7)")}
     for name, text in files.items():
         with open(os.path.join(folder, name), "w", encoding="utf-8") as file:
             file.write(text)

@@ -41,6 +41,29 @@ in q 2: 0x1 0x0
 in p 2: 0x0000000000000000000000000000000f 0xffffffffffffffffffffffffffffffff
 proc Pair state 0x00000000000000000000000000000010 stalled 2 recv q
 """
+EXAMPLES = os.path.join(os.path.dirname(os.path.dirname(os.path.abspath(__file__))), "examples")
+
+
+def example(name):
+    with open(os.path.join(EXAMPLES, name), encoding="utf-8") as file:
+        return file.read()
+
+
+# A package of one proc that adds three, and one of two procs that wait for each other.
+CHAIN, CHAIN_WORDS, TWO = example("chain.ir"), example("chain.txt"), example("two.ir")
+CHAIN_RUN = "run chain.ir chain.txt --activations 3 --from ir"
+CHAIN_OUTCOME = "in a 2: 0x00000001 0xffffffff\nout b 2: 0x00000004 0x00000002\nproc Chain state () stalled 2 recv a\n"
+TWO_RUN = "run two.ir empty --activations 2 --from ir"
+TWO_OUTCOME = """chan c 1/0: 0x00
+chan d 0/0:
+proc P state 0x01 stalled 1 send c
+proc Q state 0x0 stalled 0 recv d
+"""
+TWO_DEEPER = """chan c 2/2: 0x00 0x01
+chan d 1/1: 0x01
+proc P state 0x02 done
+proc Q state 0x0 done
+"""
 PAST_LIMIT = "limit file: 4194305, at most 4194304\n"
 
 # what it is, the words, the output, the error line, the status
@@ -60,6 +83,23 @@ CASES = [
     ("another command", "walk inc.x", "", USAGE, 2),
     ("a number past its bound", "run inc.x in.txt --activations 1048577", "", USAGE, 2),
     ("an option that comes later", RUN + " --workers 2", "", USAGE, 2),
+    ("a command that comes later", "sim inc.x in.txt", "", USAGE, 2),
+    ("a run of a design, by its name", RUN + " --from dslx", OUTCOME, "", 0),
+    ("a depth, of no inner channel", RUN + " --depth 1", OUTCOME, "", 0),
+    ("a depth past its bound", RUN + " --depth 4097", "", USAGE, 2),
+    ("another language", RUN + " --from vhdl", "", USAGE, 2),
+    ("a run of a package", CHAIN_RUN, CHAIN_OUTCOME, "", 0),
+    ("a run of two procs", TWO_RUN, TWO_OUTCOME, "", 0),
+    ("a run of two procs, deeper channels between them", TWO_RUN + " --depth 2", TWO_DEEPER, "", 0),
+    ("a design as a package, at the character that begins no token", RUN + " --from ir", "", "inc.x: syntax at 18\n", 6),
+    ("a package as a design", "run chain.ir chain.txt --activations 3", "", "chain.ir: syntax at 0\n", 6),
+    ("no such package", "run missing.ir chain.txt --activations 3 --from ir", "", "cannot read missing.ir\n", 4),
+    ("no such words for a package", "run chain.ir missing.txt --activations 3 --from ir", "", "cannot read missing.txt\n", 4),
+    ("bytes that are no package", "run bytes.x chain.txt --activations 3 --from ir", "", "bytes.x: syntax at 5\n", 6),
+    ("a package past the limit of files", "run big.x chain.txt --activations 3 --from ir", "", "big.x: " + PAST_LIMIT, 8),
+    ("a receive from an output", "run p.ir chain.txt --activations 1 --from ir", "", "p.ir: rule 54 at 112..179\n", 7),
+    ("words of a package that are at fault", "run chain.ir output.txt --activations 3 --from ir", "",
+     "output.txt: input name at 0\n", 10),
     ("no such file", "check missing.x", "", "cannot read missing.x\n", 4),
     ("no such second file", "run inc.x missing.txt --activations 5", "", "cannot read missing.txt\n", 4),
     ("no such first file", "run missing.x in.txt --activations 5", "", "cannot read missing.x\n", 4),
@@ -239,6 +279,9 @@ def lay_out(folder):
     files = {"inc.x": DESIGN, "in.txt": "chan a\n0x00\n0xff\n", "empty": "", "big.x": " " * 4194305,
              "limit.x": " " * 4194304, "sum.x": SUM, "sum.txt": "chan a\n0x05\n0x01\n", "pair.x": PAIR, "pair.txt": WORDS,
              "sums.x": "proc M { config() { () } init { () } next(s: ()) { let x = u8:1 + u16:1; () } }",
+             "chain.ir": CHAIN, "chain.txt": CHAIN_WORDS, "two.ir": TWO,
+             "p.ir": "package P\nchan a(bits[8], id=0, kind=output)\nproc P(st: (), init=()) {\n  after_all.1: token = after_all(id=1)\n"
+                     "  receive.2: (token, bits[8]) = receive(after_all.1, channel=a, id=2)\n  next(st)\n}\n",
              "output.txt": "chan b", "wide.txt": "chan a\n0x100\n"}
     for name, text in files.items():
         with open(os.path.join(folder, name), "w", encoding="utf-8") as file:

@@ -1,6 +1,6 @@
 -- The steps of the commands, one after the other.
-use Rattle.std.proofs.Common.{◌≡◌, ◌<◌, ◌≤◌, ℕ, zero, suc, Bool, true, false, List, [], ◌∷◌, length, map, get_or, Option, Some, Result, Ok, Err, refl, ap, ◌∙◌, arith}
-use Rattle.std.specs.Prelude.{slice_get, if◌then◌else◌}
+use Rattle.std.proofs.Common.{◌≡◌, ◌<◌, ◌≤◌, ℕ, zero, suc, Bool, true, false, List, [], ◌∷◌, length, map, get_or, Option, Some, None, Result, Ok, Err, ap, ◌∙◌, arith}
+use Rattle.std.specs.Prelude.{if◌then◌else◌}
 use Rattle.std.specs.Str.{is_utf8}
 use Rattle.std.specs.Str.Lossy.{utf8_valid_len}
 use Rattle.std.specs.Borrow.{Bor}
@@ -11,6 +11,8 @@ use Rattle.xb_span.specs.declared.read_error.ReadError.TheVariants.{Syntax, Brok
 use Rattle.net_core.specs.declared.net.Net.{Net}
 use Rattle.net_core.specs.declared.net.Chan.{Chan}
 use Rattle.net_core.specs.declared.net.Inputs.{Inputs}
+use Rattle.net_core.specs.declared.net.Kind.{Kind}
+use Rattle.net_core.specs.declared.net.Kind.TheVariants.{Input as AtInput, Output as AtOutput, Inner as AtInner}
 use Rattle.net_core.specs.Behavior.{Behavior}
 use Rattle.net_core.specs.WellFormed.{IsDepths}
 use Rattle.chan_file.specs.declared.refusal.Cause.{Cause}
@@ -22,6 +24,7 @@ use Rattle.cmd_answer.specs.Loads.{Loads, OfText, accepts, text_of}
 use Rattle.cmd_answer.specs.Step.{Gives, IsOne, Then, goes_on}
 use Rattle.cmd_answer.proofs.Lemmas.{gives_is_one, loads_is_one, of_text_is_one, stops_at_text, stops_in_next, then_is_one}
 use Rattle.cmd_words.specs.declared.request.Check.{Check}
+use Rattle.cmd_words.specs.declared.request.How.{How}
 use Rattle.cmd_words.specs.declared.request.Run.{Run}
 use Rattle.dslx_narrow_tree.specs.Network.{network_of, behaviors_of}
 use Rattle.dslx_narrow_tree.specs.declared.proc.Module.{Module}
@@ -29,7 +32,7 @@ use Rattle.dslx_narrow.specs.Designs.{GivesDesign, IsDesign, IsRefusal}
 use Rattle.dslx_narrow.specs.declared.design.Design.{Design}
 use Rattle.cmd_design.specs.Commands.{ReadsDesign, ReadsInputs, says, at_fault, check, check_text, run, run_texts, top}
 use Rattle.cmd_design.specs.Inner.{IsRead}
-use Rattle.cmd_design.specs.Written.{accepted, depths_of, run_text}
+use Rattle.cmd_design.specs.Written.{accepted, depth_by, depths_by, run_text}
 
 -- ---- reading a design
 
@@ -57,17 +60,23 @@ stops_at_design name bytes text e found is =
 
 -- ---- a run
 
-some_depths : (chans : List Chan) → ((c : ℕ) (chan : Chan) → slice_get chans c ≡ Some chan → 1 ≤ chan.depth) → (c : ℕ) → c < length (map (λ (chan : Chan). chan.depth) chans) → 1 ≤ get_or (map (λ (chan : Chan). chan.depth) chans) c 0
-some_depths [] some c h = absurd (omega arith)
-some_depths (chan ∷ chans) some zero h = some zero chan refl
-some_depths (chan ∷ chans) some (suc c) h = some_depths chans (λ d. some (suc d)) c (omega arith)
+by_some : (said : Option ℕ) (kind : Kind) (depth : ℕ) → 1 ≤ depth_by said kind depth
+by_some None kind depth = omega arith
+by_some (Some d) AtInput depth = omega arith
+by_some (Some d) AtOutput depth = omega arith
+by_some (Some d) AtInner depth = omega arith
 
--- channels that hold a word or more have depths of their own
-pub own_depths : (net : Net) → ((c : ℕ) (chan : Chan) → slice_get net.chans c ≡ Some chan → 1 ≤ chan.depth) → IsDepths net (depths_of net)
-own_depths net some = record { count = length-map net.chans (λ (chan : Chan). chan.depth); some = some_depths net.chans some }
+some_depths : (said : Option ℕ) (chans : List Chan) → (c : ℕ) → c < length (map (λ (chan : Chan). depth_by said chan.kind chan.depth) chans) → 1 ≤ get_or (map (λ (chan : Chan). depth_by said chan.kind chan.depth) chans) c 0
+some_depths said [] c h = absurd (omega arith)
+some_depths said (chan ∷ chans) zero h = by_some said chan.kind chan.depth
+some_depths said (chan ∷ chans) (suc c) h = some_depths said chans c (omega arith)
 
-pub same_text : (net net' : Net) (behaviors behaviors' : List Behavior) (inputs : Inputs) (n : ℕ) → net ≡ net' → behaviors ≡ behaviors' → run_text net behaviors inputs n (depths_of net) ≡ run_text net' behaviors' inputs n (depths_of net')
-same_text net net' behaviors behaviors' inputs n e f = ap (λ x. run_text x behaviors inputs n (depths_of x)) e ∙ ap (λ b. run_text net' b inputs n (depths_of net')) f
+-- such depths are those of a run
+pub own_depths : (said : Option ℕ) (net : Net) → IsDepths net (depths_by said net)
+own_depths said net = record { count = length-map net.chans (λ (chan : Chan). depth_by said chan.kind chan.depth); some = some_depths said net.chans }
+
+pub same_text : (net net' : Net) (behaviors behaviors' : List Behavior) (inputs : Inputs) (how : How) → net ≡ net' → behaviors ≡ behaviors' → run_text net behaviors inputs how.activations (depths_by how.depth net) ≡ run_text net' behaviors' inputs how.activations (depths_by how.depth net')
+same_text net net' behaviors behaviors' inputs how e f = ap (λ x. run_text x behaviors inputs how.activations (depths_by how.depth x)) e ∙ ap (λ b. run_text net' b inputs how.activations (depths_by how.depth net')) f
 
 -- ---- one answer
 
@@ -78,7 +87,7 @@ design_is_one : OneDesign → (name bytes : List ℕ) → IsOne (ReadsDesign nam
 design_is_one law name bytes =
     then_is_one (Gives (text_of name bytes)) (λ text. OfText name (GivesDesign text top)) (gives_is_one (text_of name bytes)) (λ text. of_text_is_one name (GivesDesign text top) (law text top))
 
-inputs_is_one : (name file : List ℕ) (net : Net) → IsOne (ReadsInputs name file net)
+pub inputs_is_one : (name file : List ℕ) (net : Net) → IsOne (ReadsInputs name file net)
 inputs_is_one name file net a b (says x is) (says y also) = let same : x ≡ y = let e = one_reading net file (Ok x) (Ok y) is also in cc in ap Ok same
 inputs_is_one name file net a b (says x is) (at_fault cause at also) = let no : ◌≡◌ {A = Result Inputs (Cause × ℕ)} (Ok x) (Err (cause, at)) = one_reading net file (Ok x) (Err (cause, at)) is also in absurd (cc)
 inputs_is_one name file net a b (at_fault cause at is) (says x also) = let no : ◌≡◌ {A = Result Inputs (Cause × ℕ)} (Ok x) (Err (cause, at)) = one_reading net file (Ok x) (Err (cause, at)) also is in absurd (cc)
@@ -94,10 +103,10 @@ check_is_one law holds said =
 texts_are_one : OneDesign → (said : Run (List ℕ)) (design inputs : List ℕ) → IsOne (run_texts said design inputs)
 texts_are_one law said design inputs =
     then_is_one (ReadsDesign said.design design)
-    (λ m. Then (ReadsInputs said.inputs inputs (network_of m top)) (λ words. Gives (Ok (run_text (network_of m top) (behaviors_of m top) words said.activations (depths_of (network_of m top))))))
+    (λ m. Then (ReadsInputs said.inputs inputs (network_of m top)) (λ words. Gives (Ok (run_text (network_of m top) (behaviors_of m top) words said.how.activations (depths_by said.how.depth (network_of m top))))))
     (design_is_one law said.design design)
-    (λ m. then_is_one (ReadsInputs said.inputs inputs (network_of m top)) (λ words. Gives (Ok (run_text (network_of m top) (behaviors_of m top) words said.activations (depths_of (network_of m top)))))
-    (inputs_is_one said.inputs inputs (network_of m top)) (λ words. gives_is_one (Ok (run_text (network_of m top) (behaviors_of m top) words said.activations (depths_of (network_of m top))))))
+    (λ m. then_is_one (ReadsInputs said.inputs inputs (network_of m top)) (λ words. Gives (Ok (run_text (network_of m top) (behaviors_of m top) words said.how.activations (depths_by said.how.depth (network_of m top)))))
+    (inputs_is_one said.inputs inputs (network_of m top)) (λ words. gives_is_one (Ok (run_text (network_of m top) (behaviors_of m top) words said.how.activations (depths_by said.how.depth (network_of m top))))))
 
 pub run_is_one : OneDesign → (holds : Contents) (said : Run (List ℕ)) → IsOne (run holds said)
 run_is_one law holds said =

@@ -14,7 +14,7 @@ use Rattle.net_core.specs.declared.net.Inputs.{Inputs}
 use Rattle.dslx_narrow_tree.specs.Network.{network_of, behaviors_of}
 use Rattle.dslx_narrow_tree.specs.declared.proc.Module.{Module}
 use Rattle.dslx_narrow.specs.Designs.{GivesDesign}
-use Rattle.cmd_design.specs.Written.{accepted, depths_of, run_text}
+use Rattle.cmd_design.specs.Written.{accepted, depths_by, run_text}
 
 -- ---- the steps
 
@@ -45,7 +45,7 @@ abbrev pub run_texts : Run (List ℕ) → List ℕ → List ℕ → Step (List �
 run_texts said design inputs =
     Then (ReadsDesign said.design design) (λ m.
     Then (ReadsInputs said.inputs inputs (network_of m top)) (λ words.
-    Gives (Ok (run_text (network_of m top) (behaviors_of m top) words said.activations (depths_of (network_of m top))))))
+    Gives (Ok (run_text (network_of m top) (behaviors_of m top) words said.how.activations (depths_by said.how.depth (network_of m top))))))
 
 abbrev pub run : Contents → Run (List ℕ) → Step (List ℕ)
 run holds said =

@@ -1,11 +1,13 @@
 -- What is written of a network, and of what its runs show.
-use Rattle.std.specs.Prelude.{ℕ, List, ◌++◌, codes, decimal, length, map}
+use Rattle.std.specs.Prelude.{ℕ, List, Option, None, Some, ◌++◌, codes, decimal, length, map, max}
 use Rattle.net_core.specs.Behavior.{Behavior}
 use Rattle.net_core.specs.Cuts.{final_cut}
 use Rattle.net_core.specs.Outcomes.{outcome_of}
 use Rattle.net_core.specs.WellFormed.{run_of}
 use Rattle.net_core.specs.declared.net.Net.{Net}
 use Rattle.net_core.specs.declared.net.Chan.{Chan}
+use Rattle.net_core.specs.declared.net.Kind.{Kind}
+use Rattle.net_core.specs.declared.net.Kind.TheVariants.{Input, Output, Inner}
 use Rattle.net_core.specs.declared.net.Inputs.{Inputs}
 use Rattle.chan_file.specs.OutcomeText.{outcome_text}
 
@@ -13,9 +15,16 @@ use Rattle.chan_file.specs.OutcomeText.{outcome_text}
 abbrev pub accepted : Net → List ℕ
 accepted net = codes "ok procs " ++ decimal (length net.procs) ++ codes " channels " ++ decimal (length net.chans) ++ codes "\n"
 
+-- the depth of a channel, 1 at least: where one is said, that is the depth of inner channels
+abbrev pub depth_by : Option ℕ → Kind → ℕ → ℕ
+depth_by None kind depth = max depth 1
+depth_by (Some d) Input depth = max depth 1
+depth_by (Some d) Output depth = max depth 1
+depth_by (Some d) Inner depth = max d 1
+
 -- the depth that each channel has
-abbrev pub depths_of : Net → List ℕ
-depths_of net = map (λ (chan : Chan). chan.depth) net.chans
+abbrev pub depths_by : Option ℕ → Net → List ℕ
+depths_by said net = map (λ (chan : Chan). depth_by said chan.kind chan.depth) net.chans
 
 -- the outcome of the final cut of a network whose procs do this, with these words on its inputs
 abbrev pub run_text : Net → List Behavior → Inputs → ℕ → List ℕ → List ℕ

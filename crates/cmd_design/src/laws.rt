@@ -5,12 +5,14 @@ ghost use Rattle.xb_io.specs.Contents.{Contents};
 ghost use Rattle.cmd_answer.specs.Step.{IsOne};
 ghost use Rattle.cmd_words.specs.declared.request.Check.{Check};
 ghost use Rattle.cmd_words.specs.declared.request.Run.{Run};
-ghost use Rattle.cmd_design.specs.Commands.{check, run};
+ghost use Rattle.cmd_design.specs.Commands.{ReadsInputs, check, run};
+ghost use Rattle.net_core.specs.declared.net.Net.{Net};
 
-/// What the files hold determines what each command gives.
+/// What the files hold determines what each command gives, and what a channel file says.
 pub fn one_answer()
     ensures check { (holds : Contents) (said : Check (List ℕ)) → IsOne (check holds said) }
     ensures run { (holds : Contents) (said : Run (List ℕ)) → IsOne (run holds said) }
+    ensures inputs { (name file : List ℕ) (net : Net) → IsOne (ReadsInputs name file net) }
 {
     dslx_narrow::one_design();
 }

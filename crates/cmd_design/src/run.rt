@@ -4,7 +4,7 @@ ghost use Rattle.cmd_answer.specs.Events.{file_events};
 ghost use Rattle.cmd_answer.specs.Step.{DueBy};
 ghost use Rattle.cmd_words.specs.Named.{named_run};
 ghost use Rattle.cmd_design.specs.Commands.{run, run_files, run_texts};
-ghost use Rattle.cmd_design.specs.Written.{depths_of, run_text};
+ghost use Rattle.cmd_design.specs.Written.{depths_by, run_text};
 ghost use Rattle.net_core.specs.WellFormed.{IsInputs};
 ghost use Rattle.dslx_narrow.specs.Designs.{IsRunnable};
 ghost use Rattle.dslx_narrow_core.specs.Evaluation.{behavior_of_core};
@@ -12,13 +12,13 @@ ghost use Rattle.dslx_narrow_core.specs.Evaluation.{behavior_of_core};
 use crate::running::{depths, run_text};
 use crate::source::{inputs_of, read_design};
 use cmd_answer::{Refusal, load};
-use cmd_words::Run;
+use cmd_words::{How, Run};
 use dslx_narrow::{Design, SourceBody};
 use net_core::Inputs;
 use std::alloc::{AllocError, Global};
 use xb_io::Files;
 
-/// `run FILE INPUTS --activations N`
+/// `run FILE INPUTS --activations N` of a design, with a depth of its inner channels perhaps.
 pub fn run_design<'a, F: Files>(
     alloc: Global,
     files: &mut F,
@@ -47,22 +47,24 @@ fn run_loaded<'a>(
 {
     let design = read_design(alloc, said.design, bytes)?;
     let inputs = inputs_of(alloc, said.inputs, file, &design.net)?;
-    let text = ran(alloc, &design, &inputs, said.activations)?;
+    let text = ran(alloc, &design, &inputs, said.how)?;
     Ok(text)
 }
 
 /// What a run of a design shows.
-fn ran(
-    alloc: Global,
-    design: &Design,
-    inputs: &Inputs,
-    activations: u32,
-) -> Result<Vec<u8>, AllocError>
+fn ran(alloc: Global, design: &Design, inputs: &Inputs, how: How) -> Result<Vec<u8>, AllocError>
     requires design { IsRunnable design.now }
     requires inputs { IsInputs design.now.net inputs.now.words }
-    ensures { IfOk result (λ text. text.items ≡ run_text design.now.net (behavior_of_core design.now.core ∷ []) inputs.now activations (depths_of design.now.net)) }
+    ensures { IfOk result (λ text. text.items ≡ run_text design.now.net (behavior_of_core design.now.core ∷ []) inputs.now how.activations (depths_by how.depth design.now.net)) }
 {
-    let depths = depths(alloc, &design.net)?;
+    let depths = depths(alloc, &design.net, how.depth)?;
     let body = SourceBody::new(&design.core);
-    run_text(alloc, &design.net, &[body], inputs, activations, &depths)
+    run_text(
+        alloc,
+        &design.net,
+        &[body],
+        inputs,
+        how.activations,
+        &depths,
+    )
 }

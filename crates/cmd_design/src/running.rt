@@ -2,10 +2,10 @@
 
 ghost use Rattle.std.specs.Prelude.{◌≡◌, IfOk, map};
 ghost use Rattle.net_core.specs.WellFormed.{IsNet, IsInputs, IsDepths, AreBehaviorsOf};
-ghost use Rattle.cmd_design.specs.Written.{depths_of, run_text};
+ghost use Rattle.cmd_design.specs.Written.{depth_by, depths_by, run_text};
 
 use chan_file::outcome_text;
-use net_core::{Body, Inputs, Net};
+use net_core::{Body, Inputs, Kind, Net};
 use net_run::run_one;
 use std::alloc::{AllocError, Global};
 
@@ -29,13 +29,33 @@ pub fn run_text<B: Body>(
     Ok(text.into_bytes())
 }
 
-/// The depth that each channel of a network has.
-pub fn depths(alloc: Global, net: &Net) -> Result<Vec<u32>, AllocError>
-    ensures { IfOk result (λ depths. depths.items ≡ depths_of net.now) }
+/// The depth that each channel of a network has, 1 at least: where one is said, that is the depth of inner channels.
+pub fn depths(alloc: Global, net: &Net, said: Option<u32>) -> Result<Vec<u32>, AllocError>
+    ensures depths { IfOk result (λ depths. depths.items ≡ depths_by said net.now) }
+    ensures fit { IfOk result (λ depths. IsDepths net.now depths.items) }
+{
+    let depths = depths_of(alloc, net, said)?;
+    Ok(depths)
+}
+
+fn depths_of(alloc: Global, net: &Net, said: Option<u32>) -> Result<Vec<u32>, AllocError>
+    ensures { IfOk result (λ depths. depths.items ≡ depths_by said net.now) }
 {
     net.chans
         .as_slice()
         .iter()
-        .map(|chan| chan.depth)
+        .map(|chan| depth_by(said, chan.kind, chan.depth))
         .collect(alloc)
+}
+
+fn depth_by(said: Option<u32>, kind: Kind, depth: u32) -> u32
+    ensures { result ≡ depth_by said kind depth }
+{
+    match said {
+        None => depth.max(1),
+        Some(replaced) => match kind {
+            Kind::Input | Kind::Output => depth.max(1),
+            Kind::Inner => replaced.max(1),
+        },
+    }
 }

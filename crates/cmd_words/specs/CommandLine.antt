@@ -8,7 +8,11 @@ use Rattle.clap.specs.declared.builder.value_parser.ValueParser.TheVariants as v
 use Rattle.cmd_words.specs.declared.request.Request.{Request}
 use Rattle.cmd_words.specs.declared.request.Request.TheVariants as request
 use Rattle.cmd_words.specs.declared.request.Check.{Check}
+use Rattle.cmd_words.specs.declared.request.How.{How}
 use Rattle.cmd_words.specs.declared.request.Run.{Run}
+use Rattle.cmd_words.specs.declared.request.Sim.{Sim}
+use Rattle.cmd_words.specs.declared.request.Source.{Source}
+use Rattle.cmd_words.specs.declared.request.Source.TheVariants.{Dslx, Ir}
 
 -- ---- the command line
 
@@ -28,16 +32,40 @@ activations = record (new_rule (codes "activations")) {
 abbrev pub check : App
 check = with_rule (new_app (codes "check")) (file (codes "design"))
 
--- `run FILE INPUTS --activations N`
+-- an option that need not stand, with a value behind it
+abbrev pub option : Text → Rule
+option name = record (new_rule name) { long = Some name }
+
+-- `--workers W`
+abbrev pub workers : Rule
+workers = record (option (codes "workers")) { parser = Some (vp.Signed (pos 1) (pos 16)) }
+
+-- `--depth D`
+abbrev pub depth : Rule
+depth = record (option (codes "depth")) { parser = Some (vp.Signed (pos 1) (pos 4096)) }
+
+-- `--from F`
+abbrev pub from : Rule
+from = option (codes "from")
+
+-- what each run has
+abbrev pub plain_run : App
+plain_run = with_rule (with_rule (with_rule (new_app (codes "run")) (file (codes "design"))) (file (codes "inputs"))) activations
+
+-- `run FILE INPUTS --activations N [--workers W] [--depth D] [--from F]`
 abbrev pub run : App
-run = with_rule (with_rule (with_rule (new_app (codes "run")) (file (codes "design"))) (file (codes "inputs"))) activations
+run = with_rule (with_rule (with_rule plain_run workers) depth) from
+
+-- `sim FILE ROWS`
+abbrev pub sim : App
+sim = with_rule (with_rule (new_app (codes "sim")) (file (codes "design"))) (file (codes "rows"))
 
 -- the words begin with no program's name
 abbrev pub bare : App → App
 bare app = record app { top = record app.top { no_binary_name = true } }
 
 unfoldable pub xls : App
-xls = with_subcommand (with_subcommand (bare (new_app (codes "xls"))) check.top) run.top
+xls = with_subcommand (with_subcommand (with_subcommand (bare (new_app (codes "xls"))) check.top) run.top) sim.top
 
 -- ---- what words say
 
@@ -48,16 +76,45 @@ number_in least most text = if is_unsigned_in least most text then Some (digits_
 abbrev pub said_by_check : List Row → Option (Check Text)
 said_by_check rows = option_map (λ design. record { design = design }) (first_of (codes "design") rows)
 
+-- the number of workers: 1 where no word says it
+abbrev pub workers_in : Option Text → Option ℕ
+workers_in None = Some 1
+workers_in (Some text) = number_in 1 16 text
+
+-- the depth of inner channels, which need not be said
+abbrev pub depth_in : Option Text → Option (Option ℕ)
+depth_in None = Some None
+depth_in (Some text) = option_map Some (number_in 1 4096 text)
+
+-- what the design is written in: DSLX where no word says it
+abbrev pub source_in : Option Text → Option Source
+source_in None = Some Dslx
+source_in (Some text) =
+    if bytes_eq text (codes "dslx") then Some Dslx
+    else if bytes_eq text (codes "ir") then Some Ir
+    else None
+
+abbrev pub said_of_how : List Row → Option How
+said_of_how rows =
+    option_and_then (λ n. option_and_then (λ w. option_and_then (λ d. option_map (λ f. record { activations = n; workers = w; depth = d; source = f })
+    (source_in (first_of (codes "from") rows))) (depth_in (first_of (codes "depth") rows))) (workers_in (first_of (codes "workers") rows)))
+    (option_and_then (number_in 1 1048576) (first_of (codes "activations") rows))
+
 abbrev pub said_by_run : List Row → Option (Run Text)
 said_by_run rows =
-    option_and_then (λ design. option_and_then (λ inputs. option_map (λ n. record { design = design; inputs = inputs; activations = n })
-    (option_and_then (number_in 1 1048576) (first_of (codes "activations") rows))) (first_of (codes "inputs") rows)) (first_of (codes "design") rows)
+    option_and_then (λ design. option_and_then (λ inputs. option_map (λ how. record { design = design; inputs = inputs; how = how })
+    (said_of_how rows)) (first_of (codes "inputs") rows)) (first_of (codes "design") rows)
+
+abbrev pub said_by_sim : List Row → Option (Sim Text)
+said_by_sim rows =
+    option_and_then (λ design. option_map (λ inputs. record { design = design; rows = inputs }) (first_of (codes "rows") rows)) (first_of (codes "design") rows)
 
 -- what the matches of a subcommand say
 abbrev pub said_by_subcommand : Text × List Row → Option (Request Text)
 said_by_subcommand found =
     if bytes_eq found.0 (codes "check") then option_map request.Check (said_by_check found.1)
     else if bytes_eq found.0 (codes "run") then option_map request.Run (said_by_run found.1)
+    else if bytes_eq found.0 (codes "sim") then option_map request.Sim (said_by_sim found.1)
     else None
 
 -- where `clap` finds no fault in the words, what the matches of their subcommand say

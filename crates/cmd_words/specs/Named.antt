@@ -5,13 +5,18 @@ use Rattle.cmd_words.specs.declared.request.Request.{Request}
 use Rattle.cmd_words.specs.declared.request.Request.TheVariants as request
 use Rattle.cmd_words.specs.declared.request.Check.{Check}
 use Rattle.cmd_words.specs.declared.request.Run.{Run}
+use Rattle.cmd_words.specs.declared.request.Sim.{Sim}
 
 abbrev pub named_check : Check (Bor (List ℕ)) → Check (List ℕ)
 named_check said = record { design = said.design.now }
 
 abbrev pub named_run : Run (Bor (List ℕ)) → Run (List ℕ)
-named_run said = record { design = said.design.now; inputs = said.inputs.now; activations = said.activations }
+named_run said = record { design = said.design.now; inputs = said.inputs.now; how = said.how }
+
+abbrev pub named_sim : Sim (Bor (List ℕ)) → Sim (List ℕ)
+named_sim said = record { design = said.design.now; rows = said.rows.now }
 
 abbrev pub named : Request (Bor (List ℕ)) → Request (List ℕ)
 named (request.Check said) = request.Check (named_check said)
 named (request.Run said) = request.Run (named_run said)
+named (request.Sim said) = request.Sim (named_sim said)

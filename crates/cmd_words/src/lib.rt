@@ -12,5 +12,5 @@ mod number;
 mod request;
 mod words;
 
-pub use request::{Check, Request, Run};
+pub use request::{Check, How, Request, Run, Sim, Source};
 pub use words::read_words;

@@ -3,6 +3,7 @@
 pub enum Request<N> {
     Check(Check<N>),
     Run(Run<N>),
+    Sim(Sim<N>),
 }
 
 /// `check FILE`
@@ -11,11 +12,36 @@ pub struct Check<N> {
     pub design: N,
 }
 
-/// `run FILE INPUTS --activations N`
+/// `run FILE INPUTS --activations N [--workers W] [--depth D] [--from F]`
 #[derive(Clone, Copy)]
 pub struct Run<N> {
     pub design: N,
     pub inputs: N,
+    pub how: How,
+}
+
+/// How a run goes.
+#[derive(Clone, Copy, Debug, PartialEq, Eq)]
+pub struct How {
     /// How many activations each proc may make: 1 to 1,048,576.
     pub activations: u32,
+    /// How many threads make them: 1 to 16.
+    pub workers: u32,
+    /// What replaces the depth of each inner channel: 1 to 4,096.
+    pub depth: Option<u32>,
+    pub source: Source,
+}
+
+/// What a file is written in.
+#[derive(Clone, Copy, Debug, PartialEq, Eq)]
+pub enum Source {
+    Dslx,
+    Ir,
+}
+
+/// `sim FILE ROWS`
+#[derive(Clone, Copy)]
+pub struct Sim<N> {
+    pub design: N,
+    pub rows: N,
 }

@@ -1,11 +1,11 @@
-ghost use Rattle.std.specs.Prelude.{◌≡◌, IfOk, map, option_map, option_and_then, string_bytes};
+ghost use Rattle.std.specs.Prelude.{◌≡◌, IfOk, Option, map, option_map, option_and_then, string_bytes};
 ghost use Rattle.clap.specs.Words.{first_of, found_of, rows_of, subcommand_rows_of};
-ghost use Rattle.cmd_words.specs.CommandLine.{said_by, said_by_check, said_by_run, said_by_subcommand};
-ghost use Rattle.cmd_words.specs.Named.{named, named_check, named_run};
+ghost use Rattle.cmd_words.specs.CommandLine.{depth_in, said_by, said_by_check, said_by_run, said_by_sim, said_by_subcommand, said_of_how, source_in, workers_in};
+ghost use Rattle.cmd_words.specs.Named.{named, named_check, named_run, named_sim};
 
 use crate::command::command;
 use crate::number::read_number;
-use crate::request::{Check, Request, Run};
+use crate::request::{Check, How, Request, Run, Sim, Source};
 use clap::ArgMatches;
 use clap::error::ErrorKind;
 use std::alloc::{AllocError, Global};
@@ -32,6 +32,7 @@ fn request<'a>(matches: &ArgMatches<'a>) -> Option<Request<&'a str>>
     match matches.subcommand() {
         Some(("check", matches)) => Some(Request::Check(check(matches)?)),
         Some(("run", matches)) => Some(Request::Run(run(matches)?)),
+        Some(("sim", matches)) => Some(Request::Sim(sim(matches)?)),
         _ => None,
     }
 }
@@ -54,15 +55,82 @@ fn run<'a>(matches: &ArgMatches<'a>) -> Option<Run<&'a str>>
     let Some(inputs) = text(matches, "inputs") else {
         return None;
     };
+    match how(matches) {
+        Some(how) => Some(Run {
+            design,
+            inputs,
+            how,
+        }),
+        None => None,
+    }
+}
+
+fn how(matches: &ArgMatches<'_>) -> Option<How>
+    ensures { result ≡ said_of_how (rows_of (found_of matches.now)) }
+{
     let Some(number) = text(matches, "activations") else {
         return None;
     };
-    match read_number(number, 1, 1_048_576) {
-        Some(activations) => Some(Run {
-            design,
-            inputs,
+    let Some(activations) = read_number(number, 1, 1_048_576) else {
+        return None;
+    };
+    let Some(workers) = workers(text(matches, "workers")) else {
+        return None;
+    };
+    let Some(depth) = depth(text(matches, "depth")) else {
+        return None;
+    };
+    match source(text(matches, "from")) {
+        Some(source) => Some(How {
             activations,
+            workers,
+            depth,
+            source,
         }),
+        None => None,
+    }
+}
+
+fn workers(text: Option<&str>) -> Option<u32>
+    ensures { result ≡ workers_in (option_map (λ word. word.now) text.entry) }
+{
+    match text {
+        Some(number) => read_number(number, 1, 16),
+        None => Some(1),
+    }
+}
+
+fn depth(text: Option<&str>) -> Option<Option<u32>>
+    ensures { result ≡ depth_in (option_map (λ word. word.now) text.entry) }
+{
+    match text {
+        Some(number) => match read_number(number, 1, 4_096) {
+            Some(depth) => Some(Some(depth)),
+            None => None,
+        },
+        None => Some(None),
+    }
+}
+
+fn source(text: Option<&str>) -> Option<Source>
+    ensures { result ≡ source_in (option_map (λ word. word.now) text.entry) }
+{
+    match text {
+        Some("dslx") => Some(Source::Dslx),
+        Some("ir") => Some(Source::Ir),
+        Some(_) => None,
+        None => Some(Source::Dslx),
+    }
+}
+
+fn sim<'a>(matches: &ArgMatches<'a>) -> Option<Sim<&'a str>>
+    ensures { option_map named_sim result ≡ said_by_sim (rows_of (found_of matches.now)) }
+{
+    let Some(design) = text(matches, "design") else {
+        return None;
+    };
+    match text(matches, "rows") {
+        Some(rows) => Some(Sim { design, rows }),
         None => None,
     }
 }

@@ -1,2 +1,3 @@
 pub mod Cases
+mod OneMore
 pub mod WalkSteps

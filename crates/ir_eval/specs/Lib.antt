@@ -1,4 +1,6 @@
--- what a body must be, and what it does
+-- what a body does
+pub mod IrBodies
+-- what a receive gives for a word
 pub mod Bodies
 -- what functions of this crate promise to one another, and nobody else needs
 pub mod Inner

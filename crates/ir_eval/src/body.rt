@@ -2,7 +2,6 @@ ghost use Rattle.std.specs.Prelude.{◌≡◌, slice_get, Some};
 ghost use Rattle.net_core.specs.Behavior.{KeepsTypes};
 ghost use Rattle.ir_verify.specs.Verified.{IsVerified};
 ghost use Rattle.ir_typed.proofs.Lemmas.{keeps_types};
-ghost use Rattle.ir_tree.specs.Activations.{activation};
 
 use crate::walk::Walk;
 use ir_tree::{Package, Proc};
@@ -12,6 +11,7 @@ use xb_bits::Bits;
 use xb_value::Value;
 
 /// A proc of a verified package, as what its sites do. It borrows the package, and takes no memory of its own.
+#[derive(Drop)]
 pub struct IrBody<'a> {
     ir: &'a Package,
     number: u32,
@@ -23,14 +23,14 @@ pub struct IrBody<'a> {
 impl<'a> IrBody<'a> {
     ghost use Rattle.std.specs.Prelude.{◌≡◌, ◌<◌, length, slice_get, Some};
     ghost use Rattle.ir_verify.specs.Verified.{IsVerified};
-    ghost use Rattle.ir_tree.specs.Activations.{activation};
     ghost use Rattle.ir_tree.specs.Networks.{behaviors_of};
+    ghost use Rattle.ir_eval.specs.IrBodies.{behavior_of};
 
     /// The proc of this number.
     pub fn new(ir: &'a Package, number: u32) -> IrBody<'a>
         requires verified { IsVerified ir.now }
         requires there { number < length ir.now.procs }
-        ensures { slice_get (behaviors_of ir.now) number ≡ Some (activation result.ir.now.channels result.proc.now) }
+        ensures { slice_get (behaviors_of ir.now) number ≡ Some (behavior_of result) }
     {
         let procs = ir.procs.as_slice();
         IrBody {
@@ -42,7 +42,9 @@ impl<'a> IrBody<'a> {
 }
 
 impl Body for IrBody<'_> {
-    ghost behavior = { λ body. activation body.ir.now.channels body.proc.now };
+    ghost use Rattle.ir_eval.specs.IrBodies.{behavior_of};
+
+    ghost behavior = { behavior_of };
 
     /// The nodes up to the event are evaluated, once each.
     fn next(

@@ -1,13 +1,16 @@
 //! Procs of packages as bodies of networks.
 //!
-//! `IrBody` evaluates nodes in line order, once an asking: its cost is that of the nodes up to the next event. `specs/` of
-//! `ir_tree` says what each node's value is.
+//! `IrBody` evaluates nodes in line order, once an asking: its cost is that of the nodes up to the next event. [`pure_value`] is
+//! the value of one node. `specs/` of `ir_tree` says what each node's value is.
 #![tactic(auto)]
 
+mod bodies;
 mod body;
 mod operation;
 mod scope;
 mod walk;
 mod width;
 
+pub use bodies::bodies_of;
 pub use body::IrBody;
+pub use scope::{Scope, pure_value};

@@ -1,6 +1,7 @@
 -- What is answered to words, by what their command gives.
-use Rattle.std.proofs.Common.{◌≡◌, ◌⊎◌, inl, inr, ◌++◌, ℕ, List, [], Option, Some, None, Result, Ok, Err, refl, sym, ap, ◌∙◌, subst}
+use Rattle.std.proofs.Common.{◌≡◌, ◌<◌, ◌≤◌, ◌⊎◌, inl, inr, ◌++◌, ℕ, Bool, true, false, nat_lt, List, [], Option, Some, None, Result, Ok, Err, refl, sym, ap, ◌∙◌, subst}
 use Rattle.std.specs.Prelude.{IfSome}
+use Rattle.std.proofs.lemmas.Bool.{le-ltb, lt-ltb}
 use Rattle.std.proofs.lemmas.List.{append-nil}
 use Rattle.xb_io.specs.Contents.{Contents}
 use Rattle.cmd_answer.specs.Answered.{Answers, wrote, refused, no_memory, unread, unwritten}
@@ -11,24 +12,37 @@ use Rattle.cmd_answer.specs.Fault.{Fault}
 use Rattle.cmd_answer.specs.Step.{IsOne, DueBy}
 use Rattle.cmd_words.specs.CommandLine.{said_by}
 use Rattle.cmd_words.specs.declared.request.Request.{Request}
-use Rattle.cmd_words.specs.declared.request.Request.TheVariants.{Check, Run}
+use Rattle.cmd_words.specs.declared.request.Request.TheVariants.{Check, Run, Sim}
+use Rattle.cmd_words.specs.declared.request.Source.{Source}
+use Rattle.cmd_words.specs.declared.request.Source.TheVariants.{Dslx, Ir}
 use Rattle.cmd_design.specs.Commands as design
+use Rattle.cmd_ir.specs.Commands as ir
 use Rattle.cmd_words.specs.declared.request.Check.{Check as SaidCheck}
 use Rattle.cmd_words.specs.declared.request.Run.{Run as SaidRun}
-use Rattle.xls_cmd.specs.Answer.{due, due_for, files_of, given_by, named_files, named_for, status_for}
+use Rattle.xls_cmd.specs.Answer.{due, due_for, due_of, due_of_run, due_where, files_of, files_of_run, files_where, named_files, named_for, run_by, status_for}
 
 -- each command gives one thing
 pub record TheLaws : Type 0 where
   pub check : (holds : Contents) (said : SaidCheck (List ℕ)) → IsOne (design.check holds said)
   pub run : (holds : Contents) (said : SaidRun (List ℕ)) → IsOne (design.run holds said)
+  pub run_ir : (holds : Contents) (said : SaidRun (List ℕ)) → IsOne (ir.run holds said)
 
-given_is_one : TheLaws → (said : Request (List ℕ)) (holds : Contents) → IsOne (given_by said holds)
-given_is_one laws (Check said) holds = laws.check holds said
-given_is_one laws (Run said) holds = laws.run holds said
+run_is_one : TheLaws → (source : Source) (said : SaidRun (List ℕ)) (holds : Contents) → IsOne (run_by source holds said)
+run_is_one laws Dslx said holds = laws.run holds said
+run_is_one laws Ir said holds = laws.run_ir holds said
+
+due_where_is_one : TheLaws → (several : Bool) (said : SaidRun (List ℕ)) (holds : Contents) → IsOne (due_where several said (Some holds))
+due_where_is_one laws true said holds a b is also = is ∙ sym also
+due_where_is_one laws false said holds a b is also = run_is_one laws said.how.source said holds a b is.1 also.1
+
+due_of_is_one : TheLaws → (said : Request (List ℕ)) (holds : Contents) → IsOne (due_of said (Some holds))
+due_of_is_one laws (Check said) holds a b is also = laws.check holds said a b is.1 also.1
+due_of_is_one laws (Run said) holds a b is also = due_where_is_one laws (nat_lt 1 said.how.workers) said holds a b is also
+due_of_is_one laws (Sim said) holds a b is also = is ∙ sym also
 
 due_for_is_one : TheLaws → (said : Option (Request (List ℕ))) (holds : Contents) → IsOne (due_for said (Some holds))
 due_for_is_one laws None holds a b is also = is ∙ sym also
-due_for_is_one laws (Some said) holds a b is also = given_is_one laws said holds a b is.1 also.1
+due_for_is_one laws (Some said) holds a b is also = due_of_is_one laws said holds a b is also
 
 pub due_is_one : TheLaws → (words : List (List ℕ)) (holds : Contents) → IsOne (due words (Some holds))
 due_is_one laws words holds = due_for_is_one laws (said_by words) holds
@@ -37,7 +51,7 @@ due_is_one laws words holds = due_for_is_one laws (said_by words) holds
 
 module _ {V : Type 0} (items : V → List ℕ) (words : List (List ℕ)) (told : Option Contents) (files : FileEvents) (given : Result V Refusal) where
   -- what the words' command did is what is due for the words
-  pub done_by_command : (said : Request (List ℕ)) → Some said ≡ said_by words → IsDone items (DueBy told (given_by said)) (files_of said) files given → IsDone items (due words told) (named_files words) files given
+  pub done_by_command : (said : Request (List ℕ)) → Some said ≡ said_by words → IsDone items (due_of said told) (files_of said) files given → IsDone items (due words told) (named_files words) files given
   done_by_command said is done = subst (λ (s : Option (Request (List ℕ))). IsDone items (due_for s told) (named_for s) files given) is done
 
   -- where they say nothing, the refusal is due
@@ -45,6 +59,20 @@ module _ {V : Type 0} (items : V → List ℕ) (words : List (List ℕ)) (told :
   done_without_command is gives asks =
       let done : IsDone items (due_for None told) [] files given = record { names = []; in_order = tt; asked = asks; gives = gives } in
       subst (λ (s : Option (Request (List ℕ))). IsDone items (due_for s told) (named_for s) files given) is done
+
+  -- a run with as many workers as there may be
+  pub done_where : (several : Bool) (said : SaidRun (List ℕ)) → several ≡ nat_lt 1 said.how.workers → IsDone items (due_where several said told) (files_where several said) files given → IsDone items (due_of_run said told) (files_of_run said) files given
+  done_where several said is done = subst (λ b. IsDone items (due_where b said told) (files_where b said) files given) is done
+
+  -- a run in one thread, of what its file is written in
+  pub done_by_source : (source : Source) (said : SaidRun (List ℕ)) → said.how.source ≡ source → said.how.workers ≤ 1 → IsDone items (DueBy told (λ holds. run_by source holds said)) (design.run_files said) files given → IsDone items (due_of_run said told) (files_of_run said) files given
+  done_by_source source said is few done =
+      done_where false said (sym (le-ltb 1 said.how.workers few))
+      (subst (λ s. IsDone items (DueBy told (λ holds. run_by s holds said)) (design.run_files said) files given) (sym is) done)
+
+  -- a run in several threads is to come
+  pub refused_where : (said : SaidRun (List ℕ)) → 1 < said.how.workers → IsDone items (due_where true said told) [] files given → IsDone items (due_of_run said told) (files_of_run said) files given
+  refused_where said several done = done_where true said (sym (lt-ltb 1 said.how.workers several)) done
 
 -- nothing was loaded
 pub nothing_asked : (names : List (List ℕ)) → names ≡ names ++ []

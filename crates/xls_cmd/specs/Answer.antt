@@ -1,30 +1,57 @@
 -- What the program answers to words, by what the files hold.
-use Rattle.std.specs.Prelude.{◌≡◌, ℕ, List, [], Option, Some, None, Result, Ok, Err}
+use Rattle.std.specs.Prelude.{◌≡◌, ℕ, nat_lt, Bool, true, false, List, [], Option, Some, None, Result, Ok, Err}
 use Rattle.xb_io.specs.Contents.{Contents}
 use Rattle.cmd_answer.specs.Fault.{Fault, status_of}
 use Rattle.cmd_answer.specs.Step.{DueBy, Step}
 use Rattle.cmd_answer.specs.declared.fault.Fault.TheVariants.{Usage}
 use Rattle.cmd_words.specs.CommandLine.{said_by}
 use Rattle.cmd_words.specs.declared.request.Request.{Request}
-use Rattle.cmd_words.specs.declared.request.Request.TheVariants.{Check, Run}
+use Rattle.cmd_words.specs.declared.request.Request.TheVariants as request
+use Rattle.cmd_words.specs.declared.request.Run.{Run}
+use Rattle.cmd_words.specs.declared.request.Source.{Source}
+use Rattle.cmd_words.specs.declared.request.Source.TheVariants.{Dslx, Ir}
 use Rattle.cmd_design.specs.Commands as design
+use Rattle.cmd_ir.specs.Commands as ir
 
--- what each command gives: this is the one place that lists them
-abbrev pub given_by : Request (List ℕ) → Contents → Step (List ℕ)
-given_by (Check said) holds = design.check holds said
-given_by (Run said) holds = design.run holds said
+-- what a run gives, by what its file is written in
+abbrev pub run_by : Source → Contents → Run (List ℕ) → Step (List ℕ)
+run_by Dslx holds said = design.run holds said
+run_by Ir holds said = ir.run holds said
+
+-- runs with more than one worker are to come
+abbrev pub due_where : Bool → Run (List ℕ) → Option Contents → Step (List ℕ)
+due_where true said told given = given ≡ Err Usage
+due_where false said told given = DueBy told (λ holds. run_by said.how.source holds said) given
+
+abbrev pub due_of_run : Run (List ℕ) → Option Contents → Step (List ℕ)
+due_of_run said told = due_where (nat_lt 1 said.how.workers) said told
+
+-- What is due for what the words of each command say: this is the one place that lists them. A command that is to come refuses
+-- its words.
+abbrev pub due_of : Request (List ℕ) → Option Contents → Step (List ℕ)
+due_of (request.Check said) told given = DueBy told (λ holds. design.check holds said) given
+due_of (request.Run said) told given = due_of_run said told given
+due_of (request.Sim said) told given = given ≡ Err Usage
+
+abbrev pub files_where : Bool → Run (List ℕ) → List (List ℕ)
+files_where true said = []
+files_where false said = design.run_files said
+
+abbrev pub files_of_run : Run (List ℕ) → List (List ℕ)
+files_of_run said = files_where (nat_lt 1 said.how.workers) said
 
 -- the files that the words of each name, in the order in which they are loaded
 abbrev pub files_of : Request (List ℕ) → List (List ℕ)
-files_of (Check said) = design.check_files said
-files_of (Run said) = design.run_files said
+files_of (request.Check said) = design.check_files said
+files_of (request.Run said) = files_of_run said
+files_of (request.Sim said) = []
 
 abbrev pub due_for : Option (Request (List ℕ)) → Option Contents → Step (List ℕ)
 due_for None told given = given ≡ Err Usage
-due_for (Some said) told given = DueBy told (given_by said) given
+due_for (Some said) told given = due_of said told given
 
--- What is due for these words: the refusal `usage` where they say nothing, and nowhere else; else what their command gives
--- by what the files hold, where that is told.
+-- What is due for these words: the refusal `usage` where they say nothing; else what is due for their command, by what the files
+-- hold, where that is told.
 abbrev pub due : List (List ℕ) → Option Contents → Step (List ℕ)
 due words told = due_for (said_by words) told
 

@@ -9,4 +9,5 @@ pub fn one_answer()
     ensures { (words : List (List ℕ)) (holds : Contents) → IsOne (due words (Some holds)) }
 {
     cmd_design::laws::one_answer();
+    cmd_ir::laws::one_answer();
 }

@@ -4,12 +4,14 @@ ghost use Rattle.cmd_answer.specs.Answered.{IsAnswered};
 ghost use Rattle.cmd_answer.specs.Done.{IsDone};
 ghost use Rattle.cmd_answer.specs.Events.{file_events, sink_events};
 ghost use Rattle.cmd_answer.specs.Fault.{Fault as Cause};
-ghost use Rattle.xls_cmd.specs.Answer.{due, named_files, status_for};
+ghost use Rattle.xls_cmd.specs.Answer.{due, due_of, due_of_run, files_of, files_of_run, named_files, status_for};
+ghost use Rattle.cmd_words.specs.Named.{named, named_run};
 
 use crate::laws::one_answer;
 use cmd_answer::{Fault, Refusal, respond};
 use cmd_design::{check_design, run_design};
-use cmd_words::{Request, read_words};
+use cmd_ir::run_package;
+use cmd_words::{Request, Run, Source, read_words};
 use std::alloc::Global;
 use std::sync::Wait;
 use std::thread::Threads;
@@ -55,10 +57,43 @@ fn execute<'a, F: Files>(
         (file_events F.asked F.faults F.taken files.old files.new) result }
 {
     match read_words(alloc, words) {
-        Ok(Some(Request::Check(said))) => check_design(alloc, files, said),
-        Ok(Some(Request::Run(said))) => run_design(alloc, files, said),
+        Ok(Some(said)) => requested(alloc, files, said),
         Ok(None) => Err(Refusal::Fault(Fault::Usage)),
         Err(_) => Err(Refusal::OutOfMemory),
+    }
+}
+
+/// The output of a command. One that is to come refuses its words.
+fn requested<'a, F: Files>(
+    alloc: Global,
+    files: &mut F,
+    said: Request<&'a str>,
+) -> Result<Vec<u8>, Refusal<'a>>
+    ensures { IsDone (λ text. text.items) (due_of (named said.entry) (F.told files.old)) (files_of (named said.entry))
+        (file_events F.asked F.faults F.taken files.old files.new) result }
+{
+    match said {
+        Request::Check(said) => check_design(alloc, files, said),
+        Request::Run(said) => run(alloc, files, said),
+        Request::Sim(_) => Err(Refusal::Fault(Fault::Usage)),
+    }
+}
+
+/// The output of a run, in this thread.
+fn run<'a, F: Files>(
+    alloc: Global,
+    files: &mut F,
+    said: Run<&'a str>,
+) -> Result<Vec<u8>, Refusal<'a>>
+    ensures { IsDone (λ text. text.items) (due_of_run (named_run said.entry) (F.told files.old)) (files_of_run (named_run said.entry))
+        (file_events F.asked F.faults F.taken files.old files.new) result }
+{
+    if 1 < said.how.workers {
+        return Err(Refusal::Fault(Fault::Usage));
+    }
+    match said.how.source {
+        Source::Dslx => run_design(alloc, files, said),
+        Source::Ir => run_package(alloc, files, said),
     }
 }
 

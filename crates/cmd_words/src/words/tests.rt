@@ -1,4 +1,4 @@
-use crate::request::{Check, Request, Run};
+use crate::request::{Check, How, Request, Run, Sim, Source};
 use crate::words::read_words;
 use std::alloc::Global;
 use std::test::Fail;
@@ -25,8 +25,41 @@ fn words_of_run_are_read(rt: HostRuntime) -> Result<(), Fail> {
         };
         assert_eq!(rt; run.design, "a.x", "{text}");
         assert_eq!(rt; run.inputs, "b.txt", "{text}");
-        assert_eq!(rt; run.activations, 5, "{text}");
+        assert_eq!(rt; run.how.activations, 5, "{text}");
+        assert_eq!(rt; run.how.workers, 1, "{text}");
+        assert_eq!(rt; run.how.depth, None, "{text}");
+        assert_eq!(rt; run.how.source, Source::Dslx, "{text}");
     }
+    Ok(())
+}
+
+#[test]
+fn options_of_run_are_read(rt: HostRuntime) -> Result<(), Fail> {
+    let alloc = rt.alloc();
+    let words = list(
+        alloc,
+        "run --from=ir a.ir --depth 4096 b.txt --activations 1 --workers 16",
+    )?;
+    let Some(Request::Run(run)) = read_words(alloc, &words)? else {
+        return Err(Fail::from("no run"));
+    };
+    assert_eq!(rt; run.design, "a.ir");
+    assert_eq!(rt; run.inputs, "b.txt");
+    assert_eq!(rt; run.how.workers, 16);
+    assert_eq!(rt; run.how.depth, Some(4096));
+    assert_eq!(rt; run.how.source, Source::Ir);
+    Ok(())
+}
+
+#[test]
+fn words_of_sim_are_read(rt: HostRuntime) -> Result<(), Fail> {
+    let alloc = rt.alloc();
+    let words = list(alloc, "sim a.v rows.txt")?;
+    let Some(Request::Sim(sim)) = read_words(alloc, &words)? else {
+        return Err(Fail::from("no sim"));
+    };
+    assert_eq!(rt; sim.design, "a.v");
+    assert_eq!(rt; sim.rows, "rows.txt");
     Ok(())
 }
 
@@ -53,7 +86,9 @@ fn other_words_say_nothing(rt: HostRuntime) -> Result<(), Fail> {
         "check",
         "check a.x b.x",
         "check a.x --top Main",
-        "sim a.v rows.txt",
+        "sim a.v",
+        "sim a.v rows.txt more.txt",
+        "sim a.v rows.txt --from ir",
         "run a.x b.txt",
         "run a.x --activations 5",
         "run a.x b.txt --activations",
@@ -62,7 +97,13 @@ fn other_words_say_nothing(rt: HostRuntime) -> Result<(), Fail> {
         "run a.x b.txt --activations -5",
         "run a.x b.txt --activations 0x5",
         "run a.x b.txt --activations 5 --activations 5",
-        "run a.x b.txt --activations 5 --workers 2",
+        "run a.x b.txt --activations 5 --workers 0",
+        "run a.x b.txt --activations 5 --workers 17",
+        "run a.x b.txt --activations 5 --depth 0",
+        "run a.x b.txt --activations 5 --depth 4097",
+        "run a.x b.txt --activations 5 --from verilog",
+        "run a.x b.txt --activations 5 --from IR",
+        "run a.x b.txt --activations 5 --from ir --from ir",
         "run -a.x b.txt --activations 5",
         "run a.x b.txt c.txt --activations 5",
         "runs a.x b.txt --activations 5",

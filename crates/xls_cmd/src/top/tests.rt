@@ -101,6 +101,52 @@ fn runs_write_the_outcome(rt: HostRuntime) -> Result<(), Fail> {
     Ok(())
 }
 
+const IR: &str = "package P
+chan a(bits[8], id=0, kind=input)
+proc P(st: (), init=()) {
+  after_all.1: token = after_all(id=1)
+  receive.2: (token, bits[8]) = receive(after_all.1, channel=a, id=2)
+  next(st)
+}
+";
+
+#[test]
+fn packages_are_run_or_refused(rt: HostRuntime) -> Result<(), Fail> {
+    let words = "run inc.x in.txt --activations 2 --from ir";
+    let inputs = "chan a\n0x01\n0x02\n";
+    let out = "in a 2: 0x01 0x02\nproc P state () done\n";
+    expect(&rt, &run(&rt, words, IR, inputs)?, 0, out, "", "a package")?;
+    let design = "inc.x: syntax at 18\n";
+    expect(
+        &rt,
+        &run(&rt, words, INC, inputs)?,
+        6,
+        "",
+        design,
+        "a design",
+    )?;
+    let fault = "in.txt: input name at 0\n";
+    expect(
+        &rt,
+        &run(&rt, words, IR, "chan b")?,
+        10,
+        "",
+        fault,
+        "inputs",
+    )?;
+    let usage = "usage: xls check, ir, opt, schedule, verilog, run, sim or gen\n";
+    let to_come = "run inc.x in.txt --activations 2 --workers 2";
+    expect(&rt, &run(&rt, to_come, INC, "")?, 2, "", usage, "workers")?;
+    expect(
+        &rt,
+        &run(&rt, "sim inc.x in.txt", "", "")?,
+        2,
+        "",
+        usage,
+        "sim",
+    )
+}
+
 #[test]
 fn other_designs_are_refused(rt: HostRuntime) -> Result<(), Fail> {
     for (old, new, status, err) in [

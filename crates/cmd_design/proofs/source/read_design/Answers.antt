@@ -1,4 +1,4 @@
-use Rattle.std.proofs.Common.{Ok, ap, length, arith, subst, sym}
+use Rattle.std.proofs.Common.{ap, length, arith, subst, sym}
 use Rattle.cmd_answer.specs.Done.{StopsBy}
 use Rattle.cmd_answer.specs.Loads.{OfText, text_of}
 use Rattle.cmd_answer.specs.Step.{Gives}

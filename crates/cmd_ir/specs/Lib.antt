@@ -1,0 +1,2 @@
+-- the commands of IR texts, and the files that they name
+pub mod Commands
