@@ -17,8 +17,10 @@ use Rattle.cmd_words.specs.declared.request.Source.{Source}
 use Rattle.cmd_words.specs.declared.request.Source.TheVariants.{Dslx, Ir}
 use Rattle.cmd_design.specs.Commands as design
 use Rattle.cmd_ir.specs.Commands as ir
+use Rattle.cmd_sim.specs.Simulation as simulation
 use Rattle.cmd_words.specs.declared.request.Check.{Check as SaidCheck}
 use Rattle.cmd_words.specs.declared.request.Run.{Run as SaidRun}
+use Rattle.cmd_words.specs.declared.request.Sim.{Sim as SaidSim}
 use Rattle.xls_cmd.specs.Answer.{due, due_for, due_of, due_of_run, due_where, files_of, files_of_run, files_where, named_files, named_for, run_by, status_for}
 
 -- each command gives one thing
@@ -26,6 +28,7 @@ pub record TheLaws : Type 0 where
   pub check : (holds : Contents) (said : SaidCheck (List ℕ)) → IsOne (design.check holds said)
   pub run : (holds : Contents) (said : SaidRun (List ℕ)) → IsOne (design.run holds said)
   pub run_ir : (holds : Contents) (said : SaidRun (List ℕ)) → IsOne (ir.run holds said)
+  pub sim : (holds : Contents) (said : SaidSim (List ℕ)) → IsOne (simulation.sim holds said)
 
 run_is_one : TheLaws → (source : Source) (said : SaidRun (List ℕ)) (holds : Contents) → IsOne (run_by source holds said)
 run_is_one laws Dslx said holds = laws.run holds said
@@ -38,7 +41,7 @@ due_where_is_one laws false said holds a b is also = run_is_one laws said.how.so
 due_of_is_one : TheLaws → (said : Request (List ℕ)) (holds : Contents) → IsOne (due_of said (Some holds))
 due_of_is_one laws (Check said) holds a b is also = laws.check holds said a b is.1 also.1
 due_of_is_one laws (Run said) holds a b is also = due_where_is_one laws (nat_lt 1 said.how.workers) said holds a b is also
-due_of_is_one laws (Sim said) holds a b is also = is ∙ sym also
+due_of_is_one laws (Sim said) holds a b is also = laws.sim holds said a b is.1 also.1
 
 due_for_is_one : TheLaws → (said : Option (Request (List ℕ))) (holds : Contents) → IsOne (due_for said (Some holds))
 due_for_is_one laws None holds a b is also = is ∙ sym also

@@ -12,6 +12,7 @@ use Rattle.cmd_words.specs.declared.request.Source.{Source}
 use Rattle.cmd_words.specs.declared.request.Source.TheVariants.{Dslx, Ir}
 use Rattle.cmd_design.specs.Commands as design
 use Rattle.cmd_ir.specs.Commands as ir
+use Rattle.cmd_sim.specs.Simulation as simulation
 
 -- what a run gives, by what its file is written in
 abbrev pub run_by : Source → Contents → Run (List ℕ) → Step (List ℕ)
@@ -31,7 +32,7 @@ due_of_run said told = due_where (nat_lt 1 said.how.workers) said told
 abbrev pub due_of : Request (List ℕ) → Option Contents → Step (List ℕ)
 due_of (request.Check said) told given = DueBy told (λ holds. design.check holds said) given
 due_of (request.Run said) told given = due_of_run said told given
-due_of (request.Sim said) told given = given ≡ Err Usage
+due_of (request.Sim said) told given = DueBy told (λ holds. simulation.sim holds said) given
 
 abbrev pub files_where : Bool → Run (List ℕ) → List (List ℕ)
 files_where true said = []
@@ -44,7 +45,7 @@ files_of_run said = files_where (nat_lt 1 said.how.workers) said
 abbrev pub files_of : Request (List ℕ) → List (List ℕ)
 files_of (request.Check said) = design.check_files said
 files_of (request.Run said) = files_of_run said
-files_of (request.Sim said) = []
+files_of (request.Sim said) = simulation.sim_files said
 
 abbrev pub due_for : Option (Request (List ℕ)) → Option Contents → Step (List ℕ)
 due_for None told given = given ≡ Err Usage

@@ -10,4 +10,5 @@ pub fn one_answer()
 {
     cmd_design::laws::one_answer();
     cmd_ir::laws::one_answer();
+    cmd_sim::laws::one_answer();
 }

@@ -11,6 +11,7 @@ use crate::laws::one_answer;
 use cmd_answer::{Fault, Refusal, respond};
 use cmd_design::{check_design, run_design};
 use cmd_ir::run_package;
+use cmd_sim::sim_design;
 use cmd_words::{Request, Run, Source, read_words};
 use std::alloc::Global;
 use std::sync::Wait;
@@ -63,7 +64,7 @@ fn execute<'a, F: Files>(
     }
 }
 
-/// The output of a command. One that is to come refuses its words.
+/// The output of a command.
 fn requested<'a, F: Files>(
     alloc: Global,
     files: &mut F,
@@ -75,7 +76,7 @@ fn requested<'a, F: Files>(
     match said {
         Request::Check(said) => check_design(alloc, files, said),
         Request::Run(said) => run(alloc, files, said),
-        Request::Sim(_) => Err(Refusal::Fault(Fault::Usage)),
+        Request::Sim(said) => sim_design(alloc, files, said),
     }
 }
 

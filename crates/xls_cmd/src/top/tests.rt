@@ -136,15 +136,7 @@ fn packages_are_run_or_refused(rt: HostRuntime) -> Result<(), Fail> {
     )?;
     let usage = "usage: xls check, ir, opt, schedule, verilog, run, sim or gen\n";
     let to_come = "run inc.x in.txt --activations 2 --workers 2";
-    expect(&rt, &run(&rt, to_come, INC, "")?, 2, "", usage, "workers")?;
-    expect(
-        &rt,
-        &run(&rt, "sim inc.x in.txt", "", "")?,
-        2,
-        "",
-        usage,
-        "sim",
-    )
+    expect(&rt, &run(&rt, to_come, INC, "")?, 2, "", usage, "workers")
 }
 
 #[test]

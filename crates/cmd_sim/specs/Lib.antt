@@ -1,0 +1,2 @@
+-- the command `sim`, and the files that it names
+pub mod Simulation
