@@ -64,6 +64,17 @@ chan d 1/1: 0x01
 proc P state 0x02 done
 proc Q state 0x0 done
 """
+# A counter that starts at 250 and counts each word that is taken.
+COUNTER = """module T ( input wire clk, input wire rst, output wire [7:0] b_data,
+  output wire b_vld, input wire b_rdy );
+reg [7:0] n; wire go; wire [7:0] up; wire [7:0] nx;
+assign go = b_vld & b_rdy; assign up = n + 8'd1; assign nx = go ? up : n;
+assign b_data = n; assign b_vld = ~ rst;
+always @(posedge clk) begin if (rst) begin n <= 8'd250; end
+  else begin n <= nx; end end
+endmodule
+"""
+COUNTED = "0 b=0x00\n1\n2 b=0xfa\n3 b=0xfb\n4 b=0xfb\n5 b=0xfc\nmoved b 3: 0xfa 0xfb 0xfc\n"
 PAST_LIMIT = "limit file: 4194305, at most 4194304\n"
 
 # what it is, the words, the output, the error line, the status
@@ -83,7 +94,15 @@ CASES = [
     ("another command", "walk inc.x", "", USAGE, 2),
     ("a number past its bound", "run inc.x in.txt --activations 1048577", "", USAGE, 2),
     ("an option that comes later", RUN + " --workers 2", "", USAGE, 2),
-    ("a command that comes later", "sim inc.x in.txt", "", USAGE, 2),
+    ("a command that comes later", "verilog inc.x", "", USAGE, 2),
+    ("a simulation", "sim counter.v rows.txt", COUNTED, "", 0),
+    ("a simulation over no rows", "sim counter.v empty", "moved b 0:\n", "", 0),
+    ("a simulation without rows", "sim counter.v", "", USAGE, 2),
+    ("a design as a module", "sim inc.x rows.txt", "", "inc.x: syntax at 0\n", 6),
+    ("a loop of wires, before rows at fault", "sim loop.v words.txt", "", "loop.v: rule 75 at 58..71\n", 7),
+    ("rows that are at fault", "sim counter.v words.txt", "", "words.txt: input name at 4\n", 10),
+    ("rows past the limit", "sim counter.v many.txt", "", "many.txt: limit cycles: 1048577, at most 1048576\n", 8),
+    ("no such rows, before a text that is no module", "sim inc.x missing.txt", "", "cannot read missing.txt\n", 4),
     ("a run of a design, by its name", RUN + " --from dslx", OUTCOME, "", 0),
     ("a depth, of no inner channel", RUN + " --depth 1", OUTCOME, "", 0),
     ("a depth past its bound", RUN + " --depth 4097", "", USAGE, 2),
@@ -282,6 +301,8 @@ def lay_out(folder):
              "chain.ir": CHAIN, "chain.txt": CHAIN_WORDS, "two.ir": TWO,
              "p.ir": "package P\nchan a(bits[8], id=0, kind=output)\nproc P(st: (), init=()) {\n  after_all.1: token = after_all(id=1)\n"
                      "  receive.2: (token, bits[8]) = receive(after_all.1, channel=a, id=2)\n  next(st)\n}\n",
+             "counter.v": COUNTER, "rows.txt": "- b!\nR\n- b!\n-\n- b! x2\n", "words.txt": "R\n-\n- a!", "many.txt": "- x1048577",
+             "loop.v": "module T(input wire clk, input wire rst); wire a; wire b; assign a = b; assign b = a; endmodule",
              "output.txt": "chan b", "wide.txt": "chan a\n0x100\n"}
     for name, text in files.items():
         with open(os.path.join(folder, name), "w", encoding="utf-8") as file:
