@@ -15,8 +15,8 @@ import subprocess
 import sys
 import tempfile
 
-from check_program import (CHAIN, CHAIN_OUTCOME, CHAIN_RUN, CHAIN_WORDS, DESIGN, OUTCOME, PAIR, PAIR_OUTCOME, RUN, TWO, TWO_DEEPER,
-                           TWO_RUN, USAGE, WORDS)
+from check_program import (CHAIN, CHAIN_LONG, CHAIN_OUTCOME, CHAIN_RUN, CHAIN_SCHEDULE, CHAIN_WORDS, DESIGN, OUTCOME, PAIR, PAIR_OUTCOME, RUN,
+                           TWO, TWO_DEEPER, TWO_RUN, USAGE, WORDS)
 
 FAILING = r"""
 #define _GNU_SOURCE
@@ -70,6 +70,8 @@ CASES = [
     (CHAIN_RUN, (CHAIN_OUTCOME, "", 0)),
     (TWO_RUN + " --depth 2", (TWO_DEEPER, "", 0)),
     ("run late.ir chain.txt --activations 3 --from ir", ("", "late.ir: rule 51 at 459..504\n", 7)),
+    ("schedule chain.ir --clock 100 --from ir", (CHAIN_SCHEDULE, "", 0)),
+    ("schedule chain.ir --clock 100 --stages 2 --from ir", ("", CHAIN_LONG, 9)),
     ("run inc.x", ("", USAGE, 2)),
     ("check missing.x", ("", "cannot read missing.x\n", 4)),
     ("check in.txt", ("", "in.txt: syntax at 0\n", 6)),

@@ -75,6 +75,21 @@ always @(posedge clk) begin if (rst) begin n <= 8'd250; end
 endmodule
 """
 COUNTED = "0 b=0x00\n1\n2 b=0xfa\n3 b=0xfb\n4 b=0xfb\n5 b=0xfc\nmoved b 3: 0xfa 0xfb 0xfc\n"
+ASK = example("ask.ir")
+CHAIN_SCHEDULE = """proc Chain stages 3 interval 1
+  after_all.1 0
+  receive.2 0
+  tuple_index.3 0
+  tuple_index.4 0
+  literal.5 0
+  add.6 0
+  add.7 1
+  add.8 2
+  send.9 2
+"""
+CHAIN_SLOW = "infeasible: Chain: add.6 takes 100 ps, clock 99\n"
+CHAIN_LONG = "infeasible: Chain: add.8 needs 3 stages, given 2\n"
+ASK_RARE = "infeasible: Ask: interval 2, given 1\n"
 PAST_LIMIT = "limit file: 4194305, at most 4194304\n"
 
 # what it is, the words, the output, the error line, the status
@@ -119,6 +134,17 @@ CASES = [
     ("a receive from an output", "run p.ir chain.txt --activations 1 --from ir", "", "p.ir: rule 54 at 112..179\n", 7),
     ("words of a package that are at fault", "run chain.ir output.txt --activations 3 --from ir", "",
      "output.txt: input name at 0\n", 10),
+    ("a schedule", "schedule chain.ir --clock 100 --from ir", CHAIN_SCHEDULE, "", 0),
+    ("a schedule that just fits", "schedule chain.ir --clock 100 --stages 3 --ii 1 --from ir", CHAIN_SCHEDULE, "", 0),
+    ("a node that is too slow", "schedule chain.ir --clock 99 --from ir", "", CHAIN_SLOW, 9),
+    ("too few stages", "schedule chain.ir --clock 100 --stages 2 --from ir", "", CHAIN_LONG, 9),
+    ("an interval that is too short", "schedule ask.ir --clock 1000 --ii 1 --from ir", "", ASK_RARE, 9),
+    ("a clock past its bound", "schedule chain.ir --clock 1000001 --from ir", "", USAGE, 2),
+    ("a schedule in no stage", "schedule chain.ir --clock 100 --stages 0 --from ir", "", USAGE, 2),
+    ("a schedule without a clock", "schedule chain.ir --from ir", "", USAGE, 2),
+    ("a schedule of a design, which comes later", "schedule inc.x --clock 100", "", USAGE, 2),
+    ("a schedule of no package", "schedule inc.x --clock 100 --from ir", "", "inc.x: syntax at 18\n", 6),
+    ("a schedule of no file", "schedule missing.ir --clock 100 --from ir", "", "cannot read missing.ir\n", 4),
     ("no such file", "check missing.x", "", "cannot read missing.x\n", 4),
     ("no such second file", "run inc.x missing.txt --activations 5", "", "cannot read missing.txt\n", 4),
     ("no such first file", "run missing.x in.txt --activations 5", "", "cannot read missing.x\n", 4),
@@ -298,7 +324,7 @@ def lay_out(folder):
     files = {"inc.x": DESIGN, "in.txt": "chan a\n0x00\n0xff\n", "empty": "", "big.x": " " * 4194305,
              "limit.x": " " * 4194304, "sum.x": SUM, "sum.txt": "chan a\n0x05\n0x01\n", "pair.x": PAIR, "pair.txt": WORDS,
              "sums.x": "proc M { config() { () } init { () } next(s: ()) { let x = u8:1 + u16:1; () } }",
-             "chain.ir": CHAIN, "chain.txt": CHAIN_WORDS, "two.ir": TWO,
+             "chain.ir": CHAIN, "chain.txt": CHAIN_WORDS, "two.ir": TWO, "ask.ir": ASK,
              "p.ir": "package P\nchan a(bits[8], id=0, kind=output)\nproc P(st: (), init=()) {\n  after_all.1: token = after_all(id=1)\n"
                      "  receive.2: (token, bits[8]) = receive(after_all.1, channel=a, id=2)\n  next(st)\n}\n",
              "counter.v": COUNTER, "rows.txt": "- b!\nR\n- b!\n-\n- b! x2\n", "words.txt": "R\n-\n- a!", "many.txt": "- x1048577",

@@ -1,11 +1,11 @@
 -- For the crates of commands: steps one after the other, loads one after the other, and what is answered then.
 use Rattle.std.proofs.Common.{◌≡◌, ◌≤◌, ℕ, List, [], ◌∷◌, ◌++◌, inl, inr, Option, Some, None, Result, Ok, Err, refl, sym, ap, ◌∙◌, subst, arith}
-use Rattle.std.specs.Prelude.{MatchResult, IfOk, IfErr, IsErrAnd}
+use Rattle.std.specs.Prelude.{MatchResult, IfOk, IfErr, IsErrAnd, string_bytes}
 use Rattle.std.proofs.lemmas.List.{append_assoc, append-nil}
 use Rattle.xb_io.specs.Contents.{Contents}
 use Rattle.cmd_answer.specs.declared.refusal.Refusal.{Refusal}
 use Rattle.cmd_answer.specs.declared.refusal.Refusal.TheVariants as refusal
-use Rattle.cmd_answer.specs.declared.fault.Fault.TheVariants.{Usage, TooBig, Text, Input}
+use Rattle.cmd_answer.specs.declared.fault.Fault.TheVariants.{Usage, TooBig, Text, Input, Infeasible}
 use Rattle.std.specs.Borrow.{Bor}
 use Rattle.cmd_answer.specs.declared.fault.Fault as code
 use Rattle.cmd_answer.specs.Fault.{Fault, named, status_of}
@@ -25,12 +25,14 @@ pub stops_in_first : {A B : Type 0} (first : Result A Fault → Type 0) (next : 
 stops_in_first first next refusal.OutOfMemory stop = tt
 stops_in_first first next (refusal.Unread name) stop = absurd stop
 stops_in_first first next (refusal.Fault fault) stop = (stops (named fault) stop.0, stop.1)
+stops_in_first first next (refusal.Infeasible line) stop = stops (Infeasible (string_bytes line)) stop
 
 -- and one of what follows too
 pub stops_in_next : {A B : Type 0} (first : Result A Fault → Type 0) (next : A → Result B Fault → Type 0) (x : A) (r : Refusal) → first (Ok x) → StopsBy (next x) r → StopsBy (Then first next) r
 stops_in_next first next x refusal.OutOfMemory here stop = tt
 stops_in_next first next x (refusal.Unread name) here stop = absurd stop
 stops_in_next first next x (refusal.Fault fault) here stop = (goes_on x (Err (named fault)) here stop.0, stop.1)
+stops_in_next first next x (refusal.Infeasible line) here stop = goes_on x (Err (Infeasible (string_bytes line))) here stop
 
 -- what follows the first step gives what the whole gives
 pub gives_in_next : {A B : Type 0} (first : Result A Fault → Type 0) (next : A → Result B Fault → Type 0) (x : A) (y : B) → first (Ok x) → next x (Ok y) → Then first next (Ok y)
@@ -88,6 +90,7 @@ pub refused_as : (due due' : Result (List ℕ) Fault → Type 0) (files : FileEv
 refused_as due due' files names refusal.OutOfMemory same is = is
 refused_as due due' files names (refusal.Unread name) same is = is
 refused_as due due' files names (refusal.Fault fault) same is = (same (named fault) is.0, is.1, is.2)
+refused_as due due' files names (refusal.Infeasible line) same is = (same (Infeasible (string_bytes line)) is.0, is.1)
 
 -- the last name stays the last one behind others
 last_behind : (before names : List (List ℕ)) (name : List ℕ) → IsLast names name → IsLast (before ++ names) name
@@ -104,6 +107,7 @@ module _ {F : Type 0} (asked : F → List (List ℕ)) (faults taken : F → ℕ)
   refused_later due old mid new before names refusal.OutOfMemory same rises is = is ∙ same
   refused_later due old mid new before names (refusal.Unread name) same rises is = (omega arith, last_behind before names name.now is.1)
   refused_later due old mid new before names (refusal.Fault fault) same rises is = (is.0, is.1 ∙ same, counted_later old mid new (named fault) rises is.2)
+  refused_later due old mid new before names (refusal.Infeasible line) same rises is = (is.0, is.1 ∙ same)
 
   -- the names of loads one after the other
   pub asks_later : (old mid new : F) (before names : List (List ℕ)) → asked mid ≡ asked old ++ before → asked new ≡ asked mid ++ names → asked new ≡ asked old ++ (before ++ names)
@@ -134,17 +138,20 @@ counted_behind files Usage is = tt
 counted_behind files (TooBig name) is = absurd is
 counted_behind files (Text name error) is = tt
 counted_behind files (Input name cause at) is = tt
+counted_behind files (Infeasible line) is = tt
 
 of_command : (fault : code.Fault (Bor (List ℕ))) → IsBehindLoads fault → IsOfCommand (named fault)
 of_command Usage is = absurd is
 of_command (TooBig name) is = tt
 of_command (Text name error) is = tt
 of_command (Input name cause at) is = tt
+of_command (Infeasible line) is = tt
 
 refused_behind : (told : Option Contents) (step : Result (List ℕ) Fault → Type 0) (files : FileEvents) (names : List (List ℕ)) (r : Refusal) → files.sound → StopsBy step r → IsRefused (DueBy told (λ holds. step)) files names r
 refused_behind told step files names refusal.OutOfMemory sound stop = sound
 refused_behind told step files names (refusal.Unread name) sound stop = absurd stop
 refused_behind told step files names (refusal.Fault fault) sound stop = (due_anyway told step (Err (named fault)) (of_command fault stop.1) stop.0, sound, counted_behind files fault stop.1)
+refused_behind told step files names (refusal.Infeasible line) sound stop = (due_anyway told step (Err (Infeasible (string_bytes line))) tt stop, sound)
 
 gives_behind : {V : Type 0} (items : V → List ℕ) (told : Option Contents) (step : Result (List ℕ) Fault → Type 0) (files : FileEvents) (names : List (List ℕ)) (given : Result V Refusal) → files.sound →
     IfOk given (λ v. step (Ok (items v))) → IfErr given (StopsBy step) → GivesDue items (DueBy told (λ holds. step)) files names given
@@ -210,12 +217,14 @@ status_named Usage = refl
 status_named (TooBig name) = refl
 status_named (Text name error) = refl
 status_named (Input name cause at) = refl
+status_named (Infeasible line) = refl
 
 shown : (due : Result (List ℕ) Fault → Type 0) (files : FileEvents) (names : List (List ℕ)) (out err : SinkEvents) (r : Refusal) (status : ℕ) → IsRefused due files names r → ShowsRefusal out err r status →
     Answers due files names out err status
 shown due files names out err refusal.OutOfMemory status is shows = answers_at due files names out err status 3 shows.1 (no_memory is shows.0 shows.2)
 shown due files names out err (refusal.Unread name) status is shows = answers_at due files names out err status 4 shows.1 (unread name.now is.1 is.0 shows.0 shows.2)
 shown due files names out err (refusal.Fault fault) status is shows = answers_at due files names out err status _ (shows.1 ∙ sym (status_named fault)) (refused (named fault) is.0 is.1 is.2 shows.0 shows.2)
+shown due files names out err (refusal.Infeasible line) status is shows = answers_at due files names out err status 9 shows.1 (refused (Infeasible (string_bytes line)) is.0 is.1 tt shows.0 shows.2)
 
 given_answer : {V : Type 0} (items : V → List ℕ) (due : Result (List ℕ) Fault → Type 0) (files : FileEvents) (names : List (List ℕ)) (out err : SinkEvents) (given : Result V Refusal) (status : ℕ) →
     GivesDue items due files names given → MatchResult given (λ v. Writes out err (items v) status) (λ r. ShowsRefusal out err r status) → Answers due files names out err status

@@ -1,12 +1,12 @@
 -- What a command did: what is due, but for want of memory and faults of the outside.
-use Rattle.std.specs.Prelude.{◌≡◌, ℕ, List, [], ◌∷◌, ◌++◌, Result, Ok, Err}
+use Rattle.std.specs.Prelude.{◌≡◌, ℕ, List, [], ◌∷◌, ◌++◌, Result, Ok, Err, string_bytes}
 use Rattle.lists.specs.Front.{IsFront}
 use Rattle.std.specs.Borrow.{Bor}
 use Rattle.xb_span.specs.declared.read_error.ReadError.{ReadError}
 use Rattle.xb_span.specs.declared.read_error.ReadError.TheVariants.{OutOfMemory}
 use Rattle.cmd_answer.specs.declared.refusal.Refusal.{Refusal}
 use Rattle.cmd_answer.specs.declared.refusal.Refusal.TheVariants as refusal
-use Rattle.cmd_answer.specs.declared.fault.Fault.TheVariants.{Usage, TooBig, Text}
+use Rattle.cmd_answer.specs.declared.fault.Fault.TheVariants.{Usage, TooBig, Text, Infeasible}
 use Rattle.cmd_answer.specs.declared.fault.Fault as code
 use Rattle.cmd_answer.specs.Fault.{Fault, named}
 use Rattle.cmd_answer.specs.Events.{FileEvents}
@@ -22,6 +22,7 @@ abbrev pub StopsBy : {A : Type 0} → (Result A Fault → Type 0) → Refusal �
 StopsBy step refusal.OutOfMemory = Unit {0}
 StopsBy step (refusal.Unread name) = ⊥
 StopsBy step (refusal.Fault fault) = step (Err (named fault)) × IsBehindLoads fault
+StopsBy step (refusal.Infeasible line) = step (Err (Infeasible (string_bytes line)))
 
 -- the refusal of the text of a file, for a fault of the text or for want of memory
 abbrev pub text_refusal : Bor (List ℕ) → ReadError → Refusal
@@ -47,6 +48,7 @@ abbrev pub IsRefused : (Result (List ℕ) Fault → Type 0) → FileEvents → L
 IsRefused due files names refusal.OutOfMemory = files.sound
 IsRefused due files names (refusal.Unread name) = files.faulted × IsLast names name.now
 IsRefused due files names (refusal.Fault fault) = due (Err (named fault)) × files.sound × IsBackedByBytes files (named fault)
+IsRefused due files names (refusal.Infeasible line) = due (Err (Infeasible (string_bytes line))) × files.sound
 
 -- a command that names files gave the text that is due, or refused
 abbrev pub GivesDue : {V : Type 0} → (V → List ℕ) → (Result (List ℕ) Fault → Type 0) → FileEvents → List (List ℕ) → Result V Refusal → Type 0

@@ -8,7 +8,7 @@ use Rattle.xb_span.specs.declared.read_error.ReadError.{ReadError}
 use Rattle.xb_span.specs.declared.read_error.ReadError.TheVariants.{Syntax, Broken, Over, OutOfMemory}
 use Rattle.chan_file.specs.Cause.{word_of}
 use Rattle.cmd_answer.specs.declared.fault.Fault as code
-use Rattle.cmd_answer.specs.declared.fault.Fault.TheVariants.{Usage, TooBig, Text, Input}
+use Rattle.cmd_answer.specs.declared.fault.Fault.TheVariants.{Usage, TooBig, Text, Input, Infeasible}
 
 -- a fault, with the names of files as lists of bytes
 abbrev pub Fault : Type 0
@@ -20,6 +20,7 @@ named Usage = Usage
 named (TooBig name) = TooBig name.now
 named (Text name error) = Text name.now error
 named (Input name cause at) = Input name.now cause at
+named (Infeasible line) = Infeasible line.now
 
 -- the status of a text that is refused
 abbrev pub text_status : ReadError → ℕ
@@ -33,6 +34,7 @@ status_of Usage = 2
 status_of (TooBig name) = 8
 status_of (Text name error) = text_status error
 status_of (Input name cause at) = 10
+status_of (Infeasible line) = 9
 
 -- what a file past the limit of bytes passes
 abbrev pub past_file_limit : ReadError
@@ -47,3 +49,4 @@ line_of Usage = codes "usage: xls check, ir, opt, schedule, verilog, run, sim or
 line_of (TooBig name) = in_file name (refusal_text past_file_limit)
 line_of (Text name error) = in_file name (refusal_text error)
 line_of (Input name cause at) = in_file name (codes "input " ++ word_of cause ++ codes " at " ++ decimal at)
+line_of (Infeasible line) = line

@@ -19,6 +19,8 @@ pub enum Fault<N> {
     Text(N, ReadError),
     /// The line at this byte of a file of words.
     Input(N, Cause, u32),
+    /// A proc that has no legal schedule; its line says which, and why.
+    Infeasible(N),
 }
 
 impl<N> Fault<N> {
@@ -34,6 +36,7 @@ impl<N> Fault<N> {
             Fault::Text(_, ReadError::Over(_)) => 8,
             Fault::Text(_, ReadError::OutOfMemory) => 3,
             Fault::Input(_, _, _) => 10,
+            Fault::Infeasible(_) => 9,
         }
     }
 }
@@ -61,6 +64,7 @@ impl Fault<&str> {
                     Piece::Number(at as u64),
                 ],
             ),
+            Fault::Infeasible(line) => sink.put(line.as_bytes()),
         }
     }
 }

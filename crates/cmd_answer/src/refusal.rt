@@ -7,12 +7,14 @@ use std::alloc::AllocError;
 use xb_span::ReadError;
 
 /// Why a command gives no output.
-#[derive(Clone, Copy)]
+#[derive(Drop)]
 pub enum Refusal<'a> {
     OutOfMemory,
     /// A fault of the outside: the file can't be read.
     Unread(&'a str),
     Fault(Fault<&'a str>),
+    /// The fault [`Fault::Infeasible`], whose line names what no word names and no file that is left.
+    Infeasible(String),
 }
 
 impl From<AllocError> for Refusal<'_> {
@@ -48,6 +50,7 @@ impl Refusal<'_> {
             Refusal::OutOfMemory => 3,
             Refusal::Unread(_) => 4,
             Refusal::Fault(fault) => fault.status(),
+            Refusal::Infeasible(_) => 9,
         }
     }
 }

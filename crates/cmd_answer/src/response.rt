@@ -2,6 +2,7 @@ ghost use Rattle.std.specs.Prelude.{MatchResult};
 ghost use Rattle.cmd_answer.specs.Events.{PutsOrBreaksOff, sink_events};
 ghost use Rattle.cmd_answer.specs.Response.{ShowsRefusal, Writes, refusal_line};
 
+use crate::fault::Fault;
 use crate::pieces::put_pieces;
 use crate::refusal::Refusal;
 use xb_io::{Failed, Sink};
@@ -37,16 +38,17 @@ pub fn respond<O: Sink, E: Sink>(
 fn put_refusal<S: Sink>(sink: &mut S, refusal: &Refusal<'_>)
     ensures { PutsOrBreaksOff (sink_events S.written S.faults sink.old sink.new) (refusal_line refusal.now) }
 {
-    let _ = match *refusal {
+    let _ = match refusal {
         Refusal::OutOfMemory => put_pieces(sink, &[Piece::Text("out of memory\n")]),
         Refusal::Unread(name) => put_pieces(
             sink,
             &[
                 Piece::Text("cannot read "),
-                Piece::Text(name),
+                Piece::Text(*name),
                 Piece::Text("\n"),
             ],
         ),
         Refusal::Fault(fault) => fault.put_line(sink),
+        Refusal::Infeasible(line) => Fault::Infeasible(line.as_str()).put_line(sink),
     };
 }

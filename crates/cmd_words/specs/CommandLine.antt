@@ -11,8 +11,10 @@ use Rattle.cmd_words.specs.declared.request.Check.{Check}
 use Rattle.cmd_words.specs.declared.request.How.{How}
 use Rattle.cmd_words.specs.declared.request.Run.{Run}
 use Rattle.cmd_words.specs.declared.request.Sim.{Sim}
+use Rattle.cmd_words.specs.declared.request.Schedule.{Schedule}
 use Rattle.cmd_words.specs.declared.request.Source.{Source}
 use Rattle.cmd_words.specs.declared.request.Source.TheVariants.{Dslx, Ir}
+use Rattle.cmd_words.specs.declared.request.Timing.{Timing}
 
 -- ---- the command line
 
@@ -60,12 +62,36 @@ run = with_rule (with_rule (with_rule plain_run workers) depth) from
 abbrev pub sim : App
 sim = with_rule (with_rule (new_app (codes "sim")) (file (codes "design"))) (file (codes "rows"))
 
+-- `--clock PS`
+abbrev pub clock : Rule
+clock = record (new_rule (codes "clock")) {
+  long = Some (codes "clock");
+  required = true;
+  parser = Some (vp.Signed (pos 1) (pos 1000000));
+}
+
+-- `--stages N`
+abbrev pub stages : Rule
+stages = record (option (codes "stages")) { parser = Some (vp.Signed (pos 1) (pos 64)) }
+
+-- `--ii N`
+abbrev pub interval : Rule
+interval = record (option (codes "ii")) { parser = Some (vp.Signed (pos 1) (pos 64)) }
+
+-- the file, the clock and the stages
+abbrev pub plain_schedule : App
+plain_schedule = with_rule (with_rule (with_rule (new_app (codes "schedule")) (file (codes "design"))) clock) stages
+
+-- `schedule FILE --clock PS [--stages N] [--ii N] [--from F]`
+abbrev pub schedule : App
+schedule = with_rule (with_rule plain_schedule interval) from
+
 -- the words begin with no program's name
 abbrev pub bare : App → App
 bare app = record app { top = record app.top { no_binary_name = true } }
 
 unfoldable pub xls : App
-xls = with_subcommand (with_subcommand (with_subcommand (bare (new_app (codes "xls"))) check.top) run.top) sim.top
+xls = with_subcommand (with_subcommand (with_subcommand (with_subcommand (bare (new_app (codes "xls"))) check.top) run.top) sim.top) schedule.top
 
 -- ---- what words say
 
@@ -109,12 +135,29 @@ abbrev pub said_by_sim : List Row → Option (Sim Text)
 said_by_sim rows =
     option_and_then (λ design. option_map (λ inputs. record { design = design; rows = inputs }) (first_of (codes "rows") rows)) (first_of (codes "design") rows)
 
+-- how many stages or cycles there may be: 64 where no word says it
+abbrev pub most_in : Option Text → Option ℕ
+most_in None = Some 64
+most_in (Some text) = number_in 1 64 text
+
+abbrev pub said_of_timing : List Row → Option Timing
+said_of_timing rows =
+    option_and_then (λ c. option_and_then (λ s. option_map (λ i. record { clock = c; stages = s; interval = i })
+    (most_in (first_of (codes "ii") rows))) (most_in (first_of (codes "stages") rows)))
+    (option_and_then (number_in 1 1000000) (first_of (codes "clock") rows))
+
+abbrev pub said_by_schedule : List Row → Option (Schedule Text)
+said_by_schedule rows =
+    option_and_then (λ design. option_and_then (λ timing. option_map (λ source. record { design = design; timing = timing; source = source })
+    (source_in (first_of (codes "from") rows))) (said_of_timing rows)) (first_of (codes "design") rows)
+
 -- what the matches of a subcommand say
 abbrev pub said_by_subcommand : Text × List Row → Option (Request Text)
 said_by_subcommand found =
     if bytes_eq found.0 (codes "check") then option_map request.Check (said_by_check found.1)
     else if bytes_eq found.0 (codes "run") then option_map request.Run (said_by_run found.1)
     else if bytes_eq found.0 (codes "sim") then option_map request.Sim (said_by_sim found.1)
+    else if bytes_eq found.0 (codes "schedule") then option_map request.Schedule (said_by_schedule found.1)
     else None
 
 -- where `clap` finds no fault in the words, what the matches of their subcommand say

@@ -2,3 +2,5 @@
 pub mod CommandLine
 -- the same without where the names lie
 pub mod Named
+-- which requests have numbers within their bounds
+pub mod Bounds

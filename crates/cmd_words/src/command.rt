@@ -1,7 +1,7 @@
 ghost use Rattle.std.specs.Prelude.{◌≡◌, IfOk, false};
 ghost use Rattle.clap.specs.Words.{app_of, rule_of};
 ghost use Rattle.clap.specs.declared.builder.Command.TheViews.{out-Command as fields_of};
-ghost use Rattle.cmd_words.specs.CommandLine.{activations, check, depth, file, from, option, plain_run, run, sim, workers, xls};
+ghost use Rattle.cmd_words.specs.CommandLine.{activations, check, clock, depth, file, from, interval, option, plain_run, plain_schedule, run, schedule, sim, stages, workers, xls};
 
 use clap::{Arg, Command, value_parser};
 use std::alloc::{AllocError, Global};
@@ -14,7 +14,8 @@ pub fn command<'a>(alloc: Global) -> Result<Command<'a>, AllocError>
         .no_binary_name(true)
         .subcommand(check(alloc)?)?
         .subcommand(run(alloc)?)?
-        .subcommand(sim(alloc)?)
+        .subcommand(sim(alloc)?)?
+        .subcommand(schedule(alloc)?)
 }
 
 fn check<'a>(alloc: Global) -> Result<Command<'a>, AllocError>
@@ -52,6 +53,26 @@ fn sim<'a>(alloc: Global) -> Result<Command<'a>, AllocError>
     Command::new(alloc, "sim")
         .arg(file(alloc, "design"))?
         .arg(file(alloc, "rows"))
+}
+
+fn schedule<'a>(alloc: Global) -> Result<Command<'a>, AllocError>
+    ensures app { IfOk result (λ command. app_of command ≡ schedule) }
+    ensures local { IfOk result (λ command. (fields_of command).has_globals ≡ false) }
+{
+    plain_schedule(alloc)?
+        .arg(interval(alloc))?
+        .arg(from(alloc))
+}
+
+/// The file, the clock and the stages.
+fn plain_schedule<'a>(alloc: Global) -> Result<Command<'a>, AllocError>
+    ensures app { IfOk result (λ command. app_of command ≡ plain_schedule) }
+    ensures local { IfOk result (λ command. (fields_of command).has_globals ≡ false) }
+{
+    Command::new(alloc, "schedule")
+        .arg(file(alloc, "design"))?
+        .arg(clock(alloc))?
+        .arg(stages(alloc))
 }
 
 /// The name of a file, which stands at its place.
@@ -92,6 +113,33 @@ fn from<'a>(alloc: Global) -> Arg<'a>
     ensures local { result.global ≡ false }
 {
     option(alloc, "from")
+}
+
+/// `--clock PS`
+fn clock<'a>(alloc: Global) -> Arg<'a>
+    ensures rule { rule_of result ≡ clock }
+    ensures local { result.global ≡ false }
+{
+    Arg::new(alloc, "clock")
+        .long("clock")
+        .required(true)
+        .value_parser(value_parser!(u32).range(1..=1_000_000))
+}
+
+/// `--stages N`
+fn stages<'a>(alloc: Global) -> Arg<'a>
+    ensures rule { rule_of result ≡ stages }
+    ensures local { result.global ≡ false }
+{
+    option(alloc, "stages").value_parser(value_parser!(u32).range(1..=64))
+}
+
+/// `--ii N`
+fn interval<'a>(alloc: Global) -> Arg<'a>
+    ensures rule { rule_of result ≡ interval }
+    ensures local { result.global ≡ false }
+{
+    option(alloc, "ii").value_parser(value_parser!(u32).range(1..=64))
 }
 
 /// `--activations N`

@@ -12,5 +12,5 @@ mod number;
 mod request;
 mod words;
 
-pub use request::{Check, How, Request, Run, Sim, Source};
+pub use request::{Check, How, Request, Run, Schedule, Sim, Source, Timing};
 pub use words::read_words;

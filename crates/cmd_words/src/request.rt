@@ -4,6 +4,7 @@ pub enum Request<N> {
     Check(Check<N>),
     Run(Run<N>),
     Sim(Sim<N>),
+    Schedule(Schedule<N>),
 }
 
 /// `check FILE`
@@ -44,4 +45,23 @@ pub enum Source {
 pub struct Sim<N> {
     pub design: N,
     pub rows: N,
+}
+
+/// `schedule FILE --clock PS [--stages N] [--ii N] [--from F]`
+#[derive(Clone, Copy)]
+pub struct Schedule<N> {
+    pub design: N,
+    pub timing: Timing,
+    pub source: Source,
+}
+
+/// What a pipeline must keep to.
+#[derive(Clone, Copy, Debug, PartialEq, Eq)]
+pub struct Timing {
+    /// How many picoseconds a cycle has: 1 to 1,000,000.
+    pub clock: u32,
+    /// How many stages there are at most: 1 to 64.
+    pub stages: u32,
+    /// How many cycles there are at most from the beginning of an activation to that of the next: 1 to 64.
+    pub interval: u32,
 }

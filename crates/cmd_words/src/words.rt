@@ -1,11 +1,12 @@
-ghost use Rattle.std.specs.Prelude.{◌≡◌, IfOk, Option, map, option_map, option_and_then, string_bytes};
+ghost use Rattle.std.specs.Prelude.{◌≡◌, ◌≤◌, IfOk, IfSome, Option, map, option_map, option_and_then, string_bytes};
 ghost use Rattle.clap.specs.Words.{first_of, found_of, rows_of, subcommand_rows_of};
-ghost use Rattle.cmd_words.specs.CommandLine.{depth_in, said_by, said_by_check, said_by_run, said_by_sim, said_by_subcommand, said_of_how, source_in, workers_in};
-ghost use Rattle.cmd_words.specs.Named.{named, named_check, named_run, named_sim};
+ghost use Rattle.cmd_words.specs.CommandLine.{depth_in, most_in, said_by, said_by_check, said_by_run, said_by_schedule, said_by_sim, said_by_subcommand, said_of_how, said_of_timing, source_in, workers_in};
+ghost use Rattle.cmd_words.specs.Named.{named, named_check, named_run, named_schedule, named_sim};
+ghost use Rattle.cmd_words.specs.Bounds.{IsInBounds};
 
 use crate::command::command;
 use crate::number::read_number;
-use crate::request::{Check, How, Request, Run, Sim, Source};
+use crate::request::{Check, How, Request, Run, Schedule, Sim, Source, Timing};
 use clap::ArgMatches;
 use clap::error::ErrorKind;
 use std::alloc::{AllocError, Global};
@@ -15,7 +16,8 @@ pub fn read_words<'a>(
     alloc: Global,
     words: &'a [String],
 ) -> Result<Option<Request<&'a str>>, AllocError>
-    ensures { IfOk result (λ said. option_map named said ≡ said_by (map string_bytes words.entry.now)) }
+    ensures said { IfOk result (λ said. option_map named said ≡ said_by (map string_bytes words.entry.now)) }
+    ensures bounds { IfOk result (λ said. IfSome said IsInBounds) }
 {
     match command(alloc)?.try_get_matches_from(words) {
         Ok(matches) => Ok(request(&matches)),
@@ -27,12 +29,14 @@ pub fn read_words<'a>(
 }
 
 fn request<'a>(matches: &ArgMatches<'a>) -> Option<Request<&'a str>>
-    ensures { option_map named result ≡ option_and_then said_by_subcommand (subcommand_rows_of matches.now) }
+    ensures said { option_map named result ≡ option_and_then said_by_subcommand (subcommand_rows_of matches.now) }
+    ensures bounds { IfSome result IsInBounds }
 {
     match matches.subcommand() {
         Some(("check", matches)) => Some(Request::Check(check(matches)?)),
         Some(("run", matches)) => Some(Request::Run(run(matches)?)),
         Some(("sim", matches)) => Some(Request::Sim(sim(matches)?)),
+        Some(("schedule", matches)) => Some(Request::Schedule(schedule(matches)?)),
         _ => None,
     }
 }
@@ -132,6 +136,60 @@ fn sim<'a>(matches: &ArgMatches<'a>) -> Option<Sim<&'a str>>
     match text(matches, "rows") {
         Some(rows) => Some(Sim { design, rows }),
         None => None,
+    }
+}
+
+fn schedule<'a>(matches: &ArgMatches<'a>) -> Option<Schedule<&'a str>>
+    ensures said { option_map named_schedule result ≡ said_by_schedule (rows_of (found_of matches.now)) }
+    ensures bounds { IfSome result (λ said. 1 ≤ said.timing.stages) }
+{
+    let Some(design) = text(matches, "design") else {
+        return None;
+    };
+    let Some(timing) = timing(matches) else {
+        return None;
+    };
+    match source(text(matches, "from")) {
+        Some(source) => Some(Schedule {
+            design,
+            timing,
+            source,
+        }),
+        None => None,
+    }
+}
+
+fn timing(matches: &ArgMatches<'_>) -> Option<Timing>
+    ensures said { result ≡ said_of_timing (rows_of (found_of matches.now)) }
+    ensures bounds { IfSome result (λ timing. 1 ≤ timing.stages) }
+{
+    let Some(number) = text(matches, "clock") else {
+        return None;
+    };
+    let Some(clock) = read_number(number, 1, 1_000_000) else {
+        return None;
+    };
+    let Some(stages) = most(text(matches, "stages")) else {
+        return None;
+    };
+    match most(text(matches, "ii")) {
+        Some(interval) => Some(Timing {
+            clock,
+            stages,
+            interval,
+        }),
+        None => None,
+    }
+}
+
+/// How many stages or cycles there may be: 64 where no word says it.
+fn most(text: Option<&str>) -> Option<u32>
+    ensures said { result ≡ most_in (option_map (λ word. word.now) text.entry) }
+    ensures bounds { IfSome result (λ n. 1 ≤ n) }
+{
+    match text {
+        Some(number) => read_number(number, 1, 64),
+        None => Some(64),
     }
 }
 

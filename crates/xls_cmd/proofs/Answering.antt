@@ -12,16 +12,18 @@ use Rattle.cmd_answer.specs.Fault.{Fault}
 use Rattle.cmd_answer.specs.Step.{IsOne, DueBy}
 use Rattle.cmd_words.specs.CommandLine.{said_by}
 use Rattle.cmd_words.specs.declared.request.Request.{Request}
-use Rattle.cmd_words.specs.declared.request.Request.TheVariants.{Check, Run, Sim}
+use Rattle.cmd_words.specs.declared.request.Request.TheVariants.{Check, Run, Sim, Schedule}
 use Rattle.cmd_words.specs.declared.request.Source.{Source}
 use Rattle.cmd_words.specs.declared.request.Source.TheVariants.{Dslx, Ir}
 use Rattle.cmd_design.specs.Commands as design
 use Rattle.cmd_ir.specs.Commands as ir
+use Rattle.cmd_schedule.specs.Commands as schedules
 use Rattle.cmd_sim.specs.Simulation as simulation
 use Rattle.cmd_words.specs.declared.request.Check.{Check as SaidCheck}
 use Rattle.cmd_words.specs.declared.request.Run.{Run as SaidRun}
+use Rattle.cmd_words.specs.declared.request.Schedule.{Schedule as SaidSchedule}
 use Rattle.cmd_words.specs.declared.request.Sim.{Sim as SaidSim}
-use Rattle.xls_cmd.specs.Answer.{due, due_for, due_of, due_of_run, due_where, files_of, files_of_run, files_where, named_files, named_for, run_by, status_for}
+use Rattle.xls_cmd.specs.Answer.{due, due_for, due_of, due_of_run, due_of_schedule, due_of_schedule_by, due_where, files_of, files_of_run, files_of_schedule, files_of_schedule_by, files_where, named_files, named_for, run_by, status_for}
 
 -- each command gives one thing
 pub record TheLaws : Type 0 where
@@ -29,6 +31,7 @@ pub record TheLaws : Type 0 where
   pub run : (holds : Contents) (said : SaidRun (List ℕ)) → IsOne (design.run holds said)
   pub run_ir : (holds : Contents) (said : SaidRun (List ℕ)) → IsOne (ir.run holds said)
   pub sim : (holds : Contents) (said : SaidSim (List ℕ)) → IsOne (simulation.sim holds said)
+  pub schedule_ir : (holds : Contents) (said : SaidSchedule (List ℕ)) → IsOne (schedules.schedule holds said)
 
 run_is_one : TheLaws → (source : Source) (said : SaidRun (List ℕ)) (holds : Contents) → IsOne (run_by source holds said)
 run_is_one laws Dslx said holds = laws.run holds said
@@ -38,10 +41,15 @@ due_where_is_one : TheLaws → (several : Bool) (said : SaidRun (List ℕ)) (hol
 due_where_is_one laws true said holds a b is also = is ∙ sym also
 due_where_is_one laws false said holds a b is also = run_is_one laws said.how.source said holds a b is.1 also.1
 
+schedule_is_one : TheLaws → (source : Source) (said : SaidSchedule (List ℕ)) (holds : Contents) → IsOne (due_of_schedule_by source said (Some holds))
+schedule_is_one laws Dslx said holds a b is also = is ∙ sym also
+schedule_is_one laws Ir said holds a b is also = laws.schedule_ir holds said a b is.1 also.1
+
 due_of_is_one : TheLaws → (said : Request (List ℕ)) (holds : Contents) → IsOne (due_of said (Some holds))
 due_of_is_one laws (Check said) holds a b is also = laws.check holds said a b is.1 also.1
 due_of_is_one laws (Run said) holds a b is also = due_where_is_one laws (nat_lt 1 said.how.workers) said holds a b is also
 due_of_is_one laws (Sim said) holds a b is also = laws.sim holds said a b is.1 also.1
+due_of_is_one laws (Schedule said) holds a b is also = schedule_is_one laws said.source said holds a b is also
 
 due_for_is_one : TheLaws → (said : Option (Request (List ℕ))) (holds : Contents) → IsOne (due_for said (Some holds))
 due_for_is_one laws None holds a b is also = is ∙ sym also
@@ -76,6 +84,11 @@ module _ {V : Type 0} (items : V → List ℕ) (words : List (List ℕ)) (told :
   -- a run in several threads is to come
   pub refused_where : (said : SaidRun (List ℕ)) → 1 < said.how.workers → IsDone items (due_where true said told) [] files given → IsDone items (due_of_run said told) (files_of_run said) files given
   refused_where said several done = done_where true said (sym (lt-ltb 1 said.how.workers several)) done
+
+  -- a schedule of what it may be made of
+  pub schedule_by_source : (source : Source) (said : SaidSchedule (List ℕ)) → source ≡ said.source → IsDone items (due_of_schedule_by source said told) (files_of_schedule_by source said) files given →
+      IsDone items (due_of_schedule said told) (files_of_schedule said) files given
+  schedule_by_source source said is done = subst (λ (s : Source). IsDone items (due_of_schedule_by s said told) (files_of_schedule_by s said) files given) is done
 
 -- nothing was loaded
 pub nothing_asked : (names : List (List ℕ)) → names ≡ names ++ []

@@ -8,11 +8,13 @@ use Rattle.cmd_words.specs.CommandLine.{said_by}
 use Rattle.cmd_words.specs.declared.request.Request.{Request}
 use Rattle.cmd_words.specs.declared.request.Request.TheVariants as request
 use Rattle.cmd_words.specs.declared.request.Run.{Run}
+use Rattle.cmd_words.specs.declared.request.Schedule.{Schedule}
 use Rattle.cmd_words.specs.declared.request.Source.{Source}
 use Rattle.cmd_words.specs.declared.request.Source.TheVariants.{Dslx, Ir}
 use Rattle.cmd_design.specs.Commands as design
 use Rattle.cmd_ir.specs.Commands as ir
 use Rattle.cmd_sim.specs.Simulation as simulation
+use Rattle.cmd_schedule.specs.Commands as schedules
 
 -- what a run gives, by what its file is written in
 abbrev pub run_by : Source → Contents → Run (List ℕ) → Step (List ℕ)
@@ -27,12 +29,21 @@ due_where false said told given = DueBy told (λ holds. run_by said.how.source h
 abbrev pub due_of_run : Run (List ℕ) → Option Contents → Step (List ℕ)
 due_of_run said told = due_where (nat_lt 1 said.how.workers) said told
 
+-- schedules of designs are to come
+abbrev pub due_of_schedule_by : Source → Schedule (List ℕ) → Option Contents → Step (List ℕ)
+due_of_schedule_by Dslx said told given = given ≡ Err Usage
+due_of_schedule_by Ir said told given = DueBy told (λ holds. schedules.schedule holds said) given
+
+abbrev pub due_of_schedule : Schedule (List ℕ) → Option Contents → Step (List ℕ)
+due_of_schedule said told = due_of_schedule_by said.source said told
+
 -- What is due for what the words of each command say: this is the one place that lists them. A command that is to come refuses
 -- its words.
 abbrev pub due_of : Request (List ℕ) → Option Contents → Step (List ℕ)
 due_of (request.Check said) told given = DueBy told (λ holds. design.check holds said) given
 due_of (request.Run said) told given = due_of_run said told given
 due_of (request.Sim said) told given = DueBy told (λ holds. simulation.sim holds said) given
+due_of (request.Schedule said) told given = due_of_schedule said told given
 
 abbrev pub files_where : Bool → Run (List ℕ) → List (List ℕ)
 files_where true said = []
@@ -41,11 +52,19 @@ files_where false said = design.run_files said
 abbrev pub files_of_run : Run (List ℕ) → List (List ℕ)
 files_of_run said = files_where (nat_lt 1 said.how.workers) said
 
+abbrev pub files_of_schedule_by : Source → Schedule (List ℕ) → List (List ℕ)
+files_of_schedule_by Dslx said = []
+files_of_schedule_by Ir said = schedules.schedule_files said
+
+abbrev pub files_of_schedule : Schedule (List ℕ) → List (List ℕ)
+files_of_schedule said = files_of_schedule_by said.source said
+
 -- the files that the words of each name, in the order in which they are loaded
 abbrev pub files_of : Request (List ℕ) → List (List ℕ)
 files_of (request.Check said) = design.check_files said
 files_of (request.Run said) = files_of_run said
 files_of (request.Sim said) = simulation.sim_files said
+files_of (request.Schedule said) = files_of_schedule said
 
 abbrev pub due_for : Option (Request (List ℕ)) → Option Contents → Step (List ℕ)
 due_for None told given = given ≡ Err Usage

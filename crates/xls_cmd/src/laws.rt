@@ -11,4 +11,5 @@ pub fn one_answer()
     cmd_design::laws::one_answer();
     cmd_ir::laws::one_answer();
     cmd_sim::laws::one_answer();
+    cmd_schedule::laws::one_answer();
 }

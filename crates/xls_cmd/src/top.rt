@@ -1,18 +1,20 @@
-ghost use Rattle.std.specs.Prelude.{◌≡◌, ◌⊎◌, ℕ, List, Result, Some, IfSome, map, string_bytes};
+ghost use Rattle.std.specs.Prelude.{◌≡◌, ◌≤◌, ◌⊎◌, ℕ, List, Result, Some, IfSome, map, string_bytes};
 ghost use Rattle.xb_io.specs.Counts.{HasRisen};
 ghost use Rattle.cmd_answer.specs.Answered.{IsAnswered};
 ghost use Rattle.cmd_answer.specs.Done.{IsDone};
 ghost use Rattle.cmd_answer.specs.Events.{file_events, sink_events};
 ghost use Rattle.cmd_answer.specs.Fault.{Fault as Cause};
-ghost use Rattle.xls_cmd.specs.Answer.{due, due_of, due_of_run, files_of, files_of_run, named_files, status_for};
-ghost use Rattle.cmd_words.specs.Named.{named, named_run};
+ghost use Rattle.xls_cmd.specs.Answer.{due, due_of, due_of_run, due_of_schedule, files_of, files_of_run, files_of_schedule, named_files, status_for};
+ghost use Rattle.cmd_words.specs.Bounds.{IsInBounds};
+ghost use Rattle.cmd_words.specs.Named.{named, named_run, named_schedule};
 
 use crate::laws::one_answer;
 use cmd_answer::{Fault, Refusal, respond};
 use cmd_design::{check_design, run_design};
 use cmd_ir::run_package;
+use cmd_schedule::schedule_ir;
 use cmd_sim::sim_design;
-use cmd_words::{Request, Run, Source, read_words};
+use cmd_words::{Request, Run, Schedule, Source, read_words};
 use std::alloc::Global;
 use std::sync::Wait;
 use std::thread::Threads;
@@ -70,6 +72,7 @@ fn requested<'a, F: Files>(
     files: &mut F,
     said: Request<&'a str>,
 ) -> Result<Vec<u8>, Refusal<'a>>
+    requires { IsInBounds said }
     ensures { IsDone (λ text. text.items) (due_of (named said.entry) (F.told files.old)) (files_of (named said.entry))
         (file_events F.asked F.faults F.taken files.old files.new) result }
 {
@@ -77,6 +80,7 @@ fn requested<'a, F: Files>(
         Request::Check(said) => check_design(alloc, files, said),
         Request::Run(said) => run(alloc, files, said),
         Request::Sim(said) => sim_design(alloc, files, said),
+        Request::Schedule(said) => schedule(alloc, files, said),
     }
 }
 
@@ -95,6 +99,22 @@ fn run<'a, F: Files>(
     match said.how.source {
         Source::Dslx => run_design(alloc, files, said),
         Source::Ir => run_package(alloc, files, said),
+    }
+}
+
+/// The schedules of an IR text.
+fn schedule<'a, F: Files>(
+    alloc: Global,
+    files: &mut F,
+    said: Schedule<&'a str>,
+) -> Result<Vec<u8>, Refusal<'a>>
+    requires { 1 ≤ said.timing.stages }
+    ensures { IsDone (λ text. text.items) (due_of_schedule (named_schedule said.entry) (F.told files.old)) (files_of_schedule (named_schedule said.entry))
+        (file_events F.asked F.faults F.taken files.old files.new) result }
+{
+    match said.source {
+        Source::Dslx => Err(Refusal::Fault(Fault::Usage)),
+        Source::Ir => schedule_ir(alloc, files, said),
     }
 }
 

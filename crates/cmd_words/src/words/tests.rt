@@ -64,6 +64,45 @@ fn words_of_sim_are_read(rt: HostRuntime) -> Result<(), Fail> {
 }
 
 #[test]
+fn words_of_schedule_are_read(rt: HostRuntime) -> Result<(), Fail> {
+    let alloc = rt.alloc();
+    for (text, clock, stages, interval, source) in [
+        (
+            "schedule a.ir --clock 100 --from ir",
+            100,
+            64,
+            64,
+            Source::Ir,
+        ),
+        (
+            "schedule --ii=64 a.ir --stages 1 --clock 1000000",
+            1_000_000,
+            1,
+            64,
+            Source::Dslx,
+        ),
+        (
+            "schedule --clock +01 --ii 2 --from dslx -- a.ir",
+            1,
+            64,
+            2,
+            Source::Dslx,
+        ),
+    ] {
+        let words = list(alloc, text)?;
+        let Some(Request::Schedule(schedule)) = read_words(alloc, &words)? else {
+            return Err(Fail::from("no schedule"));
+        };
+        assert_eq!(rt; schedule.design, "a.ir", "{text}");
+        assert_eq!(rt; schedule.timing.clock, clock, "{text}");
+        assert_eq!(rt; schedule.timing.stages, stages, "{text}");
+        assert_eq!(rt; schedule.timing.interval, interval, "{text}");
+        assert_eq!(rt; schedule.source, source, "{text}");
+    }
+    Ok(())
+}
+
+#[test]
 fn words_of_check_are_read(rt: HostRuntime) -> Result<(), Fail> {
     let alloc = rt.alloc();
     let words = list(alloc, "check a.x")?;
@@ -89,6 +128,19 @@ fn other_words_say_nothing(rt: HostRuntime) -> Result<(), Fail> {
         "sim a.v",
         "sim a.v rows.txt more.txt",
         "sim a.v rows.txt --from ir",
+        "schedule a.ir",
+        "schedule a.ir --from ir",
+        "schedule --clock 100 --from ir",
+        "schedule a.ir b.ir --clock 100 --from ir",
+        "schedule a.ir --clock 0 --from ir",
+        "schedule a.ir --clock 1000001 --from ir",
+        "schedule a.ir --clock 100 --stages 0 --from ir",
+        "schedule a.ir --clock 100 --stages 65 --from ir",
+        "schedule a.ir --clock 100 --ii 0 --from ir",
+        "schedule a.ir --clock 100 --ii 65 --from ir",
+        "schedule a.ir --clock 100 --from verilog",
+        "schedule a.ir --clock 100 --from ir --top P",
+        "schedule a.ir --clock 100 --activations 5 --from ir",
         "run a.x b.txt",
         "run a.x --activations 5",
         "run a.x b.txt --activations",

@@ -139,6 +139,65 @@ fn packages_are_run_or_refused(rt: HostRuntime) -> Result<(), Fail> {
     expect(&rt, &run(&rt, to_come, INC, "")?, 2, "", usage, "workers")
 }
 
+const ASK: &str = "package Ask
+chan req(bits[8], id=0, kind=output)
+chan rsp(bits[8], id=1, kind=input)
+proc Ask(st: bits[8], init=0) {
+  after_all.1: token = after_all(id=1)
+  send.2: token = send(after_all.1, st, channel=req, id=2)
+  receive.3: (token, bits[8]) = receive(send.2, channel=rsp, id=3)
+  tuple_index.4: bits[8] = tuple_index(receive.3, index=1, id=4)
+  next(tuple_index.4)
+}
+";
+
+#[test]
+fn packages_are_scheduled_or_refused(rt: HostRuntime) -> Result<(), Fail> {
+    let usage = "usage: xls check, ir, opt, schedule, verilog, run, sim or gen\n";
+    for (words, text, status, out, err) in [
+        (
+            "schedule inc.x --clock 1000 --from ir",
+            ASK,
+            0,
+            "proc Ask stages 2 interval 2\n  after_all.1 0\n  send.2 0\n  receive.3 1\n  tuple_index.4 1\n",
+            "",
+        ),
+        (
+            "schedule inc.x --clock 1000 --ii 1 --from ir",
+            ASK,
+            9,
+            "",
+            "infeasible: Ask: interval 2, given 1\n",
+        ),
+        (
+            "schedule inc.x --clock 1000 --stages 1 --from ir",
+            ASK,
+            9,
+            "",
+            "infeasible: Ask: receive.3 needs 2 stages, given 1\n",
+        ),
+        (
+            "schedule inc.x --clock 1000 --from ir",
+            INC,
+            6,
+            "",
+            "inc.x: syntax at 18\n",
+        ),
+        (
+            "schedule other.x --clock 1000 --from ir",
+            ASK,
+            4,
+            "",
+            "cannot read other.x\n",
+        ),
+        ("schedule inc.x --from ir", ASK, 2, "", usage),
+        ("schedule inc.x --clock 1000", INC, 2, "", usage),
+    ] {
+        expect(&rt, &run(&rt, words, text, "")?, status, out, err, words)?;
+    }
+    Ok(())
+}
+
 #[test]
 fn other_designs_are_refused(rt: HostRuntime) -> Result<(), Fail> {
     for (old, new, status, err) in [

@@ -1,3 +1,5 @@
+use Rattle.std.proofs.Common.{subst}
+use Rattle.cmd_answer.specs.Events.{PutsOrBreaksOff, sink_events}
 use Rattle.cmd_answer.proofs.Putting.{shown}
 use Rattle.cmd_answer.proofs.response.put_refusal.Goals as goal
 
@@ -6,3 +8,9 @@ returns-in-OutOfMemory g c = rw c.in-OutOfMemory.is (shown _ _ c.put_pieces.resu
 
 pub returns-in-Unread : goal.returns-in-Unread
 returns-in-Unread g c = rw c.in-Unread.is (shown _ _ c.put_pieces-in-Unread.result c.put_pieces-in-Unread.ensures.ok c.put_pieces-in-Unread.ensures.failed)
+
+pub returns-in-Infeasible : goal.returns-in-Infeasible
+returns-in-Infeasible g c =
+    rw c.in-Infeasible.is
+    (subst (PutsOrBreaksOff (sink_events g.S.Sink.written g.S.Sink.faults c.args.sink.now c.put_line-in-Infeasible.new.sink)) c.as_str.ensures.value
+    (shown _ _ c.put_line-in-Infeasible.result c.put_line-in-Infeasible.ensures.ok c.put_line-in-Infeasible.ensures.failed))

@@ -3,10 +3,10 @@ use Rattle.clap.specs.Words.{app_of}
 use Rattle.cmd_words.proofs.Said.{said_by_matches, said_nothing}
 use Rattle.cmd_words.proofs.words.read_words.Goals as goal
 
-pub returns-in-Ok : goal.returns-in-Ok
-returns-in-Ok c = c.request.ensures
+pub returns-in-Ok-clause-said : goal.returns-in-Ok-clause-said
+returns-in-Ok-clause-said c = c.request.ensures.said
     ∙ said_by_matches (app_of c.in_ok-command.field-0) (map string_bytes c.args.words.now) c.in-Ok.matches c.in_ok-command.ensures c.in-Ok.ensures.kinds c.in-Ok.ensures.matches
 
-pub returns : goal.returns
-returns c = said_nothing (app_of c.in_ok-command.field-0) (map string_bytes c.args.words.now) c.in-Err.error c.in_ok-command.ensures c.in-Err.ensures.kinds
+pub returns-clause-said : goal.returns-clause-said
+returns-clause-said c = said_nothing (app_of c.in_ok-command.field-0) (map string_bytes c.args.words.now) c.in-Err.error c.in_ok-command.ensures c.in-Err.ensures.kinds
     (λ is. c.in_default.not-OutOfMemory (c.kind.ensures ∙ is))

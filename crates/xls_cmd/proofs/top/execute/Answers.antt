@@ -8,4 +8,7 @@ pub returns-in-Ok-Some : goal.returns-in-Ok-Some
 returns-in-Ok-Some g c =
     done_by_command (λ text. text.items) (map string_bytes c.args.words.now) (g.F.Files.told c.args.files.now)
     (file_events g.F.Files.asked g.F.Files.faults g.F.Files.taken c.args.files.now c.requested.new.files) c.requested.result (named c.in-Ok-Some.said)
-    (rw c.in-Ok-Some.field-0-is at c.in-Ok-Some.ensures) c.requested.ensures
+    (rw c.in-Ok-Some.field-0-is at c.in-Ok-Some.ensures.said) c.requested.ensures
+
+pub requested-requires : goal.requested-requires
+requested-requires g c = rw c.in-Ok-Some.field-0-is at c.in-Ok-Some.ensures.bounds

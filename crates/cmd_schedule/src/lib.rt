@@ -1,0 +1,12 @@
+//! The command `schedule` of IR texts.
+//!
+//! What it gives stands in `specs/Commands`.
+//!
+//! Cost: linear in the file.
+#![tactic(auto)]
+
+mod command;
+pub mod laws;
+mod scheduling;
+
+pub use command::schedule_ir;
