@@ -21,12 +21,12 @@ use Rattle.ir_parser.specs.Building.{package_of}
 use Rattle.ir_parser.specs.Rules.{places_made, proc_made, proc_of, token_of}
 use Rattle.ir_round.specs.Writable.{is_one_word}
 use Rattle.ir_round.proofs.Held.{constant_held, type_held}
-use Rattle.ir_round.proofs.Walks.{Due, Goes, IsReadTo, Point, a_token, a_tree, at_once, beginning, complete, complete_then, walk_reads}
+use Rattle.ir_round.proofs.Walks.{Due, Goes, IsReadTo, Point, a_token, a_tree, at_once, beginning, complete, complete_then, lexeme_of, walk_reads}
 use Rattle.ir_round.proofs.Lists.{all_taken, left_over, onto, taken}
 use Rattle.ir_round.proofs.Steps.{behind, by_rule, close_then, colon, comma, equals, keyword_then, left_brace, left_parenthesis, mark_then, open_then, right_brace, right_parenthesis, spot, the_init, the_next, the_package, the_proc, the_st}
 use Rattle.ir_round.proofs.TypeTexts.{type_nesting, type_reads}
 use Rattle.ir_round.proofs.ValueTexts.{constant_nesting, constant_reads}
-use Rattle.ir_round.proofs.Names.{any_word, kind_kept, name_reads}
+use Rattle.ir_round.proofs.Names.{any_word, begins_nodes, kind_kept, name_reads}
 use Rattle.ir_round.proofs.Operands.{IsSaid, operand_reads}
 use Rattle.ir_round.proofs.NodeTexts.{AreNodesSaid, nodes_read}
 use Rattle.ir_round.proofs.ChannelTexts.{AreChannelsSaid, channels_read, names_of}
@@ -112,14 +112,36 @@ proc_flat : (channels : List Channel) (p : Proc) (rest : List ℕ) → proc_text
 unfolding proc_start proc_init proc_end
 proc_flat channels p rest = simp append_assoc
 
-proc_reads : {P : Point → Type 0} → (text : List ℕ) (channels : List Channel) (p : Proc) (rest here : List ℕ) (c : Context) (d q : ℕ) (st : State) → IsProcSaid channels st.channel_names st.node_names q p → after_blank here ≡ after_blank (proc_text channels p ++ rest) → (s : List Due)
-    → ((c : Context) (spans : List Span) (places : ProcPlaces) → Goes text P s (spot (10 ∷ rest) c d (suc (suc q)) (record st { node_spans = spans; node_names = []; procs = p ∷ st.procs; proc_places = places ∷ st.proc_places })))
-    → Goes text P (a_tree nonterminals.PROC ∷ s) (spot here c d (suc (suc q)) st)
+-- what stands between the braces, and the closing one
+body_reads : {P : Point → Type 0} → (text : List ℕ) (channels : List Channel) (p : Proc) (rest here : List ℕ) (c : Context) (d q : ℕ) (st : State) → AreNodesSaid channels st.channel_names p.nodes q st.node_names p.nodes → length p.nodes < 2 ^ 64 → IsSaid p.nodes (onto (map node_name p.nodes) st.node_names) p.next → begins_nodes c ≡ true → after_blank here ≡ after_blank (lines_text (map (node_text channels p.nodes) p.nodes) ++ rest_of_nodes p rest) → (s : List Due)
+    → ((c : Context) (spans : List Span) (places : ProcPlaces) → Goes text P s (spot (10 ∷ rest) c d (suc (suc q)) (record st {
+      node_spans = spans;
+      node_names = [];
+      names = drop 1 st.names;
+      types = drop 1 st.types;
+      constants = drop 1 st.constants;
+      heads = drop 1 st.heads;
+      procs = proc_made p.nodes (record st { operands = p.next ∷ st.operands }) ∷ st.procs;
+      proc_places = places ∷ st.proc_places;
+    })))
+    → Goes text P (a_tree nonterminals.NODES ∷ a_tree nonterminals.NEXT ∷ a_token kinds.RBRACE ∷ complete productions.PROC ∷ s) (spot here c (suc d) (suc q) st)
+body_reads text channels p rest here c d q st said few next begins e s k =
+    nodes_read text channels p.nodes p.nodes (rest_of_nodes p rest) here c (suc d) q st said few begins e _ λ here3 c3 spans e3.
+    proc_ends text p.nodes p.next rest here3 c3 d q _ p.nodes st.nodes st.counts next refl refl e3 s λ c4 spans4 places. k c4 spans4 places
+
+-- its first line
+head_reads : {P : Point → Type 0} → (text : List ℕ) (channels : List Channel) (p : Proc) (rest here : List ℕ) (c : Context) (d q : ℕ) (st : State) → IsProcSaid channels st.channel_names st.node_names q p → after_blank here ≡ after_blank (proc_text channels p ++ rest) → (s : List Due)
+    → ((here : List ℕ) (c : Context) (head : Span) → begins_nodes c ≡ true → after_blank here ≡ after_blank (lines_text (map (node_text channels p.nodes) p.nodes) ++ rest_of_nodes p rest) → Goes text P s (spot here c (suc d) (suc q) (record st {
+      names = lexeme_of text p.name (codes "(st: " ++ (type_text p.state ++ rest_of_state channels p rest)) (ir_plain_kind p.name) ∷ st.names;
+      types = p.state ∷ st.types;
+      constants = p.init ∷ st.constants;
+      heads = head ∷ st.heads;
+    })))
+    → Goes text P (a_tree nonterminals.PROC_HEAD ∷ s) (spot here c d (suc (suc q)) st)
 unfolding ir named_rules
-proc_reads text channels p rest here c d q st said e s k =
+head_reads text channels p rest here c d q st said e s k =
     let after_name = codes "(st: " ++ (type_text p.state ++ rest_of_state channels p rest) in
-    by_rule productions.PROC refl
-    (by_rule productions.PROC_HEAD refl
+    by_rule productions.PROC_HEAD refl
     (keyword_then the_proc (32 ∷ (p.name ++ after_name)) (e ∙ ap after_blank (proc_flat channels p rest)) refl
     (name_reads text p.name after_name (32 ∷ (p.name ++ after_name)) (behind kinds.PROC c.last c.node) d (suc (suc q)) _ (ir_plain_kind p.name) (any_word p.name said.one) said.one refl refl refl (kind_kept (behind kinds.PROC c.last c.node) (ir_plain_kind p.name) p.name refl) _
     (open_then left_parenthesis _ (suc q) refl refl
@@ -137,8 +159,16 @@ proc_reads text channels p rest here c d q st said e s k =
     (close_then right_parenthesis _ d refl e2
     (open_then left_brace _ (suc q) refl refl
     (complete_then
-    (nodes_read text channels p.nodes p.nodes (rest_of_nodes p rest) _ _ (suc d) q _ said.nodes said.few refl refl _ λ here3 c3 spans e3.
-    proc_ends text p.nodes p.next rest here3 c3 d q _ p.nodes st.nodes st.counts said.next refl refl e3 _ λ c4 spans4 places. k c4 spans4 places)))))))))))))))))
+    (k _ _ _ refl refl))))))))))))))))
+
+proc_reads : {P : Point → Type 0} → (text : List ℕ) (channels : List Channel) (p : Proc) (rest here : List ℕ) (c : Context) (d q : ℕ) (st : State) → IsProcSaid channels st.channel_names st.node_names q p → after_blank here ≡ after_blank (proc_text channels p ++ rest) → (s : List Due)
+    → ((c : Context) (spans : List Span) (places : ProcPlaces) → Goes text P s (spot (10 ∷ rest) c d (suc (suc q)) (record st { node_spans = spans; node_names = []; procs = p ∷ st.procs; proc_places = places ∷ st.proc_places })))
+    → Goes text P (a_tree nonterminals.PROC ∷ s) (spot here c d (suc (suc q)) st)
+unfolding ir named_rules
+proc_reads text channels p rest here c d q st said e s k =
+    by_rule productions.PROC refl
+    (head_reads text channels p rest here c d q st said e (a_tree nonterminals.NODES ∷ a_tree nonterminals.NEXT ∷ a_token kinds.RBRACE ∷ complete productions.PROC ∷ s) λ here1 c1 head begins e1.
+    body_reads text channels p rest here1 c1 d q _ said.nodes said.few said.next begins e1 s λ c4 spans4 places. k c4 spans4 places)
 
 -- ---- all procs
 
