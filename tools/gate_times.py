@@ -1,13 +1,13 @@
 #!/usr/bin/env python3
 """Measures what the gate costs, crate by crate.
 
-usage: gate_times.py [NAME..]
+usage: gate_times.py [--busy] [NAME..]
 
 It runs `rt ci --anew`, which proves and tries all from nothing, watches the prover's processes, and writes
 docs/GATE_TIMES.md: the seconds of processor time that each crate's proof, its tests and its must-fail edits took. With
 names it runs `rt ci --anew NAME..` (these crates and those below them) and writes anew the rows of the page that it
-measured. Processor time depends little on what else the machine does; the time by the clock does. It ends with the status
-of `rt ci`.
+measured. Beside other work the same proof takes up to half as much processor time again, so the machine should be idle;
+where it isn't, --busy marks the rows with a star. It ends with the status of `rt ci`.
 """
 import collections
 import os
@@ -78,23 +78,26 @@ def watch(command):
     return gate.returncode, time.monotonic() - start, totals
 
 
-def rows_of(totals):
-    """The rows of a run: a crate, and its seconds of each kind."""
-    return {crate: [round(totals[crate, kind]) for kind in KINDS] for crate, _ in totals}
+def rows_of(totals, mark):
+    """The rows of a run: a crate, its mark, and its seconds of each kind."""
+    return {crate: (mark, [round(totals[crate, kind]) for kind in KINDS]) for crate, _ in totals}
 
 
 def rows_of_page(text):
     """The rows that a page shows."""
     cells = (line.strip('| ').split(' | ') for line in text.splitlines() if line.startswith('| '))
-    return {row[0]: [int(cell) for cell in row[1:4]] for row in cells if row[1].isdigit() and row[0] != 'all'}
+    named = ((row[0].partition(' '), row[1:4]) for row in cells if row[1].isdigit() and row[0] != 'all')
+    return {crate: (mark, [int(cell) for cell in times]) for (crate, _, mark), times in named}
 
 
 def page(clock, rows):
-    ordered = sorted(rows.items(), key=lambda row: -sum(row[1]))
-    ordered.append(('all', [sum(times[i] for times in rows.values()) for i in range(len(KINDS))]))
+    ordered = [((crate + ' ' + mark).strip(), times) for crate, (mark, times) in rows.items()]
+    ordered.sort(key=lambda row: -sum(row[1]))
+    ordered.append(('all', [sum(times[i] for _, times in rows.values()) for i in range(len(KINDS))]))
     out = ['# What the gate costs', '',
            'Written by tools/gate_times.py: seconds of processor time of a run from nothing. A crate whose check passes 180',
-           'seconds is to be split or made cheaper.', '', clock, '',
+           'seconds is to be split or made cheaper. A star: measured beside other work, where the same proof takes up to half as',
+           'much again; all other rows are from an otherwise idle machine.', '', clock, '',
            '| crate | check | tests | edits | all |', '|---|---|---|---|---|']
     out += ['| %s | %d | %d | %d | %d |' % (crate, *times, sum(times)) for crate, times in ordered]
     return '\n'.join(out) + '\n'
@@ -107,9 +110,10 @@ def clock_of_page(text):
 
 def main():
     os.chdir(os.path.join(os.path.dirname(os.path.abspath(__file__)), '..'))
-    names = sys.argv[1:]
+    mark = '*' if '--busy' in sys.argv[1:] else ''
+    names = [word for word in sys.argv[1:] if word != '--busy']
     status, clock, totals = watch(['rt', 'ci', '--anew', *names])
-    rows = rows_of(totals)
+    rows = rows_of(totals, mark)
     line = '%d processors; the last run of all crates took %d minutes by the clock.' % (os.cpu_count(), clock / 60)
     if names:
         shown = open(PAGE, encoding='utf-8').read()
