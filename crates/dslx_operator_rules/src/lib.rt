@@ -4,6 +4,7 @@
 //! operators.
 #![tactic(auto)]
 
+mod boxes;
 mod chain;
 mod operators;
 mod rule;

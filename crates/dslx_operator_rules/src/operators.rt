@@ -3,7 +3,8 @@
 ghost use Rattle.std.specs.Prelude.{◌≡◌, OnOk};
 ghost use Rattle.dslx_operator_rules.specs.Operators.{cast_expr, element_expr, field_expr, index_expr, operator, part_expr, prefixed, slice_expr};
 
-use dslx_atom_rules::{pop_expr, push_expr};
+use crate::boxes::{pop_boxed, pop_pair};
+use dslx_atom_rules::push_expr;
 use dslx_parts::{NO_DIGITS, Parts, join, no_ident, no_type};
 use dslx_tree::{Binary, Node, Prefix};
 use std::alloc::{AllocError, Global};
@@ -22,8 +23,7 @@ pub fn prefixed(parts: &mut Parts, alloc: Global, sign: Prefix) -> Result<(), Al
     ensures { OnOk result (parts.new ≡ prefixed sign parts.old) }
 {
     let mark = parts.take_marks(1);
-    let (place, value) = pop_expr(parts);
-    let value = Boxed::new(alloc, value)?;
+    let (place, value) = pop_boxed(parts, alloc)?;
     push_expr(parts, join(mark, place), Node::Prefix(sign, value))
 }
 
@@ -33,11 +33,10 @@ pub fn cast_expr(parts: &mut Parts, alloc: Global) -> Result<(), AllocError>
 {
     parts.skip(1);
     let ty = parts.types.pop_or(no_type());
-    let (place, value) = pop_expr(parts);
-    let span = join(place, ty.span);
-    let value = Boxed::new(alloc, value)?;
+    let end = ty.span;
     let ty = Boxed::new(alloc, ty)?;
-    push_expr(parts, span, Node::Cast(value, ty))
+    let (place, value) = pop_boxed(parts, alloc)?;
+    push_expr(parts, join(place, end), Node::Cast(value, ty))
 }
 
 /// `[ expr ]` behind an expression
@@ -45,10 +44,7 @@ pub fn index_expr(parts: &mut Parts, alloc: Global) -> Result<(), AllocError>
     ensures { OnOk result (parts.new ≡ index_expr parts.old) }
 {
     let marks = parts.take_marks(2);
-    let (_, index) = pop_expr(parts);
-    let (place, value) = pop_expr(parts);
-    let index = Boxed::new(alloc, index)?;
-    let value = Boxed::new(alloc, value)?;
+    let (place, value, index) = pop_pair(parts, alloc)?;
     push_expr(parts, join(place, marks), Node::Index(value, index))
 }
 
@@ -57,12 +53,8 @@ pub fn slice_expr(parts: &mut Parts, alloc: Global) -> Result<(), AllocError>
     ensures { OnOk result (parts.new ≡ slice_expr parts.old) }
 {
     let marks = parts.take_marks(3);
-    let (_, to) = pop_expr(parts);
-    let (_, from) = pop_expr(parts);
-    let (place, value) = pop_expr(parts);
-    let to = Boxed::new(alloc, to)?;
-    let from = Boxed::new(alloc, from)?;
-    let value = Boxed::new(alloc, value)?;
+    let (_, to) = pop_boxed(parts, alloc)?;
+    let (place, value, from) = pop_pair(parts, alloc)?;
     push_expr(parts, join(place, marks), Node::Slice(value, from, to))
 }
 
@@ -72,10 +64,7 @@ pub fn part_expr(parts: &mut Parts, alloc: Global) -> Result<(), AllocError>
 {
     let marks = parts.take_marks(3);
     let ty = Boxed::new(alloc, parts.types.pop_or(no_type()))?;
-    let (_, first) = pop_expr(parts);
-    let (place, value) = pop_expr(parts);
-    let first = Boxed::new(alloc, first)?;
-    let value = Boxed::new(alloc, value)?;
+    let (place, value, first) = pop_pair(parts, alloc)?;
     push_expr(parts, join(place, marks), Node::Part(value, first, ty))
 }
 
@@ -85,8 +74,7 @@ pub fn field_expr(parts: &mut Parts, alloc: Global) -> Result<(), AllocError>
 {
     parts.skip(1);
     let ident = parts.idents.pop_or(no_ident(alloc));
-    let (place, value) = pop_expr(parts);
-    let value = Boxed::new(alloc, value)?;
+    let (place, value) = pop_boxed(parts, alloc)?;
     push_expr(parts, join(place, ident.span), Node::Field(value, ident))
 }
 
@@ -96,8 +84,7 @@ pub fn element_expr(parts: &mut Parts, alloc: Global) -> Result<(), AllocError>
 {
     parts.skip(1);
     let number = parts.numbers.pop_or(NO_DIGITS);
-    let (place, value) = pop_expr(parts);
-    let value = Boxed::new(alloc, value)?;
+    let (place, value) = pop_boxed(parts, alloc)?;
     let node = Node::Element(value, number.span, number.value);
     push_expr(parts, join(place, number.span), node)
 }
