@@ -18,6 +18,7 @@ use Rattle.ir_tree.specs.declared.node.Attributes.TheVariants as attributes
 use Rattle.ir_tree.specs.Constants.{no_value}
 use Rattle.ir_tree.specs.NodeValues.{operand_value, pure_value}
 use Rattle.ir_verify.specs.Fitting.{type_in, type_or, types_behind, node_fits}
+use Rattle.ir_verify.specs.Types.{marks_of}
 use Rattle.ir_verify.specs.Lines.{is_there, are_there, is_there_if, attributes_there}
 use Rattle.ir_rebuild.specs.Operands.{optional_operand, attribute_operands, operands_in}
 use Rattle.ir_rebuild.specs.Built.{IsPlaced, AreBuilt, AreValues, StandsFor, Rewrites, is_plain_op, numbered}
@@ -154,12 +155,18 @@ one_longer xs x = omega (arith, length-append xs (x ∷ []))
 
 -- ---- one plain node more
 
-built_more : (state : IrType) (nodes : List Node) (n : Node) → AreBuilt state nodes → (is_plain_op n.op ≡ true → IsPlaced state nodes (length nodes) n) → AreBuilt state (nodes ++ numbered (length nodes) n ∷ [])
-built_more state nodes n h k = record {
+built_more : (state : IrType) (nodes : List Node) (n : Node) → AreBuilt state nodes → (marks_of n.ty).sound ≡ true → list_all (is_there (length nodes)) (operands_in n) ≡ true → (is_plain_op n.op ≡ true → IsPlaced state nodes (length nodes) n) → AreBuilt state (nodes ++ numbered (length nodes) n ∷ [])
+built_more state nodes n h t b k = record {
   sound = h.sound;
   numbered = λ j m e.
       at_place (m.id ≡ suc j) nodes (numbered (length nodes) n) j m e (λ less here. h.numbered j m here)
       (λ l. ap (λ (x : Node). x.id) (sym l.item) ∙ ap suc (sym l.place));
+  types = λ j m e.
+      at_place ((marks_of m.ty).sound ≡ true) nodes (numbered (length nodes) n) j m e (λ less here. h.types j m here)
+      (λ l. ap (λ (x : Node). (marks_of x.ty).sound) (sym l.item) ∙ t);
+  before = λ j m e.
+      at_place (list_all (is_there j) (operands_in m) ≡ true) nodes (numbered (length nodes) n) j m e (λ less here. h.before j m here)
+      (λ l. subst (λ i. list_all (is_there i) (operands_in m) ≡ true) (sym l.place) (ap (λ (x : Node). list_all (is_there (length nodes)) (operands_in x)) (sym l.item) ∙ b));
   placed = λ j m e plain.
       at_place (IsPlaced state (nodes ++ numbered (length nodes) n ∷ []) j m) nodes (numbered (length nodes) n) j m e
       (λ less here. placed_more state nodes (numbered (length nodes) n ∷ []) j m (omega (arith, less)) (h.placed j m here plain))
@@ -177,11 +184,11 @@ built_more state nodes n h k = record {
         (subst (IsPlaced state (nodes ++ numbered (length nodes) n ∷ []) (length nodes)) l.item
         (placed_more state nodes (numbered (length nodes) n ∷ []) (length nodes) (numbered (length nodes) n) (omega arith) numbered_one))
 
-pub built_fixed : (state : IrType) (nodes : List Node) (n : Node) → AreBuilt state nodes → is_plain_op n.op ≡ false → AreBuilt state (nodes ++ numbered (length nodes) n ∷ [])
-built_fixed state nodes n h no_plain = built_more state nodes n h (λ plain. absurd (cc))
+pub built_fixed : (state : IrType) (nodes : List Node) (n : Node) → AreBuilt state nodes → (marks_of n.ty).sound ≡ true → list_all (is_there (length nodes)) (operands_in n) ≡ true → is_plain_op n.op ≡ false → AreBuilt state (nodes ++ numbered (length nodes) n ∷ [])
+built_fixed state nodes n h t b no_plain = built_more state nodes n h t b (λ plain. absurd (cc))
 
 pub built_plain : (state : IrType) (nodes : List Node) (n : Node) → AreBuilt state nodes → IsPlaced state nodes (length nodes) n → AreBuilt state (nodes ++ numbered (length nodes) n ∷ [])
-built_plain state nodes n h k = built_more state nodes n h (λ plain. k)
+built_plain state nodes n h k = built_more state nodes n h (both (marks_of n.ty).sound _ k.typed).0 (all_there (length nodes) n k.operands k.attributes) (λ plain. k)
 
 pub stands_last : (state : IrType) (nodes : List Node) (n : Node) → is_plain_op n.op ≡ true → StandsFor state (nodes ++ numbered (length nodes) n ∷ []) n (operand.Node (length nodes))
 stands_last state nodes n plain = record {

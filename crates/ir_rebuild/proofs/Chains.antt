@@ -21,7 +21,7 @@ use Rattle.ir_verify.specs.Verified.{seen_after}
 use Rattle.ir_rebuild.specs.Moves.{moved, moved_attributes, moved_node}
 use Rattle.ir_rebuild.specs.Kept.{is_kept}
 use Rattle.ir_rebuild.specs.Built.{is_plain_op, numbered}
-use Rattle.ir_rebuild.specs.Inner.Fixed.{is_receive_op, is_receive, is_part_of_receive, is_fixed}
+use Rattle.ir_rebuild.specs.Fixed.{is_receive_op, is_receive, is_part_of_receive, is_fixed}
 use Rattle.ir_rebuild.proofs.Moving.{both, and_both}
 use Rattle.ir_rebuild.proofs.Building.{below, same_number, equal_number, one_longer}
 use Rattle.ir_rebuild.proofs.NodeChecks.{plain_unseen}

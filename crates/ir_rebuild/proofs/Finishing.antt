@@ -28,7 +28,7 @@ use Rattle.ir_rebuild.specs.Operands.{operands_in}
 use Rattle.ir_rebuild.specs.Moves.{moved, moved_node}
 use Rattle.ir_rebuild.specs.Kept.{is_kept, AreKept, StandBefore}
 use Rattle.ir_rebuild.specs.Built.{AreBuilt, IsPlaced, is_plain_op}
-use Rattle.ir_rebuild.specs.Inner.Fixed.{StandsIn}
+use Rattle.ir_rebuild.specs.Inner.Appended.{StandsIn}
 use Rattle.ir_rebuild.specs.Inner.Rebuilt.{IsCheckedBehind, IsCheckedProc, IsRebuilt}
 use Rattle.ir_rebuild.proofs.Moving.{both, and_both}
 use Rattle.ir_rebuild.proofs.Walking.{start, walk_values, walk_turns, walk_words}
@@ -190,6 +190,8 @@ none_built channels p c =
     record {
       sound = (both (marks_of p.state).sound (is_value_of p.state p.init) (twice _ d.0)).0;
       numbered = λ j n e. absurd (cc);
+      types = λ j n e. absurd (cc);
+      before = λ j n e. absurd (cc);
       placed = λ j n e f. absurd (cc);
     }
 

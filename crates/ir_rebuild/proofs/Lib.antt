@@ -9,5 +9,6 @@ pub mod Alike
 pub mod Reading
 pub mod Finishing
 pub mod Packages
+pub mod Walked
 pub mod Keeping
 pub mod Lemmas

@@ -45,7 +45,7 @@ all_moved p f old new h q (o ∷ os) k =
     let parts = both (p o) (list_all p os) k in
     ap₂ (λ a b. a && b) (ap q (h o parts.0)) (all_moved p f old new h q os parts.1)
 
-map_moved : {A : Type 0} (p : Operand → Bool) (f : Operand → Operand) (g k : Operand → A) → ((o : Operand) → p o ≡ true → g (f o) ≡ k o) → (os : List Operand) → list_all p os ≡ true → map g (map f os) ≡ map k os
+pub map_moved : {A : Type 0} (p : Operand → Bool) (f : Operand → Operand) (g k : Operand → A) → ((o : Operand) → p o ≡ true → g (f o) ≡ k o) → (os : List Operand) → list_all p os ≡ true → map g (map f os) ≡ map k os
 map_moved p f g k h [] a = refl
 map_moved p f g k h (o ∷ os) a =
     let parts = both (p o) (list_all p os) a in

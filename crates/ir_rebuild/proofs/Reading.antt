@@ -32,7 +32,8 @@ use Rattle.ir_rebuild.specs.Operands.{operands_in, node_of}
 use Rattle.ir_rebuild.specs.Moves.{moved, moved_attributes, moved_node}
 use Rattle.ir_rebuild.specs.Kept.{is_kept, is_site, AreKept}
 use Rattle.ir_rebuild.specs.Built.{IsPlaced, AreBuilt, StandsFor, is_plain_op, numbered}
-use Rattle.ir_rebuild.specs.Inner.Fixed.{is_receive_op, is_receive, is_one_receive, is_part_of_receive, is_fixed, StandsIn}
+use Rattle.ir_rebuild.specs.Fixed.{is_receive_op, is_receive, is_one_receive, is_part_of_receive, is_fixed}
+use Rattle.ir_rebuild.specs.Inner.Appended.{StandsIn}
 use Rattle.ir_rebuild.specs.Inner.Rebuilt.{IsCheckedBehind, IsCheckedProc}
 use Rattle.ir_rebuild.proofs.Moving.{both, and_both, all_parts, moved_two, pure_moved}
 use Rattle.ir_rebuild.proofs.Walking.{Walk, Words, step, walk, start, walk_append, sites_append}
@@ -240,8 +241,11 @@ copied channels proc kept old new places n h next k no_plain = record {
     x : Node
     x = numbered (length new) (moved_node (moved places) n)
 
+    is : IsMoved channels proc.state new (moved places) n
+    is = next_moved channels proc kept old new places n h.stand next k
+
     built : AreBuilt proc.state (new ++ x ∷ [])
-    built = built_fixed proc.state new (moved_node (moved places) n) h.stand.built no_plain
+    built = built_fixed proc.state new (moved_node (moved places) n) h.stand.built (both _ _ is.typed).0 (all_there (length new) (moved_node (moved places) n) is.operands is.attributes) no_plain
 
     place : IsPlace proc.state (new ++ x ∷ []) n (operand.Node (length new))
     place = record {
@@ -256,9 +260,6 @@ copied channels proc kept old new places n h next k no_plain = record {
     same_sites role.Pure = refl
     same_sites (role.Receive predicate c) = refl
     same_sites (role.Send predicate c) = refl
-
-    is : IsMoved channels proc.state new (moved places) n
-    is = next_moved channels proc kept old new places n h.stand next k
 
     all_seen : (seen : Seen) → AreChecked channels proc.state [] 0 (at_start seen) (old ++ n ∷ []) → AreChecked channels proc.state [] 0 (at_start seen) (new ++ x ∷ []) × SeenAlike kept (places ++ operand.Node (length new) ∷ []) (seen_after 0 (at_start seen) (old ++ n ∷ [])) (seen_after 0 (at_start seen) (new ++ x ∷ []))
     all_seen seen c =

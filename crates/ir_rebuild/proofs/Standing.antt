@@ -27,7 +27,7 @@ use Rattle.ir_rebuild.specs.Operands.{optional_operand, attribute_operands, oper
 use Rattle.ir_rebuild.specs.Moves.{moved, moved_attributes, moved_node}
 use Rattle.ir_rebuild.specs.Kept.{is_kept}
 use Rattle.ir_rebuild.specs.Built.{IsPlaced, AreBuilt, is_plain_op, numbered}
-use Rattle.ir_rebuild.specs.Inner.Fixed.{is_fixed}
+use Rattle.ir_rebuild.specs.Fixed.{is_fixed}
 use Rattle.ir_rebuild.proofs.Moving.{both, and_both, all_parts, SameTypes, SameValues, fits_moved, moved_two}
 use Rattle.ir_rebuild.proofs.Building.{below, is_below, there_more, all_there, all_attributes, type_more, at_place, IsLast, before_more, one_longer}
 use Rattle.ir_rebuild.proofs.NodeChecks.{IsChecked, plain_role, fits_nowhere}
@@ -169,7 +169,7 @@ optional_map : (f : Operand → Operand) (d : Option Operand) → optional_opera
 optional_map f None = refl
 optional_map f (Some d) = refl
 
-attributes_map : (f : Operand → Operand) (a : Attributes) → attribute_operands (moved_attributes f a) ≡ map f (attribute_operands a)
+pub attributes_map : (f : Operand → Operand) (a : Attributes) → attribute_operands (moved_attributes f a) ≡ map f (attribute_operands a)
 attributes_map f attributes.None = refl
 attributes_map f (attributes.StartAndWidth start width) = refl
 attributes_map f (attributes.Width width) = refl

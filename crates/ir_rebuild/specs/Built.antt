@@ -15,6 +15,7 @@ use Rattle.ir_verify.specs.Types.{marks_of}
 use Rattle.ir_verify.specs.Fitting.{type_in, types_behind, node_fits}
 use Rattle.ir_verify.specs.Lines.{are_there, attributes_there, is_there, is_typed, type_limits}
 use Rattle.ir_typed.specs.Typed.{none_broken}
+use Rattle.ir_rebuild.specs.Operands.{operands_in}
 
 -- operations that have no part in the order of an activation: all but `after_all`, `receive` and `send`
 abbrev pub is_plain_op : Op → Bool
@@ -31,10 +32,12 @@ pub record IsPlaced (state : IrType) (nodes : List Node) (place : ℕ) (n : Node
   pub typed : IsTrue (is_typed n)
   pub limits : IsTrue (none_broken (type_limits 0 n.ty 0))
 
--- ids count from 1, and each plain node can stand where it stands
+-- ids count from 1, types are sound, operands stand before, and each plain node can stand where it stands
 pub record AreBuilt (state : IrType) (nodes : List Node) : Type 0 where
   pub sound : IsTrue (marks_of state).sound
   pub numbered : (j : ℕ) (n : Node) → slice_get nodes j ≡ Some n → n.id ≡ suc j
+  pub types : (j : ℕ) (n : Node) → slice_get nodes j ≡ Some n → IsTrue (marks_of n.ty).sound
+  pub before : (j : ℕ) (n : Node) → slice_get nodes j ≡ Some n → list_all (is_there j) (operands_in n) ≡ true
   pub placed : (j : ℕ) (n : Node) → slice_get nodes j ≡ Some n → is_plain_op n.op ≡ true → IsPlaced state nodes j n
 
 -- values that the nodes may have in an activation from a state: they are of the types, and those of plain nodes are the values of

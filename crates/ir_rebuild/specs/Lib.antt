@@ -6,5 +6,9 @@ pub mod Moves
 pub mod Built
 -- which nodes are kept
 pub mod Kept
+-- nodes that every pass leaves as they are
+pub mod Fixed
+-- what became of the nodes of a proc, and of the procs of a package
+pub mod Walks
 -- what functions of this crate promise to one another, and nobody else needs
 pub mod Inner

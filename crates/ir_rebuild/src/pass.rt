@@ -5,14 +5,23 @@ use std::alloc::{AllocError, Global};
 
 /// A pass: which nodes are kept, and what stands for each.
 pub trait Rewrite {
-    ghost use Rattle.std.specs.Prelude.{◌≡◌, true, length, IfOk};
+    ghost use Rattle.std.specs.Prelude.{◌≡◌, true, length, List, Bool, IfOk};
+    ghost use Rattle.ir_tree.specs.declared.package.Proc.{Proc};
     ghost use Rattle.ir_rebuild.specs.Built.{AreBuilt, IsPlaced, Rewrites, is_plain_op};
     ghost use Rattle.ir_rebuild.specs.Kept.{AreKept, StandBefore};
+    ghost use Rattle.ir_rebuild.specs.Walks.{NodeRelation};
+
+    // What the pass says beside of the nodes of a proc that it keeps.
+    ghost marks: { Proc → List Bool → Type 0 } = { λ _ _. Unit {0} };
+
+    // What it says beside of a node and what stands for it.
+    ghost gives: { NodeRelation } = { λ _ _ _ _ _. Unit {0} };
 
     /// For each node of a proc whether it is kept. Sites are, what the next state is, and the operands of what is kept.
     fn kept(&self, alloc: Global, proc: &Proc) -> Result<Vec<bool>, AllocError>
         requires { StandBefore proc.now }
-        ensures { IfOk result (λ kept. AreKept proc.now kept.items) };
+        ensures kept { IfOk result (λ kept. AreKept proc.now kept.items) }
+        ensures marked { IfOk result (λ kept. marks proc.now kept.items) };
 
     /// What stands for a node that would be appended to these nodes. It appends what it needs, each a plain node.
     fn rewrite(
@@ -25,5 +34,6 @@ pub trait Rewrite {
         requires built { AreBuilt state.now nodes.old.items }
         requires placed { IsPlaced state.now nodes.old.items (length nodes.old.items) node }
         requires plain { is_plain_op node.op ≡ true }
-        ensures { IfOk result (λ o. Rewrites state.now nodes.old.items nodes.new.items node o) };
+        ensures rewrites { IfOk result (λ o. Rewrites state.now nodes.old.items nodes.new.items node o) }
+        ensures gives { IfOk result (λ o. gives state.now nodes.old.items nodes.new.items node o) };
 }

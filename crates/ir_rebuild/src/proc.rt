@@ -7,8 +7,10 @@ ghost use Rattle.ir_verify.specs.Verified.{IsVerified};
 ghost use Rattle.ir_rebuild.specs.Operands.{node_of};
 ghost use Rattle.ir_rebuild.specs.Moves.{moved, moved_node};
 ghost use Rattle.ir_rebuild.specs.Built.{is_plain_op, AreBuilt, IsPlaced};
-ghost use Rattle.ir_rebuild.specs.Inner.Fixed.{is_receive_op, is_receive, is_one_receive, is_part_of_receive, is_fixed, StandsIn};
+ghost use Rattle.ir_rebuild.specs.Fixed.{is_receive_op, is_receive, is_one_receive, is_part_of_receive, is_fixed};
+ghost use Rattle.ir_rebuild.specs.Inner.Appended.{StandsIn};
 ghost use Rattle.ir_rebuild.specs.Inner.Rebuilt.{IsCheckedProc, IsRebuilt};
+ghost use Rattle.ir_rebuild.specs.Walks.{Becomes, EachBecomes};
 
 use crate::copies::{constant_copy, name_copy, type_copy};
 use crate::moves::{moved, moved_node};
@@ -25,6 +27,7 @@ pub fn rebuild<R: Rewrite>(alloc: Global, pass: &R, ir: Package) -> Result<Packa
     requires { IsVerified ir }
     ensures verified { IfOk result (λ new. IsVerified new) }
     ensures same { IfOk result (λ new. SameBehavior ir new) }
+    ensures became { IfOk result (λ new. EachBecomes R.marks R.gives ir.procs new.procs) }
 {
     let mut all = Vec::new(alloc);
     'procs: for proc in ir.procs.as_slice() {
@@ -45,7 +48,8 @@ pub fn rebuild<R: Rewrite>(alloc: Global, pass: &R, ir: Package) -> Result<Packa
 /// The proc after a pass.
 fn rebuilt<R: Rewrite>(alloc: Global, pass: &R, proc: &Proc) -> Result<Proc, AllocError>
     requires { (channels : List Channel) × IsCheckedProc channels proc.now }
-    ensures { IfOk result (λ new. (channels : List Channel) → IsCheckedProc channels proc.now → IsRebuilt channels proc.now new) }
+    ensures rebuilt { IfOk result (λ new. (channels : List Channel) → IsCheckedProc channels proc.now → IsRebuilt channels proc.now new) }
+    ensures became { IfOk result (λ new. Becomes R.marks R.gives proc.now new) }
 {
     let kept = pass.kept(alloc, proc)?;
     let mut nodes = Vec::new(alloc);
@@ -98,6 +102,8 @@ fn read_one<R: Rewrite>(
         IsPlaced state.now nodes.old.items (length nodes.old.items) (moved_node (moved places.now) node.now) }
     ensures kept { is_kept ≡ true → IfOk result (λ o. StandsIn state.now nodes.old.items nodes.new.items (moved_node (moved places.now) node.now) o) }
     ensures dropped { is_kept ≡ false → nodes.new.items ≡ nodes.old.items }
+    ensures gives { is_kept ≡ true → is_fixed nodes.old.items (moved_node (moved places.now) node.now) ≡ false →
+        IfOk result (λ o. R.gives state.now nodes.old.items nodes.new.items (moved_node (moved places.now) node.now) o) }
 {
     if !is_kept {
         return Ok(Operand::State);
@@ -116,7 +122,8 @@ fn stand_in<R: Rewrite>(
 ) -> Result<Operand, AllocError>
     requires built { AreBuilt state.now nodes.old.items }
     requires placed { is_plain_op node.op ≡ true → IsPlaced state.now nodes.old.items (length nodes.old.items) node }
-    ensures { IfOk result (λ o. StandsIn state.now nodes.old.items nodes.new.items node o) }
+    ensures stands { IfOk result (λ o. StandsIn state.now nodes.old.items nodes.new.items node o) }
+    ensures gives { is_fixed nodes.old.items node ≡ false → IfOk result (λ o. R.gives state.now nodes.old.items nodes.new.items node o) }
 {
     if is_fixed(nodes.as_slice(), &node) {
         append(nodes, node)

@@ -1,15 +1,13 @@
 -- Nodes that every pass leaves as they are.
-use Rattle.std.specs.Prelude.{◌≡◌, length, ◌++◌, Bool, true, false, ◌||◌, not, List, [], ◌∷◌, Option, Some, None}
+use Rattle.std.specs.Prelude.{Bool, true, false, ◌||◌, not, List, [], ◌∷◌, Option, Some, None}
 use Rattle.delay_model.specs.declared.op.Op.{Op}
 use Rattle.delay_model.specs.declared.op.Op.TheVariants as op
-use Rattle.ir_tree.specs.declared.ir_type.IrType.{IrType}
 use Rattle.ir_tree.specs.declared.node.Operand.{Operand}
-use Rattle.ir_tree.specs.declared.node.Operand.TheVariants as operand
 use Rattle.ir_tree.specs.declared.node.Node.{Node}
 use Rattle.ir_tree.specs.declared.node.Attributes.{Attributes}
 use Rattle.ir_tree.specs.declared.node.Attributes.TheVariants as attributes
 use Rattle.ir_rebuild.specs.Operands.{node_of}
-use Rattle.ir_rebuild.specs.Built.{is_plain_op, numbered, Rewrites}
+use Rattle.ir_rebuild.specs.Built.{is_plain_op}
 
 abbrev pub is_receive_op : Op → Bool
 is_receive_op op.Receive = true
@@ -38,8 +36,3 @@ is_part_of_receive nodes (attributes.Channel predicate c) os = false
 -- sites and `after_all`, and the parts of what a receive gives: the tokens of the order of sites are among them
 abbrev pub is_fixed : List Node → Node → Bool
 is_fixed nodes n = not (is_plain_op n.op) || is_part_of_receive nodes n.attributes n.operands
-
--- a fixed node was appended, any other one was rewritten
-pub record StandsIn (state : IrType) (old new : List Node) (n : Node) (o : Operand) : Type 0 where
-  pub appends : is_fixed old n ≡ true → (new ≡ old ++ numbered (length old) n ∷ []) × (o ≡ operand.Node (length old))
-  pub rewrites : is_fixed old n ≡ false → Rewrites state old new n o

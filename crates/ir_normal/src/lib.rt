@@ -1,0 +1,2 @@
+//! The normal form of packages, as the table of left sides has it: definitions alone.
+#![tactic(auto)]

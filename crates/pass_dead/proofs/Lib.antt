@@ -1,0 +1,3 @@
+pub mod MarkSteps
+pub mod Reached
+pub mod Appends

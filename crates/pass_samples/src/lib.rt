@@ -1,0 +1,6 @@
+//! Small packages that passes change, as data, for tests of each pass by the text of what it gives.
+#![tactic(auto)]
+
+mod sample;
+
+pub use sample::{bits, node, package, plain};

@@ -1,0 +1,2 @@
+-- what a select always chooses
+pub mod Choices

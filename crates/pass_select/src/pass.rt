@@ -1,0 +1,40 @@
+ghost use Rattle.std.specs.Prelude.{◌≡◌, IfOk};
+ghost use Rattle.ir_tree.specs.SameBehavior.{SameBehavior};
+ghost use Rattle.ir_verify.specs.Verified.{IsVerified};
+
+use crate::selects::choice;
+use ir_rebuild::{Rewrite, append, keep_all, rebuild};
+use ir_tree::{IrType, Node, Operand, Package, Proc};
+use std::alloc::{AllocError, Global};
+
+/// The pass: what a select always chooses stands for it.
+#[derive(Clone, Copy, Debug)]
+pub struct Select;
+
+impl Rewrite for Select {
+    fn kept(&self, alloc: Global, proc: &Proc) -> Result<Vec<bool>, AllocError> {
+        keep_all(alloc, proc)
+    }
+
+    fn rewrite(
+        &self,
+        _alloc: Global,
+        _state: &IrType,
+        nodes: &mut Vec<Node>,
+        node: Node,
+    ) -> Result<Operand, AllocError> {
+        match choice(nodes.as_slice(), &node) {
+            Some(operand) => Ok(operand),
+            None => append(nodes, node),
+        }
+    }
+}
+
+/// The package without selects that always choose one operand.
+pub fn run(alloc: Global, ir: Package) -> Result<Package, AllocError>
+    requires { IsVerified ir }
+    ensures verified { IfOk result (λ new. IsVerified new) }
+    ensures same { IfOk result (λ new. SameBehavior ir new) }
+{
+    rebuild(alloc, &Select, ir)
+}
