@@ -179,6 +179,17 @@ module _ {N T : Type 0} (number : T → ℕ) (run : T → N) (fact : T → Type 
         is.each k x (ap (λ (xs : List T). slice_get xs k) e ∙ in_front left (task ∷ []) k x (ap (λ (xs : List T). slice_get xs k) (sym parked_is) ∙ f));
   }
 
+  -- it is the share of a worker whose pass knew what this one knows
+  pub by_itself : IsShareOf number run fact queue (knows share.pass) share
+  by_itself = record {
+    pass = is.pass;
+    parts = refl;
+    count = refl;
+    run_is = refl;
+    held = is.held;
+    each = λ k x e. let there = is.each k x e in (is.run_is ∙ there.0, there.1);
+  }
+
   -- where none is parked, nothing is held
   pub none_held : share.parked.items ≡ [] → HoldsNone (knows share.pass)
   none_held e h = is.held h ∙ ap (λ (xs : List T). sum_numbers number h xs) e

@@ -3,6 +3,7 @@
 //! No task is lost and none comes back twice, whatever the threads do.
 #![tactic(auto)]
 
+mod pulse;
 mod rounds;
 mod share;
 mod steps;

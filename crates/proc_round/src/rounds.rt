@@ -5,6 +5,7 @@ ghost use Rattle.task_queue.specs.Passes.{IsTaskPass, knows};
 ghost use Rattle.proc_round.specs.Shares.{IsShareOf, HoldsNone, AreAll};
 ghost use Rattle.proc_round.specs.Inner.Jobs.{AreJobs, AreShares};
 
+use crate::pulse::Pulse;
 use crate::share::Share;
 use crate::steps::Steps;
 use crate::worker::work;
@@ -43,6 +44,7 @@ pub fn round<N: Send + Sync, T: Steps<N> + Send, R: Threads + Wait + Sync, G: Ga
         parked: Vec::new(alloc),
         moved: false,
     };
+    let pulse = Pulse::new();
     let jobs = deal(alloc, queue, &mut share.pass, workers)?;
     let shares = thread::map_vec(
         rt,
@@ -52,7 +54,7 @@ pub fn round<N: Send + Sync, T: Steps<N> + Send, R: Threads + Wait + Sync, G: Ga
             ensures { IfOk result (λ share. IsShareOf T.number_of T.run_of T.fact queue.entry.now (knows job.pass) share) }
         {
             let Job { pass, worker } = job;
-            work(rt, alloc, queue, pass, gate, worker)
+            work(rt, alloc, queue, pass, &pulse, gate, worker)
         },
     )?;
     gather(queue, &mut share, shares)?;
@@ -127,13 +129,7 @@ pub fn put_back<N, T: Steps<N>, R: Wait>(
     ensures pass { IsTaskPass queue.now result × HoldsNone (knows result) }
     ensures same { ((knows result).parts ≡ (knows share.pass).parts) × ((knows result).count ≡ (knows share.pass).count) × ((knows result).run ≡ (knows share.pass).run) }
 {
-    let Share {
-        mut pass,
-        mut parked,
-        ..
-    } = share;
-    while let Some(task) = parked.pop() {
-        queue.put(rt, &mut pass, task);
-    }
-    pass
+    let mut share = share;
+    share.unpark(rt, queue);
+    share.pass
 }

@@ -1,10 +1,11 @@
-ghost use Rattle.std.specs.Prelude.{◌≡◌, ◌+◌, OnOk};
+ghost use Rattle.std.specs.Prelude.{◌≡◌, ◌+◌, [], OnOk};
 ghost use Rattle.task_queue.specs.declared.hand.Hand.{Hand};
-ghost use Rattle.task_queue.specs.Passes.{IsTaskPass};
+ghost use Rattle.task_queue.specs.Passes.{IsTaskPass, knows};
 ghost use Rattle.proc_round.specs.Shares.{IsShareOf};
 
 use crate::steps::Steps;
 use std::alloc::AllocError;
+use std::sync::Wait;
 use task_queue::{TaskPass, TaskQueue};
 
 /// What a worker brings back: its pass, the tasks that made no event in their last turn, and whether any task made one.
@@ -36,5 +37,16 @@ impl<N, T: Steps<N>> Share<N, T> {
         self.moved = self.moved || moved;
         self.parked.append(&mut parked)?;
         Ok(())
+    }
+
+    /// The parked tasks go back into the queue.
+    pub(crate) fn unpark<R: Wait>(&mut self, rt: &R, queue: &TaskQueue<N, T>)
+        requires { IsShareOf T.number_of T.run_of T.fact queue.now (knows self.old.pass) self.old }
+        ensures share { (old : Hand N) → IsShareOf T.number_of T.run_of T.fact queue.now old self.old → IsShareOf T.number_of T.run_of T.fact queue.now old self.new }
+        ensures none { self.new.parked.items ≡ [] }
+    {
+        while let Some(task) = self.parked.pop() {
+            queue.put(rt, &mut self.pass, task);
+        }
     }
 }

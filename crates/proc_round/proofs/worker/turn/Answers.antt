@@ -1,6 +1,16 @@
 use Rattle.std.proofs.Common.{refl, ap, sym, ◌∙◌, Some}
-use Rattle.proc_round.proofs.Turns.{put_again, park}
+use Rattle.task_queue.specs.Passes.{knows}
+use Rattle.proc_round.proofs.Turns.{put_again, park, rest, by_itself}
 use Rattle.proc_round.proofs.worker.turn.Goals as goal
+
+pub wait-requires : goal.wait-requires
+wait-requires g c =
+    by_itself _ _ _ c.args.queue.now _ _
+    (rest _ _ _ c.args.queue.now (knows c.args.share.now.pass) c.args.share.now c.requires _ c.in-None.ensures.pass c.in-None.ensures.taken.0 refl)
+
+pub returns-in-None : goal.returns-in-None
+returns-in-None g c old is =
+    c.wait.ensures old (rest _ _ _ c.args.queue.now old c.args.share.now is _ c.in-None.ensures.pass c.in-None.ensures.taken.0 refl)
 
 pub returns-then-made-gt0 : goal.returns-then-made-gt0
 returns-then-made-gt0 g c old is =

@@ -1,0 +1,4 @@
+pub mod Over
+pub mod Found
+pub mod Streams
+pub mod Lemmas
