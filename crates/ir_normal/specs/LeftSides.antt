@@ -13,7 +13,7 @@ use Rattle.ir_tree.specs.declared.ir_type.IrType.{IrType}
 use Rattle.ir_tree.specs.declared.node.Attributes.{Attributes}
 use Rattle.ir_tree.specs.declared.node.Attributes.TheVariants as attributes
 use Rattle.ir_tree.specs.declared.node.Node.{Node}
-use Rattle.ir_verify.specs.Types.{bits_width}
+use Rattle.ir_types.specs.Types.{bits_width}
 use Rattle.ir_normal.specs.Origins.{Making, Origin, origin}
 
 -- ---- what an operand is made of

@@ -1,6 +1,4 @@
 mod LastToken
 mod OneTree
 mod OnePackage
-mod Stepping
-mod Tails
 mod Verdicts

@@ -10,7 +10,7 @@ use Rattle.xb_span.specs.declared.fault.Fault.{Fault}
 use Rattle.xb_span.specs.declared.limit.Limit.{Limit}
 use Rattle.xb_span.specs.declared.read_error.ReadError.{ReadError}
 use Rattle.xb_span.specs.declared.read_error.ReadError.TheVariants.{Syntax, Broken, Over, OutOfMemory}
-use Rattle.ir_parser.specs.declared.builder.Placed.{Placed}
+use Rattle.ir_builder.specs.declared.builder.Placed.{Placed}
 use Rattle.ir_parser.specs.Reads.{AreDeep, AreShallow, IsMisplaced, IsRefusal, Reads}
 use Rattle.ir_parser.specs.Texts.{GivesPackage, IsIrTextOf, accepted, cut_off, misplaced, too_deep, faulty}
 use Rattle.ir_parser.proofs.OneTree.{TheGrammarLaws, one_placed, same_place, misplaced_or_deep, deep_or_shallow, reads_or_misplaced}

@@ -13,9 +13,9 @@ use Rattle.xb_span.specs.declared.limit.Limit.{Limit}
 use Rattle.xb_span.specs.declared.limit.What.TheVariants.{Nesting}
 use Rattle.dslx_nesting.specs.Nesting.{first_past}
 use Rattle.lists.proofs.Lemmas.Faults.{IsFirstFault-unique}
-use Rattle.ir_parser.specs.declared.builder.Placed.{Placed}
-use Rattle.ir_parser.specs.Building.{built, placed_of}
-use Rattle.ir_parser.specs.Empty.{empty}
+use Rattle.ir_builder.specs.declared.builder.Placed.{Placed}
+use Rattle.ir_builder.specs.Building.{built, placed_of}
+use Rattle.ir_builder.specs.Empty.{empty}
 use Rattle.ir_parser.specs.Reads.{AreDeep, AreShallow, IsMisplaced, LeaveGrammarAt, Reads, kinds_of, roles_of}
 
 -- what the laws of grammars say

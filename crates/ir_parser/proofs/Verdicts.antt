@@ -13,7 +13,7 @@ use Rattle.ir_verify.specs.declared.places.Places.{Places}
 use Rattle.ir_verify.specs.declared.places.ProcPlaces.{ProcPlaces}
 use Rattle.ir_verify.specs.Checks.{Check, limit_at, note, noted}
 use Rattle.ir_verify.specs.Lines.{Seen, see, channel_checks, head_checks, next_checks, node_checks, own_levels, type_limits}
-use Rattle.ir_verify.specs.Types.{widths_in}
+use Rattle.ir_types.specs.Types.{widths_in}
 use Rattle.ir_tree.specs.NodeValues.{role_of}
 use Rattle.ir_verify.specs.Verified.{IsVerified, at_start, channels_checks, checks_of, first_fault, nodes_checks, nothing_seen, nowhere, nowhere_at_all, nowhere_proc, proc_checks, procs_checks, seen_after}
 use Rattle.std.specs.Prelude.{get_or, if◌then◌else◌}

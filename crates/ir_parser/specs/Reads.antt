@@ -12,9 +12,9 @@ use Rattle.xb_span.specs.declared.limit.Limit.{Limit}
 use Rattle.xb_span.specs.declared.limit.What.TheVariants.{Nesting}
 use Rattle.xb_span.specs.declared.read_error.ReadError.{ReadError}
 use Rattle.xb_span.specs.declared.read_error.ReadError.TheVariants.{Syntax, Broken, Over, OutOfMemory}
-use Rattle.ir_parser.specs.declared.builder.Placed.{Placed}
-use Rattle.ir_parser.specs.Building.{built, placed_of}
-use Rattle.ir_parser.specs.Empty.{empty}
+use Rattle.ir_builder.specs.declared.builder.Placed.{Placed}
+use Rattle.ir_builder.specs.Building.{built, placed_of}
+use Rattle.ir_builder.specs.Empty.{empty}
 use Rattle.ir_parser.specs.Roles.{role_of}
 
 abbrev pub kinds_of : List Lexeme → List ℕ

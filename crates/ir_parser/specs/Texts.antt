@@ -8,7 +8,7 @@ use Rattle.xb_span.specs.Fault.{error_of}
 use Rattle.xb_span.specs.declared.limit.Limit.{Limit}
 use Rattle.xb_span.specs.declared.read_error.ReadError.{ReadError}
 use Rattle.xb_span.specs.declared.read_error.ReadError.TheVariants.{Syntax, Over}
-use Rattle.ir_parser.specs.declared.builder.Placed.{Placed}
+use Rattle.ir_builder.specs.declared.builder.Placed.{Placed}
 use Rattle.ir_parser.specs.Reads.{AreDeep, AreShallow, IsMisplaced, Reads}
 
 -- the text is this package, whose lines stand there; it may break rules and pass limits

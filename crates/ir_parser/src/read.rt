@@ -7,9 +7,9 @@ ghost use Rattle.xb_span.specs.declared.read_error.ReadError.{ReadError as Refus
 ghost use Rattle.xb_span.specs.declared.read_error.ReadError.TheVariants.{OutOfMemory};
 ghost use Rattle.ir_parser.specs.Texts.{GivesPackage, IsIrTextOf};
 
-use crate::builder::Placed;
 use crate::laws::one_package;
 use crate::reader::read_tokens;
+use ir_builder::Placed;
 use ir_token::tokens;
 use ir_tree::Package;
 use ir_verify::check;

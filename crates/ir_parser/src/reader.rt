@@ -9,9 +9,9 @@ ghost use Rattle.ir_grammar.specs.Ir.{ir};
 ghost use Rattle.ir_parser.specs.Reads.{AreShallow, IsRefusal, Reads, kinds_of, roles_of};
 ghost use Rattle.ir_parser.specs.Roles.{role_of};
 
-use crate::builder::{Placed, build};
 use dslx_nesting::{Role, first_over};
 use grammar::ParseError;
+use ir_builder::{Placed, build};
 use ir_grammar::kind::{END, LBRACE, LBRACKET, LPAREN, RBRACE, RBRACKET, RPAREN};
 use ir_token::Token;
 use std::alloc::{AllocError, Global};

@@ -19,8 +19,8 @@ use Rattle.ir_tree.specs.Activations.{sites_of, turns_from, words_from, site_wor
 use Rattle.ir_tree.specs.SameBehavior.{SameActivations}
 use Rattle.ir_verify.specs.Checks.{Check}
 use Rattle.ir_verify.specs.Fitting.{type_in, types_behind}
-use Rattle.ir_verify.specs.Types.{same_type, marks_of}
-use Rattle.ir_verify.specs.Lines.{Seen, is_there, is_among, is_state, is_value_of, head_checks, next_checks}
+use Rattle.ir_types.specs.Types.{same_type, marks_of}
+use Rattle.ir_verify.specs.Lines.{Seen, is_there, is_proc_named, is_state, is_value_of, head_checks, next_checks}
 use Rattle.ir_verify.specs.Verified.{nowhere, nodes_checks, seen_after, at_start, count_check}
 use Rattle.ir_typed.specs.Typed.{none_broken}
 use Rattle.std.specs.List.{list_all}
@@ -185,7 +185,7 @@ stand_before channels p c = record { operands = operands; next = next }
 
 pub none_built : (channels : List Channel) (p : Proc) → IsCheckedProc channels p → AreBuilt p.state []
 none_built channels p c =
-    let b = both (not (is_among c.names p.name)) _ (parts channels c.names c.seen p c.checked).head in
+    let b = both (not (not (is_proc_named c.names p))) _ (parts channels c.names c.seen p c.checked).head in
     let d = both (not (not (is_state p))) _ b.1 in
     record {
       sound = (both (marks_of p.state).sound (is_value_of p.state p.init) (twice _ d.0)).0;

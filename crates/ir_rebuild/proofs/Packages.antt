@@ -10,8 +10,8 @@ use Rattle.ir_tree.specs.Constants.{constant_value}
 use Rattle.ir_tree.specs.Activations.{activation, sites_of}
 use Rattle.ir_tree.specs.Networks.{head_of, chan_of}
 use Rattle.ir_tree.specs.SameBehavior.{SameActivations, SameBehavior}
-use Rattle.ir_verify.specs.Checks.{Check}
-use Rattle.ir_verify.specs.Lines.{Seen, package_checks, head_checks, next_checks}
+use Rattle.ir_verify.specs.Checks.{Check, rule_at}
+use Rattle.ir_verify.specs.Lines.{Seen, package_checks, head_checks, next_checks, is_name, is_plain, is_some_proc}
 use Rattle.xb_span.specs.declared.fault.Fault.TheVariants.{Passed}
 use Rattle.xb_span.specs.declared.limit.What.TheVariants as what
 use Rattle.ir_verify.specs.Verified.{IsVerified, first_fault, nowhere, nowhere_proc, nowhere_at_all, channels_checks, procs_checks, proc_checks, seen_after, at_start, nothing_seen, checks_of, nodes_checks, count_check}
@@ -56,14 +56,14 @@ abbrev behind_package : Package → List Check
 behind_package ir = channels_checks [] [] 0 ir.channels ++ (procs_checks ir.channels [] [] 0 (nothing_seen ir.channels) ir.procs ++ counts ir.channels ir.procs)
 
 record Parts (ir : Package) : Type 0 where
-  name : none_broken (package_checks nowhere ir.name) ≡ true
+  name : none_broken (package_checks nowhere ir.name ir.procs) ≡ true
   channels : none_broken (channels_checks [] [] 0 ir.channels) ≡ true
   procs : none_broken (procs_checks ir.channels [] [] 0 (nothing_seen ir.channels) ir.procs) ≡ true
   few : none_broken (counts ir.channels ir.procs) ≡ true
 
 parts : (ir : Package) → IsVerified ir → Parts ir
 parts ir h =
-    let a = quiet_parts (package_checks nowhere ir.name) (behind_package ir) (verified_checks ir h) in
+    let a = quiet_parts (package_checks nowhere ir.name ir.procs) (behind_package ir) (verified_checks ir h) in
     let b = quiet_parts (channels_checks [] [] 0 ir.channels) (procs_checks ir.channels [] [] 0 (nothing_seen ir.channels) ir.procs ++ counts ir.channels ir.procs) a.1 in
     let c = quiet_parts (procs_checks ir.channels [] [] 0 (nothing_seen ir.channels) ir.procs) (counts ir.channels ir.procs) b.1 in
     record { name = a.0; channels = b.0; procs = c.0; few = c.1 }
@@ -112,6 +112,12 @@ count_same channels [] (q ∷ qs) r = absurd r
 count_same channels (p ∷ ps) [] r = absurd r
 count_same channels (p ∷ ps) (q ∷ qs) r = ap suc (count_same channels ps qs r.1)
 
+some_same : (channels : List Channel) (ps qs : List Proc) → AllRebuilt channels ps qs → is_some_proc ps ≡ is_some_proc qs
+some_same channels [] [] r = refl
+some_same channels [] (q ∷ qs) r = absurd r
+some_same channels (p ∷ ps) [] r = absurd r
+some_same channels (p ∷ ps) (q ∷ qs) r = refl
+
 -- ---- the package
 
 abbrev pub with_procs : Package → List Proc → Package
@@ -125,8 +131,9 @@ all_verified ir qs h r =
     let count : none_broken (counts ir.channels qs) ≡ true = and_both _ _ (ap (λ n. not (nat_lt 256 n)) (count_same ir.channels ir.procs qs r) ∙ d.0) d.1 in
     let last = quiet_join (procs_checks ir.channels [] [] 0 (nothing_seen ir.channels) qs) (counts ir.channels qs) procs count in
     let next = quiet_join (channels_checks [] [] 0 ir.channels) (procs_checks ir.channels [] [] 0 (nothing_seen ir.channels) qs ++ counts ir.channels qs) all.channels last in
+    let name : none_broken (package_checks nowhere ir.name qs) ≡ true = subst (λ b. none_broken (rule_at nowhere 51 (not (is_name ir.name && (is_plain ir.name && b))) ∷ []) ≡ true) (some_same ir.channels ir.procs qs r) all.name in
     checks_verified (with_procs ir qs)
-    (quiet_join (package_checks nowhere ir.name) (channels_checks [] [] 0 ir.channels ++ (procs_checks ir.channels [] [] 0 (nothing_seen ir.channels) qs ++ counts ir.channels qs)) all.name next)
+    (quiet_join (package_checks nowhere ir.name qs) (channels_checks [] [] 0 ir.channels ++ (procs_checks ir.channels [] [] 0 (nothing_seen ir.channels) qs ++ counts ir.channels qs)) name next)
 
 heads_same : (channels : List Channel) (ps qs : List Proc) → AllRebuilt channels ps qs → map head_of ps ≡ map head_of qs
 heads_same channels [] [] r = refl

@@ -11,7 +11,7 @@ use Rattle.ir_tree.specs.declared.node.Node.{Node}
 use Rattle.ir_tree.specs.Types.{ty_of}
 use Rattle.ir_tree.specs.Constants.{no_value}
 use Rattle.ir_tree.specs.NodeValues.{operand_value, pure_value}
-use Rattle.ir_verify.specs.Types.{marks_of}
+use Rattle.ir_types.specs.Types.{marks_of}
 use Rattle.ir_verify.specs.Fitting.{type_in, types_behind, node_fits}
 use Rattle.ir_verify.specs.Lines.{are_there, attributes_there, is_there, is_typed, type_limits}
 use Rattle.ir_typed.specs.Typed.{none_broken}

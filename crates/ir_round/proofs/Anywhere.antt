@@ -15,7 +15,7 @@ use Rattle.ir_verify.specs.declared.places.Places.{Places}
 use Rattle.ir_verify.specs.declared.places.ProcPlaces.{ProcPlaces}
 use Rattle.ir_verify.specs.Checks.{Check, limit_at, note, noted}
 use Rattle.ir_verify.specs.Lines.{Seen, see, channel_checks, node_checks, own_levels, type_limits}
-use Rattle.ir_verify.specs.Types.{widths_in}
+use Rattle.ir_types.specs.Types.{widths_in}
 use Rattle.ir_verify.specs.Verified.{IsVerified, at_start, channels_checks, checks_of, first_fault, nodes_checks, nothing_seen, nowhere, nowhere_at_all, nowhere_proc, proc_checks, procs_checks, seen_after}
 
 -- The two lists of checks say the same of what is broken.
@@ -95,3 +95,7 @@ none_said cs ds (one c d xs ys same rest) e = step_said c.broken d.broken c.faul
 pub verified_there : (ir : Package) (places : Places) → IsVerified ir → first_fault ir places ≡ None
 unfolding first_fault
 verified_there ir places e = none_said (checks_of ir nowhere_at_all) (checks_of ir places) (all_same ir nowhere_at_all places) e
+
+pub verified_nowhere : (ir : Package) (places : Places) → first_fault ir places ≡ None → IsVerified ir
+unfolding first_fault
+verified_nowhere ir places e = none_said (checks_of ir places) (checks_of ir nowhere_at_all) (all_same ir places nowhere_at_all) e

@@ -29,11 +29,12 @@ use Rattle.ir_tree.specs.declared.node.Operand.{Operand}
 use Rattle.ir_tree.specs.declared.package.Channel.{Channel}
 use Rattle.ir_text.specs.Parts.{constant_text, operand_text, operands_text}
 use Rattle.ir_text.specs.Lines.{attributes_text, channel_name, default_text, predicate_text}
-use Rattle.ir_parser.specs.declared.state.State.{State}
-use Rattle.ir_parser.specs.Building.{shifted}
-use Rattle.ir_parser.specs.Named.{numbered, place_in}
+use Rattle.ir_builder.specs.declared.state.State.{State}
+use Rattle.ir_builder.specs.Building.{shifted}
+use Rattle.ir_builder.specs.Named.{numbered, place_in}
 use Rattle.ir_parser.specs.Roles.{role_of}
-use Rattle.ir_round.specs.Writable.{is_held, is_one_word}
+use Rattle.ir_round.specs.InRange.{is_held}
+use Rattle.ir_round.proofs.Writable.{is_one_word}
 use Rattle.ir_round.proofs.Held.{attributes_held, constant_held}
 use Rattle.ir_round.proofs.Walks.{Due, Goes, Point, Turns, a_token, a_tree, complete, complete_then, due_of, lexeme_of, stays, token_then}
 use Rattle.ir_round.proofs.Words.{number_front_is, number_kind, number_shown, word_front, word_shown}

@@ -16,8 +16,8 @@ use Rattle.ir_tree.specs.declared.package.Ends.{Ends}
 use Rattle.ir_tree.specs.declared.package.Ends.TheVariants as ends
 use Rattle.ir_text.specs.Parts.{type_text}
 use Rattle.ir_text.specs.Lines.{channel_id, channel_kind, channel_start, channel_text, ends_text, lines_text}
-use Rattle.ir_parser.specs.declared.state.State.{State}
-use Rattle.ir_round.specs.Writable.{is_one_word}
+use Rattle.ir_builder.specs.declared.state.State.{State}
+use Rattle.ir_round.proofs.Writable.{is_one_word}
 use Rattle.ir_round.proofs.Held.{type_held}
 use Rattle.ir_round.proofs.Walks.{Due, Goes, Point, a_tree, complete_then, stays, token_then}
 use Rattle.ir_round.proofs.Words.{digits_of_decimal, ends_words, number_front_is, number_kind, number_shown}

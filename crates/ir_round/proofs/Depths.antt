@@ -17,12 +17,12 @@ use Rattle.ir_tree.specs.declared.constant.Constant as constants
 use Rattle.ir_tree.specs.declared.constant.Constant.TheViews.{outs-Tuple, outs-Array}
 use Rattle.ir_tree.specs.Types.{arrays_of, bounded, ty_of}
 use Rattle.ir_verify.specs.Checks.{limit_at}
-use Rattle.ir_verify.specs.Constants.{array_fits, constant_fits, each_fits, number_fits, tuple_fits}
+use Rattle.ir_types.specs.Constants.{array_fits, constant_fits, each_fits, number_fits, tuple_fits}
 use Rattle.ir_verify.specs.Lines.{type_limits}
-use Rattle.ir_verify.specs.Types.{levels_of, levels_step, max_of, widths_in}
-use Rattle.ir_verify.proofs.Lemmas.ConstantCases.{fits-Bits, fits-Tuple, fits-Array}
-use Rattle.ir_verify.proofs.Lemmas.IrTypes as types
-use Rattle.ir_verify.proofs.Lemmas.IrTypes.{ty_of-Bits, ty_of-Token, ty_of-Tuple}
+use Rattle.ir_types.specs.Types.{levels_of, levels_step, max_of, widths_in}
+use Rattle.ir_types.proofs.Lemmas.ConstantCases.{fits-Bits, fits-Tuple, fits-Array}
+use Rattle.ir_types.proofs.Lemmas.IrTypes as types
+use Rattle.ir_types.proofs.Lemmas.IrTypes.{ty_of-Bits, ty_of-Token, ty_of-Tuple}
 use Rattle.ir_typed.specs.Typed.{none_broken}
 use Rattle.ir_typed.proofs.Checked.{both_true, parts_not}
 use Rattle.ir_typed.proofs.Tests.{type_induction}

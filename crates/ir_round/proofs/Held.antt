@@ -10,7 +10,8 @@ use Rattle.ir_tree.specs.declared.node.Attributes.TheVariants as attributes
 use Rattle.ir_tree.specs.declared.node.Node.{Node}
 use Rattle.ir_tree.specs.declared.package.Channel.{Channel}
 use Rattle.ir_tree.specs.declared.package.Proc.{Proc}
-use Rattle.ir_round.specs.Writable.{all_true, is_held, is_one_word}
+use Rattle.ir_round.specs.InRange.{all_true, is_held}
+use Rattle.ir_round.proofs.Writable.{is_one_word}
 
 -- no list is longer than memory can be
 abbrev pub is_short : {A : Type 0} → List A → Bool

@@ -1,3 +1,4 @@
+mod Writable
 mod Held
 mod Walks
 mod Words
@@ -20,3 +21,4 @@ mod VerifiedNodes
 mod Anywhere
 mod Shortness
 mod VerifiedPackages
+mod Ranges

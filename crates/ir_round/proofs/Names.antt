@@ -16,11 +16,11 @@ use Rattle.ir_grammar.specs.Rules.{named_rules}
 use Rattle.ir_token.specs.Fronts.{name_len}
 use Rattle.delay_model.specs.Names.{op_named}
 use Rattle.ir_token.specs.Kinds.{Context, class_of, id_part, op_part, ir_plain_kind, ir_word_kind, ir_words, is_op_id, kind_in}
-use Rattle.ir_parser.specs.declared.rule.Rule.TheVariants.{Keep, Name}
-use Rattle.ir_parser.specs.declared.state.State.{State}
-use Rattle.ir_parser.specs.Building.{reduced, rule_of, shifted}
+use Rattle.ir_builder.specs.declared.rule.Rule.TheVariants.{Keep, Name}
+use Rattle.ir_builder.specs.declared.state.State.{State}
+use Rattle.ir_builder.specs.Building.{reduced, rule_of, shifted}
 use Rattle.ir_parser.specs.Roles.{role_of}
-use Rattle.ir_round.specs.Writable.{is_one_word}
+use Rattle.ir_round.proofs.Writable.{is_one_word}
 use Rattle.ir_round.proofs.Walks.{Due, Goes, Point, Turns, a_tree, complete, lexeme_of, stays, token_then}
 use Rattle.ir_round.proofs.Words.{ends_words, word_front, word_shown}
 use Rattle.ir_round.proofs.Steps.{behind, by_rule, complete_as, spot}

@@ -18,10 +18,10 @@ use Rattle.ir_tree.specs.declared.node.Node.{Node}
 use Rattle.ir_tree.specs.declared.package.Channel.{Channel}
 use Rattle.ir_text.specs.Parts.{node_name, operands_text, type_text}
 use Rattle.ir_text.specs.Lines.{attributes_text, lines_text, node_call, node_end, node_start, node_text}
-use Rattle.ir_parser.specs.declared.state.State.{State}
-use Rattle.ir_parser.specs.Building.{shifted}
-use Rattle.ir_parser.specs.Empty.{join}
-use Rattle.ir_parser.specs.Rules.{op_or}
+use Rattle.ir_builder.specs.declared.state.State.{State}
+use Rattle.ir_builder.specs.Building.{shifted}
+use Rattle.ir_builder.specs.Empty.{join}
+use Rattle.ir_builder.specs.Rules.{op_or}
 use Rattle.ir_round.proofs.Held.{attributes_held, type_held}
 use Rattle.ir_round.proofs.Walks.{Due, Goes, Point, a_tree, complete, complete_then, a_token, lexeme_of, stays, token_then}
 use Rattle.ir_round.proofs.Words.{word_front, word_shown}

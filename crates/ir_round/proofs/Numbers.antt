@@ -10,7 +10,7 @@ use Rattle.ir_grammar.specs.Ir.{ir}
 use Rattle.ir_grammar.specs.Rules.{named_rules}
 use Rattle.ir_token.specs.Kinds.{Context, ir_plain_kind, kind_in}
 use Rattle.ir_token.specs.Said.{number_said, small_said}
-use Rattle.ir_parser.specs.declared.state.State.{State}
+use Rattle.ir_builder.specs.declared.state.State.{State}
 use Rattle.ir_round.proofs.Walks.{a_tree, Goes, Point, stays, token_then}
 use Rattle.ir_round.proofs.Words.{ends_words, number_front_is, number_kind, number_shown, number_value}
 use Rattle.ir_round.proofs.Steps.{Reads, by_rule, complete_as, spot}

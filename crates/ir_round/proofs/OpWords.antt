@@ -15,7 +15,7 @@ use Rattle.ir_grammar.specs.declared.generated.kind.TheConstants as kinds
 use Rattle.ir_token.specs.Fronts.{name_len, word_goes_on}
 use Rattle.ir_token.specs.Kinds.{id_part, ir_plain_kind, ir_word_kind, is_id, is_no_dot, is_op_id, op_part}
 use Rattle.ir_token.specs.Said.{id_said}
-use Rattle.ir_round.specs.Writable.{is_one_word}
+use Rattle.ir_round.proofs.Writable.{is_one_word}
 use Rattle.ir_round.proofs.Words.{digits_go_on, digits_of_decimal, id_is, value_of_decimal}
 
 -- ---- what a test says of all operations

@@ -14,9 +14,9 @@ use Rattle.ir_tree.specs.declared.node.Operand.{Operand}
 use Rattle.ir_tree.specs.declared.node.Operand.TheVariants as operands
 use Rattle.ir_text.specs.Parts.{name_there, node_name, operand_text, operands_text}
 use Rattle.ir_text.specs.Lines.{default_text, predicate_text}
-use Rattle.ir_parser.specs.declared.state.State.{State}
-use Rattle.ir_parser.specs.Building.{shifted}
-use Rattle.ir_parser.specs.Named.{numbered, place_in}
+use Rattle.ir_builder.specs.declared.state.State.{State}
+use Rattle.ir_builder.specs.Building.{shifted}
+use Rattle.ir_builder.specs.Named.{numbered, place_in}
 use Rattle.ir_round.proofs.Walks.{Goes, Point, complete, complete_then, lexeme_of, stays, token_then}
 use Rattle.ir_round.proofs.Words.{ends_words, word_front, word_shown}
 use Rattle.ir_round.proofs.OpWords.{op_id_kind, op_id_word}

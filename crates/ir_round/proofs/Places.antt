@@ -3,7 +3,7 @@ use Rattle.std.proofs.Common.{◌≡◌, ◌<◌, ℕ, zero, suc, ◌+◌, true,
 use Rattle.std.specs.Prelude.{◌⊎◌, slice_get}
 use Rattle.std.proofs.lemmas.Bool.{cond-false, cond-true, false_from_ne_true}
 use Rattle.std.proofs.lemmas.Slice.Eq.{bytes_eq-Decides}
-use Rattle.ir_parser.specs.Named.{place_in}
+use Rattle.ir_builder.specs.Named.{place_in}
 use Rattle.ir_round.proofs.Lists.{onto}
 
 same_bytes : (x : List ℕ) → bytes_eq x x ≡ true

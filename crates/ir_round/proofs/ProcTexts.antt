@@ -16,10 +16,10 @@ use Rattle.ir_tree.specs.declared.package.Package.{Package}
 use Rattle.ir_verify.specs.declared.places.ProcPlaces.{ProcPlaces}
 use Rattle.ir_text.specs.Parts.{constant_text, node_name, operand_text, type_text}
 use Rattle.ir_text.specs.Lines.{channel_text, lines_text, node_text, package_text, proc_end, proc_init, proc_start, proc_text}
-use Rattle.ir_parser.specs.declared.state.State.{State}
-use Rattle.ir_parser.specs.Building.{package_of}
-use Rattle.ir_parser.specs.Rules.{places_made, proc_made, proc_of, token_of}
-use Rattle.ir_round.specs.Writable.{is_one_word}
+use Rattle.ir_builder.specs.declared.state.State.{State}
+use Rattle.ir_builder.specs.Building.{package_of}
+use Rattle.ir_builder.specs.Rules.{places_made, proc_made, proc_of, token_of}
+use Rattle.ir_round.proofs.Writable.{is_one_word}
 use Rattle.ir_round.proofs.Held.{constant_held, type_held}
 use Rattle.ir_round.proofs.Walks.{Due, Goes, IsReadTo, Point, a_token, a_tree, at_once, beginning, complete, complete_then, lexeme_of, walk_reads}
 use Rattle.ir_round.proofs.Lists.{all_taken, left_over, onto, taken}

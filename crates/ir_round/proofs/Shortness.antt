@@ -15,11 +15,12 @@ use Rattle.ir_tree.specs.declared.node.Node.{Node}
 use Rattle.ir_tree.specs.declared.node.Operand.{Operand}
 use Rattle.ir_tree.specs.declared.package.Channel.{Channel}
 use Rattle.ir_tree.specs.declared.package.Proc.{Proc}
-use Rattle.ir_verify.proofs.Lemmas.IrTypes as types
+use Rattle.ir_types.proofs.Lemmas.IrTypes as types
 use Rattle.ir_typed.proofs.Tests.{type_induction}
 use Rattle.ir_text.specs.Parts.{constant_step, constant_text, node_name, operand_text, operands_text, sizes_text, type_step, type_text}
 use Rattle.ir_text.specs.Lines.{attributes_text, channel_id, channel_kind, channel_start, channel_text, default_text, lines_text, node_call, node_end, node_start, node_text, proc_end, proc_init, proc_start, proc_text}
-use Rattle.ir_round.specs.Writable.{all_true, attributes_in_range, channel_writable, constant_in_range, constant_range_step, is_held, is_one_word, node_in_range, proc_writable, type_in_range, type_range_step}
+use Rattle.ir_round.specs.InRange.{all_true, attributes_in_range, constant_in_range, constant_range_step, is_held, node_in_range, type_in_range, type_range_step}
+use Rattle.ir_round.proofs.Writable.{channel_writable, is_one_word, proc_writable}
 use Rattle.ir_round.proofs.Held.{are_held, attributes_held, channel_held, constant_held, constant_held_step, is_short, node_held, proc_held, type_held, type_held_step}
 use Rattle.ir_round.proofs.ValueTexts as values
 use Rattle.ir_round.proofs.ValueTexts.{constant_induction}

@@ -9,10 +9,10 @@ use Rattle.ir_grammar.specs.declared.generated.kind.TheConstants as kinds
 use Rattle.ir_grammar.specs.Ir.{ir}
 use Rattle.ir_token.specs.Fronts.{token_front}
 use Rattle.ir_token.specs.Kinds.{Context, ir_plain_kind, ir_word_kind, kind_in}
-use Rattle.ir_parser.specs.declared.state.State.{State}
-use Rattle.ir_parser.specs.Building.{reduced, rule_of}
+use Rattle.ir_builder.specs.declared.state.State.{State}
+use Rattle.ir_builder.specs.Building.{reduced, rule_of}
 use Rattle.ir_parser.specs.Roles.{role_of}
-use Rattle.ir_round.specs.Writable.{is_one_word}
+use Rattle.ir_round.proofs.Writable.{is_one_word}
 use Rattle.ir_round.proofs.Walks.{Due, a_token, a_tree, complete, Goes, IsFront, Point, Turns, beyond, complete_then, due_of, opens, closes, rule_then, stays, token_then}
 use Rattle.ir_round.proofs.Words.{ends_words, word_front}
 

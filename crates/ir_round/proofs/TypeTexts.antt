@@ -16,13 +16,13 @@ use Rattle.ir_token.specs.Kinds.{Context}
 use Rattle.ir_tree.specs.declared.ir_type.IrType.{IrType, Bits, Token, Tuple, fold-IrType}
 use Rattle.ir_tree.specs.declared.ir_type.IrType.TheOpen.{IrType-F}
 use Rattle.ir_tree.specs.declared.ir_type.IrType.TheViews.{outs-Bits, outs-Token, outs-Tuple}
-use Rattle.ir_verify.specs.Types.{max_of}
-use Rattle.ir_verify.proofs.Lemmas.IrTypes.{fold-Bits, fold-Token, fold-Tuple}
+use Rattle.ir_types.specs.Types.{max_of}
+use Rattle.ir_types.proofs.Lemmas.IrTypes.{fold-Bits, fold-Token, fold-Tuple}
 use Rattle.ir_typed.proofs.Tests.{type_induction}
 use Rattle.ir_text.specs.Parts.{sizes_text, type_step, type_text}
-use Rattle.ir_parser.specs.declared.state.State.{State}
-use Rattle.ir_parser.specs.Rules.{sized, sized_step}
-use Rattle.ir_round.specs.Writable.{all_true, is_held}
+use Rattle.ir_builder.specs.declared.state.State.{State}
+use Rattle.ir_builder.specs.Rules.{sized, sized_step}
+use Rattle.ir_round.specs.InRange.{all_true, is_held}
 use Rattle.ir_round.proofs.Held.{are_held, is_short, type_held, type_held_step}
 use Rattle.ir_round.proofs.Walks.{Due, a_tree, complete, Goes, Point, complete_then}
 use Rattle.ir_round.proofs.Words.{ends_words}

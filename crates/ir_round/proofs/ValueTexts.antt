@@ -15,10 +15,10 @@ use Rattle.ir_tree.specs.declared.constant.Constant.TheVariants.{rolls-Number, r
 use Rattle.ir_tree.specs.declared.constant.Constant.TheOpen.{Constant-F}
 use Rattle.ir_tree.specs.declared.constant.Constant.TheViews.{roll-Constant}
 use Rattle.ir_tree.specs.declared.constant.Constant.TheFolds.{fold-roll-Constant, ind-Constant, map-Constant}
-use Rattle.ir_verify.specs.Types.{max_of}
+use Rattle.ir_types.specs.Types.{max_of}
 use Rattle.ir_text.specs.Parts.{constant_step, constant_text}
-use Rattle.ir_parser.specs.declared.state.State.{State}
-use Rattle.ir_round.specs.Writable.{all_true, is_held}
+use Rattle.ir_builder.specs.declared.state.State.{State}
+use Rattle.ir_round.specs.InRange.{all_true, is_held}
 use Rattle.ir_round.proofs.Held.{constant_held, constant_held_step, is_short}
 use Rattle.ir_round.proofs.Walks.{complete_then, Point}
 use Rattle.ir_round.proofs.Words.{ends_words}

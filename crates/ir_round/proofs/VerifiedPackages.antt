@@ -18,19 +18,20 @@ use Rattle.ir_tree.specs.Networks.{chan_of}
 use Rattle.ir_tree.specs.Types.{ty_of}
 use Rattle.ir_verify.specs.declared.places.ProcPlaces.{ProcPlaces}
 use Rattle.ir_verify.specs.Checks.{Check, bounded}
-use Rattle.ir_verify.specs.Constants.{constant_fits}
+use Rattle.ir_types.specs.Constants.{constant_fits}
 use Rattle.ir_verify.specs.Fitting.{type_in, types_behind}
-use Rattle.ir_verify.specs.Lines.{Seen, channel_checks, depth_in, head_checks, is_among, is_channel_named, is_channel_typed, is_named_well, is_state, is_there, is_value_of, next_checks, package_checks, type_limits}
-use Rattle.ir_verify.specs.Types.{marks_of, same_type}
+use Rattle.ir_verify.specs.Lines.{Seen, channel_checks, depth_in, head_checks, is_among, is_channel_named, is_channel_typed, is_name, is_named_well, is_proc_named, is_state, is_there, is_value_of, next_checks, package_checks, type_limits}
+use Rattle.ir_types.specs.Types.{marks_of, same_type}
 use Rattle.ir_verify.specs.Verified.{IsVerified, at_start, channels_checks, checks_of, count_check, first_fault, nodes_checks, nothing_seen, nowhere, nowhere_at_all, nowhere_proc, proc_checks, procs_checks, seen_after}
 use Rattle.ir_typed.specs.Typed.{none_broken}
 use Rattle.ir_typed.proofs.Checked.{both_true, none_noted, not_not_true, parts_not}
 use Rattle.ir_typed.proofs.Lemmas.{network_fits}
 use Rattle.ir_typed.proofs.Tests.{nat_same}
 use Rattle.ir_text.specs.Lines.{channel_text, lines_text, package_text, proc_text}
-use Rattle.ir_parser.specs.Building.{package_of, placed_of, places_of}
+use Rattle.ir_builder.specs.Building.{package_of, placed_of, places_of}
 use Rattle.ir_parser.specs.Texts.{GivesPackage, accepted}
-use Rattle.ir_round.specs.Writable.{IsWritable, channel_writable, is_one_word, proc_writable}
+use Rattle.ir_round.specs.InRange.{IsInRange}
+use Rattle.ir_round.proofs.Writable.{IsWritable, channel_writable, is_one_word, proc_writable, verified_writable}
 use Rattle.ir_round.proofs.Shortness.{IsBrief, channels_brief, parts_brief, procs_brief}
 use Rattle.ir_round.proofs.Held.{channel_held, constant_held, is_short, node_held, proc_held, type_held}
 use Rattle.ir_round.proofs.Walks.{IsReadTo}
@@ -62,8 +63,8 @@ channel_said span names place ch small h held =
     let b = both_true (not (not (is_channel_typed ch))) _ a.1 in
     let c = both_true (not (nat_lt 128 (bounded (width_of (ty_of ch.ty))))) (not (nat_lt 4096 (bounded (depth_in ch.ends))) && none_broken (type_limits span.to ch.ty 0)) b.1 in
     let d = both_true (not (nat_lt 4096 (bounded (depth_in ch.ends)))) (none_broken (type_limits span.to ch.ty 0)) c.1 in
-    let named = both_true (not (is_among names ch.name)) (nat_eq ch.id place && is_named_well ch.ends ch.name) (not_not_true (is_channel_named names place ch) a.0) in
-    let id = nat_same ch.id place (both_true (nat_eq ch.id place) (is_named_well ch.ends ch.name) named.1).0 in
+    let named = both_true (not (is_among names ch.name)) (nat_eq ch.id place && (is_name ch.name && is_named_well ch.ends ch.name)) (not_not_true (is_channel_named names place ch) a.0) in
+    let id = nat_same ch.id place (both_true (nat_eq ch.id place) (is_name ch.name && is_named_well ch.ends ch.name) named.1).0 in
     let parts = and_parts (is_one_word ch.name) (type_held ch.ty) held in
     let levels = few_levels span.to ch.ty 0 (omega arith) d.1 in
     let flat = type_flat ch.ty in
@@ -115,7 +116,7 @@ proc_said channels channel_names places names seen p named h held =
     let a = parts_not (head_checks places.head names p) _ h in
     let b = parts_not (nodes_checks channels p.state places.nodes [] 0 (at_start seen) p.nodes) _ a.1 in
     let c = parts_not (next_checks places.next p) (count_check (Passed places.end (record { what = what.Sites; found = 33; most = 32 })) 32 (length (sites_of p.nodes)) ∷ []) b.1 in
-    let d = both_true (not (is_among names p.name)) _ a.0 in
+    let d = both_true (not (not (is_proc_named names p))) _ a.0 in
     let e = both_true (not (not (is_state p))) (none_broken (type_limits places.head.to p.state 0)) d.1 in
     let state = both_true (marks_of p.state).sound (is_value_of p.state p.init) (not_not_true (is_state p) e.0) in
     let value = both_true (not (marks_of p.state).token) (constant_fits (ty_of p.state) p.init) state.1 in
@@ -169,7 +170,7 @@ few_of n h = grind (arith, nat_tests)
 package_said : (name : List ℕ) (channels : List Channel) (p : Proc) (ps : List Proc) → IsVerified (record { name = name; channels = channels; procs = p ∷ ps }) → IsWritable (record { name = name; channels = channels; procs = p ∷ ps }) → IsBrief (package_text (record { name = name; channels = channels; procs = p ∷ ps })) → IsPackageSaid name channels p ps
 package_said name channels p ps h writable brief =
     let ir : Package = record { name = name; channels = channels; procs = p ∷ ps } in
-    let a = parts_not (package_checks nowhere name) (channels_checks [] [] 0 channels ++ all_procs ir) (verified_checks ir h) in
+    let a = parts_not (package_checks nowhere name (p ∷ ps)) (channels_checks [] [] 0 channels ++ all_procs ir) (verified_checks ir h) in
     let b = parts_not (channels_checks [] [] 0 channels) (all_procs ir) a.1 in
     let c = parts_not (procs_checks channels [] [] 0 (nothing_seen channels) (p ∷ ps)) (counts ir) b.1 in
     let d = both_true (not (nat_lt 256 (length (p ∷ ps)))) (not (nat_lt 1024 (length channels)) && true) c.1 in
@@ -208,6 +209,6 @@ of_procs name channels [] h writable brief =
     absurd (let never = first.1 in cc)
 of_procs name channels (p ∷ ps) h writable brief = gives name channels p ps h (package_reads name channels p ps (package_said name channels p ps h writable brief))
 
--- the text of a verified package that can be written is that package
-pub printed_reads : (ir : Package) → IsVerified ir → IsWritable ir → length (package_text ir) < 2 ^ 32 → GivesPackage (package_text ir) (Ok ir)
-printed_reads ir h writable brief = of_procs ir.name ir.channels ir.procs h writable brief
+-- the text of a verified package is that package
+pub printed_reads : (ir : Package) → IsVerified ir → IsInRange ir → length (package_text ir) < 2 ^ 32 → GivesPackage (package_text ir) (Ok ir)
+printed_reads ir h range brief = of_procs ir.name ir.channels ir.procs h (verified_writable ir h range) brief

@@ -26,9 +26,9 @@ use Rattle.ir_token.specs.Fronts.{token_front}
 use Rattle.ir_token.specs.Kinds.{Context, context_behind, ir_plain_kind, kind_in, no_context, settled_in}
 use Rattle.ir_token.specs.Tokens.{ir_lexeme_at, IsCutInto}
 use Rattle.ir_token.specs.Tokens.IsCutInto.{ends, goes}
-use Rattle.ir_parser.specs.declared.state.State.{State}
-use Rattle.ir_parser.specs.Building.{built, placed_of, reduced, rule_of, shifted}
-use Rattle.ir_parser.specs.Empty.{empty as nothing_built}
+use Rattle.ir_builder.specs.declared.state.State.{State}
+use Rattle.ir_builder.specs.Building.{built, placed_of, reduced, rule_of, shifted}
+use Rattle.ir_builder.specs.Empty.{empty as nothing_built}
 use Rattle.ir_parser.specs.Reads.{kinds_of, roles_of}
 use Rattle.ir_parser.specs.Roles.{role_of}
 use Rattle.ir_parser.specs.Texts.{IsIrTextOf}

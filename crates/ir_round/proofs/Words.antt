@@ -14,7 +14,7 @@ use Rattle.dslx_token.specs.Characters.{is_white}
 use Rattle.ir_grammar.specs.declared.generated.kind.TheConstants as kinds
 use Rattle.ir_token.specs.Fronts.{begins_hexadecimal, digits_len, name_len, number_front, token_front, value_of_number, word_goes_on}
 use Rattle.ir_token.specs.Kinds.{ir_number_kind, ir_plain_kind, is_id}
-use Rattle.ir_round.specs.Writable.{is_one_word}
+use Rattle.ir_round.proofs.Writable.{is_one_word}
 use Rattle.ir_round.proofs.Walks.{IsFront}
 
 -- ---- where words and numbers end

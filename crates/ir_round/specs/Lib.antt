@@ -1,2 +1,2 @@
--- what a package must be for its text to say it
-pub mod Writable
+-- packages whose numbers are in the range of their types
+pub mod InRange

@@ -5,6 +5,8 @@
 
 mod again;
 mod laws;
+mod range;
 
 pub use again::read_again;
 pub use laws::printed_packages_are_read;
+pub use range::in_range;

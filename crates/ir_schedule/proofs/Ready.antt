@@ -31,10 +31,10 @@ use Rattle.ir_tree.specs.NodeValues.{role_of}
 use Rattle.ir_tree.specs.Types.{ty_of, arrays_of, bounded}
 use Rattle.ir_verify.specs.Checks.{Check, limit_at}
 use Rattle.ir_verify.specs.Fitting.{types_behind, node_fits}
-use Rattle.ir_verify.specs.Lines.{Seen, see, type_limits, is_among, is_state, is_there, is_there_if, are_there, attributes_there, is_id_after, is_named, is_chained, is_at_end, is_typed, own_levels, node_checks}
-use Rattle.ir_verify.specs.Types.{widths_in, widths_step, joined_lists, levels_of}
+use Rattle.ir_verify.specs.Lines.{Seen, see, type_limits, is_proc_named, is_state, is_there, is_there_if, are_there, attributes_there, is_id_after, is_named, is_chained, is_at_end, is_typed, own_levels, node_checks}
+use Rattle.ir_types.specs.Types.{widths_in, widths_step, joined_lists, levels_of}
 use Rattle.ir_verify.specs.Verified.{nowhere, nodes_checks}
-use Rattle.ir_verify.proofs.Lemmas.IrTypes.{fold-Bits, fold-Tuple, ty_of-Bits, ty_of-Token, ty_of-Tuple}
+use Rattle.ir_types.proofs.Lemmas.IrTypes.{fold-Bits, fold-Tuple, ty_of-Bits, ty_of-Token, ty_of-Tuple}
 use Rattle.std.specs.Prelude.{get_or}
 use Rattle.ir_typed.specs.Typed.{none_broken, IsVerifiedProc}
 use Rattle.ir_typed.proofs.Lemmas.{verified_proc}
@@ -209,7 +209,7 @@ record IsSoundProc (p : Proc) : Type 0 where
 sound_proc : (channels : List Channel) (p : Proc) → IsVerifiedProc channels p → IsSoundProc p
 sound_proc channels p v = record {
   state =
-      (let a = both_true (not (is_among v.names p.name)) _ v.head in
+      (let a = both_true (not (not (is_proc_named v.names p))) _ v.head in
       let b = both_true (not (not (is_state p))) _ a.1 in
       limited v.head_span.to p.state 0 b.1);
   nodes = λ k n e. (let z : 0 + k ≡ k = omega arith in subst (λ j. IsSoundNode j n) z (sound_nodes channels p.state v.spans p.nodes [] 0 v.seen v.nodes k n e));

@@ -9,7 +9,7 @@ use Rattle.std.proofs.lemmas.Bool.{cases_lt}
 use Rattle.ir_tree.specs.declared.ir_type.IrType.{IrType, Bits, Token, Tuple}
 use Rattle.ir_tree.specs.Types.{ty_of, arrays_of, bounded}
 use Rattle.ir_schedule.specs.Inner.Scaled.{scaled}
-use Rattle.ir_verify.proofs.Lemmas.IrTypes.{ty_of-Bits, ty_of-Token, ty_of-Tuple}
+use Rattle.ir_types.proofs.Lemmas.IrTypes.{ty_of-Bits, ty_of-Token, ty_of-Tuple}
 
 -- a count that stops at `m`, times a count, stops where the product does
 min_mul_min : (w n m : ℕ) → min (min w m * n) m ≡ min (n * w) m

@@ -30,11 +30,11 @@ use Rattle.ir_tree.specs.Constants.{no_value}
 use Rattle.ir_tree.specs.NodeValues.{operand_value, optional_value, role_of, role_by, role_at, Setting, is_on, no_word, channel_type, heard, received, value_by}
 use Rattle.ir_tree.specs.Operations.{plain_value, of_one, of_two, on_word, on_words, on_tuple, slice_value, dyn_slice_value, chosen, element_at, index_value, longer_value}
 use Rattle.ir_tree.specs.Activations.{word_where, sent, sent_by, width_at}
-use Rattle.ir_verify.specs.Types.{is_token, is_tuple_where, same_type, marks_of}
-use Rattle.ir_verify.specs.Constants.{constant_fits}
+use Rattle.ir_types.specs.Types.{is_token, is_tuple_where, same_type, marks_of}
+use Rattle.ir_types.specs.Constants.{constant_fits}
 use Rattle.ir_verify.specs.Fitting.{Types, type_in, types_behind, plain_fits, slice_fits, dynamic_fits, extend_fits, sel_fits, tuple_index_fits, index_fits, is_bit_slice, is_dynamic_bit_slice, is_extend, is_sel, is_tuple_index, predicate_fits, first_is_token, rest_of, is_pair_of, sends_type, site_fits, node_fits}
 use Rattle.ir_verify.specs.Lines.{Seen, may_receive, may_send, is_free, is_at_end, is_literal_of, is_typed, is_named, is_chained, own_levels, node_checks}
-use Rattle.ir_verify.proofs.Lemmas.IrTypes.{ty_of-Tuple}
+use Rattle.ir_types.proofs.Lemmas.IrTypes.{ty_of-Tuple}
 use Rattle.ir_typed.specs.Typed.{none_broken, AreChannels, IsWordType}
 use Rattle.ir_typed.proofs.Checked.{both_true, and_true, not_not_true}
 use Rattle.ir_typed.proofs.Tests.{IsLimited, limited, same_is, token_is, tuple_is, limited_widths}

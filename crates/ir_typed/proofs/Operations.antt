@@ -38,12 +38,12 @@ use Rattle.ir_tree.specs.Types.{ty_of, bounded}
 use Rattle.ir_tree.specs.Constants.{no_value, bits_where, constant_value, read_step, number_read, tuple_read, array_read, each_read}
 use Rattle.ir_tree.specs.NodeValues.{operand_value, optional_value}
 use Rattle.ir_tree.specs.Operations.{on_word, on_words, on_tuple, on_array, binary_value, binary_word, unary_word, compare_value, holds, bit, shift_word, reduce_word, number_where, slice_value, dyn_slice_value, extend_value, extend_word, chosen, element_at, at_index, updated}
-use Rattle.ir_verify.specs.Types.{is_bits, is_bits_of, is_bits_where, is_tuple_where, bits_width, width_there, same_type, each_same, is_array_of, is_array_sized, begins_with, sizes_of}
-use Rattle.ir_verify.specs.Constants.{constant_fits, number_fits}
-use Rattle.ir_verify.specs.Constants as constants
+use Rattle.ir_types.specs.Types.{is_bits, is_bits_of, is_bits_where, is_tuple_where, bits_width, width_there, same_type, each_same, is_array_of, is_array_sized, begins_with, sizes_of}
+use Rattle.ir_types.specs.Constants.{constant_fits, number_fits}
+use Rattle.ir_types.specs.Constants as constants
 use Rattle.ir_verify.specs.Fitting.{Types, type_in, all_bits_of, all_bits, compare_fits, shift_fits, concat_fits, elements_fit, parts_fit, slice_fits, dynamic_fits, extend_fits, defaults, cases_count, is_like, sel_fits, part_is, tuple_index_fits, update_fits, index_fits}
-use Rattle.ir_verify.proofs.Lemmas.IrTypes.{ty_of-Tuple}
-use Rattle.ir_verify.proofs.Lemmas.ConstantCases as cases
+use Rattle.ir_types.proofs.Lemmas.IrTypes.{ty_of-Tuple}
+use Rattle.ir_types.proofs.Lemmas.ConstantCases as cases
 use Rattle.ir_tree.specs.declared.ir_type.IrType.TheViews as ir_views
 use Rattle.ir_typed.proofs.Checked.{both_true, and_true}
 use Rattle.ir_typed.proofs.Words.{binary_word_of, unary_word_of, bit_word, shift_word_of, reduce_word_of, extend_word_of, slice_word_of}

@@ -30,9 +30,9 @@ use Rattle.ir_verify.specs.declared.places.ProcPlaces.{ProcPlaces}
 use Rattle.xb_span.specs.declared.fault.Fault.TheVariants.{Passed}
 use Rattle.xb_span.specs.declared.limit.What.TheVariants as what
 use Rattle.ir_verify.specs.Checks.{Check, bounded}
-use Rattle.ir_verify.specs.Constants.{constant_fits}
-use Rattle.ir_verify.specs.Types.{marks_of}
-use Rattle.ir_verify.specs.Lines.{Seen, package_checks, channel_checks, head_checks, next_checks, is_among, is_channel_named, is_channel_typed, depth_in, type_limits, is_state, is_value_of}
+use Rattle.ir_types.specs.Constants.{constant_fits}
+use Rattle.ir_types.specs.Types.{marks_of}
+use Rattle.ir_verify.specs.Lines.{Seen, package_checks, channel_checks, head_checks, next_checks, is_among, is_channel_named, is_proc_named, is_channel_typed, depth_in, type_limits, is_state, is_value_of}
 use Rattle.ir_verify.specs.Verified.{IsVerified, first_fault, nowhere, nowhere_proc, nowhere_at_all, count_check, channels_checks, nodes_checks, proc_checks, procs_checks, nothing_seen, at_start, seen_after, checks_of}
 use Rattle.ir_typed.specs.Typed.{none_broken, IsWordType, AreChannels, IsVerifiedProc}
 use Rattle.ir_typed.proofs.Checked.{both_true, not_true, not_not_true, none_noted, parts_not}
@@ -64,7 +64,7 @@ all_procs ir = procs_checks ir.channels [] [] 0 (nothing_seen ir.channels) ir.pr
 
 pub checked : (ir : Package) → IsVerified ir → AreChecked ir
 checked ir h =
-    let a = parts_not (package_checks nowhere ir.name) (channels_checks [] [] 0 ir.channels ++ all_procs ir) (verified_checks ir h) in
+    let a = parts_not (package_checks nowhere ir.name ir.procs) (channels_checks [] [] 0 ir.channels ++ all_procs ir) (verified_checks ir h) in
     let b = parts_not (channels_checks [] [] 0 ir.channels) (all_procs ir) a.1 in
     let c = parts_not (procs_checks ir.channels [] [] 0 (nothing_seen ir.channels) ir.procs) (counts ir) b.1 in
     let d = both_true (not (nat_lt 256 (length ir.procs))) (not (nat_lt 1024 (length ir.channels)) && true) c.1 in
@@ -236,7 +236,7 @@ pub record IsHead (channels : List Channel) (proc : Proc) : Type 0 where
 
 head_facts : (channels : List Channel) (proc : Proc) → IsVerifiedProc channels proc → IsHead channels proc
 head_facts channels proc v =
-    let a = both_true (not (is_among v.names proc.name)) _ v.head in
+    let a = both_true (not (not (is_proc_named v.names proc))) _ v.head in
     let b = both_true (not (not (is_state proc))) _ a.1 in
     let c = both_true (marks_of proc.state).sound (is_value_of proc.state proc.init) (not_not_true (is_state proc) b.0) in
     let limits = limited v.head_span.to proc.state 0 c.0 b.1 in

@@ -22,11 +22,11 @@ use Rattle.ir_tree.specs.Constants.{no_value, bits_where}
 use Rattle.ir_tree.specs.NodeValues.{operand_value}
 use Rattle.ir_tree.specs.Operations.{on_word, on_open_word, on_words, on_tuple, on_open_tuple, on_array, on_open_array}
 use Rattle.ir_verify.specs.Fitting.{Types, type_in, type_or, types_behind}
-use Rattle.ir_verify.specs.Types.{is_bits_where, is_bits_of}
-use Rattle.ir_verify.proofs.Lemmas.IrTypes.{ty_of-Bits, ty_of-Token}
+use Rattle.ir_types.specs.Types.{is_bits_where, is_bits_of}
+use Rattle.ir_types.proofs.Lemmas.IrTypes.{ty_of-Bits, ty_of-Token}
 use Rattle.ir_typed.specs.Typed.{HaveTypes}
 use Rattle.ir_typed.proofs.Tests.{IsSound, IsLimited, IsBitsType, bits_is, nat_same, marks-Token, limited_bits}
-use Rattle.ir_verify.specs.declared.types.Marks.{Marks}
+use Rattle.ir_types.specs.declared.types.Marks.{Marks}
 
 -- ---- values behind nodes
 

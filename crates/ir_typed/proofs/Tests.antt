@@ -21,12 +21,12 @@ use Rattle.xb_value.proofs.Lemmas.Types as tys
 use Rattle.xb_value.proofs.Lemmas.Types.{EachHas, each_of}
 use Rattle.xb_span.specs.declared.limit.What.TheVariants as what
 use Rattle.ir_tree.specs.Types.{ty_of, arrays_of, bounded}
-use Rattle.ir_verify.specs.declared.types.Marks.{Marks}
+use Rattle.ir_types.specs.declared.types.Marks.{Marks}
 use Rattle.ir_verify.specs.Checks.{limit_at}
 use Rattle.ir_verify.specs.Lines.{type_limits}
-use Rattle.ir_verify.specs.Types.{marks_of, marks_step, are_sizes, is_empty, any_bits, all_sound, widths_in, joined_lists, sizes_of, sizes_step, is_token, token_there, passes, bits_there, width_alone, is_bits_where, parts_there, parts_alone, is_tuple_where, same_numbers, each_same, bits_like, token_like, tuple_like, same_step, same_type, element_like, is_array_of}
-use Rattle.ir_verify.specs.Types as types
-use Rattle.ir_verify.proofs.Lemmas.IrTypes.{fold-Bits, fold-Token, fold-Tuple, ty_of-Bits, ty_of-Token, ty_of-Tuple, type_cases}
+use Rattle.ir_types.specs.Types.{marks_of, marks_step, are_sizes, is_empty, any_bits, all_sound, widths_in, joined_lists, sizes_of, sizes_step, is_token, token_there, passes, bits_there, width_alone, is_bits_where, parts_there, parts_alone, is_tuple_where, same_numbers, each_same, bits_like, token_like, tuple_like, same_step, same_type, element_like, is_array_of}
+use Rattle.ir_types.specs.Types as types
+use Rattle.ir_types.proofs.Lemmas.IrTypes.{fold-Bits, fold-Token, fold-Tuple, ty_of-Bits, ty_of-Token, ty_of-Tuple, type_cases}
 use Rattle.ir_typed.specs.Typed.{none_broken}
 use Rattle.ir_typed.proofs.Checked.{both_true, and_true, parts_not}
 

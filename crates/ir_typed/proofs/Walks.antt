@@ -19,8 +19,8 @@ use Rattle.ir_tree.specs.Types.{ty_of}
 use Rattle.ir_tree.specs.NodeValues.{operand_value, role_of, Setting, is_on, channel_type, value_by, values_from, node_values, next_site}
 use Rattle.ir_tree.specs.Activations.{sites_by, sites_of, sent_by, turns_by, turns_from, turns_of, setting_of, width_at, activation}
 use Rattle.ir_verify.specs.Fitting.{types_behind, type_in}
-use Rattle.ir_verify.specs.Types.{same_type, marks_of}
-use Rattle.ir_verify.specs.Lines.{Seen, see, node_checks, is_among, is_state, is_value_of, is_there}
+use Rattle.ir_types.specs.Types.{same_type, marks_of}
+use Rattle.ir_verify.specs.Lines.{Seen, see, node_checks, is_proc_named, is_state, is_value_of, is_there}
 use Rattle.ir_verify.specs.Verified.{nowhere, nodes_checks}
 use Rattle.ir_typed.specs.Typed.{none_broken, AreChannels, IsVerifiedProc}
 use Rattle.ir_typed.proofs.Checked.{both_true, parts_not, not_not_true}
@@ -144,7 +144,7 @@ turns_directed m values j (n ∷ ns) p site e =
 -- the type of the states is sound
 state_sound : (channels : List Channel) (proc : Proc) → IsVerifiedProc channels proc → IsSound proc.state
 state_sound channels proc v =
-    let a = both_true (not (is_among v.names proc.name)) _ v.head in
+    let a = both_true (not (not (is_proc_named v.names proc))) _ v.head in
     let b = both_true (not (not (is_state proc))) _ a.1 in
     (both_true (marks_of proc.state).sound (is_value_of proc.state proc.init) (not_not_true (is_state proc) b.0)).0
 

@@ -1,9 +1,5 @@
 -- checks in their order, and the fault that is named
 pub mod Checks
--- what a type must be, and what limits count in it
-pub mod Types
--- which constants have a type
-pub mod Constants
 -- which nodes fit the table of operations
 pub mod Fitting
 -- the rules and limits of each line

@@ -1,7 +1,8 @@
 -- The rules and limits of each line. Rules are numbered as in the reference of the IR.
-use Rattle.std.specs.Prelude.{ℕ, ◌-◌, nat_lt, nat_eq, Bool, true, false, ◌&&◌, ◌||◌, not, List, [], ◌∷◌, ◌++◌, length, map, slice_get, slice_set, Option, Some, None}
+use Rattle.std.specs.Prelude.{ℕ, ◌-◌, ◌==◌, nat_lt, nat_eq, Bool, true, false, ◌&&◌, ◌||◌, not, List, [], ◌∷◌, ◌++◌, length, map, slice_get, slice_index, slice_set, Option, Some, None}
 use Rattle.std.specs.List.{list_all, list_any}
 use Rattle.std.specs.Str.{bytes_eq}
+use Rattle.texts.specs.Words.{begins_word, is_word_byte}
 use Rattle.xb_span.specs.declared.span.Span.{Span}
 use Rattle.xb_span.specs.declared.limit.What.TheVariants as what
 use Rattle.xb_value.specs.Width.{width_of, leaf_count}
@@ -23,11 +24,24 @@ use Rattle.ir_tree.specs.declared.package.Proc.{Proc}
 use Rattle.ir_tree.specs.Types.{ty_of}
 use Rattle.ir_tree.specs.NodeValues.{role_of}
 use Rattle.ir_verify.specs.Checks.{Check, rule_at, limit_at, bounded}
-use Rattle.ir_verify.specs.Constants.{constant_fits}
+use Rattle.ir_types.specs.Constants.{constant_fits}
 use Rattle.ir_verify.specs.Fitting.{type_in, types_behind, node_fits}
-use Rattle.ir_verify.specs.Types.{marks_of, levels_of, widths_in, same_type}
+use Rattle.ir_types.specs.Types.{marks_of, levels_of, widths_in, same_type}
 
 -- ---- what lines share
+
+-- a name goes on with letters, digits, `_` and `.`, and with a `/` that has no other one behind it
+abbrev pub name_goes_on : ℕ → ℕ → Bool
+name_goes_on c behind = (is_word_byte c || (c == 46)) || ((c == 47) && not (behind == 47))
+
+abbrev pub all_go_on : List ℕ → Bool
+all_go_on [] = true
+all_go_on (c ∷ cs) = name_goes_on c (slice_index cs 0) && all_go_on cs
+
+-- a word that a text can have as a name: it begins with a letter or `_`
+abbrev pub is_name : List ℕ → Bool
+is_name [] = false
+is_name (c ∷ cs) = begins_word c && all_go_on (c ∷ cs)
 
 -- names of the outside have no `.` and no `/`
 abbrev pub is_plain : List ℕ → Bool
@@ -50,8 +64,16 @@ is_value_of t c = not (marks_of t).token && constant_fits (ty_of t) c
 
 -- ---- `package NAME`
 
-abbrev pub package_checks : Span → List ℕ → List Check
-package_checks span name = rule_at span 51 (not (is_plain name)) ∷ []
+abbrev pub is_some_proc : List Proc → Bool
+is_some_proc [] = false
+is_some_proc (p ∷ ps) = true
+
+-- a package of these procs
+abbrev pub is_package_named : List ℕ → List Proc → Bool
+is_package_named name ps = is_name name && (is_plain name && is_some_proc ps)
+
+abbrev pub package_checks : Span → List ℕ → List Proc → List Check
+package_checks span name ps = rule_at span 51 (not (is_package_named name ps)) ∷ []
 
 -- ---- `chan NAME(..)`
 
@@ -72,7 +94,7 @@ depth_in (ends.Inner depth) = depth
 
 -- behind channels of these names, of which there are so many
 abbrev pub is_channel_named : List (List ℕ) → ℕ → Channel → Bool
-is_channel_named names place c = not (is_among names c.name) && (nat_eq c.id place && is_named_well c.ends c.name)
+is_channel_named names place c = not (is_among names c.name) && (nat_eq c.id place && (is_name c.name && is_named_well c.ends c.name))
 
 abbrev pub is_channel_typed : Channel → Bool
 is_channel_typed c =
@@ -91,9 +113,13 @@ channel_checks span names place c =
 abbrev pub is_state : Proc → Bool
 is_state p = (marks_of p.state).sound && is_value_of p.state p.init
 
+-- behind procs of these names
+abbrev pub is_proc_named : List (List ℕ) → Proc → Bool
+is_proc_named names p = not (is_among names p.name) && is_name p.name
+
 abbrev pub head_checks : Span → List (List ℕ) → Proc → List Check
 head_checks span names p =
-    rule_at span 51 (is_among names p.name)
+    rule_at span 51 (not (is_proc_named names p))
     ∷ rule_at span 55 (not (is_state p))
     ∷ type_limits span.to p.state 0
 

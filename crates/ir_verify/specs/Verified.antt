@@ -80,7 +80,7 @@ nothing_seen channels =
 -- each rule and limit of a package, whose lines stand at these places
 abbrev pub checks_of : Package → Places → List Check
 checks_of ir places =
-    package_checks places.name ir.name
+    package_checks places.name ir.name ir.procs
     ++ (channels_checks places.channels [] 0 ir.channels
     ++ (procs_checks ir.channels places.procs [] 0 (nothing_seen ir.channels) ir.procs
     ++ count_check (Passed (last_end places.procs) (record { what = what.Procs; found = 257; most = 256 })) 256 (length ir.procs)

@@ -4,14 +4,11 @@
 #![tactic(auto)]
 
 mod checks;
-mod constants;
 mod fitting;
 mod lines;
 mod names;
 mod places;
-mod types;
 mod verified;
 
 pub use places::{Places, ProcPlaces};
-pub use types::Marks;
 pub use verified::{check, verify};

@@ -4,16 +4,16 @@ ghost use Rattle.std.specs.Prelude.{◌≡◌, [], ℕ, List, length, not, slice
 ghost use Rattle.ir_tree.specs.declared.ir_type.IrType.{Token};
 ghost use Rattle.std.specs.Option.{option_copied};
 ghost use Rattle.ir_verify.specs.Checks.{noted, limit_at};
-ghost use Rattle.ir_verify.specs.Types.{widths_in};
+ghost use Rattle.ir_types.specs.Types.{widths_in};
 ghost use Rattle.ir_verify.specs.Inner.Scopes.{seen_by};
-ghost use Rattle.ir_verify.specs.Lines.{is_plain, is_among, type_limits, is_value_of, package_checks, is_named_well, is_some_depth, depth_in, is_channel_typed, is_state, is_after_all, is_id_after, is_there, are_there, is_there_if, attributes_there, is_named, is_operand, are_only, is_first_part, is_token_of, is_start, follows, role_there, token_is, first_token_is, is_chained_role, is_chained, may_receive, may_send, is_free, is_at_end, is_literal_of, is_typed, own_levels, channel_checks, head_checks, node_checks, next_checks};
+ghost use Rattle.ir_verify.specs.Lines.{is_plain, is_among, type_limits, is_value_of, is_some_proc, package_checks, is_named_well, is_some_depth, depth_in, is_channel_typed, is_state, is_after_all, is_id_after, is_there, are_there, is_there_if, attributes_there, is_named, is_operand, are_only, is_first_part, is_token_of, is_start, follows, role_there, token_is, first_token_is, is_chained_role, is_chained, may_receive, may_send, is_free, is_at_end, is_literal_of, is_typed, own_levels, channel_checks, head_checks, node_checks, next_checks};
 
 use crate::checks::{note_limit, note_rule};
-use crate::constants::constant_fits;
 use crate::fitting::{Scope, node_fits};
-use crate::types::{bounded, leaves_of, levels_of, marks_of, same_type, width_of};
+use crate::names::is_name;
 use delay_model::Op;
 use ir_tree::{Attributes, Channel, Constant, Ends, IrType, Node, Operand, Proc, Role};
+use ir_types::{bounded, constant_fits, leaves_of, levels_of, marks_of, same_type, width_of};
 use xb_span::{Fault, Span, What};
 
 /// What the nodes before leave: whether one of them is an `after_all`, the last site, and the ends of channels with a site.
@@ -68,11 +68,21 @@ fn is_value_of(ty: &IrType, constant: &Constant) -> bool
     !marks_of(ty).token && constant_fits(constant, ty)
 }
 
-/// `package NAME`
-pub fn note_package(held: Option<Fault>, span: Span, name: &str) -> Option<Fault>
-    ensures { result ≡ noted held (package_checks span name.now) }
+/// `package NAME`, of these procs
+pub fn note_package(held: Option<Fault>, span: Span, name: &str, procs: &[Proc]) -> Option<Fault>
+    ensures { result ≡ noted held (package_checks span name.now procs.now) }
 {
-    note_rule(held, span, 51, !is_plain(name))
+    let named = is_name(name) && (is_plain(name) && is_some_proc(procs));
+    note_rule(held, span, 51, !named)
+}
+
+fn is_some_proc(procs: &[Proc]) -> bool
+    ensures { result ≡ is_some_proc procs.now }
+{
+    match procs {
+        [] => false,
+        [_, ..] => true,
+    }
 }
 
 fn is_named_well(ends: Ends, name: &str) -> bool
@@ -120,8 +130,9 @@ pub fn note_channel(
     ensures { (names : List (List ℕ)) → is_new ≡ not (is_among names channel.now.name) →
         result ≡ noted held (channel_checks span names place channel.now) }
 {
+    let name = channel.name.as_str();
     let named = is_new
-        && (channel.id as usize == place && is_named_well(channel.ends, channel.name.as_str()));
+        && (channel.id as usize == place && (is_name(name) && is_named_well(channel.ends, name)));
     let held = note_rule(held, span, 51, !named);
     let held = note_rule(held, span, 55, !is_channel_typed(channel));
     let held = note_limit(held, span.to, What::Word, width_of(&channel.ty), 128);
@@ -146,7 +157,8 @@ pub fn note_head(held: Option<Fault>, span: Span, is_new: bool, proc: &Proc) -> 
     ensures { (names : List (List ℕ)) → is_new ≡ not (is_among names proc.now.name) →
         result ≡ noted held (head_checks span names proc.now) }
 {
-    let held = note_rule(held, span, 51, !is_new);
+    let named = is_new && is_name(proc.name.as_str());
+    let held = note_rule(held, span, 51, !named);
     let held = note_rule(held, span, 55, !is_state(proc));
     note_type(held, span.to, &proc.state, 0)
 }

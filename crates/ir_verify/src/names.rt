@@ -1,5 +1,49 @@
+//! Names: which ones a text can have, and which ones were seen.
+
+ghost use Rattle.std.specs.Prelude.{◌≡◌, slice_index};
+ghost use Rattle.ir_verify.specs.Lines.{name_goes_on, all_go_on, is_name};
+
 use std::alloc::{AllocError, Global};
 use std::collections::BTreeMap;
+use texts::{begins_word, is_word_byte};
+
+/// Whether a text can have this name: a letter or `_`, then letters, digits, `_`, `.`, and `/` without another one behind it.
+pub fn is_name(name: &str) -> bool
+    ensures { result ≡ is_name name.now }
+{
+    let bytes = name.as_bytes();
+    match bytes {
+        [] => false,
+        [first, ..] => begins_word(*first) && all_go_on(bytes),
+    }
+}
+
+fn all_go_on(bytes: &[u8]) -> bool
+    ensures { result ≡ all_go_on bytes.now }
+{
+    'bytes: for i in 0..bytes.len() {
+        if !name_goes_on(bytes[i], byte_at(bytes, i + 1)) {
+            return false;
+        }
+    }
+    true
+}
+
+fn name_goes_on(byte: u8, behind: u8) -> bool
+    ensures { result ≡ name_goes_on byte behind }
+{
+    is_word_byte(byte) || byte == b'.' || byte == b'/' && behind != b'/'
+}
+
+/// The byte at a place, and 0 behind the last one.
+fn byte_at(bytes: &[u8], place: usize) -> u8
+    ensures { result ≡ slice_index bytes.now place }
+{
+    match bytes.get(place) {
+        Some(byte) => *byte,
+        None => 0,
+    }
+}
 
 /// Names that were seen.
 #[derive(Drop)]

@@ -73,7 +73,7 @@ fn first_fault(alloc: Global, ir: &Package, places: &Places) -> Result<Option<Fa
 {
     let channels = ir.channels.as_slice();
     let procs = ir.procs.as_slice();
-    let held = note_package(None, places.name, ir.name.as_str());
+    let held = note_package(None, places.name, ir.name.as_str(), procs);
     let held = note_channels(alloc, held, places.channels.as_slice(), channels)?;
     let held = note_procs(alloc, held, places.procs.as_slice(), channels, procs)?;
     let end = last_end(places.procs.as_slice());

@@ -13,7 +13,7 @@ unfolding first_fault
 returns c =
     let ir = c.args.ir.now in
     let places = c.args.places.now in
-    let name = package_checks places.name ir.name in
+    let name = package_checks places.name ir.name ir.procs in
     let channels = channels_checks places.channels [] 0 ir.channels in
     let procs = procs_checks ir.channels places.procs [] 0 (nothing_seen ir.channels) ir.procs in
     let counts =
@@ -37,7 +37,9 @@ returns c =
     (c.in_ok-held.ensures
     ∙ ap (λ ss. noted c.note_package-held.result (channels_checks ss [] 0 c.as_slice-channels.result.now)) c.as_slice.ensures
     ∙ ap (λ cs. noted c.note_package-held.result (channels_checks places.channels [] 0 cs)) c.as_slice-channels.ensures
-    ∙ ap (λ h. noted h channels) (c.note_package-held.ensures ∙ ap (λ n. noted None (package_checks places.name n)) c.as_str.ensures)))
+    ∙ ap (λ h. noted h channels) (c.note_package-held.ensures
+    ∙ ap (λ n. noted None (package_checks places.name n c.as_slice-procs.result.now)) c.as_str.ensures
+    ∙ ap (λ ps. noted None (package_checks places.name ir.name ps)) c.as_slice-procs.ensures)))
     ∙ sym
     (noted-append name (channels ++ (procs ++ counts)) None
     ∙ noted-append channels (procs ++ counts) (noted None name)

@@ -1,0 +1,110 @@
+//! What the rules of calls make.
+
+ghost use Rattle.std.specs.Prelude.{◌≡◌, drop, OnOk};
+ghost use Rattle.ir_builder.specs.Rules.{called, plain_call, slice_call, dynamic_call, extend_call, sel_call, index_call, indices_call, literal_call, site_channel, site_call};
+
+use crate::parts::numbered;
+use crate::state::{Call, State};
+use ir_token::Token;
+use ir_tree::{Attributes, Constant, Operand, Operands};
+use std::alloc::{AllocError, Global};
+
+impl State<'_> {
+    /// The operands on top, with these attributes.
+    fn called(&mut self, alloc: Global, attributes: Attributes) -> Result<(), AllocError>
+        ensures { OnOk result (self.new ≡ called attributes self.old) }
+    {
+        let count = self.counts.pop_or(0);
+        let list = self.operands.take_top(count)?;
+        let operands = Operands::from_slice(alloc, list.as_slice())?;
+        self.calls.push(Call {
+            operands,
+            attributes,
+        })
+    }
+
+    pub fn plain_call(&mut self, alloc: Global) -> Result<(), AllocError>
+        ensures { OnOk result (self.new ≡ plain_call self.old) }
+    {
+        self.called(alloc, Attributes::None)
+    }
+
+    /// `start=N, width=N`
+    pub fn slice_call(&mut self, alloc: Global) -> Result<(), AllocError>
+        ensures { OnOk result (self.new ≡ slice_call self.old) }
+    {
+        let width = self.numbers.pop_or(0);
+        let start = self.numbers.pop_or(0);
+        self.called(alloc, Attributes::StartAndWidth(start, width))
+    }
+
+    /// `width=N`
+    pub fn dynamic_call(&mut self, alloc: Global) -> Result<(), AllocError>
+        ensures { OnOk result (self.new ≡ dynamic_call self.old) }
+    {
+        let width = self.numbers.pop_or(0);
+        self.called(alloc, Attributes::Width(width))
+    }
+
+    /// `new_bit_count=N`
+    pub fn extend_call(&mut self, alloc: Global) -> Result<(), AllocError>
+        ensures { OnOk result (self.new ≡ extend_call self.old) }
+    {
+        let width = self.numbers.pop_or(0);
+        self.called(alloc, Attributes::NewBitCount(width))
+    }
+
+    /// `cases=[..], default=..`
+    pub fn sel_call(&mut self, alloc: Global) -> Result<(), AllocError>
+        ensures { OnOk result (self.new ≡ sel_call self.old) }
+    {
+        let count = self.counts.pop_or(0);
+        let list = self.operands.take_top(count)?;
+        let cases = Operands::from_slice(alloc, list.as_slice())?;
+        let default = self.options.pop_or(None);
+        self.called(alloc, Attributes::Cases(cases, default))
+    }
+
+    /// `index=N`
+    pub fn index_call(&mut self, alloc: Global) -> Result<(), AllocError>
+        ensures { OnOk result (self.new ≡ index_call self.old) }
+    {
+        let index = self.numbers.pop_or(0);
+        self.called(alloc, Attributes::Index(index))
+    }
+
+    /// `indices=[..]`
+    pub fn indices_call(&mut self, alloc: Global) -> Result<(), AllocError>
+        ensures { OnOk result (self.new ≡ indices_call self.old) }
+    {
+        let index = self.operands.pop_or(Operand::State);
+        self.called(alloc, Attributes::Indices(index))
+    }
+
+    /// `value=V`
+    pub fn literal_call(&mut self, alloc: Global) -> Result<(), AllocError>
+        ensures { OnOk result (self.new ≡ literal_call self.old) }
+    {
+        let constant = self.constants.pop_or(Constant::Number(0));
+        self.called(alloc, Attributes::Value(constant))
+    }
+
+    /// `channel=NAME,`
+    pub fn site_channel(&mut self) -> Result<(), AllocError>
+        ensures { OnOk result (self.new ≡ site_channel self.old) }
+    {
+        self.skip(3);
+        let name = self.names.pop_or(Token::nothing());
+        let channel = numbered(self.channel_names.place(name.text()));
+        self.site_channels.push(channel)
+    }
+
+    /// `predicate=.., channel=NAME`
+    pub fn site_call(&mut self, alloc: Global) -> Result<(), AllocError>
+        ensures { OnOk result (self.new ≡ site_call self.old) }
+    {
+        let channel = self.site_channels.pop_or(0);
+        let predicate = self.options.pop_or(None);
+        self.called(alloc, Attributes::Channel(predicate, channel))
+    }
+}
