@@ -10,7 +10,7 @@ nothing rests on it. A NAME is an example that is tried alone.
 A table has paragraphs. Each is a line with a name, a line with what is wanted, and the lines of a text (`dslx_terms.py`):
 `ok`, `rule R FROM TO` or `limit WORD FOUND MOST`: what the text's first fault is; `value SIGNED WIDTH NUMBER`: the constant X;
 `sent TURN`: what the first proc does at its first site; `turns WORDS | TURNS ; STATE`: its activation over words of 8 bits;
-`net PROCS | CHANNELS`: the network.
+`net PROCS | CHANNELS`: the network; `run ACTIVATIONS CHANNEL VALUE .. ; .. | LINE / ..`: what is left after a run over these words.
 """
 import os
 import re
@@ -824,6 +824,13 @@ def answer(module, wanted):
         init = force(force(force(apply(lookup(net, 'network_of'), (module, top)))['procs'])[0])['init']
         turns = [show(apply(force(b['turn']), (init, words, i))) for i in range(len(force(b['sites'])))]
         return '%s| %s ; %s' % (wanted.partition('|')[0], ', '.join(turns), show(apply(force(b['next_state']), (init, words))))
+    if kind == 'run':
+        import spec_net
+        given = wanted.partition('|')[0]
+        words = {part.split()[0]: part.split()[1:] for part in given.partition(' ')[2].partition(' ')[2].split(';') if part.strip()}
+        net = load('dslx_meaning.specs.Network')
+        lines = spec_net.run(apply(lookup(net, 'network_of'), (module, top)), apply(lookup(net, 'behaviors_of'), (module, top)), words, int(given.split()[1]))
+        return '%s| %s' % (given, ' / '.join(lines))
     raise ValueError(wanted)
 
 
@@ -862,6 +869,7 @@ def main():
 
 
 if __name__ == '__main__':
+    sys.modules['spec_run'] = sys.modules[__name__]  # what spec_net imports
     sys.setrecursionlimit(1000000)
     threading.stack_size(1 << 29)
     t = threading.Thread(target=main)

@@ -9,6 +9,8 @@ use Rattle.dslx_meaning.specs.declared.value.DslxValue.{DslxValue}
 pub record Meanings : Type 0 where
   -- the type that an alias, a struct or an enum names
   pub type_named : List ℕ → Option DslxType
+  -- the type of a struct
+  pub struct_named : List ℕ → Option DslxType
   -- whether it is a constant, and its value
   pub is_constant : List ℕ → Bool
   pub constant : List ℕ → Option DslxValue

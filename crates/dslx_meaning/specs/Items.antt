@@ -49,6 +49,10 @@ abbrev pub as_constant : Option Definition → Option Constant
 as_constant (Some (d.Constant c)) = Some c
 as_constant _ = None
 
+abbrev pub as_struct : Option Definition → Option Struct
+as_struct (Some (d.Struct s)) = Some s
+as_struct _ = None
+
 abbrev pub as_enum : Option Definition → Option Enum
 as_enum (Some (d.Enum e)) = Some e
 as_enum _ = None
@@ -165,6 +169,7 @@ is_constant_item _ = false
 abbrev pub nothing_known : Meanings
 nothing_known = record {
   type_named = λ name. None;
+  struct_named = λ name. None;
   is_constant = λ name. false;
   constant = λ name. None;
   member = λ name a. None;
@@ -175,6 +180,7 @@ nothing_known = record {
 abbrev pub meanings_over : Module → Meanings → Meanings
 meanings_over m items = record {
   type_named = λ name. type_of_item items (item_named name m.items);
+  struct_named = λ name. and_then (as_struct (item_named name m.items)) (struct_type items);
   is_constant = λ name. is_constant_item (item_named name m.items);
   constant = λ name. and_then (as_constant (item_named name m.items)) (constant_value items);
   member = λ name a. and_then (as_enum (item_named name m.items)) (λ e. and_then (member_named a e.members) (member_value items e));

@@ -2,6 +2,7 @@
 --
 -- An expression has no value where an operand has none or is none of the operator's: what is well typed always has one.
 use Rattle.std.specs.Prelude.{ℕ, zero, suc, List, [], ◌∷◌, ◌++◌, ◌-◌, ◌==◌, nat_lt, map, Bool, true, false, not, Option, Some, None, length, option_map, ℤ, pos, negsuc, ◌-ℤ◌, if◌then◌else◌}
+use Rattle.std.specs.List.{list_all}
 use Rattle.xb_bits.specs.Word.{Word, word}
 use Rattle.xb_bits.specs.Operations as op
 use Rattle.dslx_tree.specs.declared.block.Stmt.TheOpen.{Stmt-F}
@@ -40,9 +41,14 @@ pub record Meant : Type 0 where
   pub bare : Option Bare
   pub value : Evaluates
 
--- a pattern: what is bound behind it, if a value fits
+-- what is bound behind a pattern, if a value fits
 abbrev pub Fitting : Type 0
 Fitting = DslxValue → Env → Option Env
+
+-- a pattern: the names in it, each of which it binds unless it is a constant's
+pub record PatternMeant : Type 0 where
+  pub names : List (List ℕ)
+  pub fits : Fitting
 
 -- a written type
 abbrev pub Typing : Type 0
@@ -54,7 +60,7 @@ Going = Evaluates → Evaluates
 
 -- an arm of a match, and a field of a struct value
 pub record ArmMeant : Type 0 where
-  pub patterns : List Fitting
+  pub patterns : List PatternMeant
   pub value : Evaluates
 
 pub record FieldMeant : Type 0 where
@@ -93,7 +99,7 @@ bound_of e env = bound_in e.bare (e.value env)
 
 -- ---- types
 
-abbrev pub type_meant : TypeNode-F Going Meant Fitting Typing Evaluates Going Meant ArmMeant Meant FieldMeant Evaluates Meant Fitting Typing → Typing
+abbrev pub type_meant : TypeNode-F Going Meant PatternMeant Typing Evaluates Going Meant ArmMeant Meant FieldMeant Evaluates Meant PatternMeant Typing → Typing
 type_meant (TypeNode-F.Bits s w) env = Some (ty.Bits s w)
 type_meant (TypeNode-F.Wide s e) env = and_then (size_of e env) (λ w. Some (ty.Bits s w))
 type_meant TypeNode-F.TypeNode::Bool env = Some (ty.Bits false 1)
@@ -104,9 +110,9 @@ type_meant (TypeNode-F.TypeNode::Array t e) env = with_both (t env) (size_of e e
 -- ---- patterns
 
 -- each value of a tuple fits its own pattern, in order
-abbrev pub fit_each : List Fitting → List DslxValue → Env → Option Env
+abbrev pub fit_each : List PatternMeant → List DslxValue → Env → Option Env
 fit_each [] [] env = Some env
-fit_each (p ∷ ps) (v ∷ vs) env = and_then (p v env) (fit_each ps vs)
+fit_each (p ∷ ps) (v ∷ vs) env = and_then (p.fits v env) (fit_each ps vs)
 fit_each [] (v ∷ vs) env = None
 fit_each (p ∷ ps) [] env = None
 
@@ -115,13 +121,25 @@ abbrev pub fit_value : Option DslxValue → DslxValue → Env → Option Env
 fit_value None v env = None
 fit_value (Some w) v env = if same_value v w then Some env else None
 
-abbrev pub shape_meant : Shape-F Going Meant Fitting Typing Evaluates Going Meant ArmMeant Meant FieldMeant Evaluates Meant Fitting Typing → Fitting
-shape_meant Shape-F.Wild v env = Some env
-shape_meant (Shape-F.Shape::Bool b) v env = fit_value (Some (bool_value b)) v env
-shape_meant (Shape-F.Shape::Number n) v env = fit_value (n.value env) v env
-shape_meant (Shape-F.Shape::Name name) v env = if env.items.is_constant name then fit_value (env.items.constant name) v env else Some (bind name v env)
-shape_meant (Shape-F.Shape::Member e a) v env = fit_value (env.items.member e.name a.name) v env
-shape_meant (Shape-F.Shape::Tuple ps) v env = and_then (elements_of v) (λ vs. fit_each ps vs env)
+abbrev pub shape_fits : Shape-F Going Meant PatternMeant Typing Evaluates Going Meant ArmMeant Meant FieldMeant Evaluates Meant PatternMeant Typing → Fitting
+shape_fits Shape-F.Wild v env = Some env
+shape_fits (Shape-F.Shape::Bool b) v env = fit_value (Some (bool_value b)) v env
+shape_fits (Shape-F.Shape::Number n) v env = fit_value (n.value env) v env
+shape_fits (Shape-F.Shape::Name name) v env = if env.items.is_constant name then fit_value (env.items.constant name) v env else Some (bind name v env)
+shape_fits (Shape-F.Shape::Member e a) v env = fit_value (env.items.member e.name a.name) v env
+shape_fits (Shape-F.Shape::Tuple ps) v env = and_then (elements_of v) (λ vs. fit_each ps vs env)
+
+abbrev pub all_names : List PatternMeant → List (List ℕ)
+all_names [] = []
+all_names (p ∷ ps) = p.names ++ all_names ps
+
+abbrev pub shape_names : Shape-F Going Meant PatternMeant Typing Evaluates Going Meant ArmMeant Meant FieldMeant Evaluates Meant PatternMeant Typing → List (List ℕ)
+shape_names (Shape-F.Shape::Name name) = name ∷ []
+shape_names (Shape-F.Shape::Tuple ps) = all_names ps
+shape_names _ = []
+
+abbrev pub shape_meant : Shape-F Going Meant PatternMeant Typing Evaluates Going Meant ArmMeant Meant FieldMeant Evaluates Meant PatternMeant Typing → PatternMeant
+shape_meant s = record { names = shape_names s; fits = shape_fits s }
 
 -- ---- literals
 
@@ -182,19 +200,23 @@ choose (Some true) a b = a
 choose (Some false) a b = b
 
 -- what the first pattern that fits binds
-abbrev pub first_fit : List Fitting → Fitting
+abbrev pub first_fit : List PatternMeant → Fitting
 first_fit [] v env = None
-first_fit (p ∷ ps) v env = or_else (p v env) (first_fit ps v env)
+first_fit (p ∷ ps) v env = or_else (p.fits v env) (first_fit ps v env)
 
 -- the value of an arm whose pattern fits, and otherwise that of the rest
 abbrev pub take_arm : ArmMeant → Option Env → Option DslxValue → Option DslxValue
 take_arm a None rest = rest
 take_arm a (Some inner) rest = a.value inner
 
--- the first arm that fits; where none does, the last one
+-- the value of an arm that binds nothing
+abbrev pub value_without : ArmMeant → Evaluates
+value_without a env = if list_all env.items.is_constant (all_names a.patterns) then a.value env else None
+
+-- the first arm that fits; where none does, the last one, which binds nothing
 abbrev pub match_arms : List ArmMeant → DslxValue → Evaluates
 match_arms [] v env = None
-match_arms (a ∷ []) v env = take_arm a (first_fit a.patterns v env) (a.value env)
+match_arms (a ∷ []) v env = take_arm a (first_fit a.patterns v env) (value_without a env)
 match_arms (a ∷ b ∷ as') v env = take_arm a (first_fit a.patterns v env) (match_arms (b ∷ as') v env)
 
 -- the turns that are left of a loop, from an index and what is accumulated so far
@@ -213,18 +235,18 @@ turn_count a b = rising (whole_number b -ℤ whole_number a)
 abbrev pub loop_over : (DslxValue → DslxValue → Option DslxValue) → DslxValue → SignedWord → SignedWord → Option DslxValue
 loop_over body start a b = where_true (of_one_type a b) (turns_from body a.signed (turn_count a b) a.word start)
 
-abbrev pub for_meant : For-F Going Meant Fitting Typing Evaluates Going Meant ArmMeant Meant FieldMeant Evaluates Meant Fitting Typing → Evaluates
+abbrev pub for_meant : For-F Going Meant PatternMeant Typing Evaluates Going Meant ArmMeant Meant FieldMeant Evaluates Meant PatternMeant Typing → Evaluates
 for_meant f env =
-    let body : DslxValue → DslxValue → Option DslxValue = λ i acc. and_then (f.index i env) (λ inner. and_then (f.accumulator acc inner) f.body) in
+    let body : DslxValue → DslxValue → Option DslxValue = λ i acc. and_then (f.index.fits i env) (λ inner. and_then (f.accumulator.fits acc inner) f.body) in
     and_then (f.start.value env) (λ start.
     with_both (and_then (f.from.value env) bits_of) (and_then (f.to.value env) bits_of) (loop_over body start))
 
 -- ---- statements
 
-abbrev pub let_meant : Let-F Going Meant Fitting Typing Evaluates Going Meant ArmMeant Meant FieldMeant Evaluates Meant Fitting Typing → Going
-let_meant l rest env = and_then (l.value.value env) (λ v. and_then (l.pattern v env) rest)
+abbrev pub let_meant : Let-F Going Meant PatternMeant Typing Evaluates Going Meant ArmMeant Meant FieldMeant Evaluates Meant PatternMeant Typing → Going
+let_meant l rest env = and_then (l.value.value env) (λ v. and_then (l.pattern.fits v env) rest)
 
-abbrev pub stmt_meant : Stmt-F Going Meant Fitting Typing Evaluates Going Meant ArmMeant Meant FieldMeant Evaluates Meant Fitting Typing → Going
+abbrev pub stmt_meant : Stmt-F Going Meant PatternMeant Typing Evaluates Going Meant ArmMeant Meant FieldMeant Evaluates Meant PatternMeant Typing → Going
 stmt_meant (Stmt-F.Let l) rest env = l rest env
 stmt_meant (Stmt-F.Bare e) rest env = and_then (e.value env) (λ v. rest env)
 
@@ -237,7 +259,7 @@ abbrev pub statements_meant : List Going → Evaluates → Evaluates
 statements_meant [] last env = last env
 statements_meant (s ∷ ss) last env = s (statements_meant ss last) env
 
-abbrev pub block_meant : Block-F Going Meant Fitting Typing Evaluates Going Meant ArmMeant Meant FieldMeant Evaluates Meant Fitting Typing → Evaluates
+abbrev pub block_meant : Block-F Going Meant PatternMeant Typing Evaluates Going Meant ArmMeant Meant FieldMeant Evaluates Meant PatternMeant Typing → Evaluates
 block_meant b = statements_meant b.statements (last_meant b.value)
 
 -- ---- calls
@@ -257,7 +279,7 @@ call_meant _ name env numbers vs = None
 
 -- ---- expressions
 
-abbrev pub node_meant : Node-F Going Meant Fitting Typing Evaluates Going Meant ArmMeant Meant FieldMeant Evaluates Meant Fitting Typing → Meant
+abbrev pub node_meant : Node-F Going Meant PatternMeant Typing Evaluates Going Meant ArmMeant Meant FieldMeant Evaluates Meant PatternMeant Typing → Meant
 node_meant (Node-F.Node::Number n) = n
 node_meant (Node-F.Node::Bool b) = valued (λ env. Some (bool_value b))
 node_meant (Node-F.Node::Array ty es dots) = valued (array_meant ty es dots)
@@ -267,7 +289,7 @@ node_meant (Node-F.Call f numbers es) =
     valued (λ env. with_both (values_of numbers env) (values_of es env) (call_meant (kind_of_call f.name) f.name env))
 node_meant (Node-F.Node::Tuple es) = valued (λ env. and_then (values_of es env) (λ vs. Some (Tuple vs)))
 node_meant (Node-F.Struct s fields rest) =
-    valued (λ env. and_then (env.items.type_named s.name) (λ t. struct_at env fields (rest_of rest env) (out-DslxType t)))
+    valued (λ env. and_then (env.items.struct_named s.name) (λ t. struct_at env fields (rest_of rest env) (out-DslxType t)))
 node_meant (Node-F.Block b) = valued b
 node_meant (Node-F.If c a b) = valued (λ env. choose (and_then (c.value env) truth) (a env) (b.value env))
 node_meant (Node-F.Match e arms) = valued (λ env. and_then (e.value env) (λ v. match_arms arms v env))
@@ -281,16 +303,16 @@ node_meant (Node-F.Prefix o e) = valued (λ env. and_then (e.value env) (prefix_
 node_meant (Node-F.Cast e t) = valued (λ env. with_both (t env) (e.value env) cast_value)
 node_meant (Node-F.Binary o l r) = valued (λ env. with_both (l.value env) (r.value env) (binary_value o))
 
-abbrev pub expr_meant : Expr-F Going Meant Fitting Typing Evaluates Going Meant ArmMeant Meant FieldMeant Evaluates Meant Fitting Typing → Meant
+abbrev pub expr_meant : Expr-F Going Meant PatternMeant Typing Evaluates Going Meant ArmMeant Meant FieldMeant Evaluates Meant PatternMeant Typing → Meant
 expr_meant e = e.node
 
-abbrev pub number_node : Number-F Going Meant Fitting Typing Evaluates Going Meant ArmMeant Meant FieldMeant Evaluates Meant Fitting Typing → Meant
+abbrev pub number_node : Number-F Going Meant PatternMeant Typing Evaluates Going Meant ArmMeant Meant FieldMeant Evaluates Meant PatternMeant Typing → Meant
 number_node n = number_meant n.ty (record { is_negative = n.is_negative; value = n.value })
 
-abbrev pub arg_meant : Arg-F Going Meant Fitting Typing Evaluates Going Meant ArmMeant Meant FieldMeant Evaluates Meant Fitting Typing → Meant
+abbrev pub arg_meant : Arg-F Going Meant PatternMeant Typing Evaluates Going Meant ArmMeant Meant FieldMeant Evaluates Meant PatternMeant Typing → Meant
 arg_meant a = a.value
 
-abbrev pub arm_meant : Arm-F Going Meant Fitting Typing Evaluates Going Meant ArmMeant Meant FieldMeant Evaluates Meant Fitting Typing → ArmMeant
+abbrev pub arm_meant : Arm-F Going Meant PatternMeant Typing Evaluates Going Meant ArmMeant Meant FieldMeant Evaluates Meant PatternMeant Typing → ArmMeant
 arm_meant a = record { patterns = a.patterns; value = a.value.value }
 
 -- a field given by its name alone has the value of that name
@@ -298,20 +320,20 @@ abbrev pub field_value_of : List ℕ → Option Meant → Evaluates
 field_value_of name None env = value_of_name name env
 field_value_of name (Some e) env = e.value env
 
-abbrev pub field_meant : FieldValue-F Going Meant Fitting Typing Evaluates Going Meant ArmMeant Meant FieldMeant Evaluates Meant Fitting Typing → FieldMeant
+abbrev pub field_meant : FieldValue-F Going Meant PatternMeant Typing Evaluates Going Meant ArmMeant Meant FieldMeant Evaluates Meant PatternMeant Typing → FieldMeant
 field_meant f = record { name = f.name.name; value = field_value_of f.name.name f.value }
 
-abbrev pub pattern_meant : Pattern-F Going Meant Fitting Typing Evaluates Going Meant ArmMeant Meant FieldMeant Evaluates Meant Fitting Typing → Fitting
+abbrev pub pattern_meant : Pattern-F Going Meant PatternMeant Typing Evaluates Going Meant ArmMeant Meant FieldMeant Evaluates Meant PatternMeant Typing → PatternMeant
 pattern_meant p = p.shape
 
-abbrev pub type_expr_meant : TypeExpr-F Going Meant Fitting Typing Evaluates Going Meant ArmMeant Meant FieldMeant Evaluates Meant Fitting Typing → Typing
+abbrev pub type_expr_meant : TypeExpr-F Going Meant PatternMeant Typing Evaluates Going Meant ArmMeant Meant FieldMeant Evaluates Meant PatternMeant Typing → Typing
 type_expr_meant t = t.node
 
 -- ---- the trees
 
 -- an expression
 abbrev pub meant : Expr → Meant
-meant = fold-Expr Going Meant Fitting Typing Evaluates Going Meant ArmMeant Meant FieldMeant Evaluates Meant Fitting Typing
+meant = fold-Expr Going Meant PatternMeant Typing Evaluates Going Meant ArmMeant Meant FieldMeant Evaluates Meant PatternMeant Typing
     stmt_meant node_meant shape_meant type_meant block_meant let_meant arg_meant arm_meant expr_meant field_meant for_meant number_node pattern_meant type_expr_meant
 
 -- the value of an expression, unless it has none
@@ -320,20 +342,24 @@ value_of e = (meant e).value
 
 -- the value of a block
 abbrev pub value_of_block : Block → Evaluates
-value_of_block = fold-Block Going Meant Fitting Typing Evaluates Going Meant ArmMeant Meant FieldMeant Evaluates Meant Fitting Typing
+value_of_block = fold-Block Going Meant PatternMeant Typing Evaluates Going Meant ArmMeant Meant FieldMeant Evaluates Meant PatternMeant Typing
     stmt_meant node_meant shape_meant type_meant block_meant let_meant arg_meant arm_meant expr_meant field_meant for_meant number_node pattern_meant type_expr_meant
 
 -- the type that is written
 abbrev pub written_type : TypeExpr → Typing
-written_type = fold-TypeExpr Going Meant Fitting Typing Evaluates Going Meant ArmMeant Meant FieldMeant Evaluates Meant Fitting Typing
+written_type = fold-TypeExpr Going Meant PatternMeant Typing Evaluates Going Meant ArmMeant Meant FieldMeant Evaluates Meant PatternMeant Typing
+    stmt_meant node_meant shape_meant type_meant block_meant let_meant arg_meant arm_meant expr_meant field_meant for_meant number_node pattern_meant type_expr_meant
+
+-- a pattern
+abbrev pub meant_pattern : Pattern → PatternMeant
+meant_pattern = fold-Pattern Going Meant PatternMeant Typing Evaluates Going Meant ArmMeant Meant FieldMeant Evaluates Meant PatternMeant Typing
     stmt_meant node_meant shape_meant type_meant block_meant let_meant arg_meant arm_meant expr_meant field_meant for_meant number_node pattern_meant type_expr_meant
 
 -- what a pattern binds
 abbrev pub fitted : Pattern → Fitting
-fitted = fold-Pattern Going Meant Fitting Typing Evaluates Going Meant ArmMeant Meant FieldMeant Evaluates Meant Fitting Typing
-    stmt_meant node_meant shape_meant type_meant block_meant let_meant arg_meant arm_meant expr_meant field_meant for_meant number_node pattern_meant type_expr_meant
+fitted p = (meant_pattern p).fits
 
 -- what stands between `<` and `>`
 abbrev pub meant_arg : Arg → Meant
-meant_arg = fold-Arg Going Meant Fitting Typing Evaluates Going Meant ArmMeant Meant FieldMeant Evaluates Meant Fitting Typing
+meant_arg = fold-Arg Going Meant PatternMeant Typing Evaluates Going Meant ArmMeant Meant FieldMeant Evaluates Meant PatternMeant Typing
     stmt_meant node_meant shape_meant type_meant block_meant let_meant arg_meant arm_meant expr_meant field_meant for_meant number_node pattern_meant type_expr_meant

@@ -4,13 +4,11 @@ use Rattle.std.specs.List.{list_any}
 use Rattle.xb_span.specs.declared.span.Span.{Span}
 use Rattle.xb_span.specs.declared.fault.Fault.{Fault}
 use Rattle.dslx_tree.specs.declared.ident.Ident.{Ident}
-use Rattle.dslx_tree.specs.declared.item.Definition.{Definition}
-use Rattle.dslx_tree.specs.declared.item.Definition.TheVariants as d
 use Rattle.dslx_tree.specs.declared.item.Struct.{Struct}
 use Rattle.dslx_meaning.specs.Lists.{all_some, and_then, beside, is_in}
 use Rattle.dslx_meaning.specs.Types.{same_type}
 use Rattle.dslx_meaning.specs.Operators.{number_value}
-use Rattle.dslx_meaning.specs.Items.{item_named, name_of_field}
+use Rattle.dslx_meaning.specs.Items.{item_named, name_of_field, as_struct}
 use Rattle.dslx_meaning.specs.declared.ty.DslxType.{DslxType, out-DslxType}
 use Rattle.dslx_meaning.specs.declared.ty.DslxType as ty
 use Rattle.dslx_meaning.specs.declared.ty.DslxType.TheOpen.{DslxType-F}
@@ -155,10 +153,6 @@ tuple_element_judged span sight e k =
 
 -- ---- structs
 
-abbrev pub as_struct : Option Definition → Option Struct
-as_struct (Some (d.Struct s)) = Some s
-as_struct _ = None
-
 abbrev pub struct_field_type : DslxType-F DslxType → List ℕ → Option DslxType
 struct_field_type (DslxType-F.Struct name fields ts) field = beside field fields ts
 struct_field_type _ field = None
@@ -215,7 +209,7 @@ struct_if span sight name fields others None =
     let js = map (field_judged sight None) fields in
     let rest = others_judged sight None others in
     settled span None (breaks 1 name.span ∷ faults_of_all js ++ rest.faults) (reached_of_all js ++ rest.reached) (one_and (plus_size (size_of_all js) rest.size))
-struct_if span sight name fields others (Some declared) = struct_with span sight name fields others (sight.known.items.type_named name.name) declared
+struct_if span sight name fields others (Some declared) = struct_with span sight name fields others (sight.known.items.struct_named name.name) declared
 
 abbrev pub struct_judged : Span → Sight → Ident → List FieldSeen → Option ExprPair → Judgement
 struct_judged span sight name fields others = struct_if span sight name fields others (as_struct (item_named name.name sight.known.whole.items))

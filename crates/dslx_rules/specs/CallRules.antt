@@ -118,19 +118,19 @@ pub record NotGiven : Type 0 where
 abbrev pub without_faults : Resolved → NotGiven
 without_faults r = record { value = r; faults = [] }
 
-abbrev pub default_value : Known → List ℕ → List Given → Option DslxType → Option Expr → NotGiven
-default_value known home so_far t None = without_faults Wrong
-default_value known home so_far t (Some e) =
-    let default = known.default_in home so_far e in
+abbrev pub default_value : Known → List ℕ → List Given → List (List ℕ) → Option DslxType → Option Expr → NotGiven
+default_value known home so_far unknown t None = without_faults Wrong
+default_value known home so_far unknown t (Some e) =
+    let default = known.default_in home so_far unknown e in
     record {
       value = resolved_value (of_type t default.value);
       faults = default.judgement.faults ++ wanted_faults (out-Expr e).span t default.judgement.ty;
     }
 
 -- inferred, if that is one number, or else the default
-abbrev pub not_given : Known → List ℕ → List Given → Parameter → Option DslxType → Bool → List ℕ → NotGiven
-not_given known home so_far p t maybe [] = if maybe then without_faults Unknown else default_value known home so_far t p.default
-not_given known home so_far p t maybe (n ∷ ns) = without_faults (if list_all (λ k. k == n) ns then in_type t n else Wrong)
+abbrev pub not_given : Known → List ℕ → List Given → List (List ℕ) → Parameter → Option DslxType → Bool → List ℕ → NotGiven
+not_given known home so_far unknown p t maybe [] = if maybe then without_faults Unknown else default_value known home so_far unknown t p.default
+not_given known home so_far unknown p t maybe (n ∷ ns) = without_faults (if list_all (λ k. k == n) ns then in_type t n else Wrong)
 
 -- the number parameters of a call or a spawn: the values where all are known, what is bound as far as it is known, whether
 -- rule 10 is broken, and the faults of what is given
@@ -144,6 +144,11 @@ abbrev pub bound_by_number : List Given → Parameter → Resolved → List Give
 bound_by_number so_far p (Number v) = with_number so_far p v
 bound_by_number so_far p Unknown = so_far
 bound_by_number so_far p Wrong = so_far
+
+abbrev pub unknown_behind : List (List ℕ) → Parameter → Resolved → List (List ℕ)
+unknown_behind unknown p (Number v) = unknown
+unknown_behind unknown p Unknown = p.name.name ∷ unknown
+unknown_behind unknown p Wrong = p.name.name ∷ unknown
 
 abbrev pub value_before : Resolved → Option (List DslxValue) → Option (List DslxValue)
 value_before (Number v) (Some vs) = Some (v ∷ vs)
@@ -161,17 +166,18 @@ number_before r faults rest = record {
   faults = faults ++ rest.faults;
 }
 
-abbrev pub numbers_seen : Known → List ℕ → List Inferred → List (List ℕ) → List Given → List Parameter → List GivenNumber → NumbersSeen
-numbers_seen known home inferred maybe so_far [] [] = record { values = Some []; bound = so_far; is_wrong = false; faults = [] }
-numbers_seen known home inferred maybe so_far [] (g ∷ gs) = record { values = None; bound = so_far; is_wrong = true; faults = [] }
-numbers_seen known home inferred maybe so_far (p ∷ ps) (g ∷ gs) =
+-- from the parameters before that are bound, and those of which no value is known
+abbrev pub numbers_seen : Known → List ℕ → List Inferred → List (List ℕ) → List Given → List (List ℕ) → List Parameter → List GivenNumber → NumbersSeen
+numbers_seen known home inferred maybe so_far unknown [] [] = record { values = Some []; bound = so_far; is_wrong = false; faults = [] }
+numbers_seen known home inferred maybe so_far unknown [] (g ∷ gs) = record { values = None; bound = so_far; is_wrong = true; faults = [] }
+numbers_seen known home inferred maybe so_far unknown (p ∷ ps) (g ∷ gs) =
     let t = declared_type known home so_far p.ty in
     let r = resolved_value (of_type t g.seen.value) in
     number_before r (wanted_faults g.span t g.seen.judgement.ty)
-    (numbers_seen known home inferred maybe (bound_by_number so_far p r) ps gs)
-numbers_seen known home inferred maybe so_far (p ∷ ps) [] =
-    let r = not_given known home so_far p (declared_type known home so_far p.ty) (is_in p.name.name maybe) (numbers_for p.name.name inferred) in
-    number_before r.value r.faults (numbers_seen known home inferred maybe (bound_by_number so_far p r.value) ps [])
+    (numbers_seen known home inferred maybe (bound_by_number so_far p r) (unknown_behind unknown p r) ps gs)
+numbers_seen known home inferred maybe so_far unknown (p ∷ ps) [] =
+    let r = not_given known home so_far unknown p (declared_type known home so_far p.ty) (is_in p.name.name maybe) (numbers_for p.name.name inferred) in
+    number_before r.value r.faults (numbers_seen known home inferred maybe (bound_by_number so_far p r.value) (unknown_behind unknown p r.value) ps [])
 
 abbrev pub given_numbers : Sight → List ArgPair → List GivenNumber
 given_numbers sight as' = map (λ (a : ArgPair). record { span = span_of a.1; seen = constant_of sight a.1 }) as'
@@ -233,7 +239,7 @@ function_call span sight name given es js (Some f) =
     let cyclic = breaks_if (is_cyclic sight.known.whole sight.home name.name) 3 span in
     if has_right_count f given es then
     right_call span sight f given es js cyclic
-    (numbers_seen sight.known f.name.name (inferred_by f.arguments (types_of js)) (maybe_inferred f.arguments (types_of js)) [] f.parameters given)
+    (numbers_seen sight.known f.name.name (inferred_by f.arguments (types_of js)) (maybe_inferred f.arguments (types_of js)) [] [] f.parameters given)
     else wrong_call span given js cyclic
 
 -- ---- builtins

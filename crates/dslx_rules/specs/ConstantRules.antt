@@ -58,10 +58,15 @@ constant_judged sight e =
     let inner = alone sight e in
     with_size_limit sight.known (span_of e).to (record inner { faults = inner.faults ++ breaks_if (names_a_local sight e) 5 (span_of e) })
 
+-- what has no type has no value either: it names something that has none
+abbrev pub value_if_typed : Option DslxType → Option DslxValue → Option DslxValue
+value_if_typed None v = None
+value_if_typed (Some t) v = v
+
 abbrev pub constant_of : Sight → ExprPair → ConstantSeen
 constant_of sight e =
     let j = constant_judged sight e in
-    record { judgement = j; bare = None; value = if is_sound_here sight.known j then value_of e.0 (constant_env sight) else None }
+    record { judgement = j; bare = None; value = if is_sound_here sight.known j then value_if_typed j.ty (value_of e.0 (constant_env sight)) else None }
 
 abbrev pub bare_judged : Judgement
 bare_judged = record { ty = None; faults = []; reached = []; size = Some 1 }

@@ -38,10 +38,10 @@ used_after (Some name) used = name ∷ used
 abbrev pub behind : Sight → List Typed → Expr → Sight
 behind sight locals e = record sight { locals = locals; used = used_after (effect_channel e) sight.used }
 
--- the type that a `let` gives its pattern: the written one, where both are there
+-- the type that a `let` gives its pattern: a written one only where it is the value's, which has none where it breaks rule 9
 abbrev pub bound_type : Option Judgement → Option DslxType → Option DslxType
 bound_type None t = t
-bound_type (Some written) t = with_both written.ty t (λ w u. Some u)
+bound_type (Some written) t = with_both written.ty t (λ w u. if same_type w u then Some u else None)
 
 abbrev pub annotation_faults : Span → Option Judgement → Option DslxType → List Fault
 annotation_faults span None t = []

@@ -62,9 +62,10 @@ pub record Known : Type 0 where
   pub is_unbroken : Instance → Bool
   -- how many nodes the body of an instance has
   pub body_size : Instance → Option ℕ
-  -- what a type and a default mean in the text of an item, where its number parameters have these values
+  -- what a type and a default mean in the text of an item, where its number parameters have these values. A default may name
+  -- parameters of which no value is known
   pub type_in : List ℕ → List Given → TypeExpr → Option DslxType
-  pub default_in : List ℕ → List Given → Expr → DefaultSeen
+  pub default_in : List ℕ → List Given → List (List ℕ) → Expr → DefaultSeen
 
 -- a name that is bound, with its type if it has one
 pub record Typed : Type 0 where
@@ -82,8 +83,9 @@ pub record Sight : Type 0 where
   pub known : Known
   -- the item in whose text it stands
   pub home : List ℕ
-  -- number parameters with their values, and bound names, the last one first
+  -- number parameters with their values, those of which no value is known, and bound names, the last one first
   pub numbers : List Given
+  pub unknown : List (List ℕ)
   pub locals : List Typed
   -- the proc's members, and which of them have a site before
   pub members : List Outlet

@@ -127,8 +127,13 @@ let_mentions l = record { mentions = λ bound. mentions_if l.ty bound ++ l.value
 abbrev pub block_mentions : Block-F NamesBound Mentions NamesBound Mentions Mentions NamesBound Mentions Mentions Mentions Mentions Mentions Mentions NamesBound Mentions → Mentions
 block_mentions b = statements_mentions b.statements (mentions_if b.value)
 
+-- what alternatives bind: one alone what is in it, several nothing
+abbrev pub bound_behind : List NamesBound → List (List ℕ)
+bound_behind (b ∷ []) = b.names
+bound_behind _ = []
+
 abbrev pub arm_mentions : Arm-F NamesBound Mentions NamesBound Mentions Mentions NamesBound Mentions Mentions Mentions Mentions Mentions Mentions NamesBound Mentions → Mentions
-arm_mentions a bound = binders_mentions a.patterns bound ++ a.value (binders_names a.patterns ++ bound)
+arm_mentions a bound = binders_mentions a.patterns bound ++ a.value (bound_behind a.patterns ++ bound)
 
 abbrev pub for_mentions : For-F NamesBound Mentions NamesBound Mentions Mentions NamesBound Mentions Mentions Mentions Mentions Mentions Mentions NamesBound Mentions → Mentions
 for_mentions f bound =

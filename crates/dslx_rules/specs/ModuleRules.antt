@@ -18,7 +18,7 @@ use Rattle.dslx_tree.specs.declared.process.Proc.{Proc}
 use Rattle.dslx_meaning.specs.Lists.{and_then, where_true}
 use Rattle.dslx_meaning.specs.Values.{type_of_value}
 use Rattle.dslx_meaning.specs.Environment.{Given}
-use Rattle.dslx_meaning.specs.Items.{item_named, as_function, as_constant, as_enum, is_constant_item, nothing_known, all_numbers, inferred_from, function_value, member_named}
+use Rattle.dslx_meaning.specs.Items.{item_named, as_function, as_constant, as_struct, as_enum, is_constant_item, nothing_known, all_numbers, inferred_from, function_value, member_named}
 use Rattle.dslx_meaning.specs.Network.{top_proc}
 use Rattle.dslx_meaning.specs.declared.ty.DslxType.{DslxType}
 use Rattle.dslx_meaning.specs.declared.value.DslxValue.{DslxValue}
@@ -64,9 +64,9 @@ abbrev pub size_known : Known → List DslxValue → Option Function → Option 
 size_known known numbers None = None
 size_known known numbers (Some f) = (function_seen known f numbers).body.size
 
-abbrev pub default_known : Known → List ℕ → List Given → Expr → DefaultSeen
-default_known known home numbers e =
-    let c = constant_of (item_sight known home numbers) (expr_pair e) in
+abbrev pub default_known : Known → List ℕ → List Given → List (List ℕ) → Expr → DefaultSeen
+default_known known home numbers unknown e =
+    let c = constant_of (record (item_sight known home numbers) { unknown = unknown }) (expr_pair e) in
     record { judgement = c.judgement; value = c.value }
 
 -- nothing is known
@@ -78,7 +78,7 @@ known_nothing m = record {
   is_unbroken = λ i. false;
   body_size = λ i. None;
   type_in = λ home numbers t. None;
-  default_in = λ home numbers e. record { judgement = bare_judged; value = None };
+  default_in = λ home numbers unknown e. record { judgement = bare_judged; value = None };
 }
 
 abbrev pub known_over : Known → Known
@@ -86,6 +86,7 @@ known_over known = record {
   whole = known.whole;
   items = record {
     type_named = λ name. type_known known (item_named name known.whole.items);
+    struct_named = λ name. and_then (as_struct (item_named name known.whole.items)) (λ s. (struct_seen known s).ty);
     is_constant = λ name. is_constant_item (item_named name known.whole.items);
     constant = λ name. and_then (as_constant (item_named name known.whole.items)) (λ c. (constant_seen known c).value);
     member = λ name a. and_then (as_enum (item_named name known.whole.items)) (λ e. enum_member_value known e a (member_named a e.members));
@@ -182,7 +183,7 @@ top_faults m top (Some p) = if list_any lacks_default p.parameters then breaks 3
 -- its defaults give its instance
 abbrev pub top_found : Known → Option Proc → Found
 top_found known None = nothing_found
-top_found known (Some p) = with_numbers (numbers_seen known p.name.name [] [] [] p.parameters [])
+top_found known (Some p) = with_numbers (numbers_seen known p.name.name [] [] [] [] p.parameters [])
   where
     instance_if : Option (List DslxValue) → List Instance
     instance_if None = []

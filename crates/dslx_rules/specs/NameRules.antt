@@ -1,5 +1,5 @@
 -- The rules of names: where they are used, and where they are declared.
-use Rattle.std.specs.Prelude.{ℕ, List, [], ◌∷◌, ◌++◌, ◌||◌, map, Bool, true, false, not, Option, Some, None, option_map}
+use Rattle.std.specs.Prelude.{ℕ, List, [], ◌∷◌, ◌++◌, ◌||◌, map, Bool, true, false, not, Option, Some, None, option_map, if◌then◌else◌}
 use Rattle.xb_span.specs.declared.span.Span.{Span}
 use Rattle.xb_span.specs.declared.fault.Fault.{Fault}
 use Rattle.dslx_tree.specs.declared.ident.Ident.{Ident}
@@ -23,8 +23,11 @@ item_value span sight name false = settled span None (breaks 1 span ∷ []) [] (
 item_value span sight name true =
     settled span (option_map type_of_value (sight.known.items.constant name)) (breaks_if (is_cyclic sight.known.whole sight.home name) 3 span) [] (Some 1)
 
+-- a number parameter has no type where no value of it is known
 abbrev pub number_or_item : Span → Sight → List ℕ → Option DslxValue → Judgement
-number_or_item span sight name None = item_value span sight name (sight.known.items.is_constant name)
+number_or_item span sight name None =
+    if is_in name sight.unknown then settled span None [] [] (Some 1)
+    else item_value span sight name (sight.known.items.is_constant name)
 number_or_item span sight name (Some v) = settled span (Some (type_of_value v)) [] [] (Some 1)
 
 abbrev pub local_or_other : Span → Sight → List ℕ → Option (Option DslxType) → Judgement

@@ -135,7 +135,7 @@ spawn_of sight made s given None = only_faults (breaks 1 s.target.span ∷ [])
 spawn_of sight made s given (Some target) =
     let cyclic = breaks_if (is_cyclic sight.known.whole sight.home target.name.name) 3 s.span in
     if length s.ends == length target.config.ends && not (nat_lt (length target.parameters) (length given))
-    then right_spawn sight made s target cyclic (numbers_seen sight.known target.name.name [] [] [] target.parameters given)
+    then right_spawn sight made s target cyclic (numbers_seen sight.known target.name.name [] [] [] [] target.parameters given)
     else only_faults (cyclic ++ breaks 10 s.span ∷ [])
 
 abbrev pub spawn_found : Sight → Made → Spawn → Found

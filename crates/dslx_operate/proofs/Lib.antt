@@ -1,0 +1,2 @@
+-- values that are taken apart
+mod Parts
