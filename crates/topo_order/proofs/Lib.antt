@@ -4,5 +4,9 @@ pub mod Steps
 pub mod Work
 -- the steps as the code makes them
 pub mod Stepping
--- a search of what a thing reaches
-pub mod Searching
+-- each step of the walk that gathers groups
+pub mod Grouping
+-- a group is done
+pub mod Closing
+-- the steps as the code makes them
+pub mod Gathering

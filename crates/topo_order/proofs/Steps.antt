@@ -48,16 +48,16 @@ step_front path x i j (p, here, next) = (p, get_front path x i p here, get_front
 pub other_mark : (marks : List Mark) (i j : ℕ) (m n : Mark) → mark_of marks i ≡ m → mark_of marks j ≡ n → m ≢ n → i ≢ j
 other_mark marks i j m n hi hj ne e = ne (sym hi ∙ ap (mark_of marks) e ∙ hj)
 
-new_done : New ≢ Done
+pub new_done : New ≢ Done
 new_done e = cc
 
-new_open : New ≢ Open
+pub new_open : New ≢ Open
 new_open e = cc
 
-open_done : Open ≢ Done
+pub open_done : Open ≢ Done
 open_done e = cc
 
-done_open : Done ≢ Open
+pub done_open : Done ≢ Open
 done_open e = cc
 
 -- the marks once a new thing is open

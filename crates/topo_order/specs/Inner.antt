@@ -2,5 +2,5 @@
 pub mod Walk
 -- what it has left to do
 pub mod Work
--- a search of what a thing reaches
-pub mod Search
+-- a walk that gathers what it meets into groups
+pub mod Groups

@@ -1,14 +1,14 @@
-//! Orders in which each thing comes after those that it needs, or a thing that needs itself.
+//! Orders in which each thing comes after those that it needs, or a thing that needs itself; and all things that do.
 //!
-//! Things are named by number; `needs[i]` lists what thing i needs. The walk is linear in the things and needs, and keeps
-//! its path in a vector: it doesn't recurse, however long a chain is.
+//! Things are named by number; `needs[i]` lists what thing i needs. The walks are linear in the things and needs, and keep
+//! their path in a vector: they don't recurse, however long a chain is.
 #![tactic(auto)]
 
-mod search;
+mod groups;
 mod sorting;
 mod walk;
 
-pub use search::needs_itself;
+pub use groups::needing_themselves;
 pub use sorting::{Sorted, sort};
 
 #[cfg(test)]

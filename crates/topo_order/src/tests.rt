@@ -34,3 +34,24 @@ fn a_thing_that_needs_itself_is_found(rt: HostRuntime) -> Result<(), Fail> {
     }
     Ok(())
 }
+
+/// Things 1, 2 and 4 need one another, 5 needs itself, and 0 and 3 need some of these.
+#[test]
+fn things_that_need_themselves_are_found(rt: HostRuntime) -> Result<(), Fail> {
+    let alloc = rt.alloc();
+    let needs = [
+        Items::from_slice(alloc, &[1, 3])?,
+        Items::from_slice(alloc, &[6, 2])?,
+        Items::from_slice(alloc, &[4])?,
+        Items::from_slice(alloc, &[5, 6])?,
+        Items::from_slice(alloc, &[2, 1])?,
+        Items::from_slice(alloc, &[6, 5])?,
+        Items::new(alloc),
+    ];
+    let wanted = [false, true, true, false, true, true, false];
+    assert_eq!(rt;
+        needing_themselves(alloc, &needs)?.as_slice(),
+        wanted.as_slice()
+    );
+    Ok(())
+}

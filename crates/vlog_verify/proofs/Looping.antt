@@ -4,7 +4,7 @@ use Rattle.std.proofs.lemmas.Bool.{cases_eq}
 use Rattle.std.specs.Prelude.{slice_get, slice_set, unwrap_or, Option, Some, None, replicate, MatchBool, option_map}
 use Rattle.std.proofs.lemmas.Option.{slice_get_within, slice_get-get_or}
 use Rattle.lists.proofs.Lemmas.Places.{slice_get-set_other, slice_get-append_left, slice_get-append_right}
-use Rattle.topo_order.specs.Needs.{AreClosed, IsOrderOf, needs_of, Needs, Reaches, itself, by_way}
+use Rattle.topo_order.specs.Needs.{AreClosed, needs_of, Needs, Reaches, itself, by_way}
 use Rattle.vlog_tree.specs.declared.module.VModule.{VModule}
 use Rattle.vlog_tree.specs.declared.module.Assignment.{Assignment}
 use Rattle.vlog_tree.specs.declared.signal.Role.{Role}
@@ -14,7 +14,7 @@ use Rattle.vlog_tree.specs.Forms.{reads}
 use Rattle.vlog_verify.specs.Parts.{count_of, role_at, is_driven}
 use Rattle.vlog_verify.specs.Loops.{IsWire, ReadsWire, Depends, direct}
 use Rattle.vlog_verify.specs.Loops as loops
-use Rattle.vlog_verify.specs.Inner.Firsts.{IsFree, AreFreeBefore, IsFirstLoop, AreNeedsBefore, AreNeeds, wires_among, needs_with}
+use Rattle.vlog_verify.specs.Inner.Firsts.{IsFree, AreFreeBefore, AreLoops, IsFirstLoop, AreNeedsBefore, AreNeeds, wires_among, needs_with}
 
 -- ---- wires
 
@@ -194,32 +194,12 @@ pub judged_by : (m : VModule) (needs : List (List ℕ)) (s : ℕ) (b : Bool) →
 judged_by m needs s true are h = depends_of m needs are s s h
 judged_by m needs s false are h = λ d. h (reaches_of m needs are s s d)
 
--- in an order nothing needs itself
-later : (needs : List (List ℕ)) (order : List ℕ) → IsOrderOf needs order → (i j : ℕ) → Reaches needs i j → (p : ℕ) → slice_get order p ≡ Some i → (q : ℕ) × (q < p) × (slice_get order q ≡ Some j)
-later needs order is i j (itself _ _ n) p h = is.behind p i j h n
-later needs order is i j (by_way _ k _ n rest) p h =
-    let next = is.behind p i k h n in
-    let last = later needs order is k j rest next.0 next.2 in
-    (last.0, omega (arith, last.1, next.1), last.2)
+pub loops_by : (m : VModule) (needs : List (List ℕ)) (loops : List Bool) → AreNeeds m needs → length loops ≡ length needs
+    → ((s : ℕ) (does : Bool) → slice_get loops s ≡ Some does → MatchBool does (Reaches needs s s) (¬ (Reaches needs s s))) → AreLoops m loops
+loops_by m needs loops are size told = record { size = size ∙ are.size; are = λ s does at. judged_by m needs s does are (told s does at) }
 
-needer_inside : (needs : List (List ℕ)) (i j : ℕ) → Needs needs i j → i < length needs
-needer_inside [] i j (k, h) = cc
-needer_inside (n ∷ needs) zero j h = omega arith
-needer_inside (n ∷ needs) (suc i) j h = let rest = needer_inside needs i j h in omega arith
-
-reacher_inside : (needs : List (List ℕ)) (i j : ℕ) → Reaches needs i j → i < length needs
-reacher_inside needs i j (itself _ _ n) = needer_inside needs i j n
-reacher_inside needs i j (by_way _ k _ n rest) = needer_inside needs i k n
-
-no_cycle : (needs : List (List ℕ)) (order : List ℕ) → IsOrderOf needs order → (i : ℕ) → ¬ (Reaches needs i i)
-no_cycle needs order is i r =
-    let here = is.all i (reacher_inside needs i i r) in
-    let there = later needs order is i i r here.0 here.1 in
-    let same = is.once there.0 here.0 i there.2 here.1 in
-    omega (arith, there.1, same)
-
-pub free_by_order : (m : VModule) (needs : List (List ℕ)) (order : List ℕ) → AreNeeds m needs → IsOrderOf needs order → IsFirstLoop m None
-free_by_order m needs order are is i a at d = no_cycle needs order is a.target.0 (reaches_of m needs are a.target.0 a.target.0 d)
+pub past_free : (m : VModule) (loops : List Bool) (s : ℕ) → AreLoops m loops → length loops ≤ s → ¬ (Depends m s s)
+past_free m loops s are past d = let inside = reader_inside m s s d in omega (arith, inside, past, are.size)
 
 pub free_step : (m : VModule) (i : ℕ) (a : Assignment) → slice_get m.assignments i ≡ Some a → AreFreeBefore m i → IsFree m a → AreFreeBefore m (i + 1)
 free_step m i a at before free j b h is = pick (cases_eq j i)

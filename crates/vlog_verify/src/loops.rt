@@ -3,12 +3,12 @@
 ghost use Rattle.std.specs.Prelude.{◌≡◌, ◌++◌, ◌∷◌, [], ℕ, List, ◌<◌, ◌^◌, IfOk, OnOk, length, replicate, MatchBool};
 ghost use Rattle.vlog_verify.specs.Loops.{Depends};
 ghost use Rattle.vlog_verify.specs.Parts.{count_of, is_driven};
-ghost use Rattle.vlog_verify.specs.Inner.Firsts.{IsFirstLoop, AreNeeds, AreNeedsBefore, AreFreeBefore, wires_among, needs_with};
+ghost use Rattle.vlog_verify.specs.Inner.Firsts.{IsFirstLoop, AreLoops, AreNeeds, AreNeedsBefore, AreFreeBefore, wires_among, needs_with};
 
 use crate::parts::is_driven;
 use sqlite_items::Items;
 use std::alloc::{AllocError, Global};
-use topo_order::{Sorted, needs_itself, sort};
+use topo_order::needing_themselves;
 use vlog_tree::{Assignment, VModule};
 
 /// The most signals and assignments that are numbered.
@@ -16,57 +16,51 @@ const MOST: usize = u32::MAX as usize;
 
 /// The place of the first assignment whose target depends on itself, if there is one.
 ///
-/// Where there is none, it takes time and memory linear in the module. Where there is one, each assignment before it may
-/// cost as much again.
+/// It takes time and memory linear in the module.
 pub fn first_loop(alloc: Global, design: &VModule) -> Result<Option<usize>, AllocError>
     ensures first { IfOk result (λ place. IsFirstLoop design.now place) }
     ensures few { IfOk result (λ _. length design.now.assignments < 2 ^ 32) }
 {
-    let assignments = design.assignments.as_slice();
-    if MOST < design.signal_count() || MOST < assignments.len() {
+    if MOST < design.signal_count() || MOST < design.assignments.as_slice().len() {
         return Err(AllocError);
     }
-    let needs = needs_of(alloc, design)?;
-    match sort(alloc, &needs)? {
-        Sorted::Order(_) => Ok(None),
-        Sorted::Cycle(_) => first_among(alloc, design, &needs),
-    }
+    let loops = loops_of(alloc, design)?;
+    Ok(first_among(design, &loops))
 }
 
-/// The same by the needs of each signal, one assignment after another.
-fn first_among(
-    alloc: Global,
-    design: &VModule,
-    needs: &[Items<u32>],
-) -> Result<Option<usize>, AllocError>
-    requires { AreNeeds design.now needs.now }
-    ensures { IfOk result (λ place. IsFirstLoop design.now place) }
+/// Of each signal whether it is a wire that depends on itself.
+fn loops_of(alloc: Global, design: &VModule) -> Result<Vec<bool>, AllocError>
+    requires { count_of design.now < 2 ^ 32 }
+    ensures { IfOk result (λ loops. AreLoops design.now loops.items) }
+{
+    let needs = needs_of(alloc, design)?;
+    let loops = needing_themselves(alloc, &needs)?;
+    Ok(loops)
+}
+
+/// The place of the first assignment whose target is one of these.
+fn first_among(design: &VModule, loops: &[bool]) -> Option<usize>
+    requires { AreLoops design.now loops.now }
+    ensures { IsFirstLoop design.now result }
 {
     let assignments = design.assignments.as_slice();
     'assignments: for i in 0..assignments.len() {
-        if depends_on_itself(alloc, design, needs, assignments[i].target.0)? {
-            return Ok(Some(i));
+        if depends_on_itself(design, loops, assignments[i].target.0) {
+            return Some(i);
         }
     }
-    Ok(None)
+    None
 }
 
 /// Whether a signal is a wire that depends on itself.
-fn depends_on_itself(
-    alloc: Global,
-    design: &VModule,
-    needs: &[Items<u32>],
-    signal: u32,
-) -> Result<bool, AllocError>
-    requires { AreNeeds design.now needs.now }
-    ensures { IfOk result (λ does. MatchBool does (Depends design.now signal signal) (¬ (Depends design.now signal signal))) }
+fn depends_on_itself(design: &VModule, loops: &[bool], signal: u32) -> bool
+    requires { AreLoops design.now loops.now }
+    ensures { MatchBool result (Depends design.now signal signal) (¬ (Depends design.now signal signal)) }
 {
-    let count = design.signal_count();
-    if count <= signal as usize {
-        return Ok(false);
+    match loops.get(signal as usize) {
+        Some(does) => *does,
+        None => false,
     }
-    let does = needs_itself(alloc, needs, signal)?;
-    Ok(does)
 }
 
 /// The wires that each signal reads.

@@ -21,8 +21,7 @@ use xb_span::{Fault, ReadError};
 /// Whether the module breaks no rule and passes no limit. Its parts count as standing at 0..0, so the rule of the least
 /// number is named, or the first limit. What it accepts can be simulated.
 ///
-/// It takes time and memory linear in the module, unless a wire depends on itself: then each assignment before the first
-/// such wire's may cost as much again.
+/// It takes time and memory linear in the module.
 pub fn verify(alloc: Global, design: &VModule) -> Result<(), ReadError>
     ensures ok { OnOk result (IsJudged design.now no_places None) }
     ensures runs { OnOk result (CanRun design.now) }

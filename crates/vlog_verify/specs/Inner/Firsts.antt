@@ -1,5 +1,5 @@
 -- The first assignment whose target depends on itself, and what wires read of one another.
-use Rattle.std.specs.Prelude.{◌≡◌, ℕ, ◌<◌, List, [], ◌∷◌, if◌then◌else◌, length, slice_get, slice_set, ◌++◌, Option, Some, None, unwrap_or}
+use Rattle.std.specs.Prelude.{◌≡◌, ℕ, ◌<◌, List, [], ◌∷◌, if◌then◌else◌, length, slice_get, slice_set, ◌++◌, Option, Some, None, unwrap_or, Bool, MatchBool}
 use Rattle.vlog_tree.specs.Forms.{reads}
 use Rattle.vlog_tree.specs.declared.module.VModule.{VModule}
 use Rattle.vlog_tree.specs.declared.module.Assignment.{Assignment}
@@ -26,6 +26,11 @@ pub record AreNeedsBefore (m : VModule) (i : ℕ) (needs : List (List ℕ)) : Ty
 
 abbrev pub AreNeeds : VModule → List (List ℕ) → Type 0
 AreNeeds m needs = AreNeedsBefore m (length m.assignments) needs
+
+-- of each signal whether it is a wire that depends on itself
+pub record AreLoops (m : VModule) (loops : List Bool) : Type 0 where
+  pub size : length loops ≡ count_of m
+  pub are : (s : ℕ) (does : Bool) → slice_get loops s ≡ Some does → MatchBool does (Depends m s s) (¬ (Depends m s s))
 
 -- the wires among signals
 abbrev pub wires_among : VModule → List ℕ → List ℕ

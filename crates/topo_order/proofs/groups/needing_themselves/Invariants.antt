@@ -1,0 +1,13 @@
+-- the groups stand with an empty path, and the things so far are done
+use Rattle.std.proofs.Common.{◌≡◌, ◌<◌, ℕ, []}
+use Rattle.topo_order.specs.declared.walk.Mark.TheVariants.{Done}
+use Rattle.topo_order.specs.Inner.Walk.{mark_of}
+use Rattle.topo_order.specs.Inner.Groups.{IsGroups}
+use Rattle.topo_order.proofs.groups.needing_themselves.Given as goal
+
+abbrev pub invariant-loop-thing : goal.invariant-loop-thing
+invariant-loop-thing l = record {
+  walk : IsGroups l.needs l.groups;
+  empty : l.groups.path.items ≡ [];
+  done : (i : ℕ) → i < l.thing → mark_of l.groups.marks.items i ≡ Done;
+}
