@@ -1,4 +1,1 @@
 mod OneTree
-mod Stepping
-mod Tails
-mod Tabling

@@ -5,14 +5,13 @@ ghost use Rattle.grammar.specs.Answer.{EndsWith, IfFault};
 ghost use Rattle.grammar.specs.Derivation.{IsDerivation, IsSentence};
 ghost use Rattle.lists.specs.Fault.{IsFirstFault};
 ghost use Rattle.vlog_grammar.specs.Verilog.{verilog};
-ghost use Rattle.vlog_parser.specs.declared.parsed.Parsed.{Parsed as AnyParsed};
+ghost use Rattle.vlog_builder.specs.declared.parsed.Parsed.{Parsed as AnyParsed};
 ghost use Rattle.vlog_parser.specs.Reads.{IsRefusal, Reads, kinds_of};
 ghost use Rattle.xb_span.specs.declared.read_error.ReadError.TheVariants.{OutOfMemory};
 
-use crate::builder::build;
-use crate::parsed::Parsed;
 use grammar::ParseError;
 use std::alloc::{AllocError, Global};
+use vlog_builder::{Parsed, build};
 use vlog_grammar::kind::END;
 use vlog_token::Token;
 use xb_span::ReadError;

@@ -33,9 +33,9 @@ use Rattle.vlog_tree.specs.Signals.{signals}
 use Rattle.vlog_tree.specs.Sound.{IsKnown, IsKnownAtom, IsKnownSimple}
 use Rattle.vlog_token.specs.Fronts.{width_said}
 use Rattle.vlog_token.specs.Kinds.{digits_kind, verilog_kind}
-use Rattle.vlog_parser.specs.Building.{is_name, is_number}
-use Rattle.vlog_parser.specs.Parts.{literal_of, most, name_text}
-use Rattle.vlog_parser.specs.declared.tail.Tail.TheVariants as tail
+use Rattle.vlog_builder.specs.Building.{is_name, is_number}
+use Rattle.vlog_builder.specs.Parts.{literal_of, most, name_text}
+use Rattle.vlog_builder.specs.declared.tail.Tail.TheVariants as tail
 use Rattle.vlog_text.specs.Parts.{atom_text, literal_text, signal_text, unary_text}
 use Rattle.vlog_round.proofs.Core.{Core, kept_by, shifted_core}
 use Rattle.vlog_round.proofs.Says.{Says, says_is, says_next, says_nothing, says_token}

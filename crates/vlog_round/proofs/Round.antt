@@ -11,21 +11,24 @@ use Rattle.vlog_grammar.specs.Verilog.{verilog}
 use Rattle.vlog_tree.specs.declared.module.VModule.{VModule}
 use Rattle.vlog_tree.specs.declared.module.Port.{Port}
 use Rattle.vlog_tree.specs.declared.module.Declaration.{Declaration}
+use Rattle.vlog_tree.specs.declared.module.Assignment.{Assignment}
 use Rattle.vlog_tree.specs.declared.module.Direction.{Direction}
 use Rattle.vlog_tree.specs.declared.module.Direction.TheVariants as directions
 use Rattle.vlog_tree.specs.declared.module.Storage.{Storage}
 use Rattle.vlog_tree.specs.declared.module.Storage.TheVariants as storages
 use Rattle.vlog_tree.specs.Signals.{declared_own, declared_port, signals}
 use Rattle.vlog_tree.specs.WellFormed.{CanRun}
+use Rattle.vlog_verify.specs.declared.places.Places.{Places}
 use Rattle.vlog_verify.specs.Placed.{no_places}
 use Rattle.vlog_verify.specs.Verified.{IsJudged}
 use Rattle.vlog_token.specs.Tokens.{HasTokens, ends, verilog_lexeme_at}
-use Rattle.vlog_parser.specs.Building.{built, parsed_of}
-use Rattle.vlog_parser.specs.Empty.{empty}
+use Rattle.vlog_builder.specs.Building.{built, parsed_of}
+use Rattle.vlog_builder.specs.Empty.{empty}
 use Rattle.vlog_parser.specs.Reads.{Reads, whole}
-use Rattle.vlog_parser.specs.declared.parsed.Parsed.{Parsed}
-use Rattle.vlog_parser.specs.declared.state.State.{State}
-use Rattle.vlog_text.specs.ModuleText.{assignment_text, clocked_text, declaration_text, direction_text, module_start, module_text, port_text, storage_text}
+use Rattle.vlog_builder.specs.declared.parsed.Parsed.{Parsed}
+use Rattle.vlog_builder.specs.declared.state.State.{State}
+use Rattle.vlog_text.specs.Parts.{expr_text, signal_text}
+use Rattle.vlog_text.specs.ModuleText.{assignment_start, assignment_text, clocked_text, declaration_text, direction_text, module_start, module_text, port_text, storage_text}
 use Rattle.vlog_reader.specs.Given.{GivesModule, sound}
 use Rattle.vlog_round.specs.Names.{HasTextNames}
 use Rattle.vlog_round.proofs.Core.{core, design-of_core, design_of}
@@ -95,6 +98,31 @@ fewer m =
     let back = front_longer (flat_map declaration_text m.declarations) rest in
     omega (arith, ports, own, count, p, d, whole, back)
 
+-- each assignment's text begins with a word
+assignment_some : (m : VModule) (a : Assignment) → 1 ≤ length (assignment_text m a)
+unfolding assignment_start
+assignment_some m a =
+    let start = front_longer (codes "assign ") (signal_text m a.target.0 ++ codes " = ") in
+    let own = front_longer (assignment_start m a.target.0) (expr_text m a.value ++ codes ";\n") in
+    omega (arith, start, own)
+
+texts_fewer : (m : VModule) (xs : List Assignment) → length xs ≤ length (flat_map (assignment_text m) xs)
+texts_fewer m [] = omega arith
+texts_fewer m (a ∷ xs) =
+    let more = texts_fewer m xs in
+    let some = assignment_some m a in
+    let all = ap length (flat_map-cons (assignment_text m) a xs) ∙ length-append (assignment_text m a) (flat_map (assignment_text m) xs) in
+    omega (arith, more, some, all)
+
+assignments_fewer : (m : VModule) → length m.assignments ≤ length (module_text m)
+assignments_fewer m =
+    let own = texts_fewer m m.assignments in
+    let rest : List ℕ = clocked_text m ++ codes "endmodule\n" in
+    let a = front_longer (flat_map (assignment_text m) m.assignments) rest in
+    let b = behind_longer (flat_map declaration_text m.declarations) (flat_map (assignment_text m) m.assignments ++ rest) in
+    let c = behind_longer (module_start m) (flat_map declaration_text m.declarations ++ (flat_map (assignment_text m) m.assignments ++ rest)) in
+    omega (arith, own, a, b, c)
+
 -- ---- tokens of a whole text
 
 record HasWords (text : List ℕ) (words : List (List ℕ)) : Type 0 where
@@ -144,8 +172,11 @@ read_as m b ls are same =
 
 -- ---- the round trip
 
-pub round : (m : VModule) → IsJudged m no_places None → CanRun m → HasTextNames m → length (module_text m) < 2 ^ 32 → GivesModule (module_text m) (Ok m)
-round m judged run names short =
+-- what is judged can run: the law is an argument
+pub round : ((m : VModule) (places : Places) → IsJudged m places None → length m.assignments < 2 ^ 32 → CanRun m)
+    → (m : VModule) → IsJudged m no_places None → HasTextNames m → length (module_text m) < 2 ^ 32 → GivesModule (module_text m) (Ok m)
+round can_run m judged names short =
+    let run = can_run m no_places judged (let count = assignments_fewer m in omega (arith, count, short)) in
     let w = written m run names in
     let ports = run.wired.ports in
     let few : length (signals m) < 4294967296 = let count = fewer m in omega (arith, count, short) in

@@ -14,9 +14,9 @@ use Rattle.dslx_token.specs.Lexeme.{Lexeme}
 use Rattle.vlog_grammar.specs.Verilog.{verilog}
 use Rattle.vlog_token.specs.Kinds.{verilog_kind}
 use Rattle.vlog_token.specs.Tokens.{verilog_lexeme_at}
-use Rattle.vlog_parser.specs.Building.{built, reduced, rule_of, shifted}
-use Rattle.vlog_parser.specs.declared.rule.Rule.{Rule}
-use Rattle.vlog_parser.specs.declared.state.State.{State}
+use Rattle.vlog_builder.specs.Building.{built, reduced, rule_of, shifted}
+use Rattle.vlog_builder.specs.declared.rule.Rule.{Rule}
+use Rattle.vlog_builder.specs.declared.state.State.{State}
 use Rattle.vlog_round.proofs.Core.{Core, core, core-reduced, core-shifted, reduced_core, shifted_core}
 
 -- ---- trees side by side

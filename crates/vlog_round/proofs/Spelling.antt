@@ -16,8 +16,8 @@ use Rattle.vlog_grammar.specs.declared.generated.kind.TheConstants.{LITERAL, NUM
 use Rattle.vlog_tree.specs.declared.expression.Literal.{Literal}
 use Rattle.vlog_token.specs.Fronts.{begins_literal, begins_value, digit_run, front_digits, front_len, is_in_range, number_len, value_digits, value_said, width_said, word_run}
 use Rattle.vlog_token.specs.Kinds.{digits_kind, verilog_kind}
-use Rattle.vlog_parser.specs.Building.{is_number}
-use Rattle.vlog_parser.specs.Parts.{literal_of, most, name_text}
+use Rattle.vlog_builder.specs.Building.{is_number}
+use Rattle.vlog_builder.specs.Parts.{literal_of, most, name_text}
 use Rattle.vlog_text.specs.Parts.{literal_text}
 use Rattle.vlog_round.proofs.Words.{said_number}
 

@@ -9,8 +9,8 @@ use Rattle.vlog_grammar.specs.declared.generated.nonterminal.TheConstants as non
 use Rattle.vlog_tree.specs.declared.module.VModule.{VModule}
 use Rattle.vlog_tree.specs.declared.module.Port.{Port}
 use Rattle.vlog_tree.specs.declared.module.Set.{Set}
-use Rattle.vlog_parser.specs.Empty.{empty}
-use Rattle.vlog_parser.specs.Parts.{name_text}
+use Rattle.vlog_builder.specs.Empty.{empty}
+use Rattle.vlog_builder.specs.Parts.{name_text}
 use Rattle.vlog_round.proofs.Core.{Core, core, design_of}
 use Rattle.vlog_round.proofs.Grammar as g
 use Rattle.vlog_round.proofs.Phrases.{says_always, says_assignments, says_declarations, says_name, says_port, says_ports}

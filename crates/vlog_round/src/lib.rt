@@ -3,15 +3,18 @@
 
 ghost use Rattle.std.specs.Prelude.{◌≡◌, ◌<◌, ◌^◌, None, Ok, length};
 ghost use Rattle.vlog_tree.specs.declared.module.VModule.{VModule};
-ghost use Rattle.vlog_tree.specs.WellFormed.{CanRun};
 ghost use Rattle.vlog_verify.specs.Placed.{no_places};
 ghost use Rattle.vlog_verify.specs.Verified.{IsJudged};
 ghost use Rattle.vlog_text.specs.ModuleText.{module_text};
 ghost use Rattle.vlog_reader.specs.Given.{GivesModule};
 ghost use Rattle.vlog_round.specs.Names.{HasTextNames};
 
+use vlog_verify::laws::judged_modules_can_run;
+
 /// The text that is printed of a module which breaks no rule and passes no limit reads as that module, if its names are names of
-/// texts and the text is shorter than 2^32 bytes. What `vlog_verify::verify` accepts is such a module, and can run.
+/// texts and the text is shorter than 2^32 bytes. What `vlog_verify::verify` accepts is such a module.
 pub fn printed_modules_read_back()
-    ensures { (m : VModule) → IsJudged m no_places None → CanRun m → HasTextNames m → length (module_text m) < 2 ^ 32 → GivesModule (module_text m) (Ok m) }
-{}
+    ensures { (m : VModule) → IsJudged m no_places None → HasTextNames m → length (module_text m) < 2 ^ 32 → GivesModule (module_text m) (Ok m) }
+{
+    judged_modules_can_run();
+}

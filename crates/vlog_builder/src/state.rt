@@ -1,0 +1,136 @@
+//! What has been built of a text.
+
+ghost use Rattle.std.specs.Prelude.{◌≡◌};
+ghost use Rattle.vlog_builder.specs.Empty.{empty, no_atom, no_expr, no_simple};
+ghost use Rattle.vlog_builder.specs.Rules.{skip_ident, span_from, top_signal};
+
+use crate::ident::Ident;
+use crate::literal::no_literal;
+use crate::signals::Signals;
+use crate::stack::Stack;
+use crate::tail::Tail;
+use sqlite_items::Items;
+use std::alloc::Global;
+use vlog_tree::{
+    Assignment, Atom, Binary, Declaration, Direction, Expr, Literal, Order, Port, Set, Signal,
+    Simple, Storage, Unary,
+};
+use xb_span::Span;
+
+/// The parts that have been built and not been used, a stack for each sort, and the finished parts of the module.
+#[derive(Drop)]
+pub struct State<'a> {
+    /// The place of the last token.
+    pub last: Span,
+    /// Where the ports, declarations and assignments begin that are open.
+    pub starts: Stack<u32>,
+    pub idents: Stack<Ident<'a>>,
+    pub literals: Stack<Literal>,
+    pub numbers: Stack<u64>,
+    /// The highest bits of ranges, and None where there is no range.
+    pub ranges: Stack<Option<u64>>,
+    pub directions: Stack<Direction>,
+    pub storages: Stack<Storage>,
+    pub orders: Stack<Order>,
+    pub binaries: Stack<Binary>,
+    pub unaries: Stack<Unary>,
+    /// How many atoms each open list has behind its first.
+    pub counts: Stack<usize>,
+    pub atoms: Stack<Atom>,
+    pub tails: Stack<Tail>,
+    pub simples: Stack<Simple>,
+    pub exprs: Stack<Expr>,
+    /// The sets of the branch that is open.
+    pub sets: Items<Set>,
+    pub set_places: Items<Span>,
+    pub signals: Signals<'a>,
+    pub ports: Items<Port>,
+    pub port_places: Items<Span>,
+    pub declarations: Items<Declaration>,
+    pub declaration_places: Items<Span>,
+    pub assignments: Items<Assignment>,
+    pub assignment_places: Items<Span>,
+    pub resets: Items<Set>,
+    pub reset_places: Items<Span>,
+    pub clocks: Items<Set>,
+    pub clock_places: Items<Span>,
+    pub literal_ends: Items<u32>,
+}
+
+pub const NOWHERE: Span = Span { from: 0, to: 0 };
+
+impl<'a> State<'a> {
+    pub fn new(alloc: Global) -> State<'a>
+        ensures { result ≡ empty }
+    {
+        State {
+            last: NOWHERE,
+            starts: Stack::new(alloc),
+            idents: Stack::new(alloc),
+            literals: Stack::new(alloc),
+            numbers: Stack::new(alloc),
+            ranges: Stack::new(alloc),
+            directions: Stack::new(alloc),
+            storages: Stack::new(alloc),
+            orders: Stack::new(alloc),
+            binaries: Stack::new(alloc),
+            unaries: Stack::new(alloc),
+            counts: Stack::new(alloc),
+            atoms: Stack::new(alloc),
+            tails: Stack::new(alloc),
+            simples: Stack::new(alloc),
+            exprs: Stack::new(alloc),
+            sets: Items::new(alloc),
+            set_places: Items::new(alloc),
+            signals: Signals::new(alloc),
+            ports: Items::new(alloc),
+            port_places: Items::new(alloc),
+            declarations: Items::new(alloc),
+            declaration_places: Items::new(alloc),
+            assignments: Items::new(alloc),
+            assignment_places: Items::new(alloc),
+            resets: Items::new(alloc),
+            reset_places: Items::new(alloc),
+            clocks: Items::new(alloc),
+            clock_places: Items::new(alloc),
+            literal_ends: Items::new(alloc),
+        }
+    }
+
+    /// From there to the end of the last token.
+    pub fn span_from(&self, from: u32) -> Span
+        ensures { result ≡ span_from from self.now }
+    {
+        Span {
+            from,
+            to: self.last.to,
+        }
+    }
+
+    /// Takes the name on top, and gives its signal.
+    pub fn pop_signal(&mut self) -> Signal
+        ensures signal { result ≡ top_signal self.old }
+        ensures rest { self.new ≡ skip_ident self.old }
+    {
+        let ident = self.idents.pop_or(Ident::none());
+        self.signals.signal(ident.name())
+    }
+}
+
+pub fn no_atom() -> Atom
+    ensures { result ≡ no_atom }
+{
+    Atom::Literal(no_literal())
+}
+
+pub fn no_simple() -> Simple
+    ensures { result ≡ no_simple }
+{
+    Simple::Atom(no_atom())
+}
+
+pub fn no_expr() -> Expr
+    ensures { result ≡ no_expr }
+{
+    Expr::Simple(no_simple())
+}
