@@ -2,20 +2,20 @@
 """Simulates random modules of the Verilog subset by `xls sim` and by Icarus Verilog, and compares every cycle.
 
     tools/compare_iverilog.py [--xls PROGRAM] [--modules N] [--rows N] [--seed N] [--keep FOLDER]
-    tools/compare_iverilog.py --speed [--xls PROGRAM] [--assignments N] [--rows N]
+    tools/compare_iverilog.py --speed [--xls PROGRAM] [--assignments N] [--rows N] [--shape chains|layers] [--runs N]
 
 It needs `iverilog` and `vvp` (Debian: the package iverilog). Each module is reset in its first row, since Icarus has four states and
 registers are x before; rows are compared from the second on. Divisions stand under a test that the divisor isn't 0, or are by
 a literal. It prints each difference, and ends with status 1 if there was one. With --speed it times both on one module of many
-assignments. It is run by hand, and is no part of the gate.
+assignments, some runs in turn. It is run by hand, and is no part of the gate.
 """
 import argparse
 import os
 import random
+import resource
 import subprocess
 import sys
 import tempfile
-import time
 
 BINARY = ['+', '-', '*', '&', '|', '^']
 COMPARE = ['==', '!=', '<', '<=', '>', '>=']
@@ -232,9 +232,10 @@ def icarus(folder, module, rows):
     return lines + moved(module.channels, rows, lines)
 
 
-def large(assignments):
-    """A module of so many assignments of 32 bits over 16 registers, all of which change in each cycle. They stand in layers of 16, each of
-    which reads the one before alone, so that a simulator that goes by events evaluates each about once too."""
+def large(assignments, shape):
+    """A module of so many assignments of 32 bits over 16 registers, all of which change in each cycle. As `chains` each wire reads one
+    wire or register that changes and a literal, so that a simulator that goes by events evaluates each assignment once a cycle; as `layers`
+    it reads two of the 16 before, and such a simulator may evaluate it anew for each of the two."""
     rng = random.Random(assignments)
     registers = ['r_%d' % k for k in range(16)]
     names, text = list(registers), ['module T(input wire clk, input wire rst, output wire [31:0] b_data, output wire b_vld, input wire b_rdy);']
@@ -243,7 +244,7 @@ def large(assignments):
     text += ['wire [31:0] %s;' % name for name in wires]
     for name in wires:
         layer = names[len(names) // 16 * 16 - 16:len(names) // 16 * 16]
-        one, other = rng.choice(layer), rng.choice(layer)
+        one, other = (names[-16], "32'd%d" % rng.getrandbits(32)) if shape == 'chains' else (rng.choice(layer), rng.choice(layer))
         text.append('assign %s = %s %s %s;' % (name, one, rng.choice('+-^'), other))
         names.append(name)
     text += ['assign b_data = %s;' % names[-1], "assign b_vld = 1'd1;", 'always @(posedge clk) begin if (rst) begin']
@@ -253,15 +254,16 @@ def large(assignments):
 
 
 def timed(words, folder):
-    began = time.time()
+    """The processor's time that a program takes, and the lines that it writes."""
+    began = resource.getrusage(resource.RUSAGE_CHILDREN).ru_utime
     out = subprocess.run(words, cwd=folder, check=True, capture_output=True, text=True).stdout
-    return time.time() - began, out.splitlines()
+    return resource.getrusage(resource.RUSAGE_CHILDREN).ru_utime - began, out.splitlines()
 
 
-def speed(program, assignments, rows):
+def speed(program, assignments, rows, shape, runs):
     with tempfile.TemporaryDirectory() as folder:
         with open(os.path.join(folder, 't.v'), 'w') as f:
-            f.write(large(assignments))
+            f.write(large(assignments, shape))
         with open(os.path.join(folder, 'r.txt'), 'w') as f:
             f.write('R\n- x%d\n' % rows)
         with open(os.path.join(folder, 'bench.v'), 'w') as f:
@@ -274,10 +276,13 @@ end
 endmodule
 ''' % (rows + 1))
         subprocess.run(['iverilog', '-g2005', '-o', 'bench.vvp', 'bench.v', 't.v'], cwd=folder, check=True)
-        ours, mine = timed([program, 'sim', 't.v', 'r.txt'], folder)
-        theirs, other = timed(['vvp', '-n', 'bench.vvp'], folder)
-        same = mine[1:rows + 1] == other[1:rows + 1]
-        print('%d assignments, %d rows: xls %.2f s, vvp %.2f s, %s' % (assignments, rows, ours, theirs, 'the same lines' if same else 'other lines'))
+        same = True
+        for _ in range(runs):
+            ours, mine = timed([program, 'sim', 't.v', 'r.txt'], folder)
+            theirs, other = timed(['vvp', '-n', 'bench.vvp'], folder)
+            same = same and mine[1:rows + 1] == other[1:rows + 1]
+            print('%d assignments in %s, %d rows: xls %.2f s, vvp %.2f s of the processor, %s'
+                  % (assignments, shape, rows, ours, theirs, 'the same lines' if same else 'other lines'), flush=True)
         return same
 
 
@@ -288,12 +293,14 @@ def main():
     ap.add_argument('--rows', type=int)
     ap.add_argument('--speed', action='store_true')
     ap.add_argument('--assignments', type=int, default=1000)
+    ap.add_argument('--shape', choices=['chains', 'layers'], default='chains')
+    ap.add_argument('--runs', type=int, default=3)
     ap.add_argument('--seed', type=int, default=1)
     ap.add_argument('--keep')
     a = ap.parse_args()
     program, differ = os.path.abspath(a.xls), 0
     if a.speed:
-        sys.exit(0 if speed(program, a.assignments, a.rows or 100000) else 1)
+        sys.exit(0 if speed(program, a.assignments, a.rows or 100000, a.shape, a.runs) else 1)
     a.rows = a.rows or 60
     for k in range(a.modules):
         rng = random.Random('%d %d' % (a.seed, k))
