@@ -1,13 +1,13 @@
 -- What is noted after what, and what tables show.
-use Rattle.std.proofs.Common.{◌≡◌, ℕ, zero, suc, ◌+◌, ◌-◌, ◌<◌, ◌≤◌, List, [], ◌∷◌, ◌++◌, map, length, drop, get_or, Bool, true, false, Option, Some, None, refl, sym, ap, ◌∙◌, arith, append_assoc}
-use Rattle.std.specs.Prelude.{slice_get, is_some, not, ◌||◌, if◌then◌else◌}
+use Rattle.std.proofs.Common.{◌≡◌, ℕ, zero, suc, ◌+◌, ◌-◌, ◌<◌, List, [], ◌∷◌, ◌++◌, map, length, drop, get_or, Bool, true, false, Option, Some, None, refl, sym, ap, ◌∙◌, arith, append_assoc}
+use Rattle.std.specs.Prelude.{slice_get, is_some, not, ◌&&◌, ◌||◌, if◌then◌else◌}
 use Rattle.std.specs.Str.{bytes_eq}
 use Rattle.std.proofs.lemmas.Slice.Eq.{bytes_eq-Decides}
 use Rattle.xb_span.specs.declared.fault.Fault.{Fault}
 use Rattle.name_table.specs.Found.{or_else}
 use Rattle.dslx_narrow_tree.specs.Names.{is_named}
 use Rattle.dslx_narrow_tree.specs.Judging.{port_in, port_of}
-use Rattle.dslx_narrow_tree.specs.Checking.{name_of_end, again, last_proc, ends_fit}
+use Rattle.dslx_narrow_tree.specs.Checking.{name_of_end, again, last_proc, ends_fit, port_fits}
 use Rattle.dslx_narrow_tree.specs.Patterns.{Binds, binds, binds_step}
 use Rattle.dslx_narrow_tree.specs.declared.ident.Ident.{Ident}
 use Rattle.dslx_narrow_tree.specs.declared.pattern.Pattern.{Pattern}
@@ -79,10 +79,18 @@ last_is (p ∷ q ∷ ps) =
     let e : length (p ∷ q ∷ ps) - 1 ≡ suc (length (q ∷ ps) - 1) = omega arith in
     ap (slice_get (p ∷ q ∷ ps)) e ∙ last_is (q ∷ ps)
 
-pub no_names_left : (ends ms : List End) (ns : List Ident) → 1 ≤ length ms → length ns < 1 → false ≡ ends_fit ends ms ns
-no_names_left ends [] ns h g = absurd (omega arith)
-no_names_left ends (m ∷ ms) [] h g = refl
-no_names_left ends (m ∷ ms) (n ∷ ns) h g = absurd (omega arith)
+-- each member has a name
+pub not_as_many : (ends ms : List End) (ns : List Ident) → (length ms ≡ length ns → ⊥) → ends_fit ends ms ns ≡ false
+not_as_many ends [] [] h = absurd (h refl)
+not_as_many ends [] (n ∷ ns) h = refl
+not_as_many ends (m ∷ ms) [] h = refl
+not_as_many ends (m ∷ ms) (n ∷ ns) h =
+    let rest = not_as_many ends ms ns (λ e. h (ap suc e)) in
+    ap (λ b. port_fits (port_of m) (port_in n.name ends) && b) rest ∙ never (port_fits (port_of m) (port_in n.name ends))
+  where
+    never : (b : Bool) → (b && false) ≡ false
+    never true = refl
+    never false = refl
 
 pub binds-Name : (ident : Ident) → binds (pattern.Name ident) ≡ binds_step (Pattern-F.Name ident)
 binds-Name ident = ap (fold-Pattern Binds binds_step) (sym (rolls-Name ident)) ∙ fold-roll-Pattern Binds binds_step (Pattern-F.Name ident)

@@ -108,22 +108,19 @@ fn port_fits(member: Port, port: Option<Port>) -> bool
     }
 }
 
+/// Whether the names are those of ends which fit the members, one each.
 fn ends_fit(ports: &Table<'_, Port>, members: &[End], names: &[Ident]) -> bool
     ensures { (ends : List End) → ArePorts ports.now ends → result ≡ ends_fit ends members.now names.now }
 {
-    match members {
-        [] => match names {
-            [] => true,
-            [_, ..] => false,
-        },
-        [member, members @ ..] => match names {
-            [] => false,
-            [ident, names @ ..] => {
-                let fits = port_fits(member.port(), ports.get(ident.name.as_str()));
-                fits && ends_fit(ports, members, names)
-            }
-        },
+    if members.len() != names.len() {
+        return false;
     }
+    'members: for i in 0..members.len() {
+        if !port_fits(members[i].port(), ports.get(names[i].name.as_str())) {
+            return false;
+        }
+    }
+    true
 }
 
 /// Notes the faults of a `config`.
