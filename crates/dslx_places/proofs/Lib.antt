@@ -1,0 +1,14 @@
+mod Around
+mod Chains
+mod Fits
+mod Going
+mod Grouping
+mod KeepsAtoms
+mod KeepsBlocks
+mod KeepsItems
+mod KeepsOperators
+mod KeepsProcs
+mod KeepsStatements
+mod KeepsTypes
+mod Standing
+mod TokensAlong
