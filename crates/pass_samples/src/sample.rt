@@ -108,12 +108,7 @@ mod tests {
         let mut nodes = receiving(alloc)?;
         nodes.push(plain(alloc, 5, Op::Unary(Unary::Not), &[Operand::State])?)?;
         nodes.push(plain(alloc, 7, Op::Unary(Unary::Neg), &[Operand::Node(2)])?)?;
-        nodes.push(plain(
-            alloc,
-            8,
-            Op::Unary(Unary::Reverse),
-            &[Operand::State],
-        )?)?;
+        nodes.push(plain(alloc, 8, Op::Unary(Unary::Reverse), &[Operand::State])?)?;
         package(alloc, nodes, Operand::Node(4))
     }
 
@@ -123,7 +118,10 @@ mod tests {
         let ir = dying(alloc)?;
         verify(alloc, &ir)?;
         let text = print_ir(alloc, &pass_dead::run(alloc, ir)?)?;
-        assert_eq!(rt; text.as_str(), "package Sample\nchan a(bits[8], id=0, kind=input)\nchan b(bits[8], id=1, kind=output)\nproc P(st: bits[8], init=0) {\n  after_all.1: token = after_all(id=1)\n  receive.2: (token, bits[8]) = receive(after_all.1, channel=a, id=2)\n  reverse.3: bits[8] = reverse(st, id=3)\n  next(reverse.3)\n}\n");
+        assert_eq!(rt;
+            text.as_str(),
+            "package Sample\nchan a(bits[8], id=0, kind=input)\nchan b(bits[8], id=1, kind=output)\nproc P(st: bits[8], init=0) {\n  after_all.1: token = after_all(id=1)\n  receive.2: (token, bits[8]) = receive(after_all.1, channel=a, id=2)\n  reverse.3: bits[8] = reverse(st, id=3)\n  next(reverse.3)\n}\n"
+        );
         Ok(())
     }
 
@@ -152,20 +150,8 @@ mod tests {
         nodes.push(node(alloc, 1, 2, Op::Literal, &[], three)?)?;
         nodes.push(plain(alloc, 2, Op::Unary(Unary::Not), &[Operand::State])?)?;
         let first = [Operand::Node(1), Operand::Node(1)];
-        nodes.push(select(
-            alloc,
-            3,
-            Operand::Node(0),
-            &first,
-            Operand::State,
-        )?)?;
-        nodes.push(select(
-            alloc,
-            4,
-            Operand::State,
-            &first,
-            Operand::Node(1),
-        )?)?;
+        nodes.push(select(alloc, 3, Operand::Node(0), &first, Operand::State)?)?;
+        nodes.push(select(alloc, 4, Operand::State, &first, Operand::Node(1))?)?;
         let both = [Operand::Node(2), Operand::Node(3)];
         nodes.push(plain(alloc, 5, Op::Binary(Binary::Add), &both)?)?;
         package(alloc, nodes, Operand::Node(4))
@@ -177,7 +163,10 @@ mod tests {
         let ir = choosing(alloc)?;
         verify(alloc, &ir)?;
         let text = print_ir(alloc, &pass_select::run(alloc, ir)?)?;
-        assert_eq!(rt; text.as_str(), "package Sample\nchan a(bits[8], id=0, kind=input)\nchan b(bits[8], id=1, kind=output)\nproc P(st: bits[8], init=0) {\n  literal.1: bits[2] = literal(value=3, id=1)\n  not.2: bits[8] = not(st, id=2)\n  add.3: bits[8] = add(st, not.2, id=3)\n  next(add.3)\n}\n");
+        assert_eq!(rt;
+            text.as_str(),
+            "package Sample\nchan a(bits[8], id=0, kind=input)\nchan b(bits[8], id=1, kind=output)\nproc P(st: bits[8], init=0) {\n  literal.1: bits[2] = literal(value=3, id=1)\n  not.2: bits[8] = not(st, id=2)\n  add.3: bits[8] = add(st, not.2, id=3)\n  next(add.3)\n}\n"
+        );
         Ok(())
     }
 }

@@ -1,0 +1,9 @@
+pub mod Arithmetic
+pub mod Numbers
+pub mod Made
+pub mod Shown
+pub mod Views
+pub mod Rules
+pub mod Right
+pub mod Standing
+pub mod Lemmas

@@ -1,0 +1,8 @@
+-- operands that are numbers
+pub mod Numbers
+-- the nodes on right sides
+pub mod Nodes
+-- what narrowing promises of what stands for a node
+pub mod Narrowing
+-- what functions of this crate promise to one another, and nobody else needs
+pub mod Inner

@@ -1,0 +1,47 @@
+ghost use Rattle.std.specs.Prelude.{◌≡◌, IfOk};
+ghost use Rattle.ir_tree.specs.SameBehavior.{SameBehavior};
+ghost use Rattle.ir_verify.specs.Verified.{IsVerified};
+
+use crate::nodes::extension;
+use crate::stand_in::{StandIn, narrowed};
+use delay_model::Extend;
+use ir_rebuild::{Rewrite, append, keep_all, rebuild};
+use ir_tree::{IrType, Node, Operand, Package, Proc};
+use std::alloc::{AllocError, Global};
+
+/// The pass: what narrows a node stands for it.
+#[derive(Clone, Copy, Debug)]
+pub struct Narrow;
+
+impl Rewrite for Narrow {
+    fn kept(&self, alloc: Global, proc: &Proc) -> Result<Vec<bool>, AllocError> {
+        keep_all(alloc, proc)
+    }
+
+    fn rewrite(
+        &self,
+        alloc: Global,
+        state: &IrType,
+        nodes: &mut Vec<Node>,
+        node: Node,
+    ) -> Result<Operand, AllocError> {
+        match narrowed(alloc, state, nodes, node)? {
+            StandIn::Operand(operand) => Ok(operand),
+            StandIn::Node(node) => append(nodes, node),
+            StandIn::Extended(node, width) => {
+                let operand = append(nodes, node)?;
+                let longer = extension(alloc, Extend::Zero, operand, width)?;
+                append(nodes, longer)
+            }
+        }
+    }
+}
+
+/// The package with narrower operations.
+pub fn run(alloc: Global, ir: Package) -> Result<Package, AllocError>
+    requires { IsVerified ir }
+    ensures verified { IfOk result (λ new. IsVerified new) }
+    ensures same { IfOk result (λ new. SameBehavior ir new) }
+{
+    rebuild(alloc, &Narrow, ir)
+}

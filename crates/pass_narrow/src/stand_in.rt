@@ -1,0 +1,279 @@
+//! What stands for a node.
+
+ghost use Rattle.std.specs.Prelude.{◌≡◌, ◌+◌, ◌<◌, ◌≤◌, true, List, length, IfOk, IfSome};
+ghost use Rattle.ir_tree.specs.declared.ir_type.IrType.{IrType};
+ghost use Rattle.ir_tree.specs.declared.node.Node.{Node};
+ghost use Rattle.ir_rebuild.specs.Built.{AreBuilt, IsPlaced, is_plain_op};
+ghost use Rattle.pass_narrow.specs.declared.stand_in.StandIn.TheVariants as stand_in;
+ghost use Rattle.pass_narrow.specs.Numbers.{number};
+ghost use Rattle.pass_narrow.specs.Narrowing.{IsStandIn, Narrows};
+ghost use Rattle.pass_narrow.specs.Nodes.{zero_node, extension_node};
+ghost use Rattle.pass_narrow.specs.Inner.Meant.{GivesNumber, IsRightSide, IsOperation, IsComparison, IsSliceOf, IsWhole, HasLonger, inner_part, depth};
+
+use crate::left_side::{RightSide, right_side, slice_of};
+use crate::nodes::{comparison, extension, operation, slice, zero};
+use crate::operands::{bits_width, extended, width_of};
+use delay_model::{Binary, Compare, Extend};
+use ir_rebuild::append;
+use ir_tree::{IrType, Node, Operand};
+use std::alloc::{AllocError, Global};
+
+/// What stands for a node.
+#[derive(Drop)]
+pub enum StandIn {
+    /// An operand.
+    Operand(Operand),
+    /// A node that is to be appended.
+    Node(Node),
+    /// A node that is to be appended, and an extension of it by zeros to so many bits.
+    Extended(Node, u128),
+}
+
+/// `width` bits of an operand from a place on, with zeros before them up to `total` bits.
+#[derive(Clone, Copy)]
+pub struct LongSlice {
+    pub operand: Operand,
+    pub start: u128,
+    pub width: u128,
+    pub total: u128,
+}
+
+/// What stands for a node that would be appended to these. Of what it needs, what stands for a node's operands is appended, each
+/// a plain node.
+pub fn narrowed(
+    alloc: Global,
+    state: &IrType,
+    nodes: &mut Vec<Node>,
+    node: Node,
+) -> Result<StandIn, AllocError>
+    requires built { AreBuilt state.now nodes.old.items }
+    requires placed { IsPlaced state.now nodes.old.items (length nodes.old.items) node }
+    requires plain { is_plain_op node.op ≡ true }
+    ensures narrows { IfOk result (λ x. Narrows state.now nodes.old.items nodes.new.items node x) }
+    ensures few { IfOk result (λ _. length nodes.new.items ≤ length nodes.old.items + 2) }
+{
+    match right_side(state, nodes.as_slice(), &node) {
+        None => Ok(StandIn::Node(node)),
+        Some(right) => made(alloc, state, nodes, right, bits_width(&node.ty)),
+    }
+}
+
+/// What the right side makes for a node of `total` bits.
+fn made(
+    alloc: Global,
+    state: &IrType,
+    nodes: &mut Vec<Node>,
+    right: RightSide,
+    total: u128,
+) -> Result<StandIn, AllocError>
+    requires { AreBuilt state.now nodes.old.items }
+    ensures narrows { IfOk result (λ x. (n : Node) → IsRightSide state.now nodes.old.items n total right → Narrows state.now nodes.old.items nodes.new.items n x) }
+    ensures few { IfOk result (λ _. length nodes.new.items ≤ length nodes.old.items + 2) }
+{
+    match right {
+        RightSide::Operand(operand) => Ok(StandIn::Operand(operand)),
+        RightSide::Zero => zero_of(alloc, total),
+        RightSide::Extension(kind, a) => extension_of(alloc, kind, a, total),
+        RightSide::Slice(operand, start) => {
+            slice_within(alloc, state, nodes.as_slice(), operand, start, total, total)
+        }
+        RightSide::LongerSlice(operand, start, width) => {
+            slice_within(alloc, state, nodes.as_slice(), operand, start, width, total)
+        }
+        RightSide::Operation(op, a, b, least) => {
+            operation_of(alloc, state, nodes, op, a, b, least, total)
+        }
+        RightSide::Comparison(op, a, b, least) => {
+            comparison_of(alloc, state, nodes, op, a, b, least)
+        }
+    }
+}
+
+fn zero_of(alloc: Global, total: u128) -> Result<StandIn, AllocError>
+    ensures { IfOk result (λ x. x ≡ stand_in.Node (zero_node total)) }
+{
+    Ok(StandIn::Node(zero(alloc, total)?))
+}
+
+fn extension_of(alloc: Global, kind: Extend, a: Operand, total: u128) -> Result<StandIn, AllocError>
+    ensures { IfOk result (λ x. x ≡ stand_in.Node (extension_node kind a total)) }
+{
+    Ok(StandIn::Node(extension(alloc, kind, a, total)?))
+}
+
+/// The operation on the operands, made longer.
+fn operation_of(
+    alloc: Global,
+    state: &IrType,
+    nodes: &mut Vec<Node>,
+    op: Binary,
+    a: Operand,
+    b: Operand,
+    least: u128,
+    total: u128,
+) -> Result<StandIn, AllocError>
+    requires { AreBuilt state.now nodes.old.items }
+    ensures narrows { IfOk result (λ x. (n : Node) → IsOperation state.now nodes.old.items n op a b least total → Narrows state.now nodes.old.items nodes.new.items n x) }
+    ensures few { IfOk result (λ _. length nodes.new.items ≤ length nodes.old.items + 2) }
+{
+    let a = longer(alloc, state, nodes, a, least)?;
+    let b = longer(alloc, state, nodes, b, least)?;
+    Ok(StandIn::Extended(operation(alloc, op, a, b, least)?, total))
+}
+
+/// The comparison of the operands, made longer.
+fn comparison_of(
+    alloc: Global,
+    state: &IrType,
+    nodes: &mut Vec<Node>,
+    op: Compare,
+    a: Operand,
+    b: Operand,
+    least: u128,
+) -> Result<StandIn, AllocError>
+    requires { AreBuilt state.now nodes.old.items }
+    ensures narrows { IfOk result (λ x. (n : Node) → IsComparison state.now nodes.old.items n op a b least → Narrows state.now nodes.old.items nodes.new.items n x) }
+    ensures few { IfOk result (λ _. length nodes.new.items ≤ length nodes.old.items + 2) }
+{
+    let a = longer(alloc, state, nodes, a, least)?;
+    let b = longer(alloc, state, nodes, b, least)?;
+    Ok(StandIn::Node(comparison(alloc, op, a, b)?))
+}
+
+/// The operand with zeros before it up to so many bits: itself where it has as many.
+fn longer(
+    alloc: Global,
+    state: &IrType,
+    nodes: &mut Vec<Node>,
+    operand: Operand,
+    width: u128,
+) -> Result<Operand, AllocError>
+    ensures gives { IfOk result (λ o. AreBuilt state.now nodes.old.items → HasLonger state.now nodes.old.items operand width → GivesNumber state.now nodes.old.items nodes.new.items o width (λ s values. number s values operand)) }
+    ensures few { IfOk result (λ _. length nodes.new.items ≤ length nodes.old.items + 1) }
+{
+    if width_of(state, nodes.as_slice(), operand) == width {
+        return Ok(operand);
+    }
+    let node = extension(alloc, Extend::Zero, operand, width)?;
+    append(nodes, node)
+}
+
+/// What stands for a slice.
+fn slice_within(
+    alloc: Global,
+    state: &IrType,
+    nodes: &[Node],
+    operand: Operand,
+    start: u128,
+    width: u128,
+    total: u128,
+) -> Result<StandIn, AllocError>
+    requires { AreBuilt state.now nodes.now }
+    ensures { IfOk result (λ x. (n : Node) → IsSliceOf state.now nodes.now n (record { operand = operand; start = start; width = width; total = total }) → IsStandIn state.now nodes.now n x) }
+{
+    let part = LongSlice {
+        operand,
+        start,
+        width,
+        total,
+    };
+    narrowed_slice(alloc, state, nodes, part)
+}
+
+/// What stands for a slice: it goes to what its operand is made of as long as it can.
+fn narrowed_slice(
+    alloc: Global,
+    state: &IrType,
+    nodes: &[Node],
+    part: LongSlice,
+) -> Result<StandIn, AllocError>
+    requires { AreBuilt state.now nodes.now }
+    ensures { IfOk result (λ x. (n : Node) → IsSliceOf state.now nodes.now n part → IsStandIn state.now nodes.now n x) }
+{
+    let mut within = part;
+    'parts: while let Some(inner) = inner_slice(state, nodes, within) {
+        within = inner;
+    }
+    last_slice(alloc, state, nodes, within)
+}
+
+/// The slice inside a slice. Its operand stands before.
+fn inner_slice(state: &IrType, nodes: &[Node], part: LongSlice) -> Option<LongSlice>
+    requires { AreBuilt state.now nodes.now }
+    ensures before { IfSome result (λ inner. depth inner.operand < depth part.operand) }
+    ensures within { IfSome result (λ inner. (n : Node) → IsSliceOf state.now nodes.now n part → IsSliceOf state.now nodes.now n inner) }
+{
+    match slice_of(state, nodes, part.start, part.width, part.operand) {
+        None => None,
+        Some(right) => inner_part(right, part),
+    }
+}
+
+/// The slice that a right side is.
+fn inner_part(right: RightSide, part: LongSlice) -> Option<LongSlice>
+    ensures { result ≡ inner_part right part }
+{
+    match right {
+        RightSide::Slice(operand, start) => Some(LongSlice {
+            operand,
+            start,
+            width: part.width,
+            total: part.total,
+        }),
+        RightSide::LongerSlice(operand, start, width) => Some(LongSlice {
+            operand,
+            start,
+            width,
+            total: part.total,
+        }),
+        _ => None,
+    }
+}
+
+/// What stands for a slice with none inside.
+fn last_slice(
+    alloc: Global,
+    state: &IrType,
+    nodes: &[Node],
+    part: LongSlice,
+) -> Result<StandIn, AllocError>
+    requires { AreBuilt state.now nodes.now }
+    ensures { IfOk result (λ x. (n : Node) → IsSliceOf state.now nodes.now n part → IsStandIn state.now nodes.now n x) }
+{
+    match slice_of(state, nodes, part.start, part.width, part.operand) {
+        Some(RightSide::Operand(_)) => whole(alloc, nodes, part.operand, part.width, part.total),
+        Some(RightSide::Zero) => zero_of(alloc, part.total),
+        _ => slice_itself(alloc, part),
+    }
+}
+
+/// The slice, with zeros before it.
+fn slice_itself(alloc: Global, part: LongSlice) -> Result<StandIn, AllocError>
+    ensures { IfOk result (λ x. (state : IrType) (nodes : List Node) (n : Node) → IsSliceOf state nodes n part → IsStandIn state nodes n x) }
+{
+    let node = slice(alloc, part.operand, part.start, part.width)?;
+    if part.width == part.total {
+        Ok(StandIn::Node(node))
+    } else {
+        Ok(StandIn::Extended(node, part.total))
+    }
+}
+
+/// An operand of `width` bits with zeros before it up to `total` bits, in one extension.
+fn whole(
+    alloc: Global,
+    nodes: &[Node],
+    operand: Operand,
+    width: u128,
+    total: u128,
+) -> Result<StandIn, AllocError>
+    ensures { IfOk result (λ x. (state : IrType) (n : Node) → AreBuilt state nodes.now → IsWhole state nodes.now n operand width total → IsStandIn state nodes.now n x) }
+{
+    if width == total {
+        return Ok(StandIn::Operand(operand));
+    }
+    match extended(nodes, Extend::Zero, operand) {
+        Some(a) => extension_of(alloc, Extend::Zero, a, total),
+        None => extension_of(alloc, Extend::Zero, operand, total),
+    }
+}
