@@ -1,0 +1,14 @@
+mod Chains
+mod FitsAtoms
+mod FitsBlocks
+mod FitsItems
+mod FitsOperators
+mod FitsProcs
+mod FitsStatements
+mod FitsTypes
+mod Fitting
+mod Growing
+mod Onto
+mod Putting
+mod Stepping
+mod Whole
