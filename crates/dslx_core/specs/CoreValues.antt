@@ -1,5 +1,5 @@
 -- The value of an expression of a checked text.
-use Rattle.std.specs.Prelude.{ℕ, zero, suc, pred, List, [], ◌∷◌, ◌++◌, ◌+◌, ◌==◌, nat_lt, nat_le, min, map, Bool, true, false, not, Option, Some, None, length, slice_get, set, if◌then◌else◌}
+use Rattle.std.specs.Prelude.{ℕ, zero, suc, pred, List, [], ◌∷◌, ◌++◌, ◌+◌, ◌==◌, ◌&&◌, nat_lt, nat_le, min, map, Bool, true, false, not, Option, Some, None, length, slice_get, set, if◌then◌else◌}
 use Rattle.std.specs.declared.cmp.Ordering.{Ordering}
 use Rattle.xb_bits.specs.Word.{Word, word}
 use Rattle.xb_bits.specs.Operations as op
@@ -55,6 +55,10 @@ unary_word u.AndReduce x = op.and_reduce x
 unary_word u.OrReduce x = op.or_reduce x
 unary_word u.XorReduce x = op.xor_reduce x
 
+-- a word has 1 to 128 bits
+abbrev pub is_width : ℕ → Bool
+is_width w = nat_lt 0 w && nat_le w 128
+
 -- words of one width
 abbrev pub where_alike : Word → Word → Word → Option Value
 where_alike x y z = where_true (x.width == y.width) (Some (Bits z))
@@ -77,7 +81,7 @@ binary_words b.Div x y = where_alike x y (op.udiv x y)
 binary_words b.Rem x y = where_alike x y (op.umod x y)
 binary_words b.Add x y = where_alike x y (op.add x y)
 binary_words b.Sub x y = where_alike x y (op.sub x y)
-binary_words b.Concat x y = Some (Bits (op.concat x y))
+binary_words b.Concat x y = where_true (nat_le (x.width + y.width) 128) (Some (Bits (op.concat x y)))
 binary_words b.Shl x y = Some (Bits (op.shll x y))
 binary_words (b.Shr sign) x y = Some (Bits (shift_read sign x y))
 binary_words b.And x y = where_alike x y (op.and x y)
@@ -190,9 +194,9 @@ core_step (CoreExpr-F.Tuple es) calls bound = and_then (values_in es calls bound
 core_step (CoreExpr-F.Array es) calls bound = and_then (values_in es calls bound) (λ vs. Some (Array vs))
 core_step (CoreExpr-F.Unary o e) calls bound = and_then (word_in e calls bound) (λ w. Some (Bits (unary_word o w)))
 core_step (CoreExpr-F.Binary o l r) calls bound = with_both (word_in l calls bound) (word_in r calls bound) (binary_words o)
-core_step (CoreExpr-F.Cast sign w e) calls bound = and_then (word_in e calls bound) (λ x. Some (Bits (cast_word (is_signed_read sign) w x)))
-core_step (CoreExpr-F.Slice e from w) calls bound = and_then (word_in e calls bound) (λ x. where_true (nat_le (from + w) x.width) (Some (Bits (op.slice x from w))))
-core_step (CoreExpr-F.Part e i w) calls bound = with_both (word_in e calls bound) (word_in i calls bound) (λ x k. Some (Bits (op.dyn_slice x k w)))
+core_step (CoreExpr-F.Cast sign w e) calls bound = and_then (word_in e calls bound) (λ x. where_true (is_width w) (Some (Bits (cast_word (is_signed_read sign) w x))))
+core_step (CoreExpr-F.Slice e from w) calls bound = and_then (word_in e calls bound) (λ x. where_true (nat_lt 0 w && nat_le (from + w) x.width) (Some (Bits (op.slice x from w))))
+core_step (CoreExpr-F.Part e i w) calls bound = with_both (word_in e calls bound) (word_in i calls bound) (λ x k. where_true (is_width w) (Some (Bits (op.dyn_slice x k w))))
 core_step (CoreExpr-F.Element e k) calls bound = and_then (and_then (e calls bound) (λ v. tuple_values_step (out-Value v))) (λ vs. slice_get vs k)
 core_step (CoreExpr-F.Index e i) calls bound = with_both (array_in e calls bound) (word_in i calls bound) (λ vs k. slice_get vs (min k.value (pred (length vs))))
 core_step (CoreExpr-F.Update e i v) calls bound =

@@ -3,5 +3,10 @@ pub mod Agreeing
 -- values depend on what is mentioned alone
 pub mod Dependence
 pub mod Free
+-- recursion between items
+pub mod Chains
+pub mod Endings
+-- what operations give
+pub mod Typed
 -- the least fault
 pub mod Orders

@@ -2,3 +2,5 @@
 pub mod Agreement
 -- the least of several faults
 pub mod Least
+-- texts in which recursion ends
+pub mod Recursion

@@ -1,17 +1,28 @@
 //! What holds of the meaning of texts and of their faults, for every text.
 #![tactic(auto)]
 
-ghost use Rattle.std.specs.Prelude.{◌≡◌, ◌↔◌, ◌+◌, ℕ, List, [], Option, Some, None, length};
+ghost use Rattle.std.specs.Prelude.{◌≡◌, ◌↔◌, ◌≤◌, ℕ, List, [], Option, Some, None, true, length};
+ghost use Rattle.std.specs.Option.{option_map};
 ghost use Rattle.xb_span.specs.Fault.{first_of, key_of};
 ghost use Rattle.xb_span.specs.declared.fault.Fault.{Fault};
+ghost use Rattle.xb_span.specs.declared.span.Span.{Span};
 ghost use Rattle.dslx_tree.specs.declared.expr.Expr.{Expr};
 ghost use Rattle.dslx_tree.specs.declared.item.Module.{Module};
+ghost use Rattle.dslx_tree.specs.declared.operator.Binary.{Binary};
+ghost use Rattle.dslx_tree.specs.declared.operator.Prefix.{Prefix};
 ghost use Rattle.dslx_meaning.specs.Environment.{Meanings, Env, Given};
+ghost use Rattle.dslx_meaning.specs.Items.{meanings_of, meanings_over, meanings_within};
 ghost use Rattle.dslx_meaning.specs.Meaning.{value_of};
+ghost use Rattle.dslx_meaning.specs.Operators.{binary_value, prefix_value, cast_value};
+ghost use Rattle.dslx_meaning.specs.Values.{type_of_value};
+ghost use Rattle.dslx_meaning.specs.declared.ty.DslxType.{DslxType};
+ghost use Rattle.dslx_meaning.specs.declared.value.DslxValue.{DslxValue};
 ghost use Rattle.dslx_rules.specs.ModuleRules.{faults_of, first_fault};
 ghost use Rattle.dslx_rules.specs.Mentions.{mentioned, free_names};
+ghost use Rattle.dslx_rules.specs.OperatorRules.{is_bits, is_bits_or_enum, binary_faults, binary_type};
 ghost use Rattle.dslx_laws.specs.Agreement.{AgreeOn, AreBoundAlike, HidesNoConstant};
 ghost use Rattle.dslx_laws.specs.Least.{IsLeastOf, HaveSameFaults};
+ghost use Rattle.dslx_laws.specs.Recursion.{HasNoCycle};
 
 /// The fault that is named is one of the text's, and none of the others is to be named before it.
 pub fn the_first_fault_is_least()
@@ -40,4 +51,23 @@ pub fn a_value_depends_on_free_names()
     ensures { (e : Expr) (items : Meanings) (bound others : List Given) → HidesNoConstant items bound → HidesNoConstant items others
         → AreBoundAlike (free_names e) bound others
         → value_of e (record { items = items; bound = bound }) ≡ value_of e (record { items = items; bound = others }) }
+{}
+
+/// Recursion between items ends where no item reaches itself: what the items mean, which is defined by chains of at most as
+/// many items as there are, is what they mean by longer chains, and so it is what they mean where what they mention means
+/// that.
+pub fn recursion_ends()
+    ensures longer { (m : Module) → HasNoCycle m → (n : ℕ) → length m.items ≤ n → meanings_within m n ≡ meanings_of m }
+    ensures settled { (m : Module) → HasNoCycle m → meanings_over m (meanings_of m) ≡ meanings_of m }
+{}
+
+/// What an operation gives for values of types that break none of its rules is a value, and of the type that the rules give
+/// it.
+pub fn operations_have_values_of_their_types()
+    ensures binary { (o : Binary) (span left right : Span) (v w : DslxValue)
+        → binary_faults o span left (Some (type_of_value v)) right (Some (type_of_value w)) ≡ []
+        → option_map type_of_value (binary_value o v w) ≡ binary_type o (Some (type_of_value v)) (Some (type_of_value w)) }
+    ensures prefix { (o : Prefix) (v : DslxValue) → is_bits (type_of_value v) ≡ true → option_map type_of_value (prefix_value o v) ≡ Some (type_of_value v) }
+    ensures cast { (t : DslxType) (v : DslxValue) → is_bits t ≡ true → is_bits_or_enum (type_of_value v) ≡ true
+        → option_map type_of_value (cast_value t v) ≡ Some t }
 {}

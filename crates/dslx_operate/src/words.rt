@@ -1,9 +1,8 @@
-ghost use Rattle.std.specs.Prelude.{◌≡◌, ◌==◌, ◌≤◌};
+ghost use Rattle.std.specs.Prelude.{◌≡◌, ◌==◌, ◌+◌, ◌≤◌, nat_le};
 ghost use Rattle.std.specs.Option.{option_map};
 ghost use Rattle.xb_value.specs.declared.value.Value.{Bits as of_bits};
 ghost use Rattle.dslx_meaning.specs.Operators.{cast_word, is_less as less};
 ghost use Rattle.dslx_core.specs.CoreValues.{unary_word, binary_words, order_read, shift_read, is_signed_read, one_bit};
-ghost use Rattle.dslx_operate.specs.Fitting.{FitTogether};
 
 use dslx_core::{CoreBinary, CoreUnary, Sign};
 use std::cmp::Ordering;
@@ -28,13 +27,17 @@ pub fn unary(op: CoreUnary, x: Bits) -> Bits
     }
 }
 
-/// What an operation gives for two words, unless it wants words of one width and they differ.
+/// What an operation gives for two words, unless it wants words of one width and they differ, or words side by side would have
+/// more than 128 bits.
 pub fn binary(op: CoreBinary, x: Bits, y: Bits) -> Option<Bits>
-    requires { FitTogether op x y }
     ensures { option_map of_bits result ≡ binary_words op x y }
 {
     match op {
-        CoreBinary::Concat => Some(concat(x, y)),
+        CoreBinary::Concat => if fit_together(x, y) {
+            Some(concat(x, y))
+        } else {
+            None
+        },
         CoreBinary::Shl => Some(shll(x, y)),
         CoreBinary::Shr(sign) => Some(shift_right(sign, x, y)),
         CoreBinary::Mul => if same_width(x, y) {
@@ -123,6 +126,14 @@ pub fn cast(sign: Sign, width: u8, x: Bits) -> Bits
         Sign::Unsigned => zext(x, width),
         Sign::Signed => sext(x, width),
     }
+}
+
+/// Whether the two have at most 128 bits side by side.
+fn fit_together(x: Bits, y: Bits) -> bool
+    ensures { result ≡ nat_le (x.width + y.width) 128 }
+{
+    let width = u16::from(x.width()) + u16::from(y.width());
+    width <= 128
 }
 
 fn same_width(x: Bits, y: Bits) -> bool

@@ -1,2 +1,0 @@
--- which words an operation takes
-pub mod Fitting
