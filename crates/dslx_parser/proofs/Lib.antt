@@ -1,0 +1,3 @@
+mod OneReading
+mod OneTree
+mod Texts

@@ -1,0 +1,2 @@
+-- which tokens read as which tree, and how others are refused
+pub mod Reads
