@@ -25,7 +25,7 @@ use Rattle.net_core.proofs.Lemmas.{next_keeps_types, counted_cuts_stand, ends_by
 use Rattle.net_streams.specs.Streams.{AreStopped, stands}
 use Rattle.net_streams.specs.Moves.{IsTyped}
 use Rattle.net_streams.proofs.Lemmas.{chan_there, inner_words, inner_room, received_by, input_words, counted, come_to_the_end}
-use Rattle.proc_outcome.specs.Inner.Counts.{end_in, CountsFit, AllFit, Holds, IsHeldBy, Stays, AllStay}
+use Rattle.proc_outcome.specs.Inner.Counts.{end_in, CountsFit, AllFit, Holds, IsHeldBy, IsStuck, AllStay}
 
 pub stream_input : (run : Run) (cut : Cut) (c : ℕ) (chan : Chan) → chan.kind ≡ Input → stream_of run cut c chan ≡ record { words = take (received_at run cut c) (words_at run cut c); received = received_at run cut c }
 unfolding stream_of
@@ -169,7 +169,7 @@ module _ (run : Run) (typed : IsTyped run) (cut : Cut) (within : IsWithin cut (f
             held_event (next_of b at) at.ends stall (next_keeps_types b (typed.fits.keeps_types p proc e) at.state at.got at.done (opens p proc e)) (is ∙ e') held
         by false is stall e' held = refl
 
-        go : Stays run.chans run.inputs run.depths (indexed (stream_of run cut) 0 run.chans) run.activations (end_in run cut p proc)
+        go : IsStuck run.chans run.inputs run.depths (indexed (stream_of run cut) 0 run.chans) run.activations (end_in run cut p proc)
             → nat_lt at.ends run.activations && (finds_word b.sites (words_at run cut) (cut p) (next_of b at) && fits_after b.sites (room_at run cut) (cut p) (next_of b at)) ≡ false
         go (inl over) = and_left _ _ (lt_false at.ends run.activations over)
         go (inr s) = by (nat_lt at.ends run.activations) refl s.0 s.1 s.2

@@ -1,5 +1,5 @@
 ghost use Rattle.std.specs.Prelude.{◌≡◌, ◌≤◌, ◌+◌, IsTrue, length};
-ghost use Rattle.proc_outcome.specs.Inner.Counts.{CountsFit, AllFit, Holds, IsHeldBy, Stays, AllStay, words_for};
+ghost use Rattle.proc_outcome.specs.Inner.Counts.{CountsFit, AllFit, Holds, IsHeldBy, IsStuck, AllStay, words_for};
 ghost use Rattle.net_core.specs.declared.net.Kind.TheVariants as kinds;
 
 use net_core::{Chan, Kind, ProcEnd, Stall, Stream};
@@ -65,7 +65,7 @@ fn stays(
     requires inputs { length inputs.now ≡ length chans.now }
     requires depths { length depths.now ≡ length chans.now }
     requires streams { length streams.now ≡ length chans.now }
-    ensures { IsTrue result → Stays chans.now inputs.now depths.now streams.now n end.now }
+    ensures { IsTrue result → IsStuck chans.now inputs.now depths.now streams.now n end.now }
 {
     match &end.stall {
         Some(stall) => is_held(chans, inputs, depths, streams, stall),

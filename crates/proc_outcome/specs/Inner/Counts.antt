@@ -43,9 +43,9 @@ pub record IsHeldBy (chans : List Chan) (inputs : List (List Word)) (depths : Li
   pub holds : Holds chan.kind (length (get_or inputs stall.chan [])) (get_or depths stall.chan 0) stream stall.sends
 
 -- a proc that ends so can't go: it has made its activations, or it waits for what isn't there
-abbrev pub Stays : List Chan → List (List Word) → List ℕ → List Stream → ℕ → ProcEnd → Type 0
-Stays chans inputs depths streams n end =
+abbrev pub IsStuck : List Chan → List (List Word) → List ℕ → List Stream → ℕ → ProcEnd → Type 0
+IsStuck chans inputs depths streams n end =
     (n ≤ end.ends) ⊎ ((stall : Stall) × (end.stall ≡ Some stall) × IsHeldBy chans inputs depths streams stall)
 
 abbrev pub AllStay : List Chan → List (List Word) → List ℕ → List Stream → ℕ → List ProcEnd → Type 0
-AllStay chans inputs depths streams n ends = (p : ℕ) (end : ProcEnd) → slice_get ends p ≡ Some end → Stays chans inputs depths streams n end
+AllStay chans inputs depths streams n ends = (p : ℕ) (end : ProcEnd) → slice_get ends p ≡ Some end → IsStuck chans inputs depths streams n end

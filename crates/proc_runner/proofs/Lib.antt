@@ -1,0 +1,5 @@
+pub mod Ends
+pub mod Runs
+pub mod Opened
+pub mod Taken
+pub mod Tasks

@@ -1,0 +1,12 @@
+use Rattle.std.proofs.Common.{◌≡◌, Some, length}
+use Rattle.task_queue.specs.Passes.{IsTaskPass, knows}
+use Rattle.proc_round.specs.Shares.{HoldsNone}
+use Rattle.proc_runner.proofs.rounds.run_to_end.Given as goal
+
+abbrev pub invariant-loop : goal.invariant-loop
+invariant-loop g l =
+    IsTaskPass l.queue l.pass
+    × HoldsNone (knows l.pass)
+    × ((knows l.pass).parts ≡ 1024)
+    × ((knows l.pass).count ≡ length (g.H.Home.run l.home).procs)
+    × ((knows l.pass).run ≡ Some l.home)

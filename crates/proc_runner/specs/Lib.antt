@@ -1,0 +1,2 @@
+-- contracts of private functions
+pub mod Inner

@@ -1,0 +1,125 @@
+ghost use Rattle.std.specs.Prelude.{◌≡◌, ℕ, List, Some, IfOk, get_or, slice_get, []};
+ghost use Rattle.net_core.specs.Behavior.{IsOpen, next_event};
+ghost use Rattle.net_core.specs.Cuts.{Proc, Run};
+
+use chan_queue::{ChanQueue, Streams};
+use net_core::{Body, Event, Inputs, Net};
+use proc_task::Home;
+use std::alloc::{AllocError, Global};
+use xb_bits::Bits;
+use xb_value::Value;
+
+/// A reference to what a run is made of.
+pub(crate) trait Running: Streams + Copy {
+    ghost run: { Self → Run };
+
+    /// How many activations each proc may end.
+    fn activations(&self) -> u32
+        ensures { result ≡ (run self.now).activations };
+
+    /// The word of a place that the outside sends on a channel.
+    fn input_word(&self, chan: u32, place: u64) -> Option<Bits>
+        ensures { result ≡ slice_get (get_or (run self.now).inputs chan []) place };
+
+    /// The next event of a proc, which stands there.
+    fn next(
+        &self,
+        alloc: Global,
+        number: u32,
+        state: &Value,
+        got: &[Bits],
+        done: u32,
+    ) -> Result<Event, AllocError>
+        requires { (proc : Proc) × (slice_get (run self.now).procs number ≡ Some proc) × IsOpen proc.behavior state.now got.now done }
+        ensures { IfOk result (λ event. (proc : Proc) → slice_get (run self.now).procs number ≡ Some proc →
+            event ≡ next_event proc.behavior state.now got.now done) };
+}
+
+/// What a run is made of.
+#[derive(Drop)]
+pub(crate) struct Given<'a, B> {
+    pub(crate) net: &'a Net,
+    pub(crate) bodies: &'a [B],
+    pub(crate) inputs: &'a Inputs,
+    pub(crate) n: u32,
+    pub(crate) depths: &'a [u32],
+}
+
+impl<'a, B: Body> Streams for &'a Given<'a, B> {
+    ghost use Rattle.std.specs.Prelude.{map};
+    ghost use Rattle.net_core.specs.WellFormed.{run_of};
+    ghost use Rattle.net_streams.specs.Streams.{stream_in};
+
+    ghost stream = { λ given c. stream_in (run_of given.now.net.now (map B.behavior given.now.bodies.now) given.now.inputs.now.words given.now.n given.now.depths.now) c };
+}
+
+impl<'a, B: Body> Running for &'a Given<'a, B> {
+    ghost use Rattle.std.specs.Prelude.{map};
+    ghost use Rattle.net_core.specs.WellFormed.{run_of};
+
+    ghost run = { λ given. run_of given.now.net.now (map B.behavior given.now.bodies.now) given.now.inputs.now.words given.now.n given.now.depths.now };
+
+    fn activations(&self) -> u32 {
+        self.n
+    }
+
+    fn input_word(&self, chan: u32, place: u64) -> Option<Bits> {
+        match self.inputs.words.get(chan as usize) {
+            Some(words) => words.get(place as usize).copied(),
+            None => None,
+        }
+    }
+
+    fn next(
+        &self,
+        alloc: Global,
+        number: u32,
+        state: &Value,
+        got: &[Bits],
+        done: u32,
+    ) -> Result<Event, AllocError> {
+        match self.bodies.get(number as usize) {
+            Some(body) => body.next(alloc, state, got, done),
+            None => unreachable!(),
+        }
+    }
+}
+
+/// What a run is made of, and the queues of its channels.
+#[derive(Clone, Copy)]
+pub(crate) struct Hall<'h, S> {
+    pub(crate) given: S,
+    pub(crate) queues: &'h [Option<ChanQueue<S>>],
+}
+
+impl<'h, S: Running> Home<S> for Hall<'h, S> {
+    ghost run = { λ home. S.run home.given };
+
+    ghost lines = { λ home. home.queues.now };
+
+    fn activations(&self) -> u32 {
+        self.given.activations()
+    }
+
+    fn input_word(&self, chan: u32, place: u64) -> Option<Bits> {
+        self.given.input_word(chan, place)
+    }
+
+    fn line(&self, chan: u32) -> &ChanQueue<S> {
+        match &self.queues[chan as usize] {
+            Some(line) => line,
+            None => unreachable!(),
+        }
+    }
+
+    fn next(
+        &self,
+        alloc: Global,
+        number: u32,
+        state: &Value,
+        got: &[Bits],
+        done: u32,
+    ) -> Result<Event, AllocError> {
+        self.given.next(alloc, number, state, got, done)
+    }
+}

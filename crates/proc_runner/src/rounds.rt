@@ -1,0 +1,58 @@
+ghost use Rattle.std.specs.Prelude.{◌≡◌, ◌≤◌, IfOk, length, Some};
+ghost use Rattle.net_core.specs.Cuts.{final_cut};
+ghost use Rattle.net_core.specs.Outcomes.{outcome_of};
+ghost use Rattle.net_streams.specs.Moves.{IsTyped};
+ghost use Rattle.task_queue.specs.Passes.{IsTaskPass, knows};
+ghost use Rattle.proc_round.specs.Shares.{HoldsNone};
+ghost use Rattle.proc_outcome.specs.Tasks.{IsRunOf};
+
+use chan_queue::Streams;
+use net_core::{Inputs, Net, Outcome};
+use proc_outcome::outcome;
+use proc_round::{put_back, round};
+use proc_task::{Home, Task};
+use std::alloc::{AllocError, Global};
+use std::sync::Wait;
+use std::thread::Threads;
+use task_queue::{TaskPass, TaskQueue};
+use xb_io::Gate;
+
+/// Goes on by rounds of the workers, until a round makes no event and the counts show that no proc can go.
+pub(crate) fn run_to_end<
+    S: Streams + Send + Sync,
+    H: Home<S> + Send + Sync,
+    R: Threads + Wait + Sync,
+    G: Gate + Sync,
+>(
+    rt: &R,
+    alloc: Global,
+    home: &H,
+    net: &Net,
+    inputs: &Inputs,
+    depths: &[u32],
+    queue: &TaskQueue<H, Task<S, H>>,
+    mut pass: TaskPass<H, Task<S, H>>,
+    workers: u32,
+    gate: &G,
+) -> Result<Outcome, AllocError>
+    requires typed { IsTyped (H.run home.now) }
+    requires run { IsRunOf net.now (H.run home.now) }
+    requires inputs { ((H.run home.now).inputs ≡ inputs.now.words) × (length inputs.now.words ≡ length net.now.chans) }
+    requires depths { ((H.run home.now).depths ≡ depths.now) × (length depths.now ≡ length net.now.chans) }
+    requires pass { IsTaskPass queue.now pass × HoldsNone (knows pass) }
+    requires tasks { ((knows pass).parts ≡ 1024) × ((knows pass).count ≡ length (H.run home.now).procs) × ((knows pass).run ≡ Some home.now) }
+    requires workers { workers ≤ 16 }
+    ensures { IfOk result (λ outcome. outcome ≡ outcome_of (H.run home.now) (final_cut (H.run home.now))) }
+{
+    for _ in rt.forever() {
+        let share = round(rt, alloc, queue, pass, workers, gate)?;
+        if !share.moved {
+            let tasks = share.parked.as_slice();
+            if let Some(over) = outcome(alloc, home, net, inputs, depths, tasks)? {
+                return Ok(over);
+            }
+        }
+        pass = put_back(rt, queue, share);
+    }
+    unreachable!()
+}
