@@ -5,7 +5,7 @@ mod shapes;
 mod values;
 mod words;
 
-pub use shapes::{alike, take_apart};
+pub use shapes::{alike, take_apart, take_first};
 pub use values::{
     binary_value, cast_value, condition, element, indexed, part_value, slice_value, unary_value,
     updated, value_at, word_of,

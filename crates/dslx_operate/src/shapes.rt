@@ -1,6 +1,6 @@
-ghost use Rattle.std.specs.Prelude.{◌≡◌, IfOk, MatchBool, Some, None, map};
+ghost use Rattle.std.specs.Prelude.{◌≡◌, IfOk, OnOk, MatchBool, Some, None, map, take, length};
 ghost use Rattle.dslx_meaning.specs.Lists.{pairwise};
-ghost use Rattle.dslx_core.specs.CoreValues.{is_like, taken_apart, apart_each};
+ghost use Rattle.dslx_core.specs.CoreValues.{is_like, taken_apart, apart_each, first_apart};
 
 use dslx_core::Shape;
 use std::alloc::{AllocError, Global};
@@ -43,9 +43,10 @@ pub fn take_apart(
     value: &Value,
     bound: &mut Vec<Value>,
 ) -> Result<bool, AllocError>
-    ensures { IfOk result (λ fits. MatchBool fits
+    ensures fits { IfOk result (λ fits. MatchBool fits
         (taken_apart shape.now value.now bound.old.items ≡ Some bound.new.items)
         (taken_apart shape.now value.now bound.old.items ≡ None)) }
+    ensures front { OnOk result (take (length bound.old.items) bound.new.items ≡ bound.old.items) }
 {
     match shape {
         Shape::Wild => Ok(true),
@@ -71,9 +72,10 @@ fn take_each(
     values: &[Value],
     bound: &mut Vec<Value>,
 ) -> Result<bool, AllocError>
-    ensures { IfOk result (λ fits. MatchBool fits
+    ensures fits { IfOk result (λ fits. MatchBool fits
         (apart_each (map taken_apart shapes.now) values.now bound.old.items ≡ Some bound.new.items)
         (apart_each (map taken_apart shapes.now) values.now bound.old.items ≡ None)) }
+    ensures front { OnOk result (take (length bound.old.items) bound.new.items ≡ bound.old.items) }
 {
     if shapes.len() != values.len() {
         return Ok(false);
@@ -84,4 +86,27 @@ fn take_each(
         }
     }
     Ok(true)
+}
+
+/// Binds the parts of a value behind those that are bound, by the first of these shapes that it fits, and says whether there
+/// is one. Where there is none, nothing more is bound.
+pub fn take_first(
+    alloc: Global,
+    shapes: &[Shape],
+    value: &Value,
+    bound: &mut Vec<Value>,
+) -> Result<bool, AllocError>
+    ensures fits { IfOk result (λ fits. MatchBool fits
+        (first_apart shapes.now value.now bound.old.items ≡ Some bound.new.items)
+        ((first_apart shapes.now value.now bound.old.items ≡ None) × (bound.new.items ≡ bound.old.items))) }
+    ensures front { OnOk result (take (length bound.old.items) bound.new.items ≡ bound.old.items) }
+{
+    let count = bound.len();
+    'shapes: for shape in shapes {
+        if take_apart(alloc, shape, value, bound)? {
+            return Ok(true);
+        }
+        bound.truncate(count);
+    }
+    Ok(false)
 }

@@ -1,4 +1,4 @@
-use Rattle.std.proofs.Common.{◌≡◌, length, drop, map}
+use Rattle.std.proofs.Common.{◌≡◌, length, drop, take, map}
 use Rattle.dslx_core.specs.CoreValues.{taken_apart, apart_each}
 use Rattle.dslx_operate.proofs.shapes.+apart.Given as goal
 
@@ -7,4 +7,5 @@ invariant-take_each-parts l =
     record {
       same_length : length l.shapes ≡ length l.values;
       same_rest : apart_each (map taken_apart (drop l.i l.shapes)) (drop l.i l.values) l.bound.items ≡ apart_each (map taken_apart l.shapes) l.values l.initial.bound.items;
+      front : take (length l.initial.bound.items) l.bound.items ≡ l.initial.bound.items;
     }
