@@ -69,11 +69,11 @@ literal_more xs ys (operand.Node i) h =
     let there = node_there xs i h in
     ap is_literal_node (before_more xs ys i there.0 there.1 ∙ sym there.1)
 
-literals_more : (xs ys : List Node) (os : List Operand) → list_all (is_there (length xs)) os ≡ true → all_literals (xs ++ ys) os ≡ all_literals xs os
+pub literals_more : (xs ys : List Node) (os : List Operand) → list_all (is_there (length xs)) os ≡ true → all_literals (xs ++ ys) os ≡ all_literals xs os
 literals_more xs ys [] h = refl
 literals_more xs ys (o ∷ os) h = list_all_still (is_there (length xs)) (names_literal (xs ++ ys)) (names_literal xs) (literal_more xs ys) (o ∷ os) h
 
-chooses_more : (xs ys : List Node) (os : List Operand) (a : Attributes) → list_all (is_there (length xs)) os ≡ true → chooses_one (xs ++ ys) os a ≡ chooses_one xs os a
+pub chooses_more : (xs ys : List Node) (os : List Operand) (a : Attributes) → list_all (is_there (length xs)) os ≡ true → chooses_one (xs ++ ys) os a ≡ chooses_one xs os a
 chooses_more xs ys os attributes.None h = refl
 chooses_more xs ys os (attributes.StartAndWidth start width) h = refl
 chooses_more xs ys os (attributes.Width width) h = refl

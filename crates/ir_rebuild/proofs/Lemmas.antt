@@ -112,3 +112,6 @@ fits_still = moving.fits_still
 
 pub pure_still : (p : Operand → Bool) (s : Value) (old new : List Value) → SameValues p (λ o. o) s old new → (n : Node) → list_all p (operands_in n) ≡ true → pure_value n s new ≡ pure_value n s old
 pure_still = moving.pure_still
+
+pub fits_moved : (p : Operand → Bool) (f : Operand → Operand) (old new : Types) → SameTypes p f old new → (channels : List Channel) (n : Node) → list_all p (operands_in n) ≡ true → node_fits channels new (moved_node f n) ≡ node_fits channels old n
+fits_moved = moving.fits_moved
