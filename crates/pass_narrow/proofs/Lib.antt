@@ -7,3 +7,5 @@ pub mod Rules
 pub mod Right
 pub mod Standing
 pub mod Lemmas
+pub mod NoSide
+pub mod NormalSides

@@ -34,11 +34,11 @@ use Rattle.pass_narrow.specs.Numbers.{number, IsNumber}
 use Rattle.pass_narrow.specs.Inner.Views.{element_by, element_in, element_at as tuple_at, element_of}
 use Rattle.pass_narrow.specs.Inner.RightSides as sides
 use Rattle.pass_narrow.specs.Inner.RightSides.{right_side_of}
-use Rattle.pass_narrow.specs.Inner.Meant.{IsRightSide, IsSliceOf}
+use Rattle.pass_narrow.specs.Inner.Meant.{IsRightSide, IsSliceOf, SaysOfSlice, slice_at}
 use Rattle.pass_narrow.proofs.Numbers.{width_is, stands_of, result_as}
 use Rattle.pass_narrow.proofs.Shown.{HasParts, IsWide, says_extension, SaysSlice, says_slice, says_operation, says_comparison, fitting, value_by_parts, is_named, named_value}
 use Rattle.pass_narrow.proofs.Views.{none_some, SaysConcat, says_concat, joined_of, own_word}
-use Rattle.pass_narrow.proofs.Rules.{SaysOfSlice, slice_at, slice_says, operation_says, comparison_says, extension_says}
+use Rattle.pass_narrow.proofs.Rules.{slice_says, operation_says, comparison_says, extension_says}
 
 -- ---- one number alone
 
@@ -129,7 +129,7 @@ right_of_slice state nodes n x start w (right.LongerSlice y from width) some mos
 right_of_slice state nodes n x start w (right.Operation o a b m) some most h = absurd h
 right_of_slice state nodes n x start w (right.Comparison o a b m) some most h = absurd h
 
-slice_of_node : (state : IrType) (nodes : List Node) (n : Node) (x : Operand) (start w : ℕ) → SaysSlice state nodes (length nodes) n x start w → IsSliceOf state nodes n (slice_at x start w w)
+pub slice_of_node : (state : IrType) (nodes : List Node) (n : Node) (x : Operand) (start w : ℕ) → SaysSlice state nodes (length nodes) n x start w → IsSliceOf state nodes n (slice_at x start w w)
 slice_of_node state nodes n x start w h = record {
   own = h.own;
   is = h.is;

@@ -23,7 +23,7 @@ use Rattle.pass_narrow.specs.Numbers.{number, IsNumber}
 use Rattle.pass_narrow.specs.Inner.Views.{width_in, extended, sliced, part_of}
 use Rattle.pass_narrow.specs.Inner.RightSides as sides
 use Rattle.pass_narrow.specs.Inner.RightSides.{narrower, least_width, is_unsigned, right_side_of}
-use Rattle.pass_narrow.specs.Inner.Meant.{IsResult, IsExtension, IsOperation, IsComparison, IsSliceOf, IsRightSide, extend_number, binary_number, compare_number, depth}
+use Rattle.pass_narrow.specs.Inner.Meant.{IsResult, SaysOfSlice, slice_at, IsExtension, IsOperation, IsComparison, IsSliceOf, IsRightSide, extend_number, binary_number, compare_number, depth}
 use Rattle.pass_narrow.proofs.Arithmetic.{sum_narrows, product_narrows, slice_twice, slice_past, slice_to_end, slice_whole, sign_of_zero, sign_same, sign_twice}
 use Rattle.pass_narrow.proofs.Numbers.{operand_bits, number_width, some_bits, stands_of, result_as}
 use Rattle.pass_narrow.proofs.Shown.{SaysExtension, SaysOperation, SaysComparison}
@@ -275,19 +275,6 @@ extension_says state nodes place n kind x w r built h e = whole (nat_eq (width_i
     whole false t g = longer (extended nodes kind x) refl g
 
 -- ---- slices
-
-abbrev pub slice_at : Operand → ℕ → ℕ → ℕ → LongSlice
-slice_at x start width total = record { operand = x; start = start; width = width; total = total }
-
--- what a right side says of a slice with zeros before it
-abbrev pub SaysOfSlice : IrType → List Node → Node → LongSlice → RightSide → Type 0
-SaysOfSlice state nodes n part (right.Operand o) = IsNumber state nodes part.operand part.width × IsResult state nodes n part.total (λ s values. number s values part.operand) × (part.operand ≡ o)
-SaysOfSlice state nodes n part right.Zero = IsResult state nodes n part.total (λ s values. 0)
-SaysOfSlice state nodes n part (right.Extension kind a) = ⊥
-SaysOfSlice state nodes n part (right.Slice y start) = IsSliceOf state nodes n (slice_at y start part.width part.total)
-SaysOfSlice state nodes n part (right.LongerSlice y start width) = IsSliceOf state nodes n (slice_at y start width part.total)
-SaysOfSlice state nodes n part (right.Operation o a b m) = ⊥
-SaysOfSlice state nodes n part (right.Comparison o a b m) = ⊥
 
 -- a slice of all bits
 whole_slice : (state : IrType) (nodes : List Node) (n : Node) (part : LongSlice) → IsSliceOf state nodes n part → width_in state nodes part.operand ≡ part.width → IsNumber state nodes part.operand part.width × IsResult state nodes n part.total (λ s values. number s values part.operand)

@@ -23,11 +23,11 @@ use Rattle.pass_narrow.specs.Narrowing.{IsLike, IsLikeLonger, IsStandIn, Narrows
 use Rattle.pass_narrow.specs.Inner.Views.{width_in, extended}
 use Rattle.pass_narrow.specs.Inner.RightSides.{slice_of, right_side_of}
 use Rattle.pass_narrow.specs.Nodes.{extension_node, slice_node, operation_node, comparison_node, zero_node}
-use Rattle.pass_narrow.specs.Inner.Meant.{IsResult, GivesNumber, HasLonger, IsExtension, IsOperation, IsComparison, IsZero, IsSliceOf, IsWhole, IsRightSide, binary_number, compare_number, extend_number, inner_part, depth}
+use Rattle.pass_narrow.specs.Inner.Meant.{IsResult, SaysOfSlice, GivesNumber, HasLonger, IsExtension, IsOperation, IsComparison, IsZero, IsSliceOf, IsWhole, IsRightSide, binary_number, compare_number, extend_number, inner_part, depth}
 use Rattle.pass_narrow.proofs.Numbers.{IsMade, number_width, number_later, values_earlier, extends_none, extends_twice, gives, gives_itself, like_of, like_longer, stands_of, result_as}
 use Rattle.pass_narrow.proofs.Made.{made_extension, made_slice, made_operation, made_comparison, made_zero}
 use Rattle.pass_narrow.proofs.Views.{shows_extension}
-use Rattle.pass_narrow.proofs.Rules.{same_number, StandsBefore, SaysOfSlice, slice_says}
+use Rattle.pass_narrow.proofs.Rules.{same_number, StandsBefore, slice_says}
 use Rattle.pass_narrow.proofs.Right.{right_says}
 
 -- ---- operands that are made longer
@@ -45,7 +45,7 @@ longer_made (Ok o) state old new a w n m e f = λ built h.
     (gives state old (extension_node extend.Zero a w) w (λ s values. number s values a) built (made_extension state old extend.Zero a h.own w built h.is h.longer h.most))))
 longer_made (Err x) state old new a w n m e f = tt
 
-longer_later : (state : IrType) (old new : List Node) (o : Operand) (w : ℕ) → Extends old new → HasLonger state old o w → HasLonger state new o w
+pub longer_later : (state : IrType) (old new : List Node) (o : Operand) (w : ℕ) → Extends old new → HasLonger state old o w → HasLonger state new o w
 longer_later state old new o w e h = record { own = h.own; is = number_later state old new o h.own e h.is; longer = h.longer; most = h.most }
 
 made_as : (state : IrType) (nodes : List Node) (n : Node) (w : ℕ) (f g : Value → List Value → ℕ) → ((s : Value) (values : List Value) → AreValues state nodes s values → f s values ≡ g s values) → IsMade state nodes n w f → IsMade state nodes n w g
@@ -195,3 +195,16 @@ pub right_narrows : {E : Type 0} (r : Result StandIn E) (state : IrType) (old ne
 right_narrows (Ok x) state old new seen n side total e t built placed h f =
     f n (subst (λ k. IsRightSide state old n k side) (sym t) (right_says state old n side built placed (ap (λ ns. right_side_of state ns n) (sym e) ∙ sym h)))
 right_narrows (Err x) state old new seen n side total e t built placed h f = tt
+
+pub zero_part : {E : Type 0} (r : Result StandIn E) (nodes : List Node) (side : RightSide) (part : LongSlice) → side ≡ right.Zero → IfOk r (λ x. x ≡ stand_in.Node (zero_node part.total)) → IfOk r (λ x. (state : IrType) (n : Node) → AreBuilt state nodes → IsSliceOf state nodes n part → SaysOfSlice state nodes n part side → IsStandIn state nodes n x)
+zero_part (Ok x) nodes side part e f = λ state n built h says.
+    let some = h.some in
+    let longer = h.longer in
+    let result : IsResult state nodes n part.total (λ s values. 0) = subst (SaysOfSlice state nodes n part) e says in
+    subst (IsStandIn state nodes n) (sym f)
+    (like_of state nodes nodes n (zero_node part.total) part.total (λ s values. 0) (extends_none nodes) result (made_zero state nodes part.total (omega (arith, some, longer)) h.most))
+zero_part (Err x) nodes side part e f = tt
+
+pub some_part : {E : Type 0} (r : Result StandIn E) (state : IrType) (nodes : List Node) (side : RightSide) (part : LongSlice) → AreBuilt state nodes → Some side ≡ slice_of state nodes part.start part.width part.operand → IfOk r (λ x. (state : IrType) (n : Node) → AreBuilt state nodes → IsSliceOf state nodes n part → SaysOfSlice state nodes n part side → IsStandIn state nodes n x) → IfOk r (λ x. (n : Node) → IsSliceOf state nodes n part → IsStandIn state nodes n x)
+some_part (Ok x) state nodes side part built e f = λ n h. f state n built h ((slice_says state nodes part side built (sym e)).1 n h)
+some_part (Err x) state nodes side part built e f = tt

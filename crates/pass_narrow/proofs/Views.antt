@@ -62,7 +62,7 @@ extension_is : (kind : Extend) (o : Op) (os : List Operand) (a : Operand) → ex
 extension_is kind (op.Extend own) os a e = kind_is kind own os a e
 extension_is kind o os a e = absurd (cc)
 
-extension_parts : (kind : Extend) (n : Node) (t : Attributes) (a : Operand) → n.attributes ≡ t → extension_in kind n.op n.operands t ≡ Some a → (w : ℕ) × HasParts n (op.Extend kind) (a ∷ []) (attributes.NewBitCount w)
+pub extension_parts : (kind : Extend) (n : Node) (t : Attributes) (a : Operand) → n.attributes ≡ t → extension_in kind n.op n.operands t ≡ Some a → (w : ℕ) × HasParts n (op.Extend kind) (a ∷ []) (attributes.NewBitCount w)
 extension_parts kind n attributes.None a h e = absurd (cc)
 extension_parts kind n (attributes.StartAndWidth start width) a h e = absurd (cc)
 extension_parts kind n (attributes.Width width) a h e = absurd (cc)

@@ -1,3 +1,4 @@
 pub mod Views
 pub mod RightSides
 pub mod Meant
+pub mod Bare

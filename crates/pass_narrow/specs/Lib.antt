@@ -4,5 +4,7 @@ pub mod Numbers
 pub mod Nodes
 -- what narrowing promises of what stands for a node
 pub mod Narrowing
+-- that what stands for a node has no left side behind normal nodes
+pub mod KeepsNormal
 -- what functions of this crate promise to one another, and nobody else needs
 pub mod Inner

@@ -1,6 +1,6 @@
 //! What stands for a node.
 
-ghost use Rattle.std.specs.Prelude.{◌≡◌, ◌+◌, ◌<◌, ◌≤◌, true, List, length, IfOk, IfSome};
+ghost use Rattle.std.specs.Prelude.{◌≡◌, ◌+◌, ◌<◌, ◌≤◌, max, nat_lt, true, List, length, None, IfOk, IfSome, MatchOption};
 ghost use Rattle.ir_tree.specs.declared.ir_type.IrType.{IrType};
 ghost use Rattle.ir_tree.specs.declared.node.Node.{Node};
 ghost use Rattle.ir_rebuild.specs.Built.{AreBuilt, IsPlaced, is_plain_op};
@@ -8,7 +8,11 @@ ghost use Rattle.pass_narrow.specs.declared.stand_in.StandIn.TheVariants as stan
 ghost use Rattle.pass_narrow.specs.Numbers.{number};
 ghost use Rattle.pass_narrow.specs.Narrowing.{IsStandIn, Narrows};
 ghost use Rattle.pass_narrow.specs.Nodes.{zero_node, extension_node};
-ghost use Rattle.pass_narrow.specs.Inner.Meant.{GivesNumber, IsRightSide, IsOperation, IsComparison, IsSliceOf, IsWhole, HasLonger, inner_part, depth};
+ghost use Rattle.pass_narrow.specs.Inner.Meant.{GivesNumber, IsRightSide, IsOperation, IsComparison, IsSliceOf, SaysOfSlice, IsLast, IsWhole, HasLonger, inner_part, depth};
+ghost use Rattle.ir_normal.specs.Normal.{AreNormal};
+ghost use Rattle.pass_narrow.specs.KeepsNormal.{HasNoLeftSide, KeepsNormal};
+ghost use Rattle.pass_narrow.specs.Inner.RightSides.{slice_of};
+ghost use Rattle.pass_narrow.specs.Inner.Bare.{IsBare, AreBare, IsLonger, IsNormalSide, row_test};
 
 use crate::left_side::{RightSide, right_side, slice_of};
 use crate::nodes::{comparison, extension, operation, slice, zero};
@@ -50,6 +54,7 @@ pub fn narrowed(
     requires placed { IsPlaced state.now nodes.old.items (length nodes.old.items) node }
     requires plain { is_plain_op node.op ≡ true }
     ensures narrows { IfOk result (λ x. Narrows state.now nodes.old.items nodes.new.items node x) }
+    ensures normal { IfOk result (λ x. KeepsNormal state.now nodes.old.items nodes.new.items node x) }
     ensures few { IfOk result (λ _. length nodes.new.items ≤ length nodes.old.items + 2) }
 {
     match right_side(state, nodes.as_slice(), &node) {
@@ -68,6 +73,7 @@ fn made(
 ) -> Result<StandIn, AllocError>
     requires { AreBuilt state.now nodes.old.items }
     ensures narrows { IfOk result (λ x. (n : Node) → IsRightSide state.now nodes.old.items n total right → Narrows state.now nodes.old.items nodes.new.items n x) }
+    ensures normal { IfOk result (λ x. (n : Node) → IsRightSide state.now nodes.old.items n total right → (AreNormal state.now nodes.old.items → IsNormalSide state.now nodes.old.items total right) → KeepsNormal state.now nodes.old.items nodes.new.items n x) }
     ensures few { IfOk result (λ _. length nodes.new.items ≤ length nodes.old.items + 2) }
 {
     match right {
@@ -114,6 +120,7 @@ fn operation_of(
 ) -> Result<StandIn, AllocError>
     requires { AreBuilt state.now nodes.old.items }
     ensures narrows { IfOk result (λ x. (n : Node) → IsOperation state.now nodes.old.items n op a b least total → Narrows state.now nodes.old.items nodes.new.items n x) }
+    ensures normal { IfOk result (λ x. (n : Node) → IsOperation state.now nodes.old.items n op a b least total → AreBare state.now nodes.old.items a b (row_test op least) → KeepsNormal state.now nodes.old.items nodes.new.items n x) }
     ensures few { IfOk result (λ _. length nodes.new.items ≤ length nodes.old.items + 2) }
 {
     let a = longer(alloc, state, nodes, a, least)?;
@@ -133,6 +140,7 @@ fn comparison_of(
 ) -> Result<StandIn, AllocError>
     requires { AreBuilt state.now nodes.old.items }
     ensures narrows { IfOk result (λ x. (n : Node) → IsComparison state.now nodes.old.items n op a b least → Narrows state.now nodes.old.items nodes.new.items n x) }
+    ensures normal { IfOk result (λ x. (n : Node) → IsComparison state.now nodes.old.items n op a b least → AreBare state.now nodes.old.items a b (λ p q. nat_lt (max p q) least) → KeepsNormal state.now nodes.old.items nodes.new.items n x) }
     ensures few { IfOk result (λ _. length nodes.new.items ≤ length nodes.old.items + 2) }
 {
     let a = longer(alloc, state, nodes, a, least)?;
@@ -149,6 +157,7 @@ fn longer(
     width: u128,
 ) -> Result<Operand, AllocError>
     ensures gives { IfOk result (λ o. AreBuilt state.now nodes.old.items → HasLonger state.now nodes.old.items operand width → GivesNumber state.now nodes.old.items nodes.new.items o width (λ s values. number s values operand)) }
+    ensures normal { IfOk result (λ o. AreBuilt state.now nodes.old.items → AreNormal state.now nodes.old.items → HasLonger state.now nodes.old.items operand width → IsBare state.now nodes.old.items operand → IsLonger state.now nodes.new.items operand o) }
     ensures few { IfOk result (λ _. length nodes.new.items ≤ length nodes.old.items + 1) }
 {
     if width_of(state, nodes.as_slice(), operand) == width {
@@ -169,7 +178,8 @@ fn slice_within(
     total: u128,
 ) -> Result<StandIn, AllocError>
     requires { AreBuilt state.now nodes.now }
-    ensures { IfOk result (λ x. (n : Node) → IsSliceOf state.now nodes.now n (record { operand = operand; start = start; width = width; total = total }) → IsStandIn state.now nodes.now n x) }
+    ensures stands { IfOk result (λ x. (n : Node) → IsSliceOf state.now nodes.now n (record { operand = operand; start = start; width = width; total = total }) → IsStandIn state.now nodes.now n x) }
+    ensures normal { IfOk result (λ x. (n : Node) → IsSliceOf state.now nodes.now n (record { operand = operand; start = start; width = width; total = total }) → AreNormal state.now nodes.now → HasNoLeftSide state.now nodes.now n x) }
 {
     let part = LongSlice {
         operand,
@@ -188,7 +198,8 @@ fn narrowed_slice(
     part: LongSlice,
 ) -> Result<StandIn, AllocError>
     requires { AreBuilt state.now nodes.now }
-    ensures { IfOk result (λ x. (n : Node) → IsSliceOf state.now nodes.now n part → IsStandIn state.now nodes.now n x) }
+    ensures stands { IfOk result (λ x. (n : Node) → IsSliceOf state.now nodes.now n part → IsStandIn state.now nodes.now n x) }
+    ensures normal { IfOk result (λ x. (n : Node) → IsSliceOf state.now nodes.now n part → AreNormal state.now nodes.now → HasNoLeftSide state.now nodes.now n x) }
 {
     let mut within = part;
     'parts: while let Some(inner) = inner_slice(state, nodes, within) {
@@ -202,6 +213,7 @@ fn inner_slice(state: &IrType, nodes: &[Node], part: LongSlice) -> Option<LongSl
     requires { AreBuilt state.now nodes.now }
     ensures before { IfSome result (λ inner. depth inner.operand < depth part.operand) }
     ensures within { IfSome result (λ inner. (n : Node) → IsSliceOf state.now nodes.now n part → IsSliceOf state.now nodes.now n inner) }
+    ensures last { MatchOption result (IsLast state.now nodes.now part) (λ _. Unit {0}) }
 {
     match slice_of(state, nodes, part.start, part.width, part.operand) {
         None => None,
@@ -238,18 +250,40 @@ fn last_slice(
     part: LongSlice,
 ) -> Result<StandIn, AllocError>
     requires { AreBuilt state.now nodes.now }
-    ensures { IfOk result (λ x. (n : Node) → IsSliceOf state.now nodes.now n part → IsStandIn state.now nodes.now n x) }
+    ensures stands { IfOk result (λ x. (n : Node) → IsSliceOf state.now nodes.now n part → IsStandIn state.now nodes.now n x) }
+    ensures normal { IfOk result (λ x. (n : Node) → IsLast state.now nodes.now part → IsSliceOf state.now nodes.now n part → AreNormal state.now nodes.now → HasNoLeftSide state.now nodes.now n x) }
 {
     match slice_of(state, nodes, part.start, part.width, part.operand) {
-        Some(RightSide::Operand(_)) => whole(alloc, nodes, part.operand, part.width, part.total),
-        Some(RightSide::Zero) => zero_of(alloc, part.total),
-        _ => slice_itself(alloc, part),
+        None => slice_itself(alloc, part),
+        Some(right) => last_part(alloc, nodes, right, part),
+    }
+}
+
+/// What stands for a slice that is an operand, or nothing but zeros.
+fn last_part(
+    alloc: Global,
+    nodes: &[Node],
+    right: RightSide,
+    part: LongSlice,
+) -> Result<StandIn, AllocError>
+    ensures stands { IfOk result (λ x. (state : IrType) (n : Node) → AreBuilt state nodes.now → IsSliceOf state nodes.now n part → SaysOfSlice state nodes.now n part right → IsStandIn state nodes.now n x) }
+    ensures normal { IfOk result (λ x. (state : IrType) (n : Node) → AreBuilt state nodes.now → IsSliceOf state nodes.now n part → SaysOfSlice state nodes.now n part right → inner_part right part ≡ None → AreNormal state nodes.now → HasNoLeftSide state nodes.now n x) }
+{
+    match right {
+        RightSide::Operand(_) => whole(alloc, nodes, part.operand, part.width, part.total),
+        RightSide::Zero => zero_of(alloc, part.total),
+        RightSide::Extension(_, _) => slice_itself(alloc, part),
+        RightSide::Slice(_, _) => slice_itself(alloc, part),
+        RightSide::LongerSlice(_, _, _) => slice_itself(alloc, part),
+        RightSide::Operation(_, _, _, _) => slice_itself(alloc, part),
+        RightSide::Comparison(_, _, _, _) => slice_itself(alloc, part),
     }
 }
 
 /// The slice, with zeros before it.
 fn slice_itself(alloc: Global, part: LongSlice) -> Result<StandIn, AllocError>
-    ensures { IfOk result (λ x. (state : IrType) (nodes : List Node) (n : Node) → IsSliceOf state nodes n part → IsStandIn state nodes n x) }
+    ensures stands { IfOk result (λ x. (state : IrType) (nodes : List Node) (n : Node) → IsSliceOf state nodes n part → IsStandIn state nodes n x) }
+    ensures normal { IfOk result (λ x. (state : IrType) (nodes : List Node) (n : Node) → AreBuilt state nodes → IsSliceOf state nodes n part → slice_of state nodes part.start part.width part.operand ≡ None → HasNoLeftSide state nodes n x) }
 {
     let node = slice(alloc, part.operand, part.start, part.width)?;
     if part.width == part.total {
@@ -267,7 +301,8 @@ fn whole(
     width: u128,
     total: u128,
 ) -> Result<StandIn, AllocError>
-    ensures { IfOk result (λ x. (state : IrType) (n : Node) → AreBuilt state nodes.now → IsWhole state nodes.now n operand width total → IsStandIn state nodes.now n x) }
+    ensures stands { IfOk result (λ x. (state : IrType) (n : Node) → AreBuilt state nodes.now → IsWhole state nodes.now n operand width total → IsStandIn state nodes.now n x) }
+    ensures normal { IfOk result (λ x. (state : IrType) (n : Node) → AreBuilt state nodes.now → IsWhole state nodes.now n operand width total → AreNormal state nodes.now → HasNoLeftSide state nodes.now n x) }
 {
     if width == total {
         return Ok(StandIn::Operand(operand));

@@ -18,6 +18,7 @@ use Rattle.pass_narrow.specs.declared.left_side.RightSide.{RightSide}
 use Rattle.pass_narrow.specs.declared.left_side.RightSide.TheVariants as right
 use Rattle.pass_narrow.specs.declared.stand_in.LongSlice.{LongSlice}
 use Rattle.pass_narrow.specs.Numbers.{number, IsNumber}
+use Rattle.pass_narrow.specs.Inner.RightSides.{slice_of}
 
 -- ---- what operations give for numbers of so many bits
 
@@ -119,3 +120,20 @@ inner_part (right.Slice x start) part = Some (record { operand = x; start = star
 inner_part (right.LongerSlice x start width) part = Some (record { operand = x; start = start; width = width; total = part.total })
 inner_part (right.Operation o a b least) part = None
 inner_part (right.Comparison o a b least) part = None
+
+abbrev pub slice_at : Operand → ℕ → ℕ → ℕ → LongSlice
+slice_at x start width total = record { operand = x; start = start; width = width; total = total }
+
+-- what a right side says of a slice with zeros before it
+abbrev pub SaysOfSlice : IrType → List Node → Node → LongSlice → RightSide → Type 0
+SaysOfSlice state nodes n part (right.Operand o) = IsNumber state nodes part.operand part.width × IsResult state nodes n part.total (λ s values. number s values part.operand) × (part.operand ≡ o)
+SaysOfSlice state nodes n part right.Zero = IsResult state nodes n part.total (λ s values. 0)
+SaysOfSlice state nodes n part (right.Extension kind a) = ⊥
+SaysOfSlice state nodes n part (right.Slice y start) = IsSliceOf state nodes n (slice_at y start part.width part.total)
+SaysOfSlice state nodes n part (right.LongerSlice y start width) = IsSliceOf state nodes n (slice_at y start width part.total)
+SaysOfSlice state nodes n part (right.Operation o a b m) = ⊥
+SaysOfSlice state nodes n part (right.Comparison o a b m) = ⊥
+
+-- no slice is inside this one
+abbrev pub IsLast : IrType → List Node → LongSlice → Type 0
+IsLast state nodes part = (r : RightSide) → slice_of state nodes part.start part.width part.operand ≡ Some r → inner_part r part ≡ None

@@ -1,8 +1,13 @@
-use Rattle.std.proofs.Common.{IfOk, sym, subst}
+use Rattle.std.proofs.Common.{IfOk, max, sym, subst}
+use Rattle.std.specs.Prelude.{nat_lt}
 use Rattle.ir_tree.specs.declared.node.Node.{Node}
 use Rattle.pass_narrow.specs.Narrowing.{Narrows}
-use Rattle.pass_narrow.specs.Inner.Meant.{IsRightSide}
+use Rattle.ir_normal.specs.Normal.{AreNormal}
+use Rattle.pass_narrow.specs.KeepsNormal.{KeepsNormal}
+use Rattle.pass_narrow.specs.Inner.Meant.{IsRightSide, IsOperation, IsComparison}
+use Rattle.pass_narrow.specs.Inner.Bare.{AreBare, IsNormalSide, row_test}
 use Rattle.pass_narrow.proofs.Standing.{zero_stands, extension_stands}
+use Rattle.pass_narrow.proofs.NormalSides.{pair_keeps}
 use Rattle.pass_narrow.proofs.stand_in.made.Goals as goal
 
 pub returns-in-Zero-clause-narrows : goal.returns-in-Zero-clause-narrows
@@ -28,3 +33,21 @@ returns-in-Comparison-clause-narrows c =
     let nodes = c.args.nodes.now.items in
     subst (λ r. IfOk c.comparison_of.result (λ x. (n : Node) → IsRightSide c.args.state.now nodes n c.args.total r → Narrows c.args.state.now nodes c.comparison_of.new.nodes.items n x)) (sym c.in-Comparison.is)
     c.comparison_of.ensures.narrows
+
+pub returns-in-Operation-clause-normal : goal.returns-in-Operation-clause-normal
+returns-in-Operation-clause-normal c =
+    let state = c.args.state.now in
+    let nodes = c.args.nodes.now.items in
+    let new = c.operation_of.new.nodes.items in
+    let p = c.in-Operation in
+    subst (λ r. IfOk c.operation_of.result (λ x. (n : Node) → IsRightSide state nodes n c.args.total r → (AreNormal state nodes → IsNormalSide state nodes c.args.total r) → KeepsNormal state nodes new n x)) (sym c.in-Operation.is)
+    (pair_keeps c.operation_of.result state nodes new (λ n. IsOperation state nodes n p.op p.a p.b p.least c.args.total) (AreBare state nodes p.a p.b (row_test p.op p.least)) c.operation_of.ensures.normal)
+
+pub returns-in-Comparison-clause-normal : goal.returns-in-Comparison-clause-normal
+returns-in-Comparison-clause-normal c =
+    let state = c.args.state.now in
+    let nodes = c.args.nodes.now.items in
+    let new = c.comparison_of.new.nodes.items in
+    let p = c.in-Comparison in
+    subst (λ r. IfOk c.comparison_of.result (λ x. (n : Node) → IsRightSide state nodes n c.args.total r → (AreNormal state nodes → IsNormalSide state nodes c.args.total r) → KeepsNormal state nodes new n x)) (sym c.in-Comparison.is)
+    (pair_keeps c.comparison_of.result state nodes new (λ n. IsComparison state nodes n p.op p.a p.b p.least) (AreBare state nodes p.a p.b (λ u v. nat_lt (max u v) p.least)) c.comparison_of.ensures.normal)
