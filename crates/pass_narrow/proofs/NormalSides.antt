@@ -38,7 +38,7 @@ use Rattle.pass_narrow.specs.KeepsNormal.{IsNarrow, IsNarrowInside, HasNoLeftSid
 use Rattle.pass_narrow.specs.Inner.Views.{width_at, width_in, extension_at, extended, element_of}
 use Rattle.pass_narrow.specs.Inner.RightSides as sides
 use Rattle.pass_narrow.specs.Inner.RightSides.{narrower, least_width, is_unsigned, slice_of, right_side_of}
-use Rattle.pass_narrow.specs.Inner.Meant.{GivesNumber, HasLonger, IsOperation, IsComparison, IsSliceOf, IsWhole, IsRightSide, IsLast, SaysOfSlice, slice_at, inner_part}
+use Rattle.pass_narrow.specs.Inner.Meant.{GivesNumber, HasLonger, IsOperation, IsComparison, IsSliceOf, IsWhole, IsRightSide, IsInnermost, SaysOfSlice, slice_at, inner_part}
 use Rattle.pass_narrow.specs.Inner.Bare.{row_test, IsBare, AreBare, IsNormalSide, IsLonger}
 use Rattle.pass_narrow.proofs.Numbers.{width_is, number_width, number_later, extends_twice}
 use Rattle.pass_narrow.proofs.Shown.{says_extension, says_slice}
@@ -444,7 +444,7 @@ right_keeps (Ok x) state old new seen n side total e t built placed h f =
     (λ normal. subst (λ k. IsNormalSide state old k side) (sym t) (normal_side state old n side built placed found normal))
 right_keeps (Err x) state old new seen n side total e t built placed h f = tt
 
-pub some_part_normal : {E : Type 0} (r : Result StandIn E) (state : IrType) (nodes : List Node) (side : RightSide) (part : LongSlice) → AreBuilt state nodes → Some side ≡ slice_of state nodes part.start part.width part.operand → IfOk r (λ x. (state : IrType) (n : Node) → AreBuilt state nodes → IsSliceOf state nodes n part → SaysOfSlice state nodes n part side → inner_part side part ≡ None → AreNormal state nodes → HasNoLeftSide state nodes n x) → IfOk r (λ x. (n : Node) → IsLast state nodes part → IsSliceOf state nodes n part → AreNormal state nodes → HasNoLeftSide state nodes n x)
+pub some_part_normal : {E : Type 0} (r : Result StandIn E) (state : IrType) (nodes : List Node) (side : RightSide) (part : LongSlice) → AreBuilt state nodes → Some side ≡ slice_of state nodes part.start part.width part.operand → IfOk r (λ x. (state : IrType) (n : Node) → AreBuilt state nodes → IsSliceOf state nodes n part → SaysOfSlice state nodes n part side → inner_part side part ≡ None → AreNormal state nodes → HasNoLeftSide state nodes n x) → IfOk r (λ x. (n : Node) → IsInnermost state nodes part → IsSliceOf state nodes n part → AreNormal state nodes → HasNoLeftSide state nodes n x)
 some_part_normal (Ok x) state nodes side part built e f = λ n last h normal. f state n built h ((slice_says state nodes part side built (sym e)).1 n h) (last side (sym e)) normal
 some_part_normal (Err x) state nodes side part built e f = tt
 

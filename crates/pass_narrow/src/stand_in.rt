@@ -8,7 +8,7 @@ ghost use Rattle.pass_narrow.specs.declared.stand_in.StandIn.TheVariants as stan
 ghost use Rattle.pass_narrow.specs.Numbers.{number};
 ghost use Rattle.pass_narrow.specs.Narrowing.{IsStandIn, Narrows};
 ghost use Rattle.pass_narrow.specs.Nodes.{zero_node, extension_node};
-ghost use Rattle.pass_narrow.specs.Inner.Meant.{GivesNumber, IsRightSide, IsOperation, IsComparison, IsSliceOf, SaysOfSlice, IsLast, IsWhole, HasLonger, inner_part, depth};
+ghost use Rattle.pass_narrow.specs.Inner.Meant.{GivesNumber, IsRightSide, IsOperation, IsComparison, IsSliceOf, SaysOfSlice, IsInnermost, IsWhole, HasLonger, inner_part, depth};
 ghost use Rattle.ir_normal.specs.Normal.{AreNormal};
 ghost use Rattle.pass_narrow.specs.KeepsNormal.{HasNoLeftSide, KeepsNormal};
 ghost use Rattle.pass_narrow.specs.Inner.RightSides.{slice_of};
@@ -213,7 +213,7 @@ fn inner_slice(state: &IrType, nodes: &[Node], part: LongSlice) -> Option<LongSl
     requires { AreBuilt state.now nodes.now }
     ensures before { IfSome result (λ inner. depth inner.operand < depth part.operand) }
     ensures within { IfSome result (λ inner. (n : Node) → IsSliceOf state.now nodes.now n part → IsSliceOf state.now nodes.now n inner) }
-    ensures last { MatchOption result (IsLast state.now nodes.now part) (λ _. Unit {0}) }
+    ensures last { MatchOption result (IsInnermost state.now nodes.now part) (λ _. Unit {0}) }
 {
     match slice_of(state, nodes, part.start, part.width, part.operand) {
         None => None,
@@ -251,7 +251,7 @@ fn last_slice(
 ) -> Result<StandIn, AllocError>
     requires { AreBuilt state.now nodes.now }
     ensures stands { IfOk result (λ x. (n : Node) → IsSliceOf state.now nodes.now n part → IsStandIn state.now nodes.now n x) }
-    ensures normal { IfOk result (λ x. (n : Node) → IsLast state.now nodes.now part → IsSliceOf state.now nodes.now n part → AreNormal state.now nodes.now → HasNoLeftSide state.now nodes.now n x) }
+    ensures normal { IfOk result (λ x. (n : Node) → IsInnermost state.now nodes.now part → IsSliceOf state.now nodes.now n part → AreNormal state.now nodes.now → HasNoLeftSide state.now nodes.now n x) }
 {
     match slice_of(state, nodes, part.start, part.width, part.operand) {
         None => slice_itself(alloc, part),

@@ -135,5 +135,5 @@ SaysOfSlice state nodes n part (right.Operation o a b m) = ⊥
 SaysOfSlice state nodes n part (right.Comparison o a b m) = ⊥
 
 -- no slice is inside this one
-abbrev pub IsLast : IrType → List Node → LongSlice → Type 0
-IsLast state nodes part = (r : RightSide) → slice_of state nodes part.start part.width part.operand ≡ Some r → inner_part r part ≡ None
+abbrev pub IsInnermost : IrType → List Node → LongSlice → Type 0
+IsInnermost state nodes part = (r : RightSide) → slice_of state nodes part.start part.width part.operand ≡ Some r → inner_part r part ≡ None
