@@ -1,0 +1,6 @@
+pub mod Kept
+pub mod Moved
+pub mod Walk
+pub mod Selects
+pub mod Simplifying
+pub mod Counting

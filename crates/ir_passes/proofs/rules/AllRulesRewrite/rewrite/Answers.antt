@@ -1,0 +1,18 @@
+use Rattle.std.proofs.Common.{◌≤◌, ◌+◌, length, sym, ap, ◌∙◌, arith}
+use Rattle.pass_select.specs.Choices.{choice_of}
+use Rattle.pass_select.proofs.Lemmas.{choice_rewrites}
+use Rattle.ir_passes.proofs.Selects.{undecided}
+use Rattle.ir_passes.proofs.rules.AllRulesRewrite.rewrite.Goals as goal
+
+pub returns-in-Some-clause-rewrites : goal.returns-in-Some-clause-rewrites
+returns-in-Some-clause-rewrites c =
+    choice_rewrites c.args.state.now c.args.nodes.now.items c.args.node c.in-Some.operand c.requires.built c.requires.placed
+    (ap (λ ns. choice_of ns c.args.node) (sym c.as_slice.ensures.value) ∙ sym c.in-Some.ensures)
+
+pub returns-in-Some-clause-gives : goal.returns-in-Some-clause-gives
+returns-in-Some-clause-gives c = record { normal = λ h. h; few = omega arith }
+
+pub simplified-requires-clause-undecided : goal.simplified-requires-clause-undecided
+simplified-requires-clause-undecided c =
+    undecided c.args.state.now c.args.nodes.now.items c.args.node c.requires.built c.requires.placed
+    (ap (λ ns. choice_of ns c.args.node) (sym c.as_slice.ensures.value) ∙ sym c.in-None.ensures)

@@ -1,0 +1,20 @@
+ghost use Rattle.std.specs.Prelude.{IfOk};
+ghost use Rattle.ir_verify.specs.Verified.{IsVerified};
+ghost use Rattle.ir_passes.specs.Optimised.{IsOptimised};
+
+use crate::rules::AllRules;
+use ir_rebuild::rebuild;
+use ir_same::same_behavior_is_an_equivalence;
+use ir_tree::Package;
+use std::alloc::{AllocError, Global};
+
+/// The package in its normal form: it means the same, and no proc has more than four times its nodes.
+pub fn optimise(alloc: Global, ir: Package) -> Result<Package, AllocError>
+    requires { IsVerified ir }
+    ensures { IfOk result (λ new. IsOptimised ir new) }
+{
+    same_behavior_is_an_equivalence();
+    let rewritten = rebuild(alloc, &AllRules, ir)?;
+    let new = pass_dead::run(alloc, rewritten)?;
+    Ok(new)
+}
