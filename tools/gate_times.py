@@ -90,7 +90,15 @@ def rows_of_page(text):
     return {crate: (mark, [int(cell) for cell in times]) for (crate, _, mark), times in named}
 
 
+def crates():
+    """The names of the crates that the repository lists."""
+    lines = (line.split(':')[0].split() for line in open('crates.txt', encoding='utf-8') if not line.startswith('#'))
+    return [words[0] for words in lines if words]
+
+
 def page(clock, rows):
+    rows = {crate: rows[crate] for crate in crates() if crate in rows}
+    missing = [crate for crate in crates() if crate not in rows]
     ordered = [((crate + ' ' + mark).strip(), times) for crate, (mark, times) in rows.items()]
     ordered.sort(key=lambda row: -sum(row[1]))
     ordered.append(('all', [sum(times[i] for _, times in rows.values()) for i in range(len(KINDS))]))
@@ -100,12 +108,14 @@ def page(clock, rows):
            'much again; all other rows are from an otherwise idle machine.', '', clock, '',
            '| crate | check | tests | edits | all |', '|---|---|---|---|---|']
     out += ['| %s | %d | %d | %d | %d |' % (crate, *times, sum(times)) for crate, times in ordered]
+    if missing:
+        out += ['', 'Not measured yet: %s.' % ', '.join('`%s`' % crate for crate in missing)]
     return '\n'.join(out) + '\n'
 
 
 def clock_of_page(text):
     """The line of a page that says how long its run of all crates took."""
-    return next(line for line in text.splitlines() if line.endswith(' by the clock.'))
+    return next(line for line in text.splitlines() if ' by the clock' in line)
 
 
 def main():
