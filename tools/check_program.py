@@ -87,6 +87,33 @@ CHAIN_SCHEDULE = """proc Chain stages 3 interval 1
   add.8 2
   send.9 2
 """
+# A package that adds two words in 32 bits, of which nine suffice, and its nodes from the first that changes.
+WIDE_HEAD = """package W
+chan a((bits[8], bits[8]), id=0, kind=input)
+chan b(bits[32], id=1, kind=output)
+proc P(st: bits[1], init=0) {
+  after_all.1: token = after_all(id=1)
+  receive.2: (token, (bits[8], bits[8])) = receive(after_all.1, channel=a, id=2)
+  tuple_index.3: token = tuple_index(receive.2, index=0, id=3)
+  tuple_index.4: (bits[8], bits[8]) = tuple_index(receive.2, index=1, id=4)
+  tuple_index.5: bits[8] = tuple_index(tuple_index.4, index=0, id=5)
+  tuple_index.6: bits[8] = tuple_index(tuple_index.4, index=1, id=6)
+"""
+WIDE = WIDE_HEAD + """  zero_ext.7: bits[32] = zero_ext(tuple_index.5, new_bit_count=32, id=7)
+  zero_ext.8: bits[32] = zero_ext(tuple_index.6, new_bit_count=32, id=8)
+  add.9: bits[32] = add(zero_ext.7, zero_ext.8, id=9)
+  send.10: token = send(tuple_index.3, add.9, channel=b, id=10)
+  next(st)
+}
+"""
+NARROW = WIDE_HEAD + """  zero_ext.7: bits[9] = zero_ext(tuple_index.5, new_bit_count=9, id=7)
+  zero_ext.8: bits[9] = zero_ext(tuple_index.6, new_bit_count=9, id=8)
+  add.9: bits[9] = add(zero_ext.7, zero_ext.8, id=9)
+  zero_ext.10: bits[32] = zero_ext(add.9, new_bit_count=32, id=10)
+  send.11: token = send(tuple_index.3, zero_ext.10, channel=b, id=11)
+  next(st)
+}
+"""
 CHAIN_SLOW = "infeasible: Chain: add.6 takes 100 ps, clock 99\n"
 CHAIN_LONG = "infeasible: Chain: add.8 needs 3 stages, given 2\n"
 ASK_RARE = "infeasible: Ask: interval 2, given 1\n"
@@ -145,6 +172,13 @@ CASES = [
     ("a schedule of a design, which comes later", "schedule inc.x --clock 100", "", USAGE, 2),
     ("a schedule of no package", "schedule inc.x --clock 100 --from ir", "", "inc.x: syntax at 18\n", 6),
     ("a schedule of no file", "schedule missing.ir --clock 100 --from ir", "", "cannot read missing.ir\n", 4),
+    ("an optimised package", "opt wide.ir --from ir", NARROW, "", 0),
+    ("a package in which nothing is to do", "opt --from ir chain.ir", CHAIN, "", 0),
+    ("an optimised design, which comes later", "opt inc.x", "", USAGE, 2),
+    ("an optimised package of two files", "opt wide.ir chain.ir --from ir", "", USAGE, 2),
+    ("an optimised package at fault", "opt p.ir --from ir", "", "p.ir: rule 54 at 112..179\n", 7),
+    ("an optimised file that is no package", "opt inc.x --from ir", "", "inc.x: syntax at 18\n", 6),
+    ("an optimised package of no file", "opt missing.ir --from ir", "", "cannot read missing.ir\n", 4),
     ("no such file", "check missing.x", "", "cannot read missing.x\n", 4),
     ("no such second file", "run inc.x missing.txt --activations 5", "", "cannot read missing.txt\n", 4),
     ("no such first file", "run missing.x in.txt --activations 5", "", "cannot read missing.x\n", 4),
@@ -324,7 +358,7 @@ def lay_out(folder):
     files = {"inc.x": DESIGN, "in.txt": "chan a\n0x00\n0xff\n", "empty": "", "big.x": " " * 4194305,
              "limit.x": " " * 4194304, "sum.x": SUM, "sum.txt": "chan a\n0x05\n0x01\n", "pair.x": PAIR, "pair.txt": WORDS,
              "sums.x": "proc M { config() { () } init { () } next(s: ()) { let x = u8:1 + u16:1; () } }",
-             "chain.ir": CHAIN, "chain.txt": CHAIN_WORDS, "two.ir": TWO, "ask.ir": ASK,
+             "chain.ir": CHAIN, "chain.txt": CHAIN_WORDS, "two.ir": TWO, "ask.ir": ASK, "wide.ir": WIDE,
              "p.ir": "package P\nchan a(bits[8], id=0, kind=output)\nproc P(st: (), init=()) {\n  after_all.1: token = after_all(id=1)\n"
                      "  receive.2: (token, bits[8]) = receive(after_all.1, channel=a, id=2)\n  next(st)\n}\n",
              "counter.v": COUNTER, "rows.txt": "- b!\nR\n- b!\n-\n- b! x2\n", "words.txt": "R\n-\n- a!", "many.txt": "- x1048577",

@@ -9,3 +9,4 @@ IsInBounds (request.Check said) = Unit {0}
 IsInBounds (request.Run said) = Unit {0}
 IsInBounds (request.Sim said) = Unit {0}
 IsInBounds (request.Schedule said) = 1 ≤ said.timing.stages
+IsInBounds (request.Opt said) = Unit {0}

@@ -12,6 +12,7 @@ use Rattle.cmd_words.specs.declared.request.How.{How}
 use Rattle.cmd_words.specs.declared.request.Run.{Run}
 use Rattle.cmd_words.specs.declared.request.Sim.{Sim}
 use Rattle.cmd_words.specs.declared.request.Schedule.{Schedule}
+use Rattle.cmd_words.specs.declared.request.Opt.{Opt}
 use Rattle.cmd_words.specs.declared.request.Source.{Source}
 use Rattle.cmd_words.specs.declared.request.Source.TheVariants.{Dslx, Ir}
 use Rattle.cmd_words.specs.declared.request.Timing.{Timing}
@@ -86,12 +87,16 @@ plain_schedule = with_rule (with_rule (with_rule (new_app (codes "schedule")) (f
 abbrev pub schedule : App
 schedule = with_rule (with_rule plain_schedule interval) from
 
+-- `opt FILE [--from F]`
+abbrev pub opt : App
+opt = with_rule (with_rule (new_app (codes "opt")) (file (codes "design"))) from
+
 -- the words begin with no program's name
 abbrev pub bare : App → App
 bare app = record app { top = record app.top { no_binary_name = true } }
 
 unfoldable pub xls : App
-xls = with_subcommand (with_subcommand (with_subcommand (with_subcommand (bare (new_app (codes "xls"))) check.top) run.top) sim.top) schedule.top
+xls = with_subcommand (with_subcommand (with_subcommand (with_subcommand (with_subcommand (bare (new_app (codes "xls"))) check.top) run.top) sim.top) schedule.top) opt.top
 
 -- ---- what words say
 
@@ -151,6 +156,10 @@ said_by_schedule rows =
     option_and_then (λ design. option_and_then (λ timing. option_map (λ source. record { design = design; timing = timing; source = source })
     (source_in (first_of (codes "from") rows))) (said_of_timing rows)) (first_of (codes "design") rows)
 
+abbrev pub said_by_opt : List Row → Option (Opt Text)
+said_by_opt rows =
+    option_and_then (λ design. option_map (λ source. record { design = design; source = source }) (source_in (first_of (codes "from") rows))) (first_of (codes "design") rows)
+
 -- what the matches of a subcommand say
 abbrev pub said_by_subcommand : Text × List Row → Option (Request Text)
 said_by_subcommand found =
@@ -158,6 +167,7 @@ said_by_subcommand found =
     else if bytes_eq found.0 (codes "run") then option_map request.Run (said_by_run found.1)
     else if bytes_eq found.0 (codes "sim") then option_map request.Sim (said_by_sim found.1)
     else if bytes_eq found.0 (codes "schedule") then option_map request.Schedule (said_by_schedule found.1)
+    else if bytes_eq found.0 (codes "opt") then option_map request.Opt (said_by_opt found.1)
     else None
 
 -- where `clap` finds no fault in the words, what the matches of their subcommand say

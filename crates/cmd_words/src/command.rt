@@ -1,7 +1,7 @@
 ghost use Rattle.std.specs.Prelude.{◌≡◌, IfOk, false};
 ghost use Rattle.clap.specs.Words.{app_of, rule_of};
 ghost use Rattle.clap.specs.declared.builder.Command.TheViews.{out-Command as fields_of};
-ghost use Rattle.cmd_words.specs.CommandLine.{activations, check, clock, depth, file, from, interval, option, plain_run, plain_schedule, run, schedule, sim, stages, workers, xls};
+ghost use Rattle.cmd_words.specs.CommandLine.{activations, check, clock, depth, file, from, interval, opt, option, plain_run, plain_schedule, run, schedule, sim, stages, workers, xls};
 
 use clap::{Arg, Command, value_parser};
 use std::alloc::{AllocError, Global};
@@ -15,7 +15,8 @@ pub fn command<'a>(alloc: Global) -> Result<Command<'a>, AllocError>
         .subcommand(check(alloc)?)?
         .subcommand(run(alloc)?)?
         .subcommand(sim(alloc)?)?
-        .subcommand(schedule(alloc)?)
+        .subcommand(schedule(alloc)?)?
+        .subcommand(opt(alloc)?)
 }
 
 fn check<'a>(alloc: Global) -> Result<Command<'a>, AllocError>
@@ -73,6 +74,15 @@ fn plain_schedule<'a>(alloc: Global) -> Result<Command<'a>, AllocError>
         .arg(file(alloc, "design"))?
         .arg(clock(alloc))?
         .arg(stages(alloc))
+}
+
+fn opt<'a>(alloc: Global) -> Result<Command<'a>, AllocError>
+    ensures app { IfOk result (λ command. app_of command ≡ opt) }
+    ensures local { IfOk result (λ command. (fields_of command).has_globals ≡ false) }
+{
+    Command::new(alloc, "opt")
+        .arg(file(alloc, "design"))?
+        .arg(from(alloc))
 }
 
 /// The name of a file, which stands at its place.

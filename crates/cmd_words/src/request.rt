@@ -5,6 +5,7 @@ pub enum Request<N> {
     Run(Run<N>),
     Sim(Sim<N>),
     Schedule(Schedule<N>),
+    Opt(Opt<N>),
 }
 
 /// `check FILE`
@@ -52,6 +53,13 @@ pub struct Sim<N> {
 pub struct Schedule<N> {
     pub design: N,
     pub timing: Timing,
+    pub source: Source,
+}
+
+/// `opt FILE [--from F]`
+#[derive(Clone, Copy)]
+pub struct Opt<N> {
+    pub design: N,
     pub source: Source,
 }
 

@@ -1,12 +1,12 @@
 ghost use Rattle.std.specs.Prelude.{◌≡◌, ◌≤◌, IfOk, IfSome, Option, map, option_map, option_and_then, string_bytes};
 ghost use Rattle.clap.specs.Words.{first_of, found_of, rows_of, subcommand_rows_of};
-ghost use Rattle.cmd_words.specs.CommandLine.{depth_in, most_in, said_by, said_by_check, said_by_run, said_by_schedule, said_by_sim, said_by_subcommand, said_of_how, said_of_timing, source_in, workers_in};
-ghost use Rattle.cmd_words.specs.Named.{named, named_check, named_run, named_schedule, named_sim};
+ghost use Rattle.cmd_words.specs.CommandLine.{depth_in, most_in, said_by, said_by_check, said_by_opt, said_by_run, said_by_schedule, said_by_sim, said_by_subcommand, said_of_how, said_of_timing, source_in, workers_in};
+ghost use Rattle.cmd_words.specs.Named.{named, named_check, named_opt, named_run, named_schedule, named_sim};
 ghost use Rattle.cmd_words.specs.Bounds.{IsInBounds};
 
 use crate::command::command;
 use crate::number::read_number;
-use crate::request::{Check, How, Request, Run, Schedule, Sim, Source, Timing};
+use crate::request::{Check, How, Opt, Request, Run, Schedule, Sim, Source, Timing};
 use clap::ArgMatches;
 use clap::error::ErrorKind;
 use std::alloc::{AllocError, Global};
@@ -37,6 +37,7 @@ fn request<'a>(matches: &ArgMatches<'a>) -> Option<Request<&'a str>>
         Some(("run", matches)) => Some(Request::Run(run(matches)?)),
         Some(("sim", matches)) => Some(Request::Sim(sim(matches)?)),
         Some(("schedule", matches)) => Some(Request::Schedule(schedule(matches)?)),
+        Some(("opt", matches)) => Some(Request::Opt(opt(matches)?)),
         _ => None,
     }
 }
@@ -155,6 +156,18 @@ fn schedule<'a>(matches: &ArgMatches<'a>) -> Option<Schedule<&'a str>>
             timing,
             source,
         }),
+        None => None,
+    }
+}
+
+fn opt<'a>(matches: &ArgMatches<'a>) -> Option<Opt<&'a str>>
+    ensures { option_map named_opt result ≡ said_by_opt (rows_of (found_of matches.now)) }
+{
+    let Some(design) = text(matches, "design") else {
+        return None;
+    };
+    match source(text(matches, "from")) {
+        Some(source) => Some(Opt { design, source }),
         None => None,
     }
 }

@@ -1,15 +1,18 @@
 //! Laws of what the program answers, each the contract of a function that calls the laws of the commands.
-ghost use Rattle.std.specs.Prelude.{ℕ, List, Some};
+ghost use Rattle.std.specs.Prelude.{◌≡◌, ℕ, List, Some, true};
 ghost use Rattle.xb_io.specs.Contents.{Contents};
 ghost use Rattle.cmd_answer.specs.Step.{IsOne};
-ghost use Rattle.xls_cmd.specs.Answer.{due};
+ghost use Rattle.cmd_opt.specs.Agrees.{Agrees};
+ghost use Rattle.xls_cmd.specs.Answer.{due, is_exact};
 
-/// The words and the files determine what is due.
+/// The words and the files determine what is due, but for the text of an optimised package.
 pub fn one_answer()
-    ensures { (words : List (List ℕ)) (holds : Contents) → IsOne (due words (Some holds)) }
+    ensures one { (words : List (List ℕ)) (holds : Contents) → is_exact words ≡ true → IsOne (due words (Some holds)) }
+    ensures agrees { (words : List (List ℕ)) (holds : Contents) → Agrees (due words (Some holds)) }
 {
     cmd_design::laws::one_answer();
     cmd_ir::laws::one_answer();
     cmd_sim::laws::one_answer();
     cmd_schedule::laws::one_answer();
+    cmd_opt::laws::answers_agree();
 }

@@ -4,17 +4,18 @@ ghost use Rattle.cmd_answer.specs.Answered.{IsAnswered};
 ghost use Rattle.cmd_answer.specs.Done.{IsDone};
 ghost use Rattle.cmd_answer.specs.Events.{file_events, sink_events};
 ghost use Rattle.cmd_answer.specs.Fault.{Fault as Cause};
-ghost use Rattle.xls_cmd.specs.Answer.{due, due_of, due_of_run, due_of_schedule, files_of, files_of_run, files_of_schedule, named_files, status_for};
+ghost use Rattle.xls_cmd.specs.Answer.{due, due_of, due_of_opt, due_of_run, due_of_schedule, files_of, files_of_opt, files_of_run, files_of_schedule, named_files, status_for};
 ghost use Rattle.cmd_words.specs.Bounds.{IsInBounds};
-ghost use Rattle.cmd_words.specs.Named.{named, named_run, named_schedule};
+ghost use Rattle.cmd_words.specs.Named.{named, named_opt, named_run, named_schedule};
 
 use crate::laws::one_answer;
 use cmd_answer::{Fault, Refusal, respond};
 use cmd_design::{check_design, run_design};
 use cmd_ir::run_package;
+use cmd_opt::opt_ir;
 use cmd_schedule::schedule_ir;
 use cmd_sim::sim_design;
-use cmd_words::{Request, Run, Schedule, Source, read_words};
+use cmd_words::{Opt, Request, Run, Schedule, Source, read_words};
 use std::alloc::Global;
 use std::sync::Wait;
 use std::thread::Threads;
@@ -81,6 +82,7 @@ fn requested<'a, F: Files>(
         Request::Run(said) => run(alloc, files, said),
         Request::Sim(said) => sim_design(alloc, files, said),
         Request::Schedule(said) => schedule(alloc, files, said),
+        Request::Opt(said) => opt(alloc, files, said),
     }
 }
 
@@ -115,6 +117,21 @@ fn schedule<'a, F: Files>(
     match said.source {
         Source::Dslx => Err(Refusal::Fault(Fault::Usage)),
         Source::Ir => schedule_ir(alloc, files, said),
+    }
+}
+
+/// The optimised package of an IR text.
+fn opt<'a, F: Files>(
+    alloc: Global,
+    files: &mut F,
+    said: Opt<&'a str>,
+) -> Result<Vec<u8>, Refusal<'a>>
+    ensures { IsDone (λ text. text.items) (due_of_opt (named_opt said.entry) (F.told files.old)) (files_of_opt (named_opt said.entry))
+        (file_events F.asked F.faults F.taken files.old files.new) result }
+{
+    match said.source {
+        Source::Dslx => Err(Refusal::Fault(Fault::Usage)),
+        Source::Ir => opt_ir(alloc, files, said),
     }
 }
 

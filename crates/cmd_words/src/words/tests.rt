@@ -103,6 +103,24 @@ fn words_of_schedule_are_read(rt: HostRuntime) -> Result<(), Fail> {
 }
 
 #[test]
+fn words_of_opt_are_read(rt: HostRuntime) -> Result<(), Fail> {
+    let alloc = rt.alloc();
+    for (text, source) in [
+        ("opt a.ir --from ir", Source::Ir),
+        ("opt --from=dslx -- a.ir", Source::Dslx),
+        ("opt a.ir", Source::Dslx),
+    ] {
+        let words = list(alloc, text)?;
+        let Some(Request::Opt(opt)) = read_words(alloc, &words)? else {
+            return Err(Fail::from("no opt"));
+        };
+        assert_eq!(rt; opt.design, "a.ir", "{text}");
+        assert_eq!(rt; opt.source, source, "{text}");
+    }
+    Ok(())
+}
+
+#[test]
 fn words_of_check_are_read(rt: HostRuntime) -> Result<(), Fail> {
     let alloc = rt.alloc();
     let words = list(alloc, "check a.x")?;
@@ -141,6 +159,9 @@ fn other_words_say_nothing(rt: HostRuntime) -> Result<(), Fail> {
         "schedule a.ir --clock 100 --from verilog",
         "schedule a.ir --clock 100 --from ir --top P",
         "schedule a.ir --clock 100 --activations 5 --from ir",
+        "opt --from ir",
+        "opt a.ir b.ir --from ir",
+        "opt a.ir --from verilog",
         "run a.x b.txt",
         "run a.x --activations 5",
         "run a.x b.txt --activations",

@@ -1,0 +1,14 @@
+//! The law of the command, the contract of a function that calls the law below it.
+
+ghost use Rattle.std.specs.Prelude.{ℕ, List};
+ghost use Rattle.xb_io.specs.Contents.{Contents};
+ghost use Rattle.cmd_words.specs.declared.request.Opt.{Opt};
+ghost use Rattle.cmd_opt.specs.Commands.{opt};
+ghost use Rattle.cmd_opt.specs.Agrees.{Agrees};
+
+/// What the file holds determines the cause for which nothing is given; the texts of one file are of packages that mean the same.
+pub fn answers_agree()
+    ensures { (holds : Contents) (said : Opt (List ℕ)) → Agrees (opt holds said) }
+{
+    ir_parser::one_package();
+}

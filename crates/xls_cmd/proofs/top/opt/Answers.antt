@@ -1,0 +1,18 @@
+use Rattle.std.proofs.Common.{[], Err, refl, sym}
+use Rattle.cmd_answer.specs.Events.{file_events}
+use Rattle.cmd_answer.specs.declared.refusal.Refusal.TheVariants.{Fault}
+use Rattle.cmd_answer.specs.declared.fault.Fault.TheVariants.{Usage}
+use Rattle.cmd_words.specs.Named.{named_opt}
+use Rattle.cmd_words.specs.declared.request.Source.TheVariants.{Dslx, Ir}
+use Rattle.xls_cmd.proofs.Answering.{opt_by_source, nothing_asked}
+use Rattle.xls_cmd.proofs.top.opt.Goals as goal
+
+pub returns-in-Dslx : goal.returns-in-Dslx
+returns-in-Dslx g c =
+    opt_by_source (λ text. text.items) [] (g.F.Files.told c.args.files.now) (file_events g.F.Files.asked g.F.Files.faults g.F.Files.taken c.args.files.now c.args.files.now) (Err (Fault Usage)) Dslx (named_opt c.args.said) (sym c.in-Dslx.is)
+    (record { names = []; in_order = tt; asked = nothing_asked (g.F.Files.asked c.args.files.now); gives = (refl, refl, tt) })
+
+pub returns-in-Ir : goal.returns-in-Ir
+returns-in-Ir g c =
+    opt_by_source (λ text. text.items) [] (g.F.Files.told c.args.files.now) (file_events g.F.Files.asked g.F.Files.faults g.F.Files.taken c.args.files.now c.opt_ir.new.files) c.opt_ir.result Ir (named_opt c.args.said) (sym c.in-Ir.is)
+    c.opt_ir.ensures
