@@ -2,10 +2,10 @@
 #![tactic(auto)]
 
 #[cfg(test)]
+mod modules;
+#[cfg(test)]
 mod printed;
 #[cfg(test)]
 mod rows;
-#[cfg(test)]
-mod texts;
 #[cfg(test)]
 mod words;
