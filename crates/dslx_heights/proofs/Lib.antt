@@ -1,0 +1,17 @@
+mod ChainUp
+mod Effects
+mod Every
+mod Fits
+mod Going
+mod KeepsAtoms
+mod KeepsBlocks
+mod KeepsItems
+mod KeepsOperators
+mod KeepsProcs
+mod KeepsStatements
+mod KeepsTypes
+mod Nodes
+mod Ready
+mod States
+mod Takers
+mod Whole
