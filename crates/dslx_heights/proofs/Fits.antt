@@ -16,7 +16,8 @@ use Rattle.dslx_syntax.specs.Sorts.{OfSort, Sort, sort_of}
 use Rattle.dslx_syntax.specs.SymbolParts.{MakingRule, PartsOf, made_from}
 use Rattle.dslx_places.specs.Places.{Thing}
 use Rattle.dslx_places.specs.Places as things
-use Rattle.dslx_heights.specs.Heights.{AreNoHigher, height_within}
+use Rattle.dslx_heights.specs.Heights.{height_within}
+use Rattle.dslx_heights.proofs.NoHigher.{AreNoHigher}
 use Rattle.dslx_heights.proofs.Effects.{after, begin_at, began_with, effect_of}
 use Rattle.dslx_heights.proofs.States.{Low, State, deep, step}
 

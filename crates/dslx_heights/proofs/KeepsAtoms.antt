@@ -4,7 +4,7 @@ use Rattle.std.specs.Prelude.{None, Some}
 use Rattle.dslx_grammar.specs.declared.generated.production.TheConstants.{ATOM__NUMBER}
 use Rattle.dslx_syntax.specs.Nodes.{exprs_of, ident_of, in_turn, number_of}
 use Rattle.dslx_syntax.specs.Atoms.{rules}
-use Rattle.dslx_heights.specs.Heights.{nothing}
+use Rattle.dslx_heights.proofs.NoHigher.{nothing}
 use Rattle.dslx_places.specs.Places as things
 use Rattle.dslx_heights.proofs.Fits.{AllKeep, none, ◌&◌}
 use Rattle.dslx_heights.proofs.Nodes.{a_name_whole, all_of, bare_expr_up, block_value_up, both, call_up, expr_in, expr_in_mark, inner_expr, inside, inside_mark, joined_up, made_of, member_up, more, name_inner, name_up, named_type_up, number_up, one_higher, over_args, over_inner_expr, over_typed, same, still, type_elements, typed_up}

@@ -2,7 +2,7 @@
 use Rattle.std.proofs.Common.{refl, suc}
 use Rattle.dslx_grammar.specs.declared.generated.production.TheConstants.{IF}
 use Rattle.dslx_syntax.specs.Blocks.{rules}
-use Rattle.dslx_heights.specs.Heights.{nothing}
+use Rattle.dslx_heights.proofs.NoHigher.{nothing}
 use Rattle.dslx_places.specs.Places as things
 use Rattle.dslx_heights.proofs.Fits.{AllKeep, none, ◌&◌, inner, plain}
 use Rattle.dslx_heights.proofs.Nodes.{all_of, around_mark, block_plain, block_rises, block_value_up, both, expr_in, head_inner, head_plain, in_range, inside, inside_head, joined_up, made_of, none_there, one_up, over_inner_expr, over_range, raised, same, statements_in, still, to_range, type_plain}

@@ -2,7 +2,7 @@
 use Rattle.std.proofs.Common.{refl, []}
 use Rattle.dslx_grammar.specs.declared.generated.production.TheConstants.{MODULE}
 use Rattle.dslx_syntax.specs.Items.{rules}
-use Rattle.dslx_heights.specs.Heights.{nothing}
+use Rattle.dslx_heights.proofs.NoHigher.{nothing}
 use Rattle.dslx_places.specs.Places as things
 use Rattle.dslx_heights.proofs.Fits.{AllKeep, none, ◌&◌, plain}
 use Rattle.dslx_heights.proofs.Nodes.{a_name_whole, all_of, all_type, block_whole, both, expr_in, inner_whole, made_of, none_there, one_up, same, type_plain, whole_in}

@@ -2,7 +2,7 @@
 use Rattle.std.proofs.Common.{refl, []}
 use Rattle.dslx_grammar.specs.declared.generated.production.TheConstants.{PROC}
 use Rattle.dslx_syntax.specs.Procs.{rules}
-use Rattle.dslx_heights.specs.Heights.{nothing}
+use Rattle.dslx_heights.proofs.NoHigher.{nothing}
 use Rattle.dslx_places.specs.Places as things
 use Rattle.dslx_heights.proofs.Fits.{AllKeep, none, ◌&◌, argument}
 use Rattle.dslx_heights.proofs.Nodes.{a_name_next, a_name_whole, a_spot_whole, all_args, all_type, block_whole, both, inside, joined_up, made_of, none_there, one_higher, one_up, over_config, over_next, same, statements_in, to_next, type_in, whole_in}

@@ -3,7 +3,7 @@ use Rattle.std.proofs.Common.{refl}
 use Rattle.dslx_grammar.specs.declared.generated.production.TheConstants.{BLOCK}
 use Rattle.dslx_syntax.specs.Nodes.{in_turn, named_type}
 use Rattle.dslx_syntax.specs.Statements.{rules}
-use Rattle.dslx_heights.specs.Heights.{nothing}
+use Rattle.dslx_heights.proofs.NoHigher.{nothing}
 use Rattle.dslx_places.specs.Places as things
 use Rattle.dslx_heights.proofs.Fits.{AllKeep, none, ◌&◌, plain}
 use Rattle.dslx_heights.proofs.Nodes.{all_of, all_type, bare_whole, both, inside, later, made_of, member_pattern_up, name_pattern_up, named_type_up, none_there, number_pattern_up, one_higher, one_up, over_inner, same, statements_in, type_plain}

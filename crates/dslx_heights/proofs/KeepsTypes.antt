@@ -3,7 +3,7 @@ use Rattle.std.proofs.Common.{refl, suc}
 use Rattle.dslx_grammar.specs.declared.generated.production.TheConstants.{ARGS_MORE__COMMA}
 use Rattle.dslx_syntax.specs.Nodes.{in_turn, named_type, number_of}
 use Rattle.dslx_syntax.specs.Types.{rules}
-use Rattle.dslx_heights.specs.Heights.{nothing}
+use Rattle.dslx_heights.proofs.NoHigher.{nothing}
 use Rattle.dslx_places.specs.Places as things
 use Rattle.dslx_heights.proofs.Fits.{AllKeep, none, ◌&◌, argument}
 use Rattle.dslx_heights.proofs.Nodes.{all_type, array_type_up, bare_arg_up, bare_type_up, both, brace_arg_up, expr_in, expr_in_mark, inside, joined_up, more, name_arg_up, named_type_up, none_there, number_arg_up, one_up, same, still}

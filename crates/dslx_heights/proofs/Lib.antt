@@ -10,6 +10,7 @@ mod KeepsOperators
 mod KeepsProcs
 mod KeepsStatements
 mod KeepsTypes
+mod NoHigher
 mod Nodes
 mod Ready
 mod States

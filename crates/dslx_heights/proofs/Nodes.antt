@@ -11,7 +11,8 @@ use Rattle.dslx_operators.specs.declared.chain.Operand.{Operand}
 use Rattle.dslx_syntax.specs.Nodes.{Numeral, arg_of, array_type, bare_number, block_alone, from_to, member_of, member_pattern, name_alone, name_pattern, named_type, number_pattern, number_place, typed_number}
 use Rattle.dslx_places.specs.Places.{Thing, Inside, IsMadeOf}
 use Rattle.dslx_places.specs.Places as things
-use Rattle.dslx_heights.specs.Heights.{AreNoHigher, height_within, nothing, placed, spread}
+use Rattle.dslx_heights.specs.Heights.{height_within}
+use Rattle.dslx_heights.proofs.NoHigher.{AreNoHigher, nothing, placed, spread}
 use Rattle.dslx_heights.proofs.Fits.{AType, AnExpr, IsNamed, Rises, argument, inner, plain, room, typed, whole}
 use Rattle.dslx_heights.proofs.States.{Low, State, base, deep}
 

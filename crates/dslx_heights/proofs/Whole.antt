@@ -1,5 +1,5 @@
 -- The tree of a text whose tokens nest within the limit is no higher than that lets it be.
-use Rattle.std.proofs.Common.{◌≡◌, ℕ, zero, suc, List, [], ◌∷◌, ◌++◌, map, refl, ap, sym, ◌∙◌, subst}
+use Rattle.std.proofs.Common.{◌≤◌, ◌≡◌, ℕ, zero, suc, List, [], ◌∷◌, ◌++◌, map, refl, ap, sym, ◌∙◌, subst}
 use Rattle.std.specs.Prelude.{None, Some, slice_get}
 use Rattle.grammar.specs.declared.table.Symbol.{Symbol}
 use Rattle.grammar.specs.declared.table.Symbol.TheVariants.{Terminal, Nonterminal}
@@ -18,7 +18,8 @@ use Rattle.dslx_places.specs.Along.{AreAlong}
 use Rattle.dslx_roles.specs.Roles.{role_of, roles_of}
 use Rattle.dslx_syntax.specs.SymbolParts.{MakingRule, PartsOf}
 use Rattle.dslx_syntax.specs.Trees.{IsTextOf, Makes, empty, leaf, branch, making_rules, rule_of}
-use Rattle.dslx_heights.specs.Heights.{IsNoHigher, NestWithin, kinds_in, most_high}
+use Rattle.dslx_heights.specs.Heights.{NestWithin, height_of, kinds_in, most_high}
+use Rattle.dslx_heights.proofs.NoHigher.{no_higher}
 use Rattle.dslx_heights.proofs.Effects.{outside_with}
 use Rattle.dslx_heights.proofs.Going.{AreNamed, go}
 use Rattle.dslx_heights.proofs.Ready.{outside}
@@ -121,8 +122,8 @@ all_low_along roles ends none =
     let past : first_past (ends.front ++ Plain ∷ []) ≡ None = subst (λ (rs : List Role). first_past rs ≡ None) ends.whole none in
     subst (AllLow (outside_with 0)) (sym ends.whole) (low_to_end (outside_with 0) ends.front (all_low (outside_with 0) ends.front Plain 0 past))
 
-pub text_is_up : TheLaws → (ls : List Lexeme) (m : Module) (to : ℕ) → AreAlong ls 0 to → IsTextOf ls m → NestWithin ls → IsNoHigher most_high m
+pub text_is_up : TheLaws → (ls : List Lexeme) (m : Module) (to : ℕ) → AreAlong ls 0 to → IsTextOf ls m → NestWithin ls → height_of m ≤ most_high
 text_is_up laws ls m to along text within =
     let low = all_low_along (roles_along 0 text.forest) (text_ends text.makes refl) (none_past laws ls m text within) in
     let goes = go 0 text.makes outside (outside_with 0) refl refl (are_named ls 0 to along) low in
-    goes.fit.1.fits
+    no_higher most_high m.items goes.fit.1.fits
