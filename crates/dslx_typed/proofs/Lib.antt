@@ -30,3 +30,5 @@ pub mod OfStructs
 pub mod OfMatches
 -- written types
 pub mod OfWritten
+-- turns of loops, and functions
+pub mod OfFunctions

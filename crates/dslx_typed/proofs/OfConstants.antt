@@ -16,7 +16,7 @@ use Rattle.dslx_meaning.specs.declared.ty.DslxType.{DslxType}
 use Rattle.dslx_meaning.specs.declared.value.DslxValue.{DslxValue}
 use Rattle.dslx_meaning.specs.declared.value.Bare.{Bare}
 use Rattle.dslx_rules.specs.Mentions.{mentioned, free_names}
-use Rattle.dslx_rules.specs.Judging.{Sight, Typed, Judgement, ExprPair, breaks_if, alone, span_of, bare_of, constant_env, unhidden}
+use Rattle.dslx_rules.specs.Judging.{Sight, Typed, Judgement, ExprPair, breaks_if, alone, span_of, bare_of, constant_env, unhidden, with_typed}
 use Rattle.dslx_rules.specs.ConstantRules.{is_empty, is_sound_here, names_a_local, ConstantSeen, constant_judged, value_if_typed, constant_of, bare_judged, constant_or_bare, size_faults, number_of_value, bare_count, count_of}
 use Rattle.dslx_rules.specs.OperatorRules.{bound_number}
 use Rattle.dslx_laws.specs.Agreement.{AreBoundAlike}
@@ -156,3 +156,23 @@ bound_is_meant sight bound e n h k = by_bare (bare_of e) refl k
         ap (λ b. bound_in b (value_of e.0 (place_of sight bound))) q
         ∙ through index_number (constant_of sight e).value (value_of e.0 (place_of sight bound)) n (λ v. constant_is_meant sight bound e v h) r
     by_bare (Some x) q r = ap (λ b. bound_in b (value_of e.0 (place_of sight bound))) q ∙ r
+
+-- ---- binding
+
+-- one more name that is no constant's
+pub bound_in_sight : (sight : Sight) (locals : List Typed) (bound : List Given) (name : List ℕ) (t : Option DslxType) (v : DslxValue) → sight.known.items.is_constant name ≡ false
+    → IsInSight (with_typed sight locals) bound → IsInSight (with_typed sight (record { name = name; ty = t } ∷ locals)) (record { name = name; value = v } ∷ bound)
+bound_in_sight sight locals bound name t v plain h = record {
+  others = λ n e. other n (bytes_eq n name) e (h.others n);
+  hides = λ n c. hidden n (bytes_eq n name) refl c (h.hides n c);
+  numbers_hide = h.numbers_hide;
+}
+  where
+    other : (n : List ℕ) (b : Bool) → (if b then true else is_in n (map (λ (l : Typed). l.name) locals)) ≡ false
+        → (is_in n (map (λ (l : Typed). l.name) locals) ≡ false → given_in n bound ≡ given_in n sight.numbers) → (if b then Some v else given_in n bound) ≡ given_in n sight.numbers
+    other n true e rest = absurd (true≢false e)
+    other n false e rest = rest e
+
+    hidden : (n : List ℕ) (b : Bool) → bytes_eq n name ≡ b → sight.known.items.is_constant n ≡ true → given_in n bound ≡ None → (if b then Some v else given_in n bound) ≡ None
+    hidden n true q c rest = absurd (true≢false (sym c ∙ ap sight.known.items.is_constant ((bytes_eq-Decides n name).0 q) ∙ plain))
+    hidden n false q c rest = rest

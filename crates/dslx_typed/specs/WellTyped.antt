@@ -2,6 +2,7 @@
 use Rattle.std.specs.List.{list_all}
 use Rattle.std.specs.Prelude.{◌≡◌, ◌||◌, ℕ, List, [], ◌∷◌, Bool, true, false, Option, Some, None}
 use Rattle.dslx_tree.specs.declared.item.Enum.{Enum}
+use Rattle.dslx_tree.specs.declared.item.Field.{Field}
 use Rattle.dslx_meaning.specs.Values.{type_of_value}
 use Rattle.dslx_meaning.specs.Environment.{Env, given_in, value_of_name}
 use Rattle.dslx_meaning.specs.Meaning.{Evaluates, Fitting, Going, Meant, PatternMeant, ArmMeant, all_names, first_fit}
@@ -11,8 +12,9 @@ use Rattle.dslx_meaning.specs.declared.value.DslxValue.{DslxValue}
 use Rattle.dslx_rules.specs.Judging.{Sight, Typed, ExprPair, typed_in, with_typed, has_broken, alone}
 use Rattle.dslx_rules.specs.Judgings.{PatternSeen, PatternJudging, PatternPair, StatementSeen, StatementJudging, ArmSeen}
 use Rattle.dslx_rules.specs.ControlRules.{arm_judged}
+use Rattle.dslx_rules.specs.ItemRules.{judged_inner}
 use Rattle.dslx_rules.specs.NameRules.{has_member}
-use Rattle.dslx_rules.specs.PatternRules.{is_there}
+use Rattle.dslx_rules.specs.PatternRules.{is_there, pattern_alone}
 use Rattle.dslx_typed.specs.Declared.{Declarations, IsDeclared}
 use Rattle.dslx_typed.specs.Given.{GivesOf, GivesItsType}
 
@@ -60,6 +62,10 @@ EachKeeps (p ∷ ps) (m ∷ ms) = PatternKeeps p.1 m.fits × EachKeeps ps ms
 EachKeeps [] (m ∷ ms) = ⊥
 EachKeeps (p ∷ ps) [] = ⊥
 
+-- the two patterns of a loop, one behind the other: of the index and of what is accumulated
+abbrev pub turn_seen : Sight → DslxType → DslxType → PatternPair → PatternPair → PatternSeen
+turn_seen sight k t index acc = pattern_alone false (with_typed sight (pattern_alone false sight (Some k) index).locals) (Some t) acc
+
 -- ---- statements
 
 -- the rest of the block goes on where what is in sight is well typed
@@ -105,3 +111,12 @@ EachArmGives sight t [] [] v env = Unit {0}
 EachArmGives sight t (a ∷ as') (m ∷ ms) v env = ArmGives sight t a m v env × EachArmGives sight t as' ms v env
 EachArmGives sight t [] (m ∷ ms) v env = ⊥
 EachArmGives sight t (a ∷ as') [] v env = ⊥
+
+-- ---- functions
+
+-- operands of the types that are written for the arguments
+abbrev pub AreOperandsOf : Sight → List Field → List DslxValue → Type 0
+AreOperandsOf sight [] [] = Unit {0}
+AreOperandsOf sight (f ∷ fs) (v ∷ vs) = ((t : DslxType) × ((judged_inner sight f.ty).ty ≡ Some t) × GivesOf (types_at sight) t (Some v)) × AreOperandsOf sight fs vs
+AreOperandsOf sight [] (v ∷ vs) = ⊥
+AreOperandsOf sight (f ∷ fs) [] = ⊥

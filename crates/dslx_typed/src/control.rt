@@ -16,14 +16,11 @@ ghost use Rattle.dslx_typed.specs.Declared.{Declarations};
 ghost use Rattle.dslx_typed.specs.Given.{GivesOf, GivesItsType, TurnGives};
 ghost use Rattle.dslx_typed.specs.WellTyped.{AllKeep, EachArmGives, GoesOnTyped, IsWellTyped, LastGives, PatternKeeps, StatementKeeps, comes_to_an_arm, types_at};
 
-/// `if`, and a loop over a range of one type of bits whose turns give what is accumulated its type again.
-pub fn branches_and_loops_give_values_of_their_types()
-    ensures branches { (types : Declarations) (span : Span) (sight : Sight) (c : ExprPair) (a : BlockPair) (b : ExprPair) (x y z : Option DslxValue)
+/// `if`.
+pub fn branches_give_values_of_their_types()
+    ensures { (types : Declarations) (span : Span) (sight : Sight) (c : ExprPair) (a : BlockPair) (b : ExprPair) (x y z : Option DslxValue)
         → GivesItsType types (alone sight c) x → GivesItsType types (block_alone sight a) y → GivesItsType types (alone sight b) z
         → GivesItsType types (if_judged span sight c a b) (choose (and_then x truth) y z) }
-    ensures turns { (types : Declarations) (k l t : DslxType) (x y z : Option DslxValue) (body : DslxValue → DslxValue → Option DslxValue)
-        → GivesOf types k x → GivesOf types l y → one_bit_type k l ≡ true → GivesOf types t z → TurnGives k t body
-        → GivesOf types t (and_then z (λ start. with_both (and_then x bits_of) (and_then y bits_of) (loop_over body start))) }
 {}
 
 /// Blocks: statements that break no rule leave what is in sight well typed, a `let` by its pattern, and the last expression

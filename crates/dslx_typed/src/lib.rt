@@ -9,6 +9,8 @@ mod arrays;
 mod builtins;
 mod constants;
 mod control;
+mod functions;
+mod loops;
 mod names;
 mod operations;
 mod parts;
@@ -20,9 +22,11 @@ pub use arrays::arrays_give_values_of_their_types;
 pub use builtins::builtins_give_values_of_their_types;
 pub use constants::what_is_known_of_constants_is_meant;
 pub use control::{
-    blocks_give_values_of_their_types, branches_and_loops_give_values_of_their_types,
+    blocks_give_values_of_their_types, branches_give_values_of_their_types,
     matches_give_values_of_their_types,
 };
+pub use functions::functions_give_values_of_their_types;
+pub use loops::loops_give_values_of_their_types;
 pub use names::names_give_values_of_their_types;
 pub use operations::operations_give_values_of_their_types;
 pub use parts::{
