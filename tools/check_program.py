@@ -74,6 +74,7 @@ always @(posedge clk) begin if (rst) begin n <= 8'd250; end
   else begin n <= nx; end end
 endmodule
 """
+ROWS = "- b!\nR\n- b!\n-\n- b! x2\n"
 COUNTED = "0 b=0x00\n1\n2 b=0xfa\n3 b=0xfb\n4 b=0xfb\n5 b=0xfc\nmoved b 3: 0xfa 0xfb 0xfc\n"
 ASK = example("ask.ir")
 CHAIN_SCHEDULE = """proc Chain stages 3 interval 1
@@ -404,7 +405,7 @@ def lay_out(folder):
              "chain.ir": CHAIN, "chain.txt": CHAIN_WORDS, "two.ir": TWO, "ask.ir": ASK, "wide.ir": WIDE,
              "p.ir": "package P\nchan a(bits[8], id=0, kind=output)\nproc P(st: (), init=()) {\n  after_all.1: token = after_all(id=1)\n"
                      "  receive.2: (token, bits[8]) = receive(after_all.1, channel=a, id=2)\n  next(st)\n}\n",
-             "counter.v": COUNTER, "rows.txt": "- b!\nR\n- b!\n-\n- b! x2\n", "words.txt": "R\n-\n- a!", "many.txt": "- x1048577",
+             "counter.v": COUNTER, "rows.txt": ROWS, "words.txt": "R\n-\n- a!", "many.txt": "- x1048577",
              "loop.v": "module T(input wire clk, input wire rst); wire a; wire b; assign a = b; assign b = a; endmodule",
              "output.txt": "chan b", "wide.txt": "chan a\n0x100\n"}
     written(folder, files)
