@@ -47,11 +47,13 @@ made_part r inner q s t keeps goes low =
     let e : end_of q r.body inner s goes.fit ≡ t = goes.ends in
     let kept = keeps inner goes.fit in
     let is : t ≡ after (effect_of r.head) s t.marks = subst (λ (u : State). u ≡ after (effect_of r.head) s u.marks) e kept.0 in
-    let fits : Fits (sort_of r.head) (made_from r.body r.part inner) (deep t) (began_with (effect_of r.head) s) t.marks = subst (λ (u : State). Fits (sort_of r.head) (made_from r.body r.part inner) (deep u) (began_with (effect_of r.head) s) u.marks) e kept.1 in
-    (is, record {
-      low = subst Low is low;
-      fits = subst (λ (u : State). Fits (sort_of r.head) (made_from r.body r.part inner) (deep u) (began_with (effect_of r.head) s) u.marks) is fits;
-    })
+    let fits : Fits (sort_of r.head) (made_from r.body r.part inner) (deep t) (began_with (effect_of r.head) s) t.marks = subst (λ (u : State). Fits (sort_of r.head) (made_from r.body r.part inner) (deep u) (began_with (effect_of r.head) s) u.marks) e kept.1 in (
+      is,
+      record {
+        low = subst Low is low;
+        fits = subst (λ (u : State). Fits (sort_of r.head) (made_from r.body r.part inner) (deep u) (began_with (effect_of r.head) s) u.marks) is fits;
+      },
+    )
 
 token_goes : (p : ℕ) (l : Lexeme) (symbols : List Symbol) (parts : PartsOf symbols) (s t : State) → SaysAName l → Goes p symbols parts (step s (role_of p l.kind)) t → Goes p (Terminal l.kind ∷ symbols) (l, parts) s t
 token_goes p l symbols parts s t named goes = record {
