@@ -1,13 +1,12 @@
 -- A call finds the number parameters that the rules find.
 use Rattle.std.proofs.Common.{◌≡◌, ◌==◌, ◌++◌, ℕ, Bool, true, false, if◌then◌else◌, List, [], ◌∷◌, map, Option, Some, None, refl, sym, ap, ◌∙◌}
-use mathlib.Core.Bool.{true≢false}
 use Rattle.std.specs.Str.{bytes_eq}
 use Rattle.std.specs.List.{list_all}
 use Rattle.dslx_tree.specs.declared.expr.Expr.{Expr}
 use Rattle.dslx_tree.specs.declared.item.Field.{Field}
 use Rattle.dslx_tree.specs.declared.item.Parameter.{Parameter}
 use Rattle.dslx_tree.specs.declared.type_expr.TypeExpr.{TypeExpr}
-use Rattle.dslx_meaning.specs.Lists.{and_then, with_both, is_in}
+use Rattle.dslx_meaning.specs.Lists.{and_then, is_in}
 use Rattle.dslx_meaning.specs.Types.{same_type, is_unit}
 use Rattle.dslx_meaning.specs.Values.{type_of_value}
 use Rattle.dslx_meaning.specs.Operators.{number_value}
@@ -18,11 +17,10 @@ use Rattle.dslx_meaning.specs.Items.{with_number, inferred_value, put_first, all
 use Rattle.dslx_meaning.specs.declared.ty.DslxType.{DslxType}
 use Rattle.dslx_meaning.specs.declared.value.DslxValue.{DslxValue}
 use Rattle.dslx_rules.specs.Judging.{Known}
-use Rattle.dslx_rules.specs.CallRules.{GivenNumber, Resolved, Number, Unknown, Wrong, resolved_value, in_type, of_type, declared_type, default_value, not_given, numbers_for, inferred_by, bound_by_number, unknown_behind, value_before, NumbersSeen, numbers_seen}
+use Rattle.dslx_rules.specs.CallRules.{GivenNumber, Resolved, Number, Unknown, Wrong, resolved_value, in_type, of_type, declared_type, default_value, not_given, numbers_for, inferred_by, bound_by_number, unknown_behind, value_before, numbers_seen}
 use Rattle.dslx_typed.specs.Numbers.{ParametersMean, GivenMean}
 use Rattle.dslx_typed.proofs.Judged.{none_some, same_some}
 use Rattle.dslx_typed.proofs.OfAggregates.{and_then_type}
-use Rattle.dslx_typed.proofs.OfParts.{with_both_type}
 
 -- ---- what is resolved
 
