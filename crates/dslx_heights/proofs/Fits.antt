@@ -1,15 +1,13 @@
 -- How high the part of each sort is.
-use Rattle.std.proofs.Common.{◌≡◌, ◌≤◌, ◌+◌, ℕ, suc, Bool, List, [], ◌∷◌, ◌++◌, map}
-use Rattle.std.specs.Prelude.{◌≢◌, ◌-◌, true, false}
+use Rattle.std.proofs.Common.{◌≡◌, ◌≤◌, ◌+◌, ℕ, suc, List, [], ◌∷◌, ◌++◌, map}
+use Rattle.std.specs.Prelude.{◌-◌}
 use Rattle.grammar.specs.declared.table.Symbol.{Symbol}
 use Rattle.grammar.specs.declared.table.Symbol.TheVariants.{Terminal, Nonterminal}
 use Rattle.xb_span.specs.declared.span.Span.{Span}
-use Rattle.dslx_token.specs.Lexeme.{Lexeme}
 use Rattle.dslx_tree.specs.declared.ident.Ident.{Ident}
 use Rattle.dslx_tree.specs.declared.type_expr.TypeExpr.{TypeExpr}
 use Rattle.dslx_operators.specs.declared.chain.Link.{Link}
 use Rattle.dslx_operators.specs.declared.chain.Operand.{Operand}
-use Rattle.dslx_parts.specs.Tokens.{is_name}
 use Rattle.dslx_roles.specs.Roles.{role_of}
 use Rattle.dslx_syntax.specs.Nodes.{exprs_of, in_turn}
 use Rattle.dslx_syntax.specs.Sorts.{OfSort, Sort, sort_of}
@@ -46,11 +44,6 @@ pub record Rises (height : ℕ) (xs : List Thing) (from to : ℕ) : Type 0 where
   pub goes : from ≤ to
   pub high : (n : ℕ) → height + to ≤ n + from → AreNoHigher n xs
 
--- a name that isn't empty
-pub record IsNamed (name : Ident) (from to : ℕ) : Type 0 where
-  pub goes : from ≤ to
-  pub there : name.name ≢ []
-
 abbrev pub AnExpr : ℕ → Operand → ℕ → ℕ → Type 0
 AnExpr d o from to = Rises (plain d) (things.expr o.expr ∷ []) from to
 
@@ -73,7 +66,7 @@ Fits Sort.whole m d from to = AreNoHigher (suc (whole 0)) (map things.item m.ite
 Fits Sort.items xs d from to = AreNoHigher (suc (whole 0)) (map things.item xs)
 Fits Sort.item x d from to = AreNoHigher (suc (whole 0)) (things.item x ∷ [])
 Fits Sort.definition x d from to = AreNoHigher (suc (whole 0)) (things.definition x ∷ [])
-Fits Sort.ident x d from to = IsNamed x from to
+Fits Sort.ident x d from to = from ≤ to
 Fits Sort.idents xs d from to = AreNoHigher (whole d) (map things.ident xs)
 Fits Sort.annotation x d from to = Rises (plain d) (things.maybe_type x) from to
 Fits Sort.parameter x d from to = AreNoHigher (whole d) (things.parameter x ∷ [])
@@ -99,24 +92,24 @@ Fits Sort.made m d from to = AreNoHigher (whole d) (things.type_expr m.0 ∷ (th
 Fits Sort.depth x d from to = AreNoHigher (whole d) (things.maybe_arg x)
 Fits Sort.arg x d from to = Rises (argument d) (things.arg x ∷ []) from to
 Fits Sort.args xs d from to = Rises (argument d) (map things.arg xs) from to
-Fits Sort.named_arg f d from to = (name : Ident) (start : ℕ) → IsNamed name start from → Rises (argument d) (things.arg (f name) ∷ []) start to
+Fits Sort.named_arg f d from to = (name : Ident) (start : ℕ) → start ≤ from → Rises (argument d) (things.arg (f name) ∷ []) start to
 Fits Sort.number n d from to = from ≤ to
 Fits Sort.type_expr x d from to = AType d x from to
 Fits Sort.types xs d from to = AreNoHigher (whole d) (map things.type_expr xs)
 Fits Sort.size f d from to = (ty : TypeExpr) (start : ℕ) → AType d ty start from → AType d (f ty) start to
 Fits Sort.sizes fs d from to = (ty : TypeExpr) (start : ℕ) → AType d ty start from → AType d (in_turn fs ty) start to
-Fits Sort.named_size f d from to = (name : Ident) (start : ℕ) → IsNamed name start from → AType d (f name) start to
+Fits Sort.named_size f d from to = (name : Ident) (start : ℕ) → start ≤ from → AType d (f name) start to
 Fits Sort.block x d from to = (from ≤ to) × AreNoHigher (suc (suc (inner d))) (things.block x ∷ [])
 Fits Sort.statement x d from to = AreNoHigher (suc (whole d)) (things.statement x ∷ [])
 Fits Sort.statements p d from to = AreNoHigher (suc (whole d)) (map things.statement p.0 ++ things.maybe_expr p.1)
 Fits Sort.statement_end f d from to = (o : Operand) → AreNoHigher (whole d) (things.expr o.expr ∷ []) → AreNoHigher (suc (whole d)) (map things.statement (f o).0 ++ things.maybe_expr (f o).1)
 Fits Sort.bare f d from to = (o : Operand) → AreNoHigher (whole d) (things.expr o.expr ∷ []) → AreNoHigher (suc (whole d)) (things.statement (f o) ∷ [])
 Fits Sort.bound b d from to = AreNoHigher (whole d) (things.pattern b.0 ∷ things.maybe_type b.1)
-Fits Sort.named_bound f d from to = (name : Ident) (start : ℕ) → IsNamed name start from → AreNoHigher (whole d) (things.pattern (f name).0 ∷ things.maybe_type (f name).1)
-Fits Sort.colon_bound f d from to = (name : Ident) (start : ℕ) → IsNamed name start from → AreNoHigher (whole d) (things.pattern (f name).0 ∷ things.maybe_type (f name).1)
+Fits Sort.named_bound f d from to = (name : Ident) (start : ℕ) → start ≤ from → AreNoHigher (whole d) (things.pattern (f name).0 ∷ things.maybe_type (f name).1)
+Fits Sort.colon_bound f d from to = (name : Ident) (start : ℕ) → start ≤ from → AreNoHigher (whole d) (things.pattern (f name).0 ∷ things.maybe_type (f name).1)
 Fits Sort.pattern x d from to = AreNoHigher (whole d) (things.pattern x ∷ [])
 Fits Sort.patterns xs d from to = AreNoHigher (whole d) (map things.pattern xs)
-Fits Sort.named_pattern f d from to = (name : Ident) (start : ℕ) → IsNamed name start from → AreNoHigher (whole d) (things.pattern (f name) ∷ [])
+Fits Sort.named_pattern f d from to = (name : Ident) (start : ℕ) → start ≤ from → AreNoHigher (whole d) (things.pattern (f name) ∷ [])
 Fits Sort.operand o d from to = AnExpr d o from to
 Fits Sort.operands xs d from to = AreNoHigher (whole d) (map things.expr (exprs_of xs))
 Fits Sort.operator x d from to = suc from ≤ to
@@ -128,8 +121,8 @@ Fits Sort.index_end f d from to = (o index : Operand) (start mid : ℕ) → suc 
 Fits Sort.parenthesis f d from to = (opening : Span) → AnExpr d (f opening) from to
 Fits Sort.parenthesis_end f d from to = (opening : Span) (o : Operand) → AreNoHigher (inner d) (things.expr o.expr ∷ []) → AnExpr d (f opening o) from to
 Fits Sort.typed f d from to = (ty : TypeExpr) (start : ℕ) → AType d ty start from → AnExpr d (f ty) start to
-Fits Sort.named_operand f d from to = (name : Ident) (start : ℕ) → IsNamed name start from → AnExpr d (f name) start to
-Fits Sort.named_field f d from to = (name : Ident) → name.name ≢ [] → AreNoHigher (whole d) (things.field_value (f name) ∷ [])
+Fits Sort.named_operand f d from to = (name : Ident) (start : ℕ) → start ≤ from → AnExpr d (f name) start to
+Fits Sort.named_field f d from to = (name : Ident) → AreNoHigher (whole d) (things.field_value (f name) ∷ [])
 Fits Sort.field_values p d from to = AreNoHigher (whole d) (map things.field_value p.0 ++ things.maybe_expr p.1)
 Fits Sort.elements e d from to = Rises (inner d) (map things.expr (exprs_of e.2)) from to
 Fits Sort.more_elements e d from to = AreNoHigher (whole d) (map things.expr (exprs_of e.0))
@@ -142,25 +135,16 @@ pub record Part (n : ℕ) (part : OfSort (sort_of n)) (s : State) (m : ℕ) : Ty
   pub low : Low (after (effect_of n) s m)
   pub fits : Fits (sort_of n) part (deep (after (effect_of n) s m)) (began_with (effect_of n) s) (after (effect_of n) s m).marks
 
--- a token says a name that isn't empty, where it says a name
-abbrev pub SaysNameAnd : Bool → Lexeme → Type 0 → Type 0
-SaysNameAnd true l rest = (l.bytes ≢ []) × rest
-SaysNameAnd false l rest = rest
-
 -- what is so of the parts of the body of a rule
 abbrev pub PartsFit : ℕ → (symbols : List Symbol) → PartsOf symbols → State → Type 0
 PartsFit p [] parts s = Unit {0}
-PartsFit p (Terminal kind ∷ symbols) parts s = SaysNameAnd (is_name kind) parts.0 (PartsFit p symbols parts.1 (step s (role_of p kind)))
+PartsFit p (Terminal kind ∷ symbols) parts s = PartsFit p symbols parts.1 (step s (role_of p kind))
 PartsFit p (Nonterminal n ∷ symbols) parts s = (m : ℕ) × Part n parts.0 s m × PartsFit p symbols parts.1 (after (effect_of n) s m)
-
-abbrev pub rest_of : (test : Bool) (l : Lexeme) {rest : Type 0} → SaysNameAnd test l rest → rest
-rest_of true l k = k.1
-rest_of false l k = k
 
 -- what is open behind them
 abbrev pub end_of : (p : ℕ) (symbols : List Symbol) (parts : PartsOf symbols) (s : State) → PartsFit p symbols parts s → State
 end_of p [] parts s k = s
-end_of p (Terminal kind ∷ symbols) parts s k = end_of p symbols parts.1 (step s (role_of p kind)) (rest_of (is_name kind) parts.0 k)
+end_of p (Terminal kind ∷ symbols) parts s k = end_of p symbols parts.1 (step s (role_of p kind)) k
 end_of p (Nonterminal n ∷ symbols) parts s k = end_of p symbols parts.1 (after (effect_of n) s k.0) k.2
 
 -- Where the parts of the body are so high, the part that the rule makes is; and the body does what its nonterminal does.

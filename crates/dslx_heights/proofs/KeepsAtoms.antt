@@ -26,13 +26,13 @@ keep =
     -- atom = FALSE
     (λ s _ parts k. (refl, bare_expr_up (deep s) s.marks (things.of_bool _ _))) &
     -- atom = NAME name_tail
-    (λ s _ parts (there, (_, operand, _)). (refl, operand.fits (ident_of parts.0) s.marks (record { goes = same s.marks; there = there }))) &
+    (λ s _ parts (_, operand, _). (refl, operand.fits (ident_of parts.0) s.marks (same s.marks))) &
     -- atom = FUNNAME function_tail
-    (λ s _ parts (there, (_, operand, _)). (refl, operand.fits (ident_of parts.0) s.marks (record { goes = same s.marks; there = there }))) &
+    (λ s _ parts (_, operand, _). (refl, operand.fits (ident_of parts.0) s.marks (same s.marks))) &
     -- atom = STRUCTNAME struct_tail
-    (λ s _ parts (there, (_, operand, _)). (refl, operand.fits (ident_of parts.0) s.marks (record { goes = same s.marks; there = there }))) &
+    (λ s _ parts (_, operand, _). (refl, operand.fits (ident_of parts.0) s.marks (same s.marks))) &
     -- atom = BOTHNAME both_tail
-    (λ s _ parts (there, (_, operand, _)). (refl, operand.fits (ident_of parts.0) s.marks (record { goes = same s.marks; there = there }))) &
+    (λ s _ parts (_, operand, _). (refl, operand.fits (ident_of parts.0) s.marks (same s.marks))) &
     -- atom = LPAREN parenthesis
     (λ s _ parts (_, operand, _). (refl, operand.fits parts.0.span)) &
     -- atom = block
@@ -44,7 +44,7 @@ keep =
     -- atom = for
     (λ s _ parts (_, operand, _). (refl, operand.fits)) &
     -- alias_name = TYPENAME
-    (λ s _ parts (there, _). (refl, named_type_up (deep s) (ident_of parts.0) (record { goes = same s.marks; there = there }))) &
+    (λ s _ parts k. (refl, named_type_up (deep s) (ident_of parts.0) (same s.marks))) &
     -- typed = signed
     (λ s _ parts (_, number, _). (refl, λ ty start t. typed_up (deep s) ty parts.0 t number.fits)) &
     -- typed = elements
@@ -82,7 +82,7 @@ keep =
     -- both_tail = (nothing)
     (λ s _ parts k. (refl, λ name start n. name_up (deep s) name n)) &
     -- call = LPAREN exprs RPAREN
-    (λ s _ parts (_, values, _). (refl, λ name start n. call_up (deep s) n.goes (things.of_call _ _ _ _) (name_inner (deep s) name n.there (inside s _ values.low values.fits)))) &
+    (λ s _ parts (_, values, _). (refl, λ name start n. call_up (deep s) n (things.of_call _ _ _ _) (name_inner (deep s) name (inside s _ values.low values.fits)))) &
     -- call_with_args = ARGS arg args_more GT LPAREN exprs RPAREN
     (λ s _ parts (_, arg, (m, others, (_, values, _))). (refl, λ name start n. over_args (deep s) name n (joined_up arg.fits others.fits) (inside (record { marks = m; outer = s.outer; heads = s.heads }) _ values.low values.fits) (things.of_call _ _ _ _))) &
     -- exprs = expr exprs_more
@@ -94,17 +94,17 @@ keep =
     -- exprs_more = (nothing)
     (λ s _ parts k. (refl, nothing)) &
     -- fields = FIELDS field_list RBRACE
-    (λ s _ parts (_, fields, _). (refl, λ name start n. call_up (deep s) n.goes (things.of_struct _ _ _ _) (name_inner (deep s) name n.there (inside s _ fields.low fields.fits)))) &
+    (λ s _ parts (_, fields, _). (refl, λ name start n. call_up (deep s) n (things.of_struct _ _ _ _) (name_inner (deep s) name (inside s _ fields.low fields.fits)))) &
     -- field_list = any_name field_value field_more
-    (λ s _ parts (_, name, (_, field, (_, others, _))). (refl, both (field.fits parts.0 name.fits.there) others.fits)) &
+    (λ s _ parts (_, name, (_, field, (_, others, _))). (refl, both (field.fits parts.0) others.fits)) &
     -- field_list = REST expr
     (λ s _ parts (_, others, _). (refl, all_of (deep s) others.low others.fits)) &
     -- field_list = (nothing)
     (λ s _ parts k. (refl, nothing)) &
     -- field_value = COLON expr
-    (λ s _ parts (_, value, _). (refl, λ name there. made_of (things.of_field_value _ _) (both (a_name_whole (deep s) name there) (all_of (deep s) value.low value.fits)))) &
+    (λ s _ parts (_, value, _). (refl, λ name. made_of (things.of_field_value _ _) (both (a_name_whole (deep s) name) (all_of (deep s) value.low value.fits)))) &
     -- field_value = (nothing)
-    (λ s _ parts k. (refl, λ name there. made_of (things.of_field_value _ _) (a_name_whole (deep s) name there))) &
+    (λ s _ parts k. (refl, λ name. made_of (things.of_field_value _ _) (a_name_whole (deep s) name))) &
     -- field_more = COMMA field_list
     (λ s _ parts (_, fields, _). (refl, fields.fits)) &
     -- field_more = (nothing)

@@ -34,15 +34,15 @@ keep =
     -- definition = enumeration
     (λ s _ parts (_, definition, _). (refl, definition.fits)) &
     -- any_name = NAME
-    (λ s _ parts (there, _). (refl, record { goes = same s.marks; there = there })) &
+    (λ s _ parts k. (refl, same s.marks)) &
     -- any_name = TYPENAME
-    (λ s _ parts (there, _). (refl, record { goes = same s.marks; there = there })) &
+    (λ s _ parts k. (refl, same s.marks)) &
     -- any_name = FUNNAME
-    (λ s _ parts (there, _). (refl, record { goes = same s.marks; there = there })) &
+    (λ s _ parts k. (refl, same s.marks)) &
     -- any_name = STRUCTNAME
-    (λ s _ parts (there, _). (refl, record { goes = same s.marks; there = there })) &
+    (λ s _ parts k. (refl, same s.marks)) &
     -- any_name = BOTHNAME
-    (λ s _ parts (there, _). (refl, record { goes = same s.marks; there = there })) &
+    (λ s _ parts k. (refl, same s.marks)) &
     -- open_brace = LBRACE
     (λ s _ parts k. (refl, tt)) &
     -- open_brace = FIELDS
@@ -52,7 +52,7 @@ keep =
     -- open_angle = ARGS
     (λ s _ parts k. (refl, tt)) &
     -- function = FN any_name parameters LPAREN arguments_declared RPAREN result_type block
-    (λ s _ parts (_, name, (mid, parameters, (_, arguments, (_, result, (_, body, _))))). (refl, one_up (things.of_function _) (both (a_name_whole 0 parts.1.0 name.fits.there) (both parameters.fits (both (whole_in (record { marks = mid; outer = []; heads = 0 }) _ arguments.low arguments.fits) (both (all_of 0 result.low result.fits) (block_whole 0 body.fits.1))))))) &
+    (λ s _ parts (_, name, (mid, parameters, (_, arguments, (_, result, (_, body, _))))). (refl, one_up (things.of_function _) (both (a_name_whole 0 parts.1.0) (both parameters.fits (both (whole_in (record { marks = mid; outer = []; heads = 0 }) _ arguments.low arguments.fits) (both (all_of 0 result.low result.fits) (block_whole 0 body.fits.1))))))) &
     -- result_type = ARROW type
     (λ s _ parts (_, ty, _). (refl, type_plain (deep s) ty.fits)) &
     -- result_type = (nothing)
@@ -66,7 +66,7 @@ keep =
     -- parameters_more = (nothing)
     (λ s _ parts k. (refl, nothing)) &
     -- parameter = any_name COLON type parameter_default
-    (λ s _ parts (_, name, (_, ty, (_, default, _))). (refl, made_of (things.of_parameter _) (both (a_name_whole (deep s) parts.0 name.fits.there) (both (all_type (deep s) ty.low ty.fits) default.fits)))) &
+    (λ s _ parts (_, name, (_, ty, (_, default, _))). (refl, made_of (things.of_parameter _) (both (a_name_whole (deep s) parts.0) (both (all_type (deep s) ty.low ty.fits) default.fits)))) &
     -- parameter_default = ASSIGN LBRACE expr RBRACE
     (λ s _ parts (_, value, _). (refl, inner_whole (deep s) (expr_in s _ value.low value.fits))) &
     -- parameter_default = (nothing)
@@ -80,19 +80,19 @@ keep =
     -- arguments_declared_more = (nothing)
     (λ s _ parts k. (refl, nothing)) &
     -- argument_declared = any_name COLON type
-    (λ s _ parts (_, name, (_, ty, _)). (refl, made_of (things.of_declared _) (both (a_name_whole (deep s) parts.0 name.fits.there) (all_type (deep s) ty.low ty.fits)))) &
+    (λ s _ parts (_, name, (_, ty, _)). (refl, made_of (things.of_declared _) (both (a_name_whole (deep s) parts.0) (all_type (deep s) ty.low ty.fits)))) &
     -- constant = CONST any_name constant_type ASSIGN expr SEMI
-    (λ s _ parts (_, name, (_, ty, (_, value, _))). (refl, one_up (things.of_constant _) (both (a_name_whole 0 parts.1.0 name.fits.there) (both (all_of 0 ty.low ty.fits) (all_of 0 value.low value.fits))))) &
+    (λ s _ parts (_, name, (_, ty, (_, value, _))). (refl, one_up (things.of_constant _) (both (a_name_whole 0 parts.1.0) (both (all_of 0 ty.low ty.fits) (all_of 0 value.low value.fits))))) &
     -- constant_type = COLON type
     (λ s _ parts (_, ty, _). (refl, type_plain (deep s) ty.fits)) &
     -- constant_type = (nothing)
     (λ s _ parts k. (refl, none_there (plain (deep s)) s.marks s.marks (same s.marks))) &
     -- alias = TYPE any_name ASSIGN type SEMI
-    (λ s _ parts (_, name, (_, ty, _)). (refl, one_up (things.of_alias _) (both (a_name_whole 0 parts.1.0 name.fits.there) (all_type 0 ty.low ty.fits)))) &
+    (λ s _ parts (_, name, (_, ty, _)). (refl, one_up (things.of_alias _) (both (a_name_whole 0 parts.1.0) (all_type 0 ty.low ty.fits)))) &
     -- structure = STRUCT any_name open_brace arguments_declared RBRACE
-    (λ s _ parts (mid, name, (_, brace, (_, fields, _))). (refl, one_up (things.of_structure _) (both (a_name_whole 0 parts.1.0 name.fits.there) (whole_in (record { marks = mid; outer = []; heads = 0 }) _ fields.low fields.fits)))) &
+    (λ s _ parts (mid, name, (_, brace, (_, fields, _))). (refl, one_up (things.of_structure _) (both (a_name_whole 0 parts.1.0) (whole_in (record { marks = mid; outer = []; heads = 0 }) _ fields.low fields.fits)))) &
     -- enumeration = ENUM any_name COLON type open_brace members RBRACE
-    (λ s _ parts (_, name, (mid, base, (_, brace, (_, members, _)))). (refl, one_up (things.of_enumeration _) (both (a_name_whole 0 parts.1.0 name.fits.there) (both (all_type 0 base.low base.fits) (whole_in (record { marks = mid; outer = []; heads = 0 }) _ members.low members.fits))))) &
+    (λ s _ parts (_, name, (mid, base, (_, brace, (_, members, _)))). (refl, one_up (things.of_enumeration _) (both (a_name_whole 0 parts.1.0) (both (all_type 0 base.low base.fits) (whole_in (record { marks = mid; outer = []; heads = 0 }) _ members.low members.fits))))) &
     -- members = member members_more
     (λ s _ parts (_, member, (_, others, _)). (refl, both member.fits others.fits)) &
     -- members = (nothing)
@@ -102,5 +102,5 @@ keep =
     -- members_more = (nothing)
     (λ s _ parts k. (refl, nothing)) &
     -- member = any_name ASSIGN expr
-    (λ s _ parts (_, name, (_, value, _)). (refl, made_of (things.of_constant_member _) (both (a_name_whole (deep s) parts.0 name.fits.there) (all_of (deep s) value.low value.fits)))) &
+    (λ s _ parts (_, name, (_, value, _)). (refl, made_of (things.of_constant_member _) (both (a_name_whole (deep s) parts.0) (all_of (deep s) value.low value.fits)))) &
     none

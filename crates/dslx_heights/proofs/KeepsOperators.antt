@@ -82,7 +82,7 @@ keep =
     -- index_end = PLUSCOLON type RBRACKET
     (λ s marks parts (_, ty, _). (refl, λ o first start mid mark r up. with_post marks r mark (inner_plain (deep s) (both up (type_in (record { marks = marks; outer = s.outer; heads = s.heads }) _ ty.low ty.fits))) (things.of_part _ _ _ _))) &
     -- part = any_name
-    (λ s _ parts (to, name, _). (refl, λ o start mid mark r. with_post to r (reaches (suc mid) s.marks to mark name.fits.goes) (name_plain (deep s) parts.0 name.fits.there) (things.of_field _ _ _))) &
+    (λ s _ parts (to, name, _). (refl, λ o start mid mark r. with_post to r (reaches (suc mid) s.marks to mark name.fits) (name_plain (deep s) parts.0) (things.of_field _ _ _))) &
     -- part = NUMBER
     (λ s _ parts k. (refl, λ o start mid mark r. with_post s.marks r mark (spot_plain (deep s) _) (things.of_element _ _ _ _))) &
     none

@@ -12,13 +12,13 @@ pub keep : AllKeep PROC rules
 unfolding rules
 keep =
     -- proc = PROC any_name parameters open_brace proc_members parts RBRACE
-    (λ s _ parts (_, name, (mid, parameters, (_, brace, (_, members, (_, all, _))))). (refl, one_up (things.of_proc _ _ things.abc) (both (a_name_whole 0 parts.1.0 name.fits.there) (both parameters.fits (both (whole_in (record { marks = mid; outer = []; heads = 0 }) _ members.low members.fits) (whole_in (record { marks = mid; outer = []; heads = 0 }) _ all.low all.fits)))))) &
+    (λ s _ parts (_, name, (mid, parameters, (_, brace, (_, members, (_, all, _))))). (refl, one_up (things.of_proc _ _ things.abc) (both (a_name_whole 0 parts.1.0) (both parameters.fits (both (whole_in (record { marks = mid; outer = []; heads = 0 }) _ members.low members.fits) (whole_in (record { marks = mid; outer = []; heads = 0 }) _ all.low all.fits)))))) &
     -- proc_members = proc_member proc_members
     (λ s _ parts (_, member, (_, others, _)). (refl, both member.fits others.fits)) &
     -- proc_members = (nothing)
     (λ s _ parts k. (refl, nothing)) &
     -- proc_member = any_name COLON end SEMI
-    (λ s _ parts (_, name, (_, word, _)). (refl, made_of (things.of_end _) (both (a_name_whole (deep s) parts.0 name.fits.there) word.fits))) &
+    (λ s _ parts (_, name, (_, word, _)). (refl, made_of (things.of_end _) (both (a_name_whole (deep s) parts.0) word.fits))) &
     -- end = CHAN LT type GT direction
     (λ s _ parts (_, ty, (_, direction, _)). (refl, all_type (deep s) ty.low ty.fits)) &
     -- direction = IN
@@ -54,7 +54,7 @@ keep =
     -- ends_more = (nothing)
     (λ s _ parts k. (refl, nothing)) &
     -- end_declared = any_name COLON end
-    (λ s _ parts (_, name, (_, word, _)). (refl, made_of (things.of_end _) (both (a_name_whole (deep s) parts.0 name.fits.there) word.fits))) &
+    (λ s _ parts (_, name, (_, word, _)). (refl, made_of (things.of_end _) (both (a_name_whole (deep s) parts.0) word.fits))) &
     -- makings = channel makings
     (λ s _ parts (_, making, (_, others, _)). (refl, both making.fits others.fits)) &
     -- makings = spawn makings
@@ -62,7 +62,7 @@ keep =
     -- makings = (nothing)
     (λ s _ parts k. (refl, nothing)) &
     -- channel = LET LPAREN any_name COMMA any_name RPAREN ASSIGN channel_made
-    (λ s _ parts (_, sender, (_, receiver, (_, made, _))). (refl, one_up (things.of_channel _) (both (a_name_whole (deep s) parts.1.1.0 sender.fits.there) (both (a_name_whole (deep s) parts.1.1.1.1.0 receiver.fits.there) made.fits)))) &
+    (λ s _ parts (_, sender, (_, receiver, (_, made, _))). (refl, one_up (things.of_channel _) (both (a_name_whole (deep s) parts.1.1.0) (both (a_name_whole (deep s) parts.1.1.1.1.0) made.fits)))) &
     -- channel_made = CHAN LT type channel_depth GT LPAREN STRING channel_end
     (λ s _ parts (_, ty, (_, depth, (_, end, _))). (refl, both (all_type (deep s) ty.low ty.fits) (both depth.fits (a_spot_whole (deep s) _)))) &
     -- channel_end = RPAREN SEMI
@@ -72,7 +72,7 @@ keep =
     -- channel_depth = (nothing)
     (λ s _ parts k. (refl, nothing)) &
     -- spawn = SPAWN any_name spawn_args LPAREN names RPAREN SEMI
-    (λ s _ parts (_, name, (mid, arguments, (_, names, _))). (refl, one_up (things.of_spawn _) (both (a_name_whole (deep s) parts.1.0 name.fits.there) (both (all_args (deep s) arguments.low arguments.fits) (whole_in (record { marks = mid; outer = s.outer; heads = s.heads }) _ names.low names.fits))))) &
+    (λ s _ parts (_, name, (mid, arguments, (_, names, _))). (refl, one_up (things.of_spawn _) (both (a_name_whole (deep s) parts.1.0) (both (all_args (deep s) arguments.low arguments.fits) (whole_in (record { marks = mid; outer = s.outer; heads = s.heads }) _ names.low names.fits))))) &
     -- spawn_args = open_angle arg args_more GT
     (λ s _ parts (_, angle, (_, arg, (_, others, _))). (refl, joined_up arg.fits others.fits)) &
     -- spawn_args = (nothing)
@@ -82,7 +82,7 @@ keep =
     -- config_result = (nothing)
     (λ s _ parts k. (refl, nothing)) &
     -- names = any_name names_more
-    (λ s _ parts (_, name, (_, others, _)). (refl, both (a_name_whole (deep s) parts.0 name.fits.there) others.fits)) &
+    (λ s _ parts (_, name, (_, others, _)). (refl, both (a_name_whole (deep s) parts.0) others.fits)) &
     -- names = (nothing)
     (λ s _ parts k. (refl, nothing)) &
     -- names_more = COMMA names
@@ -92,5 +92,5 @@ keep =
     -- init = INIT block
     (λ s _ parts (_, block, _). (refl, block.fits)) &
     -- next = NEXT LPAREN any_name COLON type RPAREN block
-    (λ s _ parts (_, state, (_, ty, (_, body, _))). (refl, over_next (deep s) (things.of_next _) (both (a_name_next (deep s) parts.1.1.0 state.fits.there) (both (to_next (deep s) (type_in s _ ty.low ty.fits)) body.fits.1)))) &
+    (λ s _ parts (_, state, (_, ty, (_, body, _))). (refl, over_next (deep s) (things.of_next _) (both (a_name_next (deep s) parts.1.1.0) (both (to_next (deep s) (type_in s _ ty.low ty.fits)) body.fits.1)))) &
     none

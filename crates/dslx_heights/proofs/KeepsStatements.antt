@@ -33,17 +33,17 @@ keep =
     -- let_pattern = any_name let_name
     (λ s _ parts (_, name, (_, bound, _)). (refl, bound.fits parts.0 s.marks name.fits)) &
     -- let_name = PATH any_name let_type
-    (λ s _ parts (_, member, (_, ty, _)). (refl, λ owner start n. both (member_pattern_up (deep s) owner parts.1.0 n.there member.fits.there) (all_of (deep s) ty.low ty.fits))) &
+    (λ s _ parts (_, member, (_, ty, _)). (refl, λ owner start n. both (member_pattern_up (deep s) owner parts.1.0) (all_of (deep s) ty.low ty.fits))) &
     -- let_name = name_size type_tail COLON signed let_type
     (λ s _ parts (_, size, (_, sizes, (_, number, (_, ty, _)))). (refl, λ name start n. both (number_pattern_up (deep s) (in_turn parts.1.0 (parts.0 name)) parts.1.1.1.0 sizes.low (sizes.fits (parts.0 name) start (size.fits name start n))) (all_of (deep s) ty.low ty.fits))) &
     -- let_name = COLON let_colon
     (λ s _ parts (_, bound, _). (refl, λ name start n. bound.fits name start n)) &
     -- let_name = (nothing)
-    (λ s _ parts k. (refl, λ name start n. name_pattern_up (deep s) name n.there)) &
+    (λ s _ parts k. (refl, λ name start n. name_pattern_up (deep s) name)) &
     -- let_colon = signed let_type
     (λ s _ parts (m, number, (_, ty, _)). (refl, λ name start n. both (number_pattern_up (deep s) (named_type name) parts.0 number.low (later m number.fits (named_type_up (deep s) name n))) (all_of (deep s) ty.low ty.fits))) &
     -- let_colon = type
-    (λ s _ parts (_, ty, _). (refl, λ name start n. both (name_pattern_up (deep s) name n.there) (all_type (deep s) ty.low ty.fits))) &
+    (λ s _ parts (_, ty, _). (refl, λ name start n. both (name_pattern_up (deep s) name) (all_type (deep s) ty.low ty.fits))) &
     -- let_type = COLON type
     (λ s _ parts (_, ty, _). (refl, type_plain (deep s) ty.fits)) &
     -- let_type = (nothing)
@@ -63,13 +63,13 @@ keep =
     -- plain_pattern = LPAREN patterns RPAREN
     (λ s _ parts (_, patterns, _). (refl, over_inner (deep s) (things.of_tuple_pattern _ _) (inside s _ patterns.low patterns.fits))) &
     -- pattern_name = PATH any_name
-    (λ s _ parts (_, member, _). (refl, λ owner start n. member_pattern_up (deep s) owner parts.1.0 n.there member.fits.there)) &
+    (λ s _ parts (_, member, _). (refl, λ owner start n. member_pattern_up (deep s) owner parts.1.0)) &
     -- pattern_name = COLON signed
     (λ s _ parts (m, number, _). (refl, λ name start n. number_pattern_up (deep s) (named_type name) parts.1.0 number.low (later m number.fits (named_type_up (deep s) name n)))) &
     -- pattern_name = name_size type_tail COLON signed
     (λ s _ parts (_, size, (_, sizes, (_, number, _))). (refl, λ name start n. number_pattern_up (deep s) (in_turn parts.1.0 (parts.0 name)) parts.1.1.1.0 sizes.low (sizes.fits (parts.0 name) start (size.fits name start n)))) &
     -- pattern_name = (nothing)
-    (λ s _ parts k. (refl, λ name start n. name_pattern_up (deep s) name n.there)) &
+    (λ s _ parts k. (refl, λ name start n. name_pattern_up (deep s) name)) &
     -- patterns = pattern patterns_more
     (λ s _ parts (_, pattern, (_, others, _)). (refl, both pattern.fits others.fits)) &
     -- patterns = (nothing)

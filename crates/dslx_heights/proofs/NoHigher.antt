@@ -12,14 +12,17 @@ use Rattle.dslx_tree.specs.declared.expr.Expr.{Expr, roll-Expr}
 use Rattle.dslx_tree.specs.declared.expr.FieldValue.{roll-FieldValue}
 use Rattle.dslx_tree.specs.declared.expr.For.{roll-For}
 use Rattle.dslx_tree.specs.declared.expr.Node.{Node}
+use Rattle.dslx_tree.specs.declared.expr.Node as nodes
 use Rattle.dslx_tree.specs.declared.expr.Number.{roll-Number}
 use Rattle.dslx_tree.specs.declared.block.Block.{Block}
 use Rattle.dslx_tree.specs.declared.ident.Ident.{Ident}
 use Rattle.dslx_tree.specs.declared.item.Item.{Item}
 use Rattle.dslx_tree.specs.declared.pattern.Pattern.{Pattern, roll-Pattern}
 use Rattle.dslx_tree.specs.declared.pattern.Shape.{Shape}
+use Rattle.dslx_tree.specs.declared.pattern.Shape as shapes
 use Rattle.dslx_tree.specs.declared.type_expr.TypeExpr.{TypeExpr, roll-TypeExpr}
 use Rattle.dslx_tree.specs.declared.type_expr.TypeNode.{TypeNode}
+use Rattle.dslx_tree.specs.declared.type_expr.TypeNode as types
 use Rattle.dslx_tree_lemmas.proofs.Lemmas.Levels.{Carriers}
 use Rattle.dslx_tree_lemmas.proofs.Lemmas.Folds as folds
 use Rattle.dslx_tree_lemmas.proofs.Lemmas.Folds.{Steps, fold_arg-roll, fold_arm-roll, fold_bind-roll, fold_block-roll, fold_expr-roll, fold_field-roll, fold_loop-roll, fold_node, fold_number, fold_number-roll, fold_pattern-roll, fold_shape, fold_type_expr-roll, fold_type_node, fold_loop, fold_stmt}
@@ -27,11 +30,19 @@ use Rattle.dslx_places.specs.Places.{Thing, Inside, IsMadeOf, InSomeOrder}
 use Rattle.dslx_places.specs.Places as things
 use Rattle.dslx_heights.specs.Heights.{arg_height, arg_level, arm_height, arm_level, block_height, block_level, config_height, definition_height, end_height, expr_height, expr_level, field_height, field_value_height, field_value_level, for_level, highest, item_height, let_level, making_height, member_height, next_height, node_level, number_level, parameter_height, pattern_height, pattern_level, shape_level, stmt_height, stmt_level, type_expr_height, type_expr_level, type_node_level, where_written}
 
+-- a name, by itself or as an expression, a type or a pattern
+pub data IsAName : Thing → Type 0 where
+  itself : (name : Ident) → IsAName (things.ident name)
+  as_expr : (span : Span) (name : List ℕ) → IsAName (things.expr_at span (nodes.Name name))
+  as_type : (span : Span) (name : List ℕ) → IsAName (things.type_at span (types.Name name))
+  as_pattern : (span : Span) (name : List ℕ) → IsAName (things.pattern_at span (shapes.Name name))
+
 -- None of these parts is higher than this. A part with a place of its own is one higher than the highest one in it, and
 -- any other part as high as the highest of those that it is made of.
 pub data AreNoHigher : ℕ → List Thing → Type 0 where
   nothing : {n : ℕ} → AreNoHigher n []
   placed : {x : Thing} {span : Span} {inner more : List Thing} {n : ℕ} → Inside x span inner → AreNoHigher n inner → AreNoHigher (suc n) more → AreNoHigher (suc n) (x ∷ more)
+  called : {x : Thing} {more : List Thing} {n : ℕ} → IsAName x → AreNoHigher (suc n) more → AreNoHigher (suc n) (x ∷ more)
   spread : {x : Thing} {inner more : List Thing} {n : ℕ} → IsMadeOf x inner → AreNoHigher n (inner ++ more) → AreNoHigher n (x ∷ more)
 
 -- ---- the heights of parts
@@ -261,9 +272,16 @@ made_up (things.of_end e) n (_, (t, _)) = t
 
 -- ---- all parts
 
+name_low : {x : Thing} → IsAName x → (n : ℕ) → height x ≤ suc n
+name_low (itself name) n = none_by (suc n)
+name_low (as_expr span name) n = expr_up span _ _ n (folds.fold_node-Name numbers levels name) (none_by n)
+name_low (as_type span name) n = type_up span _ _ n (folds.fold_type_node-Name numbers levels name) (none_by n)
+name_low (as_pattern span name) n = pattern_up span _ _ n (folds.fold_shape-Name numbers levels name) (none_by n)
+
 below : {n : ℕ} {xs : List Thing} → AreNoHigher n xs → Below n xs
 below nothing = tt
 below (placed {n = n} inside under more) = (inside_up inside n (below under), below more)
+below (called {n = n} is more) = (name_low is n, below more)
 below {n} (spread {inner = inner} {more = more} made rest) = let parts = split n inner more (below rest) in (made_up made n parts.0, parts.1)
 
 pub no_higher : (n : ℕ) (items : List Item) → AreNoHigher n (map things.item items) → highest (map item_height items) ≤ n

@@ -1,6 +1,6 @@
 -- Parts made of other parts, and how high they are.
 use Rattle.std.proofs.Common.{◌≤◌, ◌+◌, ℕ, zero, suc, List, [], ◌∷◌, ◌++◌, sym, subst, arith}
-use Rattle.std.specs.Prelude.{◌≢◌, None, Some}
+use Rattle.std.specs.Prelude.{None, Some}
 use Rattle.std.proofs.lemmas.List.{append_assoc, append-nil}
 use Rattle.xb_span.specs.declared.span.Span.{Span}
 use Rattle.dslx_token.specs.Lexeme.{Lexeme}
@@ -12,8 +12,8 @@ use Rattle.dslx_syntax.specs.Nodes.{Numeral, arg_of, array_type, bare_number, bl
 use Rattle.dslx_places.specs.Places.{Thing, Inside, IsMadeOf}
 use Rattle.dslx_places.specs.Places as things
 use Rattle.dslx_heights.specs.Heights.{height_within}
-use Rattle.dslx_heights.proofs.NoHigher.{AreNoHigher, nothing, placed, spread}
-use Rattle.dslx_heights.proofs.Fits.{AType, AnExpr, IsNamed, Rises, argument, inner, plain, room, typed, whole}
+use Rattle.dslx_heights.proofs.NoHigher.{AreNoHigher, as_expr, as_pattern, as_type, called, itself, nothing, placed, spread}
+use Rattle.dslx_heights.proofs.Fits.{AType, AnExpr, Rises, argument, inner, plain, room, typed, whole}
 use Rattle.dslx_heights.proofs.States.{Low, State, base, deep}
 
 -- ---- lists of parts
@@ -25,11 +25,14 @@ pub wider : {n : ℕ} {xs : List Thing} → AreNoHigher n xs → (m : ℕ) → n
 wider nothing m le = nothing
 wider (placed {n = n} inside under more) zero le = absurd (none_fits le)
 wider (placed {n = n} inside under more) (suc m) le = placed inside (wider under m (omega (arith, le))) (wider more (suc m) le)
+wider (called is more) zero le = absurd (none_fits le)
+wider (called is more) (suc m) le = called is (wider more (suc m) le)
 wider (spread made more) m le = spread made (wider more m le)
 
 pub both : {n : ℕ} {xs ys : List Thing} → AreNoHigher n xs → AreNoHigher n ys → AreNoHigher n (xs ++ ys)
 both nothing others = others
 both (placed inside under more) others = placed inside under (both more others)
+both (called is more) others = called is (both more others)
 both {n = n} {ys = ys} (spread {inner = inner} {more = more} made rest) others =
     spread made (subst (λ (zs : List Thing). AreNoHigher n zs) (append_assoc inner more ys) (both rest others))
 
@@ -43,8 +46,8 @@ one_up inside up = placed inside up nothing
 pub one_by : {n : ℕ} {x : Thing} {span : Span} {inner : List Thing} (m : ℕ) → suc n ≤ m → Inside x span inner → AreNoHigher n inner → AreNoHigher m (x ∷ [])
 one_by m le inside up = wider (one_up inside up) m le
 
-pub name_by : (n : ℕ) (name : Ident) → name.name ≢ [] → AreNoHigher (suc n) (things.ident name ∷ [])
-name_by n name there = one_up (things.of_ident name there) nothing
+pub name_by : (n : ℕ) (name : Ident) → AreNoHigher (suc n) (things.ident name ∷ [])
+name_by n name = called (itself name) nothing
 
 pub spot_by : (n : ℕ) (span : Span) → AreNoHigher (suc n) (things.spot span ∷ [])
 spot_by n span = one_up (things.of_spot span) nothing
@@ -154,8 +157,8 @@ type_in s m low r = inside s m low (all_type (deep (record { marks = m; outer = 
 pub inner_plain : {xs : List Thing} (d : ℕ) → AreNoHigher (inner d) xs → AreNoHigher (plain d) xs
 inner_plain d up = wider up (plain d) (omega arith)
 
-pub name_plain : (d : ℕ) (name : Ident) → name.name ≢ [] → AreNoHigher (plain d) (things.ident name ∷ [])
-name_plain d name there = wider (name_by 0 name there) (plain d) (omega arith)
+pub name_plain : (d : ℕ) (name : Ident) → AreNoHigher (plain d) (things.ident name ∷ [])
+name_plain d name = wider (name_by 0 name) (plain d) (omega arith)
 
 pub spot_plain : (d : ℕ) (span : Span) → AreNoHigher (plain d) (things.spot span ∷ [])
 spot_plain d span = wider (spot_by 0 span) (plain d) (omega arith)
@@ -197,23 +200,22 @@ with_post c r mark up inside = around_mark r mark (still c c (same c) up) inside
 pub expr_node : {h : ℕ} {x : Thing} {span : Span} {inner : List Thing} {from to : ℕ} (d : ℕ) → suc h ≤ plain d → Inside x span inner → Rises h inner from to → Rises (plain d) (x ∷ []) from to
 expr_node d le inside r = raised (plain d) le (node_up inside r)
 
-pub name_up : (d : ℕ) (name : Ident) {from to : ℕ} → IsNamed name from to → AnExpr d (name_alone name) from to
-name_up d name {from} {to} n = up_to (plain d) from to (omega arith) n.goes (one_up {n = 0} (things.of_name name.span name.name n.there) nothing)
+pub name_up : (d : ℕ) (name : Ident) {from to : ℕ} → from ≤ to → AnExpr d (name_alone name) from to
+name_up d name {from} {to} n = up_to (plain d) from to (omega arith) n (called {n = 0} (as_expr name.span name.name) nothing)
 
-pub named_type_up : (d : ℕ) (name : Ident) {from to : ℕ} → IsNamed name from to → AType d (named_type name) from to
-named_type_up d name {from} {to} n = up_to (typed d) from to (omega arith) n.goes (one_up {n = 0} (things.of_type_name name.span name.name n.there) nothing)
+pub named_type_up : (d : ℕ) (name : Ident) {from to : ℕ} → from ≤ to → AType d (named_type name) from to
+named_type_up d name {from} {to} n = up_to (typed d) from to (omega arith) n (called {n = 0} (as_type name.span name.name) nothing)
 
-pub name_pattern_up : (d : ℕ) (name : Ident) → name.name ≢ [] → AreNoHigher (whole d) (things.pattern (name_pattern name) ∷ [])
-name_pattern_up d name there = one_by {n = 0} (whole d) (omega arith) (things.of_name_pattern name.span name.name there) nothing
+pub name_pattern_up : (d : ℕ) (name : Ident) → AreNoHigher (whole d) (things.pattern (name_pattern name) ∷ [])
+name_pattern_up d name = wider (called {n = 0} (as_pattern name.span name.name) nothing) (whole d) (omega arith)
 
-pub member_up : (d : ℕ) (owner member : Ident) {a b c : ℕ} → IsNamed owner a b → IsNamed member b c → AnExpr d (member_of owner member) a c
+pub member_up : (d : ℕ) (owner member : Ident) {a b c : ℕ} → a ≤ b → b ≤ c → AnExpr d (member_of owner member) a c
 member_up d owner member {a} {b} {c} n m =
-    let first = n.goes in let second = m.goes in
-    up_to (plain d) a c (omega arith) (omega (arith, first, second)) (one_up {n = 1} (things.of_member (from_to owner.span member.span) owner member) (both (name_by 0 owner n.there) (name_by 0 member m.there)))
+    up_to (plain d) a c (omega arith) (omega (arith, n, m)) (one_up {n = 1} (things.of_member (from_to owner.span member.span) owner member) (both (name_by 0 owner) (name_by 0 member)))
 
-pub member_pattern_up : (d : ℕ) (owner member : Ident) → owner.name ≢ [] → member.name ≢ [] → AreNoHigher (whole d) (things.pattern (member_pattern owner member) ∷ [])
-member_pattern_up d owner member n m =
-    one_by {n = 1} (whole d) (omega arith) (things.of_member_pattern (from_to owner.span member.span) owner member) (both (name_by 0 owner n) (name_by 0 member m))
+pub member_pattern_up : (d : ℕ) (owner member : Ident) → AreNoHigher (whole d) (things.pattern (member_pattern owner member) ∷ [])
+member_pattern_up d owner member =
+    one_by {n = 1} (whole d) (omega arith) (things.of_member_pattern (from_to owner.span member.span) owner member) (both (name_by 0 owner) (name_by 0 member))
 
 pub number_up : (d : ℕ) (n : Numeral) (from to : ℕ) → from ≤ to → AnExpr d (bare_number n) from to
 number_up d n from to le = up_to (plain d) from to (omega arith) le (one_up {n = 0} (things.of_number n.span None n.is_negative n.value) nothing)
@@ -235,9 +237,9 @@ pub bare_arg_up : (d : ℕ) (n : Numeral) (from to : ℕ) → from ≤ to → Ri
 bare_arg_up d n from to le =
     up_to (argument d) from to (omega arith) le (one_up {n = 1} (things.of_arg n.span (bare_number n).expr) (one_up {n = 0} (things.of_number n.span None n.is_negative n.value) nothing))
 
-pub name_arg_up : (d : ℕ) (name : Ident) {from to : ℕ} → IsNamed name from to → Rises (argument d) (things.arg (arg_of (name_alone name)) ∷ []) from to
+pub name_arg_up : (d : ℕ) (name : Ident) {from to : ℕ} → from ≤ to → Rises (argument d) (things.arg (arg_of (name_alone name)) ∷ []) from to
 name_arg_up d name {from} {to} n =
-    up_to (argument d) from to (omega arith) n.goes (one_up {n = 1} (things.of_arg name.span (name_alone name).expr) (one_up {n = 0} (things.of_name name.span name.name n.there) nothing))
+    up_to (argument d) from to (omega arith) n (one_up {n = 1} (things.of_arg name.span (name_alone name).expr) (called {n = 0} (as_expr name.span name.name) nothing))
 
 pub array_type_up : (d : ℕ) (element : TypeExpr) (size : Operand) (closing : Lexeme) {a b : ℕ} (c : ℕ) → AType d element a b → suc b ≤ c → AreNoHigher (inner d) (things.expr size.expr ∷ []) → AType d (array_type element size closing) a c
 array_type_up d element size closing c t mark up =
@@ -251,8 +253,8 @@ block_value_up d b {from} {to} block = up_to (plain d) from to (omega arith) blo
 pub block_whole : {xs : List Thing} (d : ℕ) → AreNoHigher (suc (suc (inner d))) xs → AreNoHigher (whole d) xs
 block_whole d up = wider up (whole d) (omega arith)
 
-pub a_name_whole : (d : ℕ) (name : Ident) → name.name ≢ [] → AreNoHigher (whole d) (things.ident name ∷ [])
-a_name_whole d name there = wider (name_by 0 name there) (whole d) (omega arith)
+pub a_name_whole : (d : ℕ) (name : Ident) → AreNoHigher (whole d) (things.ident name ∷ [])
+a_name_whole d name = wider (name_by 0 name) (whole d) (omega arith)
 
 -- ---- more parts by themselves
 
@@ -290,17 +292,17 @@ pub inner_expr : {xs : List Thing} (d m : ℕ) → AreNoHigher (inner d) xs → 
 inner_expr d m up = up_to (plain d) m m (omega arith) (same m) up
 
 -- a name, and what stands in the brackets behind it
-pub name_inner : {xs : List Thing} (d : ℕ) (name : Ident) → name.name ≢ [] → AreNoHigher (inner d) xs → AreNoHigher (suc (inner d)) (things.ident name ∷ xs)
-name_inner d name there up = both (name_by (inner d) name there) (one_higher up)
+pub name_inner : {xs : List Thing} (d : ℕ) (name : Ident) → AreNoHigher (inner d) xs → AreNoHigher (suc (inner d)) (things.ident name ∷ xs)
+name_inner d name up = both (name_by (inner d) name) (one_higher up)
 
 pub call_up : {x : Thing} {span : Span} {xs : List Thing} {from to : ℕ} (d : ℕ) → from ≤ to → Inside x span xs → AreNoHigher (suc (inner d)) xs → Rises (plain d) (x ∷ []) from to
 call_up {from = from} {to = to} d le inside up = up_to (plain d) from to (omega arith) le (one_up inside up)
 
 -- a name, arguments between `<` and `>`, and what stands in the brackets behind them
-pub over_args : {x : Thing} {span : Span} {xs ys : List Thing} {a b c : ℕ} (d : ℕ) (name : Ident) → IsNamed name a b → Rises (argument d) xs b c → AreNoHigher (inner d) ys → Inside x span (things.ident name ∷ (xs ++ ys)) → Rises (plain d) (x ∷ []) a c
+pub over_args : {x : Thing} {span : Span} {xs ys : List Thing} {a b c : ℕ} (d : ℕ) (name : Ident) → a ≤ b → Rises (argument d) xs b c → AreNoHigher (inner d) ys → Inside x span (things.ident name ∷ (xs ++ ys)) → Rises (plain d) (x ∷ []) a c
 over_args {a = a} {b = b} {c = c} d name n args up inside =
     expr_node d (omega arith) inside
-    (joined_up (up_to (argument d) a b (omega arith) n.goes (name_by 0 name n.there)) (joined_up args (up_to (argument d) c c (omega arith) (same c) up)))
+    (joined_up (up_to (argument d) a b (omega arith) n (name_by 0 name)) (joined_up args (up_to (argument d) c c (omega arith) (same c) up)))
 
 -- ---- heads, loops and blocks
 
@@ -331,8 +333,8 @@ over_config d inside up = one_by (whole d) (omega arith) inside up
 pub over_next : {x : Thing} {span : Span} {xs : List Thing} (d : ℕ) → Inside x span xs → AreNoHigher (suc (suc (inner d))) xs → AreNoHigher (whole d) (x ∷ [])
 over_next d inside up = one_by (whole d) (omega arith) inside up
 
-pub a_name_next : (d : ℕ) (name : Ident) → name.name ≢ [] → AreNoHigher (suc (suc (inner d))) (things.ident name ∷ [])
-a_name_next d name there = wider (name_by 0 name there) (suc (suc (inner d))) (omega arith)
+pub a_name_next : (d : ℕ) (name : Ident) → AreNoHigher (suc (suc (inner d))) (things.ident name ∷ [])
+a_name_next d name = wider (name_by 0 name) (suc (suc (inner d))) (omega arith)
 
 pub to_next : {xs : List Thing} (d : ℕ) → AreNoHigher (inner d) xs → AreNoHigher (suc (suc (inner d))) xs
 to_next d up = wider up (suc (suc (inner d))) (omega arith)

@@ -96,9 +96,10 @@ and_right true b e = e
 and_right false b e = absurd (cc)
 
 pub ready_part : (at : Ready) (p n : ℕ) (symbols : List Symbol) → is_ready at p (Nonterminal n ∷ symbols) ≡ true → (may_begin at (effect_of n) ≡ true) × (is_ready (ready_after at (effect_of n)) p symbols ≡ true)
-ready_part at p n symbols ready =
-    (and_left (may_begin at (effect_of n)) (is_ready (ready_after at (effect_of n)) p symbols) ready,
-    and_right (may_begin at (effect_of n)) (is_ready (ready_after at (effect_of n)) p symbols) ready)
+ready_part at p n symbols ready = (
+  and_left (may_begin at (effect_of n)) (is_ready (ready_after at (effect_of n)) p symbols) ready,
+  and_right (may_begin at (effect_of n)) (is_ready (ready_after at (effect_of n)) p symbols) ready,
+)
 
 none : (n : ℕ) → 0 ≤ n
 none n = omega arith

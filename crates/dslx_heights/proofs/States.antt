@@ -182,6 +182,7 @@ past_later n i others none = later (is_past n) none
 -- the state before the last token is low, too
 pub all_low : (s : State) (roles : List Role) (last : Role) (i : ℕ) → position_from is_past i (nestings_from (around s) (roles ++ last ∷ [])) ≡ None → AllLow s roles
 all_low s [] last i none = low_by s last (not_past (nesting_in (around s) last) i _ none)
-all_low s (role ∷ roles) last i none =
-    (low_by s role (not_past (nesting_in (around s) role) i _ none),
-    all_low (step s role) roles last (i + 1) (subst (λ (a : Around). position_from is_past (i + 1) (nestings_from a (roles ++ last ∷ [])) ≡ None) (same_behind s role) (past_later (nesting_in (around s) role) i _ none)))
+all_low s (role ∷ roles) last i none = (
+  low_by s role (not_past (nesting_in (around s) role) i _ none),
+  all_low (step s role) roles last (i + 1) (subst (λ (a : Around). position_from is_past (i + 1) (nestings_from a (roles ++ last ∷ [])) ≡ None) (same_behind s role) (past_later (nesting_in (around s) role) i _ none)),
+)

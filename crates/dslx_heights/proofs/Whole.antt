@@ -14,14 +14,13 @@ use Rattle.dslx_tree.specs.declared.item.Module.{Module}
 use Rattle.dslx_nesting.specs.Nesting.{first_past}
 use Rattle.dslx_nesting.specs.declared.role.Role.{Role}
 use Rattle.dslx_nesting.specs.declared.role.Role.TheVariants.{Plain}
-use Rattle.dslx_places.specs.Along.{AreAlong}
 use Rattle.dslx_roles.specs.Roles.{role_of, roles_of}
 use Rattle.dslx_syntax.specs.SymbolParts.{MakingRule, PartsOf}
 use Rattle.dslx_syntax.specs.Trees.{IsTextOf, Makes, empty, leaf, branch, making_rules, rule_of}
 use Rattle.dslx_heights.specs.Heights.{NestWithin, height_of, kinds_in, most_high}
 use Rattle.dslx_heights.proofs.NoHigher.{no_higher}
 use Rattle.dslx_heights.proofs.Effects.{outside_with}
-use Rattle.dslx_heights.proofs.Going.{AreNamed, go}
+use Rattle.dslx_heights.proofs.Going.{go}
 use Rattle.dslx_heights.proofs.Ready.{outside}
 use Rattle.dslx_heights.proofs.States.{AllLow, State, all_low, step}
 use Rattle.dslx_heights.proofs.Takers.{roles_along, roles_are}
@@ -102,10 +101,6 @@ low_to_end s (role ∷ front) low = (low.0, low_to_end (step s role) front low.1
 
 -- ---- a whole text
 
-are_named : (ls : List Lexeme) (from to : ℕ) → AreAlong ls from to → AreNamed ls
-are_named [] from to along = tt
-are_named (l ∷ ls) from to along = (along.2, are_named ls l.span.to to along.3)
-
 roles_is : TheLaws → (ls : List Lexeme) (m : Module) → (text : IsTextOf ls m) → roles_of (productions_of text.forest) (kinds_in ls) ≡ roles_along 0 text.forest
 roles_is laws ls m text =
     let grows : Grows dslx.rules (start_of dslx) text.forest = subst (λ symbols. Grows dslx.rules symbols text.forest) (sym start_is) (made_grows dslx.rules laws.same text.makes) in
@@ -122,8 +117,8 @@ all_low_along roles ends none =
     let past : first_past (ends.front ++ Plain ∷ []) ≡ None = subst (λ (rs : List Role). first_past rs ≡ None) ends.whole none in
     subst (AllLow (outside_with 0)) (sym ends.whole) (low_to_end (outside_with 0) ends.front (all_low (outside_with 0) ends.front Plain 0 past))
 
-pub text_is_up : TheLaws → (ls : List Lexeme) (m : Module) (to : ℕ) → AreAlong ls 0 to → IsTextOf ls m → NestWithin ls → height_of m ≤ most_high
-text_is_up laws ls m to along text within =
+pub text_is_up : TheLaws → (ls : List Lexeme) (m : Module) → IsTextOf ls m → NestWithin ls → height_of m ≤ most_high
+text_is_up laws ls m text within =
     let low = all_low_along (roles_along 0 text.forest) (text_ends text.makes refl) (none_past laws ls m text within) in
-    let goes = go 0 text.makes outside (outside_with 0) refl refl (are_named ls 0 to along) low in
+    let goes = go 0 text.makes outside (outside_with 0) refl refl low in
     no_higher most_high m.items goes.fit.1.fits

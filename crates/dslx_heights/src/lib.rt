@@ -6,17 +6,15 @@
 //! brackets, and so about half the square of the limit on nesting.
 #![tactic(auto)]
 
-ghost use Rattle.std.specs.Prelude.{◌≡◌, ◌≤◌, ℕ, List};
+ghost use Rattle.std.specs.Prelude.{◌≡◌, ◌≤◌, List};
 ghost use Rattle.dslx_heights.specs.Heights.{NestWithin, height_of, most_high};
-ghost use Rattle.dslx_places.specs.Along.{AreAlong};
 ghost use Rattle.dslx_syntax.specs.Trees.{IsTextOf};
 ghost use Rattle.dslx_token.specs.Lexeme.{Lexeme};
 ghost use Rattle.dslx_tree.specs.declared.item.Module.{Module};
 
 /// The tree of a text in which no token is nested deeper than the limit is no higher than 8,906.
 pub fn trees_are_shallow()
-    ensures high { (ls : List Lexeme) (m : Module) (to : ℕ) → AreAlong ls 0 to → IsTextOf ls m → NestWithin ls
-        → height_of m ≤ most_high }
+    ensures high { (ls : List Lexeme) (m : Module) → IsTextOf ls m → NestWithin ls → height_of m ≤ most_high }
     ensures number { most_high ≡ 8906 }
 {
     dslx_syntax::all_rules_make();
