@@ -1,7 +1,7 @@
 //! The commands of a design: `check` and `run`.
 //!
 //! What each gives stands in `specs/Commands`, and what is written in `specs/Written`. [`run_text`] writes what a run of any
-//! network shows, whatever its procs are made of.
+//! network shows, whatever its procs are made of and however many workers make it.
 //!
 //! Cost: linear in the files, and in the events of a run.
 #![tactic(auto)]
@@ -14,5 +14,5 @@ mod source;
 
 pub use check::{accepted, check_design};
 pub use run::run_design;
-pub use running::{depths, run_text};
+pub use running::run_text;
 pub use source::{inputs_of, read_design};

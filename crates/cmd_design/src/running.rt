@@ -2,35 +2,52 @@
 
 ghost use Rattle.std.specs.Prelude.{◌≡◌, IfOk, map};
 ghost use Rattle.net_core.specs.WellFormed.{IsNet, IsInputs, IsDepths, AreBehaviorsOf};
+ghost use Rattle.cmd_words.specs.Bounds.{IsWorkerCount};
 ghost use Rattle.cmd_design.specs.Written.{depth_by, depths_by, run_text};
 
 use chan_file::outcome_text;
+use cmd_words::How;
 use net_core::{Body, Inputs, Kind, Net};
-use net_run::run_one;
+use proc_runner::run_threads;
 use std::alloc::{AllocError, Global};
+use std::sync::Wait;
+use std::thread::Threads;
+use xb_io::Gate;
 
-/// The text of what a run shows, in which each proc makes at most so many activations.
-pub fn run_text<B: Body>(
+/// The text of what a run shows. It is the same for every number of workers; one worker takes no thread.
+pub fn run_text<B: Body + Sync, R: Threads + Wait + Sync, G: Gate + Sync>(
+    rt: &R,
     alloc: Global,
     net: &Net,
     bodies: &[B],
     inputs: &Inputs,
-    activations: u32,
-    depths: &[u32],
+    how: How,
+    gate: &G,
 ) -> Result<Vec<u8>, AllocError>
     requires net { IsNet net.now }
     requires bodies { AreBehaviorsOf net.now (map B.behavior bodies.now) }
     requires inputs { IsInputs net.now inputs.now.words }
-    requires depths { IsDepths net.now depths.now }
-    ensures { IfOk result (λ text. text.items ≡ run_text net.now (map B.behavior bodies.now) inputs.now activations depths.now) }
+    requires workers { IsWorkerCount how.workers }
+    ensures { IfOk result (λ text. text.items ≡ run_text net.now (map B.behavior bodies.now) inputs.now how.activations (depths_by how.depth net.now)) }
 {
-    let outcome = run_one(alloc, net, bodies, inputs, activations, depths)?;
+    let depths = depths(alloc, net, how.depth)?;
+    let outcome = run_threads(
+        rt,
+        alloc,
+        net,
+        bodies,
+        inputs,
+        how.activations,
+        depths.as_slice(),
+        how.workers,
+        gate,
+    )?;
     let text = outcome_text(alloc, net, &outcome)?;
     Ok(text.into_bytes())
 }
 
 /// The depth that each channel of a network has, 1 at least: where one is said, that is the depth of inner channels.
-pub fn depths(alloc: Global, net: &Net, said: Option<u32>) -> Result<Vec<u32>, AllocError>
+fn depths(alloc: Global, net: &Net, said: Option<u32>) -> Result<Vec<u32>, AllocError>
     ensures depths { IfOk result (λ depths. depths.items ≡ depths_by said net.now) }
     ensures fit { IfOk result (λ depths. IsDepths net.now depths.items) }
 {

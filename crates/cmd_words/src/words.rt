@@ -2,7 +2,7 @@ ghost use Rattle.std.specs.Prelude.{◌≡◌, ◌≤◌, IfOk, IfSome, Option, 
 ghost use Rattle.clap.specs.Words.{first_of, found_of, rows_of, subcommand_rows_of};
 ghost use Rattle.cmd_words.specs.CommandLine.{depth_in, most_in, said_by, said_by_check, said_by_opt, said_by_run, said_by_schedule, said_by_sim, said_by_subcommand, said_of_how, said_of_timing, source_in, workers_in};
 ghost use Rattle.cmd_words.specs.Named.{named, named_check, named_opt, named_run, named_schedule, named_sim};
-ghost use Rattle.cmd_words.specs.Bounds.{IsInBounds};
+ghost use Rattle.cmd_words.specs.Bounds.{IsInBounds, IsWorkerCount};
 
 use crate::command::command;
 use crate::number::read_number;
@@ -52,7 +52,8 @@ fn check<'a>(matches: &ArgMatches<'a>) -> Option<Check<&'a str>>
 }
 
 fn run<'a>(matches: &ArgMatches<'a>) -> Option<Run<&'a str>>
-    ensures { option_map named_run result ≡ said_by_run (rows_of (found_of matches.now)) }
+    ensures said { option_map named_run result ≡ said_by_run (rows_of (found_of matches.now)) }
+    ensures bounds { IfSome result (λ said. IsWorkerCount said.how.workers) }
 {
     let Some(design) = text(matches, "design") else {
         return None;
@@ -71,7 +72,8 @@ fn run<'a>(matches: &ArgMatches<'a>) -> Option<Run<&'a str>>
 }
 
 fn how(matches: &ArgMatches<'_>) -> Option<How>
-    ensures { result ≡ said_of_how (rows_of (found_of matches.now)) }
+    ensures said { result ≡ said_of_how (rows_of (found_of matches.now)) }
+    ensures bounds { IfSome result (λ how. IsWorkerCount how.workers) }
 {
     let Some(number) = text(matches, "activations") else {
         return None;
@@ -97,7 +99,8 @@ fn how(matches: &ArgMatches<'_>) -> Option<How>
 }
 
 fn workers(text: Option<&str>) -> Option<u32>
-    ensures { result ≡ workers_in (option_map (λ word. word.now) text.entry) }
+    ensures said { result ≡ workers_in (option_map (λ word. word.now) text.entry) }
+    ensures bounds { IfSome result IsWorkerCount }
 {
     match text {
         Some(number) => read_number(number, 1, 16),

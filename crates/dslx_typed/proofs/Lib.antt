@@ -32,3 +32,5 @@ pub mod OfMatches
 pub mod OfWritten
 -- turns of loops, and functions
 pub mod OfFunctions
+-- number parameters of calls
+pub mod OfNumbers

@@ -1,9 +1,8 @@
 -- What the turns of a loop give by its patterns and its body, and what a function gives by its body.
-use Rattle.std.proofs.Common.{◌≡◌, ◌++◌, ◌==◌, ℕ, suc, length, Bool, true, false, if◌then◌else◌, List, [], ◌∷◌, Option, Some, None, refl, sym, ap, subst, ◌∙◌}
+use Rattle.std.proofs.Common.{◌≡◌, ◌++◌, suc, length, Bool, true, false, if◌then◌else◌, List, [], ◌∷◌, Option, Some, None, refl, sym, ap, subst, ◌∙◌}
 use mathlib.Core.Bool.{true≢false}
 use Rattle.std.proofs.lemmas.Bool.Decides.{Decides-eqb}
 use Rattle.xb_span.specs.declared.span.Span.{Span}
-use Rattle.xb_span.specs.declared.fault.Fault.{Fault}
 use Rattle.dslx_tree.specs.declared.block.Block.{Block, out-Block}
 use Rattle.dslx_tree.specs.declared.item.Field.{Field}
 use Rattle.dslx_tree.specs.declared.item.Function.{Function}

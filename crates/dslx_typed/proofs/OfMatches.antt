@@ -1,5 +1,5 @@
 -- What a `match` gives.
-use Rattle.std.proofs.Common.{◌≡◌, ◌&&◌, ◌||◌, ◌++◌, ℕ, Bool, true, false, not, if◌then◌else◌, List, [], ◌∷◌, map, Option, Some, None, refl, sym, ap, subst, ◌∙◌}
+use Rattle.std.proofs.Common.{◌≡◌, ◌&&◌, ◌||◌, ◌++◌, Bool, true, false, if◌then◌else◌, List, [], ◌∷◌, map, Option, Some, None, refl, sym, ap, subst, ◌∙◌}
 use mathlib.Core.Bool.{true≢false}
 use Rattle.std.specs.List.{list_all}
 use Rattle.xb_span.specs.declared.span.Span.{Span}
@@ -9,16 +9,16 @@ use Rattle.dslx_meaning.specs.Environment.{Env}
 use Rattle.dslx_meaning.specs.Meaning.{ArmMeant, all_names, first_fit, take_arm, value_without, match_arms}
 use Rattle.dslx_meaning.specs.declared.ty.DslxType.{DslxType}
 use Rattle.dslx_meaning.specs.declared.value.DslxValue.{DslxValue}
-use Rattle.dslx_rules.specs.Judging.{Sight, ExprPair, breaks_if, has_broken, alone, types_of}
+use Rattle.dslx_rules.specs.Judging.{Sight, ExprPair, alone, types_of}
 use Rattle.dslx_rules.specs.Judgings.{ArmSeen}
 use Rattle.dslx_rules.specs.ConstantRules.{is_empty}
 use Rattle.dslx_rules.specs.PatternRules.{is_there}
-use Rattle.dslx_rules.specs.ControlRules.{ArmJudged, arm_judged, arm_values, all_known, all_like, differ, some_binds, not_exhaustive, first_of_types, match_faults, arms_faults, match_judged}
+use Rattle.dslx_rules.specs.ControlRules.{arm_judged, arm_values, all_known, all_like, differ, some_binds, not_exhaustive, first_of_types, match_faults, arms_faults, match_judged}
 use Rattle.dslx_laws.proofs.Lemmas.{and_true}
 use Rattle.dslx_typed.specs.Kinds.{is_of}
 use Rattle.dslx_typed.specs.Declared.{IsDeclared}
 use Rattle.dslx_typed.specs.Given.{GivesOf, GivesItsType}
-use Rattle.dslx_typed.specs.WellTyped.{types_at, comes_to_an_arm, ArmGives, EachArmGives}
+use Rattle.dslx_typed.specs.WellTyped.{types_at, comes_to_an_arm, EachArmGives}
 use Rattle.dslx_typed.proofs.Judged.{none_some, same_some, or_false, not_false, unbroken_parts, rule_holds, settled_type}
 use Rattle.dslx_typed.proofs.OneName.{list_parts, one_of_text, like_itself}
 use Rattle.dslx_typed.proofs.OfLists.{all_there}

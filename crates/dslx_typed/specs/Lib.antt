@@ -8,3 +8,5 @@ pub mod Kinds
 pub mod WellTyped
 -- what is bound, as constants see it
 pub mod InSight
+-- number parameters
+pub mod Numbers

@@ -25,7 +25,7 @@ pub use control::{
     blocks_give_values_of_their_types, branches_give_values_of_their_types,
     matches_give_values_of_their_types,
 };
-pub use functions::functions_give_values_of_their_types;
+pub use functions::{calls_find_their_number_parameters, functions_give_values_of_their_types};
 pub use loops::loops_give_values_of_their_types;
 pub use names::names_give_values_of_their_types;
 pub use operations::operations_give_values_of_their_types;

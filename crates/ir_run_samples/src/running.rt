@@ -4,11 +4,19 @@ use cmd_ir::run_package;
 use cmd_words::{How, Run, Source};
 use std::alloc::Global;
 use std::process::Abort;
+use std::sync::Wait;
 use std::test::Fail;
-use xb_io::{MemFile, MemFiles};
+use std::thread::Threads;
+use xb_io::{MemFile, MemFiles, OpenGate};
 
 /// What a run of this package shows, in which each proc makes at most so many activations.
-fn shown(alloc: Global, text: &str, inputs: &str, activations: u32) -> Result<String, Fail> {
+fn shown<R: Threads + Wait + Sync>(
+    rt: &R,
+    alloc: Global,
+    text: &str,
+    inputs: &str,
+    activations: u32,
+) -> Result<String, Fail> {
     let design = MemFile::new(alloc, "t.ir", text.as_bytes())?;
     let words = MemFile::new(alloc, "in.txt", inputs.as_bytes())?;
     let mut files = MemFiles::new(vec![in alloc; design, words]?, Vec::new(alloc));
@@ -22,21 +30,21 @@ fn shown(alloc: Global, text: &str, inputs: &str, activations: u32) -> Result<St
             source: Source::Ir,
         },
     };
-    match run_package(alloc, &mut files, run) {
+    match run_package(rt, alloc, &mut files, run, &OpenGate) {
         Ok(text) => Ok(String::from_str(alloc, str::from_utf8(&text)?)?),
         Err(_) => Err(Fail::from("refused")),
     }
 }
 
-fn expect(
-    rt: &impl Abort,
+fn expect<R: Threads + Wait + Abort + Sync>(
+    rt: &R,
     alloc: Global,
     text: &str,
     inputs: &str,
     activations: u32,
     out: &str,
 ) -> Result<(), Fail> {
-    let found = shown(alloc, text, inputs, activations)?;
+    let found = shown(rt, alloc, text, inputs, activations)?;
     assert_eq!(rt; found.as_str(), out, "{text}");
     Ok(())
 }

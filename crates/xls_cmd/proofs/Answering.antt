@@ -1,7 +1,6 @@
 -- What is answered to words, by what their command gives.
-use Rattle.std.proofs.Common.{◌≡◌, ◌<◌, ◌≤◌, ◌⊎◌, inl, inr, ◌++◌, ℕ, Bool, true, false, nat_lt, List, [], Option, Some, None, Result, Ok, Err, refl, sym, ap, ◌∙◌, subst}
+use Rattle.std.proofs.Common.{◌≡◌, ◌⊎◌, inl, inr, ◌++◌, ℕ, true, List, [], Option, Some, None, Result, Ok, Err, refl, sym, ap, ◌∙◌, subst}
 use Rattle.std.specs.Prelude.{IfSome}
-use Rattle.std.proofs.lemmas.Bool.{le-ltb, lt-ltb}
 use Rattle.std.proofs.lemmas.List.{append-nil}
 use Rattle.xb_io.specs.Contents.{Contents}
 use Rattle.cmd_answer.specs.Answered.{Answers, wrote, refused, no_memory, unread, unwritten}
@@ -26,7 +25,7 @@ use Rattle.cmd_words.specs.declared.request.Run.{Run as SaidRun}
 use Rattle.cmd_words.specs.declared.request.Schedule.{Schedule as SaidSchedule}
 use Rattle.cmd_words.specs.declared.request.Opt.{Opt as SaidOpt}
 use Rattle.cmd_words.specs.declared.request.Sim.{Sim as SaidSim}
-use Rattle.xls_cmd.specs.Answer.{due, due_for, due_of, due_of_opt, due_of_opt_by, due_of_run, due_of_schedule, due_of_schedule_by, due_where, files_of, files_of_opt, files_of_opt_by, files_of_run, files_of_schedule, files_of_schedule_by, files_where, is_exact, is_exact_by, is_exact_for, named_files, named_for, run_by, status_for}
+use Rattle.xls_cmd.specs.Answer.{by_workers, due, due_for, due_of, due_of_opt, due_of_opt_by, due_of_run, due_of_schedule, due_of_schedule_by, files_of, files_of_opt, files_of_opt_by, files_of_schedule, files_of_schedule_by, is_exact, is_exact_by, is_exact_for, named_files, named_for, run_by, status_for}
 
 -- each command gives one thing
 pub record TheLaws : Type 0 where
@@ -41,9 +40,11 @@ run_is_one : TheLaws → (source : Source) (said : SaidRun (List ℕ)) (holds : 
 run_is_one laws Dslx said holds = laws.run holds said
 run_is_one laws Ir said holds = laws.run_ir holds said
 
-due_where_is_one : TheLaws → (several : Bool) (said : SaidRun (List ℕ)) (holds : Contents) → IsOne (due_where several said (Some holds))
-due_where_is_one laws true said holds a b is also = is ∙ sym also
-due_where_is_one laws false said holds a b is also = run_is_one laws said.how.source said holds a b is.1 also.1
+-- what a run gives is the same by any number of workers
+pub any_workers : (source : Source) (holds : Contents) (said : SaidRun (List ℕ)) (count : ℕ) (given : Result (List ℕ) Fault) →
+    (run_by source holds (by_workers count said) given → run_by source holds said given) × (run_by source holds said given → run_by source holds (by_workers count said) given)
+any_workers Dslx holds said count given = (λ is. is, λ is. is)
+any_workers Ir holds said count given = (λ is. is, λ is. is)
 
 schedule_is_one : TheLaws → (source : Source) (said : SaidSchedule (List ℕ)) (holds : Contents) → IsOne (due_of_schedule_by source said (Some holds))
 schedule_is_one laws Dslx said holds a b is also = is ∙ sym also
@@ -55,7 +56,7 @@ opt_is_one Ir said holds exact a b is also = absurd (cc)
 
 due_of_is_one : TheLaws → (said : Request (List ℕ)) (holds : Contents) → is_exact_for (Some said) ≡ true → IsOne (due_of said (Some holds))
 due_of_is_one laws (Check said) holds exact a b is also = laws.check holds said a b is.1 also.1
-due_of_is_one laws (Run said) holds exact a b is also = due_where_is_one laws (nat_lt 1 said.how.workers) said holds a b is also
+due_of_is_one laws (Run said) holds exact a b is also = run_is_one laws said.how.source said holds a b is.1 also.1
 due_of_is_one laws (Sim said) holds exact a b is also = laws.sim holds said a b is.1 also.1
 due_of_is_one laws (Schedule said) holds exact a b is also = schedule_is_one laws said.source said holds a b is also
 due_of_is_one laws (Opt said) holds exact a b is also = opt_is_one said.source said holds exact a b is also
@@ -110,19 +111,9 @@ module _ {V : Type 0} (items : V → List ℕ) (words : List (List ℕ)) (told :
       let done : IsDone items (due_for None told) [] files given = record { names = []; in_order = tt; asked = asks; gives = gives } in
       subst (λ (s : Option (Request (List ℕ))). IsDone items (due_for s told) (named_for s) files given) is done
 
-  -- a run with as many workers as there may be
-  pub done_where : (several : Bool) (said : SaidRun (List ℕ)) → several ≡ nat_lt 1 said.how.workers → IsDone items (due_where several said told) (files_where several said) files given → IsDone items (due_of_run said told) (files_of_run said) files given
-  done_where several said is done = subst (λ b. IsDone items (due_where b said told) (files_where b said) files given) is done
-
-  -- a run in one thread, of what its file is written in
-  pub done_by_source : (source : Source) (said : SaidRun (List ℕ)) → said.how.source ≡ source → said.how.workers ≤ 1 → IsDone items (DueBy told (λ holds. run_by source holds said)) (design.run_files said) files given → IsDone items (due_of_run said told) (files_of_run said) files given
-  done_by_source source said is few done =
-      done_where false said (sym (le-ltb 1 said.how.workers few))
-      (subst (λ s. IsDone items (DueBy told (λ holds. run_by s holds said)) (design.run_files said) files given) (sym is) done)
-
-  -- a run in several threads is to come
-  pub refused_where : (said : SaidRun (List ℕ)) → 1 < said.how.workers → IsDone items (due_where true said told) [] files given → IsDone items (due_of_run said told) (files_of_run said) files given
-  refused_where said several done = done_where true said (sym (lt-ltb 1 said.how.workers several)) done
+  -- a run of what its file is written in
+  pub done_by_source : (source : Source) (said : SaidRun (List ℕ)) → said.how.source ≡ source → IsDone items (DueBy told (λ holds. run_by source holds said)) (design.run_files said) files given → IsDone items (due_of_run said told) (design.run_files said) files given
+  done_by_source source said is done = subst (λ s. IsDone items (DueBy told (λ holds. run_by s holds said)) (design.run_files said) files given) (sym is) done
 
   -- a schedule of what it may be made of
   pub schedule_by_source : (source : Source) (said : SaidSchedule (List ℕ)) → source ≡ said.source → IsDone items (due_of_schedule_by source said told) (files_of_schedule_by source said) files given →

@@ -1,5 +1,5 @@
 -- What the program answers to words, by what the files hold.
-use Rattle.std.specs.Prelude.{◌≡◌, ℕ, nat_lt, Bool, true, false, List, [], Option, Some, None, Result, Ok, Err}
+use Rattle.std.specs.Prelude.{◌≡◌, ℕ, Bool, true, false, List, [], Option, Some, None, Result, Ok, Err}
 use Rattle.xb_io.specs.Contents.{Contents}
 use Rattle.cmd_answer.specs.Fault.{Fault, status_of}
 use Rattle.cmd_answer.specs.Step.{DueBy, Step}
@@ -23,13 +23,12 @@ abbrev pub run_by : Source → Contents → Run (List ℕ) → Step (List ℕ)
 run_by Dslx holds said = design.run holds said
 run_by Ir holds said = ir.run holds said
 
--- runs with more than one worker are to come
-abbrev pub due_where : Bool → Run (List ℕ) → Option Contents → Step (List ℕ)
-due_where true said told given = given ≡ Err Usage
-due_where false said told given = DueBy told (λ holds. run_by said.how.source holds said) given
+-- the same run by so many workers
+abbrev pub by_workers : ℕ → Run (List ℕ) → Run (List ℕ)
+by_workers count said = record said { how = record said.how { workers = count } }
 
 abbrev pub due_of_run : Run (List ℕ) → Option Contents → Step (List ℕ)
-due_of_run said told = due_where (nat_lt 1 said.how.workers) said told
+due_of_run said told given = DueBy told (λ holds. run_by said.how.source holds said) given
 
 -- schedules of designs are to come
 abbrev pub due_of_schedule_by : Source → Schedule (List ℕ) → Option Contents → Step (List ℕ)
@@ -56,13 +55,6 @@ due_of (request.Sim said) told given = DueBy told (λ holds. simulation.sim hold
 due_of (request.Schedule said) told given = due_of_schedule said told given
 due_of (request.Opt said) told given = due_of_opt said told given
 
-abbrev pub files_where : Bool → Run (List ℕ) → List (List ℕ)
-files_where true said = []
-files_where false said = design.run_files said
-
-abbrev pub files_of_run : Run (List ℕ) → List (List ℕ)
-files_of_run said = files_where (nat_lt 1 said.how.workers) said
-
 abbrev pub files_of_schedule_by : Source → Schedule (List ℕ) → List (List ℕ)
 files_of_schedule_by Dslx said = []
 files_of_schedule_by Ir said = schedules.schedule_files said
@@ -80,7 +72,7 @@ files_of_opt said = files_of_opt_by said.source said
 -- the files that the words of each name, in the order in which they are loaded
 abbrev pub files_of : Request (List ℕ) → List (List ℕ)
 files_of (request.Check said) = design.check_files said
-files_of (request.Run said) = files_of_run said
+files_of (request.Run said) = design.run_files said
 files_of (request.Sim said) = simulation.sim_files said
 files_of (request.Schedule said) = files_of_schedule said
 files_of (request.Opt said) = files_of_opt said

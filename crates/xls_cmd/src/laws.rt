@@ -1,9 +1,12 @@
 //! Laws of what the program answers, each the contract of a function that calls the laws of the commands.
-ghost use Rattle.std.specs.Prelude.{◌≡◌, ℕ, List, Some, true};
+ghost use Rattle.std.specs.Prelude.{◌≡◌, ℕ, List, Result, Some, true};
+ghost use Rattle.cmd_answer.specs.Fault.{Fault};
+ghost use Rattle.cmd_words.specs.declared.request.Run.{Run};
+ghost use Rattle.cmd_words.specs.declared.request.Source.{Source};
 ghost use Rattle.xb_io.specs.Contents.{Contents};
 ghost use Rattle.cmd_answer.specs.Step.{IsOne};
 ghost use Rattle.cmd_opt.specs.Agrees.{Agrees};
-ghost use Rattle.xls_cmd.specs.Answer.{due, is_exact};
+ghost use Rattle.xls_cmd.specs.Answer.{by_workers, due, is_exact, run_by};
 
 /// The words and the files determine what is due, but for the text of an optimised package.
 pub fn one_answer()
@@ -16,3 +19,10 @@ pub fn one_answer()
     cmd_schedule::laws::one_answer();
     cmd_opt::laws::answers_agree();
 }
+
+/// What a run gives is the same by any number of workers.
+pub fn any_workers()
+    ensures { (source : Source) (holds : Contents) (said : Run (List ℕ)) (count : ℕ) (given : Result (List ℕ) Fault) →
+        (run_by source holds (by_workers count said) given → run_by source holds said given)
+        × (run_by source holds said given → run_by source holds (by_workers count said) given) }
+{}

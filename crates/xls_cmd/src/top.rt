@@ -4,8 +4,9 @@ ghost use Rattle.cmd_answer.specs.Answered.{IsAnswered};
 ghost use Rattle.cmd_answer.specs.Done.{IsDone};
 ghost use Rattle.cmd_answer.specs.Events.{file_events, sink_events};
 ghost use Rattle.cmd_answer.specs.Fault.{Fault as Cause};
-ghost use Rattle.xls_cmd.specs.Answer.{due, due_of, due_of_opt, due_of_run, due_of_schedule, files_of, files_of_opt, files_of_run, files_of_schedule, named_files, status_for};
-ghost use Rattle.cmd_words.specs.Bounds.{IsInBounds};
+ghost use Rattle.xls_cmd.specs.Answer.{due, due_of, due_of_opt, due_of_run, due_of_schedule, files_of, files_of_opt, files_of_schedule, named_files, status_for};
+ghost use Rattle.cmd_design.specs.Commands.{run_files};
+ghost use Rattle.cmd_words.specs.Bounds.{IsInBounds, IsWorkerCount};
 ghost use Rattle.cmd_words.specs.Named.{named, named_opt, named_run, named_schedule};
 
 use crate::laws::one_answer;
@@ -24,15 +25,16 @@ use xb_io::{Files, Gate, Sink};
 /// What the program does, from its words (without its own name) to its status.
 ///
 /// The output goes to `out`, in one piece that is built before it is put; a line that says why there is none goes to
-/// `err`, and never changes the status.
+/// `err`, and never changes the status. A run by several workers takes a thread for each; `gate` is called before each of
+/// their turns.
 pub fn xls_main<R: Threads + Wait + Sync, F: Files, O: Sink, E: Sink, G: Gate + Sync>(
-    _rt: &R,
+    rt: &R,
     alloc: Global,
     words: &[String],
     files: &mut F,
     out: &mut O,
     err: &mut E,
-    _gate: &G,
+    gate: &G,
 ) -> u8
     ensures answered { let texts = map string_bytes words.now in
         IsAnswered (due texts (F.told files.old)) (named_files texts)
@@ -46,61 +48,65 @@ pub fn xls_main<R: Threads + Wait + Sync, F: Files, O: Sink, E: Sink, G: Gate + 
         (result ≡ status_for given) ⊎ (result ≡ 3)) }
 {
     one_answer();
-    let given = execute(alloc, words, files);
+    let given = execute(rt, alloc, words, files, gate);
     respond(given, out, err)
 }
 
 /// The output of the command that the words say.
-fn execute<'a, F: Files>(
+fn execute<'a, R: Threads + Wait + Sync, F: Files, G: Gate + Sync>(
+    rt: &R,
     alloc: Global,
     words: &'a [String],
     files: &mut F,
+    gate: &G,
 ) -> Result<Vec<u8>, Refusal<'a>>
     ensures { let texts = map string_bytes words.entry.now in
         IsDone (λ text. text.items) (due texts (F.told files.old)) (named_files texts)
         (file_events F.asked F.faults F.taken files.old files.new) result }
 {
     match read_words(alloc, words) {
-        Ok(Some(said)) => requested(alloc, files, said),
+        Ok(Some(said)) => requested(rt, alloc, files, said, gate),
         Ok(None) => Err(Refusal::Fault(Fault::Usage)),
         Err(_) => Err(Refusal::OutOfMemory),
     }
 }
 
 /// The output of a command.
-fn requested<'a, F: Files>(
+fn requested<'a, R: Threads + Wait + Sync, F: Files, G: Gate + Sync>(
+    rt: &R,
     alloc: Global,
     files: &mut F,
     said: Request<&'a str>,
+    gate: &G,
 ) -> Result<Vec<u8>, Refusal<'a>>
-    requires { IsInBounds said }
+    requires bounds { IsInBounds said }
     ensures { IsDone (λ text. text.items) (due_of (named said.entry) (F.told files.old)) (files_of (named said.entry))
         (file_events F.asked F.faults F.taken files.old files.new) result }
 {
     match said {
         Request::Check(said) => check_design(alloc, files, said),
-        Request::Run(said) => run(alloc, files, said),
+        Request::Run(said) => run(rt, alloc, files, said, gate),
         Request::Sim(said) => sim_design(alloc, files, said),
         Request::Schedule(said) => schedule(alloc, files, said),
         Request::Opt(said) => opt(alloc, files, said),
     }
 }
 
-/// The output of a run, in this thread.
-fn run<'a, F: Files>(
+/// The output of a run.
+fn run<'a, R: Threads + Wait + Sync, F: Files, G: Gate + Sync>(
+    rt: &R,
     alloc: Global,
     files: &mut F,
     said: Run<&'a str>,
+    gate: &G,
 ) -> Result<Vec<u8>, Refusal<'a>>
-    ensures { IsDone (λ text. text.items) (due_of_run (named_run said.entry) (F.told files.old)) (files_of_run (named_run said.entry))
+    requires { IsWorkerCount said.how.workers }
+    ensures { IsDone (λ text. text.items) (due_of_run (named_run said.entry) (F.told files.old)) (run_files (named_run said.entry))
         (file_events F.asked F.faults F.taken files.old files.new) result }
 {
-    if 1 < said.how.workers {
-        return Err(Refusal::Fault(Fault::Usage));
-    }
     match said.how.source {
-        Source::Dslx => run_design(alloc, files, said),
-        Source::Ir => run_package(alloc, files, said),
+        Source::Dslx => run_design(rt, alloc, files, said, gate),
+        Source::Ir => run_package(rt, alloc, files, said, gate),
     }
 }
 

@@ -133,10 +133,74 @@ fn packages_are_run_or_refused(rt: HostRuntime) -> Result<(), Fail> {
         "",
         fault,
         "inputs",
-    )?;
-    let usage = "usage: xls check, ir, opt, schedule, verilog, run, sim or gen\n";
-    let to_come = "run inc.x in.txt --activations 2 --workers 2";
-    expect(&rt, &run(&rt, to_come, INC, "")?, 2, "", usage, "workers")
+    )
+}
+
+/// P sends each number on c, and each odd one on d. Q receives from d in its even activations, then from c.
+const TWO: &str = "package Main
+chan c(bits[8], id=0, kind=inner, depth=1)
+chan d(bits[8], id=1, kind=inner, depth=1)
+proc P(st: bits[8], init=0) {
+  after_all.1: token = after_all(id=1)
+  send.2: token = send(after_all.1, st, channel=c, id=2)
+  bit_slice.3: bits[1] = bit_slice(st, start=0, width=1, id=3)
+  send.4: token = send(send.2, st, predicate=bit_slice.3, channel=d, id=4)
+  literal.5: bits[8] = literal(value=1, id=5)
+  add.6: bits[8] = add(st, literal.5, id=6)
+  next(add.6)
+}
+proc Q(st: bits[1], init=0) {
+  after_all.1: token = after_all(id=1)
+  not.2: bits[1] = not(st, id=2)
+  receive.3: (token, bits[8]) = receive(after_all.1, predicate=not.2, channel=d, id=3)
+  tuple_index.4: token = tuple_index(receive.3, index=0, id=4)
+  receive.5: (token, bits[8]) = receive(tuple_index.4, channel=c, id=5)
+  next(not.2)
+}
+";
+
+#[test]
+fn any_number_of_workers_writes_the_same(rt: HostRuntime) -> Result<(), Fail> {
+    let held =
+        "chan c 1/0: 0x00\nchan d 0/0:\nproc P state 0x01 stalled 1 send c\nproc Q state 0x0 stalled 0 recv d\n";
+    let done =
+        "chan c 2/2: 0x00 0x01\nchan d 1/1: 0x01\nproc P state 0x02 done\nproc Q state 0x0 done\n";
+    let inc = "in a 1: 0x0f\nout b 1: 0x10\nproc Inc state () done\n";
+    for (words, design, inputs, out) in [
+        (
+            "run inc.x in.txt --activations 2 --from ir --depth 2 --workers 1",
+            TWO,
+            "",
+            done,
+        ),
+        (
+            "run inc.x in.txt --activations 2 --from ir --depth 2 --workers 2",
+            TWO,
+            "",
+            done,
+        ),
+        (
+            "run inc.x in.txt --activations 2 --from ir --depth 2 --workers 16",
+            TWO,
+            "",
+            done,
+        ),
+        (
+            "run inc.x in.txt --activations 2 --from ir --workers 2",
+            TWO,
+            "",
+            held,
+        ),
+        (
+            "run inc.x in.txt --activations 1 --workers 16",
+            INC,
+            "chan a\n0xF\n",
+            inc,
+        ),
+    ] {
+        expect(&rt, &run(&rt, words, design, inputs)?, 0, out, "", words)?;
+    }
+    Ok(())
 }
 
 const ASK: &str = "package Ask

@@ -11,17 +11,17 @@ use Rattle.cmd_design.proofs.Steps.{same_text}
 use Rattle.cmd_design.proofs.run.run_loaded.Goals as goal
 
 pub returns-in_err-design-clause-refused : goal.returns-in_err-design-clause-refused
-returns-in_err-design-clause-refused c =
+returns-in_err-design-clause-refused g c =
     err_handed c.from_residual.result c.in_err-design.field-0.0 (StopsBy (run_texts (named_run c.args.said.now) c.args.bytes.now c.args.file.now)) c.from_residual.ensures.1
     (stops_in_first (ReadsDesign c.args.said.now.design.now c.args.bytes.now)
     (λ m. Then (ReadsInputs c.args.said.now.inputs.now c.args.file.now (network_of m top)) (λ words. Gives (Ok (run_text (network_of m top) (behaviors_of m top) words c.args.said.now.how.activations (depths_by c.args.said.now.how.depth (network_of m top))))))
     c.in_err-design.field-0.0 c.in_err-design.ensures.refused)
 
 pub inputs_of-requires-clause-net : goal.inputs_of-requires-clause-net
-inputs_of-requires-clause-net c = c.in_ok-design.ensures.reads.is.fits.net
+inputs_of-requires-clause-net g c = c.in_ok-design.ensures.reads.is.fits.net
 
 pub returns-in_err-inputs-clause-refused : goal.returns-in_err-inputs-clause-refused
-returns-in_err-inputs-clause-refused c =
+returns-in_err-inputs-clause-refused g c =
     let is = c.in_ok-design.ensures.reads in
     let net = network_of is.tree top in
     err_handed c.from_residual-in_err-inputs.result c.in_err-inputs.field-0.0 (StopsBy (run_texts (named_run c.args.said.now) c.args.bytes.now c.args.file.now)) c.from_residual-in_err-inputs.ensures.1
@@ -32,10 +32,10 @@ returns-in_err-inputs-clause-refused c =
     c.in_err-inputs.field-0.0 (subst (λ n. StopsBy (ReadsInputs c.args.said.now.inputs.now c.args.file.now n) c.in_err-inputs.field-0.0) is.is.network c.in_err-inputs.ensures.refused)))
 
 pub ran-requires-clause-design : goal.ran-requires-clause-design
-ran-requires-clause-design c = c.in_ok-design.ensures.reads.is.fits
+ran-requires-clause-design g c κs within = c.in_ok-design.ensures.reads.is.fits
 
 pub returns-clause-gives : goal.returns-clause-gives
-returns-clause-gives c =
+returns-clause-gives g c =
     let is = c.in_ok-design.ensures.reads in
     let net = network_of is.tree top in
     goes_on is.tree (Ok c.in_ok-text.text.items) is.reads

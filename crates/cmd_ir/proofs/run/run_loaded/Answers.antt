@@ -13,17 +13,17 @@ use Rattle.cmd_ir.proofs.Steps.{shown_by}
 use Rattle.cmd_ir.proofs.run.run_loaded.Goals as goal
 
 pub returns-in_err-ir-clause-refused : goal.returns-in_err-ir-clause-refused
-returns-in_err-ir-clause-refused c =
+returns-in_err-ir-clause-refused g c =
     err_handed c.from_residual.result c.in_err-ir.field-0.0 (StopsBy (run_texts (named_run c.args.said.now) c.args.bytes.now c.args.file.now)) c.from_residual.ensures.1
     (stops_in_first (ReadsPackage c.args.said.now.design.now c.args.bytes.now)
     (λ ir. Then (ReadsInputs c.args.said.now.inputs.now c.args.file.now (network_of ir)) (λ words. Gives (shown_by (named_run c.args.said.now) ir words)))
     c.in_err-ir.field-0.0 c.in_err-ir.ensures.refused)
 
 pub inputs_of-requires-clause-net : goal.inputs_of-requires-clause-net
-inputs_of-requires-clause-net c = subst IsNet (sym (c.in_ok-net.ensures {u = tt})) (network_fits c.in_ok-ir.ir c.in_ok-ir.ensures.verified)
+inputs_of-requires-clause-net g c = subst IsNet (sym (c.in_ok-net.ensures {u = tt})) (network_fits c.in_ok-ir.ir c.in_ok-ir.ensures.verified)
 
 pub returns-in_err-inputs-clause-refused : goal.returns-in_err-inputs-clause-refused
-returns-in_err-inputs-clause-refused c =
+returns-in_err-inputs-clause-refused g c =
     let ir = c.in_ok-ir.ir in
     err_handed c.from_residual-in_err-inputs.result c.in_err-inputs.field-0.0 (StopsBy (run_texts (named_run c.args.said.now) c.args.bytes.now c.args.file.now)) c.from_residual-in_err-inputs.ensures.1
     (stops_in_next (ReadsPackage c.args.said.now.design.now c.args.bytes.now)
@@ -33,7 +33,7 @@ returns-in_err-inputs-clause-refused c =
     c.in_err-inputs.field-0.0 (subst (λ n. StopsBy (ReadsInputs c.args.said.now.inputs.now c.args.file.now n) c.in_err-inputs.field-0.0) (c.in_ok-net.ensures {u = tt}) c.in_err-inputs.ensures.refused)))
 
 pub returns-clause-gives : goal.returns-clause-gives
-returns-clause-gives c =
+returns-clause-gives g c =
     let ir = c.in_ok-ir.ir in
     goes_on ir (Ok c.in_ok-text.text.items) c.in_ok-ir.ensures.reads
     (goes_on c.in_ok-inputs.inputs (Ok c.in_ok-text.text.items) (subst (λ n. ReadsInputs c.args.said.now.inputs.now c.args.file.now n (Ok c.in_ok-inputs.inputs)) (c.in_ok-net.ensures {u = tt}) c.in_ok-inputs.ensures.says)

@@ -10,5 +10,5 @@ returns-in-Ok-Some g c =
     (file_events g.F.Files.asked g.F.Files.faults g.F.Files.taken c.args.files.now c.requested.new.files) c.requested.result (named c.in-Ok-Some.said)
     (rw c.in-Ok-Some.field-0-is at c.in-Ok-Some.ensures.said) c.requested.ensures
 
-pub requested-requires : goal.requested-requires
-requested-requires g c = rw c.in-Ok-Some.field-0-is at c.in-Ok-Some.ensures.bounds
+pub requested-requires-clause-bounds : goal.requested-requires-clause-bounds
+requested-requires-clause-bounds g c κs within = rw c.in-Ok-Some.field-0-is at c.in-Ok-Some.ensures.bounds

@@ -1,21 +1,16 @@
-use Rattle.std.proofs.Common.{[], refl}
+use Rattle.std.proofs.Common.{[]}
 use Rattle.cmd_answer.specs.Events.{file_events}
 use Rattle.cmd_words.specs.Named.{named_run}
 use Rattle.cmd_words.specs.declared.request.Source.TheVariants.{Dslx, Ir}
-use Rattle.xls_cmd.proofs.Answering.{done_by_source, nothing_asked, refused_where}
+use Rattle.xls_cmd.proofs.Answering.{done_by_source}
 use Rattle.xls_cmd.proofs.top.run.Goals as goal
-
-pub returns-then-said-gt1 : goal.returns-then-said-gt1
-returns-then-said-gt1 g c =
-    refused_where (λ text. text.items) [] (g.F.Files.told c.args.files.now) (file_events g.F.Files.asked g.F.Files.faults g.F.Files.taken c.args.files.now c.args.files.now) _ (named_run c.args.said) c.if-said-gt1.true
-    (record { names = []; in_order = tt; asked = nothing_asked (g.F.Files.asked c.args.files.now); gives = (refl, refl, tt) })
 
 pub returns-in-Dslx : goal.returns-in-Dslx
 returns-in-Dslx g c =
     done_by_source (λ text. text.items) [] (g.F.Files.told c.args.files.now) (file_events g.F.Files.asked g.F.Files.faults g.F.Files.taken c.args.files.now c.run_design.new.files) c.run_design.result
-    Dslx (named_run c.args.said) c.in-Dslx.is c.if-said-gt1.false c.run_design.ensures
+    Dslx (named_run c.args.said) c.in-Dslx.is c.run_design.ensures
 
 pub returns-in-Ir : goal.returns-in-Ir
 returns-in-Ir g c =
     done_by_source (λ text. text.items) [] (g.F.Files.told c.args.files.now) (file_events g.F.Files.asked g.F.Files.faults g.F.Files.taken c.args.files.now c.run_package.new.files) c.run_package.result
-    Ir (named_run c.args.said) c.in-Ir.is c.if-said-gt1.false c.run_package.ensures
+    Ir (named_run c.args.said) c.in-Ir.is c.run_package.ensures
