@@ -15,8 +15,8 @@ import subprocess
 import sys
 import tempfile
 
-from check_program import (CHAIN, CHAIN_LONG, CHAIN_OUTCOME, CHAIN_RUN, CHAIN_SCHEDULE, CHAIN_WORDS, DESIGN, OUTCOME, PAIR, PAIR_OUTCOME, RUN,
-                           TWO, TWO_DEEPER, TWO_RUN, USAGE, WORDS)
+from check_program import (CHAIN, CHAIN_LONG, CHAIN_OUTCOME, CHAIN_RUN, CHAIN_SCHEDULE, CHAIN_WORDS, COUNTED, COUNTER, DESIGN, NARROW, OUTCOME,
+                           PAIR, PAIR_OUTCOME, ROWS, RUN, TWO, TWO_DEEPER, TWO_RUN, USAGE, WIDE, WORDS)
 
 FAILING = r"""
 #define _GNU_SOURCE
@@ -72,6 +72,8 @@ CASES = [
     ("run late.ir chain.txt --activations 3 --from ir", ("", "late.ir: rule 51 at 459..504\n", 7)),
     ("schedule chain.ir --clock 100 --from ir", (CHAIN_SCHEDULE, "", 0)),
     ("schedule chain.ir --clock 100 --stages 2 --from ir", ("", CHAIN_LONG, 9)),
+    ("opt wide.ir --from ir", (NARROW, "", 0)),
+    ("sim counter.v rows.txt", (COUNTED, "", 0)),
     ("run inc.x", ("", USAGE, 2)),
     ("check missing.x", ("", "cannot read missing.x\n", 4)),
     ("check in.txt", ("", "in.txt: syntax at 0\n", 6)),
@@ -84,7 +86,7 @@ WANTING = ("", "out of memory\n", 3)
 def lay_out(folder):
     files = {"inc.x": DESIGN, "in.txt": "chan a\n0x00\n0xff\n", "pair.x": PAIR, "pair.txt": WORDS,
              "broken.x": DESIGN.replace("x + u8", "y + u8"), "twice.txt": "chan a\nchan a\n",
-             "chain.ir": CHAIN, "chain.txt": CHAIN_WORDS, "two.ir": TWO, "empty": "",
+             "chain.ir": CHAIN, "chain.txt": CHAIN_WORDS, "two.ir": TWO, "empty": "", "wide.ir": WIDE, "counter.v": COUNTER, "rows.txt": ROWS,
              "late.ir": CHAIN.replace("add(add.6, literal.5, id=7)", "add(add.8, literal.5, id=7)")}
     for name, text in files.items():
         with open(os.path.join(folder, name), "w", encoding="utf-8") as file:

@@ -74,6 +74,7 @@ always @(posedge clk) begin if (rst) begin n <= 8'd250; end
   else begin n <= nx; end end
 endmodule
 """
+ROWS = "- b!\nR\n- b!\n-\n- b! x2\n"
 COUNTED = "0 b=0x00\n1\n2 b=0xfa\n3 b=0xfb\n4 b=0xfb\n5 b=0xfc\nmoved b 3: 0xfa 0xfb 0xfc\n"
 ASK = example("ask.ir")
 CHAIN_SCHEDULE = """proc Chain stages 3 interval 1
@@ -114,6 +115,41 @@ NARROW = WIDE_HEAD + """  zero_ext.7: bits[9] = zero_ext(tuple_index.5, new_bit_
   next(st)
 }
 """
+# Packages that say the same once they are optimised: their nodes and words, what a run of them shows, and an operation that goes.
+SENDS = """package S
+chan a(bits[8], id=0, kind=input)
+chan b(TYPE, id=1, kind=output)
+proc S(st: (), init=()) {
+  after_all.1: token = after_all(id=1)
+NODES  next(st)
+}
+"""
+QUOTIENTS = """  literal.2: bits[8] = literal(value=7, id=2)
+  literal.3: bits[8] = literal(value=0, id=3)
+  udiv.4: bits[8] = udiv(literal.2, literal.3, id=4)
+  umod.5: bits[8] = umod(literal.2, literal.3, id=5)
+  tuple.6: (bits[8], bits[8]) = tuple(udiv.4, umod.5, id=6)
+  send.7: token = send(after_all.1, tuple.6, channel=b, id=7)
+"""
+SHIFTED = """  literal.2: bits[8] = literal(value=1, id=2)
+  literal.3: bits[16] = literal(value=256, id=3)
+  shll.4: bits[8] = shll(literal.2, literal.3, id=4)
+  send.5: token = send(after_all.1, shll.4, channel=b, id=5)
+"""
+UNREAD_WORD = """  receive.2: (token, bits[8]) = receive(after_all.1, channel=a, id=2)
+  tuple_index.3: bits[8] = tuple_index(receive.2, index=1, id=3)
+  not.4: bits[8] = not(tuple_index.3, id=4)
+"""
+OPTIMISED = [
+    ("a sum in nine bits", WIDE, "chan a\n(0xff, 0xff)\n", 1, "in a 1: (0xff, 0xff)\nout b 1: 0x000001fe\nproc P state 0x0 done\n",
+     "add.9: bits[32]"),
+    ("quotients by 0", SENDS.replace("TYPE", "(bits[8], bits[8])").replace("NODES", QUOTIENTS), "", 1,
+     "in a 0:\nout b 1: (0xff, 0x00)\nproc S state () done\n", "udiv"),
+    ("a shift by more than the width", SENDS.replace("TYPE", "bits[8]").replace("NODES", SHIFTED), "", 1,
+     "in a 0:\nout b 1: 0x00\nproc S state () done\n", "shll"),
+    ("a word that nobody reads", SENDS.replace("TYPE", "bits[8]").replace("NODES", UNREAD_WORD), "chan a\n0x01\n0x02\n", 2,
+     "in a 2: 0x01 0x02\nout b 0:\nproc S state () done\n", "not"),
+]
 CHAIN_SLOW = "infeasible: Chain: add.6 takes 100 ps, clock 99\n"
 CHAIN_LONG = "infeasible: Chain: add.8 needs 3 stages, given 2\n"
 ASK_RARE = "infeasible: Ask: interval 2, given 1\n"
@@ -361,6 +397,14 @@ def differs(what, got, wanted):
         sys.exit(1)
 
 
+def written(folder, files):
+    """The folder, with these files."""
+    for name, text in files.items():
+        with open(os.path.join(folder, name), "w", encoding="utf-8") as file:
+            file.write(text)
+    return folder
+
+
 def lay_out(folder):
     files = {"inc.x": DESIGN, "in.txt": "chan a\n0x00\n0xff\n", "empty": "", "big.x": " " * 4194305,
              "limit.x": " " * 4194304, "sum.x": SUM, "sum.txt": "chan a\n0x05\n0x01\n", "pair.x": PAIR, "pair.txt": WORDS,
@@ -368,12 +412,10 @@ def lay_out(folder):
              "chain.ir": CHAIN, "chain.txt": CHAIN_WORDS, "two.ir": TWO, "ask.ir": ASK, "wide.ir": WIDE,
              "p.ir": "package P\nchan a(bits[8], id=0, kind=output)\nproc P(st: (), init=()) {\n  after_all.1: token = after_all(id=1)\n"
                      "  receive.2: (token, bits[8]) = receive(after_all.1, channel=a, id=2)\n  next(st)\n}\n",
-             "counter.v": COUNTER, "rows.txt": "- b!\nR\n- b!\n-\n- b! x2\n", "words.txt": "R\n-\n- a!", "many.txt": "- x1048577",
+             "counter.v": COUNTER, "rows.txt": ROWS, "words.txt": "R\n-\n- a!", "many.txt": "- x1048577",
              "loop.v": "module T(input wire clk, input wire rst); wire a; wire b; assign a = b; assign b = a; endmodule",
              "output.txt": "chan b", "wide.txt": "chan a\n0x100\n"}
-    for name, text in files.items():
-        with open(os.path.join(folder, name), "w", encoding="utf-8") as file:
-            file.write(text)
+    written(folder, files)
     with open(os.path.join(folder, "bytes.x"), "wb") as file:
         file.write(b"proc \xff \xff")
     os.mkdir(os.path.join(folder, "directory"))
@@ -383,6 +425,18 @@ def check_cases(program, folder):
     for what, words, out, err, status in CASES:
         done = subprocess.run([program, *words.split()], cwd=folder, capture_output=True, text=True, check=False)
         differs(what, (done.stdout, done.stderr, done.returncode), (out, err, status))
+
+
+def check_optimised(program, folder):
+    """A run of an optimised text shows what one of the package shows."""
+    for what, package, words, activations, outcome, gone in OPTIMISED:
+        text = subprocess.run([program, "opt", "o.ir", "--from", "ir"], cwd=written(folder, {"o.ir": package, "o.txt": words}),
+                              capture_output=True, text=True, check=True).stdout
+        differs(what + ", once it is optimised", (gone in package, gone in text), (True, False))
+        for ir in (package, text):
+            run = [program, *f"run o.ir o.txt --activations {activations} --from ir".split()]
+            done = subprocess.run(run, cwd=written(folder, {"o.ir": ir}), capture_output=True, text=True, check=False)
+            differs(what, (done.stdout, done.stderr, done.returncode), (outcome, "", 0))
 
 
 def check_streams(program, folder):
@@ -427,10 +481,11 @@ def main():
     with tempfile.TemporaryDirectory() as folder:
         lay_out(folder)
         check_cases(program, folder)
+        check_optimised(program, folder)
         refused = check_refusals(program, folder)
         check_streams(program, folder)
         check_memory(program, folder)
-    print(f"{len(CASES)} cases, {refused} refusals, streams and memory: the program answers as it should")
+    print(f"{len(CASES)} cases, {len(OPTIMISED)} optimised packages, {refused} refusals, streams and memory: the program answers as it should")
 
 
 if __name__ == "__main__":

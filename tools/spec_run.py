@@ -3,14 +3,14 @@
 
 usage: spec_run.py TABLE .. [--NAME ..]
 
-It reads the definitions of `dslx_meaning` and `dslx_rules` (and of the crates below them) as they stand, evaluates them at the
+It reads the definitions of `dslx_meaning`, `dslx_rules` and `dslx_heights` (and of the crates below them) as they stand, evaluates them at the
 texts of each TABLE, and compares what they come to with what the table wants. It is a help while definitions are written;
 nothing rests on it. A NAME is an example that is tried alone.
 
 A table has paragraphs. Each is a line with a name, a line with what is wanted, and the lines of a text (`dslx_terms.py`):
 `ok`, `rule R FROM TO` or `limit WORD FOUND MOST`: what the text's first fault is; `value SIGNED WIDTH NUMBER`: the constant X;
 `sent TURN`: what the first proc does at its first site; `turns WORDS | TURNS ; STATE`: its activation over words of 8 bits;
-`net PROCS | CHANNELS`: the network; `run ACTIVATIONS CHANNEL VALUE .. ; .. | LINE / ..`: what is left after a run over these words.
+`height N`: how high the text's tree is; `net PROCS | CHANNELS`: the network; `run ACTIVATIONS CHANNEL VALUE .. ; .. | LINE / ..`: what is left after a run over these words.
 """
 import os
 import re
@@ -803,6 +803,8 @@ def answer(module, wanted):
         v = force(apply(force(items['constant']), ([ord('X')],)))
         b = force(v.args[0]).args
         return 'value %s %d %d' % (str(force(b[0])).lower(), force(force(b[1])['width']), force(force(b[1])['value']))
+    if kind == 'height':
+        return 'height %d' % force(apply(lookup(load('dslx_heights.specs.Heights'), 'height_of'), (module,)))
     if kind == 'sent':
         net = load('dslx_meaning.specs.Network')
         bs = force(apply(lookup(net, 'behaviors_of'), (module, top)))

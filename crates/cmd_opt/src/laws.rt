@@ -6,7 +6,8 @@ ghost use Rattle.cmd_words.specs.declared.request.Opt.{Opt};
 ghost use Rattle.cmd_opt.specs.Commands.{opt};
 ghost use Rattle.cmd_opt.specs.Agrees.{Agrees};
 
-/// What the file holds determines the cause for which nothing is given; the texts of one file are of packages that mean the same.
+/// What the file holds determines whether there is a text, and else the cause for which there is none. What holds of each text stands in
+/// `specs/Commands`.
 pub fn answers_agree()
     ensures { (holds : Contents) (said : Opt (List ℕ)) → Agrees (opt holds said) }
 {

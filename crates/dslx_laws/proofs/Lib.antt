@@ -10,3 +10,5 @@ pub mod Endings
 pub mod Typed
 -- the least fault
 pub mod Orders
+-- for other crates' proofs
+pub mod Lemmas

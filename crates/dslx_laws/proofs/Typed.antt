@@ -99,18 +99,18 @@ enum_type_is name s w u = ap (λ f. f u) (ap same_type (sym (type_rolls.rolls-En
 
 -- ---- tests
 
-and_true : (p q : Bool) → (p && q) ≡ true → (p ≡ true) × (q ≡ true)
+pub and_true : (p q : Bool) → (p && q) ≡ true → (p ≡ true) × (q ≡ true)
 and_true true q e = (refl, e)
 and_true false q e = absurd (true≢false (sym e))
 
 no_list : {X : Type 0} (x : X) (xs : List X) → (x ∷ xs) ≡ [] → ⊥
 no_list x xs e = cc
 
-unbroken : (p : Bool) (rule : ℕ) (span : Span) → breaks_if (not p) rule span ≡ [] → p ≡ true
+pub unbroken : (p : Bool) (rule : ℕ) (span : Span) → breaks_if (not p) rule span ≡ [] → p ≡ true
 unbroken true rule span e = refl
 unbroken false rule span e = absurd (no_list (breaks rule span) [] e)
 
-both_unbroken : (p q : Bool) (rule : ℕ) (l r : Span) → (breaks_if (not p) rule l ++ breaks_if (not q) rule r) ≡ [] → (p ≡ true) × (q ≡ true)
+pub both_unbroken : (p q : Bool) (rule : ℕ) (l r : Span) → (breaks_if (not p) rule l ++ breaks_if (not q) rule r) ≡ [] → (p ≡ true) × (q ≡ true)
 both_unbroken true true rule l r e = (refl, refl)
 both_unbroken true false rule l r e = absurd (no_list (breaks rule r) [] e)
 both_unbroken false q rule l r e = absurd (no_list (breaks rule l) (breaks_if (not q) rule r) e)
@@ -118,7 +118,7 @@ both_unbroken false q rule l r e = absurd (no_list (breaks rule l) (breaks_if (n
 -- ---- bits
 
 -- a value that is these bits
-abbrev AreBits : DslxValue → SignedWord → Type 0
+abbrev pub AreBits : DslxValue → SignedWord → Type 0
 AreBits v x = (bits_of v ≡ Some x) × (type_of_value v ≡ ty.Bits x.signed x.word.width)
 
 -- a level of a value, as bits of this sign and width
@@ -137,7 +137,7 @@ like_bits : (s : Bool) (w : ℕ) (v : DslxValue) → same_type (ty.Bits s w) (ty
     → (x : SignedWord) × (bits_of v ≡ Some x) × ((same_bool s x.signed && w == x.word.width) ≡ true)
 like_bits s w v e = level_bits s w (out-DslxValue v) (sym (ap (bits_are s w) (level_typed v)) ∙ sym (bits_type_is s w (type_of_value v)) ∙ e)
 
-is_bits_value : (v : DslxValue) → is_bits (type_of_value v) ≡ true → (x : SignedWord) × AreBits v x
+pub is_bits_value : (v : DslxValue) → is_bits (type_of_value v) ≡ true → (x : SignedWord) × AreBits v x
 is_bits_value = value_cases (λ v. is_bits (type_of_value v) ≡ true → (x : SignedWord) × AreBits v x)
     (λ s x e. (record { signed = s; word = x }, (ap signed_step (views.outs-Bits s x), bits_typed s x)))
     (λ vs e. absurd (true≢false (sym e ∙ other (Tuple vs) (DslxValue-F.Tuple vs) (views.outs-Tuple vs) refl)))
@@ -164,7 +164,7 @@ one_kind v w p q =
     (x.0, y.0, x.1, y.1, y.2)
 
 -- the sign of bits that are unsigned
-is_unsigned_value : (v : DslxValue) → is_unsigned (type_of_value v) ≡ true → (x : SignedWord) × AreBits v x × (x.signed ≡ false)
+pub is_unsigned_value : (v : DslxValue) → is_unsigned (type_of_value v) ≡ true → (x : SignedWord) × AreBits v x × (x.signed ≡ false)
 is_unsigned_value v e = by_kind (bits_in (type_of_value v)) refl e
   where
     sign : (s : Bool) → not s ≡ true → s ≡ false
@@ -180,7 +180,7 @@ is_unsigned_value v e = by_kind (bits_in (type_of_value v)) refl e
 
 -- ---- what bits give
 
-some_typed : (s : Bool) (x : Word) (u : Option DslxValue) → u ≡ Some (Bits s x) → option_map type_of_value u ≡ Some (ty.Bits s x.width)
+pub some_typed : (s : Bool) (x : Word) (u : Option DslxValue) → u ≡ Some (Bits s x) → option_map type_of_value u ≡ Some (ty.Bits s x.width)
 some_typed s x u e = ap (option_map type_of_value) e ∙ ap Some (bits_typed s x)
 
 bool_typed : (t : Bool) → type_of_value (bool_value t) ≡ bool_type
@@ -372,7 +372,7 @@ prefix_typed p v e =
     wide Not x = refl
 
 -- a type that is bits
-is_bits_type : (t : DslxType) → is_bits t ≡ true → (k : BitKind) × (t ≡ ty.Bits k.signed k.width) × (bits_in t ≡ Some k)
+pub is_bits_type : (t : DslxType) → is_bits t ≡ true → (k : BitKind) × (t ≡ ty.Bits k.signed k.width) × (bits_in t ≡ Some k)
 is_bits_type = type_cases (λ t. is_bits t ≡ true → (k : BitKind) × (t ≡ ty.Bits k.signed k.width) × (bits_in t ≡ Some k))
     (λ s w e. (record { signed = s; width = w }, refl, ap bits_step (type_views.outs-Bits s w)))
     (λ ts e. absurd (true≢false (sym e ∙ ap (λ l. is_there (bits_step l)) (type_views.outs-Tuple ts))))

@@ -1,7 +1,8 @@
 //! How deep the tokens of a DSLX text are nested.
 //!
-//! A tree has no part that is deeper than the nesting of some token, or a small multiple of it; so the limit on it
-//! bounds each recursion over trees. What a token does to the nesting of those behind it is its [`Role`].
+//! The limit on it bounds how high a tree is, and so each recursion over trees: by about half of its square, since the
+//! marks in a bracket count no more where it closes (`dslx_heights`). What a token does to the nesting of those behind it
+//! is its [`Role`].
 #![tactic(auto)]
 
 mod depth;

@@ -37,7 +37,8 @@ role_of rule kind =
     else if is_one (AS ∷ DOT ∷ ELSE ∷ []) kind then Mark
     else if is_one signs kind then Mark
     else if is_one signs_at_times kind then (if is_one operator_rules rule then Mark else Plain)
-    else if is_one (COMMA ∷ SEMI ∷ DARROW ∷ []) kind then Stop
+    else if kind == COMMA then (if rule == production.ARGS_MORE__COMMA then Plain else Stop)
+    else if is_one (SEMI ∷ DARROW ∷ []) kind then Stop
     else if is_one (CONST ∷ ENUM ∷ FN ∷ PROC ∷ PUB ∷ STRUCT ∷ TYPE ∷ []) kind then Item
     else if is_one (FOR ∷ IF ∷ MATCH ∷ []) kind then Head
     else Plain

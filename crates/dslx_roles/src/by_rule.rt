@@ -56,7 +56,13 @@ fn role_of(rule: u16, kind: u8) -> Role
         } else {
             Role::Plain
         },
-        COMMA | SEMI | DARROW => Role::Stop,
+        // A `,` between `<` and `>` parts arguments, and not what stands in the bracket round the call.
+        COMMA => if rule == production::ARGS_MORE__COMMA {
+            Role::Plain
+        } else {
+            Role::Stop
+        },
+        SEMI | DARROW => Role::Stop,
         CONST | ENUM | FN | PROC | PUB | STRUCT | TYPE => Role::Item,
         FOR | IF | MATCH => Role::Head,
         _ => Role::Plain,

@@ -1,5 +1,5 @@
 -- The rules of numbers, arrays, tuples and structs, and of what takes them apart.
-use Rattle.std.specs.Prelude.{ℕ, List, [], ◌∷◌, ◌++◌, ◌==◌, ◌||◌, nat_lt, map, Bool, true, false, not, Option, Some, None, length, slice_get, if◌then◌else◌}
+use Rattle.std.specs.Prelude.{ℕ, zero, suc, List, [], ◌∷◌, ◌++◌, ◌==◌, ◌||◌, nat_lt, map, Bool, true, false, not, Option, Some, None, length, slice_get, if◌then◌else◌}
 use Rattle.std.specs.List.{list_any}
 use Rattle.xb_span.specs.declared.span.Span.{Span}
 use Rattle.xb_span.specs.declared.fault.Fault.{Fault}
@@ -56,9 +56,10 @@ element_in sight wanted e = by_bare (bare_of e)
     by_bare None = let j = alone sight e in record j { faults = j.faults ++ wanted_faults (span_of e) wanted j.ty }
     by_bare (Some number) = record bare_judged { ty = wanted; faults = range_faults (span_of e) wanted number }
 
--- rule 21: more elements than the size, or fewer without three dots
+-- rule 21: more elements than the size, or fewer without three dots, which repeat the last one
 abbrev pub count_wrong : Bool → ℕ → ℕ → Bool
-count_wrong true n count = nat_lt n count
+count_wrong true n zero = true
+count_wrong true n (suc count) = nat_lt n (suc count)
 count_wrong false n count = not (n == count)
 
 abbrev pub array_faults : Span → Option DslxType → Option (DslxType × ℕ) → ℕ → Bool → List Fault

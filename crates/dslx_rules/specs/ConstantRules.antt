@@ -115,12 +115,16 @@ count_with span c n = record {
   count = and_then n some_count;
 }
 
+-- a negative number is no count, and so it is judged as 0 is
+abbrev pub bare_count : Bare → ℕ
+bare_count number = if number.is_negative then 0 else number.value
+
 abbrev pub count_number : ConstantSeen → Option ℕ
 count_number c = by_bare c.bare
   where
     by_bare : Option Bare → Option ℕ
     by_bare None = number_of_value c.value
-    by_bare (Some number) = Some number.value
+    by_bare (Some number) = Some (bare_count number)
 
 abbrev pub count_of : Sight → ExprPair → CountSeen
 count_of sight e = let c = constant_or_bare sight e in count_with (span_of e) c (count_number c)

@@ -10,7 +10,7 @@ use Rattle.dslx_tree.specs.declared.block.Block.{out-Block}
 use Rattle.dslx_tree.specs.declared.expr.Expr.{Expr}
 use Rattle.dslx_tree.specs.declared.item.Enum.{Enum}
 use Rattle.dslx_tree.specs.declared.item.Member.{Member}
-use Rattle.dslx_meaning.specs.Lists.{all_some, and_then, with_both, last_of}
+use Rattle.dslx_meaning.specs.Lists.{all_some, and_then, with_both, where_true, last_of}
 use Rattle.dslx_meaning.specs.Types.{same_type, unit_type, flat_bits}
 use Rattle.dslx_meaning.specs.Values.{bits_of, from_word}
 use Rattle.dslx_meaning.specs.Operators.{of_one_type}
@@ -238,11 +238,16 @@ first_of_types None = None
 first_of_types (Some []) = None
 first_of_types (Some (t ∷ ts)) = Some t
 
+-- what each pattern is compared with is known
+abbrev pub all_known : List ArmJudged → Bool
+all_known arms = list_all (λ (a : ArmJudged). a.seen.is_known) arms
+
+-- a pattern that names a constant without a value leaves the whole without a type
 abbrev pub match_judged : Span → Sight → ExprPair → List ArmSeen → Judgement
 match_judged span sight e arms =
     let value = alone sight e in
     let js = map (arm_judged sight value.ty) arms in
-    settled span (and_then value.ty (λ t. first_of_types (all_some (types_of (arm_values js)))))
+    settled span (and_then value.ty (λ t. where_true (all_known js) (first_of_types (all_some (types_of (arm_values js))))))
     (value.faults ++ arms_faults js ++ match_faults span sight value.ty js)
     (value.reached ++ arms_reached js) (one_and (plus_size value.size (arms_size js)))
 

@@ -1,5 +1,5 @@
 -- The rules of operators, casts and slices: each by the types of the operands that have one.
-use Rattle.std.specs.Prelude.{ℕ, List, [], ◌++◌, ◌+◌, ◌-◌, ◌&&◌, ◌||◌, nat_lt, nat_le, Bool, false, not, Option, Some, None}
+use Rattle.std.specs.Prelude.{ℕ, List, [], ◌++◌, ◌+◌, ◌-◌, ◌&&◌, ◌||◌, nat_lt, nat_le, Bool, false, not, Option, Some, None, if◌then◌else◌}
 use Rattle.xb_span.specs.declared.span.Span.{Span}
 use Rattle.xb_span.specs.declared.fault.Fault.{Fault}
 use Rattle.dslx_tree.specs.declared.operator.Binary.{Binary}
@@ -133,11 +133,11 @@ bound_number c = by_bare c.bare
   where
     by_bare : Option Bare → Option ℕ
     by_bare None = and_then c.value index_number
-    by_bare (Some number) = Some number.value
+    by_bare (Some number) = if number.is_negative then None else (Some number.value)
 
 -- a bound that is known is not negative
 abbrev pub is_negative_bound : ConstantSeen → Bool
-is_negative_bound c = is_there c.value && not (is_there (bound_number c))
+is_negative_bound c = (is_there c.value || is_there c.bare) && not (is_there (bound_number c))
 
 abbrev pub bounds_wrong : Option DslxType → Option ℕ → Option ℕ → Bool
 bounds_wrong None (Some from) (Some to) = not (nat_lt from to)

@@ -1,9 +1,9 @@
 -- Nodes that were normal are normal where they stand after dead nodes were dropped, and what was needed is.
-use Rattle.std.proofs.Common.{◌≡◌, ◌⊎◌, inl, inr, ⊎_elim, ℕ, zero, suc, ◌<◌, ◌≤◌, List, [], ◌∷◌, ◌++◌, map, length, get_or, Bool, true, false, ◌&&◌, Option, Some, None, refl, sym, ap, ap₂, subst, ◌∙◌, arith}
+use Rattle.std.proofs.Common.{◌≡◌, ◌⊎◌, inl, inr, ⊎_elim, ℕ, zero, suc, ◌<◌, List, [], ◌∷◌, ◌++◌, map, length, get_or, Bool, true, false, ◌&&◌, Some, refl, sym, ap, ap₂, subst, ◌∙◌, arith}
 use Rattle.std.specs.Prelude.{slice_get, nat_lt, nat_eq, option_map, ◌||◌}
 use Rattle.std.specs.List.{list_all}
 use Rattle.std.proofs.lemmas.Bool.Decides.{nat_tests}
-use Rattle.std.proofs.lemmas.Option.{slice_get_within, slice_get-get_or}
+use Rattle.std.proofs.lemmas.Option.{slice_get_within}
 use Rattle.delay_model.specs.declared.op.Op.{Op}
 use Rattle.delay_model.specs.declared.op.Op.TheVariants as op
 use Rattle.ir_tree.specs.declared.ir_type.IrType.{IrType, Token}
@@ -12,24 +12,23 @@ use Rattle.ir_tree.specs.declared.node.Operand.TheVariants as operand
 use Rattle.ir_tree.specs.declared.node.Node.{Node}
 use Rattle.ir_tree.specs.declared.node.Attributes.{Attributes}
 use Rattle.ir_tree.specs.declared.node.Attributes.TheVariants as attributes
-use Rattle.ir_tree.specs.declared.node.Role.TheVariants as role
 use Rattle.ir_tree.specs.declared.package.Proc.{Proc}
-use Rattle.ir_tree.specs.NodeValues.{role_of, role_by, role_at}
+use Rattle.ir_tree.specs.NodeValues.{role_by, role_at}
 use Rattle.ir_verify.specs.Fitting.{type_in, type_or, types_behind}
 use Rattle.ir_verify.specs.Lines.{is_there}
 use Rattle.ir_types.specs.Types.{bits_width}
 use Rattle.ir_rebuild.specs.Operands.{operands_in, attribute_operands, optional_operand, node_of}
 use Rattle.ir_rebuild.specs.Moves.{moved, moved_attributes, moved_node}
-use Rattle.ir_rebuild.specs.Kept.{is_kept, is_site, AreKept, StandBefore}
+use Rattle.ir_rebuild.specs.Kept.{is_kept, is_site}
 use Rattle.ir_rebuild.specs.Built.{is_plain_op, numbered}
 use Rattle.ir_rebuild.specs.Walks.{Becomes}
 use Rattle.ir_rebuild.proofs.Lemmas.{all_parts, all_weaker, there_more, map_moved, attributes_map}
 use Rattle.ir_normal.specs.Origins.{made_by, origin}
-use Rattle.ir_normal.specs.LeftSides.{left_side, first_bit, has_left_side}
+use Rattle.ir_normal.specs.LeftSides.{left_side, first_bit}
 use Rattle.ir_normal.specs.Normal.{IsReached, by_next, as_site, by_node, AreNeeded, is_literal_node, names_literal, all_literals, same_operand, are_one, chooses_one, IsNormalNode, AreNormal, IsNormalProc}
 use Rattle.ir_normal.proofs.Lemmas.{renumbered}
 use Rattle.pass_dead.specs.Stays.{Stays}
-use Rattle.ir_passes.proofs.Kept.{IsImage, IsSource, AreKeptAs, kept_as}
+use Rattle.ir_passes.proofs.Kept.{IsImage, AreKeptAs, kept_as}
 
 both : (a b : Bool) → a && b ≡ true → (a ≡ true) × (b ≡ true)
 both true true h = (refl, refl)

@@ -1,9 +1,8 @@
 -- A node that shows no choice and can't be folded: its operands aren't all literals, and it is no select of one operand.
-use Rattle.std.proofs.Common.{◌≡◌, ℕ, zero, suc, ◌+◌, ◌^◌, ◌<◌, ◌≤◌, min, List, [], ◌∷◌, ◌++◌, length, Bool, true, false, ◌&&◌, Option, Some, None, refl, sym, ap, ap₂, subst, ◌∙◌, arith}
-use Rattle.std.specs.Prelude.{slice_get, nat_lt, nat_le, nat_eq, not, ◌||◌, if◌then◌else◌}
+use Rattle.std.proofs.Common.{◌≡◌, ℕ, zero, suc, ◌^◌, ◌<◌, ◌≤◌, min, List, [], ◌∷◌, ◌++◌, length, Bool, true, false, ◌&&◌, Option, Some, None, refl, sym, ap, subst, ◌∙◌, arith}
+use Rattle.std.specs.Prelude.{nat_lt, nat_le, nat_eq, not, ◌||◌, if◌then◌else◌}
 use Rattle.std.specs.List.{list_all}
 use Rattle.std.proofs.lemmas.Bool.Decides.{nat_tests}
-use Rattle.std.proofs.lemmas.List.{append-nil}
 use Rattle.std.proofs.lemmas.List.Folds.{list_all-append}
 use Rattle.xb_value.specs.declared.ty.Ty as ty
 use Rattle.delay_model.specs.declared.op.Op.{Op}
@@ -26,7 +25,7 @@ use Rattle.ir_verify.specs.Lines.{is_there, are_there, is_literal_of}
 use Rattle.ir_types.proofs.Lemmas.IrTypes.{ty_of-Bits}
 use Rattle.ir_types.proofs.Lemmas.ConstantCases.{fits-Bits}
 use Rattle.ir_typed.proofs.Tests.{bits_is}
-use Rattle.ir_rebuild.specs.Operands.{node_of, operands_in, optional_operand, attribute_operands}
+use Rattle.ir_rebuild.specs.Operands.{node_of, optional_operand}
 use Rattle.ir_rebuild.specs.Built.{IsPlaced, AreBuilt, is_plain_op}
 use Rattle.ir_rebuild.proofs.Lemmas.{node_there}
 use Rattle.ir_normal.specs.LeftSides.{is_literal_op}

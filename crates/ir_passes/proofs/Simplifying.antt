@@ -1,6 +1,6 @@
 -- What is appended for a node behind normal nodes is normal.
-use Rattle.std.proofs.Common.{◌≡◌, ◌⊎◌, inl, inr, ℕ, suc, ◌+◌, ◌<◌, ◌≤◌, List, [], ◌∷◌, ◌++◌, map, length, Bool, true, false, ◌&&◌, Option, Some, None, refl, sym, ap, ap₂, subst, ◌∙◌, arith, length-append, Result, Ok, Err, IfOk}
-use Rattle.std.specs.Prelude.{slice_get, nat_eq, ◌||◌}
+use Rattle.std.proofs.Common.{◌≡◌, inl, inr, ℕ, ◌+◌, ◌<◌, ◌≤◌, List, [], ◌∷◌, ◌++◌, map, length, Bool, true, false, ◌&&◌, Option, Some, None, refl, sym, ap, ap₂, subst, ◌∙◌, arith, Result, Ok, Err, IfOk}
+use Rattle.std.specs.Prelude.{nat_eq, ◌||◌}
 use Rattle.std.specs.List.{list_all}
 use Rattle.std.proofs.lemmas.Bool.Decides.{nat_tests}
 use Rattle.std.proofs.lemmas.List.{append-nil}
@@ -14,7 +14,6 @@ use Rattle.ir_tree.specs.declared.ir_type.IrType.{IrType, Bits, Token}
 use Rattle.ir_tree.specs.declared.ir_type.IrType.TheViews.{outs-Bits}
 use Rattle.ir_tree.specs.declared.constant.Constant.{Constant}
 use Rattle.ir_tree.specs.declared.node.Operand.{Operand}
-use Rattle.ir_tree.specs.declared.node.Operand.TheVariants as operand
 use Rattle.ir_tree.specs.declared.node.Node.{Node}
 use Rattle.ir_tree.specs.declared.node.Attributes.{Attributes}
 use Rattle.ir_tree.specs.declared.node.Attributes.TheVariants as attributes
@@ -22,10 +21,10 @@ use Rattle.ir_types.specs.Types.{bits_width, width_there}
 use Rattle.ir_verify.specs.Fitting.{type_in, type_or, types_behind, types_fit, predicate_fits, first_is_token, site_fits, is_literal}
 use Rattle.ir_verify.specs.Lines.{is_there}
 use Rattle.ir_rebuild.specs.Operands.{operands_in, attribute_operands, node_of}
-use Rattle.ir_rebuild.specs.Built.{AreBuilt, IsPlaced, Extends, is_plain_op, numbered}
-use Rattle.ir_rebuild.proofs.Lemmas.{all_there, last_there, before_more}
-use Rattle.ir_normal.specs.Origins.{Making, Origin, made_by, origin}
-use Rattle.ir_normal.specs.LeftSides.{is_literal_op as is_normal_literal_op, is_extension, width_if, extended_in, extended_from, is_some, left_side, has_left_side}
+use Rattle.ir_rebuild.specs.Built.{AreBuilt, IsPlaced, is_plain_op, numbered}
+use Rattle.ir_rebuild.proofs.Lemmas.{all_there, last_there}
+use Rattle.ir_normal.specs.Origins.{made_by}
+use Rattle.ir_normal.specs.LeftSides.{is_literal_op as is_normal_literal_op, is_extension, width_if, extended_in, is_some, has_left_side}
 use Rattle.ir_normal.specs.Normal.{is_literal_node, names_literal, all_literals, is_cases, chooses_one, IsNormalNode, AreNormal}
 use Rattle.ir_normal.proofs.Lemmas.{AreOrdered, normal_more, literals_more, chooses_more}
 use Rattle.pass_fold.specs.Folds.{is_literal_op, is_literal as is_literal_operand, are_folded, is_foldable, is_foldable_by}

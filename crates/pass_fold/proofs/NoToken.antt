@@ -1,6 +1,6 @@
 -- The type of a node over literals has no token.
-use Rattle.std.proofs.Common.{◌≡◌, ℕ, zero, suc, ◌+◌, ◌^◌, min, List, [], ◌∷◌, ◌++◌, map, length, Bool, true, false, ◌&&◌, Option, Some, None, refl, sym, ap, ap₂, subst, ◌∙◌}
-use Rattle.std.specs.Prelude.{slice_get, nat_le, nat_eq, not, sum, ◌||◌}
+use Rattle.std.proofs.Common.{◌≡◌, ℕ, zero, suc, List, [], ◌∷◌, map, length, Bool, true, false, ◌&&◌, Option, Some, None, refl, sym, ap, ◌∙◌}
+use Rattle.std.specs.Prelude.{slice_get, nat_eq, not, sum, ◌||◌}
 use Rattle.std.specs.List.{list_all}
 use Rattle.delay_model.specs.declared.op.Op.{Op}
 use Rattle.delay_model.specs.declared.op.Op.TheVariants as op
@@ -9,7 +9,6 @@ use Rattle.ir_tree.specs.declared.ir_type.IrType.{IrType, Bits, Token, Tuple, ou
 use Rattle.ir_tree.specs.declared.ir_type.IrType.TheOpen.{IrType-F}
 use Rattle.ir_tree.specs.declared.ir_type.IrType.TheViews.{outs-Bits, outs-Token}
 use Rattle.ir_tree.specs.declared.ir_type.IrType.TheViews as views
-use Rattle.ir_tree.specs.declared.constant.Constant.{Constant}
 use Rattle.ir_tree.specs.declared.node.Operand.{Operand}
 use Rattle.ir_tree.specs.declared.node.Operand.TheVariants as operand
 use Rattle.ir_tree.specs.declared.node.Node.{Node}
@@ -20,13 +19,12 @@ use Rattle.ir_types.specs.Types.{marks_of, any_token, same_type, each_same, is_b
 use Rattle.ir_types.specs.Constants.{constant_fits}
 use Rattle.ir_types.specs.declared.types.Marks.{Marks}
 use Rattle.ir_types.proofs.Lemmas.IrTypes.{type_cases}
-use Rattle.ir_verify.specs.Fitting.{Types, type_in, type_or, types_behind, types_fit, plain_fits, compare_fits, shift_fits, concat_fits, elements_fit, parts_fit, all_bits, all_bits_of, is_bit_slice, is_dynamic_bit_slice, is_extend, is_tuple_index, slice_fits, dynamic_fits, extend_fits, tuple_index_fits, index_fits, update_fits, part_is}
+use Rattle.ir_verify.specs.Fitting.{Types, type_in, type_or, types_behind, types_fit, plain_fits, compare_fits, all_bits, all_bits_of, is_bit_slice, is_dynamic_bit_slice, is_extend, is_tuple_index, slice_fits, dynamic_fits, extend_fits, tuple_index_fits, index_fits, update_fits, part_is}
 use Rattle.ir_verify.specs.Lines.{is_literal_of}
 use Rattle.ir_typed.proofs.Tests.{bits_is, tuple_is, types_same, same_is, marks-Bits, marks-Tuple, marks-Token}
-use Rattle.ir_rebuild.specs.Operands.{node_of}
 use Rattle.ir_rebuild.specs.Built.{IsPlaced, AreBuilt, is_plain_op}
 use Rattle.ir_normal.proofs.Lemmas.{op_is_literal, constant_there}
-use Rattle.pass_fold.specs.Folds.{is_literal_op, is_literal_node, is_literal, are_folded, is_foldable, is_foldable_by}
+use Rattle.pass_fold.specs.Folds.{is_literal_node, is_literal, are_folded, is_foldable, is_foldable_by}
 use Rattle.pass_fold.proofs.Values.{same_op, folded_all}
 
 both : (a b : Bool) → a && b ≡ true → (a ≡ true) × (b ≡ true)

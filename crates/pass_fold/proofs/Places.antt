@@ -1,6 +1,5 @@
 -- The first places, one more.
-use Rattle.std.proofs.Common.{◌≡◌, ℕ, zero, suc, ◌+◌, List, [], ◌∷◌, ◌++◌, refl, sym, ap, ◌∙◌, arith}
-use Rattle.ir_tree.specs.declared.node.Operand.{Operand}
+use Rattle.std.proofs.Common.{◌≡◌, ℕ, zero, suc, ◌+◌, [], ◌∷◌, ◌++◌, ap, ◌∙◌, arith}
 use Rattle.ir_tree.specs.declared.node.Operand.TheVariants as operand
 use Rattle.pass_fold.specs.Folds.{places_from, places_to}
 

@@ -1,7 +1,6 @@
 -- What stands for a node that is appended, or folded.
 use Rattle.std.specs.Prelude.{not}
-use Rattle.std.proofs.Common.{◌≡◌, inl, inr, ℕ, List, [], ◌∷◌, ◌++◌, length, Bool, true, false, ◌&&◌, refl, sym, ap, subst, ◌∙◌, Result, Ok, Err, IfOk}
-use Rattle.delay_model.specs.declared.op.Op.TheVariants as op
+use Rattle.std.proofs.Common.{◌≡◌, inl, inr, List, [], ◌∷◌, ◌++◌, length, Bool, true, false, ◌&&◌, refl, sym, ap, subst, ◌∙◌, Result, Ok, Err, IfOk}
 use Rattle.ir_tree.specs.declared.ir_type.IrType.{IrType}
 use Rattle.ir_tree.specs.declared.constant.Constant.{Constant}
 use Rattle.ir_tree.specs.declared.node.Operand.{Operand}
@@ -9,7 +8,7 @@ use Rattle.ir_tree.specs.declared.node.Operand.TheVariants as operand
 use Rattle.ir_tree.specs.declared.node.Node.{Node}
 use Rattle.ir_types.specs.Types.{marks_of}
 use Rattle.ir_verify.specs.Lines.{is_literal_of}
-use Rattle.ir_rebuild.specs.Built.{IsPlaced, AreBuilt, Rewrites, StandsFor, is_plain_op, numbered}
+use Rattle.ir_rebuild.specs.Built.{IsPlaced, AreBuilt, Rewrites, is_plain_op, numbered}
 use Rattle.ir_rebuild.proofs.Lemmas.{appended, values_before}
 use Rattle.ir_tree.specs.Types.{ty_of}
 use Rattle.ir_tree.specs.Constants.{constant_value}

@@ -1,8 +1,8 @@
 -- The value of a node over literals is of the node's type.
-use Rattle.std.proofs.Common.{◌≡◌, ℕ, zero, suc, ◌+◌, ◌<◌, ◌≤◌, List, [], ◌∷◌, ◌++◌, map, length, get_or, Bool, true, false, ◌&&◌, Option, Some, None, refl, sym, ap, ap₂, subst, ◌∙◌, arith, length-append, IsTrue}
+use Rattle.std.proofs.Common.{◌≡◌, ℕ, zero, suc, ◌+◌, ◌<◌, ◌≤◌, List, [], ◌∷◌, ◌++◌, map, length, get_or, Bool, true, false, ◌&&◌, Option, Some, None, refl, sym, ap, ap₂, subst, ◌∙◌, arith, length-append}
 use Rattle.std.specs.Prelude.{slice_get, nat_lt}
 use Rattle.std.specs.List.{list_all}
-use Rattle.std.proofs.lemmas.List.{append_assoc, append-nil}
+use Rattle.std.proofs.lemmas.List.{append_assoc}
 use Rattle.std.proofs.lemmas.Bool.Decides.{nat_tests}
 use Rattle.std.proofs.lemmas.List.Folds.{list_all-append}
 use Rattle.xb_bits.specs.Word.{word}
@@ -18,23 +18,21 @@ use Rattle.ir_tree.specs.declared.node.Node.{Node}
 use Rattle.ir_tree.specs.declared.node.Attributes.{Attributes}
 use Rattle.ir_tree.specs.declared.node.Attributes.TheVariants as attributes
 use Rattle.ir_tree.specs.declared.node.Role.TheVariants as role
-use Rattle.ir_tree.specs.declared.package.Channel.{Channel}
-use Rattle.ir_tree.specs.Constants.{no_value, constant_value}
+use Rattle.ir_tree.specs.Constants.{no_value}
 use Rattle.ir_tree.specs.Types.{ty_of}
-use Rattle.ir_tree.specs.NodeValues.{Setting, operand_value, pure_value, role_of, role_by, role_value, value_by}
+use Rattle.ir_tree.specs.NodeValues.{Setting, pure_value, role_of, role_by, role_value}
 use Rattle.ir_types.specs.Types.{marks_of}
 use Rattle.ir_verify.specs.Fitting.{Types, type_in, type_or, types_behind, types_fit, node_fits}
-use Rattle.ir_verify.specs.Lines.{is_literal_of, is_there, type_limits}
-use Rattle.ir_typed.specs.Typed.{none_broken}
-use Rattle.ir_typed.proofs.Tests.{IsLimited, limited}
-use Rattle.ir_typed.proofs.Scopes.{IsTyped, AreTyped, IsOperand, none_typed, token_value, operands_typed}
+use Rattle.ir_verify.specs.Lines.{is_literal_of}
+use Rattle.ir_typed.proofs.Tests.{limited}
+use Rattle.ir_typed.proofs.Scopes.{IsTyped, AreTyped, none_typed, token_value, operands_typed}
 use Rattle.ir_typed.proofs.Nodes.{HasChannel, HasNoFault, node_typed}
-use Rattle.ir_rebuild.specs.Operands.{node_of, operands_in, attribute_operands}
+use Rattle.ir_rebuild.specs.Operands.{node_of, attribute_operands}
 use Rattle.ir_rebuild.specs.Moves.{moved, moved_attributes, moved_node}
 use Rattle.ir_rebuild.specs.Built.{IsPlaced, AreBuilt, is_plain_op}
 use Rattle.ir_rebuild.proofs.Lemmas.{fits_moved}
 use Rattle.ir_normal.proofs.Lemmas.{op_is_literal, constant_there}
-use Rattle.pass_fold.specs.Folds.{is_literal_op, is_literal_node, is_literal, are_folded, is_foldable, is_foldable_by, value_by as literal_by, value_at_op, value_in, value_there, literal_value, places_from, places_to, shown_attributes, shown_node, index_values, shown_values, folded_value}
+use Rattle.pass_fold.specs.Folds.{is_literal_op, is_literal_node, is_literal, is_foldable, is_foldable_by, value_by as literal_by, value_at_op, value_in, value_there, literal_value, places_from, places_to, shown_attributes, index_values, shown_values, folded_value}
 use Rattle.pass_fold.proofs.Values.{same_op, folded_all}
 
 both : (a b : Bool) → a && b ≡ true → (a ≡ true) × (b ≡ true)

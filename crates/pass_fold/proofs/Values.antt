@@ -1,8 +1,8 @@
 -- The value of a node over literals is the one that is folded.
-use Rattle.std.proofs.Common.{◌≡◌, ℕ, zero, suc, ◌+◌, ◌≤◌, List, [], ◌∷◌, ◌++◌, map, length, get_or, Bool, true, false, ◌&&◌, Option, Some, None, refl, sym, ap, ap₂, subst, ◌∙◌, arith, length-append}
+use Rattle.std.proofs.Common.{◌≡◌, ℕ, zero, suc, List, [], ◌∷◌, ◌++◌, map, length, get_or, Bool, true, false, ◌&&◌, Option, Some, None, refl, sym, ap, ap₂, ◌∙◌, arith, length-append}
 use Rattle.std.specs.Prelude.{slice_get}
 use Rattle.std.specs.List.{list_all}
-use Rattle.std.proofs.lemmas.List.{append_assoc, get_or-append_right}
+use Rattle.std.proofs.lemmas.List.{append_assoc}
 use Rattle.xb_value.specs.declared.value.Value.{Value}
 use Rattle.delay_model.specs.declared.op.Op.{Op}
 use Rattle.delay_model.specs.declared.op.Op.TheVariants as op
@@ -13,16 +13,14 @@ use Rattle.ir_tree.specs.declared.node.Operand.TheVariants as operand
 use Rattle.ir_tree.specs.declared.node.Node.{Node}
 use Rattle.ir_tree.specs.declared.node.Attributes.{Attributes}
 use Rattle.ir_tree.specs.declared.node.Attributes.TheVariants as attributes
-use Rattle.ir_tree.specs.Constants.{no_value, constant_value}
-use Rattle.ir_tree.specs.Types.{ty_of}
+use Rattle.ir_tree.specs.Constants.{no_value}
 use Rattle.ir_tree.specs.Operations.{plain_value, on_word, on_words, on_tuple, of_one, of_two, slice_value, dyn_slice_value, longer_value, element_at, index_value}
 use Rattle.ir_tree.specs.NodeValues.{operand_value, pure_value}
 use Rattle.ir_verify.specs.Fitting.{types_behind, types_fit}
-use Rattle.ir_rebuild.specs.Operands.{node_of}
 use Rattle.ir_rebuild.specs.Built.{AreBuilt, AreValues, is_plain_op}
 use Rattle.ir_normal.specs.LeftSides as normal
 use Rattle.ir_normal.proofs.Lemmas.{op_is_literal, constant_there}
-use Rattle.pass_fold.specs.Folds.{is_literal_op, is_literal_node, is_literal, are_folded, is_foldable, is_foldable_by, value_by, value_at_op, value_in, value_there, literal_value, places_from, places_to, shown_attributes, shown_node, index_values, shown_values, folded_value}
+use Rattle.pass_fold.specs.Folds.{is_literal_op, is_literal_node, is_literal, are_folded, is_foldable, is_foldable_by, value_by, value_at_op, value_in, value_there, literal_value, places_from, places_to, folded_value}
 
 both : (a b : Bool) → a && b ≡ true → (a ≡ true) × (b ≡ true)
 both true true h = (refl, refl)

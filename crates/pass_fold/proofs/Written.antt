@@ -1,5 +1,5 @@
 -- The constant that writes a value of a type is one of the type, and gives the value back.
-use Rattle.std.proofs.Common.{◌≡◌, ℕ, suc, ◌<◌, ◌≤◌, ◌^◌, min, List, [], ◌∷◌, map, length, Bool, true, false, ◌&&◌, refl, sym, ap, ap₂, subst, ◌∙◌, arith, IsTrue}
+use Rattle.std.proofs.Common.{◌≡◌, ℕ, suc, ◌<◌, ◌^◌, min, List, [], ◌∷◌, map, length, Bool, true, false, ◌&&◌, refl, sym, ap, ap₂, subst, ◌∙◌, arith, IsTrue}
 use Rattle.std.specs.Prelude.{nat_le, nat_lt, nat_eq}
 use Rattle.std.specs.List.{list_all}
 use Rattle.std.proofs.lemmas.Bool.Decides.{nat_tests}
@@ -12,11 +12,11 @@ use Rattle.xb_value.specs.Typing.{IsOfType, fits, each_passes}
 use Rattle.xb_value.proofs.Lemmas.Types.{EachHas, ty_induction}
 use Rattle.xb_value.proofs.Lemmas.Types as types
 use Rattle.xb_value.proofs.Lemmas.Values as values
-use Rattle.xb_value.proofs.Lemmas.Typing.{IsBitsOf, IsTupleOf, IsArrayOf, bits_of_type, tuple_of_type, array_of_type}
+use Rattle.xb_value.proofs.Lemmas.Typing.{bits_of_type, tuple_of_type, array_of_type}
 use Rattle.ir_tree.specs.declared.constant.Constant.{Constant, out-Constant, Number, Tuple, Array}
 use Rattle.ir_tree.specs.declared.constant.Constant.TheOpen.{Constant-F}
 use Rattle.ir_tree.specs.declared.constant.Constant.TheViews.{outs-Number, outs-Tuple, outs-Array}
-use Rattle.ir_tree.specs.Constants.{bits_where, each_read, number_value, number_read, tuple_read, array_read, read_step, constant_value}
+use Rattle.ir_tree.specs.Constants.{bits_where, each_read, number_read, tuple_read, array_read, read_step, constant_value}
 use Rattle.ir_types.specs.Constants.{number_fits, each_fits, tuple_fits, array_fits, constant_fits}
 use Rattle.ir_types.proofs.Lemmas.ConstantCases.{fits-Bits, fits-Tuple, fits-Array}
 use Rattle.pass_fold.specs.Constants.{constant_step, constant_of}

@@ -5,7 +5,6 @@ use Rattle.xb_value.specs.declared.value.Value.{Value}
 use Rattle.delay_model.specs.declared.op.Op.{Op}
 use Rattle.delay_model.specs.declared.op.Op.TheVariants as op
 use Rattle.ir_tree.specs.declared.ir_type.IrType.{IrType, Token}
-use Rattle.ir_tree.specs.declared.constant.Constant.{Constant}
 use Rattle.ir_tree.specs.declared.node.Operand.{Operand}
 use Rattle.ir_tree.specs.declared.node.Operand.TheVariants as operand
 use Rattle.ir_tree.specs.declared.node.Node.{Node}

@@ -3,6 +3,7 @@ ghost use Rattle.ir_tree.specs.declared.ir_type.IrType.{IrType};
 ghost use Rattle.ir_tree.specs.SameBehavior.{SameBehavior};
 ghost use Rattle.ir_verify.specs.Verified.{IsVerified};
 ghost use Rattle.ir_rebuild.specs.Built.{AreBuilt, IsPlaced, Rewrites, is_plain_op};
+ghost use Rattle.ir_rebuild.specs.Walks.{EachBecomes};
 ghost use Rattle.pass_fold.specs.Settled.{IsFolded, literal_node};
 
 use crate::constant::constant_of;
@@ -18,6 +19,10 @@ use std::alloc::{AllocError, Global};
 pub struct Fold;
 
 impl Rewrite for Fold {
+    ghost use Rattle.pass_fold.specs.Settled.{IsFolded};
+
+    ghost gives = { λ _ old new n o. IsFolded old new n o };
+
     fn kept(&self, alloc: Global, proc: &Proc) -> Result<Vec<bool>, AllocError> {
         keep_all(alloc, proc)
     }
@@ -65,6 +70,7 @@ pub fn run(alloc: Global, ir: Package) -> Result<Package, AllocError>
     requires { IsVerified ir }
     ensures verified { IfOk result (λ new. IsVerified new) }
     ensures same { IfOk result (λ new. SameBehavior ir new) }
+    ensures became { IfOk result (λ new. EachBecomes (λ _ _. Unit {0}) (λ _ old new n o. IsFolded old new n o) ir.procs new.procs) }
 {
     rebuild(alloc, &Fold, ir)
 }

@@ -9,3 +9,4 @@ pub mod Standing
 pub mod Lemmas
 pub mod NoSide
 pub mod NormalSides
+pub mod Put

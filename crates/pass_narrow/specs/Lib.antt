@@ -6,5 +6,7 @@ pub mod Nodes
 pub mod Narrowing
 -- that what stands for a node has no left side behind normal nodes
 pub mod KeepsNormal
+-- what stands for a node once what narrowing answers is appended
+pub mod Narrowed
 -- what functions of this crate promise to one another, and nobody else needs
 pub mod Inner

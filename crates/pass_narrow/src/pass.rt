@@ -1,6 +1,8 @@
 ghost use Rattle.std.specs.Prelude.{◌≡◌, IfOk};
 ghost use Rattle.ir_tree.specs.SameBehavior.{SameBehavior};
 ghost use Rattle.ir_verify.specs.Verified.{IsVerified};
+ghost use Rattle.ir_rebuild.specs.Walks.{EachBecomes};
+ghost use Rattle.pass_narrow.specs.Narrowed.{IsNarrowed};
 
 use crate::nodes::extension;
 use crate::stand_in::{StandIn, narrowed};
@@ -14,6 +16,10 @@ use std::alloc::{AllocError, Global};
 pub struct Narrow;
 
 impl Rewrite for Narrow {
+    ghost use Rattle.pass_narrow.specs.Narrowed.{IsNarrowed};
+
+    ghost gives = { IsNarrowed };
+
     fn kept(&self, alloc: Global, proc: &Proc) -> Result<Vec<bool>, AllocError> {
         keep_all(alloc, proc)
     }
@@ -42,6 +48,7 @@ pub fn run(alloc: Global, ir: Package) -> Result<Package, AllocError>
     requires { IsVerified ir }
     ensures verified { IfOk result (λ new. IsVerified new) }
     ensures same { IfOk result (λ new. SameBehavior ir new) }
+    ensures became { IfOk result (λ new. EachBecomes (λ _ _. Unit {0}) IsNarrowed ir.procs new.procs) }
 {
     rebuild(alloc, &Narrow, ir)
 }

@@ -1,2 +1,4 @@
 -- what a select always chooses
 pub mod Choices
+-- what stands for a node
+pub mod Selected

@@ -1,6 +1,8 @@
 ghost use Rattle.std.specs.Prelude.{◌≡◌, IfOk};
 ghost use Rattle.ir_tree.specs.SameBehavior.{SameBehavior};
 ghost use Rattle.ir_verify.specs.Verified.{IsVerified};
+ghost use Rattle.ir_rebuild.specs.Walks.{EachBecomes};
+ghost use Rattle.pass_select.specs.Selected.{IsSelected};
 
 use crate::selects::choice;
 use ir_rebuild::{Rewrite, append, keep_all, rebuild};
@@ -12,6 +14,10 @@ use std::alloc::{AllocError, Global};
 pub struct Select;
 
 impl Rewrite for Select {
+    ghost use Rattle.pass_select.specs.Selected.{IsSelected};
+
+    ghost gives = { IsSelected };
+
     fn kept(&self, alloc: Global, proc: &Proc) -> Result<Vec<bool>, AllocError> {
         keep_all(alloc, proc)
     }
@@ -35,6 +41,7 @@ pub fn run(alloc: Global, ir: Package) -> Result<Package, AllocError>
     requires { IsVerified ir }
     ensures verified { IfOk result (λ new. IsVerified new) }
     ensures same { IfOk result (λ new. SameBehavior ir new) }
+    ensures became { IfOk result (λ new. EachBecomes (λ _ _. Unit {0}) IsSelected ir.procs new.procs) }
 {
     rebuild(alloc, &Select, ir)
 }

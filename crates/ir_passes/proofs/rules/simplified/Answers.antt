@@ -1,4 +1,4 @@
-use Rattle.std.proofs.Common.{◌≤◌, ◌+◌, suc, length, arith}
+use Rattle.std.proofs.Common.{arith}
 use Rattle.std.proofs.lemmas.Result.{IfOk-weaker}
 use Rattle.pass_narrow.specs.Narrowing.{Narrows}
 use Rattle.pass_narrow.specs.KeepsNormal.{KeepsNormal}

@@ -1,4 +1,4 @@
-use Rattle.std.proofs.Common.{◌≤◌, ◌+◌, length, sym, ap, ◌∙◌, arith}
+use Rattle.std.proofs.Common.{sym, ap, ◌∙◌, arith}
 use Rattle.pass_select.specs.Choices.{choice_of}
 use Rattle.pass_select.proofs.Lemmas.{choice_rewrites}
 use Rattle.ir_passes.proofs.Selects.{undecided}

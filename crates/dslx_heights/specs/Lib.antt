@@ -1,0 +1,2 @@
+-- how high a tree is
+pub mod Heights

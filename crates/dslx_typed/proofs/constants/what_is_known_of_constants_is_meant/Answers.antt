@@ -1,0 +1,14 @@
+use Rattle.dslx_typed.proofs.OfConstants.{constant_is_meant, size_is_meant, bound_is_meant, bound_in_sight}
+use Rattle.dslx_typed.proofs.constants.what_is_known_of_constants_is_meant.Goals as goal
+
+pub returns-clause-value : goal.returns-clause-value
+returns-clause-value c = constant_is_meant
+
+pub returns-clause-binding : goal.returns-clause-binding
+returns-clause-binding c = bound_in_sight
+
+pub returns-clause-size : goal.returns-clause-size
+returns-clause-size c = size_is_meant
+
+pub returns-clause-bound : goal.returns-clause-bound
+returns-clause-bound c = bound_is_meant

@@ -1,0 +1,32 @@
+-- What stands for a node once what narrowing answers is appended.
+use Rattle.std.specs.Prelude.{◌≡◌, List, [], ◌∷◌, ◌++◌, length}
+use Rattle.delay_model.specs.declared.op.Extend.TheVariants as extend
+use Rattle.ir_tree.specs.declared.ir_type.IrType.{IrType}
+use Rattle.ir_tree.specs.declared.node.Operand.{Operand}
+use Rattle.ir_tree.specs.declared.node.Operand.TheVariants as operand
+use Rattle.ir_tree.specs.declared.node.Node.{Node}
+use Rattle.ir_rebuild.specs.Built.{numbered}
+use Rattle.pass_narrow.specs.declared.stand_in.StandIn.{StandIn}
+use Rattle.pass_narrow.specs.declared.stand_in.StandIn.TheVariants as stand_in
+use Rattle.pass_narrow.specs.Narrowing.{Narrows}
+use Rattle.pass_narrow.specs.Nodes.{extension_node}
+use Rattle.pass_narrow.specs.KeepsNormal.{KeepsNormal}
+
+-- a node more
+abbrev pub and_node : List Node → Node → List Node
+and_node nodes n = nodes ++ numbered (length nodes) n ∷ []
+
+-- the answer was appended, if it is no operand, and the operand names it
+abbrev pub IsPut : List Node → StandIn → List Node → Operand → Type 0
+IsPut nodes (stand_in.Operand p) new o = (new ≡ nodes) × (o ≡ p)
+IsPut nodes (stand_in.Node m) new o = (new ≡ and_node nodes m) × (o ≡ operand.Node (length nodes))
+IsPut nodes (stand_in.Extended m w) new o =
+    (new ≡ and_node (and_node nodes m) (extension_node extend.Zero (operand.Node (length nodes)) w)) × (o ≡ operand.Node (length (and_node nodes m)))
+
+-- what narrowing answers for the node, which has no left side behind normal nodes, was put behind what it needs
+pub record IsNarrowed (state : IrType) (old new : List Node) (n : Node) (o : Operand) : Type 0 where
+  pub nodes : List Node
+  pub answer : StandIn
+  pub narrows : Narrows state old nodes n answer
+  pub normal : KeepsNormal state old nodes n answer
+  pub put : IsPut nodes answer new o

@@ -1,0 +1,2 @@
+-- ends of lists
+mod Tails
