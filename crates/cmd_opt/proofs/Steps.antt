@@ -1,5 +1,5 @@
 -- The steps of the command agree.
-use Rattle.std.proofs.Common.{◌≡◌, ℕ, List, Result, Ok, Err, subst, sym}
+use Rattle.std.proofs.Common.{◌≡◌, ℕ, List, Result, Ok, Err, subst}
 use Rattle.xb_io.specs.Contents.{Contents}
 use Rattle.xb_span.specs.declared.read_error.ReadError.{ReadError}
 use Rattle.cmd_answer.specs.Fault.{Fault}
@@ -10,7 +10,7 @@ use Rattle.cmd_words.specs.declared.request.Opt.{Opt}
 use Rattle.cmd_ir.specs.Commands.{ReadsPackage}
 use Rattle.ir_tree.specs.declared.package.Package.{Package}
 use Rattle.ir_parser.specs.Texts.{GivesPackage}
-use Rattle.cmd_opt.specs.Agrees.{AreAlike, Agrees}
+use Rattle.cmd_opt.specs.Agrees.{Agrees}
 use Rattle.cmd_opt.specs.Commands.{GivesOptimised, optimised, opt, opt_loaded}
 
 same_ok : {A : Type 0} (x y : A) → ◌≡◌ {A = Result A Fault} (Ok x) (Ok y) → x ≡ y

@@ -6,8 +6,9 @@ ghost use Rattle.dslx_token.specs.Lexeme.{Lexeme};
 ghost use Rattle.dslx_builder.specs.Building.{built, module_of};
 ghost use Rattle.dslx_parts.specs.Empty.{empty};
 
-use crate::rule::{reduce, rule_of};
-use dslx_parts::Parts;
+use crate::rule::reduce;
+use crate::table::rule_of;
+use dslx_parts::{Parts, Stack};
 use dslx_token::Token;
 use dslx_tree::Module;
 use grammar::Step;
@@ -19,7 +20,7 @@ pub fn build(alloc: Global, steps: &[Step], tokens: &[Token]) -> Result<Module, 
 {
     let mut parts = Parts::new(alloc);
     run(alloc, steps, tokens, &mut parts)?;
-    Ok(items_of(parts))
+    Ok(take_items(alloc, &mut parts))
 }
 
 /// Goes through the steps.
@@ -81,11 +82,12 @@ fn shift_next(
     }
 }
 
-/// The tree of the items that have been built.
-fn items_of(parts: Parts) -> Module
-    ensures { result ≡ module_of parts }
+/// Takes the items that have been built, as a tree.
+fn take_items(alloc: Global, parts: &mut Parts) -> Module
+    ensures { result ≡ module_of parts.old }
 {
+    let items = std::mem::replace(&mut parts.items, Stack::new(alloc));
     Module {
-        items: parts.items.into_items(),
+        items: items.into_items(),
     }
 }

@@ -6,6 +6,7 @@
 
 mod builder;
 mod rule;
+mod table;
 
 pub use builder::build;
-pub use rule::{RULES, rules_are_those_of_the_table};
+pub use table::{RULES, rules_are_those_of_the_table};

@@ -1,6 +1,7 @@
 //! What an expression of operators and operands makes.
 
 ghost use Rattle.std.specs.Prelude.{◌≡◌, drop, reverse, IfOk, OnOk};
+ghost use Rattle.dslx_operators.specs.Levels.{tree_of};
 ghost use Rattle.dslx_operator_rules.specs.Operators.{chain, links_of};
 
 use dslx_atom_rules::pop_expr;
@@ -16,9 +17,20 @@ pub fn chain(parts: &mut Parts, alloc: Global) -> Result<(), AllocError>
     let count = parts.counts.pop_or(0);
     let links = take_links(parts, alloc, count)?;
     let (span, expr) = pop_expr(parts);
-    let Operand { span, expr } = tree(alloc, Operand { span, expr }, links)?;
+    let Operand { span, expr } = joined(alloc, Operand { span, expr }, links)?;
     parts.places.push(span)?;
     parts.exprs.push(expr)
+}
+
+/// The tree of a chain, at once where it has no operator, as most have none.
+fn joined(alloc: Global, first: Operand, links: Vec<Link>) -> Result<Operand, AllocError>
+    ensures { IfOk result (λ operand. operand ≡ tree_of first (reverse links.items)) }
+{
+    if links.is_empty() {
+        Ok(first)
+    } else {
+        tree(alloc, first, links)
+    }
 }
 
 /// Takes the last so many operands with the operators before them, the last one first.

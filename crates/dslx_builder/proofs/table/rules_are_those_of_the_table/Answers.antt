@@ -1,6 +1,6 @@
 use Rattle.std.proofs.Common.{refl}
 use Rattle.dslx_builder.specs.Table.{table}
-use Rattle.dslx_builder.proofs.rule.rules_are_those_of_the_table.Goals as goal
+use Rattle.dslx_builder.proofs.table.rules_are_those_of_the_table.Goals as goal
 
 pub returns-clause-same : goal.returns-clause-same
 unfolding table
