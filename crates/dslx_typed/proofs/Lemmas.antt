@@ -2,6 +2,7 @@
 -- nothing else of this folder is.
 pub use Rattle.dslx_typed.proofs.Judged.{none_some, same_some, or_false, not_false, unbroken_parts, rule_holds, test_holds, settled_type, alone_type}
 pub use Rattle.dslx_typed.proofs.OfTypes.{one_type}
+pub use Rattle.dslx_typed.proofs.OfLists.{all_are, all_there}
 pub use Rattle.dslx_typed.proofs.OneName.{one_of_text, like_itself, list_parts}
 pub use Rattle.dslx_typed.proofs.OfOperators.{binary_gives, prefix_gives, cast_gives}
 pub use Rattle.dslx_typed.proofs.OfAggregates.{index_gives, tuple_gives, tuple_part_given}
