@@ -22,3 +22,9 @@ pub mod OfNumbers
 pub mod OfFunctions
 -- the trees of parts, and what they mean
 pub mod Links
+-- patterns
+pub mod OfShapes
+-- `match`
+pub mod OfMatch
+-- the induction on trees
+pub mod Joined

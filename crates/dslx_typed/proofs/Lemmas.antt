@@ -3,6 +3,7 @@
 pub use Rattle.dslx_typed.proofs.Judged.{none_some, same_some, or_false, not_false, unbroken_parts, rule_holds, test_holds, settled_type, alone_type}
 pub use Rattle.dslx_typed.proofs.OfTypes.{is_tuple_of, of_token, one_type}
 pub use Rattle.dslx_typed.proofs.OfLists.{all_are, all_there}
+pub use Rattle.dslx_typed.proofs.OfWords.{and_reduce_lies, clz_lies, ctz_lies, or_reduce_lies, rev_lies, xor_reduce_lies}
 pub use Rattle.dslx_typed.proofs.OneName.{one_of_text, like_itself, list_parts, parts_declared}
 pub use Rattle.dslx_typed.proofs.OfOperators.{binary_gives, prefix_gives, cast_gives}
 pub use Rattle.dslx_typed.proofs.OfAggregates.{index_gives, tuple_gives, tuple_part_given}
