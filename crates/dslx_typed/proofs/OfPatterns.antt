@@ -159,7 +159,7 @@ each_keeps (p ∷ ps) (m ∷ ms) k may_fail sight (t ∷ ts) names locals env (v
         Fails (ap (λ o. and_then o (fit_each ms vs)) is) may (ap (λ b. b && rest_seen.is_sure) sure)
 
 -- a type that has as many parts is a tuple
-parts_of_type : (n : ℕ) (t : DslxType) (ts : List DslxType) → part_types n (Some t) ≡ Some ts → (t ≡ ty.Tuple ts) × (length ts ≡ n)
+pub parts_of_type : (n : ℕ) (t : DslxType) (ts : List DslxType) → part_types n (Some t) ≡ Some ts → (t ≡ ty.Tuple ts) × (length ts ≡ n)
 parts_of_type n t ts e = by_level (out-DslxType t) refl e
   where
     no_parts : {X : Type 0} → None ≡ Some ts → X

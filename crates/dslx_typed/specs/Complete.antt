@@ -64,6 +64,7 @@ pub record IsComplete (known : Known) : Type 0 where
   pub parts : DeclaresParts known.items.type_named
   pub structs : (name : List ℕ) (s : Struct) → as_struct (item_named name known.whole.items) ≡ Some s → IsStructKnown known.items.type_named s (known.items.struct_named name)
   pub parameters : (home : List ℕ) → ParametersMean known known.items home
+  pub types_in : (home : List ℕ) (so_far : List Given) (p : TypeExpr) (t : DslxType) → known.type_in home so_far p ≡ Some t → IsDeclared known.items.type_named t
   pub parameter_types : (home : List ℕ) (so_far : List Given) (p : TypeExpr) → IsFine known (known.type_seen_in home so_far [] p) → IsTypeKnown (known.type_in home so_far p)
   pub defaults : (home : List ℕ) (so_far : List Given) (e : Expr) → IsFine known (known.default_in home so_far [] e).judgement
       → (v : DslxValue) × ((known.default_in home so_far [] e).value ≡ Some v) × ((known.default_in home so_far [] e).judgement.ty ≡ Some (type_of_value v))
