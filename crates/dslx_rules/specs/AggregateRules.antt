@@ -15,7 +15,7 @@ use Rattle.dslx_meaning.specs.declared.ty.DslxType.TheOpen.{DslxType-F}
 use Rattle.dslx_rules.specs.Mentions.{is_cyclic}
 use Rattle.dslx_rules.specs.Judging.{Sight, Judgement, ExprPair, breaks, breaks_if, settled, span_of, bare_of, alone, within, no_token, faults_of_all, reached_of_all, size_of_all, types_of, plus_size, one_and}
 use Rattle.dslx_rules.specs.Judgings.{FieldSeen}
-use Rattle.dslx_rules.specs.ConstantRules.{bare_judged, is_unsigned}
+use Rattle.dslx_rules.specs.ConstantRules.{bare_judged, is_empty, is_unsigned}
 use Rattle.dslx_rules.specs.NameRules.{name_judged}
 use Rattle.dslx_rules.specs.PatternRules.{is_there}
 use Rattle.dslx_rules.specs.OperatorRules.{unless_type}
@@ -101,7 +101,7 @@ untyped_array span sight es dots =
     let js = map (element_alone sight) es in
     let first = first_type_of (types_of js) in
     settled span (when_all (types_of js) (and_then first (λ t. Some (ty.Array t (length es)))))
-    (faults_of_all js ++ like_first first es (types_of js) ++ breaks_if dots 21 span) (reached_of_all js) (one_and (size_of_all js))
+    (faults_of_all js ++ like_first first es (types_of js) ++ breaks_if (dots || is_empty es) 21 span) (reached_of_all js) (one_and (size_of_all js))
 
 abbrev pub array_judged : Span → Sight → Option Judgement → List ExprPair → Bool → Judgement
 array_judged span sight None es dots = untyped_array span sight es dots

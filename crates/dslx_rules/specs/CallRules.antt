@@ -27,7 +27,7 @@ use Rattle.dslx_meaning.specs.declared.value.DslxValue.{DslxValue}
 use Rattle.dslx_rules.specs.Mentions.{is_cyclic}
 use Rattle.dslx_rules.specs.Judging.{Known, Instance, Outlet, Sight, Judgement, ExprPair, breaks, breaks_if, settled, has_broken, span_of, name_of_expr, within, alone, all_alone, faults_of_all, reached_of_all, size_of_all, types_of, plus_size, one_and, typed_in}
 use Rattle.dslx_rules.specs.Judgings.{ArgPair}
-use Rattle.dslx_rules.specs.ConstantRules.{ConstantSeen, constant_of, is_unsigned}
+use Rattle.dslx_rules.specs.ConstantRules.{ConstantSeen, constant_of, is_unsigned, bare_judged}
 use Rattle.dslx_rules.specs.OperatorRules.{unless_type, is_bits, is_bool}
 use Rattle.dslx_rules.specs.AggregateRules.{wanted_faults, is_array, array_in, element_type, when_all}
 
@@ -110,35 +110,38 @@ of_type t v = with_both t v (λ t v. if same_type t (type_of_value v) then Some 
 abbrev pub declared_type : Known → List ℕ → List Given → TypeExpr → Option DslxType
 declared_type known home so_far t = and_then (known.type_in home so_far t) (λ t. if is_unit t then None else Some t)
 
--- a parameter that isn't given, with the faults of its default where that is used
+-- a parameter that isn't given, with what its default breaks and reaches where that is used
 pub record NotGiven : Type 0 where
   pub value : Resolved
   pub faults : List Fault
+  pub reached : List Instance
 
-abbrev pub without_faults : Resolved → NotGiven
-without_faults r = record { value = r; faults = [] }
+abbrev pub without_default : Resolved → NotGiven
+without_default r = record { value = r; faults = []; reached = [] }
 
 abbrev pub default_value : Known → List ℕ → List Given → List (List ℕ) → Option DslxType → Option Expr → NotGiven
-default_value known home so_far unknown t None = without_faults Wrong
+default_value known home so_far unknown t None = without_default Wrong
 default_value known home so_far unknown t (Some e) =
     let default = known.default_in home so_far unknown e in
     record {
       value = resolved_value (of_type t default.value);
       faults = default.judgement.faults ++ wanted_faults (out-Expr e).span t default.judgement.ty;
+      reached = default.judgement.reached;
     }
 
 -- inferred, if that is one number, or else the default
 abbrev pub not_given : Known → List ℕ → List Given → List (List ℕ) → Parameter → Option DslxType → Bool → List ℕ → NotGiven
-not_given known home so_far unknown p t maybe [] = if maybe then without_faults Unknown else default_value known home so_far unknown t p.default
-not_given known home so_far unknown p t maybe (n ∷ ns) = without_faults (if list_all (λ k. k == n) ns then in_type t n else Wrong)
+not_given known home so_far unknown p t maybe [] = if maybe then without_default Unknown else default_value known home so_far unknown t p.default
+not_given known home so_far unknown p t maybe (n ∷ ns) = without_default (if list_all (λ k. k == n) ns then in_type t n else Wrong)
 
 -- the number parameters of a call or a spawn: the values where all are known, what is bound as far as it is known, whether
--- rule 10 is broken, and the faults of what is given
+-- rule 10 is broken, and what the parameters break and reach by what is given, by defaults and by types
 pub record NumbersSeen : Type 0 where
   pub values : Option (List DslxValue)
   pub bound : List Given
   pub is_wrong : Bool
   pub faults : List Fault
+  pub reached : List Instance
 
 abbrev pub bound_by_number : List Given → Parameter → Resolved → List Given
 bound_by_number so_far p (Number v) = with_number so_far p v
@@ -158,26 +161,36 @@ abbrev pub is_wrong_number : Resolved → Bool
 is_wrong_number Wrong = true
 is_wrong_number _ = false
 
-abbrev pub number_before : Resolved → List Fault → NumbersSeen → NumbersSeen
-number_before r faults rest = record {
+abbrev pub number_before : Resolved → List Fault → List Instance → NumbersSeen → NumbersSeen
+number_before r faults reached rest = record {
   values = value_before r rest.values;
   bound = rest.bound;
   is_wrong = is_wrong_number r || rest.is_wrong;
   faults = faults ++ rest.faults;
+  reached = reached ++ rest.reached;
 }
+
+-- what the type of a parameter comes to that has no value: the call reaches no instance then, in which it would be found
+abbrev pub type_without_value : Known → List ℕ → List Given → List (List ℕ) → Parameter → Resolved → Judgement
+type_without_value known home so_far unknown p Unknown = known.type_seen_in home so_far unknown p.ty
+type_without_value known home so_far unknown p (Number v) = bare_judged
+type_without_value known home so_far unknown p Wrong = bare_judged
 
 -- from the parameters before that are bound, and those of which no value is known
 abbrev pub numbers_seen : Known → List ℕ → List Inferred → List (List ℕ) → List Given → List (List ℕ) → List Parameter → List GivenNumber → NumbersSeen
-numbers_seen known home inferred maybe so_far unknown [] [] = record { values = Some []; bound = so_far; is_wrong = false; faults = [] }
-numbers_seen known home inferred maybe so_far unknown [] (g ∷ gs) = record { values = None; bound = so_far; is_wrong = true; faults = [] }
+numbers_seen known home inferred maybe so_far unknown [] [] = record { values = Some []; bound = so_far; is_wrong = false; faults = []; reached = [] }
+numbers_seen known home inferred maybe so_far unknown [] (g ∷ gs) = record { values = None; bound = so_far; is_wrong = true; faults = []; reached = [] }
 numbers_seen known home inferred maybe so_far unknown (p ∷ ps) (g ∷ gs) =
     let t = declared_type known home so_far p.ty in
     let r = resolved_value (of_type t g.seen.value) in
-    number_before r (wanted_faults g.span t g.seen.judgement.ty)
+    let written = type_without_value known home so_far unknown p r in
+    number_before r (written.faults ++ wanted_faults g.span t g.seen.judgement.ty) written.reached
     (numbers_seen known home inferred maybe (bound_by_number so_far p r) (unknown_behind unknown p r) ps gs)
 numbers_seen known home inferred maybe so_far unknown (p ∷ ps) [] =
     let r = not_given known home so_far unknown p (declared_type known home so_far p.ty) (is_in p.name.name maybe) (numbers_for p.name.name inferred) in
-    number_before r.value r.faults (numbers_seen known home inferred maybe (bound_by_number so_far p r.value) (unknown_behind unknown p r.value) ps [])
+    let written = type_without_value known home so_far unknown p r.value in
+    number_before r.value (written.faults ++ r.faults) (written.reached ++ r.reached)
+    (numbers_seen known home inferred maybe (bound_by_number so_far p r.value) (unknown_behind unknown p r.value) ps [])
 
 abbrev pub given_numbers : Sight → List ArgPair → List GivenNumber
 given_numbers sight as' = map (λ (a : ArgPair). record { span = span_of a.1; seen = constant_of sight a.1 }) as'
@@ -227,7 +240,7 @@ right_call span sight f given es js cyclic numbers =
     settled span (call_type sight.known f numbers js)
     (call_parts_faults given js ++ cyclic ++ numbers.faults ++ breaks_if numbers.is_wrong 10 span
     ++ (if numbers.is_wrong then [] else operand_faults sight.known f.name.name numbers.bound f.arguments es js))
-    (call_parts_reached given js ++ reached_by (has_broken cyclic || numbers.is_wrong) f.name.name numbers.values)
+    (call_parts_reached given js ++ numbers.reached ++ reached_by (has_broken cyclic || numbers.is_wrong) f.name.name numbers.values)
     (one_and (plus_size (size_of_all js) (callee_size sight.known f.name.name numbers.values)))
 
 abbrev pub has_right_count : Function → List GivenNumber → List ExprPair → Bool
@@ -393,18 +406,24 @@ only_on_top false span j = record { ty = None; faults = j.faults ++ breaks 28 sp
 
 -- ---- any call
 
+-- rule 10: a builtin has no number arguments
+abbrev pub without_numbers : Span → Sight → List ArgPair → List ExprPair → Judgement → Judgement
+without_numbers span sight [] es j = j
+without_numbers span sight (n ∷ ns) es j = wrong_call span (given_numbers sight (n ∷ ns)) (all_alone sight es) []
+
+abbrev pub builtin_judged : CallKind → Span → List ExprPair → Sight → Judgement
+builtin_judged Joins span es sight = joining span sight es
+builtin_judged CountsLeading span es sight = let js = all_alone sight es in counting span es js (first_operand_type js)
+builtin_judged CountsTrailing span es sight = let js = all_alone sight es in counting span es js (first_operand_type js)
+builtin_judged Reverses span es sight = let js = all_alone sight es in counting span es js (first_operand_type js)
+builtin_judged Updates span es sight = updating span es (all_alone sight es)
+builtin_judged _ span es sight = counting span es (all_alone sight es) (Some bool_type)
+
 abbrev pub call_judged : CallKind → Span → Ident → List ArgPair → List ExprPair → Bool → Sight → Judgement
-call_judged Joins span name numbers es on_top sight = joining span sight es
 call_judged Receives span name numbers es on_top sight = only_on_top on_top span (receiving span sight es)
 call_judged ReceivesIf span name numbers es on_top sight = only_on_top on_top span (receiving_if span sight es)
 call_judged Sends span name numbers es on_top sight = only_on_top on_top span (sending span sight es)
 call_judged SendsIf span name numbers es on_top sight = only_on_top on_top span (sending_if span sight es)
-call_judged CountsLeading span name numbers es on_top sight = let js = all_alone sight es in counting span es js (first_operand_type js)
-call_judged CountsTrailing span name numbers es on_top sight = let js = all_alone sight es in counting span es js (first_operand_type js)
-call_judged Reverses span name numbers es on_top sight = let js = all_alone sight es in counting span es js (first_operand_type js)
-call_judged AllOnes span name numbers es on_top sight = counting span es (all_alone sight es) (Some bool_type)
-call_judged SomeOne span name numbers es on_top sight = counting span es (all_alone sight es) (Some bool_type)
-call_judged Parity span name numbers es on_top sight = counting span es (all_alone sight es) (Some bool_type)
-call_judged Updates span name numbers es on_top sight = updating span es (all_alone sight es)
 call_judged Calls span name numbers es on_top sight =
     function_call span sight name (given_numbers sight numbers) es (all_alone sight es) (as_function (item_named name.name sight.known.whole.items))
+call_judged kind span name numbers es on_top sight = without_numbers span sight numbers es (builtin_judged kind span es sight)

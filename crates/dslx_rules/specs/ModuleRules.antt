@@ -28,7 +28,7 @@ use Rattle.dslx_rules.specs.NameRules.{listed_name}
 use Rattle.dslx_rules.specs.PatternRules.{is_there}
 use Rattle.dslx_rules.specs.CallRules.{NumbersSeen, numbers_seen}
 use Rattle.dslx_rules.specs.NodeRules.{expr_pair}
-use Rattle.dslx_rules.specs.ItemRules.{Found, nothing_found, and_found, only_faults, all_found, item_sight, judged_type, function_seen, constant_seen, alias_seen, struct_seen, enum_seen, enum_member_value}
+use Rattle.dslx_rules.specs.ItemRules.{Found, nothing_found, and_found, only_faults, all_found, item_sight, judged_type, judged_inner, function_seen, constant_seen, alias_seen, struct_seen, enum_seen, enum_member_value}
 use Rattle.dslx_rules.specs.ProcRules.{proc_seen}
 
 -- ---- what is known of items, from what is known of those that they mention
@@ -78,6 +78,7 @@ known_nothing m = record {
   is_unbroken = λ i. false;
   body_size = λ i. None;
   type_in = λ home numbers t. None;
+  type_seen_in = λ home numbers unknown t. bare_judged;
   default_in = λ home numbers unknown e. record { judgement = bare_judged; value = None };
 }
 
@@ -96,6 +97,7 @@ known_over known = record {
   is_unbroken = unbroken_instance known;
   body_size = λ i. size_known known i.numbers (as_function (item_named i.name known.whole.items));
   type_in = λ home numbers t. (judged_type (item_sight known home numbers) t).ty;
+  type_seen_in = λ home numbers unknown t. judged_inner (record (item_sight known home numbers) { unknown = unknown }) t;
   default_in = default_known known;
 }
 
@@ -190,7 +192,7 @@ top_found known (Some p) = with_numbers (numbers_seen known p.name.name [] [] []
     instance_if (Some vs) = record { name = p.name.name; numbers = vs } ∷ []
 
     with_numbers : NumbersSeen → Found
-    with_numbers n = record { faults = n.faults; reached = instance_if n.values }
+    with_numbers n = record { faults = n.faults; reached = n.reached ++ instance_if n.values }
 
 -- ---- all faults
 

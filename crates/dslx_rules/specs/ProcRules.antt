@@ -127,7 +127,7 @@ abbrev pub right_spawn : Sight → Made → Spawn → Proc → List Fault → Nu
 right_spawn sight made s target cyclic numbers = record {
   faults = cyclic ++ numbers.faults ++ breaks_if numbers.is_wrong 10 s.span
       ++ (if numbers.is_wrong then [] else handed_faults sight.known target.name.name numbers.bound made target.config.ends s.ends);
-  reached = reached_by (has_broken cyclic || numbers.is_wrong) target.name.name numbers.values;
+  reached = numbers.reached ++ reached_by (has_broken cyclic || numbers.is_wrong) target.name.name numbers.values;
 }
 
 abbrev pub spawn_of : Sight → Made → Spawn → List GivenNumber → Option Proc → Found

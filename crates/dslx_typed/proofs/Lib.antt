@@ -34,3 +34,5 @@ pub mod OfWritten
 pub mod OfFunctions
 -- number parameters of calls
 pub mod OfNumbers
+-- for other crates' proofs
+pub mod Lemmas

@@ -1,5 +1,5 @@
 -- What array literals give.
-use Rattle.std.proofs.Common.{◌≡◌, ◌&&◌, ◌++◌, ◌==◌, ◌-◌, ◌≤◌, ℕ, zero, suc, length, Bool, true, false, not, if◌then◌else◌, List, [], ◌∷◌, map, Option, Some, None, ltb-false, length-append, arith, refl, sym, ap, subst, ◌∙◌}
+use Rattle.std.proofs.Common.{◌≡◌, ◌||◌, ◌&&◌, ◌++◌, ◌==◌, ◌-◌, ◌≤◌, ℕ, zero, suc, length, Bool, true, false, not, if◌then◌else◌, List, [], ◌∷◌, map, Option, Some, None, ltb-false, length-append, arith, refl, sym, ap, subst, ◌∙◌}
 use mathlib.Core.Bool.{true≢false}
 use Rattle.std.specs.Prelude.{nat_lt, nat_le, ◌^◌}
 use Rattle.std.specs.Option.{option_map}
@@ -21,7 +21,7 @@ use Rattle.dslx_meaning.specs.declared.value.DslxValue as value
 use Rattle.dslx_meaning.specs.declared.value.DslxValue.TheViews as views
 use Rattle.dslx_meaning.specs.declared.value.Bare.{Bare}
 use Rattle.dslx_rules.specs.Judging.{Sight, Judgement, ExprPair, breaks_if, has_broken, span_of, bare_of, alone, types_of, faults_of_all}
-use Rattle.dslx_rules.specs.ConstantRules.{bare_judged, is_zero}
+use Rattle.dslx_rules.specs.ConstantRules.{is_empty, bare_judged, is_zero}
 use Rattle.dslx_rules.specs.PatternRules.{is_there}
 use Rattle.dslx_rules.specs.AggregateRules.{array_in, element_type, element_in, element_alone, wanted_faults, range_faults, first_type_of, like_first, array_faults, count_wrong, typed_array, untyped_array, when_all}
 use Rattle.dslx_laws.proofs.Lemmas.{and_true, is_bits_type}
@@ -90,8 +90,8 @@ untyped_gives types span sight es dots xs h t e =
     let js = map (element_alone sight) es in
     let first = first_type_of (types_of js) in
     let s = settled_type (when_all (types_of js) (and_then first (λ t. Some (ty.Array t (length es)))))
-    ((faults_of_all js ++ like_first first es (types_of js)) ++ breaks_if dots 21 span) t e in
-    let f = three_unbroken (faults_of_all js) (like_first first es (types_of js)) (breaks_if dots 21 span) s.0 in
+    ((faults_of_all js ++ like_first first es (types_of js)) ++ breaks_if (dots || is_empty es) 21 span) t e in
+    let f = three_unbroken (faults_of_all js) (like_first first es (types_of js)) (breaks_if (dots || is_empty es) 21 span) s.0 in
     let q = when_all_type (types_of js) (and_then first (λ t. Some (ty.Array t (length es)))) t s.1 in
     given q.0 q.1 (all_alone_given types sight es xs q.0 h (sym (element_types sight es) ∙ q.1)) (many_mapped sight es q.0 (sym (element_types sight es) ∙ q.1))
     (ap (λ us. has_broken (like_first (first_type_of us) es us)) (sym q.1) ∙ f.1)

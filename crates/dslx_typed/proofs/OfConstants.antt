@@ -1,5 +1,5 @@
 -- What the rules know of a constant is the value that it has at its place.
-use Rattle.std.proofs.Common.{◌≡◌, ◌++◌, ℕ, Bool, true, false, if◌then◌else◌, List, [], ◌∷◌, map, Option, Some, None, refl, sym, ap, ◌∙◌}
+use Rattle.std.proofs.Common.{◌≡◌, ◌&&◌, ◌++◌, ℕ, Bool, true, false, if◌then◌else◌, List, [], ◌∷◌, map, Option, Some, None, refl, sym, ap, ◌∙◌}
 use mathlib.Core.Bool.{true≢false}
 use Rattle.std.specs.Str.{bytes_eq}
 use Rattle.std.specs.List.{list_any, list_all}
@@ -22,6 +22,7 @@ use Rattle.dslx_rules.specs.OperatorRules.{bound_number}
 use Rattle.dslx_laws.specs.Agreement.{AreBoundAlike}
 use Rattle.dslx_laws.proofs.Lemmas.{and_true}
 use Rattle.dslx_laws.proofs.Lemmas.{value_depends, bound_alike}
+use Rattle.dslx_typed.specs.Complete.{IsFine}
 use Rattle.dslx_typed.specs.InSight.{local_names, IsInSight, place_of}
 use Rattle.dslx_typed.proofs.Judged.{none_some, or_false}
 
@@ -103,6 +104,17 @@ constant_is_meant sight bound e v h k = by_test (is_sound_here sight.known j) re
         let first = empty_parts own (size_faults sight.known (span_of e).to (record (alone sight e) { faults = own })) none.0 in
         let names = no_rule (names_a_local sight e) 5 (span_of e) (empty_parts (alone sight e).faults (breaks_if (names_a_local sight e) 5 (span_of e)) first.0).1 in
         sym (same_at_place sight bound e.0 h names) ∙ typed j.ty r
+
+-- what breaks nothing and has a type and a value at its place is known
+pub meant_is_known : (sight : Sight) (bound : List Given) (e : ExprPair) (t : DslxType) (v : DslxValue) → IsInSight sight bound → IsFine sight.known (constant_of sight e).judgement
+    → (constant_of sight e).judgement.ty ≡ Some t → value_of e.0 (place_of sight bound) ≡ Some v → (constant_of sight e).value ≡ Some v
+meant_is_known sight bound e t v h fine own k =
+    let j = constant_judged sight e in
+    let faults = (alone sight e).faults ++ breaks_if (names_a_local sight e) 5 (span_of e) in
+    let more = size_faults sight.known (span_of e).to (record (alone sight e) { faults = faults }) in
+    let empty = ap is_empty fine.faults in
+    let names = no_rule (names_a_local sight e) 5 (span_of e) (empty_parts (alone sight e).faults (breaks_if (names_a_local sight e) 5 (span_of e)) (empty_parts faults more empty).0).1 in
+    (λ i. if (empty i && fine.reached i) then value_if_typed (own i) (same_at_place sight bound e.0 h names i) else None) ∙ k
 
 -- ---- sizes and bounds
 

@@ -26,7 +26,7 @@ use Rattle.dslx_rules.specs.ItemRules.{judged_inner, arguments_typed, body_judge
 use Rattle.dslx_typed.specs.Kinds.{is_of}
 use Rattle.dslx_typed.specs.Declared.{Declarations, IsDeclared}
 use Rattle.dslx_typed.specs.Given.{GivesOf, GivesItsType, TurnGives}
-use Rattle.dslx_typed.specs.WellTyped.{types_at, IsWellTyped, FitsOrFails, Fits, Fails, PatternKeeps, turn_seen, AreOperandsOf}
+use Rattle.dslx_typed.specs.WellTyped.{types_at, IsWellTyped, FitsOrFails, Fits, Fails, PatternKeeps, turn_seen, AreOperandsOf, NameNoConstant}
 use Rattle.dslx_typed.proofs.Judged.{none_some, same_some, unbroken_parts, three_unbroken, test_holds, settled_type}
 use Rattle.dslx_typed.proofs.OfAggregates.{and_then_type}
 use Rattle.dslx_typed.proofs.OfControl.{loop_gives}
@@ -98,16 +98,16 @@ for_gives types span body_span from to start written index acc body x y z turn g
 -- ---- functions
 
 -- operands of the types of the arguments, bound one after the other
-operands_keep : (sight : Sight) (items : Meanings) (fs : List Field) (vs : List DslxValue) (locals : List Typed) (bound : List Given) → AreOperandsOf sight fs vs
+operands_keep : (sight : Sight) (items : Meanings) (fs : List Field) (vs : List DslxValue) (locals : List Typed) (bound : List Given) → AreOperandsOf sight fs vs → NameNoConstant sight fs
     → IsWellTyped (with_typed sight locals) (record { items = items; bound = bound })
     → IsWellTyped (with_typed sight (arguments_typed sight locals fs)) (record { items = items; bound = operands_bound bound fs vs })
-operands_keep sight items [] [] locals bound k h = h
-operands_keep sight items [] (v ∷ vs) locals bound k h = absurd k
-operands_keep sight items (f ∷ fs) [] locals bound k h = absurd k
-operands_keep sight items (f ∷ fs) (v ∷ vs) locals bound k h =
-    operands_keep sight items fs vs (record { name = f.name.name; ty = (judged_inner sight f.ty).ty } ∷ locals) (record { name = f.name.name; value = v } ∷ bound) k.1
+operands_keep sight items [] [] locals bound k c h = h
+operands_keep sight items [] (v ∷ vs) locals bound k c h = absurd k
+operands_keep sight items (f ∷ fs) [] locals bound k c h = absurd k
+operands_keep sight items (f ∷ fs) (v ∷ vs) locals bound k c h =
+    operands_keep sight items fs vs (record { name = f.name.name; ty = (judged_inner sight f.ty).ty } ∷ locals) (record { name = f.name.name; value = v } ∷ bound) k.1 c.1
     (subst (λ o. IsWellTyped (with_typed sight (record { name = f.name.name; ty = o } ∷ locals)) (record { items = items; bound = record { name = f.name.name; value = v } ∷ bound })) (sym k.0.1)
-    (bound_keeps sight locals (record { items = items; bound = bound }) f.name.name k.0.0 v h k.0.2))
+    (bound_keeps sight locals (record { items = items; bound = bound }) f.name.name k.0.0 v h k.0.2 c.0))
 
 as_many : (sight : Sight) (fs : List Field) (vs : List DslxValue) → AreOperandsOf sight fs vs → length vs ≡ length fs
 as_many sight [] [] k = refl
@@ -126,17 +126,17 @@ body_fits sight wanted u body own f =
 
 pub function_gives : (known : Known) (items : Meanings) (f : Function) (numbers operands : List DslxValue) (result u : DslxType)
     → IsWellTyped (function_sight known f numbers) (record { items = items; bound = numbers_bound [] f.parameters numbers })
-    → AreOperandsOf (function_sight known f numbers) f.arguments operands → IsDeclared known.items.type_named result
+    → AreOperandsOf (function_sight known f numbers) f.arguments operands → NameNoConstant (function_sight known f numbers) f.arguments → IsDeclared known.items.type_named result
     → ((block_pair f.body).1 false (with_typed (function_sight known f numbers) (arguments_typed (function_sight known f numbers) [] f.arguments))).ty ≡ Some u
     → has_broken (body_judged false (with_typed (function_sight known f numbers) (arguments_typed (function_sight known f numbers) [] f.arguments)) (Some result) f.body).faults ≡ false
     → ((env : Env) → IsWellTyped (with_typed (function_sight known f numbers) (arguments_typed (function_sight known f numbers) [] f.arguments)) env
     → GivesItsType known.items.type_named ((block_pair f.body).1 false (with_typed (function_sight known f numbers) (arguments_typed (function_sight known f numbers) [] f.arguments))) (value_of_block f.body env))
     → GivesOf known.items.type_named result (function_value items f numbers operands)
-function_gives known items f numbers operands result u h k declared own faults gives =
+function_gives known items f numbers operands result u h k plain declared own faults gives =
     let sight = function_sight known f numbers in
     let inner = with_typed sight (arguments_typed sight [] f.arguments) in
     let env : Env = record { items = items; bound = operands_bound (numbers_bound [] f.parameters numbers) f.arguments operands } in
-    let g = gives env (operands_keep sight items f.arguments operands [] (numbers_bound [] f.parameters numbers) k h) u own in
+    let g = gives env (operands_keep sight items f.arguments operands [] (numbers_bound [] f.parameters numbers) k plain h) u own in
     let same = one_of_text known.items.type_named result u (body_fits inner result u f.body own faults) declared g.declared in
     record {
       value = g.value;

@@ -21,7 +21,8 @@ use Rattle.dslx_typed.specs.Kinds.{is_of, each_of}
 use Rattle.dslx_typed.specs.Declared.{IsDeclared, AllDeclared}
 use Rattle.dslx_typed.specs.Given.{GivesOf}
 use Rattle.dslx_typed.specs.WellTyped.{types_at, IsKnownValue, IsWellTyped, FitsOrFails, Fits, Fails, PatternKeeps, EachKeeps}
-use Rattle.dslx_typed.proofs.Judged.{same_some, unbroken_parts, three_unbroken, test_holds}
+use Rattle.dslx_typed.proofs.Judged.{none_some, same_some, unbroken_parts, three_unbroken, test_holds}
+use Rattle.dslx_typed.proofs.OfConstants.{bound_in_sight}
 use Rattle.dslx_typed.proofs.OfTypes.{is_tuple_of}
 use Rattle.dslx_typed.proofs.OneName.{parts_declared}
 
@@ -29,15 +30,24 @@ use Rattle.dslx_typed.proofs.OneName.{parts_declared}
 
 -- one more name, with a value of its type
 pub bound_keeps : (sight : Sight) (locals : List Typed) (env : Env) (name : List ℕ) (t : DslxType) (v : DslxValue) → IsWellTyped (with_typed sight locals) env → GivesOf (types_at sight) t (Some v)
-    → IsWellTyped (with_typed sight (record { name = name; ty = Some t } ∷ locals)) (bind name v env)
-bound_keeps sight locals env name t v h g = record {
+    → sight.known.items.is_constant name ≡ false → IsWellTyped (with_typed sight (record { name = name; ty = Some t } ∷ locals)) (bind name v env)
+bound_keeps sight locals env name t v h g plain = record {
   locals = λ n u q. local n u (bytes_eq n name) (h.locals n u) q;
   numbers = λ n w q r. number n w (bytes_eq n name) (λ k. h.numbers n w k r) q;
   constants = λ n w q r c. constant n w (bytes_eq n name) (λ k. h.constants n w k r c) q;
   members = h.members;
   kinds = h.kinds;
+  typed = λ n q. has_type n (bytes_eq n name) (h.typed n) q;
+  valued = h.valued;
+  place = bound_in_sight sight locals env.bound name (Some t) v plain h.place;
+  items = h.items;
+  known = h.known;
 }
   where
+    has_type : (n : List ℕ) (b : Bool) → (typed_in n locals ≡ Some None → ⊥) → (if b then Some (Some t) else typed_in n locals) ≡ Some None → ⊥
+    has_type n true before q = none_some t (sym (same_some (Some t) None q))
+    has_type n false before q = before q
+
     local : (n : List ℕ) (u : DslxType) (b : Bool) → (typed_in n locals ≡ Some (Some u) → GivesOf (types_at sight) u (given_in n env.bound)) → (if b then Some (Some t) else typed_in n locals) ≡ Some (Some u)
         → GivesOf (types_at sight) u (if b then Some v else given_in n env.bound)
     local n u true before q = subst (λ x. GivesOf (types_at sight) x (Some v)) (same_some t u (same_some (Some t) (Some u) q)) g
@@ -89,16 +99,16 @@ one_value_keeps span may_fail sight t names locals own known env w v h f = by_va
 
 pub name_pattern_keeps : (span : Span) (name : List ℕ) → PatternKeeps (λ may_fail sight t names locals. name_pattern span may_fail sight t names locals name (sight.known.items.is_constant name))
     (λ v env. if env.items.is_constant name then fit_value (env.items.constant name) v env else Some (bind name v env))
-name_pattern_keeps span name may_fail sight t names locals env v h g f = by_kind (sight.known.items.is_constant name) (h.kinds name) f
+name_pattern_keeps span name may_fail sight t names locals env v h g f = by_kind (sight.known.items.is_constant name) (h.kinds name) refl f
   where
-    by_kind : (b : Bool) → env.items.is_constant name ≡ b → has_broken (name_pattern span may_fail sight (Some t) names locals name b).faults ≡ false
+    by_kind : (b : Bool) → env.items.is_constant name ≡ b → sight.known.items.is_constant name ≡ b → has_broken (name_pattern span may_fail sight (Some t) names locals name b).faults ≡ false
         → FitsOrFails may_fail sight (name_pattern span may_fail sight (Some t) names locals name b) (if env.items.is_constant name then fit_value (env.items.constant name) v env else Some (bind name v env))
-    by_kind true q k =
+    by_kind true q r k =
         subst (λ o. FitsOrFails may_fail sight (name_pattern span may_fail sight (Some t) names locals name true) o) (ap (λ b. if b then fit_value (env.items.constant name) v env else Some (bind name v env)) (sym q))
         (one_value_keeps span may_fail sight (Some t) names locals (constant_pattern span sight name (sight.known.items.constant name)) (is_there (sight.known.items.constant name)) env (env.items.constant name) v h k)
-    by_kind false q k =
+    by_kind false q r k =
         subst (λ o. FitsOrFails may_fail sight (name_pattern span may_fail sight (Some t) names locals name false) o) (ap (λ b. if b then fit_value (env.items.constant name) v env else Some (bind name v env)) (sym q))
-        (Fits (bind name v env) refl (bound_keeps sight locals env name t v h g))
+        (Fits (bind name v env) refl (bound_keeps sight locals env name t v h g r))
 
 -- ---- tuples
 
@@ -149,7 +159,7 @@ each_keeps (p ∷ ps) (m ∷ ms) k may_fail sight (t ∷ ts) names locals env (v
         Fails (ap (λ o. and_then o (fit_each ms vs)) is) may (ap (λ b. b && rest_seen.is_sure) sure)
 
 -- a type that has as many parts is a tuple
-parts_of_type : (n : ℕ) (t : DslxType) (ts : List DslxType) → part_types n (Some t) ≡ Some ts → (t ≡ ty.Tuple ts) × (length ts ≡ n)
+pub parts_of_type : (n : ℕ) (t : DslxType) (ts : List DslxType) → part_types n (Some t) ≡ Some ts → (t ≡ ty.Tuple ts) × (length ts ≡ n)
 parts_of_type n t ts e = by_level (out-DslxType t) refl e
   where
     no_parts : {X : Type 0} → None ≡ Some ts → X

@@ -2,6 +2,8 @@
 pub mod Given
 -- types that the text declares
 pub mod Declared
+-- what is known where nothing is left unknown
+pub mod Complete
 -- values of types
 pub mod Kinds
 -- what is in sight, where it is well typed

@@ -17,6 +17,8 @@ use Rattle.dslx_rules.specs.NameRules.{has_member}
 use Rattle.dslx_rules.specs.PatternRules.{is_there, pattern_alone}
 use Rattle.dslx_typed.specs.Declared.{Declarations, IsDeclared}
 use Rattle.dslx_typed.specs.Given.{GivesOf, GivesItsType}
+use Rattle.dslx_typed.specs.InSight.{IsInSight}
+use Rattle.dslx_typed.specs.Complete.{IsComplete}
 
 -- what type names stand for at a place
 abbrev pub types_at : Sight → Declarations
@@ -41,6 +43,13 @@ pub record IsWellTyped (sight : Sight) (env : Env) : Type 0 where
       → sight.known.items.type_named name ≡ Some t → GivesOf (types_at sight) t (env.items.member name member)
   -- which names in patterns are constants'
   pub kinds : (name : List ℕ) → env.items.is_constant name ≡ sight.known.items.is_constant name
+  -- each bound name has a type, and each number parameter a value
+  pub typed : (name : List ℕ) → typed_in name sight.locals ≡ Some None → ⊥
+  pub valued : sight.unknown ≡ []
+  -- constants see what is bound, and items mean what is known of them, which is all of them
+  pub place : IsInSight sight env.bound
+  pub items : env.items ≡ sight.known.items
+  pub known : IsComplete sight.known
 
 -- ---- patterns
 
@@ -113,6 +122,11 @@ EachArmGives sight t [] (m ∷ ms) v env = ⊥
 EachArmGives sight t (a ∷ as') [] v env = ⊥
 
 -- ---- functions
+
+-- no argument has the name of a constant, which rule 2 refuses
+abbrev pub NameNoConstant : Sight → List Field → Type 0
+NameNoConstant sight [] = Unit {0}
+NameNoConstant sight (f ∷ fs) = (sight.known.items.is_constant f.name.name ≡ false) × NameNoConstant sight fs
 
 -- operands of the types that are written for the arguments
 abbrev pub AreOperandsOf : Sight → List Field → List DslxValue → Type 0

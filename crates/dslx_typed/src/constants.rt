@@ -6,6 +6,7 @@ ghost use Rattle.dslx_meaning.specs.declared.value.DslxValue.{DslxValue};
 ghost use Rattle.dslx_rules.specs.ConstantRules.{constant_of, constant_or_bare, count_of};
 ghost use Rattle.dslx_rules.specs.Judging.{Sight, ExprPair, Typed, with_typed};
 ghost use Rattle.dslx_rules.specs.OperatorRules.{bound_number};
+ghost use Rattle.dslx_typed.specs.Complete.{IsFine};
 ghost use Rattle.dslx_typed.specs.InSight.{IsInSight, place_of};
 
 /// What the rules know of an expression that must be constant is what it means at its place, whatever is bound there: a
@@ -14,6 +15,9 @@ ghost use Rattle.dslx_typed.specs.InSight.{IsInSight, place_of};
 pub fn what_is_known_of_constants_is_meant()
     ensures value { (sight : Sight) (bound : List Given) (e : ExprPair) (v : DslxValue) → IsInSight sight bound
         → (constant_of sight e).value ≡ Some v → value_of e.0 (place_of sight bound) ≡ Some v }
+    ensures known { (sight : Sight) (bound : List Given) (e : ExprPair) (t : DslxType) (v : DslxValue) → IsInSight sight bound
+        → IsFine sight.known (constant_of sight e).judgement → (constant_of sight e).judgement.ty ≡ Some t → value_of e.0 (place_of sight bound) ≡ Some v
+        → (constant_of sight e).value ≡ Some v }
     ensures binding { (sight : Sight) (locals : List Typed) (bound : List Given) (name : List ℕ) (t : Option DslxType) (v : DslxValue)
         → sight.known.items.is_constant name ≡ false → IsInSight (with_typed sight locals) bound
         → IsInSight (with_typed sight (record { name = name; ty = t } ∷ locals)) (record { name = name; value = v } ∷ bound) }

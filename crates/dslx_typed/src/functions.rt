@@ -15,14 +15,14 @@ ghost use Rattle.dslx_rules.specs.NodeRules.{block_pair};
 ghost use Rattle.dslx_typed.specs.Declared.{IsDeclared};
 ghost use Rattle.dslx_typed.specs.Given.{GivesItsType, GivesOf};
 ghost use Rattle.dslx_typed.specs.Numbers.{GivenMean, ParametersMean};
-ghost use Rattle.dslx_typed.specs.WellTyped.{AreOperandsOf, IsWellTyped};
+ghost use Rattle.dslx_typed.specs.WellTyped.{AreOperandsOf, IsWellTyped, NameNoConstant};
 
 /// An instance of a function whose body breaks no rule and gives a value of its type wherever what is in sight is well typed:
 /// for operands of the types that are written for its arguments it gives a value of the type of its result.
 pub fn functions_give_values_of_their_types()
     ensures { (known : Known) (items : Meanings) (f : Function) (numbers operands : List DslxValue) (result u : DslxType)
         → IsWellTyped (function_sight known f numbers) (record { items = items; bound = numbers_bound [] f.parameters numbers })
-        → AreOperandsOf (function_sight known f numbers) f.arguments operands → IsDeclared known.items.type_named result
+        → AreOperandsOf (function_sight known f numbers) f.arguments operands → NameNoConstant (function_sight known f numbers) f.arguments → IsDeclared known.items.type_named result
         → ((block_pair f.body).1 false (with_typed (function_sight known f numbers) (arguments_typed (function_sight known f numbers) [] f.arguments))).ty ≡ Some u
         → has_broken (body_judged false (with_typed (function_sight known f numbers) (arguments_typed (function_sight known f numbers) [] f.arguments)) (Some result) f.body).faults ≡ false
         → ((env : Env) → IsWellTyped (with_typed (function_sight known f numbers) (arguments_typed (function_sight known f numbers) [] f.arguments)) env

@@ -1,4 +1,5 @@
 pub mod Over
+pub mod Ended
 pub mod Found
 pub mod Streams
 pub mod Lemmas

@@ -1,5 +1,5 @@
 -- Where the counts show that no proc can go, the cut is the final one.
-use Rattle.std.proofs.Common.{◌≡◌, ℕ, suc, ◌+◌, ◌≤◌, List, [], ◌∷◌, length, take, get_or, refl, sym, ap, ◌∙◌, subst, arith, cond, true, false, Bool, Option, Some, None, inl, inr}
+use Rattle.std.proofs.Common.{◌≡◌, ℕ, suc, ◌+◌, ◌<◌, ◌≤◌, List, [], ◌∷◌, length, take, get_or, refl, sym, ap, ◌∙◌, subst, arith, cond, true, false, Bool, Option, Some, None}
 use Rattle.std.specs.Prelude.{slice_get, option_map, nat_lt, ◌&&◌}
 use Rattle.std.proofs.lemmas.Bool.Decides.{nat_tests}
 use Rattle.lists.specs.Indexed.{indexed}
@@ -13,7 +13,6 @@ use Rattle.net_core.specs.declared.event.Event.{Event}
 use Rattle.net_core.specs.declared.event.Event.TheVariants.{Recv, Send, End}
 use Rattle.net_core.specs.declared.outcome.Outcome.{Outcome}
 use Rattle.net_core.specs.declared.outcome.ProcEnd.{ProcEnd}
-use Rattle.net_core.specs.declared.outcome.Stall.{Stall}
 use Rattle.net_core.specs.declared.outcome.Stream.{Stream}
 use Rattle.net_core.specs.Behavior.{Behavior, IsOpen, chan_at}
 use Rattle.net_core.specs.Nexts.{EventFits}
@@ -25,7 +24,7 @@ use Rattle.net_core.proofs.Lemmas.{next_keeps_types, counted_cuts_stand, ends_by
 use Rattle.net_streams.specs.Streams.{AreStopped, stands}
 use Rattle.net_streams.specs.Moves.{IsTyped}
 use Rattle.net_streams.proofs.Lemmas.{chan_there, inner_words, inner_room, received_by, input_words, counted, come_to_the_end}
-use Rattle.proc_outcome.specs.Inner.Counts.{end_in, CountsFit, AllFit, Holds, IsHeldBy, IsStuck, AllStay}
+use Rattle.proc_outcome.specs.Inner.Counts.{end_in, CountsFit, AllFit, Holds, IsHeldBy, StaysAt, AllStay}
 
 pub stream_input : (run : Run) (cut : Cut) (c : ℕ) (chan : Chan) → chan.kind ≡ Input → stream_of run cut c chan ≡ record { words = take (received_at run cut c) (words_at run cut c); received = received_at run cut c }
 unfolding stream_of
@@ -68,6 +67,9 @@ stream_inner run cut c chan e = by_kind chan.kind e
 
 lt_false : (m n : ℕ) → n ≤ m → nat_lt m n ≡ false
 lt_false m n h = grind (arith, nat_tests)
+
+pub lt_true : (m n : ℕ) → nat_lt m n ≡ true → m < n
+lt_true m n h = grind (arith, nat_tests)
 
 and_right : (a b : Bool) → b ≡ false → a && b ≡ false
 and_right true b e = e
@@ -145,34 +147,25 @@ module _ (run : Run) (typed : IsTyped run) (cut : Cut) (within : IsWithin cut (f
         inner_room run cut c (length (words_sent b.sites c (cut p))) held.chan held.chan_is held.holds.0
         ∙ lt_false _ _ (omega (arith, held.holds.1, ap length words, ap (λ (x : Stream). length x.words) is, ap (λ (x : Stream). x.received) is))
 
-    held_event : (event : Event) (ends : ℕ) (stall : Stall) → EventFits b event → stall_for b.sites ends event ≡ Some stall
-        → IsHeldBy run.chans run.inputs run.depths (indexed (stream_of run cut) 0 run.chans) stall
-        → finds_word b.sites (words_at run cut) (cut p) event && fits_after b.sites (room_at run cut) (cut p) event ≡ false
-    held_event (Recv i) ends stall fits is held =
-        let same : record { activation = ends; sends = false; chan = chan_at b.sites i } ≡ stall = cc in
-        and_left _ _ (held_receive i fits.0 fits.1 fits.2 ends (subst (λ (x : Stall). IsHeldBy run.chans run.inputs run.depths (indexed (stream_of run cut) 0 run.chans) x) (sym same) held))
-    held_event (Send i w) ends stall fits is held =
-        let same : record { activation = ends; sends = true; chan = chan_at b.sites i } ≡ stall = cc in
-        and_right _ _ (held_send i w fits.0 fits.1 fits.2 ends (subst (λ (x : Stall). IsHeldBy run.chans run.inputs run.depths (indexed (stream_of run cut) 0 run.chans) x) (sym same) held))
-    held_event (End s) ends stall fits is held = cc
-
     abbrev at : Position
     at = stands run proc (cut p)
 
-    tests : nat_lt at.ends run.activations && (finds_word b.sites (words_at run cut) (cut p) (next_of b at) && fits_after b.sites (room_at run cut) (cut p) (next_of b at)) ≡ false
-    tests = go (stay p (end_in run cut p proc) (end_there p proc e))
-      where
-        by : (active : Bool) → cond active (stall_for b.sites at.ends (next_of b at)) None ≡ (end_in run cut p proc).stall → (stall : Stall) → (end_in run cut p proc).stall ≡ Some stall
-            → IsHeldBy run.chans run.inputs run.depths (indexed (stream_of run cut) 0 run.chans) stall
-            → active && (finds_word b.sites (words_at run cut) (cut p) (next_of b at) && fits_after b.sites (room_at run cut) (cut p) (next_of b at)) ≡ false
-        by true is stall e' held =
-            held_event (next_of b at) at.ends stall (next_keeps_types b (typed.fits.keeps_types p proc e) at.state at.got at.done (opens p proc e)) (is ∙ e') held
-        by false is stall e' held = refl
+    held_event : (event : Event) → EventFits b event → at.ends < run.activations
+        → StaysAt run.chans run.inputs run.depths (indexed (stream_of run cut) 0 run.chans) run.activations at.ends (stall_for b.sites at.ends event)
+        → finds_word b.sites (words_at run cut) (cut p) event && fits_after b.sites (room_at run cut) (cut p) event ≡ false
+    held_event (Recv i) fits active held = and_left _ _ (held_receive i fits.0 fits.1 fits.2 at.ends held)
+    held_event (Send i w) fits active held = and_right _ _ (held_send i w fits.0 fits.1 fits.2 at.ends held)
+    held_event (End s) fits active over = absurd (omega (arith, active, over))
 
-        go : IsStuck run.chans run.inputs run.depths (indexed (stream_of run cut) 0 run.chans) run.activations (end_in run cut p proc)
-            → nat_lt at.ends run.activations && (finds_word b.sites (words_at run cut) (cut p) (next_of b at) && fits_after b.sites (room_at run cut) (cut p) (next_of b at)) ≡ false
-        go (inl over) = and_left _ _ (lt_false at.ends run.activations over)
-        go (inr s) = by (nat_lt at.ends run.activations) refl s.0 s.1 s.2
+    tests : nat_lt at.ends run.activations && (finds_word b.sites (words_at run cut) (cut p) (next_of b at) && fits_after b.sites (room_at run cut) (cut p) (next_of b at)) ≡ false
+    tests = go (nat_lt at.ends run.activations) refl (stay p (end_in run cut p proc) (end_there p proc e))
+      where
+        go : (active : Bool) → nat_lt at.ends run.activations ≡ active
+            → StaysAt run.chans run.inputs run.depths (indexed (stream_of run cut) 0 run.chans) run.activations at.ends (cond active (stall_for b.sites at.ends (next_of b at)) None)
+            → active && (finds_word b.sites (words_at run cut) (cut p) (next_of b at) && fits_after b.sites (room_at run cut) (cut p) (next_of b at)) ≡ false
+        go true is held =
+            held_event (next_of b at) (next_keeps_types b (typed.fits.keeps_types p proc e) at.state at.got at.done (opens p proc e)) (lt_true at.ends run.activations is) held
+        go false is over = refl
 
     no_going : goes_by run cut p (Some proc) ≡ false
     unfolding goes_by

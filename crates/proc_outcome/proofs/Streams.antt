@@ -18,7 +18,7 @@ sent_in run cut c = words_sent (sites_at run (sender run c)) c (cut (sender run 
 abbrev pub received_in : Run → Cut → ℕ → ℕ
 received_in run cut c = count_received (sites_at run (receiver run c)) c (cut (receiver run c))
 
-received_is : (run : Run) (cut : Cut) (c : ℕ) → received_at run cut c ≡ received_in run cut c
+pub received_is : (run : Run) (cut : Cut) (c : ℕ) → received_at run cut c ≡ received_in run cut c
 unfolding received_at
 received_is run cut c = refl
 
@@ -32,7 +32,7 @@ output_words run cut c chan e is = ap (λ o. words_by run cut c o) e ∙ by_kind
     by_kind Output k = refl
     by_kind Inner k = cc
 
-inner_is : (run : Run) (cut : Cut) (c : ℕ) (chan : Chan) → slice_get run.chans c ≡ Some chan → chan.kind ≡ Inner → words_at run cut c ≡ sent_in run cut c
+pub inner_is : (run : Run) (cut : Cut) (c : ℕ) (chan : Chan) → slice_get run.chans c ≡ Some chan → chan.kind ≡ Inner → words_at run cut c ≡ sent_in run cut c
 unfolding words_at words_by
 inner_is run cut c chan e is = ap (λ o. words_by run cut c o) e ∙ by_kind chan.kind is
   where

@@ -1,4 +1,4 @@
-ghost use Rattle.std.specs.Prelude.{◌≡◌, ◌<◌, ◌^◌, IfOk, IfSome, length, slice_get, get_or, Some, take, []};
+ghost use Rattle.std.specs.Prelude.{◌≡◌, ◌<◌, ◌^◌, IfOk, IfSome, IsSome, length, slice_get, get_or, Some, take, []};
 ghost use Rattle.lists.specs.Indexed.{indexed};
 ghost use Rattle.net_core.specs.declared.net.Chan.{Chan};
 ghost use Rattle.net_core.specs.Cuts.{final_cut};
@@ -15,7 +15,7 @@ use std::alloc::{AllocError, Global};
 use xb_bits::Bits;
 use xb_value::Seq;
 
-/// The outcome of the run, if the counts of its tasks show that no proc can go.
+/// The outcome of the run, if its tasks have come to its end: where the counts show that no proc can go.
 ///
 /// It asks the body of each proc that isn't done once.
 pub fn outcome<S: Streams, H: Home<S>>(
@@ -30,7 +30,8 @@ pub fn outcome<S: Streams, H: Home<S>>(
     requires run { IsRunOf net.now (H.run home.now) }
     requires inputs { ((H.run home.now).inputs ≡ inputs.now.words) × (length inputs.now.words ≡ length net.now.chans) }
     requires depths { ((H.run home.now).depths ≡ depths.now) × (length depths.now ≡ length net.now.chans) }
-    ensures { IfOk result (λ given. IfSome given (λ outcome. outcome ≡ outcome_of (H.run home.now) (final_cut (H.run home.now)))) }
+    ensures outcome { IfOk result (λ given. IfSome given (λ outcome. outcome ≡ outcome_of (H.run home.now) (final_cut (H.run home.now)))) }
+    ensures over { cut_by (H.run home.now) tasks.now ≡ final_cut (H.run home.now) → IfOk result (λ given. IsSome given) }
 {
     let streams = streams(alloc, home, net, inputs.words.as_slice(), tasks)?;
     if !all_fit(net.chans.as_slice(), depths, streams.as_slice()) {

@@ -10,7 +10,8 @@ use xb_value::Seq;
 pub(crate) fn all_fit(chans: &[Chan], depths: &[u32], streams: &[Stream]) -> bool
     requires depths { length depths.now ≡ length chans.now }
     requires streams { length streams.now ≡ length chans.now }
-    ensures { IsTrue result → AllFit chans.now depths.now streams.now }
+    ensures shown { IsTrue result → AllFit chans.now depths.now streams.now }
+    ensures only { AllFit chans.now depths.now streams.now → IsTrue result }
 {
     for (c, chan) in chans.iter().enumerate() {
         if !fits(chan.kind, depths[c], &streams[c]) {
@@ -22,7 +23,8 @@ pub(crate) fn all_fit(chans: &[Chan], depths: &[u32], streams: &[Stream]) -> boo
 
 /// What was received from the channel was sent, and what was sent has room, where procs are at both ends.
 fn fits(kind: Kind, depth: u32, stream: &Stream) -> bool
-    ensures { IsTrue result → CountsFit kind depth stream.now }
+    ensures shown { IsTrue result → CountsFit kind depth stream.now }
+    ensures only { CountsFit kind depth stream.now → IsTrue result }
 {
     let sent = stream.words.len() as u64;
     match kind {
@@ -43,7 +45,8 @@ pub(crate) fn all_stay(
     requires inputs { length inputs.now ≡ length chans.now }
     requires depths { length depths.now ≡ length chans.now }
     requires streams { length streams.now ≡ length chans.now }
-    ensures { IsTrue result → AllStay chans.now inputs.now depths.now streams.now n ends.now }
+    ensures shown { IsTrue result → AllStay chans.now inputs.now depths.now streams.now n ends.now }
+    ensures only { AllStay chans.now inputs.now depths.now streams.now n ends.now → IsTrue result }
 {
     for end in ends {
         if !stays(chans, inputs, depths, streams, n, end) {
@@ -65,7 +68,8 @@ fn stays(
     requires inputs { length inputs.now ≡ length chans.now }
     requires depths { length depths.now ≡ length chans.now }
     requires streams { length streams.now ≡ length chans.now }
-    ensures { IsTrue result → IsStuck chans.now inputs.now depths.now streams.now n end.now }
+    ensures shown { IsTrue result → IsStuck chans.now inputs.now depths.now streams.now n end.now }
+    ensures only { IsStuck chans.now inputs.now depths.now streams.now n end.now → IsTrue result }
 {
     match &end.stall {
         Some(stall) => is_held(chans, inputs, depths, streams, stall),
@@ -84,7 +88,8 @@ fn is_held(
     requires inputs { length inputs.now ≡ length chans.now }
     requires depths { length depths.now ≡ length chans.now }
     requires streams { length streams.now ≡ length chans.now }
-    ensures { IsTrue result → IsHeldBy chans.now inputs.now depths.now streams.now stall.now }
+    ensures shown { IsTrue result → IsHeldBy chans.now inputs.now depths.now streams.now stall.now }
+    ensures only { IsHeldBy chans.now inputs.now depths.now streams.now stall.now → IsTrue result }
 {
     let c = stall.chan as usize;
     if c >= chans.len() {
@@ -96,7 +101,8 @@ fn is_held(
 
 /// A proc that waits to send on the channel, or to receive from it, can't.
 fn holds(kind: Kind, outside: u64, depth: u32, stream: &Stream, sends: bool) -> bool
-    ensures { IsTrue result → Holds kind outside depth stream.now sends }
+    ensures shown { IsTrue result → Holds kind outside depth stream.now sends }
+    ensures only { Holds kind outside depth stream.now sends → IsTrue result }
 {
     if sends {
         is_full(kind, depth, stream)
@@ -107,7 +113,8 @@ fn holds(kind: Kind, outside: u64, depth: u32, stream: &Stream, sends: bool) -> 
 
 /// Procs are at both ends of the channel, and there is no room in it.
 fn is_full(kind: Kind, depth: u32, stream: &Stream) -> bool
-    ensures { IsTrue result → (kind ≡ kinds.Inner) × (stream.now.received + depth ≤ length stream.now.words) }
+    ensures shown { IsTrue result → (kind ≡ kinds.Inner) × (stream.now.received + depth ≤ length stream.now.words) }
+    ensures only { (kind ≡ kinds.Inner) × (stream.now.received + depth ≤ length stream.now.words) → IsTrue result }
 {
     let sent = stream.words.len() as u64;
     match kind {
@@ -118,7 +125,8 @@ fn is_full(kind: Kind, depth: u32, stream: &Stream) -> bool
 
 /// All words of the channel were received.
 fn is_dry(kind: Kind, outside: u64, stream: &Stream) -> bool
-    ensures { IsTrue result → words_for kind outside stream.now ≤ stream.now.received }
+    ensures shown { IsTrue result → words_for kind outside stream.now ≤ stream.now.received }
+    ensures only { words_for kind outside stream.now ≤ stream.now.received → IsTrue result }
 {
     match kind {
         Kind::Input => outside <= stream.received,

@@ -1,5 +1,5 @@
 -- What the counts of a channel and the ends of procs show.
-use Rattle.std.specs.Prelude.{◌≡◌, ◌≤◌, ◌+◌, ◌⊎◌, ℕ, Bool, true, false, List, [], length, get_or, slice_get, Some}
+use Rattle.std.specs.Prelude.{◌≡◌, ◌≤◌, ◌+◌, ℕ, Bool, true, false, List, [], length, get_or, slice_get, Option, Some, None}
 use Rattle.xb_bits.specs.Word.{Word}
 use Rattle.net_core.specs.declared.net.Chan.{Chan}
 use Rattle.net_core.specs.declared.net.Kind.{Kind}
@@ -42,10 +42,13 @@ pub record IsHeldBy (chans : List Chan) (inputs : List (List Word)) (depths : Li
   pub stream_is : slice_get streams stall.chan ≡ Some stream
   pub holds : Holds chan.kind (length (get_or inputs stall.chan [])) (get_or depths stall.chan 0) stream stall.sends
 
--- a proc that ends so can't go: it has made its activations, or it waits for what isn't there
+-- a proc that has ended so many activations, and waits for this, can't go: it isn't there, or all activations have ended
+abbrev pub StaysAt : List Chan → List (List Word) → List ℕ → List Stream → ℕ → ℕ → Option Stall → Type 0
+StaysAt chans inputs depths streams n ends None = n ≤ ends
+StaysAt chans inputs depths streams n ends (Some stall) = IsHeldBy chans inputs depths streams stall
+
 abbrev pub IsStuck : List Chan → List (List Word) → List ℕ → List Stream → ℕ → ProcEnd → Type 0
-IsStuck chans inputs depths streams n end =
-    (n ≤ end.ends) ⊎ ((stall : Stall) × (end.stall ≡ Some stall) × IsHeldBy chans inputs depths streams stall)
+IsStuck chans inputs depths streams n end = StaysAt chans inputs depths streams n end.ends end.stall
 
 abbrev pub AllStay : List Chan → List (List Word) → List ℕ → List Stream → ℕ → List ProcEnd → Type 0
 AllStay chans inputs depths streams n ends = (p : ℕ) (end : ProcEnd) → slice_get ends p ≡ Some end → IsStuck chans inputs depths streams n end

@@ -1,4 +1,4 @@
-use Rattle.dslx_typed.proofs.OfConstants.{constant_is_meant, size_is_meant, bound_is_meant, bound_in_sight}
+use Rattle.dslx_typed.proofs.OfConstants.{constant_is_meant, meant_is_known, size_is_meant, bound_is_meant, bound_in_sight}
 use Rattle.dslx_typed.proofs.constants.what_is_known_of_constants_is_meant.Goals as goal
 
 pub returns-clause-value : goal.returns-clause-value
@@ -12,3 +12,6 @@ returns-clause-size c = size_is_meant
 
 pub returns-clause-bound : goal.returns-clause-bound
 returns-clause-bound c = bound_is_meant
+
+pub returns-clause-known : goal.returns-clause-known
+returns-clause-known c = meant_is_known

@@ -5,8 +5,8 @@ use Rattle.net_core.specs.declared.net.Kind.{Kind}
 use Rattle.proc_outcome.specs.Inner.Counts.{Holds}
 use Rattle.proc_outcome.proofs.stops.is_held.Goals as goal
 
-pub returns : goal.returns
-returns c h =
+pub returns-clause-shown : goal.returns-clause-shown
+returns-clause-shown c h =
     let at = c.args.stall.now.chan in
     let within : at < length c.args.chans.now = omega (arith, c.if-c-chans.false) in
     let in_inputs : at < length c.args.inputs.now = omega (arith, within, c.requires.inputs) in
@@ -18,5 +18,5 @@ returns c h =
       stream = c.index-streams-c.result;
       chan_is = slice_get_read c.args.chans.now _ at c.index-chans-c.result refl within c.index-chans-c.is;
       stream_is = slice_get_read c.args.streams.now _ at c.index-streams-c.result refl (omega (arith, within, c.requires.streams)) c.index-streams-c.is;
-      holds = subst (λ (x : Kind × ℕ). Holds x.0 x.1 (get_or c.args.depths.now at 0) c.index-streams-c.result c.args.stall.now.sends) (λ i. (kind i, outside i)) (c.holds.ensures h);
+      holds = subst (λ (x : Kind × ℕ). Holds x.0 x.1 (get_or c.args.depths.now at 0) c.index-streams-c.result c.args.stall.now.sends) (λ i. (kind i, outside i)) (c.holds.ensures.shown h);
     }

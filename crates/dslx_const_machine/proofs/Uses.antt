@@ -1,0 +1,189 @@
+-- What comes of a step that goes to an item.
+use Rattle.std.proofs.Common.{◌≡◌, ◌==◌, ℕ, zero, suc, Bool, true, false, List, [], ◌∷◌, ◌++◌, Option, Some, None, length, map, refl, sym, ap, ◌∙◌}
+use Rattle.std.proofs.lemmas.List.{append-nil}
+use Rattle.dslx_tree.specs.declared.expr.Expr.{Expr}
+use Rattle.dslx_tree.specs.declared.item.Constant.{Constant}
+use Rattle.dslx_tree.specs.declared.item.Definition.{Definition}
+use Rattle.dslx_tree.specs.declared.item.Definition.TheVariants as d
+use Rattle.dslx_tree.specs.declared.item.Enum.{Enum}
+use Rattle.dslx_tree.specs.declared.item.Field.{Field}
+use Rattle.dslx_tree.specs.declared.item.Function.{Function}
+use Rattle.dslx_tree.specs.declared.item.Member.{Member}
+use Rattle.dslx_tree.specs.declared.item.Parameter.{Parameter}
+use Rattle.dslx_tree.specs.declared.item.Struct.{Struct}
+use Rattle.dslx_meaning.specs.Environment.{Env, Given, Meanings, given_in, value_of_name, outside}
+use Rattle.dslx_meaning.specs.Inference.{Inferred, inferred_for}
+use Rattle.dslx_meaning.specs.Items as i
+use Rattle.dslx_meaning.specs.Items.{meanings_within, item_named, as_function, as_constant, as_struct, as_enum, member_named, all_numbers, numbers_bound, with_number, put_first, inferred_from}
+use Rattle.dslx_meaning.specs.Lists.{and_then, or_else, where_true}
+use Rattle.dslx_meaning.specs.Meaning.{Meant, meant, value_of, value_of_block, written_type}
+use Rattle.dslx_meaning.specs.Values.{type_of_value}
+use Rattle.dslx_meaning.specs.declared.ty.BitKind.{BitKind}
+use Rattle.dslx_meaning.specs.declared.ty.DslxType.{DslxType}
+use Rattle.dslx_meaning.specs.declared.value.Bare.{Bare}
+use Rattle.dslx_meaning.specs.declared.value.DslxValue.{DslxValue}
+use Rattle.dslx_const_machine.specs.Tasks.{ConstState, ConstCall}
+use Rattle.dslx_const_machine.specs.Items as s
+use Rattle.dslx_const_machine.specs.Items.{GivenSome}
+use Rattle.dslx_const_machine.specs.States.{at_item}
+use Rattle.dslx_const_machine.proofs.Options.{first_of_all}
+use Rattle.dslx_const_machine.proofs.Places.{place_of, env_in, gives, gives_type, back_from, answer, answer_of, field_types_in, struct_of, member_in, body_in, call_in, parameter_in}
+
+-- ---- constants, names, members
+
+pub uses_constant_keeps : (name : List ℕ) (run : ConstState) → answer_of (s.uses_constant name run) ≡ answer run.todo (gives ((env_in run).items.constant name) (place_of run))
+uses_constant_keeps name run = within run.left
+  where
+    found : (n : ℕ) (o : Option Constant) → answer_of (s.at_constant n o run) ≡ answer run.todo (gives (and_then o (i.constant_value (meanings_within run.text n))) (place_of run))
+    found n None = refl
+    found n (Some c) = refl
+
+    within : (n : ℕ) → answer_of (s.constant_from n name run) ≡ answer run.todo (gives ((meanings_within run.text n).constant name) (place_of run))
+    within zero = refl
+    within (suc n) = found n (as_constant (item_named name run.text.items))
+
+pub uses_name_keeps : (name : List ℕ) (run : ConstState) → answer_of (s.uses_name name run) ≡ answer run.todo (gives (value_of_name name (env_in run)) (place_of run))
+uses_name_keeps name run = by (given_in name run.bound) refl
+  where
+    by : (o : Option DslxValue) → given_in name run.bound ≡ o → answer_of (s.given_or_constant o name run) ≡ answer run.todo (gives (value_of_name name (env_in run)) (place_of run))
+    by None e = uses_constant_keeps name run ∙ ap (λ q. answer run.todo (gives (or_else q ((env_in run).items.constant name)) (place_of run))) (sym e)
+    by (Some v) e = ap (λ q. answer run.todo (gives (or_else q ((env_in run).items.constant name)) (place_of run))) (sym e)
+
+member_bits_are : (items : Meanings) (kind : BitKind) (e : Meant) → i.member_bits items kind e ≡ member_in kind e.bare (e.value (outside items))
+member_bits_are items kind e = by e.bare
+  where
+    by : (o : Option Bare) → i.member_bits items kind (record { bare = o; value = e.value }) ≡ member_in kind o (e.value (outside items))
+    by None = refl
+    by (Some b) = refl
+
+pub uses_member_keeps : (e a : List ℕ) (run : ConstState) → answer_of (s.uses_member e a run) ≡ answer run.todo (gives ((env_in run).items.member e a) (place_of run))
+uses_member_keeps e a run = within run.left
+  where
+    member : (n : ℕ) (x : Enum) (o : Option Member) → answer_of (s.at_member n x o run) ≡ answer run.todo (gives (and_then o (i.member_value (meanings_within run.text n) x)) (place_of run))
+    member n x None = refl
+    member n x (Some mem) = λ j. answer run.todo (gives (and_then (i.base_of (meanings_within run.text n) x)
+        (λ kind. and_then (sym (member_bits_are (meanings_within run.text n) kind (meant mem.value)) j) (i.enum_member x.name.name))) (place_of run))
+
+    found : (n : ℕ) (o : Option Enum) → answer_of (s.at_member_of n o a run)
+        ≡ answer run.todo (gives (and_then o (λ x. and_then (member_named a x.members) (i.member_value (meanings_within run.text n) x))) (place_of run))
+    found n None = refl
+    found n (Some x) = member n x (member_named a x.members)
+
+    within : (n : ℕ) → answer_of (s.member_from n e a run) ≡ answer run.todo (gives ((meanings_within run.text n).member e a) (place_of run))
+    within zero = refl
+    within (suc n) = found n (as_enum (item_named e run.text.items))
+
+-- ---- types
+
+pub field_types_keep : (ts : List DslxType) (fs : List Field) (x : Struct) (run : ConstState)
+    → answer_of (s.field_types_on ts fs x run) ≡ answer run.todo (gives_type (and_then (field_types_in (env_in run) fs) (λ us. struct_of x (ts ++ us))) (place_of run))
+field_types_keep ts [] x run = ap (λ us. answer run.todo (gives_type (struct_of x us) (place_of run))) (sym (append-nil ts))
+field_types_keep ts (f ∷ fs) x run =
+    ap (λ o. answer run.todo (gives_type o (place_of run)))
+    (sym (first_of_all (written_type f.ty (env_in run)) (map (λ (g : Field). written_type g.ty (env_in run)) fs) (λ us. struct_of x (ts ++ us))))
+
+at_struct_keeps : (n : ℕ) (o : Option Struct) (run : ConstState) → answer_of (s.at_struct n o run) ≡ answer run.todo (gives_type (and_then o (i.struct_type (meanings_within run.text n))) (place_of run))
+at_struct_keeps n None run = refl
+at_struct_keeps n (Some x) run = field_types_keep [] x.fields x (at_item n [] run)
+
+pub uses_struct_keeps : (name : List ℕ) (run : ConstState) → answer_of (s.uses_struct name run) ≡ answer run.todo (gives_type ((env_in run).items.struct_named name) (place_of run))
+uses_struct_keeps name run = within run.left
+  where
+    within : (n : ℕ) → answer_of (s.struct_from n name run) ≡ answer run.todo (gives_type ((meanings_within run.text n).struct_named name) (place_of run))
+    within zero = refl
+    within (suc n) = at_struct_keeps n (as_struct (item_named name run.text.items)) run
+
+pub uses_type_keeps : (name : List ℕ) (run : ConstState) → answer_of (s.uses_type name run) ≡ answer run.todo (gives_type ((env_in run).items.type_named name) (place_of run))
+uses_type_keeps name run = within run.left
+  where
+    found : (n : ℕ) (o : Option Definition) → answer_of (s.at_type_item n o run) ≡ answer run.todo (gives_type (i.type_of_item (meanings_within run.text n) o) (place_of run))
+    found n None = refl
+    found n (Some (d.Function f)) = refl
+    found n (Some (d.Proc p)) = refl
+    found n (Some (d.Constant c)) = refl
+    found n (Some (d.Alias a)) = refl
+    found n (Some (d.Struct x)) = at_struct_keeps n (Some x) run
+    found n (Some (d.Enum e)) = refl
+
+    within : (n : ℕ) → answer_of (s.type_from n name run) ≡ answer run.todo (gives_type ((meanings_within run.text n).type_named name) (place_of run))
+    within zero = refl
+    within (suc n) = found n (item_named name run.text.items)
+
+-- ---- calls
+
+-- what is made of numbers, one more of which is known
+put_first_then : {A B : Type 0} (a : A) (o : Option (List A)) (k : List A → Option B) → and_then (put_first a o) k ≡ and_then o (λ more. k (a ∷ more))
+put_first_then a None k = refl
+put_first_then a (Some more) k = refl
+
+-- the numbers that are given come first
+given_come_first : (items : Meanings) (inferred : List Inferred) (so_far : List Given) (ps : List Parameter) (vs : List DslxValue) (k : List Given → Option DslxValue)
+    → and_then (all_numbers items inferred so_far ps vs) (λ ns. k (numbers_bound so_far ps ns))
+    ≡ and_then (s.given_first so_far ps vs) (λ g. and_then (all_numbers items inferred g.bound g.rest []) (λ ns. k (numbers_bound g.bound g.rest ns)))
+given_come_first items inferred so_far ps [] k = refl
+given_come_first items inferred so_far [] (v ∷ vs) k = refl
+given_come_first items inferred so_far (p ∷ ps) (v ∷ vs) k =
+    put_first_then v (all_numbers items inferred (with_number so_far p v) ps vs) (λ ns. k (numbers_bound so_far (p ∷ ps) ns))
+    ∙ given_come_first items inferred (with_number so_far p v) ps vs k
+
+pub uses_function_keeps : (name : List ℕ) (numbers vs : List DslxValue) (run : ConstState)
+    → answer_of (s.uses_function name numbers vs run) ≡ answer run.todo (gives ((env_in run).items.call name numbers vs) (place_of run))
+uses_function_keeps name numbers vs run = within run.left
+  where
+    first : (n : ℕ) (f : Function) (o : Option GivenSome) → answer_of (s.at_parameters n f o vs run)
+        ≡ answer run.todo (gives (and_then o (λ g. and_then (all_numbers (meanings_within run.text n) (inferred_from f.arguments (map type_of_value vs)) g.bound g.rest [])
+        (λ ns. where_true (length vs == length f.arguments)
+        (value_of_block f.body (record { items = meanings_within run.text n; bound = i.operands_bound (numbers_bound g.bound g.rest ns) f.arguments vs }))))) (place_of run))
+    first n f None = refl
+    first n f (Some g) = refl
+
+    found : (n : ℕ) (o : Option Function) → answer_of (s.at_function n o numbers vs run)
+        ≡ answer run.todo (gives (and_then o (λ f. i.call_of (meanings_within run.text n) f numbers vs)) (place_of run))
+    found n None = refl
+    found n (Some f) =
+        first n f (s.given_first [] f.parameters numbers)
+        ∙ ap (λ o. answer run.todo (gives o (place_of run)))
+        (sym (given_come_first (meanings_within run.text n) (inferred_from f.arguments (map type_of_value vs)) [] f.parameters numbers
+        (λ bound. where_true (length vs == length f.arguments) (value_of_block f.body (record { items = meanings_within run.text n; bound = i.operands_bound bound f.arguments vs })))))
+
+    within : (n : ℕ) → answer_of (s.function_from n name numbers vs run) ≡ answer run.todo (gives ((meanings_within run.text n).call name numbers vs) (place_of run))
+    within zero = refl
+    within (suc n) = found n (as_function (item_named name run.text.items))
+
+begins_keeps : (call : ConstCall) (run : ConstState) → answer_of (s.call_begins call run) ≡ answer run.todo (back_from call (call_in call [] (env_in run)) (place_of run))
+begins_keeps call run = by (length call.operands == length call.function.arguments) refl
+  where
+    by : (b : Bool) → (length call.operands == length call.function.arguments) ≡ b → answer_of (s.call_begins call run) ≡ answer run.todo (back_from call (call_in call [] (env_in run)) (place_of run))
+    by true e = rw e refl
+    by false e = rw e refl
+
+pub parameter_keeps : (call : ConstCall) (p : Parameter) (ps : List Parameter) (o : Option DslxValue) (run : ConstState)
+    → answer_of (s.parameter_given o call p ps run) ≡ answer run.todo (back_from call (parameter_in call p ps o (env_in run)) (place_of run))
+parameter_keeps call p ps None run = refl
+parameter_keeps call p ps (Some v) run = refl
+
+-- a parameter that isn't given, and those behind it
+next_number : (call : ConstCall) (p : Parameter) (ps : List Parameter) (env : Env)
+    → call_in call (p ∷ ps) env ≡ parameter_in call p ps (i.inferred_value env p (inferred_for p.name.name call.inferred)) env
+next_number call p ps env = by (i.inferred_value env p (inferred_for p.name.name call.inferred))
+  where
+    by : (o : Option DslxValue)
+        → and_then (and_then o (λ v. put_first v (all_numbers env.items call.inferred (with_number env.bound p v) ps []))) (body_in call (p ∷ ps) env) ≡ parameter_in call p ps o env
+    by None = refl
+    by (Some v) = put_first_then v (all_numbers env.items call.inferred (with_number env.bound p v) ps []) (body_in call (p ∷ ps) env)
+
+pub parameters_keep : (call : ConstCall) (ps : List Parameter) (run : ConstState)
+    → answer_of (s.parameters_on call ps run) ≡ answer run.todo (back_from call (call_in call ps (env_in run)) (place_of run))
+parameters_keep call [] run = begins_keeps call run
+parameters_keep call (p ∷ ps) run =
+    by (inferred_for p.name.name call.inferred) ∙ ap (λ o. answer run.todo (back_from call o (place_of run))) (sym (next_number call p ps (env_in run)))
+  where
+    default : (o : Option Expr) → answer_of (s.default_begins o call p ps run)
+        ≡ answer run.todo (back_from call (parameter_in call p ps (and_then o (λ e. value_of e (env_in run))) (env_in run)) (place_of run))
+    default None = refl
+    default (Some e) = refl
+
+    by : (o : Option ℕ) → answer_of (s.parameter_begins o call p ps run)
+        ≡ answer run.todo (back_from call (parameter_in call p ps (i.inferred_value (env_in run) p o) (env_in run)) (place_of run))
+    by None = default p.default
+    by (Some k) = refl
