@@ -215,6 +215,3 @@ fn text<'a>(matches: &ArgMatches<'a>, id: &str) -> Option<&'a str>
 {
     matches.get_str(id)
 }
-
-#[cfg(test)]
-mod tests;

@@ -1,0 +1,4 @@
+-- what functions of this crate promise to one another, and nobody else needs
+pub mod Inner
+-- which values words hold
+pub mod Widths

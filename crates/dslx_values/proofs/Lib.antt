@@ -1,0 +1,2 @@
+-- lists and names, as the definitions of the language use them
+mod ListLemmas
