@@ -23,14 +23,18 @@ use Rattle.dslx_rules.specs.AggregateRules.{wanted_faults}
 use Rattle.dslx_rules.specs.CallRules.{call_judged, receiving, receiving_if, sending, sending_if}
 use Rattle.dslx_rules.specs.ControlRules.{same_ends, span_of_block, written_judged}
 use Rattle.dslx_rules.specs.ConstantRules.{constant_of}
-use Rattle.dslx_rules.specs.Judging.{ExprPair, Judging, Sight, alone, breaks, no_token, span_of}
+use Rattle.dslx_rules.specs.Judging.{ExprPair, Judging, Sight, alone, breaks, no_token, settled, span_of}
+use Rattle.dslx_rules.specs.PatternRules.{is_there}
+use Rattle.dslx_meaning.specs.Types.{bool_type}
+use Rattle.dslx_meaning.specs.Values.{bool_value}
 use Rattle.dslx_rules.specs.Judgings.{ArmSeen, FieldSeen, PatternJudging, SightJudging, StatementJudging}
 use Rattle.dslx_rules.specs.NameRules.{name_judged}
 use Rattle.dslx_rules.specs.NodeRules.{block_pair, expr_pair, second_of}
 use Rattle.dslx_typed.specs.Complete.{IsFine}
 use Rattle.dslx_typed.specs.WellTyped.{IsWellTyped, types_at}
 use Rattle.dslx_typed.proofs.Lemmas.{none_some}
-use Rattle.dslx_sound.specs.Sound.{ArmHasValue, BlockGives, EachArmHasValue, EachExprGives, EachFieldGives, EachPatternGives, EachTypeStands, ExprGives, FieldGives, HasItsValue, NarrowMatchesCome, PartGives, PatternGives, StatementGives, StatementsGive, TypeStands}
+use Rattle.dslx_sound.specs.Places.{EachPatternSeesAlike, PatternSeesAlike, SeeAlike, TypeSeesAlike}
+use Rattle.dslx_sound.specs.Sound.{ArmHasValue, BlockGives, EachArmHasValue, EachExprGives, EachFieldGives, EachPatternGives, EachTypeStands, ExprGives, FieldGives, HasItsValue, PartGives, PatternGives, StatementGives, StatementsGive, TypeStands}
 use Rattle.dslx_sound.proofs.Fine.{alone_fine, alone_has, none_in, settled_fine, some_fault}
 use Rattle.dslx_sound.proofs.Links.{Claims, claimed, judged, judging, meaning, meanings, link_stmt, link_node, link_shape, link_type_node, link_block, link_bind, link_arg, link_arm, link_expr, link_field, link_loop, link_number, link_pattern, link_type_expr}
 use Rattle.dslx_sound.proofs.OfOperations.{binary_has, cast_has, field_has, index_has, part_has, prefix_has}
@@ -44,6 +48,8 @@ use Rattle.dslx_sound.proofs.OfBuiltins.{builtin_has}
 use Rattle.dslx_sound.proofs.OfFunctions.{function_has}
 use Rattle.dslx_sound.proofs.OfShapes.{bool_pattern_gives, member_pattern_gives, name_pattern_gives, number_pattern_gives, tuple_pattern_gives, wild_gives}
 use Rattle.dslx_sound.proofs.OfMatch.{match_has}
+use Rattle.dslx_sound.proofs.OfNarrow.{narrow_come}
+use Rattle.dslx_sound.proofs.OfPlaces.{EachTypeSeesAlike, array_alike, member_alike, name_alike, name_pattern_alike, number_alike, one_value_alike, tuple_alike, tuple_pattern_alike, wide_alike, wild_alike}
 
 -- ---- what is to hold of each sort
 
@@ -54,13 +60,20 @@ pub record ExprClaim (j : Judging) (x : Meant) : Type 0 where
 pub record NumberClaim (j : SightJudging) (x : Meant) : Type 0 where
   pub gives : PartGives j x.value
   pub untyped : (number : Bare) → x.bare ≡ Some number → (sight : Sight) → (j sight).ty ≡ None
+  pub alike : (sight : Sight) (a b : Env) → SeeAlike sight a b → IsFine sight.known (j sight) → x.value a ≡ x.value b
+
+abbrev pub TypeClaim : SightJudging → Typing → Type 0
+TypeClaim j f = TypeStands j f × TypeSeesAlike j f
+
+abbrev pub PatternClaim : PatternJudging → PatternMeant → Type 0
+PatternClaim p x = PatternGives p x × PatternSeesAlike p x
 
 abbrev pub sound : Claims
 sound = record {
   stmt = StatementGives;
   node = λ j x. (span : Span) → ExprClaim (j span) x;
-  shape = λ p x. (span : Span) → PatternGives (p span) x;
-  type_node = λ j f. (span : Span) → TypeStands (j span) f;
+  shape = λ p x. (span : Span) → PatternClaim (p span) x;
+  type_node = λ j f. (span : Span) → TypeClaim (j span) f;
   block = BlockGives;
   bind = StatementGives;
   arg = ExprGives;
@@ -69,8 +82,8 @@ sound = record {
   field = FieldGives;
   loop = λ j f. (span : Span) → PartGives (j span) f;
   number = λ j x. (span : Span) → NumberClaim (j span) x;
-  pattern = PatternGives;
-  type_expr = TypeStands;
+  pattern = PatternClaim;
+  type_expr = TypeClaim;
 }
 
 abbrev Parts : Carriers
@@ -130,11 +143,19 @@ each_arm (p ∷ ps) = (p.2.1, each_arm ps)
 
 each_pattern : (ps : List PatternPart) → EachPatternGives (map (λ (p : PatternPart). p.0) ps) (map (λ (p : PatternPart). p.1) ps)
 each_pattern [] = tt
-each_pattern (p ∷ ps) = (p.2.1, each_pattern ps)
+each_pattern (p ∷ ps) = (p.2.1.0, each_pattern ps)
+
+each_pattern_alike : (ps : List PatternPart) → EachPatternSeesAlike (map (λ (p : PatternPart). p.0) ps) (map (λ (p : PatternPart). p.1) ps)
+each_pattern_alike [] = tt
+each_pattern_alike (p ∷ ps) = ((p.2.0, p.2.1.1), each_pattern_alike ps)
 
 each_type : (ps : List TypePart) → EachTypeStands (map (λ (p : TypePart). p.0) ps) (map (λ (p : TypePart). p.1) ps)
 each_type [] = tt
-each_type (p ∷ ps) = (p.2.1, each_type ps)
+each_type (p ∷ ps) = (p.2.1.0, each_type ps)
+
+each_type_alike : (ps : List TypePart) → EachTypeSeesAlike (map (λ (p : TypePart). p.0) ps) (map (λ (p : TypePart). p.1) ps)
+each_type_alike [] = tt
+each_type_alike (p ∷ ps) = (p.2.1.1, each_type_alike ps)
 
 each_stmt : (ps : List StmtPart) → StatementsGive (map (λ (s : Stmt × StatementJudging). s.1) (map (λ (p : StmtPart). p.0) ps)) (map (λ (p : StmtPart). p.1) ps)
 each_stmt [] = tt
@@ -161,34 +182,33 @@ call_claim SendsIf span f numbers es sight env h fine = some_fault (breaks 28 sp
 call_claim Calls span f numbers es sight env h fine =
     function_has span sight env f (map (λ (p : ArgPart). p.0) numbers) (map (λ (p : ArgPart). p.1) numbers) (map (λ (p : ExprPart). p.0) es) (map (λ (p : ExprPart). p.1) es) (each_arg numbers) (each_expr es) h fine
 
-module _ (narrow : NarrowMatchesCome) where
-  node_gives : (x : NodeLevel Parts) (span : Span) → BlockGives (judged_of_node x span) (meant_of_node x).value
-  node_gives (Node-F.Node::Number n) span sight env h fine = (n.2.1 span).gives sight env h fine
-  node_gives (Node-F.Node::Bool bit) span sight env h fine = bool_has span bit sight env h fine
-  node_gives (Node-F.Node::Array None es dots) span sight env h fine = untyped_has span sight env (map (λ (p : ExprPart). p.0) es) dots (map (λ (p : ExprPart). p.1) es) (each_expr es) h fine
-  node_gives (Node-F.Node::Array (Some t) es dots) span sight env h fine = typed_has span sight env t.0.1 t.1 (map (λ (p : ExprPart). p.0) es) dots (map (λ (p : ExprPart). p.1) es) t.2.1 (each_expr es) h fine
-  node_gives (Node-F.Node::Name name) span sight env h fine = name_has span sight name env h fine
-  node_gives (Node-F.Node::Member e a) span sight env h fine = member_has span sight e a env h fine
-  node_gives (Node-F.Call f numbers es) span sight env h fine = call_claim (kind_of_call f.name) span f numbers es sight env h fine
-  node_gives (Node-F.Node::Tuple es) span sight env h fine = tuple_has span sight env (map (λ (p : ExprPart). p.0) es) (map (λ (p : ExprPart). p.1) es) (each_expr es) h fine
-  node_gives (Node-F.Struct name fields None) span sight env h fine =
-      struct_has span sight env name (map second_of (map (λ (p : FieldPart). p.0) fields)) (map (λ (p : FieldPart). p.1) fields) None None (each_field fields) tt h fine
-  node_gives (Node-F.Struct name fields (Some rest)) span sight env h fine =
-      struct_has span sight env name (map second_of (map (λ (p : FieldPart). p.0) fields)) (map (λ (p : FieldPart). p.1) fields) (Some rest.0) (Some rest.1) (each_field fields) (expr_gives rest) h fine
-  node_gives (Node-F.Block block) span sight env h fine = block.2.1 sight env h fine
-  node_gives (Node-F.If test taken other) span sight env h fine = if_has span sight env test.0 taken.0 other.0 test.1 taken.1 other.1 (expr_gives test) taken.2.1 (expr_gives other) h fine
-  node_gives (Node-F.Match e arms) span sight env h fine =
-      match_has span sight env e.0 e.1 (map second_of (map (λ (p : ArmPart). p.0) arms)) (map (λ (p : ArmPart). p.1) arms) (expr_gives e) (each_arm arms) h
-      (λ t v f r g. narrow sight env t (map second_of (map (λ (p : ArmPart). p.0) arms)) (map (λ (p : ArmPart). p.1) arms) v h (each_arm arms) f r g) fine
-  node_gives (Node-F.For loop) span sight env h fine = loop.2.1 span sight env h fine
-  node_gives (Node-F.Index e place) span sight env h fine = index_has span sight env e.0 place.0 e.1 place.1 (expr_gives e) (expr_gives place) h fine
-  node_gives (Node-F.Slice e low high) span sight env h fine = slice_has span sight env e.0 low.0 high.0 e.1 low.1 high.1 (expr_gives e) (expr_gives low) (expr_gives high) h fine
-  node_gives (Node-F.Part e start t) span sight env h fine = part_has span sight env e.0 start.0 t.0.1 e.1 start.1 t.1 (expr_gives e) (expr_gives start) t.2.1 h fine
-  node_gives (Node-F.Field e name) span sight env h fine = field_has span sight env e.0 name e.1 (expr_gives e) h fine
-  node_gives (Node-F.Element e at k) span sight env h fine = element_has span sight env e.0 k e.1 (expr_gives e) h fine
-  node_gives (Node-F.Prefix o e) span sight env h fine = prefix_has span sight env o e.0 e.1 (expr_gives e) h fine
-  node_gives (Node-F.Cast e t) span sight env h fine = cast_has span sight env e.0 t.0.1 e.1 t.1 (expr_gives e) t.2.1 h fine
-  node_gives (Node-F.Binary o l r) span sight env h fine = binary_has span sight env o l.0 r.0 l.1 r.1 (expr_gives l) (expr_gives r) h fine
+node_gives : (x : NodeLevel Parts) (span : Span) → BlockGives (judged_of_node x span) (meant_of_node x).value
+node_gives (Node-F.Node::Number n) span sight env h fine = (n.2.1 span).gives sight env h fine
+node_gives (Node-F.Node::Bool bit) span sight env h fine = bool_has span bit sight env h fine
+node_gives (Node-F.Node::Array None es dots) span sight env h fine = untyped_has span sight env (map (λ (p : ExprPart). p.0) es) dots (map (λ (p : ExprPart). p.1) es) (each_expr es) h fine
+node_gives (Node-F.Node::Array (Some t) es dots) span sight env h fine = typed_has span sight env t.0.1 t.1 (map (λ (p : ExprPart). p.0) es) dots (map (λ (p : ExprPart). p.1) es) t.2.1.0 (each_expr es) h fine
+node_gives (Node-F.Node::Name name) span sight env h fine = name_has span sight name env h fine
+node_gives (Node-F.Node::Member e a) span sight env h fine = member_has span sight e a env h fine
+node_gives (Node-F.Call f numbers es) span sight env h fine = call_claim (kind_of_call f.name) span f numbers es sight env h fine
+node_gives (Node-F.Node::Tuple es) span sight env h fine = tuple_has span sight env (map (λ (p : ExprPart). p.0) es) (map (λ (p : ExprPart). p.1) es) (each_expr es) h fine
+node_gives (Node-F.Struct name fields None) span sight env h fine =
+    struct_has span sight env name (map second_of (map (λ (p : FieldPart). p.0) fields)) (map (λ (p : FieldPart). p.1) fields) None None (each_field fields) tt h fine
+node_gives (Node-F.Struct name fields (Some rest)) span sight env h fine =
+    struct_has span sight env name (map second_of (map (λ (p : FieldPart). p.0) fields)) (map (λ (p : FieldPart). p.1) fields) (Some rest.0) (Some rest.1) (each_field fields) (expr_gives rest) h fine
+node_gives (Node-F.Block block) span sight env h fine = block.2.1 sight env h fine
+node_gives (Node-F.If test taken other) span sight env h fine = if_has span sight env test.0 taken.0 other.0 test.1 taken.1 other.1 (expr_gives test) taken.2.1 (expr_gives other) h fine
+node_gives (Node-F.Match e arms) span sight env h fine =
+    match_has span sight env e.0 e.1 (map second_of (map (λ (p : ArmPart). p.0) arms)) (map (λ (p : ArmPart). p.1) arms) (expr_gives e) (each_arm arms) h
+    (λ t v f r g. narrow_come sight env t (map second_of (map (λ (p : ArmPart). p.0) arms)) (map (λ (p : ArmPart). p.1) arms) v h (each_arm arms) f r g) fine
+node_gives (Node-F.For loop) span sight env h fine = loop.2.1 span sight env h fine
+node_gives (Node-F.Index e place) span sight env h fine = index_has span sight env e.0 place.0 e.1 place.1 (expr_gives e) (expr_gives place) h fine
+node_gives (Node-F.Slice e low high) span sight env h fine = slice_has span sight env e.0 low.0 high.0 e.1 low.1 high.1 (expr_gives e) (expr_gives low) (expr_gives high) h fine
+node_gives (Node-F.Part e start t) span sight env h fine = part_has span sight env e.0 start.0 t.0.1 e.1 start.1 t.1 (expr_gives e) (expr_gives start) t.2.1.0 h fine
+node_gives (Node-F.Field e name) span sight env h fine = field_has span sight env e.0 name e.1 (expr_gives e) h fine
+node_gives (Node-F.Element e at k) span sight env h fine = element_has span sight env e.0 k e.1 (expr_gives e) h fine
+node_gives (Node-F.Prefix o e) span sight env h fine = prefix_has span sight env o e.0 e.1 (expr_gives e) h fine
+node_gives (Node-F.Cast e t) span sight env h fine = cast_has span sight env e.0 t.0.1 e.1 t.1 (expr_gives e) t.2.1.0 h fine
+node_gives (Node-F.Binary o l r) span sight env h fine = binary_has span sight env o l.0 r.0 l.1 r.1 (expr_gives l) (expr_gives r) h fine
 
 -- a number without a type alone is one
 node_untyped : (x : NodeLevel Parts) (span : Span) (number : Bare) → (meant_of_node x).bare ≡ Some number → (sight : Sight) → (judged_of_node x span false sight).ty ≡ None
@@ -215,24 +235,25 @@ node_untyped (Node-F.Binary o l r) span number e sight = none_some number e
 
 -- ---- types and patterns
 
-type_claim : (x : TypeNodeLevel Parts) (span : Span) → TypeStands ((judging.type_node (map_type_node Parts judged (firsts judged meanings (claimed sound)) x)).1 span) (meaning.type_node (map_type_node Parts meanings (seconds judged meanings (claimed sound)) x))
-type_claim (TypeNode-F.Bits signed width) span = plain_stands span signed width
-type_claim (TypeNode-F.Wide signed e) span = wide_stands span signed e.0 e.1 (expr_gives e)
-type_claim TypeNode-F.TypeNode::Bool span = plain_stands span false 1
-type_claim (TypeNode-F.TypeNode::Name name) span = name_stands span name
-type_claim (TypeNode-F.TypeNode::Tuple ts) span = tuple_stands span (map (λ (p : TypePart). p.0) ts) (map (λ (p : TypePart). p.1) ts) (each_type ts)
-type_claim (TypeNode-F.TypeNode::Array t e) span = array_stands span t.0 t.1 e.0 e.1 t.2.1 (expr_gives e)
+type_claim : (x : TypeNodeLevel Parts) (span : Span) → TypeClaim ((judging.type_node (map_type_node Parts judged (firsts judged meanings (claimed sound)) x)).1 span) (meaning.type_node (map_type_node Parts meanings (seconds judged meanings (claimed sound)) x))
+type_claim (TypeNode-F.Bits signed width) span = (plain_stands span signed width, λ sight a b h fine. refl)
+type_claim (TypeNode-F.Wide signed e) span = (wide_stands span signed e.0 e.1 (expr_gives e), wide_alike span signed e.0 e.1 e.2.0)
+type_claim TypeNode-F.TypeNode::Bool span = (plain_stands span false 1, λ sight a b h fine. refl)
+type_claim (TypeNode-F.TypeNode::Name name) span = (name_stands span name, name_alike span name)
+type_claim (TypeNode-F.TypeNode::Tuple ts) span = (tuple_stands span (map (λ (p : TypePart). p.0) ts) (map (λ (p : TypePart). p.1) ts) (each_type ts), tuple_alike span (map (λ (p : TypePart). p.0) ts) (map (λ (p : TypePart). p.1) ts) (each_type_alike ts))
+type_claim (TypeNode-F.TypeNode::Array t e) span = (array_stands span t.0 t.1 e.0 e.1 t.2.1.0 (expr_gives e), array_alike span t.0 t.1 e.0 e.1 t.2.1.1 e.2.0)
 
-shape_claim : (x : ShapeLevel Parts) (span : Span) → PatternGives ((judging.shape (map_shape Parts judged (firsts judged meanings (claimed sound)) x)).1 span) (meaning.shape (map_shape Parts meanings (seconds judged meanings (claimed sound)) x))
-shape_claim Shape-F.Wild span = wild_gives
-shape_claim (Shape-F.Shape::Bool bit) span = bool_pattern_gives span bit
-shape_claim (Shape-F.Shape::Number n) span = number_pattern_gives span (n.0.1 span) n.1.value (n.2.1 span).gives
-shape_claim (Shape-F.Shape::Name name) span = name_pattern_gives span name
-shape_claim (Shape-F.Shape::Member e a) span = member_pattern_gives span e a
-shape_claim (Shape-F.Shape::Tuple ps) span = tuple_pattern_gives span (map (λ (p : PatternPart). p.0) ps) (map (λ (p : PatternPart). p.1) ps) (each_pattern ps)
+shape_claim : (x : ShapeLevel Parts) (span : Span) → PatternClaim ((judging.shape (map_shape Parts judged (firsts judged meanings (claimed sound)) x)).1 span) (meaning.shape (map_shape Parts meanings (seconds judged meanings (claimed sound)) x))
+shape_claim Shape-F.Wild span = (wild_gives, wild_alike)
+shape_claim (Shape-F.Shape::Bool bit) span = (bool_pattern_gives span bit, one_value_alike span (λ sight. settled span (Some bool_type) [] [] (Some 1)) (λ sight. true) (λ env. Some (bool_value bit)) (λ sight a b h fine. refl))
+shape_claim (Shape-F.Shape::Number n) span = (number_pattern_gives span (n.0.1 span) n.1.value (n.2.1 span).gives, one_value_alike span (n.0.1 span) (λ sight. is_there (n.0.1 span sight).ty) n.1.value (n.2.1 span).alike)
+shape_claim (Shape-F.Shape::Name name) span = (name_pattern_gives span name, name_pattern_alike span name)
+shape_claim (Shape-F.Shape::Member e a) span = (member_pattern_gives span e a, member_alike span e a)
+shape_claim (Shape-F.Shape::Tuple ps) span =
+    (tuple_pattern_gives span (map (λ (p : PatternPart). p.0) ps) (map (λ (p : PatternPart). p.1) ps) (each_pattern ps), tuple_pattern_alike span (map (λ (p : PatternPart). p.0) ps) (map (λ (p : PatternPart). p.1) ps) (each_pattern_alike ps))
 
 arm_claim : (x : ArmLevel Parts) → ArmHasValue (judging.arm (map_arm Parts judged (firsts judged meanings (claimed sound)) x)).1 (meaning.arm (map_arm Parts meanings (seconds judged meanings (claimed sound)) x))
-arm_claim x = record { patterns = each_pattern x.patterns; meaning = x.value.1; value = expr_gives x.value; is = refl }
+arm_claim x = record { patterns = each_pattern x.patterns; alike = each_pattern_alike x.patterns; meaning = x.value.1; value = expr_gives x.value; is = refl }
 
 -- ---- statements and blocks
 
@@ -242,8 +263,8 @@ bind_claim x = by_type x.ty
     by_type : (o : Option TypePart)
         → StatementGives (judging.bind (map_bind Parts judged (firsts judged meanings (claimed sound)) (record { span = x.span; pattern = x.pattern; ty = o; value = x.value }))).1
         (meaning.bind (map_bind Parts meanings (seconds judged meanings (claimed sound)) (record { span = x.span; pattern = x.pattern; ty = o; value = x.value })))
-    by_type None = let_has (span_of x.value.0) x.value.0 x.value.1 None None x.pattern.0 x.pattern.1 (expr_gives x.value) tt x.pattern.2.1.keeps
-    by_type (Some t) = let_has (span_of x.value.0) x.value.0 x.value.1 (Some t.0) (Some t.1) x.pattern.0 x.pattern.1 (expr_gives x.value) t.2.1 x.pattern.2.1.keeps
+    by_type None = let_has (span_of x.value.0) x.value.0 x.value.1 None None x.pattern.0 x.pattern.1 (expr_gives x.value) tt x.pattern.2.1.0.keeps
+    by_type (Some t) = let_has (span_of x.value.0) x.value.0 x.value.1 (Some t.0) (Some t.1) x.pattern.0 x.pattern.1 (expr_gives x.value) t.2.1.0 x.pattern.2.1.0.keeps
 
 stmt_claim : (x : StmtLevel Parts) → StatementGives (judging.stmt (map_stmt Parts judged (firsts judged meanings (claimed sound)) x)).1 (meaning.stmt (map_stmt Parts meanings (seconds judged meanings (claimed sound)) x))
 stmt_claim (Stmt-F.Let l) = l.2.1
@@ -266,7 +287,7 @@ block_claim x = by_value x.value
 loop_claim : (x : ForLevel Parts) (span : Span) → PartGives ((judging.loop (map_loop Parts judged (firsts judged meanings (claimed sound)) x)).1 span) (meaning.loop (map_loop Parts meanings (seconds judged meanings (claimed sound)) x))
 loop_claim x span sight env h fine =
     loop_has span (span_of_block x.body.0) sight env x.from.0 x.to.0 x.start.0 x.from.1 x.to.1 x.start.1 (written_judged sight (map_loop Parts judged (firsts judged meanings (claimed sound)) x).ty) x.index.0 x.accumulator.0 x.index.1 x.accumulator.1 x.body.0 x.body.1
-    (expr_gives x.from) (expr_gives x.to) (expr_gives x.start) x.index.2.1.keeps x.accumulator.2.1.keeps x.body.2.1 h
+    (expr_gives x.from) (expr_gives x.to) (expr_gives x.start) x.index.2.1.0.keeps x.accumulator.2.1.0.keeps x.body.2.1 h
     (same_ends (constant_of sight x.from.0).judgement.ty (constant_of sight x.to.0).judgement.ty) refl fine
 
 number_claim : (x : NumberLevel Parts) (span : Span) → NumberClaim ((judging.number (map_number Parts judged (firsts judged meanings (claimed sound)) x)).1 span) (meaning.number (map_number Parts meanings (seconds judged meanings (claimed sound)) x))
@@ -278,10 +299,12 @@ number_claim x span = by_type x.ty
     by_type None = record {
       gives = λ sight env h fine. some_fault (breaks 7 span) [] (settled_fine sight.known span None (breaks 7 span ∷ []) [] (Some 1) fine).faults;
       untyped = λ number e sight. refl;
+      alike = λ sight a b h fine. refl;
     }
     by_type (Some t) = record {
-      gives = number_has span t.0.1 t.1 (record { is_negative = x.is_negative; value = x.value }) t.2.1;
+      gives = number_has span t.0.1 t.1 (record { is_negative = x.is_negative; value = x.value }) t.2.1.0;
       untyped = λ number e sight. none_some number e;
+      alike = number_alike span t.0.1 t.1 (record { is_negative = x.is_negative; value = x.value }) t.2.1.1;
     }
 
 field_claim : (x : FieldValueLevel Parts) → FieldGives (judging.field (map_field Parts judged (firsts judged meanings (claimed sound)) x)).1 (meaning.field (map_field Parts meanings (seconds judged meanings (claimed sound)) x))
@@ -309,29 +332,28 @@ field_claim x = by_value x.value
 
 -- ---- the whole
 
-module _ (narrow : NarrowMatchesCome) where
-  pub all_keep : KeepRelated judged meanings (claimed sound) judging meaning
-  all_keep = record {
-    stmt = λ x. (link_stmt sound x, stmt_claim x);
-    node = λ x. (link_node sound x, λ span. record { gives = node_gives narrow x span; untyped = node_untyped x span });
-    shape = λ x. (link_shape sound x, shape_claim x);
-    type_node = λ x. (link_type_node sound x, type_claim x);
-    block = λ x. (link_block sound x, block_claim x);
-    bind = λ x. (link_bind sound x, bind_claim x);
-    arg = λ x. (link_arg sound x, expr_gives x.value);
-    arm = λ x. (link_arm sound x, arm_claim x);
-    expr = λ x. (link_expr sound x, x.node.2.1 x.span);
-    field = λ x. (link_field sound x, field_claim x);
-    loop = λ x. (link_loop sound x, loop_claim x);
-    number = λ x. (link_number sound x, number_claim x);
-    pattern = λ x. (link_pattern sound x, x.shape.2.1 x.span);
-    type_expr = λ x. (link_type_expr sound x, x.node.2.1 x.span);
-  }
+pub all_keep : KeepRelated judged meanings (claimed sound) judging meaning
+all_keep = record {
+  stmt = λ x. (link_stmt sound x, stmt_claim x);
+  node = λ x. (link_node sound x, λ span. record { gives = node_gives x span; untyped = node_untyped x span });
+  shape = λ x. (link_shape sound x, shape_claim x);
+  type_node = λ x. (link_type_node sound x, type_claim x);
+  block = λ x. (link_block sound x, block_claim x);
+  bind = λ x. (link_bind sound x, bind_claim x);
+  arg = λ x. (link_arg sound x, expr_gives x.value);
+  arm = λ x. (link_arm sound x, arm_claim x);
+  expr = λ x. (link_expr sound x, x.node.2.1 x.span);
+  field = λ x. (link_field sound x, field_claim x);
+  loop = λ x. (link_loop sound x, loop_claim x);
+  number = λ x. (link_number sound x, number_claim x);
+  pattern = λ x. (link_pattern sound x, x.shape.2.1 x.span);
+  type_expr = λ x. (link_type_expr sound x, x.node.2.1 x.span);
+}
 
-  -- an expression has a value of its type wherever nothing is wrong with it
-  pub expression_has : (e : Expr) → BlockGives (expr_pair e).1 (value_of e)
-  expression_has e = (related_expr judged meanings (claimed sound) judging meaning all_keep e).1.gives
+-- an expression has a value of its type wherever nothing is wrong with it
+pub expression_has : (e : Expr) → BlockGives (expr_pair e).1 (value_of e)
+expression_has e = (related_expr judged meanings (claimed sound) judging meaning all_keep e).1.gives
 
-  -- and so has a block
-  pub block_of_text_has : (b : Block) → BlockGives (block_pair b).1 (value_of_block b)
-  block_of_text_has b = (related_block judged meanings (claimed sound) judging meaning all_keep b).1
+-- and so has a block
+pub block_of_text_has : (b : Block) → BlockGives (block_pair b).1 (value_of_block b)
+block_of_text_has b = (related_block judged meanings (claimed sound) judging meaning all_keep b).1

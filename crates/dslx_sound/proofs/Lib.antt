@@ -26,5 +26,13 @@ pub mod Links
 pub mod OfShapes
 -- `match`
 pub mod OfMatch
+-- places at which all but locals are bound alike
+pub mod OfPlaces
+-- narrow tuples
+pub mod OfNarrow
 -- the induction on trees
 pub mod Joined
+-- values that come back from their flat words
+pub mod OfFlat
+-- instances of functions
+pub mod Bodies

@@ -23,17 +23,18 @@ use Rattle.dslx_typed.specs.Declared.{IsDeclared}
 use Rattle.dslx_typed.specs.Given.{GivesItsType, GivesOf}
 use Rattle.dslx_typed.specs.WellTyped.{ArmGives, EachArmGives, Fails, Fits, FitsOrFails, IsWellTyped, comes_to_an_arm, types_at}
 use Rattle.dslx_typed.proofs.Lemmas.{all_are, match_gives, none_some, or_false, same_some}
-use Rattle.dslx_sound.specs.Sound.{ArmHasValue, EachArmHasValue, EachPatternGives, ExprGives, HasItsValue, IsFinePattern, NarrowComes, PatternGives}
+use Rattle.dslx_sound.specs.Places.{IsFinePattern}
+use Rattle.dslx_sound.specs.Sound.{ArmHasValue, EachArmHasValue, EachPatternGives, ExprGives, HasItsValue, NarrowComes, PatternGives}
 use Rattle.dslx_sound.proofs.Fine.{IsSettled, all_in, all_in_three, alone_has, given, none_in, none_in_three, not_broken, settled_fine, some_fault, whole}
 
 -- ---- the alternatives of an arm
 
 -- nothing that they break or pass, and nothing that they reach does
-record AreFine (sight : Sight) (seen : AlternativesSeen) : Type 0 where
-  faults : seen.faults ≡ []
-  reached : list_all sight.known.is_sound seen.reached ≡ true
+pub record AreFine (sight : Sight) (seen : AlternativesSeen) : Type 0 where
+  pub faults : seen.faults ≡ []
+  pub reached : list_all sight.known.is_sound seen.reached ≡ true
 
-first_fine : (sight : Sight) (t : Option DslxType) (p : PatternPair) (ps : List PatternPair) → AreFine sight (alternatives_seen sight t (p ∷ ps))
+pub first_fine : (sight : Sight) (t : Option DslxType) (p : PatternPair) (ps : List PatternPair) → AreFine sight (alternatives_seen sight t (p ∷ ps))
     → IsFinePattern sight (pattern_alone true sight t p) × AreFine sight (alternatives_seen sight t ps)
 first_fine sight t p ps fine =
     let first = pattern_alone true sight t p in

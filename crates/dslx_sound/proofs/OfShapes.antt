@@ -28,7 +28,8 @@ use Rattle.dslx_typed.specs.Given.{GivesOf}
 use Rattle.dslx_typed.specs.Kinds.{each_of, is_of}
 use Rattle.dslx_typed.specs.WellTyped.{EachKeeps, Fits, IsWellTyped, types_at}
 use Rattle.dslx_typed.proofs.Lemmas.{bound_keeps, is_tuple_of, name_pattern_keeps, none_some, one_value_keeps, parts_declared, parts_of_type, same_some, tuple_pattern_keeps, unbroken_parts}
-use Rattle.dslx_sound.specs.Sound.{EachPatternGives, IsFinePattern, PartGives, PatternGives}
+use Rattle.dslx_sound.specs.Places.{IsFinePattern}
+use Rattle.dslx_sound.specs.Sound.{EachPatternGives, PartGives, PatternGives}
 use Rattle.dslx_sound.proofs.OfNames.{member_has}
 use Rattle.dslx_sound.proofs.Fine.{all_in, none_in, none_in_three}
 

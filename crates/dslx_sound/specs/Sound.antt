@@ -19,6 +19,7 @@ use Rattle.dslx_rules.specs.PatternRules.{is_there, pattern_alone}
 use Rattle.dslx_typed.specs.Complete.{IsFine}
 use Rattle.dslx_typed.specs.Declared.{Declarations}
 use Rattle.dslx_typed.specs.Given.{GivesOf, TypeMeans}
+use Rattle.dslx_sound.specs.Places.{EachPatternSeesAlike, IsFinePattern}
 use Rattle.dslx_typed.specs.WellTyped.{GoesOnTyped, IsWellTyped, PatternKeeps, comes_to_an_arm, types_at}
 
 -- a type, and a value of it
@@ -94,11 +95,6 @@ EachFieldGives (f ∷ fs) [] = ⊥
 
 -- ---- patterns
 
--- nothing that a pattern breaks or passes, and nothing that it reaches does
-pub record IsFinePattern (sight : Sight) (seen : PatternSeen) : Type 0 where
-  pub faults : seen.faults ≡ []
-  pub reached : list_all sight.known.is_sound seen.reached ≡ true
-
 -- a pattern: behind it what is in sight is well typed, where it fits and as if it did
 pub record PatternGives (p : PatternJudging) (meaning : PatternMeant) : Type 0 where
   pub keeps : PatternKeeps p meaning.fits
@@ -125,6 +121,7 @@ EachPatternGives (p ∷ ps) [] = ⊥
 -- an arm: its patterns, and its value behind them
 pub record ArmHasValue (a : ArmSeen) (m : ArmMeant) : Type 0 where
   pub patterns : EachPatternGives a.patterns m.patterns
+  pub alike : EachPatternSeesAlike a.patterns m.patterns
   pub meaning : Meant
   pub value : ExprGives a.value meaning
   pub is : m.value ≡ meaning.value
