@@ -22,3 +22,17 @@ pub mod OfNumbers
 pub mod OfFunctions
 -- the trees of parts, and what they mean
 pub mod Links
+-- patterns
+pub mod OfShapes
+-- `match`
+pub mod OfMatch
+-- places at which all but locals are bound alike
+pub mod OfPlaces
+-- narrow tuples
+pub mod OfNarrow
+-- the induction on trees
+pub mod Joined
+-- values that come back from their flat words
+pub mod OfFlat
+-- instances of functions
+pub mod Bodies

@@ -27,9 +27,9 @@ use Rattle.dslx_rules.specs.Judgings.{ArgPair}
 use Rattle.dslx_rules.specs.OperatorRules.{is_bits, unless_type}
 use Rattle.dslx_typed.specs.Complete.{IsFine}
 use Rattle.dslx_typed.specs.Declared.{Declarations, IsDeclared, as_declared, declared_step}
-use Rattle.dslx_typed.specs.Kinds.{is_some_token}
+use Rattle.dslx_typed.specs.Kinds.{is_some_token, lies_in}
 use Rattle.dslx_typed.specs.WellTyped.{IsWellTyped, types_at}
-use Rattle.dslx_typed.proofs.Lemmas.{all_are, counting_gives, of_token, reducing_gives, update_given}
+use Rattle.dslx_typed.proofs.Lemmas.{all_are, and_reduce_lies, clz_lies, counting_gives, ctz_lies, of_token, or_reduce_lies, reducing_gives, rev_lies, update_given, xor_reduce_lies}
 use Rattle.dslx_sound.specs.Sound.{EachExprGives, HasItsValue, IsBuiltin}
 use Rattle.dslx_sound.proofs.OfOperations.{unless_passed}
 use Rattle.dslx_sound.proofs.Fine.{all_in, all_in_three, alone_has, given, none_in, none_in_three, passed, settled_fine, some_fault, whole}
@@ -60,14 +60,14 @@ moved_to types j o p e g = subst (HasItsValue types j) e g
 
 -- ---- counts and reductions
 
-counts : (span : Span) (sight : Sight) (env : Env) (f : Word → Word) → ((w : Word) → (f w).width ≡ w.width) → (es : List ExprPair) (xs : List Meant) → EachExprGives es xs → IsWellTyped sight env
+counts : (span : Span) (sight : Sight) (env : Env) (f : Word → Word) → ((w : Word) → (f w).width ≡ w.width) → ((w : Word) → lies_in w ≡ true → lies_in (f w) ≡ true) → (es : List ExprPair) (xs : List Meant) → EachExprGives es xs → IsWellTyped sight env
     → IsFine sight.known (counting span es (all_alone sight es) (first_operand_type (all_alone sight es)))
     → HasItsValue (types_at sight) (counting span es (all_alone sight es) (first_operand_type (all_alone sight es))) (with_both (Some []) (values_of xs env) (λ (ns vs : List DslxValue). counted f vs))
-counts span sight env f width [] xs k h fine = wrongly_called sight.known span [] [] [] fine
-counts span sight env f width (e ∷ d ∷ es) xs k h fine = wrongly_called sight.known span [] (alone sight e ∷ alone sight d ∷ all_alone sight es) [] fine
-counts span sight env f width (e ∷ []) [] k h fine = absurd k
-counts span sight env f width (e ∷ []) (x ∷ y ∷ xs) k h fine = absurd k.1
-counts span sight env f width (e ∷ []) (x ∷ []) k h fine =
+counts span sight env f width within [] xs k h fine = wrongly_called sight.known span [] [] [] fine
+counts span sight env f width within (e ∷ d ∷ es) xs k h fine = wrongly_called sight.known span [] (alone sight e ∷ alone sight d ∷ all_alone sight es) [] fine
+counts span sight env f width within (e ∷ []) [] k h fine = absurd k
+counts span sight env f width within (e ∷ []) (x ∷ y ∷ xs) k h fine = absurd k.1
+counts span sight env f width within (e ∷ []) (x ∷ []) k h fine =
     let a = alone sight e in
     let bits = unless_type is_bits 27 (span_of e) a.ty in
     let own = and_then a.ty (λ t. a.ty) in
@@ -76,16 +76,16 @@ counts span sight env f width (e ∷ []) (x ∷ []) k h fine =
     let g = alone_has sight env e x k.0 h p.0 s.reached in
     moved_to (types_at sight) (counting span (e ∷ []) (a ∷ []) a.ty) (and_then (x.value env) (λ v. counted f (v ∷ []))) (with_both (Some []) (values_of (x ∷ []) env) (λ (ns vs : List DslxValue). counted f vs)) (one_operand (x.value env) (λ (ns vs : List DslxValue). counted f vs))
     (whole (types_at sight) sight.known span own (a.faults ++ bits) a.reached (one_and a.size) g.0 (and_then (x.value env) (λ v. counted f (v ∷ []))) s (λ i. and_then (g.1 i) (λ t. g.1 i))
-    (counting_gives (types_at sight) span sight e (x.value env) f width (given (types_at sight) a (x.value env) g)))
+    (counting_gives (types_at sight) span sight e (x.value env) f width within (given (types_at sight) a (x.value env) g)))
 
-reduces : (span : Span) (sight : Sight) (env : Env) (f : Word → Word) → ((w : Word) → (f w).width ≡ 1) → (es : List ExprPair) (xs : List Meant) → EachExprGives es xs → IsWellTyped sight env
+reduces : (span : Span) (sight : Sight) (env : Env) (f : Word → Word) → ((w : Word) → (f w).width ≡ 1) → ((w : Word) → lies_in w ≡ true → lies_in (f w) ≡ true) → (es : List ExprPair) (xs : List Meant) → EachExprGives es xs → IsWellTyped sight env
     → IsFine sight.known (counting span es (all_alone sight es) (Some bool_type))
     → HasItsValue (types_at sight) (counting span es (all_alone sight es) (Some bool_type)) (with_both (Some []) (values_of xs env) (λ (ns vs : List DslxValue). reduced f vs))
-reduces span sight env f width [] xs k h fine = wrongly_called sight.known span [] [] [] fine
-reduces span sight env f width (e ∷ d ∷ es) xs k h fine = wrongly_called sight.known span [] (alone sight e ∷ alone sight d ∷ all_alone sight es) [] fine
-reduces span sight env f width (e ∷ []) [] k h fine = absurd k
-reduces span sight env f width (e ∷ []) (x ∷ y ∷ xs) k h fine = absurd k.1
-reduces span sight env f width (e ∷ []) (x ∷ []) k h fine =
+reduces span sight env f width within [] xs k h fine = wrongly_called sight.known span [] [] [] fine
+reduces span sight env f width within (e ∷ d ∷ es) xs k h fine = wrongly_called sight.known span [] (alone sight e ∷ alone sight d ∷ all_alone sight es) [] fine
+reduces span sight env f width within (e ∷ []) [] k h fine = absurd k
+reduces span sight env f width within (e ∷ []) (x ∷ y ∷ xs) k h fine = absurd k.1
+reduces span sight env f width within (e ∷ []) (x ∷ []) k h fine =
     let a = alone sight e in
     let bits = unless_type is_bits 27 (span_of e) a.ty in
     let own = and_then a.ty (λ t. Some bool_type) in
@@ -94,7 +94,7 @@ reduces span sight env f width (e ∷ []) (x ∷ []) k h fine =
     let g = alone_has sight env e x k.0 h p.0 s.reached in
     moved_to (types_at sight) (counting span (e ∷ []) (a ∷ []) (Some bool_type)) (and_then (x.value env) (λ v. reduced f (v ∷ []))) (with_both (Some []) (values_of (x ∷ []) env) (λ (ns vs : List DslxValue). reduced f vs)) (one_operand (x.value env) (λ (ns vs : List DslxValue). reduced f vs))
     (whole (types_at sight) sight.known span own (a.faults ++ bits) a.reached (one_and a.size) bool_type (and_then (x.value env) (λ v. reduced f (v ∷ []))) s (ap (λ o. and_then o (λ t. Some bool_type)) g.1)
-    (reducing_gives (types_at sight) span sight e (x.value env) f width (given (types_at sight) a (x.value env) g)))
+    (reducing_gives (types_at sight) span sight e (x.value env) f width within (given (types_at sight) a (x.value env) g)))
 
 -- ---- `update`
 
@@ -179,12 +179,12 @@ joins span sight env es xs k h fine =
 operands_alone : (kind : CallKind) (span : Span) (sight : Sight) (env : Env) (name : List ℕ) (es : List ExprPair) (xs : List Meant) → IsBuiltin kind → EachExprGives es xs → IsWellTyped sight env
     → IsFine sight.known (builtin_judged kind span es sight) → HasItsValue (types_at sight) (builtin_judged kind span es sight) (with_both (Some []) (values_of xs env) (call_meant kind name env))
 operands_alone Joins span sight env name es xs b k h fine = joins span sight env es xs k h fine
-operands_alone CountsLeading span sight env name es xs b k h fine = counts span sight env op.clz (λ w. refl) es xs k h fine
-operands_alone CountsTrailing span sight env name es xs b k h fine = counts span sight env op.ctz (λ w. refl) es xs k h fine
-operands_alone Reverses span sight env name es xs b k h fine = counts span sight env op.rev (λ w. refl) es xs k h fine
-operands_alone AllOnes span sight env name es xs b k h fine = reduces span sight env op.and_reduce (λ w. refl) es xs k h fine
-operands_alone SomeOne span sight env name es xs b k h fine = reduces span sight env op.or_reduce (λ w. refl) es xs k h fine
-operands_alone Parity span sight env name es xs b k h fine = reduces span sight env op.xor_reduce (λ w. refl) es xs k h fine
+operands_alone CountsLeading span sight env name es xs b k h fine = counts span sight env op.clz (λ w. refl) (λ w e. clz_lies w) es xs k h fine
+operands_alone CountsTrailing span sight env name es xs b k h fine = counts span sight env op.ctz (λ w. refl) (λ w e. ctz_lies w) es xs k h fine
+operands_alone Reverses span sight env name es xs b k h fine = counts span sight env op.rev (λ w. refl) (λ w e. rev_lies w) es xs k h fine
+operands_alone AllOnes span sight env name es xs b k h fine = reduces span sight env op.and_reduce (λ w. refl) (λ w e. and_reduce_lies w) es xs k h fine
+operands_alone SomeOne span sight env name es xs b k h fine = reduces span sight env op.or_reduce (λ w. refl) (λ w e. or_reduce_lies w) es xs k h fine
+operands_alone Parity span sight env name es xs b k h fine = reduces span sight env op.xor_reduce (λ w. refl) (λ w e. xor_reduce_lies w) es xs k h fine
 operands_alone Updates span sight env name es xs b k h fine = updates span sight env es xs k h fine
 operands_alone Receives span sight env name es xs b k h fine = absurd b
 operands_alone ReceivesIf span sight env name es xs b k h fine = absurd b

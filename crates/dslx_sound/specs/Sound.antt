@@ -1,24 +1,26 @@
 -- Parts of a text that have values of their types wherever they break nothing, and nothing that they reach does.
-use Rattle.std.specs.Prelude.{◌≡◌, List, [], ◌∷◌, true, false, Option, Some, None}
+use Rattle.std.specs.Prelude.{◌≡◌, ◌||◌, ℕ, nat_le, List, [], ◌∷◌, map, Bool, true, false, Option, Some, None}
 use Rattle.std.specs.List.{list_all}
 use Rattle.dslx_meaning.specs.Callees.{AllOnes, CallKind, CountsLeading, CountsTrailing, Joins, Parity, Reverses, SomeOne, Updates}
 use Rattle.dslx_meaning.specs.Lists.{and_then}
+use Rattle.dslx_meaning.specs.Types.{flat_bits}
 use Rattle.dslx_meaning.specs.Environment.{Env}
 use Rattle.dslx_meaning.specs.Meaning as m
-use Rattle.dslx_meaning.specs.Meaning.{Evaluates, FieldMeant, Going, Meant, PatternMeant, Typing}
-use Rattle.dslx_meaning.specs.declared.ty.DslxType.{DslxType}
+use Rattle.dslx_meaning.specs.Meaning.{ArmMeant, Evaluates, FieldMeant, Going, Meant, PatternMeant, Typing}
+use Rattle.dslx_meaning.specs.declared.ty.DslxType.{DslxType, out-DslxType}
 use Rattle.dslx_meaning.specs.declared.value.Bare.{Bare}
 use Rattle.dslx_meaning.specs.declared.value.DslxValue.{DslxValue}
-use Rattle.dslx_rules.specs.AggregateRules.{field_judged}
-use Rattle.dslx_rules.specs.ConstantRules.{constant_of}
-use Rattle.dslx_rules.specs.ControlRules.{block_alone}
-use Rattle.dslx_rules.specs.Judging.{ExprPair, Judgement, Judging, Sight, with_typed, within}
-use Rattle.dslx_rules.specs.Judgings.{BlockPair, FieldSeen, PatternPair, PatternSeen, SightJudging, StatementJudging, TypePair}
-use Rattle.dslx_rules.specs.PatternRules.{pattern_alone}
+use Rattle.dslx_rules.specs.AggregateRules.{field_judged, is_some_tuple}
+use Rattle.dslx_rules.specs.ConstantRules.{constant_of, is_empty}
+use Rattle.dslx_rules.specs.ControlRules.{arm_judged, arms_faults, arms_reached, block_alone, is_exhaustive}
+use Rattle.dslx_rules.specs.Judging.{ExprPair, Judgement, Judging, Sight, Typed, has_broken, with_typed, within}
+use Rattle.dslx_rules.specs.Judgings.{ArmSeen, BlockPair, FieldSeen, PatternJudging, PatternPair, PatternSeen, SightJudging, StatementJudging, TypePair}
+use Rattle.dslx_rules.specs.PatternRules.{is_there, pattern_alone}
 use Rattle.dslx_typed.specs.Complete.{IsFine}
 use Rattle.dslx_typed.specs.Declared.{Declarations}
 use Rattle.dslx_typed.specs.Given.{GivesOf, TypeMeans}
-use Rattle.dslx_typed.specs.WellTyped.{GoesOnTyped, IsWellTyped, types_at}
+use Rattle.dslx_sound.specs.Places.{EachPatternSeesAlike, IsFinePattern}
+use Rattle.dslx_typed.specs.WellTyped.{GoesOnTyped, IsWellTyped, PatternKeeps, comes_to_an_arm, types_at}
 
 -- a type, and a value of it
 abbrev pub HasItsValue : Declarations → Judgement → Option DslxValue → Type 0
@@ -90,6 +92,55 @@ EachFieldGives [] [] = Unit {0}
 EachFieldGives (f ∷ fs) (x ∷ xs) = FieldGives f x × EachFieldGives fs xs
 EachFieldGives [] (x ∷ xs) = ⊥
 EachFieldGives (f ∷ fs) [] = ⊥
+
+-- ---- patterns
+
+-- a pattern: behind it what is in sight is well typed, where it fits and as if it did
+pub record PatternGives (p : PatternJudging) (meaning : PatternMeant) : Type 0 where
+  pub keeps : PatternKeeps p meaning.fits
+  pub behind : (may_fail : Bool) (sight : Sight) (t : DslxType) (names : List (List ℕ)) (locals : List Typed) (env : Env) (v : DslxValue) → IsWellTyped (with_typed sight locals) env → GivesOf (types_at sight) t (Some v)
+      → has_broken (p may_fail sight (Some t) names locals).faults ≡ false → (inner : Env) × IsWellTyped (with_typed sight (p may_fail sight (Some t) names locals).locals) inner
+  -- all that it needs is known
+  pub known : (may_fail : Bool) (sight : Sight) (t : Option DslxType) (names : List (List ℕ)) (locals : List Typed) (env : Env) → IsWellTyped sight env → IsFinePattern sight (p may_fail sight t names locals)
+      → (p may_fail sight t names locals).is_known ≡ true
+  -- one whose names are all constants' binds nothing, and what it binds is among its names
+  pub plain : (may_fail : Bool) (sight : Sight) (t : Option DslxType) (names : List (List ℕ)) (locals : List Typed) → list_all sight.known.items.is_constant meaning.names ≡ true
+      → (p may_fail sight t names locals).locals ≡ locals
+  pub unbound : (may_fail : Bool) (sight : Sight) (t : Option DslxType) (names : List (List ℕ)) (locals : List Typed) → is_empty (p may_fail sight t names locals).names ≡ true
+      → ((p may_fail sight t names locals).locals ≡ locals) × (is_empty names ≡ true)
+  -- against what is no tuple it binds nothing, or it fits
+  pub whole : (may_fail : Bool) (sight : Sight) (t : DslxType) (names : List (List ℕ)) (locals : List Typed) (env : Env) (v : DslxValue) → is_some_tuple (out-DslxType t) ≡ false → IsWellTyped (with_typed sight locals) env
+      → has_broken (p may_fail sight (Some t) names locals).faults ≡ false → (list_all sight.known.items.is_constant meaning.names || is_there (meaning.fits v env)) ≡ true
+
+abbrev pub EachPatternGives : List PatternPair → List PatternMeant → Type 0
+EachPatternGives [] [] = Unit {0}
+EachPatternGives (p ∷ ps) (x ∷ xs) = PatternGives p.1 x × EachPatternGives ps xs
+EachPatternGives [] (x ∷ xs) = ⊥
+EachPatternGives (p ∷ ps) [] = ⊥
+
+-- an arm: its patterns, and its value behind them
+pub record ArmHasValue (a : ArmSeen) (m : ArmMeant) : Type 0 where
+  pub patterns : EachPatternGives a.patterns m.patterns
+  pub alike : EachPatternSeesAlike a.patterns m.patterns
+  pub meaning : Meant
+  pub value : ExprGives a.value meaning
+  pub is : m.value ≡ meaning.value
+
+abbrev pub EachArmHasValue : List ArmSeen → List ArmMeant → Type 0
+EachArmHasValue [] [] = Unit {0}
+EachArmHasValue (a ∷ as') (x ∷ xs) = ArmHasValue a x × EachArmHasValue as' xs
+EachArmHasValue [] (x ∷ xs) = ⊥
+EachArmHasValue (a ∷ as') [] = ⊥
+
+-- a value of a tuple of at most 8 bits comes to an arm, where each word of its type is matched
+abbrev pub NarrowComes : Sight → Env → DslxType → List ArmSeen → List ArmMeant → DslxValue → Type 0
+NarrowComes sight env t arms ms v = is_some_tuple (out-DslxType t) ≡ true → nat_le (flat_bits t) 8 ≡ true → is_exhaustive sight (map (arm_judged sight (Some t)) arms) t ≡ true → comes_to_an_arm ms v env ≡ true
+
+-- so does each value of its type, in each place
+abbrev pub NarrowMatchesCome : Type 0
+NarrowMatchesCome = (sight : Sight) (env : Env) (t : DslxType) (arms : List ArmSeen) (ms : List ArmMeant) (v : DslxValue) → IsWellTyped sight env → EachArmHasValue arms ms
+    → arms_faults (map (arm_judged sight (Some t)) arms) ≡ [] → list_all sight.known.is_sound (arms_reached (map (arm_judged sight (Some t)) arms)) ≡ true → GivesOf (types_at sight) t (Some v)
+    → NarrowComes sight env t arms ms v
 
 -- ---- constants, loops and calls
 

@@ -2,6 +2,8 @@
 pub mod OfTypes
 -- what judgements say
 pub mod Judged
+-- numbers that lie in their width
+pub mod OfWords
 -- operators, casts and slices
 pub mod OfOperators
 -- declared types of one name

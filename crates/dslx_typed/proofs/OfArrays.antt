@@ -30,6 +30,7 @@ use Rattle.dslx_typed.specs.Declared.{Declarations, IsDeclared, AllDeclared}
 use Rattle.dslx_typed.specs.Given.{GivesOf, GivesItsType, EachGives, MeansThere, EachMeans}
 use Rattle.dslx_typed.proofs.Judged.{none_some, same_some, unbroken_parts, three_unbroken, rule_holds, test_holds, not_false, settled_type}
 use Rattle.dslx_typed.proofs.OfTypes.{of_array, bits_of_width}
+use Rattle.dslx_typed.proofs.OfWords.{number_lies}
 use Rattle.dslx_typed.proofs.OneName.{list_parts, one_of_text, array_declared, element_declared}
 use Rattle.dslx_typed.proofs.OfLists.{when_all_type, AllGiven, all_alone_given, element_types, all_with_first, behind_first}
 use Rattle.dslx_typed.proofs.OfAggregates.{array_with}
@@ -151,7 +152,7 @@ number_given types t number e d = by_kind (bits_in t) refl e
     in_kind k q own (Some x) r h = record {
       value = value.Bits k.signed x;
       is = ap (λ o. number_in o number) q ∙ ap (λ o. and_then o (λ w. Some (value.Bits k.signed w))) r;
-      of = ap (λ u. is_of u (value.Bits k.signed x)) own ∙ bits_of_width k.signed x k.width (range_width k number x r);
+      of = ap (λ u. is_of u (value.Bits k.signed x)) own ∙ bits_of_width k.signed x k.width (range_width k number x r) (number_lies k number x r);
       declared = d;
     }
 

@@ -22,7 +22,7 @@ use Rattle.dslx_rules.specs.OperatorRules.{is_bits, unless_type}
 use Rattle.dslx_rules.specs.AggregateRules.{is_array, array_in, element_type}
 use Rattle.dslx_rules.specs.CallRules.{counting}
 use Rattle.dslx_laws.proofs.Lemmas.{and_true, is_bits_type, is_unsigned_value}
-use Rattle.dslx_typed.specs.Kinds.{is_of}
+use Rattle.dslx_typed.specs.Kinds.{is_of, lies_in}
 use Rattle.dslx_typed.specs.Declared.{Declarations, IsDeclared}
 use Rattle.dslx_typed.specs.Given.{GivesOf, GivesItsType}
 use Rattle.dslx_typed.proofs.Judged.{same_some, unbroken_parts, test_holds, settled_type}
@@ -36,22 +36,22 @@ use Rattle.dslx_typed.proofs.OfArrays.{elements_are}
 
 -- an operand that is bits
 abbrev pub BitsGiven : DslxType → Option DslxValue → Type 0
-BitsGiven k x = (b : BitKind) × (w : Word) × (k ≡ ty.Bits b.signed b.width) × (and_then x bits_of ≡ Some (record { signed = b.signed; word = w })) × (w.width ≡ b.width)
+BitsGiven k x = (b : BitKind) × (w : Word) × (k ≡ ty.Bits b.signed b.width) × (and_then x bits_of ≡ Some (record { signed = b.signed; word = w })) × (w.width ≡ b.width) × (lies_in w ≡ true)
 
 pub bits_given : (types : Declarations) (k : DslxType) (x : Option DslxValue) → GivesOf types k x → is_bits k ≡ true → BitsGiven k x
 bits_given types k x g e =
     let b = is_bits_type k e in
     let u = is_bits_of b.0.signed b.0.width g.value (ap (λ a. is_of a g.value) (sym b.1) ∙ g.of) in
-    (b.0, u.0, b.1, ap (λ o. and_then o bits_of) g.is ∙ ap signed_step u.1, u.2)
+    (b.0, u.0, b.1, ap (λ o. and_then o bits_of) g.is ∙ ap signed_step u.1, u.2, u.3)
 
 -- the bits of a value, put to a use
 pub of_its_bits : {A : Type 0} (x : Option DslxValue) (f : SignedWord → Option A) → and_then x (λ v. and_then (bits_of v) f) ≡ and_then (and_then x bits_of) f
 of_its_bits None f = refl
 of_its_bits (Some v) f = refl
 
-pub counting_gives : (types : Declarations) (span : Span) (sight : Sight) (e : ExprPair) (x : Option DslxValue) (f : Word → Word) → ((w : Word) → (f w).width ≡ w.width)
+pub counting_gives : (types : Declarations) (span : Span) (sight : Sight) (e : ExprPair) (x : Option DslxValue) (f : Word → Word) → ((w : Word) → (f w).width ≡ w.width) → ((w : Word) → lies_in w ≡ true → lies_in (f w) ≡ true)
     → GivesItsType types (alone sight e) x → GivesItsType types (counting span (e ∷ []) (alone sight e ∷ []) (alone sight e).ty) (and_then x (λ v. counted f (v ∷ [])))
-counting_gives types span sight e x f width gives t h =
+counting_gives types span sight e x f width within gives t h =
     let a = alone sight e in
     let s = settled_type (and_then a.ty (λ t. a.ty)) (a.faults ++ unless_type is_bits 27 (span_of e) a.ty) t h in
     let q = and_then_type a.ty (λ t. a.ty) t s.1 in
@@ -61,13 +61,13 @@ counting_gives types span sight e x f width gives t h =
     record {
       value = value.Bits b.0.signed (f b.1);
       is = of_its_bits x (λ y. Some (value.Bits y.signed (f y.word))) ∙ ap (λ o. and_then o (λ y. Some (value.Bits y.signed (f y.word)))) b.3;
-      of = ap (λ u. is_of u (value.Bits b.0.signed (f b.1))) b.2 ∙ bits_of_width b.0.signed (f b.1) b.0.width (width b.1 ∙ b.4);
+      of = ap (λ u. is_of u (value.Bits b.0.signed (f b.1))) b.2 ∙ bits_of_width b.0.signed (f b.1) b.0.width (width b.1 ∙ b.4) (within b.1 b.5);
       declared = g.declared;
     }
 
-pub reducing_gives : (types : Declarations) (span : Span) (sight : Sight) (e : ExprPair) (x : Option DslxValue) (f : Word → Word) → ((w : Word) → (f w).width ≡ 1)
+pub reducing_gives : (types : Declarations) (span : Span) (sight : Sight) (e : ExprPair) (x : Option DslxValue) (f : Word → Word) → ((w : Word) → (f w).width ≡ 1) → ((w : Word) → lies_in w ≡ true → lies_in (f w) ≡ true)
     → GivesItsType types (alone sight e) x → GivesItsType types (counting span (e ∷ []) (alone sight e ∷ []) (Some bool_type)) (and_then x (λ v. reduced f (v ∷ [])))
-reducing_gives types span sight e x f width gives t h =
+reducing_gives types span sight e x f width within gives t h =
     let a = alone sight e in
     let s = settled_type (and_then a.ty (λ t. Some bool_type)) (a.faults ++ unless_type is_bits 27 (span_of e) a.ty) t h in
     let q = and_then_type a.ty (λ t. Some bool_type) t s.1 in
@@ -77,7 +77,7 @@ reducing_gives types span sight e x f width gives t h =
     record {
       value = value.Bits false (f b.1);
       is = of_its_bits x (λ y. Some (value.Bits false (f y.word))) ∙ ap (λ o. and_then o (λ y. Some (value.Bits false (f y.word)))) b.3;
-      of = ap (λ u. is_of u (value.Bits false (f b.1))) (sym own) ∙ bits_of_width false (f b.1) 1 (width b.1);
+      of = ap (λ u. is_of u (value.Bits false (f b.1))) (sym own) ∙ bits_of_width false (f b.1) 1 (width b.1) (within b.1 b.5);
       declared = subst (IsDeclared types) own (bits_declared types false 1);
     }
 

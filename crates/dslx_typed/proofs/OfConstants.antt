@@ -29,7 +29,7 @@ use Rattle.dslx_typed.proofs.Judged.{none_some, or_false}
 -- ---- names that constants see
 
 -- of the number parameters that no local hides
-shown : (locals : List Typed) (numbers : List Given) (name : List ℕ) → is_in name (map (λ (l : Typed). l.name) locals) ≡ false → given_in name (unhidden locals numbers) ≡ given_in name numbers
+pub shown : (locals : List Typed) (numbers : List Given) (name : List ℕ) → is_in name (map (λ (l : Typed). l.name) locals) ≡ false → given_in name (unhidden locals numbers) ≡ given_in name numbers
 shown locals [] name e = refl
 shown locals (g ∷ gs) name e = by_hidden (is_in g.name (map (λ (l : Typed). l.name) locals)) refl (shown locals gs name e)
   where
@@ -47,7 +47,7 @@ shown locals (g ∷ gs) name e = by_hidden (is_in g.name (map (λ (l : Typed). l
     by_hidden false q rest = ap (λ o. if bytes_eq name g.name then Some g.value else o) rest
 
 -- what no number parameter is, no shown one is
-none_shown : (locals : List Typed) (numbers : List Given) (name : List ℕ) → given_in name numbers ≡ None → given_in name (unhidden locals numbers) ≡ None
+pub none_shown : (locals : List Typed) (numbers : List Given) (name : List ℕ) → given_in name numbers ≡ None → given_in name (unhidden locals numbers) ≡ None
 none_shown locals [] name e = refl
 none_shown locals (g ∷ gs) name e = by_name (bytes_eq name g.name) refl e (none_shown locals gs name)
   where

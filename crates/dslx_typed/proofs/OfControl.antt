@@ -24,12 +24,13 @@ use Rattle.dslx_rules.specs.OperatorRules.{is_bits, is_bool, one_bit_type, unles
 use Rattle.dslx_rules.specs.PatternRules.{pattern_alone}
 use Rattle.dslx_rules.specs.ControlRules.{block_alone, if_judged, statements_judged, last_judged, behind, bound_type, annotation_faults, let_with}
 use Rattle.dslx_laws.proofs.Lemmas.{and_true, is_bits_type}
-use Rattle.dslx_typed.specs.Kinds.{is_of, tuple_of}
+use Rattle.dslx_typed.specs.Kinds.{is_of, lies_in, tuple_of}
 use Rattle.dslx_typed.specs.Declared.{Declarations, IsDeclared}
 use Rattle.dslx_typed.specs.Given.{GivesOf, GivesItsType, TurnGives}
 use Rattle.dslx_typed.specs.WellTyped.{types_at, IsWellTyped, FitsOrFails, Fits, Fails, PatternKeeps, GoesOnTyped, StatementKeeps, AllKeep, LastGives}
 use Rattle.dslx_typed.proofs.Judged.{none_some, same_some, unbroken_parts, three_unbroken, test_holds, settled_type}
 use Rattle.dslx_typed.proofs.OfTypes.{is_bits_of, of_tuple, bits_of_width}
+use Rattle.dslx_typed.proofs.OfWords.{next_lies}
 use Rattle.dslx_typed.proofs.OfOperators.{bits_declared}
 use Rattle.dslx_typed.proofs.OneName.{one_of_text, tuple_declared}
 use Rattle.dslx_typed.proofs.OfAggregates.{and_then_type}
@@ -158,12 +159,12 @@ bare_keeps sight e m t value own env h =
 
 -- ---- for
 
-turns_given : (s : Bool) (w : ℕ) (t : DslxType) (body : DslxValue → DslxValue → Option DslxValue) → TurnGives (ty.Bits s w) t body → (n : ℕ) (i : Word) (acc : DslxValue) → i.width ≡ w → is_of t acc ≡ true
+turns_given : (s : Bool) (w : ℕ) (t : DslxType) (body : DslxValue → DslxValue → Option DslxValue) → TurnGives (ty.Bits s w) t body → (n : ℕ) (i : Word) (acc : DslxValue) → i.width ≡ w → lies_in i ≡ true → is_of t acc ≡ true
     → (r : DslxValue) × (turns_from body s n i acc ≡ Some r) × (is_of t r ≡ true)
-turns_given s w t body gives zero i acc width own = (acc, refl, own)
-turns_given s w t body gives (suc n) i acc width own =
-    let one = gives (value.Bits s i) acc (bits_of_width s i w width) own in
-    let more = turns_given s w t body gives n (op.add i (word i.width 1)) one.0 width one.2 in
+turns_given s w t body gives zero i acc width within own = (acc, refl, own)
+turns_given s w t body gives (suc n) i acc width within own =
+    let one = gives (value.Bits s i) acc (bits_of_width s i w width within) own in
+    let more = turns_given s w t body gives n (op.add i (word i.width 1)) one.0 width (next_lies i) one.2 in
     (more.0, ap (λ o. and_then o (turns_from body s n (op.add i (word i.width 1)))) one.1 ∙ more.1, more.2)
 
 -- a loop over a range of one type of bits
@@ -176,18 +177,18 @@ loop_gives types k l t x y z body gx gy one gz turn =
     let same = one_of_text types k l q.1 gx.declared gy.declared in
     let u = is_bits_of b.0.signed b.0.width gx.value (ap (λ a. is_of a gx.value) (sym b.1) ∙ gx.of) in
     let v = is_bits_of b.0.signed b.0.width gy.value (ap (λ a. is_of a gy.value) (sym b.1 ∙ same) ∙ gy.of) in
-    ranged b.0 u.0 v.0 b.1 (ap (λ o. and_then o bits_of) gx.is ∙ ap signed_step u.1) (ap (λ o. and_then o bits_of) gy.is ∙ ap signed_step v.1) u.2 v.2
+    ranged b.0 u.0 v.0 b.1 (ap (λ o. and_then o bits_of) gx.is ∙ ap signed_step u.1) (ap (λ o. and_then o bits_of) gy.is ∙ ap signed_step v.1) u.2 v.2 u.3
   where
     alike : (s : Bool) (m n w : ℕ) → m ≡ w → n ≡ w → (same_bool s s && m == n) ≡ true
     alike true m n w p q = (Decides-eqb m n).1 (p ∙ sym q)
     alike false m n w p q = (Decides-eqb m n).1 (p ∙ sym q)
 
     ranged : (b : BitKind) (a c : Word) → k ≡ ty.Bits b.signed b.width → and_then x bits_of ≡ Some (record { signed = b.signed; word = a }) → and_then y bits_of ≡ Some (record { signed = b.signed; word = c })
-        → a.width ≡ b.width → c.width ≡ b.width → GivesOf types t (and_then z (λ start. with_both (and_then x bits_of) (and_then y bits_of) (loop_over body start)))
-    ranged b a c own ex ey wa wc =
+        → a.width ≡ b.width → c.width ≡ b.width → lies_in a ≡ true → GivesOf types t (and_then z (λ start. with_both (and_then x bits_of) (and_then y bits_of) (loop_over body start)))
+    ranged b a c own ex ey wa wc within =
         let first : SignedWord = record { signed = b.signed; word = a } in
         let last : SignedWord = record { signed = b.signed; word = c } in
-        let r = turns_given b.signed b.width t body (subst (λ u. TurnGives u t body) own turn) (turn_count first last) a gz.value wa gz.of in
+        let r = turns_given b.signed b.width t body (subst (λ u. TurnGives u t body) own turn) (turn_count first last) a gz.value wa within gz.of in
         record {
           value = r.0;
           is = (λ i. and_then (gz.is i) (λ start. with_both (ex i) (ey i) (loop_over body start)))

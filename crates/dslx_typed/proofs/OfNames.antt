@@ -77,8 +77,8 @@ member_gives span sight e a env h t k = by_enum (as_enum (item_named e.name sigh
 -- ---- literals
 
 pub bool_given : (types : Declarations) (b : Bool) → GivesOf types bool_type (Some (bool_value b))
-bool_given types true = record { value = bool_value true; is = refl; of = bits_of_width false (word 1 1) 1 refl; declared = bits_declared types false 1 }
-bool_given types false = record { value = bool_value false; is = refl; of = bits_of_width false (word 1 0) 1 refl; declared = bits_declared types false 1 }
+bool_given types true = record { value = bool_value true; is = refl; of = bits_of_width false (word 1 1) 1 refl refl; declared = bits_declared types false 1 }
+bool_given types false = record { value = bool_value false; is = refl; of = bits_of_width false (word 1 0) 1 refl refl; declared = bits_declared types false 1 }
 
 pub bool_gives : (types : Declarations) (span : Span) (b : Bool) → GivesItsType types (settled span (Some bool_type) [] [] (Some 1)) (Some (bool_value b))
 bool_gives types span b t e = moved types bool_type t _ _ (same_some bool_type t (settled_type (Some bool_type) [] t e).1) refl (bool_given types b)

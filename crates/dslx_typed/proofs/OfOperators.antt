@@ -8,7 +8,7 @@ use Rattle.dslx_tree.specs.declared.operator.Binary.TheVariants as b
 use Rattle.dslx_tree.specs.declared.operator.Prefix.{Prefix}
 use Rattle.dslx_meaning.specs.Lists.{and_then, with_both}
 use Rattle.dslx_meaning.specs.Types.{same_type, bits_in, bits_step, bool_type}
-use Rattle.dslx_meaning.specs.Values.{type_of_value}
+use Rattle.dslx_meaning.specs.Values.{bits_of, signed_step, type_of_value}
 use Rattle.dslx_meaning.specs.Operators.{binary_value, prefix_value, cast_value}
 use Rattle.dslx_meaning.specs.declared.ty.BitKind.{BitKind}
 use Rattle.dslx_meaning.specs.declared.ty.DslxType.{DslxType}
@@ -18,16 +18,19 @@ use Rattle.dslx_meaning.specs.declared.ty.DslxType.TheViews as type_views
 use Rattle.dslx_meaning.specs.declared.ty.DslxType.TheOpen.{DslxType-F}
 use Rattle.dslx_meaning.specs.declared.ty.DslxType.TheFolds.{fold-roll-DslxType}
 use Rattle.dslx_meaning.specs.declared.value.DslxValue.{DslxValue}
+use Rattle.dslx_meaning.specs.declared.value.DslxValue.TheViews as views
+use Rattle.dslx_meaning.specs.declared.value.SignedWord.{SignedWord}
 use Rattle.dslx_rules.specs.Judging.{Sight, Judgement, ExprPair, has_broken, span_of, alone}
 use Rattle.dslx_rules.specs.ConstantRules.{is_unsigned, is_unsigned_kind}
 use Rattle.dslx_rules.specs.PatternRules.{is_there}
 use Rattle.dslx_rules.specs.OperatorRules.{is_bits, is_bits_or_enum, is_bool, one_bit_type, one_unsigned_type, one_comparable_type, binary_faults, binary_type, binary_judged, prefix_judged, cast_judged, unless_type}
 use Rattle.dslx_laws.proofs.Lemmas.{and_true, unbroken, both_unbroken, is_bits_value, is_bits_type, binary_typed, prefix_typed, cast_typed}
-use Rattle.dslx_typed.specs.Kinds.{is_of}
+use Rattle.dslx_typed.specs.Kinds.{is_of, lies_in}
 use Rattle.dslx_typed.specs.Declared.{Declarations, IsDeclared, as_declared, declared_step}
 use Rattle.dslx_typed.specs.Given.{GivesOf, GivesItsType}
 use Rattle.dslx_typed.proofs.Judged.{none_some, same_some, mapped_from, unbroken_parts, three_unbroken, no_fault, no_two_faults, test_holds, settled_type}
-use Rattle.dslx_typed.proofs.OfTypes.{one_type, own_bits}
+use Rattle.dslx_typed.proofs.OfTypes.{base_lies, bits_lie, one_type, own_bits}
+use Rattle.dslx_typed.proofs.OfWords.{BitsLie, MadeBits, binary_made, cast_made, in_range, lies, prefix_made}
 
 -- ---- bits
 
@@ -44,19 +47,28 @@ unsigned_bits t e = by_kind (bits_in t) e
 pub bits_declared : (types : Declarations) (s : Bool) (w : ℕ) → IsDeclared types (ty.Bits s w)
 bits_declared types s w = ap (as_declared types) (sym (type_rolls.rolls-Bits s w)) ∙ fold-roll-DslxType DslxType (declared_step types) (DslxType-F.Bits s w)
 
+-- bits that are made lie in their width
+made_lie : (v : DslxValue) → MadeBits v → (x : SignedWord) → bits_of v ≡ Some x → lies_in x.word ≡ true
+made_lie v made x e =
+    ap (λ (y : SignedWord). lies_in y.word) (same_some x made.0 (sym e ∙ ap bits_of made.1 ∙ ap signed_step (views.outs-Bits made.0.signed made.0.word))) ∙ lies made.0.word made.2
+
+-- those of a value of a type do
+own_lie : (t : DslxType) (v : DslxValue) → is_of t v ≡ true → BitsLie v
+own_lie t v of x e = in_range x.word (bits_lie t v x of e)
+
 -- what has a type that is bits
-pub gives_bits : (types : Declarations) (t : DslxType) (o : Option DslxValue) (v : DslxValue) → o ≡ Some v → type_of_value v ≡ t → is_bits t ≡ true → GivesOf types t o
-gives_bits types t o v is e h =
+pub gives_bits : (types : Declarations) (t : DslxType) (o : Option DslxValue) (v : DslxValue) → o ≡ Some v → type_of_value v ≡ t → is_bits t ≡ true → MadeBits v → GivesOf types t o
+gives_bits types t o v is e h made =
     let k = is_bits_type t h in
     record { value = v; is = is; of = of_its_bits k.0 (e ∙ k.1); declared = subst (IsDeclared types) (sym k.1) (bits_declared types k.0.signed k.0.width) }
   where
     of_its_bits : (k : BitKind) → type_of_value v ≡ ty.Bits k.signed k.width → is_of t v ≡ true
     of_its_bits k q =
         let x = is_bits_value v (ap is_bits q ∙ bits_are_bits k.signed k.width) in
-        subst (λ u. is_of u v ≡ true) e (own_bits v x.0 x.1)
+        subst (λ u. is_of u v ≡ true) e (own_bits v x.0 x.1 (made_lie v made x.0 x.1.0))
 
-gives_typed : (types : Declarations) (t : DslxType) (o : Option DslxValue) → option_map type_of_value o ≡ Some t → is_bits t ≡ true → GivesOf types t o
-gives_typed types t o e h = let q = mapped_from type_of_value o t e in gives_bits types t o q.0 q.1 q.2 h
+gives_typed : (types : Declarations) (t : DslxType) (o : Option DslxValue) → option_map type_of_value o ≡ Some t → is_bits t ≡ true → ((v : DslxValue) → o ≡ Some v → MadeBits v) → GivesOf types t o
+gives_typed types t o e h made = let q = mapped_from type_of_value o t e in gives_bits types t o q.0 q.1 q.2 h (made q.0 q.1)
 
 -- ---- binary operators
 
@@ -163,11 +175,11 @@ binary_gives types span sight o l r x y p q t e =
     let k = both_typed o a.ty c.ty t s.1 in
     let u = p k.0 k.2 in
     let w = q k.1 k.3 in
-    operated a.ty c.ty k.0 k.1 k.2 k.3 u.value w.value (one_type k.0 u.value u.of) (one_type k.1 w.value w.of) h.2 s.1 u.is w.is
+    operated a.ty c.ty k.0 k.1 k.2 k.3 u.value w.value (one_type k.0 u.value u.of) (one_type k.1 w.value w.of) (own_lie k.0 u.value u.of) (own_lie k.1 w.value w.of) h.2 s.1 u.is w.is
   where
-    operated : (m n : Option DslxType) (tu tw : DslxType) → m ≡ Some tu → n ≡ Some tw → (v z : DslxValue) → type_of_value v ≡ tu → type_of_value z ≡ tw
+    operated : (m n : Option DslxType) (tu tw : DslxType) → m ≡ Some tu → n ≡ Some tw → (v z : DslxValue) → type_of_value v ≡ tu → type_of_value z ≡ tw → BitsLie v → BitsLie z
         → has_broken (binary_faults o span (span_of l) m (span_of r) n) ≡ false → binary_type o m n ≡ Some t → x ≡ Some v → y ≡ Some z → GivesOf types t (with_both x y (binary_value o))
-    operated m n tu tw em en v z ev ez faults typed ex ey =
+    operated m n tu tw em en v z ev ez lv lz faults typed ex ey =
         let mv = em ∙ ap Some (sym ev) in
         let nz = en ∙ ap Some (sym ez) in
         let none = no_binary_faults o span (span_of l) (span_of r) (type_of_value v) (type_of_value z)
@@ -176,6 +188,7 @@ binary_gives types span sight o l r x y p q t e =
         gives_typed types t (with_both x y (binary_value o))
         ((λ i. option_map type_of_value (with_both (ex i) (ey i) (binary_value o))) ∙ binary_typed o span (span_of l) (span_of r) v z none ∙ its)
         (binary_bits o span (span_of l) (span_of r) (type_of_value v) (type_of_value z) t none its)
+        (λ r e. binary_made o v z r lv lz ((λ i. with_both (sym ex i) (sym ey i) (binary_value o)) ∙ e))
 
 -- ---- unary operators and casts
 
@@ -190,6 +203,7 @@ prefix_gives types span sight o e x p t h =
     let own = one_type t v.value v.of in
     gives_typed types t (and_then x (prefix_value o))
     (ap (λ m. option_map type_of_value (and_then m (prefix_value o))) v.is ∙ prefix_typed o v.value (ap is_bits own ∙ bits) ∙ ap Some own) bits
+    (λ r e. prefix_made o v.value r (own_lie t v.value v.of) (ap (λ m. and_then m (prefix_value o)) (sym v.is) ∙ e))
 
 pub cast_gives : (types : Declarations) (span : Span) (sight : Sight) (e : ExprPair) (target : Judgement) (x : Option DslxValue) (u : Option DslxType)
     → GivesItsType types (alone sight e) x → ((t : DslxType) → target.ty ≡ Some t → u ≡ Some t) → GivesItsType types (cast_judged span sight e target) (with_both u x cast_value)
@@ -210,3 +224,4 @@ cast_gives types span sight e target x u p q t h =
         gives_typed types t (with_both u x cast_value)
         ((λ i. option_map type_of_value (with_both (q t typed i) (v.is i) cast_value))
         ∙ cast_typed t v.value is (ap is_bits_or_enum own ∙ test_holds (is_bits_or_enum k) 20 span based)) is
+        (λ r e. cast_made t v.value r (λ x b. in_range x.word (base_lies k v.value x v.of b)) ((λ i. with_both (sym (q t typed) i) (sym v.is i) cast_value) ∙ e))

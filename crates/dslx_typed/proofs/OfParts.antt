@@ -30,6 +30,7 @@ use Rattle.dslx_typed.specs.Declared.{Declarations, IsDeclared, AllDeclared, Dec
 use Rattle.dslx_typed.specs.Given.{GivesOf, GivesItsType}
 use Rattle.dslx_typed.proofs.Judged.{none_some, same_some, or_false, not_false, unbroken_parts, three_unbroken, rule_holds, test_holds, settled_type}
 use Rattle.dslx_typed.proofs.OfTypes.{one_type, is_struct_of, bits_of_width}
+use Rattle.dslx_typed.proofs.OfWords.{dyn_slice_lies, slice_lies}
 use Rattle.dslx_typed.proofs.OfOperators.{bits_declared, unsigned_bits}
 use Rattle.dslx_typed.proofs.OneName.{fields_declared}
 use Rattle.dslx_typed.proofs.OfAggregates.{and_then_type, part_of}
@@ -77,7 +78,7 @@ slice_gives types span sight e a c x m n gives first last t h =
           value = made;
           is = (λ d. and_then x (λ v. with_both (em d) (en d) (slice_value v))) ∙ of_its_bits x (slice_word i j) ∙ ap (λ o. and_then o (slice_word i j)) b.3
               ∙ ap (λ p. where_true p (Some made)) range;
-          of = ap (λ u. is_of u made) (sym own) ∙ bits_of_width false (op.slice b.1 i (j - i)) (j - i) refl;
+          of = ap (λ u. is_of u made) (sym own) ∙ bits_of_width false (op.slice b.1 i (j - i)) (j - i) refl (slice_lies b.1 i (j - i));
           declared = subst (IsDeclared types) own (bits_declared types false (j - i));
         }
 
@@ -124,7 +125,7 @@ part_gives types span sight e i target x y u gives starts written t h =
               ∙ ap (λ s. where_true (not s) (part_value gw.value gk.value d.0.width)) sign
               ∙ (λ j. with_both (bits_there j) (amount_in (n.1.0 j)) (λ x k. Some (value.Bits false (op.dyn_slice x.word k d.0.width))))
               ∙ ap (λ s. with_both (Some (record { signed = b.0.signed; word = b.1 })) (if s then None else (Some n.0.word)) (λ (x : SignedWord) (k : Word). Some (value.Bits false (op.dyn_slice x.word k d.0.width)))) n.2;
-          of = ap (λ v. is_of v made) (d.1 ∙ ap (λ s. ty.Bits s d.0.width) sign) ∙ bits_of_width false (op.dyn_slice b.1 n.0.word d.0.width) d.0.width refl;
+          of = ap (λ v. is_of v made) (d.1 ∙ ap (λ s. ty.Bits s d.0.width) sign) ∙ bits_of_width false (op.dyn_slice b.1 n.0.word d.0.width) d.0.width refl (dyn_slice_lies b.1 n.0.word d.0.width);
           declared = subst (IsDeclared types) (sym d.1) (bits_declared types d.0.signed d.0.width);
         }
 

@@ -8,7 +8,7 @@ use Rattle.std.proofs.lemmas.Slice.Eq.{bytes_eq-Decides}
 use Rattle.xb_bits.specs.Word.{Word}
 use Rattle.xb_value.proofs.Lemmas.Types.{EachHas}
 use Rattle.dslx_meaning.specs.Types.{same_bool}
-use Rattle.dslx_meaning.specs.Values.{type_of_value, type_step, array_type, bits_of, signed_step}
+use Rattle.dslx_meaning.specs.Values.{type_of_value, type_step, array_type, based_bits, based_step, bits_of, signed_step}
 use Rattle.dslx_meaning.specs.declared.ty.DslxType.{DslxType}
 use Rattle.dslx_meaning.specs.declared.ty.DslxType as ty
 use Rattle.dslx_meaning.specs.declared.ty.DslxType.TheVariants as type_rolls
@@ -24,7 +24,7 @@ use Rattle.dslx_meaning.specs.declared.value.SignedWord.{SignedWord}
 use Rattle.dslx_rules.specs.ConstantRules.{is_zero}
 use Rattle.dslx_laws.proofs.Lemmas.{and_true, AreBits}
 use Rattle.dslx_typed.proofs.Judged.{none_some, same_some}
-use Rattle.dslx_typed.specs.Kinds.{each_of, bits_of_kind, tuple_of, elements_all_of, same_names, struct_of, enum_of_kind, is_some_token, is_of_step, is_of}
+use Rattle.dslx_typed.specs.Kinds.{lies_in, each_of, bits_of_kind, tuple_of, elements_all_of, same_names, struct_of, enum_of_kind, is_some_token, is_of_step, is_of}
 
 -- ---- induction on types
 
@@ -90,13 +90,14 @@ one_list (n ∷ ns) (m ∷ ms) e = let q = and_true (bytes_eq n m) (same_names n
 rebuilt : (v : DslxValue) (l : DslxValue-F DslxValue) → out-DslxValue v ≡ l → v ≡ views.roll-DslxValue l
 rebuilt v l e = sym (views.roll-out-DslxValue v) ∙ ap views.roll-DslxValue e
 
-pub is_bits_of : (s : Bool) (w : ℕ) (v : DslxValue) → is_of (ty.Bits s w) v ≡ true → (x : Word) × (out-DslxValue v ≡ DslxValue-F.Bits s x) × (x.width ≡ w)
+pub is_bits_of : (s : Bool) (w : ℕ) (v : DslxValue) → is_of (ty.Bits s w) v ≡ true → (x : Word) × (out-DslxValue v ≡ DslxValue-F.Bits s x) × (x.width ≡ w) × (lies_in x ≡ true)
 is_bits_of s w v e = by_level (out-DslxValue v) refl (sym (of_bits s w v) ∙ e)
   where
-    by_level : (l : DslxValue-F DslxValue) → out-DslxValue v ≡ l → bits_of_kind s w l ≡ true → (x : Word) × (out-DslxValue v ≡ DslxValue-F.Bits s x) × (x.width ≡ w)
+    by_level : (l : DslxValue-F DslxValue) → out-DslxValue v ≡ l → bits_of_kind s w l ≡ true → (x : Word) × (out-DslxValue v ≡ DslxValue-F.Bits s x) × (x.width ≡ w) × (lies_in x ≡ true)
     by_level (DslxValue-F.Bits s' x) q h =
-        let r = and_true (same_bool s s') (w == x.width) h in
-        (x, q ∙ ap (λ b. DslxValue-F.Bits b x) (sym (one_bool s s' r.0)), sym (one_number w x.width r.1))
+        let k = and_true (same_bool s s' && w == x.width) (lies_in x) h in
+        let r = and_true (same_bool s s') (w == x.width) k.0 in
+        (x, q ∙ ap (λ b. DslxValue-F.Bits b x) (sym (one_bool s s' r.0)), sym (one_number w x.width r.1), k.1)
     by_level (DslxValue-F.Tuple vs) q h = absurd (true≢false (sym h))
     by_level (DslxValue-F.Array vs) q h = absurd (true≢false (sym h))
     by_level (DslxValue-F.Struct name fields vs) q h = absurd (true≢false (sym h))
@@ -151,14 +152,15 @@ is_struct_of name fields ts v e = by_level (out-DslxValue v) refl (sym (of_struc
     by_level (DslxValue-F.Enum name' s x) q h = absurd (true≢false (sym h))
     by_level DslxValue-F.Token q h = absurd (true≢false (sym h))
 
-pub is_enum_of : (name : List ℕ) (s : Bool) (w : ℕ) (v : DslxValue) → is_of (ty.Enum name s w) v ≡ true → (x : Word) × (out-DslxValue v ≡ DslxValue-F.Enum name s x) × (x.width ≡ w)
+pub is_enum_of : (name : List ℕ) (s : Bool) (w : ℕ) (v : DslxValue) → is_of (ty.Enum name s w) v ≡ true → (x : Word) × (out-DslxValue v ≡ DslxValue-F.Enum name s x) × (x.width ≡ w) × (lies_in x ≡ true)
 is_enum_of name s w v e = by_level (out-DslxValue v) refl (sym (of_enum name s w v) ∙ e)
   where
-    by_level : (l : DslxValue-F DslxValue) → out-DslxValue v ≡ l → enum_of_kind name s w l ≡ true → (x : Word) × (out-DslxValue v ≡ DslxValue-F.Enum name s x) × (x.width ≡ w)
+    by_level : (l : DslxValue-F DslxValue) → out-DslxValue v ≡ l → enum_of_kind name s w l ≡ true → (x : Word) × (out-DslxValue v ≡ DslxValue-F.Enum name s x) × (x.width ≡ w) × (lies_in x ≡ true)
     by_level (DslxValue-F.Enum name' s' x) q h =
-        let r = and_true (bytes_eq name name') (same_bool s s' && w == x.width) h in
-        let k = and_true (same_bool s s') (w == x.width) r.1 in
-        (x, q ∙ (λ i. DslxValue-F.Enum (sym (one_name name name' r.0) i) (sym (one_bool s s' k.0) i) x), sym (one_number w x.width k.1))
+        let r = and_true (bytes_eq name name') ((same_bool s s' && w == x.width) && lies_in x) h in
+        let l = and_true (same_bool s s' && w == x.width) (lies_in x) r.1 in
+        let k = and_true (same_bool s s') (w == x.width) l.0 in
+        (x, q ∙ (λ i. DslxValue-F.Enum (sym (one_name name name' r.0) i) (sym (one_bool s s' k.0) i) x), sym (one_number w x.width k.1), l.1)
     by_level (DslxValue-F.Bits s' x) q h = absurd (true≢false (sym h))
     by_level (DslxValue-F.Tuple vs) q h = absurd (true≢false (sym h))
     by_level (DslxValue-F.Array vs) q h = absurd (true≢false (sym h))
@@ -228,10 +230,38 @@ same_itself true w = (Decides-eqb w w).1 refl
 same_itself false w = (Decides-eqb w w).1 refl
 
 -- bits are of their own type
-pub own_bits : (v : DslxValue) (x : SignedWord) → AreBits v x → is_of (type_of_value v) v ≡ true
-own_bits v x are =
-    ap (λ t. is_of t v) are.1 ∙ of_bits x.signed x.word.width v ∙ ap (bits_of_kind x.signed x.word.width) (bits_level v x are.0) ∙ same_itself x.signed x.word.width
+pub own_bits : (v : DslxValue) (x : SignedWord) → AreBits v x → lies_in x.word ≡ true → is_of (type_of_value v) v ≡ true
+own_bits v x are lies =
+    ap (λ t. is_of t v) are.1 ∙ of_bits x.signed x.word.width v ∙ ap (bits_of_kind x.signed x.word.width) (bits_level v x are.0) ∙ (λ i. same_itself x.signed x.word.width i && lies i)
 
 -- bits of a width
-pub bits_of_width : (s : Bool) (x : Word) (w : ℕ) → x.width ≡ w → is_of (ty.Bits s w) (value.Bits s x) ≡ true
-bits_of_width s x w e = of_bits s w (value.Bits s x) ∙ ap (bits_of_kind s w) (views.outs-Bits s x) ∙ ap (λ n. same_bool s s && n == x.width) (sym e) ∙ same_itself s x.width
+pub bits_of_width : (s : Bool) (x : Word) (w : ℕ) → x.width ≡ w → lies_in x ≡ true → is_of (ty.Bits s w) (value.Bits s x) ≡ true
+bits_of_width s x w e lies =
+    of_bits s w (value.Bits s x) ∙ ap (bits_of_kind s w) (views.outs-Bits s x) ∙ ap (λ n. (same_bool s s && n == x.width) && lies_in x) (sym e) ∙ (λ i. same_itself s x.width i && lies i)
+
+-- the bits that a value of a type is, or those of an enum's value, lie in their width
+pub base_lies : (t : DslxType) (v : DslxValue) (x : SignedWord) → is_of t v ≡ true → based_bits v ≡ Some x → lies_in x.word ≡ true
+base_lies t v x of based = by_level (out-DslxValue v) refl based
+  where
+    moved : (s : Bool) (w : Word) → lies_in w ≡ true → Some (record { signed = s; word = w }) ≡ Some x → lies_in x.word ≡ true
+    moved s w h e = ap (λ (y : SignedWord). lies_in y.word) (sym (same_some (record { signed = s; word = w }) x e)) ∙ h
+
+    word_at : Word → DslxValue-F DslxValue → Word
+    word_at d (DslxValue-F.Bits s w) = w
+    word_at d (DslxValue-F.Enum name s w) = w
+    word_at d _ = d
+
+    by_level : (l : DslxValue-F DslxValue) → out-DslxValue v ≡ l → based_step l ≡ Some x → lies_in x.word ≡ true
+    by_level (DslxValue-F.Bits s w) q e =
+        let own = is_bits_of s w.width v (ap (λ u. is_of u v) (sym (typed_level v (DslxValue-F.Bits s w) q) ∙ one_type t v of) ∙ of) in
+        moved s w (ap (λ (l : DslxValue-F DslxValue). lies_in (word_at w l)) (sym q ∙ own.1) ∙ own.3) e
+    by_level (DslxValue-F.Enum name s w) q e =
+        let own = is_enum_of name s w.width v (ap (λ u. is_of u v) (sym (typed_level v (DslxValue-F.Enum name s w) q) ∙ one_type t v of) ∙ of) in
+        moved s w (ap (λ (l : DslxValue-F DslxValue). lies_in (word_at w l)) (sym q ∙ own.1) ∙ own.3) e
+    by_level (DslxValue-F.Tuple vs) q e = none_some x e
+    by_level (DslxValue-F.Array vs) q e = none_some x e
+    by_level (DslxValue-F.Struct name fields vs) q e = none_some x e
+    by_level DslxValue-F.Token q e = none_some x e
+
+pub bits_lie : (t : DslxType) (v : DslxValue) (x : SignedWord) → is_of t v ≡ true → bits_of v ≡ Some x → lies_in x.word ≡ true
+bits_lie t v x of bits = base_lies t v x of (ap based_step (bits_level v x bits))

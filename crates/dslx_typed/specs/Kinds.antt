@@ -1,7 +1,8 @@
 -- Which values are of a type.
-use Rattle.std.specs.Prelude.{ℕ, List, ◌==◌, ◌&&◌, Bool, true, false, not, length}
+use Rattle.std.specs.Prelude.{ℕ, List, ◌^◌, ◌==◌, ◌&&◌, nat_lt, Bool, true, false, not, length}
 use Rattle.std.specs.Str.{bytes_eq}
 use Rattle.std.specs.List.{list_all}
+use Rattle.xb_bits.specs.Word.{Word}
 use Rattle.dslx_meaning.specs.Lists.{pairwise}
 use Rattle.dslx_meaning.specs.Types.{same_bool}
 use Rattle.dslx_rules.specs.ConstantRules.{is_zero}
@@ -14,8 +15,12 @@ use Rattle.dslx_meaning.specs.declared.value.DslxValue.TheOpen.{DslxValue-F}
 abbrev pub each_of : List (DslxValue → Bool) → List DslxValue → Bool
 each_of tests vs = pairwise (λ p v. p v) tests vs
 
+-- the number lies in the width
+abbrev pub lies_in : Word → Bool
+lies_in x = nat_lt x.value (2 ^ x.width)
+
 abbrev pub bits_of_kind : Bool → ℕ → DslxValue-F DslxValue → Bool
-bits_of_kind s w (DslxValue-F.Bits s' x) = same_bool s s' && w == x.width
+bits_of_kind s w (DslxValue-F.Bits s' x) = (same_bool s s' && w == x.width) && lies_in x
 bits_of_kind s w _ = false
 
 abbrev pub tuple_of : List (DslxValue → Bool) → DslxValue-F DslxValue → Bool
@@ -35,7 +40,7 @@ struct_of name fields tests (DslxValue-F.Struct name' fields' vs) = (bytes_eq na
 struct_of name fields tests _ = false
 
 abbrev pub enum_of_kind : List ℕ → Bool → ℕ → DslxValue-F DslxValue → Bool
-enum_of_kind name s w (DslxValue-F.Enum name' s' x) = bytes_eq name name' && (same_bool s s' && w == x.width)
+enum_of_kind name s w (DslxValue-F.Enum name' s' x) = bytes_eq name name' && ((same_bool s s' && w == x.width) && lies_in x)
 enum_of_kind name s w _ = false
 
 abbrev pub is_some_token : DslxValue-F DslxValue → Bool
@@ -50,7 +55,7 @@ is_of_step (DslxType-F.Struct name fields tests) v = struct_of name fields tests
 is_of_step (DslxType-F.Enum name s w) v = enum_of_kind name s w (out-DslxValue v)
 is_of_step DslxType-F.Token v = is_some_token (out-DslxValue v)
 
--- the value is of this type: bits of its sign and width, a tuple, an array or a struct of as many parts, each of the type that
+-- the value is of this type: bits of its sign and width whose number lies in it, a tuple, an array or a struct of as many parts, each of the type that
 -- stands for it, a value of the enum, or a token
 abbrev pub is_of : DslxType → DslxValue → Bool
 is_of = fold-DslxType (DslxValue → Bool) is_of_step

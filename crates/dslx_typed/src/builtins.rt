@@ -12,14 +12,15 @@ ghost use Rattle.dslx_rules.specs.ConstantRules.{is_unsigned};
 ghost use Rattle.dslx_rules.specs.Judging.{Sight, ExprPair, alone};
 ghost use Rattle.dslx_typed.specs.Declared.{Declarations};
 ghost use Rattle.dslx_typed.specs.Given.{GivesOf, GivesItsType};
+ghost use Rattle.dslx_typed.specs.Kinds.{lies_in};
 
 /// Builtins: those that keep the width of their operand, those that give one bit, and `update`.
 pub fn builtins_give_values_of_their_types()
     ensures counting { (types : Declarations) (span : Span) (sight : Sight) (e : ExprPair) (x : Option DslxValue) (f : Word → Word)
-        → ((w : Word) → (f w).width ≡ w.width) → GivesItsType types (alone sight e) x
+        → ((w : Word) → (f w).width ≡ w.width) → ((w : Word) → lies_in w ≡ true → lies_in (f w) ≡ true) → GivesItsType types (alone sight e) x
         → GivesItsType types (counting span (e ∷ []) (alone sight e ∷ []) (alone sight e).ty) (and_then x (λ v. counted f (v ∷ []))) }
     ensures reducing { (types : Declarations) (span : Span) (sight : Sight) (e : ExprPair) (x : Option DslxValue) (f : Word → Word)
-        → ((w : Word) → (f w).width ≡ 1) → GivesItsType types (alone sight e) x
+        → ((w : Word) → (f w).width ≡ 1) → ((w : Word) → lies_in w ≡ true → lies_in (f w) ≡ true) → GivesItsType types (alone sight e) x
         → GivesItsType types (counting span (e ∷ []) (alone sight e ∷ []) (Some bool_type)) (and_then x (λ v. reduced f (v ∷ []))) }
     ensures update { (types : Declarations) (a k w : DslxType) (x y z : Option DslxValue) → GivesOf types a x → GivesOf types k y → GivesOf types w z
         → is_array a ≡ true → is_unsigned k ≡ true → ((u : DslxType) → element_type (array_in a) ≡ Some u → same_type u w ≡ true)
