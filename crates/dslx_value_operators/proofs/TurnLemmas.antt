@@ -58,5 +58,5 @@ pub turns_by_ranks : (x y : SignedWord) → x.signed ≡ y.signed → x.word.wid
 turns_by_ranks x y signs widths wx wy =
     let P : Bool → Type 0 = λ s. (turn_count x (record { signed = s; word = y.word }) ≡ rank_of (record { signed = s; word = y.word }) - rank_of x) in
     let Q : ℕ → Type 0 = λ w. (IsWord (word w y.word.value) →
-        (turn_count x (record { signed = x.signed; word = word w y.word.value }) ≡ rank_of (record { signed = x.signed; word = word w y.word.value }) - rank_of x)) in
+    (turn_count x (record { signed = x.signed; word = word w y.word.value }) ≡ rank_of (record { signed = x.signed; word = word w y.word.value }) - rank_of x)) in
     subst P signs (subst Q widths (turns_in x.signed x.word.width x.word.value y.word.value wx) wy)

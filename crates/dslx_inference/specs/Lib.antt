@@ -1,0 +1,4 @@
+-- what is inferred, without references
+pub mod Inferences
+-- what functions of this crate promise to one another, and nobody else needs
+pub mod Inner
