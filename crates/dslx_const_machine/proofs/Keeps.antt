@@ -35,7 +35,7 @@ use Rattle.dslx_const_machine.proofs.Gathered.{bare_is, uses_number_keeps, gathe
 use Rattle.dslx_const_machine.proofs.Meanings.{node_means, opened, type_means, type_opened, stmt_layer_means, stmt_opened, bind_opened, block_opened, statements_mean, loop_opened, arm_means}
 use Rattle.dslx_const_machine.proofs.Options.{one_then_other, first_of_all, end_first, past_both}
 use Rattle.dslx_const_machine.proofs.Places.{place_of, env_in, gives, gives_type, gives_count, done, answer, answer_of, types_in, field_types_in, struct_of, member_in}
-use Rattle.dslx_const_machine.proofs.Uses.{uses_name_keeps, uses_member_keeps, uses_struct_keeps, uses_type_keeps, field_types_keep, parameters_keep, parameter_keeps}
+use Rattle.dslx_const_machine.proofs.Uses.{uses_name_keeps, uses_member_keeps, uses_struct_keeps, uses_type_keeps, field_types_keep, parameters_keep, parameter_keeps, operands_keep}
 
 -- ---- expressions
 
@@ -247,6 +247,7 @@ keeps (task.CountsSize e) run =
 keeps task.IsSize run = refl
 keeps (task.CountsBound e) run = ap (λ o. answer run.todo (gives_count (m.bound_in o (value_of e (env_in run))) (place_of run))) (bare_is e) ∙ sym (bound_keeps (bare_of e) e run)
 keeps task.IsBound run = refl
-keeps (task.FindsParameters call ps) run = sym (parameters_keep call ps run)
+keeps (task.FindsParameters call ps) run = sym (parameters_keep call.given call ps run refl)
 keeps (task.GivesParameter call p ps) run = sym (parameter_keeps call p ps (value_in run.found) (without_finding run))
+keeps (task.GivesOperands call fs) run = sym (operands_keep call.operands call fs run refl)
 keeps (task.Returns bound n) run = refl

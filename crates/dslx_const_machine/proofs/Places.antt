@@ -149,9 +149,13 @@ body_in call ps env ns =
     where_true (length call.operands == length call.function.arguments)
     (value_of_block call.function.body (record { items = env.items; bound = operands_bound (numbers_bound env.bound ps ns) call.function.arguments call.operands }))
 
--- a call whose last number parameters are not given
+-- a call whose last number parameters are not bound yet
 abbrev pub call_in : ConstCall → List Parameter → Env → Option DslxValue
-call_in call ps env = and_then (all_numbers env.items call.inferred env.bound ps []) (body_in call ps env)
+call_in call ps env = and_then (all_numbers env.items call.inferred env.bound ps call.given) (body_in call ps env)
+
+-- a function whose last operands are not bound yet
+abbrev pub operands_in : ConstCall → List Field → Env → Option DslxValue
+operands_in call fs env = value_of_block call.function.body (record { items = env.items; bound = operands_bound env.bound fs call.operands })
 
 -- a parameter and those behind it
 abbrev pub parameter_in : ConstCall → Parameter → List Parameter → Option DslxValue → Env → Option DslxValue
@@ -214,6 +218,7 @@ done (task.CountsBound e) p = gives_count (m.bound_of (meant e) (env_at p)) p
 done task.IsBound p = gives_count (m.bound_in None (value_in p.found)) p
 done (task.FindsParameters call ps) p = back_from call (call_in call ps (env_at p)) p
 done (task.GivesParameter call q ps) p = back_from call (parameter_in call q ps (value_in p.found) (env_at p)) p
+done (task.GivesOperands call fs) p = back_from call (operands_in call fs (env_at p)) p
 done (task.Returns bound n) p = record p { bound = bound; left = n }
 
 -- what comes of what is to be done

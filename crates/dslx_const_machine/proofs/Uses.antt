@@ -1,5 +1,6 @@
 -- What comes of a step that goes to an item.
-use Rattle.std.proofs.Common.{◌≡◌, ◌==◌, ℕ, zero, suc, Bool, true, false, List, [], ◌∷◌, ◌++◌, Option, Some, None, length, map, refl, sym, ap, ◌∙◌}
+use Rattle.std.proofs.Common.{nat_lt, arith, ◌≡◌, ◌==◌, ℕ, zero, suc, Bool, true, false, List, [], ◌∷◌, ◌++◌, Option, Some, None, length, map, refl, sym, ap, ◌∙◌, if◌then◌else◌}
+use Rattle.std.proofs.lemmas.Bool.Decides.{nat_tests}
 use Rattle.std.proofs.lemmas.List.{append-nil}
 use Rattle.dslx_tree.specs.declared.expr.Expr.{Expr}
 use Rattle.dslx_tree.specs.declared.item.Constant.{Constant}
@@ -15,7 +16,7 @@ use Rattle.dslx_meaning.specs.Environment.{Env, Given, Meanings, given_in, value
 use Rattle.dslx_meaning.specs.Inference.{Inferred, inferred_for}
 use Rattle.dslx_meaning.specs.Items as i
 use Rattle.dslx_meaning.specs.Items.{meanings_within, item_named, as_function, as_constant, as_struct, as_enum, member_named, all_numbers, numbers_bound, with_number, put_first, inferred_from}
-use Rattle.dslx_meaning.specs.Lists.{and_then, or_else, where_true}
+use Rattle.dslx_meaning.specs.Lists.{and_then, or_else}
 use Rattle.dslx_meaning.specs.Meaning.{Meant, meant, value_of, value_of_block, written_type}
 use Rattle.dslx_meaning.specs.Values.{type_of_value}
 use Rattle.dslx_meaning.specs.declared.ty.BitKind.{BitKind}
@@ -24,10 +25,9 @@ use Rattle.dslx_meaning.specs.declared.value.Bare.{Bare}
 use Rattle.dslx_meaning.specs.declared.value.DslxValue.{DslxValue}
 use Rattle.dslx_const_machine.specs.Tasks.{ConstState, ConstCall}
 use Rattle.dslx_const_machine.specs.Items as s
-use Rattle.dslx_const_machine.specs.Items.{GivenSome}
-use Rattle.dslx_const_machine.specs.States.{at_item}
+use Rattle.dslx_const_machine.specs.States.{at_item, one_less}
 use Rattle.dslx_const_machine.proofs.Options.{first_of_all}
-use Rattle.dslx_const_machine.proofs.Places.{place_of, env_in, gives, gives_type, back_from, answer, answer_of, field_types_in, struct_of, member_in, body_in, call_in, parameter_in}
+use Rattle.dslx_const_machine.proofs.Places.{place_of, env_in, gives, gives_type, back_from, answer, answer_of, field_types_in, struct_of, member_in, body_in, call_in, operands_in, parameter_in}
 
 -- ---- constants, names, members
 
@@ -38,7 +38,7 @@ uses_constant_keeps name run = within run.left
     found n None = refl
     found n (Some c) = refl
 
-    within : (n : ℕ) → answer_of (s.constant_from n name run) ≡ answer run.todo (gives ((meanings_within run.text n).constant name) (place_of run))
+    within : (n : ℕ) → answer_of (s.constant_from (one_less n) name run) ≡ answer run.todo (gives ((meanings_within run.text n).constant name) (place_of run))
     within zero = refl
     within (suc n) = found n (as_constant (item_named name run.text.items))
 
@@ -69,7 +69,7 @@ uses_member_keeps e a run = within run.left
     found n None = refl
     found n (Some x) = member n x (member_named a x.members)
 
-    within : (n : ℕ) → answer_of (s.member_from n e a run) ≡ answer run.todo (gives ((meanings_within run.text n).member e a) (place_of run))
+    within : (n : ℕ) → answer_of (s.member_from (one_less n) e a run) ≡ answer run.todo (gives ((meanings_within run.text n).member e a) (place_of run))
     within zero = refl
     within (suc n) = found n (as_enum (item_named e run.text.items))
 
@@ -89,7 +89,7 @@ at_struct_keeps n (Some x) run = field_types_keep [] x.fields x (at_item n [] ru
 pub uses_struct_keeps : (name : List ℕ) (run : ConstState) → answer_of (s.uses_struct name run) ≡ answer run.todo (gives_type ((env_in run).items.struct_named name) (place_of run))
 uses_struct_keeps name run = within run.left
   where
-    within : (n : ℕ) → answer_of (s.struct_from n name run) ≡ answer run.todo (gives_type ((meanings_within run.text n).struct_named name) (place_of run))
+    within : (n : ℕ) → answer_of (s.struct_from (one_less n) name run) ≡ answer run.todo (gives_type ((meanings_within run.text n).struct_named name) (place_of run))
     within zero = refl
     within (suc n) = at_struct_keeps n (as_struct (item_named name run.text.items)) run
 
@@ -105,7 +105,7 @@ uses_type_keeps name run = within run.left
     found n (Some (d.Struct x)) = at_struct_keeps n (Some x) run
     found n (Some (d.Enum e)) = refl
 
-    within : (n : ℕ) → answer_of (s.type_from n name run) ≡ answer run.todo (gives_type ((meanings_within run.text n).type_named name) (place_of run))
+    within : (n : ℕ) → answer_of (s.type_from (one_less n) name run) ≡ answer run.todo (gives_type ((meanings_within run.text n).type_named name) (place_of run))
     within zero = refl
     within (suc n) = found n (item_named name run.text.items)
 
@@ -116,44 +116,56 @@ put_first_then : {A B : Type 0} (a : A) (o : Option (List A)) (k : List A → Op
 put_first_then a None k = refl
 put_first_then a (Some more) k = refl
 
--- the numbers that are given come first
-given_come_first : (items : Meanings) (inferred : List Inferred) (so_far : List Given) (ps : List Parameter) (vs : List DslxValue) (k : List Given → Option DslxValue)
-    → and_then (all_numbers items inferred so_far ps vs) (λ ns. k (numbers_bound so_far ps ns))
-    ≡ and_then (s.given_first so_far ps vs) (λ g. and_then (all_numbers items inferred g.bound g.rest []) (λ ns. k (numbers_bound g.bound g.rest ns)))
-given_come_first items inferred so_far ps [] k = refl
-given_come_first items inferred so_far [] (v ∷ vs) k = refl
-given_come_first items inferred so_far (p ∷ ps) (v ∷ vs) k =
-    put_first_then v (all_numbers items inferred (with_number so_far p v) ps vs) (λ ns. k (numbers_bound so_far (p ∷ ps) ns))
-    ∙ given_come_first items inferred (with_number so_far p v) ps vs k
+-- where all numbers are given nothing is to be inferred
+all_given : (items : Meanings) (inferred : List Inferred) (so_far : List Given) (ps : List Parameter) (vs : List DslxValue) → nat_lt (length vs) (length ps) ≡ false
+    → all_numbers items inferred so_far ps vs ≡ all_numbers items [] so_far ps vs
+all_given items inferred so_far [] [] e = refl
+all_given items inferred so_far [] (v ∷ vs) e = refl
+all_given items inferred so_far (p ∷ ps) (v ∷ vs) e =
+    let fewer : nat_lt (length vs) (length ps) ≡ false = grind (arith, nat_tests) in
+    ap (put_first v) (all_given items inferred (with_number so_far p v) ps vs fewer)
+all_given items inferred so_far (p ∷ ps) [] e = absurd (grind (arith, nat_tests))
+
+numbers_inferred : (items : Meanings) (f : Function) (numbers vs : List DslxValue)
+    → all_numbers items (s.inferred_by f numbers vs) [] f.parameters numbers ≡ all_numbers items (inferred_from f.arguments (map type_of_value vs)) [] f.parameters numbers
+numbers_inferred items f numbers vs = by (nat_lt (length numbers) (length f.parameters)) refl
+  where
+    by : (b : Bool) → nat_lt (length numbers) (length f.parameters) ≡ b
+        → all_numbers items (if b then inferred_from f.arguments (map type_of_value vs) else []) [] f.parameters numbers
+        ≡ all_numbers items (inferred_from f.arguments (map type_of_value vs)) [] f.parameters numbers
+    by true e = refl
+    by false e = sym (all_given items (inferred_from f.arguments (map type_of_value vs)) [] f.parameters numbers e)
 
 pub uses_function_keeps : (name : List ℕ) (numbers vs : List DslxValue) (run : ConstState)
     → answer_of (s.uses_function name numbers vs run) ≡ answer run.todo (gives ((env_in run).items.call name numbers vs) (place_of run))
 uses_function_keeps name numbers vs run = within run.left
   where
-    first : (n : ℕ) (f : Function) (o : Option GivenSome) → answer_of (s.at_parameters n f o vs run)
-        ≡ answer run.todo (gives (and_then o (λ g. and_then (all_numbers (meanings_within run.text n) (inferred_from f.arguments (map type_of_value vs)) g.bound g.rest [])
-        (λ ns. where_true (length vs == length f.arguments)
-        (value_of_block f.body (record { items = meanings_within run.text n; bound = i.operands_bound (numbers_bound g.bound g.rest ns) f.arguments vs }))))) (place_of run))
-    first n f None = refl
-    first n f (Some g) = refl
-
     found : (n : ℕ) (o : Option Function) → answer_of (s.at_function n o numbers vs run)
         ≡ answer run.todo (gives (and_then o (λ f. i.call_of (meanings_within run.text n) f numbers vs)) (place_of run))
     found n None = refl
     found n (Some f) =
-        first n f (s.given_first [] f.parameters numbers)
-        ∙ ap (λ o. answer run.todo (gives o (place_of run)))
-        (sym (given_come_first (meanings_within run.text n) (inferred_from f.arguments (map type_of_value vs)) [] f.parameters numbers
-        (λ bound. where_true (length vs == length f.arguments) (value_of_block f.body (record { items = meanings_within run.text n; bound = i.operands_bound bound f.arguments vs })))))
+        ap (λ o. answer run.todo (gives (and_then o (λ ns. i.function_value (meanings_within run.text n) f ns vs)) (place_of run))) (numbers_inferred (meanings_within run.text n) f numbers vs)
 
-    within : (n : ℕ) → answer_of (s.function_from n name numbers vs run) ≡ answer run.todo (gives ((meanings_within run.text n).call name numbers vs) (place_of run))
+    within : (n : ℕ) → answer_of (s.function_from (one_less n) name numbers vs run) ≡ answer run.todo (gives ((meanings_within run.text n).call name numbers vs) (place_of run))
     within zero = refl
     within (suc n) = found n (as_function (item_named name run.text.items))
 
-begins_keeps : (call : ConstCall) (run : ConstState) → answer_of (s.call_begins call run) ≡ answer run.todo (back_from call (call_in call [] (env_in run)) (place_of run))
+pub operands_keep : (vs : List DslxValue) (call : ConstCall) (fs : List Field) (run : ConstState) → call.operands ≡ vs
+    → answer_of (s.operands_on vs call fs run) ≡ answer run.todo (back_from call (operands_in call fs (env_in run)) (place_of run))
+operands_keep [] call [] run e = refl
+operands_keep [] call (f ∷ fs) run e =
+    ap (λ ws. answer run.todo (back_from call (value_of_block call.function.body (record { items = (env_in run).items; bound = i.operands_bound run.bound (f ∷ fs) ws })) (place_of run))) (sym e)
+operands_keep (v ∷ vs) call [] run e = refl
+operands_keep (v ∷ vs) call (f ∷ fs) run e =
+    ap (λ ws. answer run.todo (back_from call (value_of_block call.function.body (record { items = (env_in run).items; bound = i.operands_bound run.bound (f ∷ fs) ws })) (place_of run))) (sym e)
+
+-- where all number parameters are bound
+begins_keeps : (call : ConstCall) (run : ConstState)
+    → answer_of (s.call_begins call run) ≡ answer run.todo (back_from call (body_in call [] (env_in run) []) (place_of run))
 begins_keeps call run = by (length call.operands == length call.function.arguments) refl
   where
-    by : (b : Bool) → (length call.operands == length call.function.arguments) ≡ b → answer_of (s.call_begins call run) ≡ answer run.todo (back_from call (call_in call [] (env_in run)) (place_of run))
+    by : (b : Bool) → (length call.operands == length call.function.arguments) ≡ b
+        → answer_of (s.call_begins call run) ≡ answer run.todo (back_from call (body_in call [] (env_in run) []) (place_of run))
     by true e = rw e refl
     by false e = rw e refl
 
@@ -162,28 +174,41 @@ pub parameter_keeps : (call : ConstCall) (p : Parameter) (ps : List Parameter) (
 parameter_keeps call p ps None run = refl
 parameter_keeps call p ps (Some v) run = refl
 
+-- a call by the numbers that are given
+abbrev call_given : ConstCall → List Parameter → Env → List DslxValue → Option DslxValue
+call_given call ps env vs = and_then (all_numbers env.items call.inferred env.bound ps vs) (body_in call ps env)
+
 -- a parameter that isn't given, and those behind it
-next_number : (call : ConstCall) (p : Parameter) (ps : List Parameter) (env : Env)
-    → call_in call (p ∷ ps) env ≡ parameter_in call p ps (i.inferred_value env p (inferred_for p.name.name call.inferred)) env
-next_number call p ps env = by (i.inferred_value env p (inferred_for p.name.name call.inferred))
+next_number : (call : ConstCall) (p : Parameter) (ps : List Parameter) (env : Env) → call.given ≡ []
+    → call_given call (p ∷ ps) env [] ≡ parameter_in call p ps (i.inferred_value env p (inferred_for p.name.name call.inferred)) env
+next_number call p ps env none = by (i.inferred_value env p (inferred_for p.name.name call.inferred))
   where
     by : (o : Option DslxValue)
         → and_then (and_then o (λ v. put_first v (all_numbers env.items call.inferred (with_number env.bound p v) ps []))) (body_in call (p ∷ ps) env) ≡ parameter_in call p ps o env
     by None = refl
-    by (Some v) = put_first_then v (all_numbers env.items call.inferred (with_number env.bound p v) ps []) (body_in call (p ∷ ps) env)
+    by (Some v) =
+        put_first_then v (all_numbers env.items call.inferred (with_number env.bound p v) ps []) (body_in call (p ∷ ps) env)
+        ∙ ap (λ vs. call_given call ps (record { items = env.items; bound = with_number env.bound p v }) vs) (sym none)
 
-pub parameters_keep : (call : ConstCall) (ps : List Parameter) (run : ConstState)
-    → answer_of (s.parameters_on call ps run) ≡ answer run.todo (back_from call (call_in call ps (env_in run)) (place_of run))
-parameters_keep call [] run = begins_keeps call run
-parameters_keep call (p ∷ ps) run =
-    by (inferred_for p.name.name call.inferred) ∙ ap (λ o. answer run.todo (back_from call o (place_of run))) (sym (next_number call p ps (env_in run)))
+pub parameters_keep : (vs : List DslxValue) (call : ConstCall) (ps : List Parameter) (run : ConstState) → call.given ≡ vs
+    → answer_of (s.parameters_on vs call ps run) ≡ answer run.todo (back_from call (call_in call ps (env_in run)) (place_of run))
+parameters_keep [] call [] run e = begins_keeps call run ∙ ap (λ ws. answer run.todo (back_from call (call_given call [] (env_in run) ws) (place_of run))) (sym e)
+parameters_keep [] call (p ∷ ps) run e =
+    by (inferred_for p.name.name call.inferred)
+    ∙ ap (λ o. answer run.todo (back_from call o (place_of run))) (sym (next_number call p ps (env_in run) e))
+    ∙ ap (λ ws. answer run.todo (back_from call (call_given call (p ∷ ps) (env_in run) ws) (place_of run))) (sym e)
   where
     default : (o : Option Expr) → answer_of (s.default_begins o call p ps run)
-        ≡ answer run.todo (back_from call (parameter_in call p ps (and_then o (λ e. value_of e (env_in run))) (env_in run)) (place_of run))
+        ≡ answer run.todo (back_from call (parameter_in call p ps (and_then o (λ x. value_of x (env_in run))) (env_in run)) (place_of run))
     default None = refl
-    default (Some e) = refl
+    default (Some x) = refl
 
     by : (o : Option ℕ) → answer_of (s.parameter_begins o call p ps run)
         ≡ answer run.todo (back_from call (parameter_in call p ps (i.inferred_value (env_in run) p o) (env_in run)) (place_of run))
     by None = default p.default
     by (Some k) = refl
+parameters_keep (v ∷ vs) call [] run e = ap (λ ws. answer run.todo (back_from call (call_given call [] (env_in run) ws) (place_of run))) (sym e)
+parameters_keep (v ∷ vs) call (p ∷ ps) run e =
+    ap (λ o. answer run.todo (back_from call o (place_of run)))
+    (sym (put_first_then v (all_numbers (env_in run).items call.inferred (with_number run.bound p v) ps vs) (body_in call (p ∷ ps) (env_in run))))
+    ∙ ap (λ ws. answer run.todo (back_from call (call_given call (p ∷ ps) (env_in run) ws) (place_of run))) (sym e)

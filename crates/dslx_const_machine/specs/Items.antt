@@ -1,5 +1,5 @@
 -- What a step does where an item is used: it goes to the item, unless the chain of uses is too long or there is none such.
-use Rattle.std.specs.Prelude.{ℕ, zero, suc, List, [], ◌∷◌, ◌==◌, map, length, Bool, false, Option, Some, None, if◌then◌else◌}
+use Rattle.std.specs.Prelude.{nat_lt, ℕ, List, [], ◌∷◌, ◌==◌, map, length, Bool, false, Option, Some, None, if◌then◌else◌}
 use Rattle.dslx_tree.specs.declared.expr.Expr.{Expr}
 use Rattle.dslx_tree.specs.declared.item.Constant.{Constant}
 use Rattle.dslx_tree.specs.declared.item.Definition.{Definition}
@@ -11,34 +11,37 @@ use Rattle.dslx_tree.specs.declared.item.Member.{Member}
 use Rattle.dslx_tree.specs.declared.item.Module.{Module}
 use Rattle.dslx_tree.specs.declared.item.Parameter.{Parameter}
 use Rattle.dslx_tree.specs.declared.item.Struct.{Struct}
-use Rattle.dslx_meaning.specs.Environment.{Given, given_in}
-use Rattle.dslx_meaning.specs.Inference.{inferred_for}
-use Rattle.dslx_meaning.specs.Items.{item_named, as_function, as_constant, as_struct, as_enum, is_constant_item, member_named, name_of_field, with_number, operands_bound, inferred_from}
+use Rattle.dslx_meaning.specs.Environment.{given_in}
+use Rattle.dslx_meaning.specs.Inference.{Inferred, inferred_for}
+use Rattle.dslx_meaning.specs.Items.{item_named, as_function, as_constant, as_struct, as_enum, is_constant_item, member_named, name_of_field, inferred_from}
 use Rattle.dslx_meaning.specs.Values.{type_of_value}
 use Rattle.dslx_meaning.specs.declared.ty.DslxType.{DslxType}
 use Rattle.dslx_meaning.specs.declared.ty.DslxType as ty
 use Rattle.dslx_meaning.specs.declared.value.DslxValue.{DslxValue}
-use Rattle.dslx_const_machine.specs.Tasks.{ConstState, ConstCall, Evaluates, DoesBlock, FindsType, FindsMember, MakesEnumType, GathersFieldTypes, FindsParameters, GivesParameter, Numbers, Returns}
-use Rattle.dslx_const_machine.specs.States.{finds_value, finds_type, doing, at_item, back_at, binding}
+use Rattle.dslx_const_machine.specs.Tasks.{ConstState, ConstCall, Evaluates, DoesBlock, FindsType, FindsMember, MakesEnumType, GathersFieldTypes, FindsParameters, GivesParameter, GivesOperands, Numbers, Returns}
+use Rattle.dslx_const_machine.specs.States.{finds_value, finds_type, doing, one_less, at_item, back_at, binding}
 
 -- ---- constants and members
 
 -- whether a name is a constant's, where a chain may go through so many items
+abbrev pub is_constant_from : Option ℕ → Module → List ℕ → Bool
+is_constant_from None m name = false
+is_constant_from (Some n) m name = is_constant_item (item_named name m.items)
+
 abbrev pub is_constant_within : Module → ℕ → List ℕ → Bool
-is_constant_within m zero name = false
-is_constant_within m (suc n) name = is_constant_item (item_named name m.items)
+is_constant_within m n name = is_constant_from (one_less n) m name
 
 abbrev pub at_constant : ℕ → Option Constant → ConstState → ConstState
 at_constant n None run = finds_value None run
 at_constant n (Some c) run = at_item n (Evaluates c.value ∷ []) run
 
-abbrev pub constant_from : ℕ → List ℕ → ConstState → ConstState
-constant_from zero name run = finds_value None run
-constant_from (suc n) name run = at_constant n (as_constant (item_named name run.text.items)) run
+abbrev pub constant_from : Option ℕ → List ℕ → ConstState → ConstState
+constant_from None name run = finds_value None run
+constant_from (Some n) name run = at_constant n (as_constant (item_named name run.text.items)) run
 
 -- the value of a constant
 abbrev pub uses_constant : List ℕ → ConstState → ConstState
-uses_constant name run = constant_from run.left name run
+uses_constant name run = constant_from (one_less run.left) name run
 
 abbrev pub given_or_constant : Option DslxValue → List ℕ → ConstState → ConstState
 given_or_constant None name run = uses_constant name run
@@ -56,13 +59,13 @@ abbrev pub at_member_of : ℕ → Option Enum → List ℕ → ConstState → Co
 at_member_of n None a run = finds_value None run
 at_member_of n (Some e) a run = at_member n e (member_named a e.members) run
 
-abbrev pub member_from : ℕ → List ℕ → List ℕ → ConstState → ConstState
-member_from zero e a run = finds_value None run
-member_from (suc n) e a run = at_member_of n (as_enum (item_named e run.text.items)) a run
+abbrev pub member_from : Option ℕ → List ℕ → List ℕ → ConstState → ConstState
+member_from None e a run = finds_value None run
+member_from (Some n) e a run = at_member_of n (as_enum (item_named e run.text.items)) a run
 
 -- the value of an enum's member
 abbrev pub uses_member : List ℕ → List ℕ → ConstState → ConstState
-uses_member e a run = member_from run.left e a run
+uses_member e a run = member_from (one_less run.left) e a run
 
 -- ---- types
 
@@ -75,13 +78,13 @@ abbrev pub at_struct : ℕ → Option Struct → ConstState → ConstState
 at_struct n None run = finds_type None run
 at_struct n (Some s) run = field_types_on [] s.fields s (at_item n [] run)
 
-abbrev pub struct_from : ℕ → List ℕ → ConstState → ConstState
-struct_from zero name run = finds_type None run
-struct_from (suc n) name run = at_struct n (as_struct (item_named name run.text.items)) run
+abbrev pub struct_from : Option ℕ → List ℕ → ConstState → ConstState
+struct_from None name run = finds_type None run
+struct_from (Some n) name run = at_struct n (as_struct (item_named name run.text.items)) run
 
 -- the type of a struct
 abbrev pub uses_struct : List ℕ → ConstState → ConstState
-uses_struct name run = struct_from run.left name run
+uses_struct name run = struct_from (one_less run.left) name run
 
 abbrev pub at_type_item : ℕ → Option Definition → ConstState → ConstState
 at_type_item n (Some (d.Alias a)) run = at_item n (FindsType a.ty ∷ []) run
@@ -89,58 +92,51 @@ at_type_item n (Some (d.Struct s)) run = at_struct n (Some s) run
 at_type_item n (Some (d.Enum e)) run = at_item n (FindsType e.base ∷ MakesEnumType e.name.name ∷ []) run
 at_type_item n _ run = finds_type None run
 
-abbrev pub type_from : ℕ → List ℕ → ConstState → ConstState
-type_from zero name run = finds_type None run
-type_from (suc n) name run = at_type_item n (item_named name run.text.items) run
+abbrev pub type_from : Option ℕ → List ℕ → ConstState → ConstState
+type_from None name run = finds_type None run
+type_from (Some n) name run = at_type_item n (item_named name run.text.items) run
 
 -- the type that a name stands for
 abbrev pub uses_type : List ℕ → ConstState → ConstState
-uses_type name run = type_from run.left name run
+uses_type name run = type_from (one_less run.left) name run
 
 -- ---- calls of functions
 
--- number parameters with their values, and those that are left
-pub record GivenSome : Type 0 where
-  pub bound : List Given
-  pub rest : List Parameter
+-- what operands infer, where not all number parameters are given
+abbrev pub inferred_by : Function → List DslxValue → List DslxValue → List Inferred
+inferred_by f numbers vs = if nat_lt (length numbers) (length f.parameters) then inferred_from f.arguments (map type_of_value vs) else []
 
--- the first parameters have the values that are given
-abbrev pub given_first : List Given → List Parameter → List DslxValue → Option GivenSome
-given_first so_far ps [] = Some (record { bound = so_far; rest = ps })
-given_first so_far [] (v ∷ vs) = None
-given_first so_far (p ∷ ps) (v ∷ vs) = given_first (with_number so_far p v) ps vs
-
-abbrev pub at_parameters : ℕ → Function → Option GivenSome → List DslxValue → ConstState → ConstState
-at_parameters n f None vs run = finds_value None run
-at_parameters n f (Some g) vs run =
-    record run {
-      todo = FindsParameters (record { function = f; inferred = inferred_from f.arguments (map type_of_value vs); operands = vs; bound = run.bound; left = run.left }) g.rest ∷ run.todo;
-      bound = g.bound;
-      left = n;
-    }
+abbrev pub call_from : Function → List DslxValue → List DslxValue → ConstState → ConstCall
+call_from f numbers vs run = record { function = f; given = numbers; inferred = inferred_by f numbers vs; operands = vs; bound = run.bound; left = run.left }
 
 abbrev pub at_function : ℕ → Option Function → List DslxValue → List DslxValue → ConstState → ConstState
 at_function n None numbers vs run = finds_value None run
-at_function n (Some f) numbers vs run = at_parameters n f (given_first [] f.parameters numbers) vs run
+at_function n (Some f) numbers vs run = record run { todo = FindsParameters (call_from f numbers vs run) f.parameters ∷ run.todo; bound = []; left = n }
 
-abbrev pub function_from : ℕ → List ℕ → List DslxValue → List DslxValue → ConstState → ConstState
-function_from zero name numbers vs run = finds_value None run
-function_from (suc n) name numbers vs run = at_function n (as_function (item_named name run.text.items)) numbers vs run
+abbrev pub function_from : Option ℕ → List ℕ → List DslxValue → List DslxValue → ConstState → ConstState
+function_from None name numbers vs run = finds_value None run
+function_from (Some n) name numbers vs run = at_function n (as_function (item_named name run.text.items)) numbers vs run
 
 -- a function of the text at its number arguments and its operands
 abbrev pub uses_function : List ℕ → List DslxValue → List DslxValue → ConstState → ConstState
-uses_function name numbers vs run = function_from run.left name numbers vs run
+uses_function name numbers vs run = function_from (one_less run.left) name numbers vs run
 
 -- a call that comes to nothing
 abbrev pub call_fails : ConstCall → ConstState → ConstState
 call_fails call run = finds_value None (back_at call.bound call.left run)
 
--- the body, where all number parameters have their values
+abbrev pub body_begins : ConstCall → ConstState → ConstState
+body_begins call run = doing (DoesBlock call.function.body ∷ Returns call.bound call.left ∷ []) run
+
+-- the first operand is bound
+abbrev pub operands_on : List DslxValue → ConstCall → List Field → ConstState → ConstState
+operands_on [] call fs run = body_begins call run
+operands_on (v ∷ vs) call [] run = body_begins call run
+operands_on (v ∷ vs) call (f ∷ fs) run = doing (GivesOperands (record call { operands = vs }) fs ∷ []) (binding f.name.name v run)
+
+-- the operands, where all number parameters have their values
 abbrev pub call_begins : ConstCall → ConstState → ConstState
-call_begins call run =
-    if length call.operands == length call.function.arguments
-    then record run { todo = DoesBlock call.function.body ∷ Returns call.bound call.left ∷ run.todo; bound = operands_bound run.bound call.function.arguments call.operands }
-    else call_fails call run
+call_begins call run = if length call.operands == length call.function.arguments then doing (GivesOperands call call.function.arguments ∷ []) run else call_fails call run
 
 abbrev pub default_begins : Option Expr → ConstCall → Parameter → List Parameter → ConstState → ConstState
 default_begins None call p ps run = call_fails call run
@@ -151,9 +147,12 @@ abbrev pub parameter_begins : Option ℕ → ConstCall → Parameter → List Pa
 parameter_begins (Some k) call p ps run = doing (FindsType p.ty ∷ Numbers (record { is_negative = false; value = k }) ∷ GivesParameter call p ps ∷ []) run
 parameter_begins None call p ps run = default_begins p.default call p ps run
 
-abbrev pub parameters_on : ConstCall → List Parameter → ConstState → ConstState
-parameters_on call [] run = call_begins call run
-parameters_on call (p ∷ ps) run = parameter_begins (inferred_for p.name.name call.inferred) call p ps run
+-- the first parameter is bound
+abbrev pub parameters_on : List DslxValue → ConstCall → List Parameter → ConstState → ConstState
+parameters_on [] call [] run = call_begins call run
+parameters_on [] call (p ∷ ps) run = parameter_begins (inferred_for p.name.name call.inferred) call p ps run
+parameters_on (v ∷ vs) call [] run = call_fails call run
+parameters_on (v ∷ vs) call (p ∷ ps) run = doing (FindsParameters (record call { given = vs }) ps ∷ []) (binding p.name.name v run)
 
 abbrev pub parameter_given : Option DslxValue → ConstCall → Parameter → List Parameter → ConstState → ConstState
 parameter_given None call p ps run = call_fails call run

@@ -1,5 +1,5 @@
 -- What steps do with patterns: what fits is bound, and what comes behind goes on; else it is tried otherwise.
-use Rattle.std.specs.Prelude.{ℕ, zero, suc, List, [], ◌∷◌, Bool, true, false, Option, Some, None, if◌then◌else◌}
+use Rattle.std.specs.Prelude.{ℕ, suc, List, [], ◌∷◌, Bool, true, false, Option, Some, None, if◌then◌else◌}
 use Rattle.xb_bits.specs.Word.{Word, word}
 use Rattle.xb_bits.specs.Operations.{add}
 use Rattle.dslx_tree.specs.declared.block.Stmt.TheOpen.{Shape-F}
@@ -17,7 +17,7 @@ use Rattle.dslx_meaning.specs.declared.value.DslxValue.{DslxValue, Bits}
 use Rattle.dslx_meaning.specs.declared.value.SignedWord.{SignedWord}
 use Rattle.dslx_const_machine.specs.Tasks.{ConstState, Waiting, Sequel, ThenStatements, ThenAccumulator, ThenBody, ThenArm, Evaluates, DoesBlock, DoesStatements, Numbers, FindsType, Tries, BindsNothing, Fits, Compares, Forgets, FindsFirst, FindsLast, Turns}
 use Rattle.dslx_const_machine.specs.Layers.{PatternLayer, shape_of, written}
-use Rattle.dslx_const_machine.specs.States.{finds_value, doing, forgetting, binding}
+use Rattle.dslx_const_machine.specs.States.{finds_value, doing, forgetting, binding, one_less}
 use Rattle.dslx_const_machine.specs.Items.{is_constant_within, uses_constant, uses_member}
 
 -- ---- what comes behind a pattern
@@ -130,9 +130,12 @@ last_found f start a (Some b) run =
     if of_one_type a b then doing (Turns f a.signed (turn_count a b) a.word ∷ []) (finds_value (Some start) run) else finds_value None run
 
 -- a turn, and those behind it
-abbrev pub turns : For → Bool → ℕ → Word → Option DslxValue → ConstState → ConstState
-turns f signed n i None run = finds_value None run
-turns f signed zero i (Some v) run = finds_value (Some v) run
-turns f signed (suc n) i (Some v) run =
+abbrev pub turns_on : Option ℕ → For → Bool → Word → DslxValue → ConstState → ConstState
+turns_on None f signed i v run = finds_value (Some v) run
+turns_on (Some n) f signed i v run =
     fits_one (out-For f).index (Bits signed i) [] 0 (ThenAccumulator (out-For f).accumulator v (out-For f).body)
     (doing (Turns f signed n (add i (word i.width 1)) ∷ []) run)
+
+abbrev pub turns : For → Bool → ℕ → Word → Option DslxValue → ConstState → ConstState
+turns f signed n i None run = finds_value None run
+turns f signed n i (Some v) run = turns_on (one_less n) f signed i v run

@@ -1,5 +1,5 @@
 -- The changes that steps make to where the machine stands.
-use Rattle.std.specs.Prelude.{ℕ, List, [], ◌∷◌, ◌++◌, drop, Option, None}
+use Rattle.std.specs.Prelude.{ℕ, zero, suc, List, [], ◌∷◌, ◌++◌, drop, Option, Some, None}
 use Rattle.dslx_meaning.specs.Environment.{Given}
 use Rattle.dslx_meaning.specs.declared.ty.DslxType.{DslxType}
 use Rattle.dslx_meaning.specs.declared.value.DslxValue.{DslxValue}
@@ -52,3 +52,8 @@ forgetting k run = record run { bound = drop k run.bound }
 
 abbrev pub binding : List ℕ → DslxValue → ConstState → ConstState
 binding name v run = record run { bound = record { name = name; value = v } ∷ run.bound }
+
+-- one less, if there is one
+abbrev pub one_less : ℕ → Option ℕ
+one_less zero = None
+one_less (suc n) = Some n

@@ -29,7 +29,7 @@ use Rattle.dslx_const_machine.specs.Tasks as task
 use Rattle.dslx_const_machine.specs.Tasks.{ConstTask, ConstState, Finding, OneMaker, MakesPrefix, MakesField, MakesElement, MakesCast, MakesSlice, PairMaker, MakesBinary, MakesIndexed, MakesPart, MakesTuple, MakesArray, ThenStatements}
 use Rattle.dslx_const_machine.specs.Layers.{TypeLayer, type_of, bare_of, count_of}
 use Rattle.dslx_const_machine.specs.States.{value_in, type_in, count_in_finding, finds_value, finds_type, finds_count, without_finding, doing, back_at, forgetting}
-use Rattle.dslx_const_machine.specs.Items.{uses_name, uses_member, uses_struct, uses_type, field_types_on, parameters_on, parameter_given}
+use Rattle.dslx_const_machine.specs.Items.{uses_name, uses_member, uses_struct, uses_type, field_types_on, parameters_on, parameter_given, operands_on}
 use Rattle.dslx_const_machine.specs.Lists.{gathers, gathered, gathers_numbers, number_gathered, elements_begin, fields_begin, gathers_fields, field_gathered}
 use Rattle.dslx_const_machine.specs.Patterns.{uses_number, fits_one, fits_all, fits_if_same, selects, tries, all_bind_nothing, loop_begins, first_found, last_found, turns}
 
@@ -216,8 +216,9 @@ stepped (task.CountsSize e) run = size_begins (bare_of e) e run
 stepped task.IsSize run = finds_count (and_then (count_in None (value_in run.found)) some_count) run
 stepped (task.CountsBound e) run = bound_begins (bare_of e) e run
 stepped task.IsBound run = finds_count (bound_in None (value_in run.found)) run
-stepped (task.FindsParameters call ps) run = parameters_on call ps run
+stepped (task.FindsParameters call ps) run = parameters_on call.given call ps run
 stepped (task.GivesParameter call p ps) run = parameter_given (value_in run.found) call p ps (without_finding run)
+stepped (task.GivesOperands call fs) run = operands_on call.operands call fs run
 stepped (task.Returns bound n) run = back_at bound n run
 
 -- ---- several steps

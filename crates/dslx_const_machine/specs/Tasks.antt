@@ -71,9 +71,11 @@ pub data Sequel : Type 0 where
   -- an arm of a match; else its other patterns, and the arms behind it
   ThenArm : List Pattern → Arm → List Arm → DslxValue → Sequel
 
--- a call of a function, while its number parameters are found: what its operands infer, and where its caller stands
+-- a call of a function, while its number parameters are found and its operands bound: the number arguments and the operands
+-- that aren't bound yet, what the operands infer, and where its caller stands
 pub record ConstCall : Type 0 where
   pub function : Function
+  pub given : List DslxValue
   pub inferred : List Inferred
   pub operands : List DslxValue
   pub bound : List Given
@@ -144,6 +146,8 @@ pub data ConstTask : Type 0 where
   -- ---- calls
   FindsParameters : ConstCall → List Parameter → ConstTask
   GivesParameter : ConstCall → Parameter → List Parameter → ConstTask
+  -- the arguments that the operands are still to be bound to
+  GivesOperands : ConstCall → List Field → ConstTask
   -- back to what is bound elsewhere, and how long a chain of uses may be there
   Returns : List Given → ℕ → ConstTask
 

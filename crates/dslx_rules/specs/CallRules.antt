@@ -14,7 +14,7 @@ use Rattle.dslx_tree.specs.declared.item.Field.{Field}
 use Rattle.dslx_tree.specs.declared.process.Direction.{Direction}
 use Rattle.dslx_tree.specs.declared.process.Direction.TheVariants.{In, Out}
 use Rattle.dslx_meaning.specs.Lists.{and_then, with_both, is_in}
-use Rattle.dslx_meaning.specs.Callees.{CallKind, Joins, Receives, ReceivesIf, Sends, SendsIf, CountsLeading, CountsTrailing, Reverses, AllOnes, SomeOne, Parity, Updates, Calls}
+use Rattle.dslx_meaning.specs.Callees.{CallKind, Joins, Receives, ReceivesIf, Sends, SendsIf, CountsLeading, CountsTrailing, Reverses, Updates, Calls}
 use Rattle.dslx_meaning.specs.Types.{same_type, bool_type, unit_type, is_unit, is_token_type, holds_token, received}
 use Rattle.dslx_meaning.specs.Values.{type_of_value}
 use Rattle.dslx_meaning.specs.Operators.{number_value}

@@ -1,5 +1,5 @@
 -- Instances of functions, by the values of their bodies.
-use Rattle.std.proofs.Common.{◌≡◌, ◌++◌, false, List, [], ◌∷◌, Some, sym, ap, subst}
+use Rattle.std.proofs.Common.{◌++◌, false, List, [], ◌∷◌, Some, sym, ap, subst}
 use Rattle.dslx_tree.specs.declared.block.Block.{out-Block}
 use Rattle.dslx_tree.specs.declared.item.Field.{Field}
 use Rattle.dslx_tree.specs.declared.item.Function.{Function}

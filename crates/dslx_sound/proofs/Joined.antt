@@ -1,25 +1,19 @@
 -- The induction on all sorts of parts of a tree: each part has a value of its type wherever nothing is wrong with it.
-use Rattle.std.proofs.Common.{◌≡◌, ◌++◌, ℕ, suc, length, Bool, true, false, List, [], ◌∷◌, map, Option, Some, None, refl, sym, ap, ◌∙◌}
-use Rattle.std.specs.List.{list_all}
+use Rattle.std.proofs.Common.{◌≡◌, suc, length, true, false, List, [], ◌∷◌, map, Option, Some, None, refl, ap, ◌∙◌}
 use Rattle.xb_span.specs.declared.span.Span.{Span}
 use Rattle.dslx_tree.specs.declared.block.Block.{Block}
 use Rattle.dslx_tree.specs.declared.block.Stmt.TheOpen.{Stmt-F, Node-F, Shape-F, TypeNode-F}
 use Rattle.dslx_tree.specs.declared.expr.Arg.{Arg}
-use Rattle.dslx_tree.specs.declared.expr.Arm.{Arm}
 use Rattle.dslx_tree.specs.declared.expr.Expr.{Expr}
-use Rattle.dslx_tree.specs.declared.expr.FieldValue.{FieldValue}
 use Rattle.dslx_tree.specs.declared.ident.Ident.{Ident}
-use Rattle.dslx_tree.specs.declared.pattern.Pattern.{Pattern}
 use Rattle.dslx_tree.specs.declared.block.Stmt.{Stmt}
-use Rattle.dslx_tree.specs.declared.type_expr.TypeExpr.{TypeExpr}
 use Rattle.dslx_tree_lemmas.proofs.Lemmas.Levels.{Carriers, StmtLevel, NodeLevel, ShapeLevel, TypeNodeLevel, BlockLevel, LetLevel, ArmLevel, FieldValueLevel, ForLevel, NumberLevel, map_stmt, map_node, map_shape, map_type_node, map_block, map_bind, map_arm, map_field, map_loop, map_number}
 use Rattle.dslx_tree_lemmas.proofs.Lemmas.Related.{both, firsts, seconds, KeepRelated, related_expr, related_block}
 use Rattle.dslx_meaning.specs.Callees.{AllOnes, CallKind, Calls, CountsLeading, CountsTrailing, Joins, Parity, Receives, ReceivesIf, Reverses, Sends, SendsIf, SomeOne, Updates, kind_of_call}
 use Rattle.dslx_meaning.specs.Lists.{with_both}
 use Rattle.dslx_meaning.specs.Environment.{Env}
-use Rattle.dslx_meaning.specs.Meaning.{ArmMeant, Evaluates, FieldMeant, Going, Meant, PatternMeant, Typing, call_meant, value_of, value_of_block, values_of}
+use Rattle.dslx_meaning.specs.Meaning.{Meant, PatternMeant, Typing, call_meant, value_of, value_of_block, values_of}
 use Rattle.dslx_meaning.specs.declared.value.Bare.{Bare}
-use Rattle.dslx_rules.specs.AggregateRules.{wanted_faults}
 use Rattle.dslx_rules.specs.CallRules.{call_judged, receiving, receiving_if, sending, sending_if}
 use Rattle.dslx_rules.specs.ControlRules.{same_ends, span_of_block, written_judged}
 use Rattle.dslx_rules.specs.ConstantRules.{constant_of}
@@ -27,7 +21,7 @@ use Rattle.dslx_rules.specs.Judging.{ExprPair, Judging, Sight, alone, breaks, no
 use Rattle.dslx_rules.specs.PatternRules.{is_there}
 use Rattle.dslx_meaning.specs.Types.{bool_type}
 use Rattle.dslx_meaning.specs.Values.{bool_value}
-use Rattle.dslx_rules.specs.Judgings.{ArmSeen, FieldSeen, PatternJudging, SightJudging, StatementJudging}
+use Rattle.dslx_rules.specs.Judgings.{PatternJudging, SightJudging, StatementJudging}
 use Rattle.dslx_rules.specs.NameRules.{name_judged}
 use Rattle.dslx_rules.specs.NodeRules.{block_pair, expr_pair, second_of}
 use Rattle.dslx_typed.specs.Complete.{IsFine}

@@ -4,11 +4,10 @@ use mathlib.Core.Bool.{true≢false}
 use Rattle.std.specs.List.{list_all}
 use Rattle.std.proofs.lemmas.List.Sums.{sum_by-cons}
 use Rattle.std.proofs.lemmas.Nat.{mod_low, pow-add, shr_high}
-use Rattle.std.proofs.Math.Nat.{mul-le-mul_right}
 use Rattle.std.proofs.lemmas.Bool.Decides.{Decides-ltb}
 use Rattle.xb_bits.specs.Word.{Word, word}
 use Rattle.xb_value.specs.Flat.{flat_of, joined}
-use Rattle.xb_value.specs.Unflat.{Taker, take_step, taken_by, taken_low, taken_times, unflat_of}
+use Rattle.xb_value.specs.Unflat.{Taker, take_step, taken_by, taken_low, taken_times}
 use Rattle.xb_value.specs.declared.ty.Ty as pty
 use Rattle.xb_value.specs.declared.ty.Ty.{Ty}
 use Rattle.xb_value.specs.declared.value.Value as plain
@@ -19,7 +18,7 @@ use Rattle.xb_value.proofs.Lemmas.Types.{EachHas}
 use Rattle.xb_value.proofs.Lemmas.Values.{flat_of-Bits, flat_of-Tuple, flat_of-Array}
 use Rattle.dslx_meaning.specs.Lists.{apply_each}
 use Rattle.dslx_meaning.specs.Types.{flat_bits, flat_bits_in, plain_step, plain_type}
-use Rattle.dslx_meaning.specs.Values.{at_type, at_type_step, flat_word, forget_step, from_word, parts_in_step, plain_parts, plain_value, plain_word, word_in_step}
+use Rattle.dslx_meaning.specs.Values.{at_type, at_type_step, forget_step, from_word, parts_in_step, plain_parts, plain_value, plain_word, word_in_step}
 use Rattle.dslx_meaning.specs.declared.ty.DslxType as ty
 use Rattle.dslx_meaning.specs.declared.ty.DslxType.{DslxType}
 use Rattle.dslx_meaning.specs.declared.ty.DslxType.TheFolds.{fold-roll-DslxType}

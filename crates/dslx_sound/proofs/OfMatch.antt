@@ -1,8 +1,8 @@
 -- `match`, where nothing is wrong with it: each value comes to an arm, and all arms have values of one type.
-use Rattle.std.proofs.Common.{◌≡◌, ◌&&◌, ◌||◌, ◌++◌, ℕ, Bool, true, false, not, if◌then◌else◌, List, [], ◌∷◌, map, Option, Some, None, refl, sym, ap, subst, ◌∙◌}
+use Rattle.std.proofs.Common.{◌≡◌, ◌&&◌, ◌||◌, ◌++◌, Bool, true, false, not, if◌then◌else◌, List, [], ◌∷◌, map, Option, Some, None, refl, sym, ap, subst, ◌∙◌}
 use mathlib.Core.Bool.{true≢false}
 use Rattle.std.specs.Prelude.{nat_le, ◌^◌}
-use Rattle.std.specs.List.{list_all, list_any}
+use Rattle.std.specs.List.{list_all}
 use Rattle.xb_span.specs.declared.fault.Fault.{Fault}
 use Rattle.xb_span.specs.declared.span.Span.{Span}
 use Rattle.dslx_meaning.specs.Lists.{all_some, and_then, last_of, or_else, where_true}
@@ -15,16 +15,15 @@ use Rattle.dslx_meaning.specs.declared.value.DslxValue.{DslxValue}
 use Rattle.dslx_rules.specs.AggregateRules.{is_some_tuple}
 use Rattle.dslx_rules.specs.ConstantRules.{is_empty}
 use Rattle.dslx_rules.specs.ControlRules.{AlternativesSeen, ArmJudged, all_known, all_words_match, alternatives_seen, arm_judged, arm_values, arms_faults, arms_reached, arms_size, differ, first_of_types, has_several, is_exhaustive, is_exhaustive_in, last_is_sure, match_faults, match_judged, not_exhaustive, some_binds, values_match}
-use Rattle.dslx_rules.specs.Judging.{ExprPair, Judgement, Sight, alone, breaks_if, has_broken, one_and, plus_size, types_of, with_typed}
+use Rattle.dslx_rules.specs.Judging.{ExprPair, Judgement, Sight, alone, has_broken, one_and, plus_size, types_of, with_typed}
 use Rattle.dslx_rules.specs.Judgings.{ArmSeen, PatternPair}
 use Rattle.dslx_rules.specs.PatternRules.{is_there, pattern_alone}
 use Rattle.dslx_typed.specs.Complete.{IsFine}
-use Rattle.dslx_typed.specs.Declared.{IsDeclared}
 use Rattle.dslx_typed.specs.Given.{GivesItsType, GivesOf}
 use Rattle.dslx_typed.specs.WellTyped.{ArmGives, EachArmGives, Fails, Fits, FitsOrFails, IsWellTyped, comes_to_an_arm, types_at}
 use Rattle.dslx_typed.proofs.Lemmas.{all_are, match_gives, none_some, or_false, same_some}
 use Rattle.dslx_sound.specs.Places.{IsFinePattern}
-use Rattle.dslx_sound.specs.Sound.{ArmHasValue, EachArmHasValue, EachPatternGives, ExprGives, HasItsValue, NarrowComes, PatternGives}
+use Rattle.dslx_sound.specs.Sound.{ArmHasValue, EachArmHasValue, EachPatternGives, ExprGives, HasItsValue, NarrowComes}
 use Rattle.dslx_sound.proofs.Fine.{IsSettled, all_in, all_in_three, alone_has, given, none_in, none_in_three, not_broken, settled_fine, some_fault, whole}
 
 -- ---- the alternatives of an arm

@@ -1,7 +1,7 @@
 -- Each value of a tuple of at most 8 bits comes to an arm of a `match` that breaks no rule.
-use Rattle.std.proofs.Common.{◌≡◌, ◌&&◌, ◌||◌, ◌^◌, ◌<◌, ◌≤◌, ℕ, zero, suc, Bool, true, false, if◌then◌else◌, List, [], ◌∷◌, map, Option, Some, None, ltb-false, arith, refl, sym, ap, subst, ◌∙◌}
+use Rattle.std.proofs.Common.{◌≡◌, ◌&&◌, ◌||◌, ◌^◌, ◌<◌, ◌≤◌, ℕ, zero, suc, Bool, true, false, if◌then◌else◌, List, [], ◌∷◌, map, Option, Some, None, ltb-false, arith, refl, sym, ap, ◌∙◌}
 use mathlib.Core.Bool.{true≢false}
-use Rattle.std.specs.Prelude.{nat_le, nat_lt}
+use Rattle.std.specs.Prelude.{nat_lt}
 use Rattle.std.specs.List.{list_all, list_any}
 use Rattle.std.proofs.lemmas.Bool.Decides.{Decides-ltb}
 use Rattle.xb_bits.specs.Word.{word}
@@ -14,10 +14,10 @@ use Rattle.dslx_meaning.specs.declared.ty.DslxType.{DslxType, out-DslxType}
 use Rattle.dslx_meaning.specs.declared.ty.DslxType.TheOpen.{DslxType-F}
 use Rattle.dslx_meaning.specs.declared.value.DslxValue.{DslxValue}
 use Rattle.dslx_rules.specs.AggregateRules.{is_some_tuple}
-use Rattle.dslx_rules.specs.ControlRules.{ArmJudged, all_words_match, alternatives_seen, arm_judged, arms_faults, arms_reached, is_exhaustive, is_exhaustive_in, is_matched, last_is_sure, values_match}
+use Rattle.dslx_rules.specs.ControlRules.{ArmJudged, all_words_match, alternatives_seen, arm_judged, arms_faults, arms_reached, is_exhaustive_in, is_matched, last_is_sure}
 use Rattle.dslx_rules.specs.Judging.{Sight, constant_env}
 use Rattle.dslx_rules.specs.Judgings.{ArmSeen, PatternPair}
-use Rattle.dslx_rules.specs.PatternRules.{is_there, pattern_alone}
+use Rattle.dslx_rules.specs.PatternRules.{is_there}
 use Rattle.dslx_typed.specs.Kinds.{is_of}
 use Rattle.dslx_typed.specs.WellTyped.{IsWellTyped, comes_to_an_arm}
 use Rattle.dslx_typed.proofs.Lemmas.{none_shown, same_some, shown}

@@ -1,5 +1,5 @@
 -- What types and patterns mean is one at two places at which all but locals are bound alike.
-use Rattle.std.proofs.Common.{◌≡◌, ◌&&◌, ◌++◌, ℕ, length, Bool, true, false, not, if◌then◌else◌, List, [], ◌∷◌, map, Option, Some, None, refl, sym, ap, subst, ◌∙◌}
+use Rattle.std.proofs.Common.{◌≡◌, ◌++◌, ℕ, length, Bool, true, false, not, if◌then◌else◌, List, [], ◌∷◌, map, Option, Some, None, refl, sym, ap, subst, ◌∙◌}
 use mathlib.Core.Bool.{true≢false}
 use Rattle.std.specs.Str.{bytes_eq}
 use Rattle.std.specs.List.{list_all, list_any}
@@ -8,8 +8,7 @@ use Rattle.xb_span.specs.declared.span.Span.{Span}
 use Rattle.dslx_tree.specs.declared.expr.Expr.{Expr}
 use Rattle.dslx_tree.specs.declared.ident.Ident.{Ident}
 use Rattle.dslx_meaning.specs.Lists.{all_some, and_then, is_in, with_both}
-use Rattle.dslx_meaning.specs.Types.{bool_type}
-use Rattle.dslx_meaning.specs.Values.{bool_value, elements_of, same_value}
+use Rattle.dslx_meaning.specs.Values.{elements_of, same_value}
 use Rattle.dslx_meaning.specs.Environment.{Env, Given, bind, given_in}
 use Rattle.dslx_meaning.specs.Items.{item_named}
 use Rattle.dslx_meaning.specs.Meaning as m
@@ -21,17 +20,17 @@ use Rattle.dslx_meaning.specs.declared.value.Bare.{Bare}
 use Rattle.dslx_meaning.specs.declared.value.DslxValue.{DslxValue}
 use Rattle.dslx_rules.specs.AggregateRules.{number_judged, range_faults}
 use Rattle.dslx_rules.specs.ConstantRules.{ConstantSeen, CountSeen, bare_judged, constant_of, count_faults, count_number, count_of, count_type_faults, count_with, names_a_local, number_of_value, size_faults}
-use Rattle.dslx_rules.specs.Judging.{ExprPair, Judgement, Sight, Typed, alone, bare_of, breaks, breaks_if, faults_of_all, reached_of_all, settled, span_of, types_of}
+use Rattle.dslx_rules.specs.Judging.{ExprPair, Judgement, Sight, Typed, alone, bare_of, breaks_if, faults_of_all, reached_of_all, settled, span_of, types_of}
 use Rattle.dslx_rules.specs.Judgings.{PatternPair, SightJudging, TypePair}
 use Rattle.dslx_rules.specs.Mentions.{AsType, free_names, is_of_use, mentioned}
 use Rattle.dslx_rules.specs.NameRules.{member_judged}
 use Rattle.dslx_rules.specs.PatternRules.{first_part_type, is_there, name_pattern, nothing_bound, one_value, other_part_types, part_types, parts_judged, shape_faults, tuple_faults, tuple_pattern}
-use Rattle.dslx_rules.specs.TypeRules.{array_of, counted_type, inner_type, inner_types, named_type, span_of_type, unit_faults, whole_type}
+use Rattle.dslx_rules.specs.TypeRules.{array_of, counted_type, inner_type, inner_types, named_type, span_of_type, unit_faults}
 use Rattle.dslx_laws.specs.Agreement.{AreBoundAlike}
 use Rattle.dslx_laws.proofs.Lemmas.{bound_alike, value_depends}
 use Rattle.dslx_typed.specs.Complete.{IsFine}
 use Rattle.dslx_typed.specs.InSight.{local_names}
-use Rattle.dslx_typed.proofs.Lemmas.{none_some, or_false}
+use Rattle.dslx_typed.proofs.Lemmas.{or_false}
 use Rattle.dslx_sound.specs.Places.{EachPatternSeesAlike, FitsAlike, IsFinePattern, PatternSeesAlike, SeeAlike, TypeSeesAlike}
 use Rattle.dslx_sound.proofs.Fine.{all_in, none_in, none_in_three, not_broken, settled_fine}
 

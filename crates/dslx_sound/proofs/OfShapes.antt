@@ -1,25 +1,21 @@
 -- Patterns, where nothing is wrong with them: what is in sight behind them, whether they fit or not.
-use Rattle.std.proofs.Common.{◌≡◌, ◌&&◌, ◌||◌, ◌++◌, ◌==◌, ℕ, suc, length, Bool, true, false, not, if◌then◌else◌, List, [], ◌∷◌, map, Option, Some, None, arith, refl, sym, ap, subst, ◌∙◌}
+use Rattle.std.proofs.Common.{◌≡◌, ◌&&◌, ◌||◌, ℕ, suc, length, Bool, true, false, not, if◌then◌else◌, List, [], ◌∷◌, map, Option, Some, None, arith, refl, sym, ap, subst, ◌∙◌}
 use mathlib.Core.Bool.{true≢false}
-use Rattle.std.specs.Option.{option_map}
 use Rattle.std.specs.List.{list_all}
-use Rattle.xb_span.specs.declared.fault.Fault.{Fault}
 use Rattle.xb_span.specs.declared.span.Span.{Span}
 use Rattle.dslx_tree.specs.declared.ident.Ident.{Ident}
 use Rattle.dslx_meaning.specs.Lists.{and_then}
 use Rattle.dslx_meaning.specs.Types.{bool_type}
-use Rattle.dslx_meaning.specs.Values.{bool_value, elements_of, type_of_value}
+use Rattle.dslx_meaning.specs.Values.{bool_value, elements_of}
 use Rattle.dslx_meaning.specs.Environment.{Env, bind}
 use Rattle.dslx_meaning.specs.Meaning.{Evaluates, PatternMeant, all_names, fit_each, fit_value}
-use Rattle.dslx_meaning.specs.declared.ty.DslxType as ty
 use Rattle.dslx_meaning.specs.declared.ty.DslxType.{DslxType, out-DslxType}
 use Rattle.dslx_meaning.specs.declared.ty.DslxType.TheOpen.{DslxType-F}
 use Rattle.dslx_meaning.specs.declared.value.DslxValue.{DslxValue}
 use Rattle.dslx_rules.specs.AggregateRules.{is_some_tuple}
 use Rattle.dslx_rules.specs.ConstantRules.{is_empty}
-use Rattle.dslx_rules.specs.Judging.{Instance, Judgement, Sight, Typed, breaks, breaks_if, has_broken, settled, with_typed}
+use Rattle.dslx_rules.specs.Judging.{Judgement, Sight, Typed, breaks_if, has_broken, settled, with_typed}
 use Rattle.dslx_rules.specs.Judgings.{PatternPair, PatternSeen, SightJudging}
-use Rattle.dslx_rules.specs.Mentions.{is_cyclic}
 use Rattle.dslx_rules.specs.NameRules.{member_judged}
 use Rattle.dslx_rules.specs.PatternRules.{first_part_type, is_there, name_pattern, nothing_bound, one_value, other_part_types, part_types, part_types_in, parts_judged, shape_faults, tuple_faults, tuple_pattern}
 use Rattle.dslx_typed.specs.Complete.{IsFine}
@@ -27,7 +23,7 @@ use Rattle.dslx_typed.specs.Declared.{AllDeclared, IsDeclared}
 use Rattle.dslx_typed.specs.Given.{GivesOf}
 use Rattle.dslx_typed.specs.Kinds.{each_of, is_of}
 use Rattle.dslx_typed.specs.WellTyped.{EachKeeps, Fits, IsWellTyped, types_at}
-use Rattle.dslx_typed.proofs.Lemmas.{bound_keeps, is_tuple_of, name_pattern_keeps, none_some, one_value_keeps, parts_declared, parts_of_type, same_some, tuple_pattern_keeps, unbroken_parts}
+use Rattle.dslx_typed.proofs.Lemmas.{bound_keeps, is_tuple_of, name_pattern_keeps, one_value_keeps, parts_declared, parts_of_type, same_some, tuple_pattern_keeps, unbroken_parts}
 use Rattle.dslx_sound.specs.Places.{IsFinePattern}
 use Rattle.dslx_sound.specs.Sound.{EachPatternGives, PartGives, PatternGives}
 use Rattle.dslx_sound.proofs.OfNames.{member_has}

@@ -1,6 +1,5 @@
 -- What operations make of numbers that lie below 2 to their width lies below 2 to its width.
 use Rattle.std.proofs.Common.{◌≡◌, ◌&&◌, ◌||◌, ◌==◌, ℕ, zero, suc, ◌+◌, ◌-◌, ◌*◌, ◌/◌, ◌%◌, ◌^◌, ◌<◌, ◌≤◌, min, lit<, Bool, true, false, not, if◌then◌else◌, Option, Some, None, refl, sym, ap, subst, ◌∙◌, arith, bit_and}
-use mathlib.Core.Bool.{true≢false}
 use Rattle.std.specs.Prelude.{nat_lt, nat_le, pos, negsuc, count_ones}
 use Rattle.std.specs.Int.{bit_at, int_shr}
 use Rattle.std.proofs.Math.Nat.{div-le_self, mod-le, pow-suc}

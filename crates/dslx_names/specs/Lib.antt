@@ -1,0 +1,4 @@
+-- names with what they stand for
+pub mod Bound
+-- what called names stand for
+pub mod Called

@@ -1,0 +1,12 @@
+//! What names stand for in a text: what is bound at a place, its items, and what is called.
+#![tactic(auto)]
+
+mod callee;
+mod items;
+mod scope;
+
+pub use callee::{Callee, callee_of};
+pub use items::{
+    find_constant, find_enum, find_field, find_function, find_item, find_member, find_struct,
+};
+pub use scope::{Binding, Scope};
