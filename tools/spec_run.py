@@ -3,14 +3,15 @@
 
 usage: spec_run.py TABLE .. [--NAME ..]
 
-It reads the definitions of `dslx_meaning`, `dslx_rules` and `dslx_heights` (and of the crates below them) as they stand, evaluates them at the
+It reads the definitions of `dslx_meaning`, `dslx_rules`, `dslx_heights` and `dslx_lowering` (and of the crates below them) as they stand, evaluates them at the
 texts of each TABLE, and compares what they come to with what the table wants. It is a help while definitions are written;
 nothing rests on it. A NAME is an example that is tried alone.
 
 A table has paragraphs. Each is a line with a name, a line with what is wanted, and the lines of a text (`dslx_terms.py`):
 `ok`, `rule R FROM TO` or `limit WORD FOUND MOST`: what the text's first fault is; `value SIGNED WIDTH NUMBER`: the constant X;
 `sent TURN`: what the first proc does at its first site; `turns WORDS | TURNS ; STATE`: its activation over words of 8 bits;
-`height N`: how high the text's tree is; `net PROCS | CHANNELS`: the network; `run ACTIVATIONS CHANNEL VALUE .. ; .. | LINE / ..`: what is left after a run over these words.
+`height N`: how high the text's tree is; `core NAME ARGUMENT .. ; .. | EXPRESSION`: what the last of these instances of functions becomes;
+`steps NAME ARGUMENT ..; INSTANCES | STEP; .. => EXPRESSION`: what the statements of that proc become behind these instances; `net PROCS | CHANNELS`: the network; `run ACTIVATIONS CHANNEL VALUE .. ; .. | LINE / ..`: what is left after a run over these words.
 """
 import os
 import re
@@ -186,6 +187,7 @@ SORTS = {
                   'Struct': [X, X, L(S('DslxValue'))], 'Enum': [X, X, X], 'Token': []},
     'Ty': {'Bits': [X], 'Tuple': [L(S('Ty'))], 'Array': [S('Ty'), X]},
     'Value': {'Bits': [X], 'Tuple': [L(S('Value'))], 'Array': [L(S('Value'))]},
+    'CoreShape': {'Wild': [], 'Bound': [], 'Equal': [X], 'Tuple': [L(S('CoreShape'))]},
 }
 
 
@@ -607,6 +609,7 @@ def lookup(m, name):
         word = re.match(r'^(fold|map|out|roll)-(\w+)$', name)
         if '.declared.' in entry[1] or word:
             kind, sort = word.group(1), word.group(2)
+            sort = 'CoreShape' if (sort, entry[1].partition('.')[0]) == ('Shape', 'dslx_core') else sort
             return fold(sort) if kind == 'fold' else mapped(sort) if kind == 'map' else IDENTITY
         return lookup(load(entry[1]), entry[2])
     value = compile_clauses(m, name, entry[1])
@@ -805,6 +808,10 @@ def answer(module, wanted):
         return 'value %s %d %d' % (str(force(b[0])).lower(), force(force(b[1])['width']), force(force(b[1])['value']))
     if kind == 'height':
         return 'height %d' % force(apply(lookup(load('dslx_heights.specs.Heights'), 'height_of'), (module,)))
+    if kind == 'core':
+        return core_text(module, wanted)
+    if kind == 'steps':
+        return steps_text(module, wanted)
     if kind == 'sent':
         net = load('dslx_meaning.specs.Network')
         bs = force(apply(lookup(net, 'behaviors_of'), (module, top)))
@@ -834,6 +841,73 @@ def answer(module, wanted):
         lines = spec_net.run(apply(lookup(net, 'network_of'), (module, top)), apply(lookup(net, 'behaviors_of'), (module, top)), words, int(given.split()[1]))
         return '%s| %s' % (given, ' / '.join(lines))
     raise ValueError(wanted)
+
+
+def instances_of(module, items, words):
+    """The instances of functions of these names and number arguments, or None."""
+    instances = [{'name': list(i.split()[0].encode()), 'numbers': numbers_of(i)} for i in words]
+    table = force(apply(lookup(load('dslx_lowering.specs.Functions'), 'instances_from'), (module, items, [], instances)))
+    return None if table.name == 'None' else table.args[0]
+
+
+def numbers_of(words):
+    return [Con('Bits', [False, {'width': 32, 'value': int(n)}]) for n in words.split()[1:]]
+
+
+def core_text(module, wanted):
+    given = wanted.partition(' |')[0]
+    items = apply(lookup(load('dslx_meaning.specs.Items'), 'meanings_of'), (module,))
+    table = instances_of(module, items, given.partition(' ')[2].split(';'))
+    if table is None:
+        return given + ' | none'
+    return given + ' | ' + core_words(force(force(force(table)[-1])['function'])['body'])
+
+
+def steps_text(module, wanted):
+    """The steps of the first proc of a text, behind instances of functions."""
+    given = wanted.partition(' |')[0]
+    items = apply(lookup(load('dslx_meaning.specs.Items'), 'meanings_of'), (module,))
+    first, _, others = given.partition(' ')[2].partition(';')
+    table = instances_of(module, items, [i for i in others.split(';') if i.strip()])
+    name = list(first.split()[0].encode())
+    proc = [force(force(i)['definition']).args[0] for i in force(force(module)['items']) if force(force(i)['definition']).name == 'Proc']
+    proc = [p for p in proc if deep(force(force(p)['name'])['name']) == name][0]
+    steps = load('dslx_lowering.specs.Steps')
+    known = apply(lookup(steps, 'proc_known'), (module, items, table, proc, numbers_of(first)))
+    got = force(apply(lookup(steps, 'next_lowered'), (known, proc)))
+    if got.name == 'None':
+        return given + ' | none'
+    got = force(got.args[0])
+    return '%s | %s => %s' % (given, '; '.join(step_words(s) for s in force(got['steps'])), core_words(got['next']))
+
+
+def step_words(s):
+    s = force(s)
+    if s.name == 'Bind':
+        return core_words(s)
+    r = force(s.args[0])
+    condition = force(r['condition'])
+    if condition.name == 'Some':
+        condition = force(condition.args[0])
+        parts = list(condition) if isinstance(condition, tuple) else [condition]
+    else:
+        parts = []
+    shown = [r['member'], r['word']] + parts if s.name == 'Receive' else [r['member']] + parts + [r['word']]
+    return '%s%s(%s)' % (s.name, 'If' if parts else '', ', '.join(core_words(x) for x in shown + [r['shape']]))
+
+
+def core_words(x):
+    """A core expression: each kind with its parts, words as WIDTH:NUMBER."""
+    x = force(x)
+    if isinstance(x, dict):
+        if 'width' in x:
+            return '%d:%d' % (force(x['width']), force(x['value']))
+        return '%s => %s' % (' | '.join(core_words(s) for s in force(x['shapes'])), core_words(x['value']))
+    if isinstance(x, list):
+        return '[%s]' % ', '.join(core_words(y) for y in x)
+    if isinstance(x, Con):
+        return x.name + ('(%s)' % ', '.join(core_words(a) for a in x.args) if x.args else '')
+    return str(x)
 
 
 def text(record, field):

@@ -183,7 +183,7 @@ is_token_of v e = by_level (out-DslxValue v) refl (sym (of_token v) ∙ e)
 abbrev OfOneType : DslxType → Type 0
 OfOneType t = (v : DslxValue) → is_of t v ≡ true → type_of_value v ≡ t
 
-typed_level : (v : DslxValue) (l : DslxValue-F DslxValue) → out-DslxValue v ≡ l → type_of_value v ≡ type_step (value.TheFolds.map-DslxValue DslxValue DslxType type_of_value l)
+pub typed_level : (v : DslxValue) (l : DslxValue-F DslxValue) → out-DslxValue v ≡ l → type_of_value v ≡ type_step (value.TheFolds.map-DslxValue DslxValue DslxType type_of_value l)
 typed_level v l e = ap type_of_value (rebuilt v l e) ∙ fold-roll-DslxValue DslxType type_step l
 
 parts_typed : (ts : List DslxType) (vs : List DslxValue) → EachHas OfOneType ts → each_of (map is_of ts) vs ≡ true → map type_of_value vs ≡ ts

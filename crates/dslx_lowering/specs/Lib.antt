@@ -1,0 +1,20 @@
+-- places in bodies, and which bound values names stand for
+pub mod CorePlaces
+-- what it means that a core expression stands for an expression of a text
+pub mod Correspondence
+-- types that are equal in all their parts
+pub mod EqualTypes
+-- operators, parts and calls
+pub mod Lowering
+-- patterns, arms, loops and blocks
+pub mod Patterns
+-- the recursion on trees
+pub mod Trees
+-- instances of functions
+pub mod Functions
+-- what it means that instances stand for those of a text
+pub mod Instances
+-- the steps of `next`
+pub mod Steps
+-- what it means that steps stand for statements
+pub mod Activities
