@@ -27,9 +27,9 @@ use Rattle.dslx_typed.specs.Complete.{EachArgumentDeclared, FitArguments, IsFine
 use Rattle.dslx_typed.specs.Declared.{IsDeclared}
 use Rattle.dslx_typed.specs.Given.{GivesOf}
 use Rattle.dslx_typed.specs.Kinds.{is_of}
-use Rattle.dslx_typed.specs.Numbers.{AllOwn, AreOwn}
+use Rattle.dslx_typed.specs.Numbers.{AllOwn}
 use Rattle.dslx_typed.specs.WellTyped.{IsWellTyped, types_at}
-use Rattle.dslx_typed.proofs.Lemmas.{all_are, declared_is, inferred_alike, list_parts, none_some, numbers_found, one_of_text, one_type, own_bound, same_some}
+use Rattle.dslx_typed.proofs.Lemmas.{all_are, declared_is, inferred_alike, list_parts, none_some, numbers_found, one_of_text, one_type, same_some}
 use Rattle.dslx_sound.specs.Sound.{EachExprGives, HasItsValue}
 use Rattle.dslx_sound.proofs.OfBuiltins.{wrongly_called}
 use Rattle.dslx_sound.proofs.OfNumbers.{numbers_given, numbers_known}
@@ -63,28 +63,28 @@ operands_have sight env h (e ∷ es) (x ∷ xs) k f r =
     }
 
 -- they are of the types of the arguments
-fit : (sight : Sight) (home : List ℕ) (bound : List Given) (fs : List Field) (es : List ExprPair) (vs : List DslxValue) → EachArgumentDeclared sight.known home fs → AreOwn sight.known.items.type_named bound → length es ≡ length fs
+fit : (sight : Sight) (home : List ℕ) (bound : List Given) (fs : List Field) (es : List ExprPair) (vs : List DslxValue) → EachArgumentDeclared sight.known home bound fs → length es ≡ length fs
     → types_of (all_alone sight es) ≡ map Some (map type_of_value vs) → AllOwn (types_at sight) vs → operand_faults sight.known home bound fs es (all_alone sight es) ≡ [] → FitArguments sight.known home bound fs vs
-fit sight home bound [] [] [] known bound_own n typed own f = tt
-fit sight home bound [] [] (v ∷ vs) known bound_own n typed own f = some_fault (Some (type_of_value v)) (map Some (map type_of_value vs)) (sym typed)
-fit sight home bound [] (e ∷ es) vs known bound_own n typed own f = absurd (none_long n)
+fit sight home bound [] [] [] known n typed own f = tt
+fit sight home bound [] [] (v ∷ vs) known n typed own f = some_fault (Some (type_of_value v)) (map Some (map type_of_value vs)) (sym typed)
+fit sight home bound [] (e ∷ es) vs known n typed own f = absurd (none_long n)
   where
     none_long : suc (length es) ≡ 0 → ⊥
     none_long q = omega (arith, q)
-fit sight home bound (g ∷ fs) [] vs known bound_own n typed own f = absurd (none_long n)
+fit sight home bound (g ∷ fs) [] vs known n typed own f = absurd (none_long n)
   where
     none_long : 0 ≡ suc (length fs) → ⊥
     none_long q = omega (arith, q)
-fit sight home bound (g ∷ fs) (e ∷ es) [] known bound_own n typed own f = some_fault (alone sight e).ty (types_of (all_alone sight es)) typed
-fit sight home bound (g ∷ fs) (e ∷ es) (v ∷ vs) known bound_own n typed own f =
+fit sight home bound (g ∷ fs) (e ∷ es) [] known n typed own f = some_fault (alone sight e).ty (types_of (all_alone sight es)) typed
+fit sight home bound (g ∷ fs) (e ∷ es) (v ∷ vs) known n typed own f =
     let p = none_in (wanted_faults (span_of e) (declared_type sight.known home bound g.ty) (alone sight e).ty) (operand_faults sight.known home bound fs es (all_alone sight es)) f in
     let q = list_parts (alone sight e).ty (Some (type_of_value v)) (types_of (all_alone sight es)) (map Some (map type_of_value vs)) typed in
     let fewer : length es ≡ length fs = omega (arith, n) in (
       (λ t d.
           let same = passed (same_type t (type_of_value v)) 9 (span_of e) ((λ i. wanted_faults (span_of e) (sym d i) (sym q.0 i)) ∙ p.0) in
-          let one = one_of_text (types_at sight) t (type_of_value v) same (known.0 bound t bound_own (declared_is sight.known home bound g.ty t d)) own.0.declared in
+          let one = one_of_text (types_at sight) t (type_of_value v) same (known.0 t (declared_is sight.known home bound g.ty t d)) own.0.declared in
           subst (λ u. GivesOf (types_at sight) u (Some v)) (sym one) own.0),
-      fit sight home bound fs es vs known.1 bound_own fewer q.1 own.1 p.1,
+      fit sight home bound fs es vs known.1 fewer q.1 own.1 p.1,
     )
 
 -- nothing that is unknown might be inferred
@@ -187,14 +187,14 @@ called span sight env name f as' ns es xs cyclic kn kx h is count ts typed fine 
         let g = numbers_given sight env h as' ns kn w.numbers_given w.numbers_reach in
         let o = operands_have sight env h es xs kx w.operands_given w.operands_reach in
         let k = h.known.functions name f is in
-        let m = numbers_known sight.known home inferred [] f.parameters gs k.parameters (λ n v e. none_some v e) g.each w.numbers w.defaults_reach w.right in
+        let m = numbers_known sight.known home inferred [] f.parameters gs k.parameters g.each w.numbers w.defaults_reach w.right in
         let sound = and_both (sight.known.is_sound (record { name = home; numbers = m.numbers })) true
         ((λ i. list_all sight.known.is_sound (reached_by (has_broken (sym w.no_cycle i) || sym w.right i) home (sym m.all i))) ∙ w.found) in
-        let c = k.calls m.numbers m.own sound.0 in
+        let c = k.calls m.numbers m.fit sound.0 in
         let own : ts ≡ map type_of_value o.values = same_lists ts (map type_of_value o.values) (sym typed ∙ o.typed) in
-        let numbers = numbers_found sight.known sight.known.items home inferred [] [] f.parameters gs g.values m.numbers k.mean (λ n v e. none_some v e) m.own g.mean m.all in
+        let numbers = numbers_found sight.known sight.known.items home inferred [] [] f.parameters gs g.values m.numbers k.mean m.fit g.mean m.all in
         let same : inferred ≡ inferred_from f.arguments (map type_of_value o.values) = inferred_alike f.arguments ts ∙ ap (inferred_from f.arguments) own in
-        let fits = fit sight home n.bound f.arguments es o.values k.arguments (subst (AreOwn sight.known.items.type_named) (sym m.shown) (own_bound sight.known.items.type_named [] f.parameters m.numbers (λ n v e. none_some v e) m.own)) count o.typed o.own
+        let fits = fit sight home n.bound f.arguments es o.values (subst (λ b. EachArgumentDeclared sight.known home b f.arguments) (sym m.shown) (k.arguments m.numbers m.fit)) count o.typed o.own
         (ap (λ b. if◌then◌else◌ {A = List Fault} b [] (operand_faults sight.known home n.bound f.arguments es js)) (sym w.right) ∙ w.operands) in
         let v = c.gives g.values o.values (ap (λ i. all_numbers sight.known.items i [] f.parameters g.values) (sym same) ∙ numbers)
         (subst (λ b. FitArguments sight.known home b f.arguments o.values) m.shown fits) in

@@ -21,7 +21,7 @@ use Rattle.dslx_rules.specs.CallRules.{GivenNumber, Resolved, Number, Unknown, W
 use Rattle.dslx_typed.specs.Declared.{Declarations, IsDeclared}
 use Rattle.dslx_typed.specs.Given.{GivesOf}
 use Rattle.dslx_typed.specs.Kinds.{is_of}
-use Rattle.dslx_typed.specs.Numbers.{ParameterMeans, ParametersMean, GivenMean, AllOwn, AreOwn}
+use Rattle.dslx_typed.specs.Numbers.{FitNumbers, ParameterMeans, ParametersMean, GivenMean, AllOwn, AreOwn}
 use Rattle.dslx_typed.proofs.Judged.{none_some, same_some}
 use Rattle.dslx_typed.proofs.OfAggregates.{and_then_type}
 use Rattle.dslx_typed.proofs.OfTypes.{one_type}
@@ -109,16 +109,16 @@ number_or_wrong None = refl
 number_or_wrong (Some v) = refl
 
 -- a parameter that isn't given
-found_otherwise : (known : Known) (items : Meanings) (home : List ℕ) (inferred : List Inferred) (so_far : List Given) (p : Parameter) (maybe : Bool) (v : DslxValue) → ParameterMeans known items home p → AreOwn known.items.type_named so_far
+found_otherwise : (known : Known) (items : Meanings) (home : List ℕ) (inferred : List Inferred) (so_far : List Given) (p : Parameter) (maybe : Bool) (v : DslxValue) → ParameterMeans known items home so_far p
     → number_of (not_given known home so_far [] p (declared_type known home so_far p.ty) maybe (numbers_for p.name.name inferred)).value ≡ Some v
     → inferred_value (record { items = items; bound = so_far }) p (inferred_for p.name.name inferred) ≡ Some v
-found_otherwise known items home inferred so_far p maybe v means own e =
+found_otherwise known items home inferred so_far p maybe v means e =
     ap (inferred_value (record { items = items; bound = so_far }) p) (first_for p.name.name inferred (numbers_for p.name.name inferred) refl) ∙ by_numbers (numbers_for p.name.name inferred) e
   where
     by_default : (o : Option Expr) → p.default ≡ o → number_of (default_value known home so_far [] (declared_type known home so_far p.ty) o).value ≡ Some v
         → and_then o (λ e. value_of e (record { items = items; bound = so_far })) ≡ Some v
     by_default None d h = none_some v h
-    by_default (Some x) d h = means.defaults so_far x v own d (of_its_type (declared_type known home so_far p.ty) (known.default_in home so_far [] x).value v (sym (of_resolved (of_type (declared_type known home so_far p.ty) (known.default_in home so_far [] x).value)) ∙ h))
+    by_default (Some x) d h = means.defaults x v d (of_its_type (declared_type known home so_far p.ty) (known.default_in home so_far [] x).value v (sym (of_resolved (of_type (declared_type known home so_far p.ty) (known.default_in home so_far [] x).value)) ∙ h))
 
     by_maybe : (b : Bool) → number_of (not_given known home so_far [] p (declared_type known home so_far p.ty) b []).value ≡ Some v
         → and_then p.default (λ e. value_of e (record { items = items; bound = so_far })) ≡ Some v
@@ -129,7 +129,7 @@ found_otherwise known items home inferred so_far p maybe v means own e =
         → and_then (written_type p.ty (record { items = items; bound = so_far })) (λ t. number_value t (record { is_negative = false; value = n })) ≡ Some v
     by_type n None q h = none_some v h
     by_type n (Some t) q h =
-        ap (λ o. and_then o (λ t. number_value t (record { is_negative = false; value = n }))) (means.types so_far t own (declared_is known home so_far p.ty t q))
+        ap (λ o. and_then o (λ t. number_value t (record { is_negative = false; value = n }))) (means.types t (declared_is known home so_far p.ty t q))
         ∙ sym (number_or_wrong (number_value t (record { is_negative = false; value = n }))) ∙ h
 
     by_one : (n : ℕ) (b : Bool) → number_of (if b then in_type (declared_type known home so_far p.ty) n else Wrong) ≡ Some v
@@ -168,27 +168,27 @@ own_bound types so_far (p ∷ ps) (v ∷ vs) h k = own_bound types (with_number 
 -- ---- all parameters
 
 pub numbers_found : (known : Known) (items : Meanings) (home : List ℕ) (inferred : List Inferred) (maybe : List (List ℕ)) (so_far : List Given) (ps : List Parameter)
-    (gs : List GivenNumber) (vs ws : List DslxValue) → ParametersMean known items home ps → AreOwn known.items.type_named so_far → AllOwn known.items.type_named ws → GivenMean gs vs → (numbers_seen known home inferred maybe so_far [] ps gs).values ≡ Some ws → all_numbers items inferred so_far ps vs ≡ Some ws
-numbers_found known items home inferred maybe so_far [] [] [] ws means own each h e = e
-numbers_found known items home inferred maybe so_far [] [] (v ∷ vs) ws means own each h e = absurd h
-numbers_found known items home inferred maybe so_far [] (g ∷ gs) vs ws means own each h e = none_some ws e
-numbers_found known items home inferred maybe so_far (p ∷ ps) (g ∷ gs) [] ws means own each h e = absurd h
-numbers_found known items home inferred maybe so_far (p ∷ ps) [] (v ∷ vs) ws means own each h e = absurd h
-numbers_found known items home inferred maybe so_far (p ∷ ps) (g ∷ gs) (v ∷ vs) ws means own each h e =
+    (gs : List GivenNumber) (vs ws : List DslxValue) → ParametersMean known items home so_far ps → FitNumbers known home so_far ps ws → GivenMean gs vs → (numbers_seen known home inferred maybe so_far [] ps gs).values ≡ Some ws → all_numbers items inferred so_far ps vs ≡ Some ws
+numbers_found known items home inferred maybe so_far [] [] [] ws means fit h e = e
+numbers_found known items home inferred maybe so_far [] [] (v ∷ vs) ws means fit h e = absurd h
+numbers_found known items home inferred maybe so_far [] (g ∷ gs) vs ws means fit h e = none_some ws e
+numbers_found known items home inferred maybe so_far (p ∷ ps) (g ∷ gs) [] ws means fit h e = absurd h
+numbers_found known items home inferred maybe so_far (p ∷ ps) [] (v ∷ vs) ws means fit h e = absurd h
+numbers_found known items home inferred maybe so_far (p ∷ ps) (g ∷ gs) (v ∷ vs) ws means fit h e =
     let t = declared_type known home so_far p.ty in
     let r = resolved_value (of_type t g.seen.value) in
     let a = taken_apart r (numbers_seen known home inferred maybe (bound_by_number so_far p r) (unknown_behind [] p r) ps gs).values ws e in
     let one = of_its_type t g.seen.value a.first (sym (of_resolved (of_type t g.seen.value)) ∙ ap number_of a.known) in
     let same = h.0 a.first one in
-    let each_own = subst (AllOwn known.items.type_named) (sym a.all) each in
-    let more = numbers_found known items home inferred maybe (with_number so_far p a.first) ps gs vs a.rest means.1 (own_more known.items.type_named so_far p a.first own each_own.0) each_own.1 h.1
+    let fits = subst (FitNumbers known home so_far (p ∷ ps)) (sym a.all) fit in
+    let more = numbers_found known items home inferred maybe (with_number so_far p a.first) ps gs vs a.rest (means.1 fits.0.0 a.first fits.0.1 fits.0.2) fits.1 h.1
     (ap (λ r. (numbers_seen known home inferred maybe (bound_by_number so_far p r) (unknown_behind [] p r) ps gs).values) (sym a.known) ∙ a.others) in
     (λ i. put_first (same i) (all_numbers items inferred (with_number so_far p (same i)) ps vs)) ∙ ap (put_first a.first) more ∙ ap Some a.all
-numbers_found known items home inferred maybe so_far (p ∷ ps) [] [] ws means own each h e =
+numbers_found known items home inferred maybe so_far (p ∷ ps) [] [] ws means fit h e =
     let r = not_given known home so_far [] p (declared_type known home so_far p.ty) (is_in p.name.name maybe) (numbers_for p.name.name inferred) in
     let a = taken_apart r.value (numbers_seen known home inferred maybe (bound_by_number so_far p r.value) (unknown_behind [] p r.value) ps []).values ws e in
-    let one = found_otherwise known items home inferred so_far p (is_in p.name.name maybe) a.first means.0 own (ap number_of a.known) in
-    let each_own = subst (AllOwn known.items.type_named) (sym a.all) each in
-    let more = numbers_found known items home inferred maybe (with_number so_far p a.first) ps [] [] a.rest means.1 (own_more known.items.type_named so_far p a.first own each_own.0) each_own.1 tt
+    let one = found_otherwise known items home inferred so_far p (is_in p.name.name maybe) a.first means.0 (ap number_of a.known) in
+    let fits = subst (FitNumbers known home so_far (p ∷ ps)) (sym a.all) fit in
+    let more = numbers_found known items home inferred maybe (with_number so_far p a.first) ps [] [] a.rest (means.1 fits.0.0 a.first fits.0.1 fits.0.2) fits.1 tt
     (ap (λ r. (numbers_seen known home inferred maybe (bound_by_number so_far p r) (unknown_behind [] p r) ps []).values) (sym a.known) ∙ a.others) in
     ap (λ o. and_then o (λ v. put_first v (all_numbers items inferred (with_number so_far p v) ps []))) one ∙ ap (put_first a.first) more ∙ ap Some a.all

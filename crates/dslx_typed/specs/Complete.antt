@@ -9,7 +9,7 @@ use Rattle.dslx_tree.specs.declared.expr.Expr.{Expr}
 use Rattle.dslx_meaning.specs.Types.{is_unit}
 use Rattle.dslx_meaning.specs.Values.{type_of_value}
 use Rattle.dslx_meaning.specs.Environment.{Given}
-use Rattle.dslx_meaning.specs.Items.{item_named, as_function, as_struct, is_constant_item, name_of_field, numbers_bound, all_numbers, inferred_from}
+use Rattle.dslx_meaning.specs.Items.{with_number, item_named, as_function, as_struct, is_constant_item, name_of_field, numbers_bound, all_numbers, inferred_from}
 use Rattle.dslx_meaning.specs.declared.ty.DslxType.{DslxType}
 use Rattle.dslx_meaning.specs.declared.ty.DslxType as ty
 use Rattle.dslx_meaning.specs.declared.value.DslxValue.{DslxValue}
@@ -18,7 +18,7 @@ use Rattle.dslx_rules.specs.CallRules.{declared_type, result_type}
 use Rattle.dslx_rules.specs.Mentions.{is_of_use, AsType}
 use Rattle.dslx_typed.specs.Declared.{Declarations, IsDeclared, DeclaresParts}
 use Rattle.dslx_typed.specs.Given.{GivesOf, OwnTypes}
-use Rattle.dslx_typed.specs.Numbers.{ParametersMean, AllOwn, AreOwn}
+use Rattle.dslx_typed.specs.Numbers.{FitNumbers, ParametersMean}
 
 -- nothing that a part breaks or passes, and nothing that it reaches does
 pub record IsFine (known : Known) (j : Judgement) : Type 0 where
@@ -61,31 +61,32 @@ pub record IsDefaultKnown (types : Declarations) (seen : DefaultSeen) : Type 0 w
   pub typed : seen.judgement.ty ≡ Some (type_of_value value)
   pub own : GivesOf types (type_of_value value) (Some value)
 
--- a number parameter of a function, behind parameters with values of their own types: its type is one of the text, and where
--- nothing is wrong with its type and its default, both are known
-pub record IsParameterKnown (known : Known) (home : List ℕ) (p : Parameter) : Type 0 where
-  pub declared : (so_far : List Given) (t : DslxType) → AreOwn known.items.type_named so_far → known.type_in home so_far p.ty ≡ Some t → IsDeclared known.items.type_named t
-  pub typed : (so_far : List Given) → AreOwn known.items.type_named so_far → IsFine known (known.type_seen_in home so_far [] p.ty) → IsTypeKnown (known.type_in home so_far p.ty)
-  pub default : (so_far : List Given) (e : Expr) → AreOwn known.items.type_named so_far → p.default ≡ Some e → IsFine known (known.default_in home so_far [] e).judgement
-      → IsDefaultKnown known.items.type_named (known.default_in home so_far [] e)
+-- a number parameter of a function, behind these: its type is one of the text, and where nothing is wrong with its type and its
+-- default, both are known
+pub record IsParameterKnown (known : Known) (home : List ℕ) (so_far : List Given) (p : Parameter) : Type 0 where
+  pub declared : (t : DslxType) → known.type_in home so_far p.ty ≡ Some t → IsDeclared known.items.type_named t
+  pub typed : IsFine known (known.type_seen_in home so_far [] p.ty) → IsTypeKnown (known.type_in home so_far p.ty)
+  pub default : (e : Expr) → p.default ≡ Some e → IsFine known (known.default_in home so_far [] e).judgement → IsDefaultKnown known.items.type_named (known.default_in home so_far [] e)
 
-abbrev pub EachParameterKnown : Known → List ℕ → List Parameter → Type 0
-EachParameterKnown known home [] = Unit {0}
-EachParameterKnown known home (p ∷ ps) = IsParameterKnown known home p × EachParameterKnown known home ps
+-- all parameters, each behind values of the types of those before it
+abbrev pub EachParameterKnown : Known → List ℕ → List Given → List Parameter → Type 0
+EachParameterKnown known home so_far [] = Unit {0}
+EachParameterKnown known home so_far (p ∷ ps) =
+    IsParameterKnown known home so_far p
+    × ((t : DslxType) (v : DslxValue) → declared_type known home so_far p.ty ≡ Some t → GivesOf known.items.type_named t (Some v) → EachParameterKnown known home (with_number so_far p v) ps)
 
--- the types of arguments, where they are known, are types of the text, behind number parameters with values of their own types
-abbrev pub EachArgumentDeclared : Known → List ℕ → List Field → Type 0
-EachArgumentDeclared known home [] = Unit {0}
-EachArgumentDeclared known home (f ∷ fs) =
-    ((bound : List Given) (t : DslxType) → AreOwn known.items.type_named bound → known.type_in home bound f.ty ≡ Some t → IsDeclared known.items.type_named t) × EachArgumentDeclared known home fs
+-- the types of arguments, where they are known, are types of the text
+abbrev pub EachArgumentDeclared : Known → List ℕ → List Given → List Field → Type 0
+EachArgumentDeclared known home bound [] = Unit {0}
+EachArgumentDeclared known home bound (f ∷ fs) = ((t : DslxType) → known.type_in home bound f.ty ≡ Some t → IsDeclared known.items.type_named t) × EachArgumentDeclared known home bound fs
 
 -- a function of the text: its number parameters by their types and defaults, its arguments by their types, and what its instances
--- give with which nothing is wrong
+-- give with which nothing is wrong, where the number parameters have values of their types
 pub record IsFunctionKnown (known : Known) (name : List ℕ) (f : Function) : Type 0 where
-  pub mean : ParametersMean known known.items f.name.name f.parameters
-  pub parameters : EachParameterKnown known f.name.name f.parameters
-  pub arguments : EachArgumentDeclared known f.name.name f.arguments
-  pub calls : (numbers : List DslxValue) → AllOwn known.items.type_named numbers → known.is_sound (record { name = f.name.name; numbers = numbers }) ≡ true → IsCallable known f name numbers
+  pub mean : ParametersMean known known.items f.name.name [] f.parameters
+  pub parameters : EachParameterKnown known f.name.name [] f.parameters
+  pub arguments : (numbers : List DslxValue) → FitNumbers known f.name.name [] f.parameters numbers → EachArgumentDeclared known f.name.name (numbers_bound [] f.parameters numbers) f.arguments
+  pub calls : (numbers : List DslxValue) → FitNumbers known f.name.name [] f.parameters numbers → known.is_sound (record { name = f.name.name; numbers = numbers }) ≡ true → IsCallable known f name numbers
 
 -- all items of the text are known: constants by their values, types, enums and structs by what they name, and functions
 pub record IsComplete (known : Known) : Type 0 where
