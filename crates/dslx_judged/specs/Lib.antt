@@ -1,0 +1,2 @@
+-- what is reached, by what is mentioned
+pub mod Reached
