@@ -4,8 +4,8 @@ pub use Rattle.dslx_typed.proofs.Judged.{none_some, same_some, or_false, not_fal
 pub use Rattle.dslx_typed.proofs.OfTypes.{of_enum, ElementsOf, is_array_of, is_bits_of, is_enum_of, is_struct_of, is_token_of, is_tuple_of, of_token, one_type, type_induction}
 pub use Rattle.dslx_typed.proofs.OfLists.{all_are, all_there}
 pub use Rattle.dslx_typed.proofs.OfWords.{and_reduce_lies, clz_lies, ctz_lies, or_reduce_lies, rev_lies, xor_reduce_lies}
-pub use Rattle.dslx_typed.proofs.OneName.{tuple_declared, one_of_text, like_itself, list_parts, parts_declared}
-pub use Rattle.dslx_typed.proofs.OfOperators.{binary_gives, prefix_gives, cast_gives}
+pub use Rattle.dslx_typed.proofs.OneName.{array_declared, element_declared, struct_declared, tuple_declared, one_of_text, like_itself, list_parts, parts_declared}
+pub use Rattle.dslx_typed.proofs.OfOperators.{bits_declared, binary_gives, prefix_gives, cast_gives}
 pub use Rattle.dslx_typed.proofs.OfAggregates.{index_gives, tuple_gives, tuple_part_given}
 pub use Rattle.dslx_typed.proofs.OfArrays.{number_given, untyped_gives, typed_gives}
 pub use Rattle.dslx_typed.proofs.OfNames.{name_gives, member_gives, bool_gives, number_gives}
