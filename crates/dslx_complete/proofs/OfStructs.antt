@@ -109,8 +109,8 @@ fields_stand sight env h before (g ∷ fs) f r =
       declared = (m.1, more.declared);
       means = λ i. m.0 i ∷ more.means i;
       own = λ names all q. (
-          itself_found before names all g.name.name (map name_of_field fs) k.0 more.types q fresh.1,
-          more.own names all (one_further before names all g.name.name (map name_of_field fs) k.0 more.types q),
+        itself_found before names all g.name.name (map name_of_field fs) k.0 more.types q fresh.1,
+        more.own names all (one_further before names all g.name.name (map name_of_field fs) k.0 more.types q),
       );
     }
 

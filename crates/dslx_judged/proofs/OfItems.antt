@@ -52,7 +52,7 @@ and_both true q e = (refl, e)
 and_both false q e = absurd (true≢false (sym e))
 
 -- the text of what is known is the text
-whole_is : (m : Module) (n : ℕ) → (known_within m n).whole ≡ m
+pub whole_is : (m : Module) (n : ℕ) → (known_within m n).whole ≡ m
 whole_is m zero = refl
 whole_is m (suc n) = whole_is m n
 
@@ -410,20 +410,20 @@ found_item P known numbers (d.Alias a) h = tt
 found_item P known numbers (d.Struct s) h = tt
 found_item P known numbers (d.Enum n) h = tt
 
-named_mentions : (P : List ℕ → Bool) (m : Module) → IsClosed P m → (n : ℕ) (name : List ℕ) (x : Definition) → item_named name m.items ≡ Some x → P name ≡ true → MentionsReach P (known_within m n) (definition_mentions x)
-named_mentions P m closed n name x e p = mentions_reach P m (known_within m n) (whole_is m n) (all_reach P m closed n) (definition_mentions x) (own_mentions P m closed name x e p)
+named_mentions : (P : List ℕ → Bool) (m : Module) → IsClosed P m → (n : ℕ) (x : Definition) → list_all P (names_meant m (definition_mentions x)) ≡ true → MentionsReach P (known_within m n) (definition_mentions x)
+named_mentions P m closed n x h = mentions_reach P m (known_within m n) (whole_is m n) (all_reach P m closed n) (definition_mentions x) h
 
--- an instance of an item whose name passes the test reaches instances of such alone
-pub instances_reach : (P : List ℕ → Bool) (m : Module) → IsClosed P m → (n : ℕ) (i : Instance) → P i.name ≡ true → AllNamed P (found_of_instance (known_within m n) i).reached
-instances_reach P m closed n i p = by_item (item_named i.name (known_within m n).whole.items) refl
+-- an instance of an item that mentions items alone whose names pass the test reaches instances of such alone
+pub instances_reach : (P : List ℕ → Bool) (m : Module) → IsClosed P m → (n : ℕ) (i : Instance) → list_all P (mentions_of m (item_named i.name m.items)) ≡ true → AllNamed P (found_of_instance (known_within m n) i).reached
+instances_reach P m closed n i h = by_item (item_named i.name (known_within m n).whole.items) (λ j. item_named i.name (whole_is m n j).items)
   where
-    by_item : (o : Option Definition) → item_named i.name (known_within m n).whole.items ≡ o → AllNamed P (found_of_item (known_within m n) i.numbers o).reached
+    by_item : (o : Option Definition) → o ≡ item_named i.name m.items → AllNamed P (found_of_item (known_within m n) i.numbers o).reached
     by_item None q = tt
-    by_item (Some x) q = found_item P (known_within m n) i.numbers x (named_mentions P m closed n i.name x ((λ j. item_named i.name (sym (whole_is m n) j).items) ∙ q) p)
+    by_item (Some x) q = found_item P (known_within m n) i.numbers x (named_mentions P m closed n x ((λ j. list_all P (mentions_of m (q j))) ∙ h))
 
 -- so does an item by its own text
-pub items_reach : (P : List ℕ → Bool) (m : Module) → IsClosed P m → (n : ℕ) (name : List ℕ) (x : Definition) → item_named name m.items ≡ Some x → P name ≡ true → AllNamed P (item_found (known_within m n) x).reached
-items_reach P m closed n name x e p = item_reaches_alone P (known_within m n) x (named_mentions P m closed n name x e p)
+pub items_reach : (P : List ℕ → Bool) (m : Module) → IsClosed P m → (n : ℕ) (x : Definition) → list_all P (mentions_of m (Some x)) ≡ true → AllNamed P (item_found (known_within m n) x).reached
+items_reach P m closed n x h = item_reaches_alone P (known_within m n) x (named_mentions P m closed n x h)
 
 -- and an expression that mentions such items alone
 pub expressions_reach : (P : List ℕ → Bool) (m : Module) → IsClosed P m → (n : ℕ) (e : Expr) (bound : List (List ℕ)) (on_top : Bool) (sight : Sight) → sight.known ≡ known_within m n → list_all P (names_meant m (mentioned e bound)) ≡ true

@@ -6,4 +6,6 @@
 
 mod reached;
 
-pub use reached::{items_reach_what_they_mention, what_is_reached_is_mentioned};
+pub use reached::{
+    instances_reach_one_another, items_reach_what_they_mention, what_is_reached_is_mentioned,
+};
