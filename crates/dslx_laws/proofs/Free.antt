@@ -1,5 +1,5 @@
 -- Values depend on what is mentioned, and so on free names alone.
-use Rattle.std.proofs.Common.{ℕ, List, [], ◌∷◌, refl, sym, ap, ◌∙◌}
+use Rattle.std.proofs.Common.{ℕ, List, [], ◌∷◌, refl, ap}
 use Rattle.dslx_tree.specs.declared.expr.Expr.{Expr}
 use Rattle.dslx_tree.specs.declared.block.Block.{Block}
 use Rattle.dslx_tree.specs.declared.type_expr.TypeExpr.{TypeExpr}
@@ -8,7 +8,7 @@ use Rattle.dslx_meaning.specs.Lists.{or_else}
 use Rattle.dslx_meaning.specs.Environment.{Meanings, Given}
 use Rattle.dslx_meaning.specs.Meaning.{meant, value_of_block, written_type}
 use Rattle.dslx_rules.specs.Mentions.{Use, AsValue, AsPattern, AsType, AsFunction, AsProc, AsEnum, AsStruct, Mention, mentioned, mentioned_in_block, mentioned_in_type, value_names}
-use Rattle.dslx_laws.specs.Agreement.{MeansOne, AgreeOn, AreBoundAlike, HidesNoConstant}
+use Rattle.dslx_laws.specs.Agreement.{MeansOne, AgreeOn, AreBoundAlike, BindConstantsAlike}
 use Rattle.dslx_laws.proofs.Dependence.{meanings, mentions, meaning_steps, mention_steps, dependence, ValueDepends, BlockDepends, TypeDepends, all_depend}
 
 pub value_depends : (e : Expr) → ValueDepends (meant e) (mentioned e)
@@ -21,15 +21,15 @@ pub written_type_depends : (t : TypeExpr) → TypeDepends (written_type t) (ment
 written_type_depends = related_type_expr meanings mentions dependence meaning_steps mention_steps all_depend
 
 -- names that are bound alike mean the same where the items are the same
-pub bound_alike : (items : Meanings) (bound others : List Given) → HidesNoConstant items bound → HidesNoConstant items others → (ms : List Mention)
+pub bound_alike : (items : Meanings) (bound others : List Given) → BindConstantsAlike items bound others → (ms : List Mention)
     → AreBoundAlike (value_names ms) bound others → AgreeOn ms (record { items = items; bound = bound }) (record { items = items; bound = others })
-bound_alike items bound others p q [] h = tt
-bound_alike items bound others p q (m ∷ ms) h = let r = by_use m.use_as m.name h in (r.0, bound_alike items bound others p q ms r.1)
+bound_alike items bound others p [] h = tt
+bound_alike items bound others p (m ∷ ms) h = let r = by_use m.use_as m.name h in (r.0, bound_alike items bound others p ms r.1)
   where
     by_use : (u : Use) (name : List ℕ) → AreBoundAlike (value_names (record { use_as = u; name = name } ∷ ms)) bound others
         → MeansOne (record { items = items; bound = bound }) (record { items = items; bound = others }) u name × AreBoundAlike (value_names ms) bound others
     by_use AsValue name h = (ap (λ o. or_else o (items.constant name)) h.0, h.1)
-    by_use AsPattern name h = (record { kind = refl; constant = λ c. refl; value = λ c. ap (λ o. or_else o (items.constant name)) (p name c ∙ sym (q name c)) }, h)
+    by_use AsPattern name h = (record { kind = refl; constant = λ c. refl; value = λ c. ap (λ o. or_else o (items.constant name)) (p name c) }, h)
     by_use AsType name h = (refl, h)
     by_use AsFunction name h = (λ numbers operands. refl, h)
     by_use AsProc name h = (tt, h)

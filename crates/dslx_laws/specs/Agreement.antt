@@ -1,5 +1,5 @@
 -- What two environments have in common where a text means the same in both.
-use Rattle.std.specs.Prelude.{◌≡◌, ℕ, List, [], ◌∷◌, None, true}
+use Rattle.std.specs.Prelude.{◌≡◌, ℕ, List, [], ◌∷◌, true}
 use Rattle.dslx_meaning.specs.Environment.{Meanings, Env, Given, given_in, value_of_name}
 use Rattle.dslx_meaning.specs.declared.value.DslxValue.{DslxValue}
 use Rattle.dslx_rules.specs.Mentions.{Use, AsValue, AsPattern, AsType, AsFunction, AsProc, AsEnum, AsStruct, Mention}
@@ -30,6 +30,6 @@ abbrev pub AreBoundAlike : List (List ℕ) → List Given → List Given → Typ
 AreBoundAlike [] bound others = Unit {0}
 AreBoundAlike (n ∷ ns) bound others = (given_in n bound ≡ given_in n others) × AreBoundAlike ns bound others
 
--- no constant has the name of something that is bound
-abbrev pub HidesNoConstant : Meanings → List Given → Type 0
-HidesNoConstant items bound = (name : List ℕ) → items.is_constant name ≡ true → given_in name bound ≡ None
+-- what has the name of a constant is bound alike in both
+abbrev pub BindConstantsAlike : Meanings → List Given → List Given → Type 0
+BindConstantsAlike items bound others = (name : List ℕ) → items.is_constant name ≡ true → given_in name bound ≡ given_in name others

@@ -20,7 +20,7 @@ ghost use Rattle.dslx_meaning.specs.declared.value.DslxValue.{DslxValue};
 ghost use Rattle.dslx_rules.specs.ModuleRules.{faults_of, first_fault};
 ghost use Rattle.dslx_rules.specs.Mentions.{mentioned, free_names};
 ghost use Rattle.dslx_rules.specs.OperatorRules.{is_bits, is_bits_or_enum, binary_faults, binary_type};
-ghost use Rattle.dslx_laws.specs.Agreement.{AgreeOn, AreBoundAlike, HidesNoConstant};
+ghost use Rattle.dslx_laws.specs.Agreement.{AgreeOn, AreBoundAlike, BindConstantsAlike};
 ghost use Rattle.dslx_laws.specs.Least.{IsLeastOf, HaveSameFaults};
 ghost use Rattle.dslx_laws.specs.Recursion.{HasNoCycle};
 
@@ -48,7 +48,7 @@ pub fn a_value_depends_on_what_is_mentioned()
 
 /// The value of an expression doesn't depend on names that aren't free in it.
 pub fn a_value_depends_on_free_names()
-    ensures { (e : Expr) (items : Meanings) (bound others : List Given) → HidesNoConstant items bound → HidesNoConstant items others
+    ensures { (e : Expr) (items : Meanings) (bound others : List Given) → BindConstantsAlike items bound others
         → AreBoundAlike (free_names e) bound others
         → value_of e (record { items = items; bound = bound }) ≡ value_of e (record { items = items; bound = others }) }
 {}

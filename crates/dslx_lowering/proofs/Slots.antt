@@ -136,7 +136,7 @@ pub same_where_known : (place : CorePlace) (calls : Functions) (given : List Giv
     → value_of e (env_at place given) ≡ value_of e (known_env place.known)
 same_where_known place calls given bound h e f =
     value_depends e [] (env_at place given) (known_env place.known) tt
-    (bound_alike place.known.items given place.known.numbers h.hides h.known.hides (mentioned e []) (free_alike place calls given bound h (free_names e) f))
+    (bound_alike place.known.items given place.known.numbers (λ name c. h.hides name c ∙ sym (h.known.hides name c)) (mentioned e []) (free_alike place calls given bound h (free_names e) f))
 
 from_unless : {A : Type 0} (t : Bool) (o : Option A) (a : A) → unless_local t o ≡ Some a → (t ≡ false) × (o ≡ Some a)
 from_unless true o a e = none_some a e

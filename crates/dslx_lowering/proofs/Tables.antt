@@ -23,7 +23,6 @@ use Rattle.dslx_meaning.specs.declared.value.DslxValue as value
 use Rattle.dslx_meaning.specs.declared.value.DslxValue.TheOpen.{DslxValue-F}
 use Rattle.dslx_meaning.specs.declared.value.DslxValue.TheVariants as rolls
 use Rattle.dslx_meaning.specs.declared.value.SignedWord.{SignedWord}
-use Rattle.dslx_laws.specs.Agreement.{HidesNoConstant}
 use Rattle.dslx_laws.proofs.Lemmas.{and_true}
 use Rattle.dslx_typed.specs.Kinds.{each_of, is_of}
 use Rattle.dslx_typed.proofs.Lemmas.{bits_level, none_some, one_bool, one_type, same_some}
@@ -33,9 +32,9 @@ use Rattle.dslx_core.specs.declared.design.Function as core
 use Rattle.dslx_lowering.specs.CorePlaces.{CoreCallee, CoreKnown, CorePlace, with_local}
 use Rattle.dslx_lowering.specs.EqualTypes.{equal_type}
 use Rattle.dslx_lowering.specs.Trees.{block_of_text_lowered}
-use Rattle.dslx_lowering.specs.Correspondence.{CallsStand, IsOwn, StandsAtPlace, KnownStands}
+use Rattle.dslx_lowering.specs.Correspondence.{CallsStand, HidesNoConstant, IsOwn, StandsAtPlace, KnownStands}
 use Rattle.dslx_lowering.specs.Functions.{CoreInstance, Instantiated, LoweredFunction, argument_types, arguments_placed, body_lowered, callee_in, callee_of, core_function, instance_known, instance_in, instance_lowered, instances_from, is_instance, next_instance, numbers_stand, outer_place, same_bits, same_number}
-use Rattle.dslx_lowering.specs.Instances.{InstanceStands, InstancesStand, ItemsAreOwn, functions_of_instances}
+use Rattle.dslx_lowering.specs.Instances.{InstanceStandsFor, InstancesStand, ItemsAreOwn, functions_of_instances}
 use Rattle.dslx_lowering.proofs.Joined.{block_of_text_means}
 use Rattle.dslx_lowering.proofs.Kept.{from_then, from_where}
 use Rattle.dslx_lowering.proofs.OneType.{one_by_test}
@@ -199,7 +198,7 @@ each_own_type (t ∷ ts) (v ∷ vs) e = let q = and_true (is_of t v) (each_of (m
 
 -- instances that stand for those of the text
 abbrev AllStand : Module → Meanings → List CoreInstance → Functions → Type 0
-AllStand m items instances calls = (k : ℕ) (i : CoreInstance) → slice_get instances k ≡ Some i → InstanceStands m items calls k i
+AllStand m items instances calls = (k : ℕ) (i : CoreInstance) → slice_get instances k ≡ Some i → InstanceStandsFor m items calls k i
 
 pub calls_stand : (m : Module) (items : Meanings) → meanings_over m items ≡ items → (instances : List CoreInstance) (calls : Functions) → AllStand m items instances calls → (numbers : List Given)
     → CallsStand (record { items = items; numbers = numbers; callee = callee_in m items instances }) calls
@@ -269,7 +268,7 @@ grown m items settled own before calls h i c e k j there = by_place (at_the_end 
         }
 
     last : (f : Function) (l : LoweredFunction) → as_function (item_named i.name m.items) ≡ Some f → instance_lowered (instance_known m items before f i.numbers) f ≡ Some l
-        → InstanceStands m items (and_function (length before) (core_function (record { name = i.name; numbers = i.numbers; function = l })) calls) (length before) (record { name = i.name; numbers = i.numbers; function = l })
+        → InstanceStandsFor m items (and_function (length before) (core_function (record { name = i.name; numbers = i.numbers; function = l })) calls) (length before) (record { name = i.name; numbers = i.numbers; function = l })
     last f l found low g operands v named of source =
         let one : g ≡ f = same_some g f (sym named ∙ found) in
         let value = from_where (length operands == length f.arguments) (value_of_block f.body (record { items = items; bound = operands_bound (numbers_bound [] f.parameters i.numbers) f.arguments operands })) v
@@ -283,7 +282,7 @@ grown m items settled own before calls h i c e k j there = by_place (at_the_end 
               ∙ ap (λ b. if b then core_value l.body calls (map plain_value operands) else None) count ∙ gives.1,
         )
 
-    earlier : slice_get before k ≡ Some j → InstanceStands m items (and_function (length before) (core_function c) calls) k j
+    earlier : slice_get before k ≡ Some j → InstanceStandsFor m items (and_function (length before) (core_function c) calls) k j
     earlier p f operands v named of source =
         let stands = h k j p f operands v named of source in (
           stands.0,
@@ -292,13 +291,13 @@ grown m items settled own before calls h i c e k j there = by_place (at_the_end 
               ∙ stands.1,
         )
 
-    by_place : (slice_get before k ≡ Some j) ⊎ ((k ≡ length before) × (c ≡ j)) → InstanceStands m items (and_function (length before) (core_function c) calls) k j
+    by_place : (slice_get before k ≡ Some j) ⊎ ((k ≡ length before) × (c ≡ j)) → InstanceStandsFor m items (and_function (length before) (core_function c) calls) k j
     by_place (inl p) = earlier p
     by_place (inr p) =
         let q = function in
-        subst (λ n. InstanceStands m items (and_function (length before) (core_function c) calls) n j) (sym p.0)
-        (subst (InstanceStands m items (and_function (length before) (core_function c) calls) (length before)) p.1
-        (subst (λ x. InstanceStands m items (and_function (length before) (core_function x) calls) (length before) x) q.4 (last q.0 q.1 q.2 q.3)))
+        subst (λ n. InstanceStandsFor m items (and_function (length before) (core_function c) calls) n j) (sym p.0)
+        (subst (InstanceStandsFor m items (and_function (length before) (core_function c) calls) (length before)) p.1
+        (subst (λ x. InstanceStandsFor m items (and_function (length before) (core_function x) calls) (length before) x) q.4 (last q.0 q.1 q.2 q.3)))
 
 functions_behind : (n : ℕ) (fs : List core.Function) (f : core.Function) (before : Functions) → functions_from n (fs ++ f ∷ []) before ≡ and_function (n + length fs) f (functions_from n fs before)
 functions_behind n [] f before = ap (λ k. and_function k f before) (nothing n)

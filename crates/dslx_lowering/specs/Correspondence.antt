@@ -4,11 +4,10 @@
 use Rattle.std.specs.Prelude.{◌≡◌, ℕ, List, [], ◌∷◌, map, true, Option, Some, None, length, slice_get}
 use Rattle.std.specs.List.{list_all}
 use Rattle.dslx_meaning.specs.Values.{plain_value, type_of_value}
-use Rattle.dslx_meaning.specs.Environment.{Given, Env, given_in}
+use Rattle.dslx_meaning.specs.Environment.{Given, Env, Meanings, given_in}
 use Rattle.dslx_meaning.specs.Meaning.{Evaluates, Typing, PatternMeant}
 use Rattle.dslx_meaning.specs.declared.ty.DslxType.{DslxType}
 use Rattle.dslx_meaning.specs.declared.value.DslxValue.{DslxValue}
-use Rattle.dslx_laws.specs.Agreement.{HidesNoConstant}
 use Rattle.dslx_typed.specs.Kinds.{is_of, each_of}
 use Rattle.dslx_core.specs.CoreValues.{Bindings, Functions, core_value, taken_apart}
 use Rattle.dslx_lowering.specs.CorePlaces.{CoreCallee, CoreKnown, BoundSlot, CorePlace}
@@ -27,6 +26,10 @@ abbrev pub CallsStand : CoreKnown → Functions → Type 0
 CallsStand known calls = (name : List ℕ) (given operands : List DslxValue) (types : List DslxType) (callee : CoreCallee) (v : DslxValue)
     → known.callee name given types ≡ Some callee → each_of (map is_of types) operands ≡ true → known.items.call name given operands ≡ Some v
     → (is_of callee.result v ≡ true) × (calls callee.number (map plain_value operands) ≡ Some (plain_value v))
+
+-- no constant has the name of something that is bound
+abbrev pub HidesNoConstant : Meanings → List Given → Type 0
+HidesNoConstant items bound = (name : List ℕ) → items.is_constant name ≡ true → given_in name bound ≡ None
 
 -- what is known in all of a body: values are of their own types, no number parameter has a constant's name, and calls give
 -- what they mean

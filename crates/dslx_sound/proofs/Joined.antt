@@ -7,12 +7,13 @@ use Rattle.dslx_tree.specs.declared.expr.Arg.{Arg}
 use Rattle.dslx_tree.specs.declared.expr.Expr.{Expr}
 use Rattle.dslx_tree.specs.declared.ident.Ident.{Ident}
 use Rattle.dslx_tree.specs.declared.block.Stmt.{Stmt}
+use Rattle.dslx_tree.specs.declared.type_expr.TypeExpr.{TypeExpr}
 use Rattle.dslx_tree_lemmas.proofs.Lemmas.Levels.{Carriers, StmtLevel, NodeLevel, ShapeLevel, TypeNodeLevel, BlockLevel, LetLevel, ArmLevel, FieldValueLevel, ForLevel, NumberLevel, map_stmt, map_node, map_shape, map_type_node, map_block, map_bind, map_arm, map_field, map_loop, map_number}
-use Rattle.dslx_tree_lemmas.proofs.Lemmas.Related.{both, firsts, seconds, KeepRelated, related_expr, related_block}
+use Rattle.dslx_tree_lemmas.proofs.Lemmas.Related.{both, firsts, seconds, KeepRelated, related_expr, related_block, related_type_expr}
 use Rattle.dslx_meaning.specs.Callees.{AllOnes, CallKind, Calls, CountsLeading, CountsTrailing, Joins, Parity, Receives, ReceivesIf, Reverses, Sends, SendsIf, SomeOne, Updates, kind_of_call}
 use Rattle.dslx_meaning.specs.Lists.{with_both}
 use Rattle.dslx_meaning.specs.Environment.{Env}
-use Rattle.dslx_meaning.specs.Meaning.{Meant, PatternMeant, Typing, call_meant, value_of, value_of_block, values_of}
+use Rattle.dslx_meaning.specs.Meaning.{Meant, PatternMeant, Typing, call_meant, meant, value_of, value_of_block, values_of, written_type}
 use Rattle.dslx_meaning.specs.declared.value.Bare.{Bare}
 use Rattle.dslx_rules.specs.CallRules.{call_judged, receiving, receiving_if, sending, sending_if}
 use Rattle.dslx_rules.specs.ControlRules.{same_ends, span_of_block, written_judged}
@@ -23,7 +24,7 @@ use Rattle.dslx_meaning.specs.Types.{bool_type}
 use Rattle.dslx_meaning.specs.Values.{bool_value}
 use Rattle.dslx_rules.specs.Judgings.{PatternJudging, SightJudging, StatementJudging}
 use Rattle.dslx_rules.specs.NameRules.{name_judged}
-use Rattle.dslx_rules.specs.NodeRules.{block_pair, expr_pair, second_of}
+use Rattle.dslx_rules.specs.NodeRules.{block_pair, expr_pair, second_of, type_pair}
 use Rattle.dslx_typed.specs.Complete.{IsFine}
 use Rattle.dslx_typed.specs.WellTyped.{IsWellTyped, types_at}
 use Rattle.dslx_typed.proofs.Lemmas.{none_some}
@@ -351,3 +352,13 @@ expression_has e = (related_expr judged meanings (claimed sound) judging meaning
 -- and so has a block
 pub block_of_text_has : (b : Block) → BlockGives (block_pair b).1 (value_of_block b)
 block_of_text_has b = (related_block judged meanings (claimed sound) judging meaning all_keep b).1
+
+-- an expression as a part of others, for what is known of constants
+pub expression_gives : (e : Expr) → ExprGives (expr_pair e) (meant e)
+expression_gives e =
+    let claim = related_expr judged meanings (claimed sound) judging meaning all_keep e in
+    record { is = claim.0; gives = claim.1.gives; untyped = claim.1.untyped }
+
+-- a written type means what is known of it, and is known where nothing is wrong with it
+pub type_stands : (t : TypeExpr) → TypeStands (type_pair t).1 (written_type t)
+type_stands t = (related_type_expr judged meanings (claimed sound) judging meaning all_keep t).1.0

@@ -36,3 +36,5 @@ pub mod Joined
 pub mod OfFlat
 -- instances of functions
 pub mod Bodies
+-- for other crates' proofs
+pub mod Lemmas

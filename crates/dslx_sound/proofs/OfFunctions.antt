@@ -9,9 +9,8 @@ use Rattle.xb_span.specs.declared.span.Span.{Span}
 use Rattle.dslx_tree.specs.declared.ident.Ident.{Ident}
 use Rattle.dslx_tree.specs.declared.item.Field.{Field}
 use Rattle.dslx_tree.specs.declared.item.Function.{Function}
-use Rattle.dslx_tree.specs.declared.type_expr.TypeExpr.{TypeExpr}
 use Rattle.dslx_meaning.specs.Lists.{all_some, and_then, with_both}
-use Rattle.dslx_meaning.specs.Types.{is_unit, same_type}
+use Rattle.dslx_meaning.specs.Types.{same_type}
 use Rattle.dslx_meaning.specs.Values.{type_of_value}
 use Rattle.dslx_meaning.specs.Environment.{Env, Given}
 use Rattle.dslx_meaning.specs.Inference.{Inferred}
@@ -21,26 +20,22 @@ use Rattle.dslx_meaning.specs.declared.ty.DslxType.{DslxType}
 use Rattle.dslx_meaning.specs.declared.value.DslxValue.{DslxValue}
 use Rattle.dslx_rules.specs.AggregateRules.{wanted_faults, when_all}
 use Rattle.dslx_rules.specs.CallRules.{GivenNumber, NumbersSeen, call_parts_faults, call_parts_reached, call_type, callee_size, declared_type, function_call, given_judgements, given_numbers, has_right_count, inferred_by, maybe_inferred, numbers_seen, operand_faults, reached_by, result_type, right_call, wrong_call}
-use Rattle.dslx_rules.specs.Judging.{ExprPair, Judgement, Known, Sight, all_alone, alone, breaks, breaks_if, faults_of_all, has_broken, one_and, plus_size, reached_of_all, size_of_all, span_of, types_of}
+use Rattle.dslx_rules.specs.Judging.{ExprPair, Judgement, Sight, all_alone, alone, breaks, breaks_if, faults_of_all, has_broken, one_and, plus_size, reached_of_all, size_of_all, span_of, types_of}
 use Rattle.dslx_rules.specs.Judgings.{ArgPair}
 use Rattle.dslx_rules.specs.Mentions.{is_cyclic}
-use Rattle.dslx_typed.specs.Complete.{FitArguments, IsFine}
-use Rattle.dslx_typed.specs.Declared.{Declarations, IsDeclared}
+use Rattle.dslx_typed.specs.Complete.{EachArgumentDeclared, FitArguments, IsFine}
+use Rattle.dslx_typed.specs.Declared.{IsDeclared}
 use Rattle.dslx_typed.specs.Given.{GivesOf}
 use Rattle.dslx_typed.specs.Kinds.{is_of}
+use Rattle.dslx_typed.specs.Numbers.{AllOwn}
 use Rattle.dslx_typed.specs.WellTyped.{IsWellTyped, types_at}
-use Rattle.dslx_typed.proofs.Lemmas.{all_are, inferred_alike, list_parts, none_some, numbers_found, one_of_text, one_type, same_some}
+use Rattle.dslx_typed.proofs.Lemmas.{all_are, declared_is, inferred_alike, list_parts, none_some, numbers_found, one_of_text, one_type, same_some}
 use Rattle.dslx_sound.specs.Sound.{EachExprGives, HasItsValue}
 use Rattle.dslx_sound.proofs.OfBuiltins.{wrongly_called}
 use Rattle.dslx_sound.proofs.OfNumbers.{numbers_given, numbers_known}
 use Rattle.dslx_sound.proofs.Fine.{all_in, all_in_three, alone_has, none_in, none_in_three, not_broken, passed, settled_fine, some_fault}
 
 -- ---- operands
-
--- each value is of its own type, which is one of the text
-abbrev AllOwn : Declarations → List DslxValue → Type 0
-AllOwn types [] = Unit {0}
-AllOwn types (v ∷ vs) = GivesOf types (type_of_value v) (Some v) × AllOwn types vs
 
 record AreOperands (sight : Sight) (env : Env) (es : List ExprPair) (xs : List Meant) : Type 0 where
   values : List DslxValue
@@ -67,40 +62,29 @@ operands_have sight env h (e ∷ es) (x ∷ xs) k f r =
       own = (record { value = g.2.value; is = refl; of = ap (λ u. is_of u g.2.value) t ∙ g.2.of; declared = subst (IsDeclared (types_at sight)) (sym t) g.2.declared }, more.own);
     }
 
-declared_is : (known : Known) (home : List ℕ) (bound : List Given) (p : TypeExpr) (t : DslxType) → declared_type known home bound p ≡ Some t → known.type_in home bound p ≡ Some t
-declared_is known home bound p t e = by_type (known.type_in home bound p) e
-  where
-    by_test : (u : DslxType) (b : Bool) → (if b then None else Some u) ≡ Some t → Some u ≡ Some t
-    by_test u true q = none_some t q
-    by_test u false q = q
-
-    by_type : (o : Option DslxType) → and_then o (λ t. if is_unit t then None else Some t) ≡ Some t → o ≡ Some t
-    by_type None q = none_some t q
-    by_type (Some u) q = by_test u (is_unit u) q
-
 -- they are of the types of the arguments
-fit : (sight : Sight) (env : Env) → IsWellTyped sight env → (home : List ℕ) (bound : List Given) (fs : List Field) (es : List ExprPair) (vs : List DslxValue) → length es ≡ length fs
+fit : (sight : Sight) (home : List ℕ) (bound : List Given) (fs : List Field) (es : List ExprPair) (vs : List DslxValue) → EachArgumentDeclared sight.known home bound fs → length es ≡ length fs
     → types_of (all_alone sight es) ≡ map Some (map type_of_value vs) → AllOwn (types_at sight) vs → operand_faults sight.known home bound fs es (all_alone sight es) ≡ [] → FitArguments sight.known home bound fs vs
-fit sight env h home bound [] [] [] n typed own f = tt
-fit sight env h home bound [] [] (v ∷ vs) n typed own f = some_fault (Some (type_of_value v)) (map Some (map type_of_value vs)) (sym typed)
-fit sight env h home bound [] (e ∷ es) vs n typed own f = absurd (none_long n)
+fit sight home bound [] [] [] known n typed own f = tt
+fit sight home bound [] [] (v ∷ vs) known n typed own f = some_fault (Some (type_of_value v)) (map Some (map type_of_value vs)) (sym typed)
+fit sight home bound [] (e ∷ es) vs known n typed own f = absurd (none_long n)
   where
     none_long : suc (length es) ≡ 0 → ⊥
     none_long q = omega (arith, q)
-fit sight env h home bound (g ∷ fs) [] vs n typed own f = absurd (none_long n)
+fit sight home bound (g ∷ fs) [] vs known n typed own f = absurd (none_long n)
   where
     none_long : 0 ≡ suc (length fs) → ⊥
     none_long q = omega (arith, q)
-fit sight env h home bound (g ∷ fs) (e ∷ es) [] n typed own f = some_fault (alone sight e).ty (types_of (all_alone sight es)) typed
-fit sight env h home bound (g ∷ fs) (e ∷ es) (v ∷ vs) n typed own f =
+fit sight home bound (g ∷ fs) (e ∷ es) [] known n typed own f = some_fault (alone sight e).ty (types_of (all_alone sight es)) typed
+fit sight home bound (g ∷ fs) (e ∷ es) (v ∷ vs) known n typed own f =
     let p = none_in (wanted_faults (span_of e) (declared_type sight.known home bound g.ty) (alone sight e).ty) (operand_faults sight.known home bound fs es (all_alone sight es)) f in
     let q = list_parts (alone sight e).ty (Some (type_of_value v)) (types_of (all_alone sight es)) (map Some (map type_of_value vs)) typed in
     let fewer : length es ≡ length fs = omega (arith, n) in (
       (λ t d.
           let same = passed (same_type t (type_of_value v)) 9 (span_of e) ((λ i. wanted_faults (span_of e) (sym d i) (sym q.0 i)) ∙ p.0) in
-          let one = one_of_text (types_at sight) t (type_of_value v) same (h.known.types_in home bound g.ty t (declared_is sight.known home bound g.ty t d)) own.0.declared in
+          let one = one_of_text (types_at sight) t (type_of_value v) same (known.0 t (declared_is sight.known home bound g.ty t d)) own.0.declared in
           subst (λ u. GivesOf (types_at sight) u (Some v)) (sym one) own.0),
-      fit sight env h home bound fs es vs fewer q.1 own.1 p.1,
+      fit sight home bound fs es vs known.1 fewer q.1 own.1 p.1,
     )
 
 -- nothing that is unknown might be inferred
@@ -202,14 +186,15 @@ called span sight env name f as' ns es xs cyclic kn kx h is count ts typed fine 
         let w = right_fine sight span f gs es js cyclic n fine in
         let g = numbers_given sight env h as' ns kn w.numbers_given w.numbers_reach in
         let o = operands_have sight env h es xs kx w.operands_given w.operands_reach in
-        let m = numbers_known sight.known h.known home inferred [] f.parameters gs g.each w.numbers w.defaults_reach w.right in
+        let k = h.known.functions name f is in
+        let m = numbers_known sight.known home inferred [] f.parameters gs k.parameters g.each w.numbers w.defaults_reach w.right in
         let sound = and_both (sight.known.is_sound (record { name = home; numbers = m.numbers })) true
         ((λ i. list_all sight.known.is_sound (reached_by (has_broken (sym w.no_cycle i) || sym w.right i) home (sym m.all i))) ∙ w.found) in
-        let c = h.known.calls name f m.numbers is sound.0 in
+        let c = k.calls m.numbers m.fit sound.0 in
         let own : ts ≡ map type_of_value o.values = same_lists ts (map type_of_value o.values) (sym typed ∙ o.typed) in
-        let numbers = numbers_found sight.known sight.known.items home (h.known.parameters home) inferred [] [] f.parameters gs g.values m.numbers g.mean m.all in
+        let numbers = numbers_found sight.known sight.known.items home inferred [] [] f.parameters gs g.values m.numbers k.mean m.fit g.mean m.all in
         let same : inferred ≡ inferred_from f.arguments (map type_of_value o.values) = inferred_alike f.arguments ts ∙ ap (inferred_from f.arguments) own in
-        let fits = fit sight env h home n.bound f.arguments es o.values count o.typed o.own
+        let fits = fit sight home n.bound f.arguments es o.values (subst (λ b. EachArgumentDeclared sight.known home b f.arguments) (sym m.shown) (k.arguments m.numbers m.fit)) count o.typed o.own
         (ap (λ b. if◌then◌else◌ {A = List Fault} b [] (operand_faults sight.known home n.bound f.arguments es js)) (sym w.right) ∙ w.operands) in
         let v = c.gives g.values o.values (ap (λ i. all_numbers sight.known.items i [] f.parameters g.values) (sym same) ∙ numbers)
         (subst (λ b. FitArguments sight.known home b f.arguments o.values) m.shown fits) in

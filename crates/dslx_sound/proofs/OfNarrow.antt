@@ -20,7 +20,7 @@ use Rattle.dslx_rules.specs.Judgings.{ArmSeen, PatternPair}
 use Rattle.dslx_rules.specs.PatternRules.{is_there}
 use Rattle.dslx_typed.specs.Kinds.{is_of}
 use Rattle.dslx_typed.specs.WellTyped.{IsWellTyped, comes_to_an_arm}
-use Rattle.dslx_typed.proofs.Lemmas.{none_shown, same_some, shown}
+use Rattle.dslx_typed.proofs.Lemmas.{same_some, shown}
 use Rattle.dslx_sound.specs.Places.{EachPatternSeesAlike, FitsAlike, SeeAlike}
 use Rattle.dslx_sound.specs.Sound.{EachArmHasValue, NarrowMatchesCome}
 use Rattle.dslx_sound.proofs.Fine.{all_in_three, none_in_three}
@@ -34,8 +34,7 @@ see_alike sight env h = record {
   items = refl;
   others = h.items;
   outside = λ name e. shown sight.locals sight.numbers name e ∙ sym (h.place.others name e);
-  hides = λ name c. none_shown sight.locals sight.numbers name (h.place.numbers_hide name c);
-  hides_too = h.place.hides;
+  constants = λ name c. shown sight.locals sight.numbers name (h.place.hides name c) ∙ sym (h.place.others name (h.place.hides name c));
 }
 
 there_alike : (sight : Sight) (o p : Option Env) → FitsAlike sight o p → is_there o ≡ true → is_there p ≡ true

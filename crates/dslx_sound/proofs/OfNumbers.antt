@@ -16,16 +16,20 @@ use Rattle.dslx_meaning.specs.Items.{numbers_bound, with_number}
 use Rattle.dslx_meaning.specs.Meaning.{Meant}
 use Rattle.dslx_meaning.specs.Operators.{number_value}
 use Rattle.dslx_meaning.specs.declared.ty.DslxType.{DslxType}
+use Rattle.dslx_meaning.specs.declared.value.Bare.{Bare}
 use Rattle.dslx_meaning.specs.declared.value.DslxValue.{DslxValue}
 use Rattle.dslx_rules.specs.AggregateRules.{wanted_faults}
-use Rattle.dslx_rules.specs.CallRules.{GivenNumber, NotGiven, Number, NumbersSeen, Resolved, Unknown, Wrong, bound_by_number, declared_type, default_value, given_judgements, given_numbers, in_type, is_wrong_number, not_given, number_before, numbers_for, numbers_seen, of_type, resolved_value, type_without_value, unknown_behind, value_before}
+use Rattle.dslx_rules.specs.CallRules.{GivenNumber, Number, NumbersSeen, Resolved, Unknown, Wrong, bound_by_number, declared_type, default_value, given_judgements, given_numbers, in_type, is_wrong_number, not_given, number_before, numbers_for, numbers_seen, of_type, resolved_value, type_without_value, unknown_behind, value_before}
 use Rattle.dslx_rules.specs.ConstantRules.{constant_of}
 use Rattle.dslx_rules.specs.Judging.{Instance, Known, Sight, faults_of_all, reached_of_all}
 use Rattle.dslx_rules.specs.Judgings.{ArgPair}
-use Rattle.dslx_typed.specs.Complete.{IsComplete, IsFine, IsTypeKnown}
-use Rattle.dslx_typed.specs.Numbers.{GivenMean}
-use Rattle.dslx_typed.specs.WellTyped.{IsWellTyped}
-use Rattle.dslx_typed.proofs.Lemmas.{none_some, one_type, or_false, same_some}
+use Rattle.dslx_rules.specs.PatternRules.{is_there}
+use Rattle.dslx_typed.specs.Complete.{EachParameterKnown, IsFine, IsParameterKnown, IsTypeKnown}
+use Rattle.dslx_typed.specs.Declared.{Declarations}
+use Rattle.dslx_typed.specs.Given.{GivesOf}
+use Rattle.dslx_typed.specs.Numbers.{FitNumbers, GivenMean}
+use Rattle.dslx_typed.specs.WellTyped.{IsWellTyped, types_at}
+use Rattle.dslx_typed.proofs.Lemmas.{declared_is, none_some, number_given, one_type, one_of_text, or_false, own_value, same_some}
 use Rattle.dslx_sound.specs.Sound.{EachExprGives}
 use Rattle.dslx_sound.proofs.OfConstants.{constant_has}
 use Rattle.dslx_sound.proofs.Fine.{all_in, none_in, passed}
@@ -39,17 +43,35 @@ declared_known : (known : Known) (home : List ℕ) (so_far : List Given) (p : Ty
 declared_known known home so_far p k = (k.0, ap (λ o. and_then o (λ t. declared_if (is_unit t) t)) k.1 ∙ ap (λ b. declared_if b k.0) k.2)
 
 -- a parameter whose type is unknown
-untyped : {X : Type 0} (known : Known) → IsComplete known → (home : List ℕ) (so_far : List Given) (p : Parameter) → declared_type known home so_far p.ty ≡ None → IsFine known (type_without_value known home so_far [] p Unknown) → X
-untyped known c home so_far p q fine =
-    let t = declared_known known home so_far p.ty (c.parameter_types home so_far p.ty fine) in
+untyped : {X : Type 0} (known : Known) (home : List ℕ) (so_far : List Given) (p : Parameter) → IsParameterKnown known home so_far p → declared_type known home so_far p.ty ≡ None
+    → IsFine known (type_without_value known home so_far [] p Unknown) → X
+untyped known home so_far p k q fine =
+    let t = declared_known known home so_far p.ty (k.typed fine) in
     none_some t.0 (sym q ∙ t.1)
 
+-- the value of a parameter, of the type that is known of it
+record Found (known : Known) (home : List ℕ) (so_far : List Given) (p : Parameter) (r : Resolved) : Type 0 where
+  value : DslxValue
+  is : r ≡ Number value
+  ty : DslxType
+  typed : declared_type known home so_far p.ty ≡ Some ty
+  gives : GivesOf known.items.type_named ty (Some value)
+
 -- a value of the type of its parameter
-resolved_given : (known : Known) → IsComplete known → (home : List ℕ) (so_far : List Given) (p : Parameter) (span : Span) (v : DslxValue) (o : Option DslxType) → declared_type known home so_far p.ty ≡ o
-    → IsFine known (type_without_value known home so_far [] p (resolved_value (of_type o (Some v)))) → wanted_faults span o (Some (type_of_value v)) ≡ [] → resolved_value (of_type o (Some v)) ≡ Number v
-resolved_given known c home so_far p span v None q fine wanted = untyped known c home so_far p q fine
-resolved_given known c home so_far p span v (Some t) q fine wanted =
-    ap (λ b. resolved_value (if b then Some v else None)) (passed (same_type t (type_of_value v)) 9 span wanted)
+resolved_given : (known : Known) (home : List ℕ) (so_far : List Given) (p : Parameter) → IsParameterKnown known home so_far p → (span : Span) (v : DslxValue) → GivesOf known.items.type_named (type_of_value v) (Some v)
+    → (o : Option DslxType) → declared_type known home so_far p.ty ≡ o → IsFine known (type_without_value known home so_far [] p (resolved_value (of_type o (Some v)))) → wanted_faults span o (Some (type_of_value v)) ≡ []
+    → Found known home so_far p (resolved_value (of_type o (Some v)))
+resolved_given known home so_far p k span v own None q fine wanted = untyped known home so_far p k q fine
+resolved_given known home so_far p k span v own (Some t) q fine wanted =
+    let same = passed (same_type t (type_of_value v)) 9 span wanted in
+    let one = one_of_text known.items.type_named t (type_of_value v) same (k.declared t (declared_is known home so_far p.ty t q)) own.declared in
+    record {
+      value = v;
+      is = ap (λ b. resolved_value (if b then Some v else None)) same;
+      ty = t;
+      typed = q;
+      gives = subst (λ u. GivesOf known.items.type_named u (Some v)) (sym one) own;
+    }
 
 -- ---- parameters that aren't given
 
@@ -57,87 +79,94 @@ abbrev or_wrong : Option DslxValue → Resolved
 or_wrong None = Wrong
 or_wrong (Some v) = Number v
 
-number_in_type : (known : Known) → IsComplete known → (home : List ℕ) (so_far : List Given) (p : Parameter) (n : ℕ) (o : Option DslxType) → declared_type known home so_far p.ty ≡ o
-    → IsFine known (type_without_value known home so_far [] p (in_type o n)) → is_wrong_number (in_type o n) ≡ false → (v : DslxValue) × (in_type o n ≡ Number v)
-number_in_type known c home so_far p n None q fine right = untyped known c home so_far p q fine
-number_in_type known c home so_far p n (Some t) q fine right = by_value (number_value t (record { is_negative = false; value = n })) right
+number_in_type : (known : Known) (home : List ℕ) (so_far : List Given) (p : Parameter) → IsParameterKnown known home so_far p → (n : ℕ) (o : Option DslxType) → declared_type known home so_far p.ty ≡ o
+    → IsFine known (type_without_value known home so_far [] p (in_type o n)) → is_wrong_number (in_type o n) ≡ false → Found known home so_far p (in_type o n)
+number_in_type known home so_far p k n None q fine right = untyped known home so_far p k q fine
+number_in_type known home so_far p k n (Some t) q fine right = by_value (number_value t number) refl right
   where
-    by_value : (o : Option DslxValue) → is_wrong_number (or_wrong o) ≡ false → (v : DslxValue) × (or_wrong o ≡ Number v)
-    by_value None e = absurd (true≢false e)
-    by_value (Some v) e = (v, refl)
+    number : Bare
+    number = record { is_negative = false; value = n }
 
-abbrev default_if : Known → List ℕ → List Given → Option DslxType → Option Expr → NotGiven
-default_if known home so_far o e = default_value known home so_far [] o e
+    by_value : (o : Option DslxValue) → number_value t number ≡ o → is_wrong_number (or_wrong o) ≡ false → Found known home so_far p (or_wrong o)
+    by_value None r e = absurd (true≢false e)
+    by_value (Some v) r e =
+        let d = k.declared t (declared_is known home so_far p.ty t q) in
+        record { value = v; is = refl; ty = t; typed = q; gives = subst (GivesOf known.items.type_named t) r (number_given known.items.type_named t number (ap is_there r) d) }
 
-found_default : (known : Known) → IsComplete known → (home : List ℕ) (so_far : List Given) (p : Parameter) (o : Option DslxType) → declared_type known home so_far p.ty ≡ o → (e : Option Expr)
+found_default : (known : Known) (home : List ℕ) (so_far : List Given) (p : Parameter) → IsParameterKnown known home so_far p → (o : Option DslxType) → declared_type known home so_far p.ty ≡ o → (e : Option Expr) → p.default ≡ e
     → IsFine known (type_without_value known home so_far [] p (default_value known home so_far [] o e).value) → (default_value known home so_far [] o e).faults ≡ []
     → list_all known.is_sound (default_value known home so_far [] o e).reached ≡ true → is_wrong_number (default_value known home so_far [] o e).value ≡ false
-    → (v : DslxValue) × ((default_value known home so_far [] o e).value ≡ Number v)
-found_default known c home so_far p o q None fine f r right = absurd (true≢false right)
-found_default known c home so_far p o q (Some e) fine f r right =
+    → Found known home so_far p (default_value known home so_far [] o e).value
+found_default known home so_far p k o q None is fine f r right = absurd (true≢false right)
+found_default known home so_far p k o q (Some e) is fine f r right =
     let seen = known.default_in home so_far [] e in
     let span = (out-Expr e).span in
     let s = none_in seen.judgement.faults (wanted_faults span o seen.judgement.ty) f in
-    let d = c.defaults home so_far e (record { faults = s.0; reached = r }) in (
-      d.0,
-      ap (λ v. resolved_value (of_type o v)) d.1
-          ∙ resolved_given known c home so_far p span d.0 o q
-          (subst (λ v. IsFine known (type_without_value known home so_far [] p (resolved_value (of_type o v)))) d.1 fine) (ap (wanted_faults span o) (sym d.2) ∙ s.1),
-    )
+    let d = k.default e is (record { faults = s.0; reached = r }) in
+    let found = resolved_given known home so_far p k span d.value d.own o q
+    (subst (λ v. IsFine known (type_without_value known home so_far [] p (resolved_value (of_type o v)))) d.is fine) (ap (wanted_faults span o) (sym d.typed) ∙ s.1) in
+    record { value = found.value; is = ap (λ v. resolved_value (of_type o v)) d.is ∙ found.is; ty = found.ty; typed = found.typed; gives = found.gives }
 
-found_otherwise : (known : Known) → IsComplete known → (home : List ℕ) (so_far : List Given) (p : Parameter) (o : Option DslxType) → declared_type known home so_far p.ty ≡ o → (ns : List ℕ)
+found_otherwise : (known : Known) (home : List ℕ) (so_far : List Given) (p : Parameter) → IsParameterKnown known home so_far p → (o : Option DslxType) → declared_type known home so_far p.ty ≡ o → (ns : List ℕ)
     → IsFine known (type_without_value known home so_far [] p (not_given known home so_far [] p o false ns).value) → (not_given known home so_far [] p o false ns).faults ≡ []
     → list_all known.is_sound (not_given known home so_far [] p o false ns).reached ≡ true → is_wrong_number (not_given known home so_far [] p o false ns).value ≡ false
-    → (v : DslxValue) × ((not_given known home so_far [] p o false ns).value ≡ Number v)
-found_otherwise known c home so_far p o q [] fine f r right = found_default known c home so_far p o q p.default fine f r right
-found_otherwise known c home so_far p o q (n ∷ ns) fine f r right = by_one (list_all (λ k. k == n) ns) fine right
+    → Found known home so_far p (not_given known home so_far [] p o false ns).value
+found_otherwise known home so_far p k o q [] fine f r right = found_default known home so_far p k o q p.default refl fine f r right
+found_otherwise known home so_far p k o q (n ∷ ns) fine f r right = by_one (list_all (λ k. k == n) ns) fine right
   where
     by_one : (b : Bool) → IsFine known (type_without_value known home so_far [] p (if b then in_type o n else Wrong)) → is_wrong_number (if b then in_type o n else Wrong) ≡ false
-        → (v : DslxValue) × ((if b then in_type o n else Wrong) ≡ Number v)
-    by_one true g e = number_in_type known c home so_far p n o q g e
+        → Found known home so_far p (if b then in_type o n else Wrong)
+    by_one true g e = number_in_type known home so_far p k n o q g e
     by_one false g e = absurd (true≢false e)
 
 -- ---- all parameters
 
 -- numbers that are given, with their values
-abbrev pub EachGiven : List GivenNumber → Type 0
-EachGiven [] = Unit {0}
-EachGiven (g ∷ gs) = ((v : DslxValue) × (g.seen.value ≡ Some v) × (g.seen.judgement.ty ≡ Some (type_of_value v))) × EachGiven gs
+pub record IsGiven (types : Declarations) (g : GivenNumber) : Type 0 where
+  pub value : DslxValue
+  pub is : g.seen.value ≡ Some value
+  pub typed : g.seen.judgement.ty ≡ Some (type_of_value value)
+  pub own : GivesOf types (type_of_value value) (Some value)
 
-pub record NumbersKnown (n : NumbersSeen) (so_far : List Given) (ps : List Parameter) : Type 0 where
+abbrev pub EachGiven : Declarations → List GivenNumber → Type 0
+EachGiven types [] = Unit {0}
+EachGiven types (g ∷ gs) = IsGiven types g × EachGiven types gs
+
+pub record NumbersKnown (known : Known) (home : List ℕ) (n : NumbersSeen) (so_far : List Given) (ps : List Parameter) : Type 0 where
   pub numbers : List DslxValue
+  pub fit : FitNumbers known home so_far ps numbers
   pub all : n.values ≡ Some numbers
   pub shown : n.bound ≡ numbers_bound so_far ps numbers
 
 -- a parameter that has a value, and those behind it
-behind_number : (known : Known) (home : List ℕ) (inferred : List Inferred) (so_far : List Given) (p : Parameter) (ps : List Parameter) (gs : List GivenNumber) (r : Resolved) (v : DslxValue) (faults : List Fault) (reached : List Instance)
-    → r ≡ Number v
+behind_number : (known : Known) (home : List ℕ) (inferred : List Inferred) (so_far : List Given) (p : Parameter) (ps : List Parameter) (gs : List GivenNumber) (r : Resolved) (v : DslxValue) (t : DslxType) (faults : List Fault) (reached : List Instance)
+    → r ≡ Number v → declared_type known home so_far p.ty ≡ Some t → GivesOf known.items.type_named t (Some v)
     → ((numbers_seen known home inferred [] (with_number so_far p v) [] ps gs).faults ≡ [] → list_all known.is_sound (numbers_seen known home inferred [] (with_number so_far p v) [] ps gs).reached ≡ true
-    → (numbers_seen known home inferred [] (with_number so_far p v) [] ps gs).is_wrong ≡ false → NumbersKnown (numbers_seen known home inferred [] (with_number so_far p v) [] ps gs) (with_number so_far p v) ps)
+    → (numbers_seen known home inferred [] (with_number so_far p v) [] ps gs).is_wrong ≡ false → NumbersKnown known home (numbers_seen known home inferred [] (with_number so_far p v) [] ps gs) (with_number so_far p v) ps)
     → (faults ++ (numbers_seen known home inferred [] (bound_by_number so_far p r) (unknown_behind [] p r) ps gs).faults) ≡ []
     → list_all known.is_sound (reached ++ (numbers_seen known home inferred [] (bound_by_number so_far p r) (unknown_behind [] p r) ps gs).reached) ≡ true
     → (is_wrong_number r || (numbers_seen known home inferred [] (bound_by_number so_far p r) (unknown_behind [] p r) ps gs).is_wrong) ≡ false
-    → NumbersKnown (number_before r faults reached (numbers_seen known home inferred [] (bound_by_number so_far p r) (unknown_behind [] p r) ps gs)) so_far (p ∷ ps)
-behind_number known home inferred so_far p ps gs r v faults reached e more = subst Behind (sym e) at_number
+    → NumbersKnown known home (number_before r faults reached (numbers_seen known home inferred [] (bound_by_number so_far p r) (unknown_behind [] p r) ps gs)) so_far (p ∷ ps)
+behind_number known home inferred so_far p ps gs r v t faults reached e typed gives more = subst Behind (sym e) at_number
   where
     rest : Resolved → NumbersSeen
     rest r = numbers_seen known home inferred [] (bound_by_number so_far p r) (unknown_behind [] p r) ps gs
 
     Behind : Resolved → Type 0
     Behind r = (faults ++ (rest r).faults) ≡ [] → list_all known.is_sound (reached ++ (rest r).reached) ≡ true → (is_wrong_number r || (rest r).is_wrong) ≡ false
-        → NumbersKnown (number_before r faults reached (rest r)) so_far (p ∷ ps)
+        → NumbersKnown known home (number_before r faults reached (rest r)) so_far (p ∷ ps)
 
     at_number : Behind (Number v)
     at_number f s w =
         let k = more (none_in faults (rest (Number v)).faults f).1 (all_in known.is_sound reached (rest (Number v)).reached s).1 w in
-        record { numbers = v ∷ k.numbers; all = ap (value_before (Number v)) k.all; shown = k.shown }
+        record { numbers = v ∷ k.numbers; fit = ((t, typed, gives), k.fit); all = ap (value_before (Number v)) k.all; shown = k.shown }
 
-pub numbers_known : (known : Known) → IsComplete known → (home : List ℕ) (inferred : List Inferred) (so_far : List Given) (ps : List Parameter) (gs : List GivenNumber) → EachGiven gs
+pub numbers_known : (known : Known) (home : List ℕ) (inferred : List Inferred) (so_far : List Given) (ps : List Parameter) (gs : List GivenNumber) → EachParameterKnown known home so_far ps → EachGiven known.items.type_named gs
     → (numbers_seen known home inferred [] so_far [] ps gs).faults ≡ [] → list_all known.is_sound (numbers_seen known home inferred [] so_far [] ps gs).reached ≡ true
-    → (numbers_seen known home inferred [] so_far [] ps gs).is_wrong ≡ false → NumbersKnown (numbers_seen known home inferred [] so_far [] ps gs) so_far ps
-numbers_known known c home inferred so_far [] [] k f r w = record { numbers = []; all = refl; shown = refl }
-numbers_known known c home inferred so_far [] (g ∷ gs) k f r w = absurd (true≢false w)
-numbers_known known c home inferred so_far (p ∷ ps) (g ∷ gs) k f r w =
+    → (numbers_seen known home inferred [] so_far [] ps gs).is_wrong ≡ false → NumbersKnown known home (numbers_seen known home inferred [] so_far [] ps gs) so_far ps
+numbers_known known home inferred so_far [] [] c k f r w = record { numbers = []; fit = tt; all = refl; shown = refl }
+numbers_known known home inferred so_far [] (g ∷ gs) c k f r w = absurd (true≢false w)
+numbers_known known home inferred so_far (p ∷ ps) (g ∷ gs) c k f r w =
     let t = declared_type known home so_far p.ty in
     let v = resolved_value (of_type t g.seen.value) in
     let written = type_without_value known home so_far [] p v in
@@ -146,12 +175,11 @@ numbers_known known c home inferred so_far (p ∷ ps) (g ∷ gs) k f r w =
     let q = none_in written.faults wanted (none_in (written.faults ++ wanted) rest.faults f).0 in
     let s = all_in known.is_sound written.reached rest.reached r in
     let fine : IsFine known written = record { faults = q.0; reached = s.0 } in
-    let is = ap (λ o. resolved_value (of_type t o)) k.0.1
-    ∙ resolved_given known c home so_far p g.span k.0.0 t refl
-    (subst (λ o. IsFine known (type_without_value known home so_far [] p (resolved_value (of_type t o)))) k.0.1 fine) (ap (wanted_faults g.span t) (sym k.0.2) ∙ q.1) in
-    behind_number known home inferred so_far p ps gs v k.0.0 (written.faults ++ wanted) written.reached is
-    (numbers_known known c home inferred (with_number so_far p k.0.0) ps gs k.1) f r w
-numbers_known known c home inferred so_far (p ∷ ps) [] k f r w =
+    let found = resolved_given known home so_far p c.0 g.span k.0.value k.0.own t refl
+    (subst (λ o. IsFine known (type_without_value known home so_far [] p (resolved_value (of_type t o)))) k.0.is fine) (ap (wanted_faults g.span t) (sym k.0.typed) ∙ q.1) in
+    behind_number known home inferred so_far p ps gs v found.value found.ty (written.faults ++ wanted) written.reached (ap (λ o. resolved_value (of_type t o)) k.0.is ∙ found.is) found.typed found.gives
+    (numbers_known known home inferred (with_number so_far p found.value) ps gs (c.1 found.ty found.value found.typed found.gives) k.1) f r w
+numbers_known known home inferred so_far (p ∷ ps) [] c k f r w =
     let t = declared_type known home so_far p.ty in
     let v = not_given known home so_far [] p t false (numbers_for p.name.name inferred) in
     let written = type_without_value known home so_far [] p v.value in
@@ -159,16 +187,16 @@ numbers_known known c home inferred so_far (p ∷ ps) [] k f r w =
     let q = none_in written.faults v.faults (none_in (written.faults ++ v.faults) rest.faults f).0 in
     let s = all_in known.is_sound written.reached v.reached (all_in known.is_sound (written.reached ++ v.reached) rest.reached r).0 in
     let right = or_false (is_wrong_number v.value) rest.is_wrong w in
-    let is = found_otherwise known c home so_far p t refl (numbers_for p.name.name inferred) (record { faults = q.0; reached = s.0 }) q.1 s.1 right.0 in
-    behind_number known home inferred so_far p ps [] v.value is.0 (written.faults ++ v.faults) (written.reached ++ v.reached) is.1
-    (numbers_known known c home inferred (with_number so_far p is.0) ps [] tt) f r w
+    let found = found_otherwise known home so_far p c.0 t refl (numbers_for p.name.name inferred) (record { faults = q.0; reached = s.0 }) q.1 s.1 right.0 in
+    behind_number known home inferred so_far p ps [] v.value found.value found.ty (written.faults ++ v.faults) (written.reached ++ v.reached) found.is found.typed found.gives
+    (numbers_known known home inferred (with_number so_far p found.value) ps [] (c.1 found.ty found.value found.typed found.gives) tt) f r w
 
 -- ---- number arguments that are written
 
 pub record AreGiven (sight : Sight) (env : Env) (as' : List ArgPair) (ns : List Meant) : Type 0 where
   pub values : List DslxValue
   pub are : map (λ (x : Meant). x.value env) ns ≡ map Some values
-  pub each : EachGiven (given_numbers sight as')
+  pub each : EachGiven (types_at sight) (given_numbers sight as')
   pub mean : GivenMean (given_numbers sight as') values
 
 pub numbers_given : (sight : Sight) (env : Env) → IsWellTyped sight env → (as' : List ArgPair) (ns : List Meant) → EachExprGives (map (λ (a : ArgPair). a.1) as') ns
@@ -185,6 +213,14 @@ numbers_given sight env h (a ∷ as') (x ∷ xs) k f r =
     record {
       values = g.gives.value ∷ more.values;
       are = λ i. g.gives.is i ∷ more.are i;
-      each = ((g.gives.value, g.known, g.typed ∙ ap Some (sym (one_type g.ty g.gives.value g.gives.of))), more.each);
+      each = (
+        record {
+          value = g.gives.value;
+          is = g.known;
+          typed = g.typed ∙ ap Some (sym (one_type g.ty g.gives.value g.gives.of));
+          own = own_value (types_at sight) g.ty (x.value env) g.gives.value g.gives.is g.gives;
+        },
+        more.each,
+      );
       mean = ((λ w e. same_some g.gives.value w (sym g.known ∙ e)), more.mean);
     }

@@ -1,15 +1,13 @@
 -- What types and patterns mean is one at two places at which all but locals are bound alike.
 use Rattle.std.proofs.Common.{◌≡◌, ◌++◌, ℕ, length, Bool, true, false, not, if◌then◌else◌, List, [], ◌∷◌, map, Option, Some, None, refl, sym, ap, subst, ◌∙◌}
-use mathlib.Core.Bool.{true≢false}
 use Rattle.std.specs.Str.{bytes_eq}
 use Rattle.std.specs.List.{list_all, list_any}
-use Rattle.std.proofs.lemmas.Slice.Eq.{bytes_eq-Decides}
 use Rattle.xb_span.specs.declared.span.Span.{Span}
 use Rattle.dslx_tree.specs.declared.expr.Expr.{Expr}
 use Rattle.dslx_tree.specs.declared.ident.Ident.{Ident}
 use Rattle.dslx_meaning.specs.Lists.{all_some, and_then, is_in, with_both}
 use Rattle.dslx_meaning.specs.Values.{elements_of, same_value}
-use Rattle.dslx_meaning.specs.Environment.{Env, Given, bind, given_in}
+use Rattle.dslx_meaning.specs.Environment.{Env, bind, given_in}
 use Rattle.dslx_meaning.specs.Items.{item_named}
 use Rattle.dslx_meaning.specs.Meaning as m
 use Rattle.dslx_meaning.specs.Meaning.{Evaluates, Meant, PatternMeant, Typing, all_names, count_in, fit_each, fit_value, size_of, some_count, value_of}
@@ -47,7 +45,7 @@ value_alike sight a b e h f =
     let at : Env = record { items = sight.known.items; bound = a.bound } in
     let to : Env = record { items = sight.known.items; bound = b.bound } in
     (λ i. value_of e (record { items = h.items i; bound = a.bound }))
-    ∙ value_depends e [] at to tt (bound_alike sight.known.items a.bound b.bound h.hides h.hides_too (mentioned e []) (free_alike sight a b h (free_names e) f))
+    ∙ value_depends e [] at to tt (bound_alike sight.known.items a.bound b.bound h.constants (mentioned e []) (free_alike sight a b h (free_names e) f))
     ∙ (λ i. value_of e (record { items = sym h.others i; bound = b.bound }))
 
 -- ---- widths and sizes
@@ -169,22 +167,17 @@ member_alike span e a = one_value_alike span (λ sight. member_judged span sight
     (λ sight x y h fine. (λ i. (h.items i).member e.name a.name) ∙ (λ i. (sym h.others i).member e.name a.name))
 
 -- one more name, bound alike
-bound_more : (sight : Sight) (a b : Env) (name : List ℕ) (v : DslxValue) → SeeAlike sight a b → sight.known.items.is_constant name ≡ false → SeeAlike sight (bind name v a) (bind name v b)
-bound_more sight a b name v h plain = record {
+bound_more : (sight : Sight) (a b : Env) (name : List ℕ) (v : DslxValue) → SeeAlike sight a b → SeeAlike sight (bind name v a) (bind name v b)
+bound_more sight a b name v h = record {
   items = h.items;
   others = h.others;
   outside = λ n e. same n (bytes_eq n name) (h.outside n e);
-  hides = λ n c. hidden n a.bound (bytes_eq n name) refl c (h.hides n c);
-  hides_too = λ n c. hidden n b.bound (bytes_eq n name) refl c (h.hides_too n c);
+  constants = λ n c. same n (bytes_eq n name) (h.constants n c);
 }
   where
     same : (n : List ℕ) (t : Bool) → given_in n a.bound ≡ given_in n b.bound → (if t then Some v else given_in n a.bound) ≡ (if t then Some v else given_in n b.bound)
     same n true e = refl
     same n false e = e
-
-    hidden : (n : List ℕ) (bound : List Given) (t : Bool) → bytes_eq n name ≡ t → sight.known.items.is_constant n ≡ true → given_in n bound ≡ None → (if t then Some v else given_in n bound) ≡ None
-    hidden n bound true q c rest = absurd (true≢false (sym c ∙ ap sight.known.items.is_constant ((bytes_eq-Decides n name).0 q) ∙ plain))
-    hidden n bound false q c rest = rest
 
 pub name_pattern_alike : (span : Span) (name : List ℕ)
     → PatternSeesAlike (λ may_fail sight t names locals. name_pattern span may_fail sight t names locals name (sight.known.items.is_constant name))
@@ -202,7 +195,7 @@ name_pattern_alike span name may_fail sight t names locals a b v h fine =
 
     alike : (k : Bool) → sight.known.items.is_constant name ≡ k → FitsAlike sight (by_kind k a) (by_kind k b)
     alike true q = value_fits_alike sight a b v (a.items.constant name) (b.items.constant name) h ((λ i. (h.items i).constant name) ∙ (λ i. (sym h.others i).constant name))
-    alike false q = bound_more sight a b name v h q
+    alike false q = bound_more sight a b name v h
 
 -- parts, each behind those before it
 parts_alike : (ps : List PatternPair) (ms : List PatternMeant) → EachPatternSeesAlike ps ms → (may_fail : Bool) (sight : Sight) (ts : Option (List DslxType)) (names : List (List ℕ)) (locals : List Typed) (a b : Env) (vs : List DslxValue)

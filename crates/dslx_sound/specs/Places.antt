@@ -8,17 +8,16 @@ use Rattle.dslx_meaning.specs.declared.ty.DslxType.{DslxType}
 use Rattle.dslx_meaning.specs.declared.value.DslxValue.{DslxValue}
 use Rattle.dslx_rules.specs.Judging.{Sight, Typed}
 use Rattle.dslx_rules.specs.Judgings.{PatternJudging, PatternPair, PatternSeen, SightJudging}
-use Rattle.dslx_laws.specs.Agreement.{HidesNoConstant}
+use Rattle.dslx_laws.specs.Agreement.{BindConstantsAlike}
 use Rattle.dslx_typed.specs.Complete.{IsFine}
 use Rattle.dslx_typed.specs.InSight.{local_names}
 
--- items mean what is known of them in both, and a name that is no local is bound alike
+-- items mean what is known of them in both, and a name that is no local, or is a constant's, is bound alike
 pub record SeeAlike (sight : Sight) (a b : Env) : Type 0 where
   pub items : a.items ≡ sight.known.items
   pub others : b.items ≡ sight.known.items
   pub outside : (name : List ℕ) → is_in name (local_names sight) ≡ false → given_in name a.bound ≡ given_in name b.bound
-  pub hides : HidesNoConstant sight.known.items a.bound
-  pub hides_too : HidesNoConstant sight.known.items b.bound
+  pub constants : BindConstantsAlike sight.known.items a.bound b.bound
 
 -- a type means one thing in both
 abbrev pub TypeSeesAlike : SightJudging → Typing → Type 0

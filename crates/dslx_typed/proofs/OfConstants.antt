@@ -73,7 +73,8 @@ pub same_at_place : (sight : Sight) (bound : List Given) (e : Expr) → IsInSigh
     → value_of e (constant_env sight) ≡ value_of e (place_of sight bound)
 same_at_place sight bound e h f =
     value_depends e [] (constant_env sight) (place_of sight bound) tt
-    (bound_alike sight.known.items (unhidden sight.locals sight.numbers) bound (λ name c. none_shown sight.locals sight.numbers name (h.numbers_hide name c)) h.hides (mentioned e [])
+    (bound_alike sight.known.items (unhidden sight.locals sight.numbers) bound
+    (λ name c. shown sight.locals sight.numbers name (h.hides name c) ∙ sym (h.others name (h.hides name c))) (mentioned e [])
     (free_alike sight bound h (free_names e) f))
 
 -- ---- constants
@@ -176,8 +177,7 @@ pub bound_in_sight : (sight : Sight) (locals : List Typed) (bound : List Given) 
     → IsInSight (with_typed sight locals) bound → IsInSight (with_typed sight (record { name = name; ty = t } ∷ locals)) (record { name = name; value = v } ∷ bound)
 bound_in_sight sight locals bound name t v plain h = record {
   others = λ n e. other n (bytes_eq n name) e (h.others n);
-  hides = λ n c. hidden n (bytes_eq n name) refl c (h.hides n c);
-  numbers_hide = h.numbers_hide;
+  hides = λ n c. plain_name n (bytes_eq n name) refl c (h.hides n c);
 }
   where
     other : (n : List ℕ) (b : Bool) → (if b then true else is_in n (map (λ (l : Typed). l.name) locals)) ≡ false
@@ -185,6 +185,7 @@ bound_in_sight sight locals bound name t v plain h = record {
     other n true e rest = absurd (true≢false e)
     other n false e rest = rest e
 
-    hidden : (n : List ℕ) (b : Bool) → bytes_eq n name ≡ b → sight.known.items.is_constant n ≡ true → given_in n bound ≡ None → (if b then Some v else given_in n bound) ≡ None
-    hidden n true q c rest = absurd (true≢false (sym c ∙ ap sight.known.items.is_constant ((bytes_eq-Decides n name).0 q) ∙ plain))
-    hidden n false q c rest = rest
+    plain_name : (n : List ℕ) (b : Bool) → bytes_eq n name ≡ b → sight.known.items.is_constant n ≡ true → is_in n (map (λ (l : Typed). l.name) locals) ≡ false
+        → (if b then true else is_in n (map (λ (l : Typed). l.name) locals)) ≡ false
+    plain_name n true q c rest = absurd (true≢false (sym c ∙ ap sight.known.items.is_constant ((bytes_eq-Decides n name).0 q) ∙ plain))
+    plain_name n false q c rest = rest

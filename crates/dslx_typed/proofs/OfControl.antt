@@ -140,7 +140,7 @@ let_keeps sight e m span written pattern pm t value own bound keeps env h f =
     on : (g : GivesOf (types_at sight) t (m.value env)) → FitsOrFails false sight (pattern_alone false sight (Some t) pattern) (pm.fits g.value env) → Behind (Some t)
     on g (Fits inner is typed) = record {
       inner = inner;
-      typed = record { locals = typed.locals; numbers = typed.numbers; constants = typed.constants; members = typed.members; kinds = typed.kinds; typed = typed.typed; valued = typed.valued; place = record { others = typed.place.others; hides = typed.place.hides; numbers_hide = typed.place.numbers_hide }; items = typed.items; known = typed.known };
+      typed = record { locals = typed.locals; numbers = typed.numbers; constants = typed.constants; members = typed.members; kinds = typed.kinds; typed = typed.typed; valued = typed.valued; place = record { others = typed.place.others; hides = typed.place.hides }; items = typed.items; known = typed.known };
       goes = λ rest. ap (λ o. and_then o (λ v. and_then (pm.fits v env) rest)) g.is ∙ ap (λ o. and_then o rest) is;
     }
     on g (Fails is may sure) = absurd (true≢false (sym may))
@@ -155,7 +155,7 @@ pub bare_keeps : (sight : Sight) (e : ExprPair) (m : Meant) (t : DslxType) → (
     → (env : Env) → IsWellTyped sight env → (inner : Env) × IsWellTyped (behind sight sight.locals e.0) inner × ((rest : Evaluates) → and_then (m.value env) (λ v. rest env) ≡ rest inner)
 bare_keeps sight e m t value own env h =
     let g = value env h t own in
-    (env, record { locals = h.locals; numbers = h.numbers; constants = h.constants; members = h.members; kinds = h.kinds; typed = h.typed; valued = h.valued; place = record { others = h.place.others; hides = h.place.hides; numbers_hide = h.place.numbers_hide }; items = h.items; known = h.known }, λ rest. ap (λ o. and_then o (λ v. rest env)) g.is)
+    (env, record { locals = h.locals; numbers = h.numbers; constants = h.constants; members = h.members; kinds = h.kinds; typed = h.typed; valued = h.valued; place = record { others = h.place.others; hides = h.place.hides }; items = h.items; known = h.known }, λ rest. ap (λ o. and_then o (λ v. rest env)) g.is)
 
 -- ---- for
 

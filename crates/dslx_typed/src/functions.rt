@@ -14,7 +14,7 @@ ghost use Rattle.dslx_rules.specs.Judging.{Known, has_broken, with_typed};
 ghost use Rattle.dslx_rules.specs.NodeRules.{block_pair};
 ghost use Rattle.dslx_typed.specs.Declared.{IsDeclared};
 ghost use Rattle.dslx_typed.specs.Given.{GivesItsType, GivesOf};
-ghost use Rattle.dslx_typed.specs.Numbers.{GivenMean, ParametersMean};
+ghost use Rattle.dslx_typed.specs.Numbers.{FitNumbers, GivenMean, ParametersMean};
 ghost use Rattle.dslx_typed.specs.WellTyped.{AreOperandsOf, IsWellTyped, NameNoConstant};
 
 /// An instance of a function whose body breaks no rule and gives a value of its type wherever what is in sight is well typed:
@@ -31,11 +31,11 @@ pub fn functions_give_values_of_their_types()
 {}
 
 /// Number parameters: where the rules know all of them, those that are given, inferred and defaulted, a call finds the same
-/// ones, provided that the types and defaults that are known of them are those that are meant. Operands that all have types
-/// infer the same for both.
+/// ones, provided that they are of the types of their parameters, and that the types and defaults that are known of those are
+/// the ones that are meant. Operands that all have types infer the same for both.
 pub fn calls_find_their_number_parameters()
-    ensures found { (known : Known) (items : Meanings) (home : List ℕ) → ParametersMean known items home
+    ensures found { (known : Known) (items : Meanings) (home : List ℕ)
         → (inferred : List Inferred) (maybe : List (List ℕ)) (so_far : List Given) (ps : List Parameter) (gs : List GivenNumber) (vs ws : List DslxValue)
-        → GivenMean gs vs → (numbers_seen known home inferred maybe so_far [] ps gs).values ≡ Some ws → all_numbers items inferred so_far ps vs ≡ Some ws }
+        → ParametersMean known items home so_far ps → FitNumbers known home so_far ps ws → GivenMean gs vs → (numbers_seen known home inferred maybe so_far [] ps gs).values ≡ Some ws → all_numbers items inferred so_far ps vs ≡ Some ws }
     ensures inferred { (fs : List Field) (ts : List DslxType) → inferred_by fs (map Some ts) ≡ inferred_from fs ts }
 {}

@@ -1,0 +1,2 @@
+-- items with whose text nothing is wrong
+pub mod Standing
