@@ -9,12 +9,12 @@ use Rattle.xb_bits.specs.Word.{Word}
 use Rattle.xb_span.specs.declared.fault.Fault.{Fault}
 use Rattle.dslx_tree.specs.declared.item.Enum.{Enum}
 use Rattle.dslx_tree.specs.declared.item.Member.{Member}
-use Rattle.dslx_meaning.specs.Items.{enum_member, member_named}
+use Rattle.dslx_meaning.specs.Items.{base_of, enum_member, member_bits, member_named, member_value}
 use Rattle.dslx_meaning.specs.Lists.{and_then, is_in, where_true}
-use Rattle.dslx_meaning.specs.Meaning.{meant}
+use Rattle.dslx_meaning.specs.Meaning.{Meant, meant}
 use Rattle.dslx_meaning.specs.Operators.{number_value}
 use Rattle.dslx_meaning.specs.Types.{bits_in, same_bool, same_type}
-use Rattle.dslx_meaning.specs.Values.{bits_of, signed_step}
+use Rattle.dslx_meaning.specs.Values.{bits_of, signed_step, type_of_value}
 use Rattle.dslx_meaning.specs.declared.ty.BitKind.{BitKind}
 use Rattle.dslx_meaning.specs.declared.ty.DslxType.{DslxType}
 use Rattle.dslx_meaning.specs.declared.ty.DslxType as ty
@@ -37,11 +37,11 @@ use Rattle.dslx_typed.specs.Declared.{IsDeclared}
 use Rattle.dslx_typed.specs.Given.{GivesOf}
 use Rattle.dslx_typed.specs.Kinds.{enum_of_kind, is_of, lies_in}
 use Rattle.dslx_typed.specs.WellTyped.{IsWellTyped, types_at}
-use Rattle.dslx_typed.proofs.Lemmas.{is_bits_of, number_given, of_enum, one_of_text}
+use Rattle.dslx_typed.proofs.Lemmas.{is_bits_of, like_itself, number_given, of_enum, one_of_text, one_type}
 use Rattle.dslx_sound.proofs.Lemmas.{all_in, constant_has, expression_gives, none_in, none_in_three, passed, type_stands}
 use Rattle.dslx_complete.specs.Standing.{AreTyped, EnumStands, IsFineFound}
 use Rattle.dslx_complete.proofs.Places.{item_env, item_typed, none_own}
-use Rattle.dslx_meaning.specs.Environment.{Env}
+use Rattle.dslx_meaning.specs.Environment.{Env, Meanings, outside}
 
 -- ---- the value of a member, in its base
 
@@ -80,6 +80,34 @@ member_has sight env h t declared m fine = by_bare (bare_of (expr_pair m.value))
         }
     by_bare (Some number) g =
         number_given (types_at sight) t number (passed (is_there (number_value t number)) 6 (span_of (expr_pair m.value)) g.faults) declared
+
+-- what it means, by the number without a type that it may be
+abbrev bits_by : Meanings → BitKind → Meant → Option Bare → Option DslxValue
+bits_by items kind m None = and_then (m.value (outside items)) (λ v. where_true (same_type (type_of_value v) (ty.Bits kind.signed kind.width)) (Some v))
+bits_by items kind m (Some number) = number_value (ty.Bits kind.signed kind.width) number
+
+member_is_meant : (known : Known) (home : List ℕ) → IsWellTyped (item_sight known home []) (item_env known []) → (t : DslxType) → IsDeclared known.items.type_named t → (b : BitKind) → t ≡ ty.Bits b.signed b.width → (m : Member)
+    → IsFineFound known (member_constant (item_sight known home []) (Some t) m).found → (member_constant (item_sight known home []) (Some t) m).value ≡ member_bits known.items b (meant m.value)
+member_is_meant known home h t declared b e m fine =
+    by_bare (bare_of (expr_pair m.value)) fine ∙ ap (bits_by known.items b (meant m.value)) (ap (λ (x : Meant). x.bare) (expression_gives m.value).is)
+  where
+    sight : Sight
+    sight = item_sight known home []
+
+    by_bare : (o : Option Bare) → IsFineFound known (member_by sight (Some t) (expr_pair m.value) o).found → (member_by sight (Some t) (expr_pair m.value) o).value ≡ bits_by known.items b (meant m.value) o
+    by_bare None g =
+        let pair = expr_pair m.value in
+        let c = constant_of sight pair in
+        let wrong = wanted_faults (span_of pair) (Some t) c.judgement.ty in
+        let f = none_in c.judgement.faults wrong g.faults in
+        let k = constant_has sight (item_env known []) pair (meant m.value) (expression_gives m.value) h (record { faults = f.0; reached = g.reached }) in
+        let same = passed (same_type t k.ty) 9 (span_of pair) (ap (wanted_faults (span_of pair) (Some t)) (sym k.typed) ∙ f.1) in
+        let one : t ≡ k.ty = one_of_text known.items.type_named t k.ty same declared k.gives.declared in
+        let own : type_of_value k.gives.value ≡ ty.Bits b.signed b.width = one_type k.ty k.gives.value k.gives.of ∙ sym one ∙ e in
+        let alike : same_type (type_of_value k.gives.value) (ty.Bits b.signed b.width) ≡ true = ap (λ u. same_type u (ty.Bits b.signed b.width)) own ∙ like_itself (ty.Bits b.signed b.width) in
+        (λ i. if is_empty (f.1 i) then c.value else None) ∙ k.known
+        ∙ sym (ap (λ p. and_then p (λ v. where_true (same_type (type_of_value v) (ty.Bits b.signed b.width)) (Some v))) k.gives.is ∙ ap (λ p. where_true p (Some k.gives.value)) alike)
+    by_bare (Some number) g = ap (λ u. number_value u number) e
 
 -- ---- its value in the enum
 
@@ -155,6 +183,7 @@ enum_stands known complete typed e fine =
     let of_bits = passed (is_bits k.0) 23 e.span (ap (unless_type is_bits 23 e.span) (sym k.1) ∙ f.1) in
     let b = is_bits_type k.0 of_bits in
     let in_bits : base_if_bits base.ty ≡ Some k.0 = ap base_if_bits k.1 ∙ ap (λ t. where_true t (Some k.0)) of_bits in
+    let based : base_of known.items e ≡ Some b.0 = (λ i. and_then (m.0 i) bits_in) ∙ b.2 in
     let made : Option DslxType → Option DslxType = enum_of_base e.name.name in
     let named : made (Some k.0) ≡ Some (ty.Enum e.name.name b.0.signed b.0.width) = ap (λ o. and_then o (λ (kind : BitKind). Some (ty.Enum e.name.name kind.signed kind.width))) b.2 in
     let is : (enum_seen known e).ty ≡ Some (ty.Enum e.name.name b.0.signed b.0.width) = (λ i. unless_broken (fine.faults i) (made (k.1 i))) ∙ named in
@@ -171,5 +200,8 @@ enum_stands known complete typed e fine =
             value = v.value;
             is = (λ i. enum_member_value known e name (found.is i)) ∙ (λ i. and_then (is i) (λ t. and_then (member_constant sight (in_bits i) found.member).value (enum_member e.name.name))) ∙ v.is;
             of = v.of;
+            means = (λ i. and_then (found.is i) (member_value known.items e))
+                ∙ (λ i. and_then (based i) (λ kind. and_then (member_bits known.items kind (meant found.member.value)) (enum_member e.name.name)))
+                ∙ ap (λ o. and_then o (enum_member e.name.name)) (sym (member_is_meant known e.name.name place k.0 m.1 b.0 b.1 found.member found.fine)) ∙ v.is;
           };
     }

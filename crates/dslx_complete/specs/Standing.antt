@@ -9,7 +9,8 @@ use Rattle.dslx_tree.specs.declared.item.Function.{Function}
 use Rattle.dslx_tree.specs.declared.item.Parameter.{Parameter}
 use Rattle.dslx_tree.specs.declared.item.Struct.{Struct}
 use Rattle.dslx_meaning.specs.Environment.{Given, outside}
-use Rattle.dslx_meaning.specs.Items.{as_enum, constant_value, enum_type, function_value, item_named, member_named, name_of_field, struct_type}
+use Rattle.dslx_meaning.specs.Items.{as_enum, constant_value, enum_type, function_value, item_named, member_named, member_value, name_of_field, struct_type}
+use Rattle.dslx_meaning.specs.Lists.{and_then}
 use Rattle.dslx_meaning.specs.Meaning.{value_of, written_type}
 use Rattle.dslx_meaning.specs.Values.{type_of_value}
 use Rattle.dslx_meaning.specs.declared.ty.DslxType.{DslxType}
@@ -59,11 +60,12 @@ pub record StructStands (known : Known) (s : Struct) : Type 0 where
   pub declared : AllDeclared known.items.type_named fields
   pub means : struct_type known.items s ≡ Some (ty.Struct s.name.name (map name_of_field s.fields) fields)
 
--- the member of this name has a value of its enum
+-- the member of this name has a value of its enum, the one that is meant
 pub record MemberStands (known : Known) (e : Enum) (signed : Bool) (width : ℕ) (name : List ℕ) : Type 0 where
   pub value : DslxValue
   pub is : enum_member_value known e name (member_named name e.members) ≡ Some value
   pub of : is_of (ty.Enum e.name.name signed width) value ≡ true
+  pub means : and_then (member_named name e.members) (member_value known.items e) ≡ Some value
 
 -- an enum has bits of a width, those that are meant, and each member a value
 pub record EnumStands (known : Known) (e : Enum) : Type 0 where

@@ -2,8 +2,7 @@
 use Rattle.std.proofs.Common.{◌≡◌, ◌⊎◌, inl, inr, ◌&&◌, ◌||◌, ◌++◌, ℕ, zero, suc, length, Bool, true, false, if◌then◌else◌, List, [], ◌∷◌, Option, Some, None, refl, sym, ap, subst, ◌∙◌}
 use mathlib.Core.Bool.{true≢false}
 use Rattle.std.specs.Prelude.{flat_map}
-use Rattle.std.specs.List.{list_all, list_any}
-use Rattle.std.specs.Str.{bytes_eq}
+use Rattle.std.specs.List.{list_all}
 use Rattle.std.proofs.lemmas.Slice.Eq.{bytes_eq-Decides}
 use Rattle.dslx_tree.specs.declared.item.Definition.{Definition}
 use Rattle.dslx_tree.specs.declared.item.Definition.TheVariants as d
@@ -13,8 +12,8 @@ use Rattle.dslx_meaning.specs.Lists.{pairwise}
 use Rattle.dslx_meaning.specs.Values.{same_value}
 use Rattle.dslx_meaning.specs.declared.value.DslxValue.{DslxValue}
 use Rattle.dslx_rules.specs.Judging.{Instance, Known, same_instance}
-use Rattle.dslx_rules.specs.Mentions.{Use, AsFunction, AsProc, AsType, AsValue, is_of_use, mentions_of}
-use Rattle.dslx_rules.specs.ModuleRules.{add_new, found_of_instance, found_of_item, is_reached, known_of, known_within, reached_next, reached_within}
+use Rattle.dslx_rules.specs.Mentions.{AsFunction, AsProc, AsType, AsValue, is_of_use, mentions_of}
+use Rattle.dslx_rules.specs.ModuleRules.{add_new, found_of_instance, found_of_item, is_reached, known_within, reached_next, reached_within}
 use Rattle.dslx_laws.specs.Recursion.{HasNoCycle}
 use Rattle.dslx_laws.proofs.Chains.{Ends, OfEach, item_ends}
 use Rattle.dslx_judged.specs.Closed.{ReachOneAnother, IsOneOf}

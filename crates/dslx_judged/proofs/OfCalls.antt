@@ -1,15 +1,11 @@
 -- What calls reach.
-use Rattle.std.proofs.Common.{◌≡◌, ◌==◌, ◌&&◌, ◌||◌, ◌++◌, ℕ, length, Bool, true, false, not, if◌then◌else◌, List, [], ◌∷◌, map, Option, Some, None, refl}
-use Rattle.std.specs.List.{list_all}
-use Rattle.std.specs.Prelude.{nat_lt}
+use Rattle.std.proofs.Common.{◌≡◌, ◌||◌, ◌++◌, ℕ, Bool, true, false, if◌then◌else◌, List, [], ◌∷◌, map, Option, Some, None, refl}
 use Rattle.xb_span.specs.declared.span.Span.{Span}
 use Rattle.xb_span.specs.declared.fault.Fault.{Fault}
 use Rattle.dslx_tree.specs.declared.expr.Expr.{Expr}
 use Rattle.dslx_tree.specs.declared.ident.Ident.{Ident}
 use Rattle.dslx_tree.specs.declared.item.Function.{Function}
 use Rattle.dslx_tree.specs.declared.item.Parameter.{Parameter}
-use Rattle.dslx_tree.specs.declared.process.Direction.{Direction}
-use Rattle.dslx_tree.specs.declared.process.Direction.TheVariants.{In, Out}
 use Rattle.dslx_meaning.specs.Callees.{AllOnes, CallKind, Calls, CountsLeading, CountsTrailing, Joins, Parity, Receives, ReceivesIf, Reverses, Sends, SendsIf, SomeOne, Updates}
 use Rattle.dslx_meaning.specs.Environment.{Given}
 use Rattle.dslx_meaning.specs.Inference.{Inferred}
@@ -18,8 +14,8 @@ use Rattle.dslx_meaning.specs.Lists.{is_in}
 use Rattle.dslx_meaning.specs.Types.{bool_type}
 use Rattle.dslx_meaning.specs.declared.ty.DslxType.{DslxType}
 use Rattle.dslx_meaning.specs.declared.value.DslxValue.{DslxValue}
-use Rattle.dslx_rules.specs.CallRules.{ChannelSeen, GivenNumber, NotGiven, Number, NumbersSeen, Resolved, Unknown, Wrong, bound_by_number, builtin_judged, call_judged, call_parts_faults, call_parts_reached, channel_named, channel_seen, counting, declared_type, default_value, effect_with, first_operand_type, function_call, given_judgements, given_numbers, has_right_count, held_judged, inferred_by, joining, maybe_inferred, named_channel, not_given, numbers_for, numbers_seen, of_type, only_on_top, outlet_at, reached_by, receiving, receiving_if, resolved_value, right_call, sending, sending_if, token_judged, type_without_value, unknown_behind, updating, without_numbers, wrong_call, wrong_effect}
-use Rattle.dslx_rules.specs.Judging.{ExprPair, Instance, Judgement, Known, Outlet, Sight, all_alone, alone, breaks_if, has_broken, name_of_expr, reached_of_all, span_of, types_of, within}
+use Rattle.dslx_rules.specs.CallRules.{GivenNumber, Number, NumbersSeen, Resolved, Unknown, Wrong, bound_by_number, builtin_judged, call_judged, call_parts_reached, channel_named, channel_seen, counting, declared_type, default_value, first_operand_type, function_call, given_judgements, given_numbers, has_right_count, held_judged, inferred_by, maybe_inferred, named_channel, not_given, numbers_for, numbers_seen, of_type, only_on_top, outlet_at, reached_by, receiving, receiving_if, resolved_value, right_call, sending, sending_if, token_judged, type_without_value, unknown_behind, updating, without_numbers, wrong_call, wrong_effect}
+use Rattle.dslx_rules.specs.Judging.{ExprPair, Judgement, Known, Outlet, Sight, all_alone, alone, breaks_if, has_broken, name_of_expr, reached_of_all, span_of, types_of, within}
 use Rattle.dslx_rules.specs.Judgings.{ArgPair}
 use Rattle.dslx_rules.specs.Mentions.{is_cyclic}
 use Rattle.dslx_judged.specs.Reached.{AllNamed, EachParameterReaches, InstancesReach, ParameterReaches}

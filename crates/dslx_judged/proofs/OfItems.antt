@@ -33,7 +33,7 @@ use Rattle.dslx_tree.specs.declared.item.Module.{Module}
 use Rattle.dslx_tree.specs.declared.item.Parameter.{Parameter}
 use Rattle.dslx_tree.specs.declared.type_expr.TypeExpr.{TypeExpr}
 use Rattle.dslx_meaning.specs.Environment.{Given}
-use Rattle.dslx_meaning.specs.Items.{as_function, item_named, name_of_definition, numbers_bound}
+use Rattle.dslx_meaning.specs.Items.{as_function, item_named, name_of_definition}
 use Rattle.dslx_meaning.specs.declared.ty.DslxType.{DslxType}
 use Rattle.dslx_meaning.specs.declared.value.DslxValue.{DslxValue}
 use Rattle.dslx_rules.specs.ItemRules.{ConstantFound, annotation_judged, base_if_bits, fields_found, judged_type, member_constant, members_found, only_faults, arguments_found, arguments_typed, body_judged, bound_with, default_found, function_seen, function_sight, item_sight, judged_inner, number_at, numbers_behind, parameters_found, result_judged}
@@ -41,7 +41,7 @@ use Rattle.dslx_rules.specs.Judging.{ExprPair, Instance, Known, Sight, alone, ba
 use Rattle.dslx_rules.specs.Mentions.{arg_if, ends_mentions, is_cyclic, making_mentions, mention, mentioned_in_arg, proc_mentions, Use, AsFunction, AsEnum, AsPattern, AsProc, AsStruct, AsType, AsValue, Mention, definition_mentions, expr_if, field_names, fields_mentions, is_of_use, mentioned, mentioned_in_block, mentioned_in_type, mentions_of, names_meant, parameter_names, parameters_mentions, type_if}
 use Rattle.dslx_rules.specs.ModuleRules.{found_of_instance, found_of_item, item_found, known_nothing, known_over, known_within}
 use Rattle.dslx_rules.specs.NodeRules.{arg_pair, expr_pair}
-use Rattle.dslx_judged.specs.Reached.{AllNamed, EachParameterReaches, InstancesReach, IsClosed, MentionReaches, MentionsReach, ParameterReaches}
+use Rattle.dslx_judged.specs.Reached.{AllNamed, EachParameterReaches, InstancesReach, IsClosed, MentionReaches, MentionsReach}
 use Rattle.dslx_judged.proofs.Joined.{argument_reaches, block_of_text_reaches, expression_reaches, written_type_reaches}
 use Rattle.dslx_judged.proofs.Parts.{constant_reaches, join, parts, three_parts, unmarked}
 

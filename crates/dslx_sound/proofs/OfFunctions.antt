@@ -29,7 +29,7 @@ use Rattle.dslx_typed.specs.Given.{GivesOf}
 use Rattle.dslx_typed.specs.Kinds.{is_of}
 use Rattle.dslx_typed.specs.Numbers.{AllOwn}
 use Rattle.dslx_typed.specs.WellTyped.{IsWellTyped, types_at}
-use Rattle.dslx_typed.proofs.Lemmas.{all_are, declared_is, inferred_alike, list_parts, none_some, numbers_found, one_of_text, one_type, same_some}
+use Rattle.dslx_typed.proofs.Lemmas.{all_are, declared_is, inferred_alike, list_parts, numbers_found, one_of_text, one_type, same_some}
 use Rattle.dslx_sound.specs.Sound.{EachExprGives, HasItsValue}
 use Rattle.dslx_sound.proofs.OfBuiltins.{wrongly_called}
 use Rattle.dslx_sound.proofs.OfNumbers.{numbers_given, numbers_known}
