@@ -1,4 +1,4 @@
-ghost use Rattle.std.specs.Prelude.{◌≡◌, ◌<◌, ◌≤◌, IfOk, Some};
+ghost use Rattle.std.specs.Prelude.{◌≡◌, ◌<◌, ◌≤◌, ◌+◌, IfOk, Some};
 ghost use Rattle.task_queue.specs.Passes.{IsTaskPass, knows};
 ghost use Rattle.proc_round.specs.Shares.{AreAll, HoldsNone};
 
@@ -32,6 +32,10 @@ impl Numbered<u32> for Counter {
 }
 
 impl Steps<u32> for Counter {
+    ghost moves = { λ old new made. old.left ≡ new.left + made };
+
+    ghost waits = { λ task. task.left ≡ 0 };
+
     fn make_events<R: Wait>(
         &mut self,
         _rt: &R,

@@ -54,6 +54,10 @@ impl<S: Streams, H: Home<S>> Numbered<H> for Task<S, H> {
 }
 
 impl<S: Streams, H: Home<S>> Steps<H> for Task<S, H> {
+    ghost moves = { λ old new made. new.count ≡ old.count + made };
+
+    ghost waits = { λ task. Waits (H.run task.home) task };
+
     fn make_events<R: Wait>(
         &mut self,
         rt: &R,
