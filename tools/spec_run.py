@@ -3,7 +3,7 @@
 
 usage: spec_run.py TABLE .. [--NAME ..]
 
-It reads the definitions of `dslx_meaning`, `dslx_rules`, `dslx_heights` and `dslx_lowering` (and of the crates below them) as they stand, evaluates them at the
+It reads the definitions of `dslx_meaning`, `dslx_rules`, `dslx_heights`, `dslx_lowering` and `dslx_networks` (and of the crates below them) as they stand, evaluates them at the
 texts of each TABLE, and compares what they come to with what the table wants. It is a help while definitions are written;
 nothing rests on it. A NAME is an example that is tried alone.
 
@@ -11,7 +11,7 @@ A table has paragraphs. Each is a line with a name, a line with what is wanted, 
 `ok`, `rule R FROM TO` or `limit WORD FOUND MOST`: what the text's first fault is; `value SIGNED WIDTH NUMBER`: the constant X;
 `sent TURN`: what the first proc does at its first site; `turns WORDS | TURNS ; STATE`: its activation over words of 8 bits;
 `height N`: how high the text's tree is; `core NAME ARGUMENT .. ; .. | EXPRESSION`: what the last of these instances of functions becomes;
-`steps NAME ARGUMENT ..; INSTANCES | STEP; .. => EXPRESSION`: what the statements of that proc become behind these instances; `net PROCS | CHANNELS`: the network; `run ACTIVATIONS CHANNEL VALUE .. ; .. | LINE / ..`: what is left after a run over these words.
+`steps NAME ARGUMENT ..; INSTANCES | STEP; .. => EXPRESSION`: what the statements of that proc become behind these instances; `net PROCS | CHANNELS`: the network; `made PROC ARGUMENT .., .. ; FUNCTION ARGUMENT .., .. | PROCS | CHANNELS`: the network of what these instances become, the last proc being the top; `run ACTIVATIONS CHANNEL VALUE .. ; .. | LINE / ..`: what is left after a run over these words.
 """
 import os
 import re
@@ -820,11 +820,9 @@ def answer(module, wanted):
         turn = force(apply(force(b['turn']), (force(force(head)['init']), [], 0)))
         return 'sent ' + show(turn)
     if kind == 'net':
-        n = force(apply(lookup(load('dslx_meaning.specs.Network'), 'network_of'), (module, top)))
-        procs = ' '.join('%s(%s)' % (text(p, 'path'), ' '.join('%s%d' % ('!' if force(force(s)['sends']) else '?', force(force(s)['chan']))
-                                                               for s in force(force(p)['sites']))) for p in force(n['procs']))
-        chans = ' '.join('%s:%s:%d' % (text(c, 'name'), force(force(c)['kind']).name, force(force(c)['depth'])) for c in force(n['chans']))
-        return 'net %s | %s' % (procs, chans)
+        return 'net ' + net_words(apply(lookup(load('dslx_meaning.specs.Network'), 'network_of'), (module, top)))
+    if kind == 'made':
+        return made_text(module, wanted)
     if kind == 'turns':
         # what the first proc does in an activation from its opening state over the words of 8 bits
         words = [{'width': 8, 'value': int(w, 0)} for w in wanted.partition('|')[0].split()[1:]]
@@ -841,6 +839,32 @@ def answer(module, wanted):
         lines = spec_net.run(apply(lookup(net, 'network_of'), (module, top)), apply(lookup(net, 'behaviors_of'), (module, top)), words, int(given.split()[1]))
         return '%s| %s' % (given, ' / '.join(lines))
     raise ValueError(wanted)
+
+
+def net_words(n):
+    n = force(n)
+    procs = ' '.join('%s(%s)' % (text(p, 'path'), ' '.join('%s%d' % ('!' if force(force(s)['sends']) else '?', force(force(s)['chan']))
+                                                           for s in force(force(p)['sites']))) for p in force(n['procs']))
+    chans = ' '.join('%s:%s:%d' % (text(c, 'name'), force(force(c)['kind']).name, force(force(c)['depth'])) for c in force(n['chans']))
+    return '%s | %s' % (procs, chans)
+
+
+def made_text(module, wanted):
+    """The network of the checked text that is made of instances of procs over instances of functions."""
+    given = wanted.partition(' |')[0]
+    items = apply(lookup(load('dslx_meaning.specs.Items'), 'meanings_of'), (module,))
+    procs, _, functions = given.partition(' ')[2].partition(';')
+    functions = instances_of(module, items, [i for i in functions.split(',') if i.strip()])
+    named = [{'name': list(i.split()[0].encode()), 'numbers': numbers_of(i)} for i in procs.split(',')]
+    table = force(apply(lookup(load('dslx_networks.specs.Procs'), 'procs_from'), (module, items, functions, [], named)))
+    proc = force(apply(lookup(load('dslx_meaning.specs.Network'), 'as_proc'),
+                       (apply(lookup(load('dslx_meaning.specs.Items'), 'item_named'), (named[-1]['name'], force(module)['items'])),))).args[0]
+    making = load('dslx_networks.specs.Making')
+    outer = force(apply(lookup(making, 'outers_lowered'), (items, proc)))
+    if 'None' in (table.name, outer.name):
+        return given + ' | none'
+    design = {'name': named[-1]['name'], 'outer': outer.args[0], 'functions': [], 'procs': apply(lookup(making, 'instances_alone'), (table.args[0],))}
+    return '%s | %s' % (given, net_words(apply(lookup(load('dslx_core.specs.Designs'), 'core_network'), (design,))))
 
 
 def instances_of(module, items, words):

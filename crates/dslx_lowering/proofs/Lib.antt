@@ -48,3 +48,5 @@ mod FromPlain
 mod OfSteps
 -- procs
 mod OfProcs
+-- for other crates' proofs
+pub mod Lemmas

@@ -2,32 +2,44 @@
 use Rattle.std.proofs.Common.{◌≡◌, ◌&&◌, not, List, [], Some, refl}
 use Rattle.dslx_tree.specs.declared.item.Module.{Module}
 use Rattle.dslx_tree.specs.declared.process.Proc.{Proc}
+use Rattle.dslx_meaning.specs.Activation.{state_type_of}
 use Rattle.dslx_meaning.specs.Environment.{Meanings}
 use Rattle.dslx_meaning.specs.Items.{meanings_over}
 use Rattle.dslx_meaning.specs.Lists.{and_then, where_true}
 use Rattle.dslx_meaning.specs.declared.value.DslxValue.{DslxValue}
 use Rattle.dslx_laws.proofs.Lemmas.{and_true}
 use Rattle.dslx_lowering.specs.Activities.{NextStands}
+use Rattle.dslx_lowering.specs.Correspondence.{KnownStands}
 use Rattle.dslx_lowering.specs.Functions.{CoreInstance, Instantiated, instances_from, numbers_stand, outer_place}
 use Rattle.dslx_lowering.specs.Instances.{ItemsAreOwn, functions_of_instances}
 use Rattle.dslx_lowering.specs.Steps.{LoweredNext, is_sized, next_lowered, proc_known, steps_from}
 use Rattle.dslx_lowering.specs.Trees.{type_of_text_lowered}
 use Rattle.dslx_lowering.proofs.Kept.{from_where}
-use Rattle.dslx_lowering.proofs.OfSteps.{next_stands}
+use Rattle.dslx_lowering.proofs.OfSteps.{next_stands, state_stands}
 use Rattle.dslx_lowering.proofs.Tables.{calls_stand, instances_stand, numbers_hide, numbers_own}
 
-pub next_of_instances : (m : Module) (items : Meanings) → meanings_over m items ≡ items → ItemsAreOwn items → (is : List Instantiated) (instances : List CoreInstance) → instances_from m items [] is ≡ Some instances
-    → (p : Proc) (numbers : List DslxValue) (l : LoweredNext) → next_lowered (proc_known m items instances p numbers) p ≡ Some l → NextStands (proc_known m items instances p numbers) (functions_of_instances instances) p numbers l
-next_of_instances m items settled own is instances e p numbers l low =
+-- what is known in an instance of a proc stands
+known_of_proc : (m : Module) (items : Meanings) → meanings_over m items ≡ items → ItemsAreOwn items → (is : List Instantiated) (instances : List CoreInstance) → instances_from m items [] is ≡ Some instances
+    → (p : Proc) (numbers : List DslxValue) (l : LoweredNext) → next_lowered (proc_known m items instances p numbers) p ≡ Some l → KnownStands (proc_known m items instances p numbers) (functions_of_instances instances)
+known_of_proc m items settled own is instances e p numbers l low =
     let known = proc_known m items instances p numbers in
     let w = from_where (numbers_stand items known.numbers && not (items.is_constant p.next.state.name))
     (and_then (type_of_text_lowered p.next.ty (outer_place known)) (λ t. where_true (is_sized t) (steps_from (outer_place known) p t))) l low in
     let test = (and_true (numbers_stand items known.numbers) (not (items.is_constant p.next.state.name)) w.0).0 in
-    next_stands known (functions_of_instances instances) p numbers l
-    (record {
+    record {
       numbers = numbers_own items known.numbers test;
       constants = own.constants;
       members = own.members;
       hides = numbers_hide items known.numbers test;
       callees = calls_stand m items settled instances (functions_of_instances instances) (instances_stand m items settled own is instances e) known.numbers;
-    }) refl low
+    }
+
+pub next_of_instances : (m : Module) (items : Meanings) → meanings_over m items ≡ items → ItemsAreOwn items → (is : List Instantiated) (instances : List CoreInstance) → instances_from m items [] is ≡ Some instances
+    → (p : Proc) (numbers : List DslxValue) (l : LoweredNext) → next_lowered (proc_known m items instances p numbers) p ≡ Some l → NextStands (proc_known m items instances p numbers) (functions_of_instances instances) p numbers l
+next_of_instances m items settled own is instances e p numbers l low =
+    next_stands (proc_known m items instances p numbers) (functions_of_instances instances) p numbers l (known_of_proc m items settled own is instances e p numbers l low) refl low
+
+pub state_of_instances : (m : Module) (items : Meanings) → meanings_over m items ≡ items → ItemsAreOwn items → (is : List Instantiated) (instances : List CoreInstance) → instances_from m items [] is ≡ Some instances
+    → (p : Proc) (numbers : List DslxValue) (l : LoweredNext) → next_lowered (proc_known m items instances p numbers) p ≡ Some l → state_type_of items p numbers ≡ Some l.state
+state_of_instances m items settled own is instances e p numbers l low =
+    state_stands (proc_known m items instances p numbers) (functions_of_instances instances) p numbers l (known_of_proc m items settled own is instances e p numbers l low) refl low

@@ -27,7 +27,7 @@ use Rattle.dslx_meaning.specs.Operators.{truth, truth_of}
 use Rattle.dslx_meaning.specs.Environment.{Given, Env}
 use Rattle.dslx_meaning.specs.Items.{numbers_bound}
 use Rattle.dslx_meaning.specs.Meaning.{Fitting, fitted, value_of, written_type}
-use Rattle.dslx_meaning.specs.Activation.{Activity, Binder, Computes, Further, SendsWord, SendsWordIf, SiteAct, SiteEnv, StmtLayer, TakesWord, TakesWordIf, act_of, activation_of, activity_from, at_an_end, do_act, do_stmt, do_stmts, further, if_on, last_value_of, member_type, pair_with, send_word, take_word, then_goes, word_type_at}
+use Rattle.dslx_meaning.specs.Activation.{Activity, Binder, Computes, Further, SendsWord, SendsWordIf, SiteAct, SiteEnv, StmtLayer, TakesWord, TakesWordIf, act_of, activation_of, activity_from, at_an_end, do_act, do_stmt, do_stmts, further, if_on, last_value_of, member_type, pair_with, send_word, state_type_of, take_word, then_goes, word_type_at}
 use Rattle.dslx_meaning.specs.declared.ty.DslxType.{DslxType}
 use Rattle.dslx_meaning.specs.declared.ty.DslxType as ty
 use Rattle.dslx_meaning.specs.declared.value.DslxValue.{DslxValue}
@@ -400,3 +400,19 @@ next_stands known calls p numbers l stands own low state words typed =
     activation_is : (t : DslxType) → written_type p.next.ty (record { items = known.items; bound = known.numbers }) ≡ Some t → activation_of known.items p numbers state words ≡ activity_at t known.numbers
     activation_is t e =
         ap (activity_from known.items p numbers state words) (ap (λ gs. written_type p.next.ty (record { items = known.items; bound = gs })) (sym own) ∙ e) ∙ ap (activity_at t) (sym own)
+
+-- the type of the states
+pub state_stands : (known : CoreKnown) (calls : Functions) (p : Proc) (numbers : List DslxValue) (l : LoweredNext) → KnownStands known calls → known.numbers ≡ numbers_bound [] p.parameters numbers
+    → next_lowered known p ≡ Some l → state_type_of known.items p numbers ≡ Some l.state
+state_stands known calls p numbers l stands own low =
+    let w = from_where (numbers_stand known.items known.numbers && not (known.items.is_constant p.next.state.name))
+    (and_then (type_of_text_lowered p.next.ty (outer_place known)) (λ t. where_true (is_sized t) (steps_from (outer_place known) p t))) l low in
+    let t = from_then (type_of_text_lowered p.next.ty (outer_place known)) (λ t. where_true (is_sized t) (steps_from (outer_place known) p t)) l w.1 in
+    let z = from_where (is_sized t.0) (steps_from (outer_place known) p t.0) l t.2 in
+    let s = from_then (statements_steps (outer_place known) p.members (out-Block p.next.body).statements (out-Block p.next.body).value (with_local p.next.state.name t.0 (outer_place known)))
+    (λ s. where_true (equal_type t.0 s.next.ty) (Some (record { state = t.0; steps = s.steps; next = s.next.core }))) l z.1 in
+    let q = from_where (equal_type t.0 s.0.next.ty) (Some (record { state = t.0; steps = s.0.steps; next = s.0.next.core })) l s.2 in
+    let is = same_some (record { state = t.0; steps = s.0.steps; next = s.0.next.core }) l q.1 in
+    ap (λ gs. written_type p.next.ty (record { items = known.items; bound = gs })) (sym own)
+    ∙ type_of_text_means p.next.ty (outer_place known) calls known.numbers [] (record { known = stands; count = refl; slots = refl; hides = stands.hides }) t.0 t.1
+    ∙ ap (λ (x : LoweredNext). Some x.state) is

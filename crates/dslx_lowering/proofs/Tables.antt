@@ -152,7 +152,7 @@ one_number v w e = by_bits (bits_of v) (bits_of w) refl refl e
     by_bits None q ep eq k = absurd (true≢false (sym k))
     by_bits (Some x) None ep eq k = absurd (true≢false (sym k))
 
-all_one_number : (vs ws : List DslxValue) → pairwise same_number vs ws ≡ true → vs ≡ ws
+pub all_one_number : (vs ws : List DslxValue) → pairwise same_number vs ws ≡ true → vs ≡ ws
 all_one_number [] [] e = refl
 all_one_number [] (w ∷ ws) e = absurd (true≢false (sym e))
 all_one_number (v ∷ vs) [] e = absurd (true≢false (sym e))
@@ -226,7 +226,7 @@ calls_stand m items settled instances calls h bound name given operands types ca
 
 -- ---- one more instance
 
-at_the_end : {A : Type 0} (as' : List A) (b : A) (k : ℕ) (a : A) → slice_get (as' ++ b ∷ []) k ≡ Some a → (slice_get as' k ≡ Some a) ⊎ ((k ≡ length as') × (b ≡ a))
+pub at_the_end : {A : Type 0} (as' : List A) (b : A) (k : ℕ) (a : A) → slice_get (as' ++ b ∷ []) k ≡ Some a → (slice_get as' k ≡ Some a) ⊎ ((k ≡ length as') × (b ≡ a))
 at_the_end [] b zero a e = inr (refl, same_some b a e)
 at_the_end [] b (suc k) a e = none_some a e
 at_the_end (x ∷ xs) b zero a e = inl e
@@ -236,7 +236,7 @@ at_the_end (x ∷ xs) b (suc k) a e = further (at_the_end xs b k a e)
     further (inl p) = inl p
     further (inr p) = inr (ap suc p.0, p.1)
 
-not_the_end : (k n : ℕ) → k < n → (k == n) ≡ false
+pub not_the_end : (k n : ℕ) → k < n → (k == n) ≡ false
 not_the_end k n h = by_test (k == n) refl
   where
     by_test : (b : Bool) → (k == n) ≡ b → b ≡ false

@@ -1,6 +1,7 @@
 ghost use Rattle.std.specs.Prelude.{◌≡◌, [], List, Some};
 ghost use Rattle.dslx_tree.specs.declared.item.Module.{Module};
 ghost use Rattle.dslx_tree.specs.declared.process.Proc.{Proc};
+ghost use Rattle.dslx_meaning.specs.Activation.{state_type_of};
 ghost use Rattle.dslx_meaning.specs.Environment.{Meanings};
 ghost use Rattle.dslx_meaning.specs.Items.{meanings_over};
 ghost use Rattle.dslx_meaning.specs.declared.value.DslxValue.{DslxValue};
@@ -11,10 +12,14 @@ ghost use Rattle.dslx_lowering.specs.Steps.{LoweredNext, next_lowered, proc_know
 
 /// An activation of an instance of a proc, from each state of its type and over each list of words: what it does at a site
 /// the steps that its `next` becomes do too, and where it ends in a state they do just that and end in this state, without
-/// signs and names.
+/// signs and names. That type is the one that the text's state has.
 pub fn lowered_steps_do_the_same()
-    ensures { (m : Module) (items : Meanings) → meanings_over m items ≡ items → ItemsAreOwn items
+    ensures activations { (m : Module) (items : Meanings) → meanings_over m items ≡ items → ItemsAreOwn items
         → (is : List Instantiated) (instances : List CoreInstance) → instances_from m items [] is ≡ Some instances
         → (p : Proc) (numbers : List DslxValue) (l : LoweredNext) → next_lowered (proc_known m items instances p numbers) p ≡ Some l
         → NextStands (proc_known m items instances p numbers) (functions_of_instances instances) p numbers l }
+    ensures state { (m : Module) (items : Meanings) → meanings_over m items ≡ items → ItemsAreOwn items
+        → (is : List Instantiated) (instances : List CoreInstance) → instances_from m items [] is ≡ Some instances
+        → (p : Proc) (numbers : List DslxValue) (l : LoweredNext) → next_lowered (proc_known m items instances p numbers) p ≡ Some l
+        → state_type_of items p numbers ≡ Some l.state }
 {}

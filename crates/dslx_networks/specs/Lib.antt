@@ -1,0 +1,8 @@
+-- ends by their numbers
+pub mod Ends
+-- what a `config` becomes
+pub mod Configs
+-- instances of procs
+pub mod Procs
+-- a checked text that is made of instances
+pub mod Making
