@@ -195,7 +195,7 @@ call_keeps place calls given bound at kind name ns ms ls os same h e k r g =
   where
     by_kind : (kind : CallKind) (numbers vs : List DslxValue) → all_some ms ≡ Some numbers → all_some os ≡ Some vs → call_lowered kind name place ns ls ≡ Some e
         → call_meant kind name (env_at place given) numbers vs ≡ Some r → HasPlainValue e calls bound r
-    by_kind Joins numbers vs p q k g = token_keeps calls bound e k r g
+    by_kind Joins numbers vs p q k g = token_keeps calls bound e (from_then (all_some ls) (λ es. lowered (core.Tuple []) ty.Token) e k).2 r g
     by_kind CountsLeading numbers vs p q k g = counted_keeps calls bound u.Clz op.clz ls os vs h (λ x. refl) (λ x. refl) clz_lies (each_there os vs q) e k r g
     by_kind CountsTrailing numbers vs p q k g = counted_keeps calls bound u.Ctz op.ctz ls os vs h (λ x. refl) (λ x. refl) ctz_lies (each_there os vs q) e k r g
     by_kind Reverses numbers vs p q k g = counted_keeps calls bound u.Rev op.rev ls os vs h (λ x. refl) (λ x. refl) rev_lies (each_there os vs q) e k r g

@@ -196,7 +196,7 @@ function_lowered place name numbers es =
 
 -- effects are no expressions: an activation has them
 abbrev pub call_lowered : CallKind → List ℕ → CorePlace → List (Option DslxValue) → List (Option LoweredExpr) → Option LoweredExpr
-call_lowered Joins name place numbers es = lowered (core.Tuple []) ty.Token
+call_lowered Joins name place numbers es = and_then (all_some es) (λ es. lowered (core.Tuple []) ty.Token)
 call_lowered CountsLeading name place numbers es = counted_lowered u.Clz es
 call_lowered CountsTrailing name place numbers es = counted_lowered u.Ctz es
 call_lowered Reverses name place numbers es = counted_lowered u.Rev es
