@@ -139,7 +139,7 @@ updates span sight env (e ∷ i ∷ v ∷ []) (x ∷ y ∷ z ∷ []) k h fine =
 
 -- ---- `join`
 
-token_declared : (types : Declarations) → IsDeclared types ty.Token
+pub token_declared : (types : Declarations) → IsDeclared types ty.Token
 token_declared types = ap (as_declared types) (sym rolls.rolls-Token) ∙ fold-roll-DslxType DslxType (declared_step types) DslxType-F.Token
 
 tokens_have : (sight : Sight) (env : Env) → IsWellTyped sight env → (es : List ExprPair) (xs : List Meant) → EachExprGives es xs → faults_of_all (map (token_judged sight) es) ≡ []

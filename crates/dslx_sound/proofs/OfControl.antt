@@ -49,7 +49,7 @@ if_has span sight env c a b x f y sc sa sb h fine =
 -- ---- statements
 
 -- the type of a `let` is that of its value
-bound_known : (sight : Sight) (env : Env) → IsWellTyped sight env → (span : Span) (written : Option TypePair) (f : Option Typing) → TypeStandsIf written f → (t : DslxType)
+pub bound_known : (sight : Sight) (env : Env) → IsWellTyped sight env → (span : Span) (written : Option TypePair) (f : Option Typing) → TypeStandsIf written f → (t : DslxType)
     → annotation_faults span (written_judged sight written) (Some t) ≡ [] → list_all sight.known.is_sound (annotation_reached (written_judged sight written)) ≡ true → bound_type (written_judged sight written) (Some t) ≡ Some t
 bound_known sight env h span None None k t e r = refl
 bound_known sight env h span None (Some f) k t e r = absurd k

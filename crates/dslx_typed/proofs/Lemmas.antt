@@ -10,7 +10,7 @@ pub use Rattle.dslx_typed.proofs.OfAggregates.{index_gives, tuple_gives, tuple_p
 pub use Rattle.dslx_typed.proofs.OfArrays.{number_given, untyped_gives, typed_gives}
 pub use Rattle.dslx_typed.proofs.OfNames.{name_gives, member_gives, bool_gives, number_gives}
 pub use Rattle.dslx_typed.proofs.OfPatterns.{bound_keeps, parts_of_type, one_value_keeps, name_pattern_keeps, tuple_pattern_keeps}
-pub use Rattle.dslx_typed.proofs.OfControl.{if_gives, let_keeps, bare_keeps, statements_keep, block_gives}
+pub use Rattle.dslx_typed.proofs.OfControl.{truth_given, if_gives, let_keeps, bare_keeps, statements_keep, block_gives}
 pub use Rattle.dslx_typed.proofs.OfCalls.{counting_gives, reducing_gives, update_given, BitsGiven, bits_given}
 pub use Rattle.dslx_typed.proofs.OfParts.{slice_gives, part_gives, field_gives, with_both_type}
 pub use Rattle.dslx_typed.proofs.OfConstants.{none_shown, shown, constant_is_meant, meant_is_known, size_is_meant, bound_is_meant}
