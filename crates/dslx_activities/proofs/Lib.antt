@@ -8,3 +8,5 @@ mod Effects
 mod Statements
 -- activations
 mod Activations
+-- for other crates' proofs
+pub mod Lemmas

@@ -10,3 +10,5 @@ mod Sites
 mod Tables
 -- the network
 mod Networks
+-- for other crates' proofs
+pub mod Lemmas

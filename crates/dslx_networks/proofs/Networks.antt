@@ -1,6 +1,5 @@
 -- What is made of a text's instances has its network.
 use Rattle.std.proofs.Common.{◌≡◌, ◌++◌, ℕ, suc, true, List, [], ◌∷◌, map, length, Option, Some, refl, sym, ap, subst, ◌∙◌, arith}
-use Rattle.std.specs.Prelude.{slice_get}
 use Rattle.std.proofs.lemmas.List.{length-map}
 use Rattle.dslx_tree.specs.declared.item.Module.{Module}
 use Rattle.dslx_tree.specs.declared.process.End.{End}
@@ -10,12 +9,11 @@ use Rattle.dslx_meaning.specs.Environment.{Meanings}
 use Rattle.dslx_meaning.specs.Items.{item_named, meanings_of, meanings_over, numbers_bound}
 use Rattle.dslx_meaning.specs.Network.{Placed, as_proc, chans_of_top, family_of, handed_over, head_at, kind_of_end, net_if, network_of, outer_chan, outer_ends, place_within, plain_or_unit, top_numbers}
 use Rattle.dslx_meaning.specs.Types.{plain_type}
-use Rattle.dslx_meaning.specs.declared.value.DslxValue.{DslxValue}
 use Rattle.dslx_rules.specs.Mentions.{AsProc}
 use Rattle.dslx_laws.specs.Recursion.{HasNoCycle}
 use Rattle.dslx_laws.proofs.Chains.{item_ends}
 use Rattle.dslx_typed.proofs.Lemmas.{all_there, list_parts, none_some, same_some}
-use Rattle.dslx_core.specs.Designs.{CorePlaced, chan_of_outer, core_family, core_head, core_network, last_place, no_function, numbers_from, sites_of_steps}
+use Rattle.dslx_core.specs.Designs.{CorePlaced, chan_of_outer, core_chans, core_family, core_head, core_network, last_place, no_function, numbers_from, sites_of_steps}
 use Rattle.dslx_core.specs.declared.design.Design.{Design}
 use Rattle.dslx_core.specs.declared.design.Instance.{Instance}
 use Rattle.dslx_core.specs.declared.design.Outer.{Outer}
@@ -34,7 +32,7 @@ use Rattle.dslx_networks.proofs.Tables.{Becomes, config_stands, each_becomes, nu
 
 -- ---- heads
 
-head_alike : (m : Module) (items : Meanings) → meanings_over m items ≡ items → ItemsAreOwn items → (is : List Instantiated) (functions : List CoreInstance) → instances_from m items [] is ≡ Some functions
+pub head_alike : (m : Module) (items : Meanings) → meanings_over m items ≡ items → ItemsAreOwn items → (is : List Instantiated) (functions : List CoreInstance) → instances_from m items [] is ≡ Some functions
     → (a : Placed) (c : CorePlaced) → StandsFor (Becomes m items functions) a c → core_head c ≡ head_at items a
 head_alike m items settled own is functions each a c h =
     let b = h.instance in
@@ -89,56 +87,46 @@ as_many_numbers n (o ∷ os) = ap suc (as_many_numbers (suc n) os)
 abbrev made_design : Proc → List Outer → List CoreInstance → List ProcInstance → Design
 made_design p outer functions procs = record { name = p.name.name; outer = outer; functions = map core_function functions; procs = instances_alone procs }
 
-pub networks_alike : (m : Module) (top : Option (List ℕ)) (design : Design) → HasNoCycle m → meanings_over m (meanings_of m) ≡ meanings_of m → ItemsAreOwn (meanings_of m) → IsDesignFrom m top design → core_network design ≡ network_of m top
-networks_alike m top design free settled own h =
-    ap core_network h.design_is
-    ∙ (λ i. record { name = h.proc.name.name; procs = heads i; chans = chans i })
-    ∙ sym (ap (net_if m) h.is_top)
-  where
-    items : Meanings
-    items = meanings_of m
+module _ (m : Module) (top : Option (List ℕ)) (design : Design) (free : HasNoCycle m) (own : ItemsAreOwn (meanings_of m)) (h : IsDesignFrom m top design) where
+  abbrev top_place : CorePlace
+  top_place = config_place (meanings_of m) h.proc (top_numbers (meanings_of m) h.proc)
 
-    p : Proc
-    p = h.proc
+  abbrev pub design_made : Design
+  design_made = made_design h.proc h.outer h.functions h.procs
 
-    numbers : List DslxValue
-    numbers = top_numbers items p
+  outer_each : map (outer_lowered top_place) h.proc.config.ends ≡ map Some h.outer
+  outer_each = all_there (map (outer_lowered top_place) h.proc.config.ends) h.outer h.outers
 
-    place : CorePlace
-    place = config_place items p numbers
+  as_many_outer : length h.outer ≡ length h.proc.config.ends
+  as_many_outer = sym (length-map h.outer Some) ∙ sym (ap length outer_each) ∙ length-map h.proc.config.ends (outer_lowered top_place)
 
-    core : Design
-    core = made_design p h.outer h.functions h.procs
+  last_is_top : as_proc (item_named h.last.name m.items) ≡ Some h.proc
+  last_is_top = ap (λ n. as_proc (item_named n m.items)) h.of_name ∙ h.is_item
 
-    each : map (outer_lowered place) p.config.ends ≡ map Some h.outer
-    each = all_there (map (outer_lowered place) p.config.ends) h.outer h.outers
+  -- the families of the two tops
+  pub family_stands : FamilyStands (Becomes m (meanings_of m) h.functions) (family_of m h.proc) (core_family design_made)
+  family_stands =
+      let stands = table_stands m (meanings_of m) own h.functions h.named_procs h.procs h.each_proc (length m.items) (last_place (instances_alone h.procs)) h.last h.is_last
+      (item_ends m free h.last.name AsProc (proc_of_use (item_named h.last.name m.items) h.proc last_is_top)) h.proc last_is_top h.proc.name.name (numbers_from 0 h.outer) (length h.outer) (as_many_numbers 0 h.outer ∙ as_many_outer) in
+      subst (λ a. FamilyStands (Becomes m (meanings_of m) h.functions) a (core_family design_made))
+      (λ i. place_within m (meanings_of m) (length m.items) h.proc.name.name h.proc (h.of_numbers i) (sym (numbers_handed 0 h.proc.config.ends h.outer as_many_outer) i) (as_many_outer i)) stands
 
-    many : length h.outer ≡ length p.config.ends
-    many = sym (length-map h.outer Some) ∙ sym (ap length each) ∙ length-map p.config.ends (outer_lowered place)
+  top_stands : StandsAtPlace top_place no_function top_place.known.numbers []
+  top_stands =
+      let b = each_becomes m (meanings_of m) h.functions h.named_procs [] (λ j x none q is. none_some x none) h.procs h.each_proc (last_place (instances_alone h.procs)) h.last h.is_last h.proc last_is_top in
+      config_stands (meanings_of m) own h.proc (top_numbers (meanings_of m) h.proc)
+      (subst (λ ns. numbers_stand (meanings_of m) (numbers_bound [] h.proc.parameters ns) ≡ true) h.of_numbers (numbers_of_next m (meanings_of m) h.functions h.proc h.last.numbers b.next b.lowered))
 
-    named : as_proc (item_named h.last.name m.items) ≡ Some p
-    named = ap (λ n. as_proc (item_named n m.items)) h.of_name ∙ h.is_item
+  -- all channels
+  pub chans_alike : core_chans design_made ≡ chans_of_top m h.proc
+  chans_alike = λ i. outers_each top_place top_stands h.proc.config.ends h.outer outer_each i ++ family_stands.chans i
 
-    numbers_handed_over : handed_over p.config.ends (numbers_from 0 h.outer) ≡ outer_ends 0 p.config.ends
-    numbers_handed_over = sym (numbers_handed 0 p.config.ends h.outer many)
-
-    there : slice_get h.procs (last_place (instances_alone h.procs)) ≡ Some h.last
-    there = h.is_last
-
-    family : FamilyStands (Becomes m items h.functions) (family_of m p) (core_family core)
-    family =
-        let stands = table_stands m items own h.functions h.named_procs h.procs h.each_proc (length m.items) (last_place (instances_alone h.procs)) h.last there
-        (item_ends m free h.last.name AsProc (proc_of_use (item_named h.last.name m.items) p named)) p named p.name.name (numbers_from 0 h.outer) (length h.outer) (as_many_numbers 0 h.outer ∙ many) in
-        subst (λ a. FamilyStands (Becomes m items h.functions) a (core_family core))
-        (λ i. place_within m items (length m.items) p.name.name p (h.of_numbers i) (numbers_handed_over i) (many i)) stands
-
-    heads : map core_head (core_family core).procs ≡ map (head_at items) (family_of m p).procs
-    heads = heads_alike m items settled own h.named_functions h.functions h.each_function (family_of m p).procs (core_family core).procs family.procs
-
-    stands_there : StandsAtPlace place no_function place.known.numbers []
-    stands_there =
-        let b = each_becomes m items h.functions h.named_procs [] (λ j x none q is. none_some x none) h.procs h.each_proc (last_place (instances_alone h.procs)) h.last there p named in
-        config_stands items own p numbers (subst (λ ns. numbers_stand items (numbers_bound [] p.parameters ns) ≡ true) h.of_numbers (numbers_of_next m items h.functions p h.last.numbers b.next b.lowered))
-
-    chans : map chan_of_outer h.outer ++ (core_family core).chans ≡ chans_of_top m p
-    chans = λ i. outers_each place stands_there p.config.ends h.outer each i ++ family.chans i
+  pub networks_alike : meanings_over m (meanings_of m) ≡ meanings_of m → core_network design ≡ network_of m top
+  networks_alike settled =
+      ap core_network h.design_is
+      ∙ (λ i. record {
+        name = h.proc.name.name;
+        procs = heads_alike m (meanings_of m) settled own h.named_functions h.functions h.each_function (family_of m h.proc).procs (core_family design_made).procs family_stands.procs i;
+        chans = chans_alike i;
+      })
+      ∙ sym (ap (net_if m) h.is_top)

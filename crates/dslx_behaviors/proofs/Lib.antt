@@ -1,0 +1,4 @@
+-- receives without a word
+mod Waits
+-- what procs do
+mod Alike
