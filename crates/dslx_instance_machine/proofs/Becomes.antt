@@ -12,9 +12,8 @@ use Rattle.dslx_tree.specs.declared.expr.Expr.{Expr, out-Expr}
 use Rattle.dslx_tree.specs.declared.expr.FieldValue.{FieldValue, out-FieldValue}
 use Rattle.dslx_tree.specs.declared.expr.For.{For, out-For}
 use Rattle.dslx_tree.specs.declared.expr.Number.{Number, out-Number}
-use Rattle.dslx_tree.specs.declared.pattern.Pattern.{Pattern, out-Pattern}
 use Rattle.dslx_tree.specs.declared.type_expr.TypeExpr.{TypeExpr}
-use Rattle.dslx_tree_lemmas.proofs.Lemmas.Levels.{BlockLevel, FieldValueLevel, NumberLevel, trees, map_stmt, map_node, map_shape, map_block, map_field, map_number}
+use Rattle.dslx_tree_lemmas.proofs.Lemmas.Levels.{BlockLevel, FieldValueLevel, NumberLevel, trees, map_stmt, map_node, map_block, map_field, map_number}
 use Rattle.dslx_tree_lemmas.proofs.Lemmas.Folds.{fold_stmt, fold_arg, fold_arm, fold_expr, fold_field, fold_loop, fold_number, fold_pattern}
 use Rattle.dslx_meaning.specs.Activation.{NodeLayer, StmtLayer, node_of}
 use Rattle.dslx_meaning.specs.Callees.{kind_of_call}
@@ -24,15 +23,14 @@ use Rattle.dslx_meaning.specs.Operators.{number_value}
 use Rattle.dslx_meaning.specs.Values.{bits_of, bool_value}
 use Rattle.dslx_meaning.specs.declared.ty.DslxType.{DslxType, out-DslxType}
 use Rattle.dslx_meaning.specs.declared.value.Bare.{Bare}
-use Rattle.dslx_const_machine.specs.Layers.{PatternLayer, shape_of}
 use Rattle.dslx_lowering.specs.CorePlaces.{CorePlace, bound_at, constant_at}
 use Rattle.dslx_lowering.specs.Lowering.{LoweredExpr, binary_lowered, call_lowered, cast_lowered, choice_lowered, element_lowered, field_lowered, index_lowered, literal, name_lowered, part_lowered, prefix_lowered, slice_lowered, tuple_lowered}
-use Rattle.dslx_lowering.specs.Patterns.{Lowers, LowersArm, LowersPattern, let_lowered, loop_lowered, match_lowered}
+use Rattle.dslx_lowering.specs.Patterns.{Lowers, LowersArm, let_lowered, loop_lowered, match_lowered}
 use Rattle.dslx_lowering.specs.Steps.{pattern_of_text_lowered}
-use Rattle.dslx_lowering.specs.Trees.{LowersField, array_lowered, block_lowered, block_of_text_lowered, expression_lowered, field_part_lowered, last_lowered, node_lowered, number_meaning, shape_lowered, statements_lowered, stmt_lowered, struct_lowered_in, type_of_text_lowered}
-use Rattle.dslx_instance_machine.specs.Arms.{number_at}
+use Rattle.dslx_lowering.specs.Trees.{LowersField, array_lowered, block_lowered, block_of_text_lowered, expression_lowered, field_part_lowered, last_lowered, node_lowered, number_meaning, statements_lowered, stmt_lowered, struct_lowered_in, type_of_text_lowered}
+use Rattle.dslx_instance_machine.specs.Steps.{number_at}
 use Rattle.dslx_instance_machine.specs.Parts.{numbers_at}
-use Rattle.dslx_instance_machine.proofs.Opened.{out_stmt, out_node, out_shape, out_block, out_bind, out_arg, out_arm, out_expr, out_field, out_loop, out_number, out_pattern}
+use Rattle.dslx_instance_machine.proofs.Opened.{out_stmt, out_node, out_block, out_bind, out_arg, out_arm, out_expr, out_field, out_loop, out_number}
 use Rattle.dslx_instance_machine.proofs.Rebuilt.{become, becoming, each_becomes, rebuilt_expr}
 
 -- ---- arms, fields and numbers
@@ -199,17 +197,3 @@ stmt_layer (Stmt-F.Bare e) = refl
 
 pub stmt_opened : (s : Stmt) → stmt_becomes s ≡ stmt_layer_becomes (out-Stmt s)
 stmt_opened s = ap (λ p. p.1) (out_stmt s) ∙ stmt_layer (out-Stmt s)
-
--- ---- patterns
-
-abbrev pub shape_becomes : PatternLayer → LowersPattern
-shape_becomes x = shape_lowered (map_shape trees become each_becomes x)
-
-pub pattern_opened : (p : Pattern) → pattern_of_text_lowered p ≡ shape_becomes (shape_of p)
-pattern_opened p = ap (λ q. q.1) (out_pattern p) ∙ ap (λ q. q.1) (out_shape (out-Pattern p).shape)
-
-pub number_shape_opened : (n : Number) (place : CorePlace) → (fold_number become becoming n).1 place ≡ number_at place n
-number_shape_opened n place = number_opened n place
-
-pub patterns_opened : (ps : List Pattern) → map (λ (p : Pattern × LowersPattern). p.1) (map (fold_pattern become becoming) ps) ≡ map pattern_of_text_lowered ps
-patterns_opened ps = map-map (λ (p : Pattern × LowersPattern). p.1) (fold_pattern become becoming) ps

@@ -1,34 +1,39 @@
 -- Each step in a body keeps what comes of it, whatever instances are still to be done.
+use Rattle.dslx_instance_machine.specs.Arms.{shaped_at}
+use Rattle.dslx_const_machine.specs.Layers.{written}
+use Rattle.dslx_meaning.specs.declared.value.SignedWord.{SignedWord}
+use Rattle.dslx_meaning.specs.Operators.{number_value}
+use Rattle.dslx_tree.specs.declared.type_expr.TypeExpr.{TypeExpr}
+use Rattle.dslx_tree.specs.declared.expr.Number.{Number, out-Number}
 use Rattle.std.proofs.Common.{◌≡◌, ℕ, suc, Bool, true, false, if◌then◌else◌, List, [], ◌∷◌, ◌++◌, Option, Some, None, refl, sym, ap, ◌∙◌}
 use Rattle.dslx_tree.specs.declared.block.Block.{out-Block}
 use Rattle.dslx_tree.specs.declared.block.Let.{out-Let}
 use Rattle.dslx_tree.specs.declared.block.Stmt.{Stmt, out-Stmt}
 use Rattle.dslx_tree.specs.declared.block.Stmt.TheOpen.{Stmt-F, Node-F}
 use Rattle.dslx_tree.specs.declared.expr.Expr.{Expr}
-use Rattle.dslx_tree.specs.declared.expr.For.{out-For}
+use Rattle.dslx_tree.specs.declared.expr.For.{out-For, For}
 use Rattle.dslx_meaning.specs.Activation.{NodeLayer, StmtLayer, node_of}
-use Rattle.dslx_meaning.specs.Lists.{and_then}
-use Rattle.dslx_meaning.specs.Values.{bool_value}
+use Rattle.dslx_meaning.specs.Lists.{and_then, with_both}
+use Rattle.dslx_meaning.specs.Values.{bool_value, bits_of}
 use Rattle.dslx_meaning.specs.declared.value.DslxValue.{DslxValue}
 use Rattle.dslx_typed.proofs.Lemmas.{none_some}
 use Rattle.dslx_core.specs.declared.expr.CoreExpr as core
 use Rattle.dslx_core.specs.declared.expr.Shape.{Shape}
-use Rattle.dslx_core.specs.declared.expr.Shape as shape
-use Rattle.dslx_lowering.specs.CorePlaces.{CorePlace, bound_at}
+use Rattle.dslx_lowering.specs.CorePlaces.{CorePlace, bound_at, constant_at}
 use Rattle.dslx_lowering.specs.Functions.{CoreInstance, Instantiated, callee_in, callee_of, instance_in, is_instance}
 use Rattle.dslx_lowering.specs.Lowering.{LoweredExpr, binary_lowered, cast_lowered, choice_lowered, cores_of, element_lowered, field_lowered, index_lowered, literal, lowered, name_lowered, part_lowered, prefix_lowered, slice_lowered, types_of_lowered}
-use Rattle.dslx_lowering.specs.Patterns.{Lowers}
+use Rattle.dslx_lowering.specs.Patterns.{Lowers, LoweredShape}
 use Rattle.dslx_lowering.specs.Trees.{block_of_text_lowered, expression_lowered, of_type, type_of_text_lowered}
 use Rattle.dslx_instance_machine.specs.Tasks as task
 use Rattle.dslx_instance_machine.specs.Tasks.{LastMaker, MakesPrefix, MakesBinary, MakesCast, MakesSlice, MakesPart, MakesField, MakesElement, MakesIndexed, MakesChoice, LowerTask, OpenBody, InstanceSight}
-use Rattle.dslx_instance_machine.specs.Arms.{number_at}
-use Rattle.dslx_instance_machine.specs.Bodies.{place_in, with_last, with_last_shape, with_made, with_shapes}
+use Rattle.dslx_instance_machine.specs.Steps.{number_at, loop_made}
+use Rattle.dslx_instance_machine.specs.Bodies.{place_in, with_last, with_made}
 use Rattle.dslx_instance_machine.specs.Machines.{missing_for, unless_done}
 use Rattle.dslx_instance_machine.specs.Parts.{part_taken}
 use Rattle.dslx_instance_machine.specs.Steps as s
 use Rattle.dslx_instance_machine.specs.Steps.{bind_made, call_made, instance_of, loop_made, made_of_last, of_last, of_last_two, stepped}
 use Rattle.dslx_instance_machine.proofs.Becomes.{block_opened, expression_opened, last_becomes, node_becomes, statements_become, stmt_layer_becomes, stmt_opened}
-use Rattle.dslx_instance_machine.proofs.OfArms.{alternatives_keep, arms_keep, bound_keeps, loop_keeps, number_anywhere, pattern_keeps, shapes_on_keep, taken_keeps}
+use Rattle.dslx_instance_machine.proofs.OfArms.{arms_keep, bound_keeps, loop_keeps, taken_keeps}
 use Rattle.dslx_instance_machine.proofs.OfParts.{array_keeps, call_keeps, fields_on_keep, gathers_keep, others_keep, struct_keeps, tuple_keeps}
 use Rattle.dslx_instance_machine.specs.Reached.{GrownFrom, at_table}
 use Rattle.dslx_instance_machine.proofs.Places.{Spot, arms_in, does_all, done, end_of_next, having, let_in, loop_in, makes, spot_of}
@@ -75,10 +80,42 @@ module _ (sight : InstanceSight) (table : List CoreInstance) where
 
   -- ---- expressions
 
+  -- a number's type is the same whatever calls come to
+  number_anywhere : (n : Number) (body : OpenBody) → number_at (place_in sight body) n ≡ number_at (place body) n
+  number_anywhere n body = by (out-Number n).ty
+    where
+      by : (o : Option TypeExpr)
+          → and_then (and_then o (λ t. type_of_text_lowered t (place_in sight body))) (λ t. number_value t (written n))
+          ≡ and_then (and_then o (λ t. type_of_text_lowered t (place body))) (λ t. number_value t (written n))
+      by None = refl
+      by (Some t) = ap (λ o. and_then o (λ t. number_value t (written n))) (sym (type_anywhere t (place_in sight body) (callee_in sight.text sight.items table)))
+
+  -- a loop whose patterns are taken one after another
+  loop_is : (here : CorePlace) (f : For) (start index : LoweredExpr)
+      → loop_in here f start index
+      ≡ with_both (and_then (constant_at here (out-For f).from) bits_of) (and_then (constant_at here (out-For f).to) bits_of) (λ a b.
+      and_then (shaped_at (out-For f).index here index.ty) (λ i. and_then (shaped_at (out-For f).accumulator i.place start.ty) (λ acc.
+      and_then (block_of_text_lowered (out-For f).body acc.place) (λ r. loop_made start a b i.shape acc.shape r))))
+  loop_is here f start index =
+      λ i. with_both (and_then (constant_at here (out-For f).from) bits_of) (and_then (constant_at here (out-For f).to) bits_of) (λ a b. by a b (shaped_at (out-For f).index here index.ty) i)
+    where
+      by_acc : (a b : SignedWord) (x : LoweredShape) (o : Option LoweredShape)
+          → and_then (and_then o (λ acc. Some (x.shape, acc))) (λ (t : Shape × LoweredShape). and_then (block_of_text_lowered (out-For f).body t.1.place) (λ r. loop_made start a b t.0 t.1.shape r))
+          ≡ and_then o (λ acc. and_then (block_of_text_lowered (out-For f).body acc.place) (λ r. loop_made start a b x.shape acc.shape r))
+      by_acc a b x None = refl
+      by_acc a b x (Some acc) = refl
+
+      by : (a b : SignedWord) (o : Option LoweredShape)
+          → and_then (and_then o (λ x. and_then (shaped_at (out-For f).accumulator x.place start.ty) (λ acc. Some (x.shape, acc))))
+          (λ (t : Shape × LoweredShape). and_then (block_of_text_lowered (out-For f).body t.1.place) (λ r. loop_made start a b t.0 t.1.shape r))
+          ≡ and_then o (λ x. and_then (shaped_at (out-For f).accumulator x.place start.ty) (λ acc. and_then (block_of_text_lowered (out-For f).body acc.place) (λ r. loop_made start a b x.shape acc.shape r)))
+      by a b None = refl
+      by a b (Some x) = by_acc a b x (shaped_at (out-For f).accumulator x.place start.ty)
+
   node_keeps : (x : NodeLayer) (body : OpenBody) → Comes (s.node_begins x sight body) (node_becomes x (place body)) body
   node_keeps (Node-F.Node::Number n) body =
       gives_keep sight table (and_then (number_at (place_in sight body) n) literal) body
-      ∙ ap (λ o. and_then (makes (and_then o literal) (spot_of at body)) (does_all at body.todo)) (number_anywhere sight table n body)
+      ∙ ap (λ o. and_then (makes (and_then o literal) (spot_of at body)) (does_all at body.todo)) (number_anywhere n body)
   node_keeps (Node-F.Node::Bool b) body = gives_keep sight table (literal (bool_value b)) body
   node_keeps (Node-F.Node::Array t es dots) body = array_keeps sight table t es dots body
   node_keeps (Node-F.Node::Name name) body = gives_keep sight table (name_lowered name (place body)) body
@@ -92,6 +129,7 @@ module _ (sight : InstanceSight) (table : List CoreInstance) where
   node_keeps (Node-F.Match e arms) body = taken_next (λ here e. arms_in here e [] arms) (expression_lowered e (place body)) (spot_of at body) (does_all at body.todo)
   node_keeps (Node-F.For f) body =
       two_taken_next (λ here start index. loop_in here f start index) (expression_lowered (out-For f).start (place body)) (expression_lowered (out-For f).from) (spot_of at body) (does_all at body.todo)
+      ∙ (λ i. and_then (makes (with_both (expression_lowered (out-For f).start (place body)) (expression_lowered (out-For f).from (place body)) (λ start index. loop_is (place body) f start index i)) (spot_of at body)) (does_all at body.todo))
   node_keeps (Node-F.Index e i) body = two_next (λ here e i. index_lowered e i) (expression_lowered e (place body)) (expression_lowered i) (spot_of at body) (does_all at body.todo) refl (λ a. refl)
   node_keeps (Node-F.Slice e a b) body =
       one_next (λ here e. slice_lowered e (bound_at here a) (bound_at here b)) (expression_lowered e (place body)) (spot_of at body) (does_all at body.todo) refl
@@ -144,17 +182,12 @@ module _ (sight : InstanceSight) (table : List CoreInstance) where
       stmt_keeps (out-Stmt x) ss last body
       ∙ ap (λ (f : Lowers → Lowers). and_then (makes (f (statements_become ss last) (place body)) (spot_of at body)) (does_all at body.todo)) (sym (stmt_opened x))
 
-  -- ---- what was made or shaped last
+  -- ---- what was made last
 
   last_made_keeps : (made : List LoweredExpr) (f : LoweredExpr → List LoweredExpr → Option OpenBody) (g : LoweredExpr → List LoweredExpr → Option Spot) (todo : List LowerTask)
       → ((e : LoweredExpr) (made : List LoweredExpr) → end_of_next at (f e made) ≡ and_then (g e made) (does_all at todo)) → end_of_next at (with_last made f) ≡ and_then (with_last made g) (does_all at todo)
   last_made_keeps [] f g todo keeps = refl
   last_made_keeps (e ∷ made) f g todo keeps = keeps e made
-
-  last_shape_keeps : (shapes : List Shape) (f : Shape → List Shape → Option OpenBody) (g : Shape → List Shape → Option Spot) (todo : List LowerTask)
-      → ((x : Shape) (shapes : List Shape) → end_of_next at (f x shapes) ≡ and_then (g x shapes) (does_all at todo)) → end_of_next at (with_last_shape shapes f) ≡ and_then (with_last_shape shapes g) (does_all at todo)
-  last_shape_keeps [] f g todo keeps = refl
-  last_shape_keeps (x ∷ shapes) f g todo keeps = keeps x shapes
 
   -- what is made of a value that is there
   then_keeps : (o : Option LoweredExpr) (f : LoweredExpr → Option OpenBody) (g : LoweredExpr → Option LoweredExpr) (body : OpenBody) → ((e : LoweredExpr) → Comes (f e) (g e) body)
@@ -177,27 +210,17 @@ module _ (sight : InstanceSight) (table : List CoreInstance) where
   keeps (task.LowersStatements ss last) body begins there = statements_keep ss last body
   keeps (task.Makes maker) body begins there = makes_keep maker body
   keeps (task.BindsValue p ss last) body begins there = last_made_keeps body.made _ _ body.todo (λ e made. bound_keeps sight table e p ss last (with_made made body))
-  keeps (task.MakesBind e) body begins there =
-      last_made_keeps body.made _ _ body.todo (λ r made. last_shape_keeps body.shapes _ _ body.todo (λ x shapes. gives_keep sight table (bind_made e x r) (with_made made (with_shapes shapes body))))
+  keeps (task.MakesBind e x) body begins there = last_made_keeps body.made _ _ body.todo (λ r made. gives_keep sight table (bind_made e x r) (with_made made body))
   keeps (task.Gathers before es maker) body begins there =
       last_made_keeps body.made _ _ body.todo (λ e made. then_keeps (part_taken maker e) _ _ (with_made made body) (λ e. gathers_keep sight table (before ++ e ∷ []) es maker (with_made made body)))
   keeps (task.TakesOthers t fields ts written) body begins there = last_made_keeps body.made _ _ body.todo (λ e made. others_keep sight table e t fields ts written (with_made made body))
-  keeps (task.BindsOthers e) body begins there = last_made_keeps body.made _ _ body.todo (λ r made. gives_keep sight table (bind_made e shape.Bound r) (with_made made body))
   keeps (task.GathersFields work before t fields ts) body begins there =
       last_made_keeps body.made _ _ body.todo (λ e made. then_keeps (of_type t (Some e)) _ _ (with_made made body) (λ e. fields_on_keep sight table work (before ++ e ∷ []) fields ts (with_made made body)))
   keeps (task.LowersArms arms) body begins there = last_made_keeps body.made _ _ body.todo (λ e made. arms_keep sight table e [] arms (with_made made body))
-  keeps (task.GathersAlternatives work before ps) body begins there =
-      last_shape_keeps body.shapes _ _ body.todo (λ x shapes. alternatives_keep sight table work (before ++ x ∷ []) ps (with_shapes shapes body))
   keeps (task.TakesArm work shapes) body begins there = last_made_keeps body.made _ _ body.todo (λ v made. taken_keeps sight table work shapes v (with_made made body))
-  keeps (task.TakesBoundArm work) body begins there =
-      last_made_keeps body.made _ _ body.todo (λ v made. last_shape_keeps body.shapes _ _ body.todo (λ x shapes. taken_keeps sight table work (x ∷ []) v (with_made made (with_shapes shapes body))))
   keeps (task.LoopBegins f) body begins there =
       last_made_keeps body.made _ _ body.todo (λ index made. last_made_keeps made _ _ body.todo (λ start made. loop_keeps sight table f start index (with_made made body)))
-  keeps (task.MakesLoop start a b) body begins there =
-      last_made_keeps body.made _ _ body.todo (λ r made. last_shape_keeps body.shapes _ _ body.todo (λ acc shapes. last_shape_keeps shapes _ _ body.todo
-      (λ i shapes. gives_keep sight table (loop_made start a b i acc r) (with_made made (with_shapes shapes body)))))
-  keeps (task.ShapesPattern p t) body begins there = pattern_keeps sight table p t body
-  keeps (task.GathersShapes before ps ts) body begins there = last_shape_keeps body.shapes _ _ body.todo (λ x shapes. shapes_on_keep sight table (before ++ x ∷ []) ps ts (with_shapes shapes body))
+  keeps (task.MakesLoop start a b i acc) body begins there = last_made_keeps body.made _ _ body.todo (λ r made. gives_keep sight table (loop_made start a b i acc r) (with_made made body))
   keeps (task.Restores n count) body begins there = refl
   keeps (task.NeedsInstance i) body begins there =
       needed_keeps (instance_of sight i) body ∙ ap (λ o. and_then (and_then o (λ p. Some (spot_of at body))) (does_all at body.todo)) (done_at sight table i begins there)

@@ -1,23 +1,18 @@
 -- The public library: what is so of the machine, which each step keeps, and what follows of it when nothing is left to do.
-use Rattle.std.proofs.Common.{◌≡◌, ℕ, List, [], ◌∷◌, Option, Some, None, refl, subst, ap, ◌∙◌}
+use Rattle.std.proofs.Common.{◌≡◌, ℕ, List, Option, Some, None, refl, subst, ap, ◌∙◌}
 use Rattle.dslx_tree.specs.declared.expr.Expr.{Expr}
-use Rattle.dslx_tree.specs.declared.pattern.Pattern.{Pattern}
 use Rattle.dslx_meaning.specs.Lists.{and_then}
-use Rattle.dslx_meaning.specs.declared.ty.DslxType.{DslxType}
 use Rattle.dslx_typed.proofs.Lemmas.{none_some}
-use Rattle.dslx_core.specs.declared.expr.Shape.{Shape}
 use Rattle.dslx_lowering.specs.Functions.{CoreInstance, Instantiated}
 use Rattle.dslx_lowering.specs.Lowering.{LoweredExpr}
-use Rattle.dslx_lowering.specs.Patterns.{LoweredShape}
-use Rattle.dslx_lowering.specs.Steps.{pattern_of_text_lowered}
 use Rattle.dslx_lowering.specs.Trees.{expression_lowered}
 use Rattle.dslx_instance_machine.specs.Bodies.{place_in}
 use Rattle.dslx_instance_machine.specs.Machines.{after_steps, last_made, machine_at, machine_stepped, needing}
-use Rattle.dslx_instance_machine.specs.Reached.{GrownFrom, HasEnded, IsTable, MakesExpression, ShapesAsPattern, at_table, last_shaped, lowering_alone, shaping_alone}
+use Rattle.dslx_instance_machine.specs.Reached.{GrownFrom, HasEnded, IsTable, MakesExpression, at_table, lowering_alone}
 use Rattle.dslx_instance_machine.specs.Steps.{instance_of}
 use Rattle.dslx_instance_machine.specs.Tasks.{InstanceMachine, InstanceSight, OpenBody}
 use Rattle.dslx_instance_machine.proofs.Instances.{MachineStands, begins_itself, stands_at_first, step_keeps, steps_keep}
-use Rattle.dslx_instance_machine.proofs.Places.{Spot, adds_shape, does_all, end_of, makes, spot_of}
+use Rattle.dslx_instance_machine.proofs.Places.{Spot, does_all, end_of, makes, spot_of}
 
 -- what is so of a machine that began so
 abbrev pub IsReached : InstanceSight → OpenBody → InstanceMachine → Type 0
@@ -68,21 +63,3 @@ reached_expression began e body m stands ended table begins = by (expression_low
     by : (o : Option LoweredExpr) → and_then (makes o (spot_of (at_table began table) (lowering_alone e body))) (λ p. Some p) ≡ Some (spot_of (at_table began table) m.root) → o ≡ last_made m.root.made
     by None h = none_some (spot_of (at_table began table) m.root) h
     by (Some r) h = ap (λ o. and_then o (λ (p : Spot). last_made p.made)) h
-
-pub reached_pattern : (began : InstanceSight) (p : Pattern) (t : DslxType) (body : OpenBody) (m : InstanceMachine) → IsReached began (shaping_alone p t body) m → HasEnded m → ShapesAsPattern began p t body m
-reached_pattern began p t body m stands ended table begins =
-    by ((pattern_of_text_lowered p).lower (place_in (at_table began table) body) t) (root_comes began (shaping_alone p t body) m stands ended table begins)
-  where
-    -- the last shape of a spot, and the place there
-    shaped : List Shape → Spot → Option LoweredShape
-    shaped [] q = None
-    shaped (s ∷ shapes) q = Some (record { shape = s; place = q.place })
-
-    is : (shapes : List Shape) → shaped shapes (spot_of (at_table began table) m.root) ≡ last_shaped shapes (at_table began table) m.root
-    is [] = refl
-    is (s ∷ shapes) = refl
-
-    by : (o : Option LoweredShape) → and_then (and_then o (λ s. Some (adds_shape s (spot_of (at_table began table) (shaping_alone p t body))))) (λ p. Some p) ≡ Some (spot_of (at_table began table) m.root)
-        → o ≡ last_shaped m.root.shapes (at_table began table) m.root
-    by None h = none_some (spot_of (at_table began table) m.root) h
-    by (Some s) h = ap (λ o. and_then o (λ (q : Spot). shaped q.shapes q)) h ∙ is m.root.shapes

@@ -1,49 +1,35 @@
--- What comes of steps on patterns, arms and loops.
-use Rattle.std.proofs.Common.{◌≡◌, ℕ, Bool, true, false, if◌then◌else◌, List, [], ◌∷◌, ◌++◌, map, Option, Some, None, refl, sym, ap, ◌∙◌}
+-- What comes of steps on values that are bound, arms and loops.
+use Rattle.dslx_typed.proofs.Lemmas.{same_some}
+use Rattle.std.proofs.Common.{◌≡◌, Bool, true, false, if◌then◌else◌, List, [], ◌∷◌, ◌++◌, map, Option, Some, None, refl, sym, ap, ◌∙◌, subst}
 use Rattle.std.proofs.lemmas.List.{append_assoc, append-nil}
 use Rattle.dslx_tree.specs.declared.block.Stmt.{Stmt}
-use Rattle.dslx_tree.specs.declared.block.Stmt.TheOpen.{Shape-F}
 use Rattle.dslx_tree.specs.declared.expr.Arm.{Arm, out-Arm}
 use Rattle.dslx_tree.specs.declared.expr.Expr.{Expr}
 use Rattle.dslx_tree.specs.declared.expr.For.{For, out-For}
-use Rattle.dslx_tree.specs.declared.expr.Number.{Number, out-Number}
 use Rattle.dslx_tree.specs.declared.pattern.Pattern.{Pattern}
-use Rattle.dslx_tree.specs.declared.type_expr.TypeExpr.{TypeExpr}
-use Rattle.dslx_tree_lemmas.proofs.Lemmas.Folds.{fold_number, fold_pattern}
-use Rattle.dslx_meaning.specs.Lists.{all_some, and_then, where_true, with_both}
-use Rattle.dslx_meaning.specs.Operators.{number_value}
-use Rattle.dslx_meaning.specs.Values.{bits_of, bool_value, plain_value, type_of_value}
-use Rattle.dslx_meaning.specs.declared.ty.DslxType.{DslxType, out-DslxType}
-use Rattle.dslx_meaning.specs.declared.ty.DslxType.TheOpen.{DslxType-F}
-use Rattle.dslx_meaning.specs.declared.value.DslxValue.{DslxValue}
+use Rattle.dslx_meaning.specs.Lists.{all_some, and_then, with_both}
+use Rattle.dslx_meaning.specs.Values.{bits_of}
+use Rattle.dslx_meaning.specs.declared.ty.DslxType.{DslxType}
 use Rattle.dslx_meaning.specs.declared.value.SignedWord.{SignedWord}
 use Rattle.dslx_core.specs.declared.expr.Arm.{roll-Arm}
 use Rattle.dslx_core.specs.declared.expr.Shape.{Shape}
-use Rattle.dslx_core.specs.declared.expr.Shape as shape
-use Rattle.dslx_const_machine.specs.Layers.{PatternLayer, shape_of, written}
-use Rattle.dslx_lowering.specs.CorePlaces.{CorePlace, constant_at, with_local}
-use Rattle.dslx_lowering.specs.EqualTypes.{equal_type}
-use Rattle.dslx_lowering.specs.Functions.{CoreInstance, callee_in}
+use Rattle.dslx_lowering.specs.CorePlaces.{CorePlace, constant_at}
+use Rattle.dslx_lowering.specs.Functions.{CoreInstance}
 use Rattle.dslx_lowering.specs.Lowering.{LoweredExpr}
-use Rattle.dslx_lowering.specs.Patterns.{LoweredArm, LoweredShape, LoweredShapes, LowersPattern, alternatives_shaped, arm_lowered, arm_of, arms_of, binding_arm, parts_shaped, shaped, tuple_shape, value_shape}
+use Rattle.dslx_lowering.specs.Patterns.{LoweredArm, LoweredShape, alternatives_shaped, arm_lowered, arm_of, arms_of, binding_arm}
 use Rattle.dslx_lowering.specs.Steps.{pattern_of_text_lowered}
-use Rattle.dslx_lowering.specs.Trees.{block_of_text_lowered, expression_lowered, type_of_text_lowered}
-use Rattle.dslx_instance_machine.specs.Tasks.{MatchWork, LowersExpr, LowersBlock, LowersStatements, MakesBind, GathersAlternatives, TakesBoundArm, MakesLoop, ShapesPattern, GathersShapes, OpenBody, InstanceSight}
-use Rattle.dslx_instance_machine.specs.Bodies.{doing, naming, place_in, restores, shapes_as}
+use Rattle.dslx_lowering.specs.Trees.{block_of_text_lowered, expression_lowered}
+use Rattle.dslx_instance_machine.specs.Tasks.{MatchWork, LowersExpr, LowersBlock, LowersStatements, MakesBind, TakesArm, MakesLoop, OpenBody, InstanceSight}
 use Rattle.dslx_instance_machine.specs.Arms as s
-use Rattle.dslx_instance_machine.specs.Arms.{binds_nothing_new, number_at}
-use Rattle.dslx_instance_machine.specs.Steps.{bind_made, loop_begins, loop_made, value_bound}
-use Rattle.dslx_instance_machine.proofs.Becomes.{arm_becomes, number_shape_opened, pattern_opened, patterns_opened, shape_becomes, statements_become}
+use Rattle.dslx_instance_machine.specs.Arms.{binds_nothing_new, shaped_at}
+use Rattle.dslx_instance_machine.specs.Bodies.{bound_as, doing, place_in, restores}
 use Rattle.dslx_instance_machine.specs.Reached.{at_table}
-use Rattle.dslx_instance_machine.proofs.Options.{first_of_all}
-use Rattle.dslx_instance_machine.proofs.Places.{Spot, adds_shape, alternatives_in, arm_then, arms_in, does_all, end_of_next, let_in, loop_in, makes, shapes_in, spot_of}
-use Rattle.dslx_instance_machine.proofs.Rebuilt.{become, becoming}
-use Rattle.dslx_instance_machine.proofs.Sequels.{back_before, gives_keep, taken_next}
-use Rattle.dslx_instance_machine.proofs.Steady.{Grows, grows_on, pattern_grows, type_anywhere}
-
--- a pattern of a text at a place, against values of a type
-abbrev shaped_at : Pattern → CorePlace → DslxType → Option LoweredShape
-shaped_at p = (pattern_of_text_lowered p).lower
+use Rattle.dslx_instance_machine.specs.Steps.{bind_made, loop_begins, loop_made, turn_shaped, value_bound}
+use Rattle.dslx_instance_machine.proofs.Becomes.{arm_becomes, statements_become}
+use Rattle.dslx_instance_machine.proofs.Options.{first_of_all, from_then}
+use Rattle.dslx_instance_machine.proofs.Places.{arm_then, arms_in, does_all, end_of_next, let_in, loop_in, makes, spot_of}
+use Rattle.dslx_instance_machine.proofs.Sequels.{behind_pattern, calls, gives_keep, goes_back, taken_next}
+use Rattle.dslx_instance_machine.proofs.Steady.{Grows, alternatives_anywhere, grows_on, moved, shaped_anywhere, shaped_grows, with_callee, Callees}
 
 module _ (sight : InstanceSight) (table : List CoreInstance) where
   abbrev at : InstanceSight
@@ -53,205 +39,106 @@ module _ (sight : InstanceSight) (table : List CoreInstance) where
   abbrev Comes : Option OpenBody → Option LoweredExpr → OpenBody → Type 0
   Comes next o body = end_of_next at next ≡ and_then (makes o (spot_of at body)) (does_all at body.todo)
 
-  -- what comes of a step, by what is shaped
-  abbrev ComesShaped : Option OpenBody → Option LoweredShape → OpenBody → Type 0
-  ComesShaped next o body = end_of_next at next ≡ and_then (and_then o (λ s. Some (adds_shape s (spot_of at body)))) (does_all at body.todo)
-
   abbrev place : OpenBody → CorePlace
   place body = place_in at body
 
-  -- ---- patterns
+  abbrev before : OpenBody → CorePlace
+  before body = place_in sight body
 
-  where_shaped : (b : Bool) (x : Shape) (body : OpenBody) → ComesShaped (where_true b (shapes_as x body)) (where_true b (shaped x (place body))) body
-  where_shaped true x body = refl
-  where_shaped false x body = refl
-
-  value_keeps : (v : Option DslxValue) (t : DslxType) (body : OpenBody) → ComesShaped (s.shapes_value v t body) (value_shape v (place body) t) body
-  value_keeps None t body = refl
-  value_keeps (Some v) t body = where_shaped (equal_type t (type_of_value v)) (shape.Equal (plain_value v)) body
-
-  -- a number's type is the same whatever calls come to
-  pub number_anywhere : (n : Number) (body : OpenBody) → number_at (place_in sight body) n ≡ number_at (place body) n
-  number_anywhere n body = by (out-Number n).ty
-    where
-      by : (o : Option TypeExpr)
-          → and_then (and_then o (λ t. type_of_text_lowered t (place_in sight body))) (λ t. number_value t (written n))
-          ≡ and_then (and_then o (λ t. type_of_text_lowered t (place body))) (λ t. number_value t (written n))
-      by None = refl
-      by (Some t) = ap (λ o. and_then o (λ t. number_value t (written n))) (sym (type_anywhere t (place_in sight body) (callee_in sight.text sight.items table)))
-
-  number_keeps : (n : Number) (t : DslxType) (body : OpenBody) → ComesShaped (s.shapes_value (number_at (place_in sight body) n) t body) (value_shape ((fold_number become becoming n).1 (place body)) (place body) t) body
-  number_keeps n t body =
-      value_keeps (number_at (place_in sight body) n) t body
-      ∙ ap (λ v. and_then (and_then (value_shape v (place body) t) (λ s. Some (adds_shape s (spot_of at body)))) (does_all at body.todo)) (number_anywhere n body ∙ sym (number_shape_opened n (place body)))
-
-  name_keeps : (b : Bool) (name : List ℕ) (t : DslxType) (body : OpenBody)
-      → ComesShaped (if b then s.shapes_value (sight.items.constant name) t body else shapes_as shape.Bound (naming name t body))
-      (if b then value_shape (sight.items.constant name) (place body) t else shaped shape.Bound (with_local name t (place body))) body
-  name_keeps true name t body = value_keeps (sight.items.constant name) t body
-  name_keeps false name t body = refl
-
-  pub shapes_on_keep : (before : List Shape) (ps : List Pattern) (ts : List DslxType) (body : OpenBody)
-      → end_of_next at (s.shapes_on before ps ts body) ≡ and_then (shapes_in before ps ts (spot_of at body)) (does_all at body.todo)
-  shapes_on_keep before [] [] body =
-      ap (λ ss. does_all at body.todo (record { place = place body; made = body.made; shapes = shape.Tuple ss ∷ body.shapes })) (sym (append-nil before))
-  shapes_on_keep before [] (t ∷ ts) body = refl
-  shapes_on_keep before (p ∷ ps) [] body = refl
-  shapes_on_keep before (p ∷ ps) (t ∷ ts) body = by (shaped_at p (place body) t)
-    where
-      by_rest : (x : LoweredShape) (o : Option LoweredShapes)
-          → and_then (and_then o (λ q. Some (record { place = q.place; made = body.made; shapes = shape.Tuple ((before ++ x.shape ∷ []) ++ q.shapes) ∷ body.shapes }))) (does_all at body.todo)
-          ≡ and_then (and_then (and_then o (λ q. Some (record { shapes = x.shape ∷ q.shapes; place = q.place })))
-          (λ (q : LoweredShapes). Some (record { place = q.place; made = body.made; shapes = shape.Tuple (before ++ q.shapes) ∷ body.shapes }))) (does_all at body.todo)
-      by_rest x None = refl
-      by_rest x (Some q) =
-          ap (λ ss. does_all at body.todo (record { place = q.place; made = body.made; shapes = shape.Tuple ss ∷ body.shapes })) (append_assoc before (x.shape ∷ []) q.shapes)
-
-      by : (o : Option LoweredShape)
-          → and_then (and_then o (λ x. Some (adds_shape x (spot_of at body)))) (does_all at (GathersShapes before ps ts ∷ body.todo))
-          ≡ and_then (and_then (and_then o (λ x. and_then (parts_shaped (map pattern_of_text_lowered ps) ts x.place) (λ q. Some (record { shapes = x.shape ∷ q.shapes; place = q.place }))))
-          (λ (q : LoweredShapes). Some (record { place = q.place; made = body.made; shapes = shape.Tuple (before ++ q.shapes) ∷ body.shapes }))) (does_all at body.todo)
-      by None = refl
-      by (Some x) = by_rest x (parts_shaped (map pattern_of_text_lowered ps) ts x.place)
-
-  tuple_keeps : (ps : List Pattern) (x : DslxType-F DslxType) (body : OpenBody)
-      → ComesShaped (s.shapes_tuple ps x body) (tuple_shape (map (λ (p : Pattern × LowersPattern). p.1) (map (fold_pattern become becoming) ps)) (place body) x) body
-  tuple_keeps ps (DslxType-F.Bits sign w) body = refl
-  tuple_keeps ps (DslxType-F.Array t n) body = refl
-  tuple_keeps ps (DslxType-F.Struct name fields ts) body = refl
-  tuple_keeps ps (DslxType-F.Enum name sign w) body = refl
-  tuple_keeps ps DslxType-F.Token body = refl
-  tuple_keeps ps (DslxType-F.Tuple ts) body =
-      shapes_on_keep [] ps ts body
-      ∙ by (parts_shaped (map pattern_of_text_lowered ps) ts (place body))
-      ∙ ap (λ ls. and_then (and_then (and_then (parts_shaped ls ts (place body)) (λ q. shaped (shape.Tuple q.shapes) q.place)) (λ x. Some (adds_shape x (spot_of at body)))) (does_all at body.todo)) (sym (patterns_opened ps))
-    where
-      by : (o : Option LoweredShapes)
-          → and_then (and_then o (λ q. Some (record { place = q.place; made = body.made; shapes = shape.Tuple q.shapes ∷ body.shapes }))) (does_all at body.todo)
-          ≡ and_then (and_then (and_then o (λ q. shaped (shape.Tuple q.shapes) q.place)) (λ x. Some (adds_shape x (spot_of at body)))) (does_all at body.todo)
-      by None = refl
-      by (Some q) = refl
-
-  layer_keeps : (x : PatternLayer) (t : DslxType) (body : OpenBody) → ComesShaped (s.pattern_begins x sight t body) ((shape_becomes x).lower (place body) t) body
-  layer_keeps Shape-F.Wild t body = refl
-  layer_keeps (Shape-F.Shape::Bool b) t body = value_keeps (Some (bool_value b)) t body
-  layer_keeps (Shape-F.Shape::Number n) t body = number_keeps n t body
-  layer_keeps (Shape-F.Shape::Name name) t body = name_keeps (sight.items.is_constant name) name t body
-  layer_keeps (Shape-F.Shape::Member e a) t body = value_keeps (sight.items.member e.name a.name) t body
-  layer_keeps (Shape-F.Shape::Tuple ps) t body = tuple_keeps ps (out-DslxType t) body
-
-  pub pattern_keeps : (p : Pattern) (t : DslxType) (body : OpenBody) → ComesShaped (s.pattern_begins (shape_of p) sight t body) (shaped_at p (place body) t) body
-  pattern_keeps p t body =
-      layer_keeps (shape_of p) t body
-      ∙ ap (λ (l : LowersPattern). and_then (and_then (l.lower (place body) t) (λ x. Some (adds_shape x (spot_of at body)))) (does_all at body.todo)) (sym (pattern_opened p))
+  abbrev called : Callees
+  called = calls sight table
 
   -- ---- values that are bound
 
-  -- a body at a place behind patterns, and back
-  abbrev going_back : OpenBody → CorePlace → List LoweredExpr → List Shape → Option Spot
-  going_back body here made shapes = does_all at (restores body ∷ body.todo) (record { place = here; made = made; shapes = shapes })
-
-  goes_back : (body : OpenBody) (here : CorePlace) (made : List LoweredExpr) (shapes : List Shape) → Grows (place body) here
-      → going_back body here made shapes ≡ does_all at body.todo (record { place = place body; made = made; shapes = shapes })
-  goes_back body here made shapes g = ap (λ here. does_all at body.todo (record { place = here; made = made; shapes = shapes })) (back_before (place body) here g)
-
-  pub bound_keeps : (e : LoweredExpr) (p : Pattern) (ss : List Stmt) (last : Option Expr) (body : OpenBody) → Comes (value_bound e p ss last body) (let_in (place body) e p ss last) body
-  bound_keeps e p ss last body = by (shaped_at p (place body) e.ty) refl
+  pub bound_keeps : (e : LoweredExpr) (p : Pattern) (ss : List Stmt) (last : Option Expr) (body : OpenBody) → Comes (value_bound sight e p ss last body) (let_in (place body) e p ss last) body
+  bound_keeps e p ss last body =
+      by (shaped_at p (before body) e.ty) refl
+      ∙ ap (λ o. and_then (makes (and_then o (λ s. and_then (statements_become ss last s.place) (λ r. bind_made e s.shape r))) (spot_of at body)) (does_all at body.todo)) (sym (shaped_anywhere p (before body) e.ty called))
     where
-      by_rest : (x : LoweredShape) (o : Option LoweredExpr) → Grows (place body) x.place
-          → and_then (makes o (adds_shape x (spot_of at body))) (does_all at (MakesBind e ∷ restores body ∷ body.todo))
+      by_rest : (x : LoweredShape) (o : Option LoweredExpr) → Grows (before body) x.place
+          → and_then (makes o (spot_of at (bound_as x.place body))) (does_all at (MakesBind e x.shape ∷ restores body ∷ body.todo))
           ≡ and_then (makes (and_then o (λ r. bind_made e x.shape r)) (spot_of at body)) (does_all at body.todo)
       by_rest x None g = refl
-      by_rest x (Some r) g = goes_back body x.place _ body.shapes g
+      by_rest x (Some r) g = goes_back sight table body x.place _ g
 
-      by : (o : Option LoweredShape) → shaped_at p (place body) e.ty ≡ o
-          → and_then (and_then o (λ x. Some (adds_shape x (spot_of at body)))) (does_all at (LowersStatements ss last ∷ MakesBind e ∷ restores body ∷ body.todo))
-          ≡ and_then (makes (and_then o (λ x. and_then (statements_become ss last x.place) (λ r. bind_made e x.shape r))) (spot_of at body)) (does_all at body.todo)
+      by : (o : Option LoweredShape) → shaped_at p (before body) e.ty ≡ o
+          → end_of_next at (and_then o (λ s. Some (bound_as s.place (doing (LowersStatements ss last ∷ MakesBind e s.shape ∷ restores body ∷ []) body))))
+          ≡ and_then (makes (and_then (moved called o) (λ s. and_then (statements_become ss last s.place) (λ r. bind_made e s.shape r))) (spot_of at body)) (does_all at body.todo)
       by None h = refl
-      by (Some x) h = by_rest x (statements_become ss last x.place) (pattern_grows p (place body) e.ty x h)
+      by (Some x) h =
+          let g = shaped_grows p (before body) e.ty x h in
+          by_rest x (statements_become ss last (place (bound_as x.place body))) g
+          ∙ ap (λ here. and_then (makes (and_then (statements_become ss last here) (λ r. bind_made e x.shape r)) (spot_of at body)) (does_all at body.todo)) (sym (behind_pattern sight table body x.place g))
 
   -- ---- arms
 
-  -- each alternative of an arm, behind these, and its value
-  abbrev alternatives_and : MatchWork → List Shape → Option (List Shape) → Option LoweredExpr → CorePlace → Option LoweredExpr
-  alternatives_and work before more v here = and_then (with_both more v (λ more v. arm_of (before ++ more) v)) (arm_then here work)
-
-  alternative_next : (work : MatchWork) (before : List Shape) (x : Shape) (more : Option (List Shape)) (v : Option LoweredExpr) (here : CorePlace)
-      → alternatives_and work (before ++ x ∷ []) more v here ≡ alternatives_and work before (and_then more (λ more. Some (x ∷ more))) v here
-  alternative_next work before x None v here = refl
-  alternative_next work before x (Some more) None here = refl
-  alternative_next work before x (Some more) (Some v) here = ap (λ shapes. and_then (arm_of shapes v) (arm_then here work)) (append_assoc before (x ∷ []) more)
-
-  -- both, the first one first
-  shape_then : (x : LoweredShape) (more : Option (List Shape)) → with_both (Some x) more (λ x more. Some (x.shape ∷ more)) ≡ and_then more (λ more. Some (x.shape ∷ more))
-  shape_then x None = refl
-  shape_then x (Some more) = refl
-
-  pub alternatives_keep : (work : MatchWork) (before : List Shape) (ps : List Pattern) (body : OpenBody) → Comes (s.alternatives_on work before ps body) (alternatives_in (place body) work before ps) body
-  alternatives_keep work before [] body =
-      taken_next (λ here v. and_then (arm_of before v) (arm_then here work)) (expression_lowered (out-Arm work.arm).value (place body)) (spot_of at body) (does_all at body.todo)
-      ∙ by (expression_lowered (out-Arm work.arm).value (place body))
+  alternatives_keep : (work : MatchWork) (ps : List Pattern) (body : OpenBody)
+      → Comes (s.alternatives_begin sight work ps body)
+      (and_then (with_both (alternatives_shaped (map pattern_of_text_lowered ps) (place body) work.value.ty) (expression_lowered (out-Arm work.arm).value (place body)) arm_of) (arm_then (place body) work)) body
+  alternatives_keep work ps body =
+      by (alternatives_shaped (map pattern_of_text_lowered ps) (before body) work.value.ty)
+      ∙ ap (λ o. and_then (makes (and_then (with_both o (expression_lowered (out-Arm work.arm).value (place body)) arm_of) (arm_then (place body) work)) (spot_of at body)) (does_all at body.todo))
+      (sym (alternatives_anywhere ps (before body) work.value.ty called))
     where
-      by : (o : Option LoweredExpr)
-          → and_then (makes (and_then o (λ v. and_then (arm_of before v) (arm_then (place body) work))) (spot_of at body)) (does_all at body.todo)
-          ≡ and_then (makes (alternatives_and work before (Some []) o (place body)) (spot_of at body)) (does_all at body.todo)
-      by None = refl
-      by (Some v) = ap (λ shapes. and_then (makes (and_then (arm_of shapes v) (arm_then (place body) work)) (spot_of at body)) (does_all at body.todo)) (sym (append-nil before))
-  alternatives_keep work before (p ∷ ps) body = by (shaped_at p (place body) work.value.ty) refl
-    where
-      more : Option (List Shape)
-      more = alternatives_shaped (map pattern_of_text_lowered ps) (place body) work.value.ty
-
       value : Option LoweredExpr
       value = expression_lowered (out-Arm work.arm).value (place body)
 
-      by : (o : Option LoweredShape) → shaped_at p (place body) work.value.ty ≡ o
-          → and_then (and_then o (λ x. Some (adds_shape x (spot_of at body)))) (does_all at (restores body ∷ GathersAlternatives work before ps ∷ body.todo))
-          ≡ and_then (makes (alternatives_and work before (with_both o more (λ x more. Some (x.shape ∷ more))) value (place body)) (spot_of at body)) (does_all at body.todo)
-      by None h = refl
-      by (Some x) h =
-          goes_back (doing (GathersAlternatives work before ps ∷ []) body) x.place body.made (x.shape ∷ body.shapes) (pattern_grows p (place body) work.value.ty x h)
-          ∙ ap (λ e. and_then (makes e (spot_of at body)) (does_all at body.todo))
-          (alternative_next work before x.shape more value (place body) ∙ ap (λ o. alternatives_and work before o value (place body)) (sym (shape_then x more)))
+      by_value : (shapes : List Shape) (o : Option LoweredExpr)
+          → and_then (makes (and_then o (λ v. and_then (arm_of shapes v) (arm_then (place body) work))) (spot_of at body)) (does_all at body.todo)
+          ≡ and_then (makes (and_then (with_both (Some shapes) o arm_of) (arm_then (place body) work)) (spot_of at body)) (does_all at body.todo)
+      by_value shapes None = refl
+      by_value shapes (Some v) = refl
+
+      by : (o : Option (List Shape))
+          → Comes (and_then o (λ shapes. Some (doing (LowersExpr (out-Arm work.arm).value ∷ TakesArm work shapes ∷ []) body))) (and_then (with_both o value arm_of) (arm_then (place body) work)) body
+      by None = refl
+      by (Some shapes) = taken_next (λ here v. and_then (arm_of shapes v) (arm_then here work)) value (spot_of at body) (does_all at body.todo) ∙ by_value shapes value
 
   binding_keeps : (work : MatchWork) (ps : List Pattern) (body : OpenBody)
-      → Comes (s.binding_begins work ps body)
+      → Comes (s.binding_begins sight work ps body)
       (and_then (binding_arm (map pattern_of_text_lowered ps) (expression_lowered (out-Arm work.arm).value) (place body) work.value.ty) (arm_then (place body) work)) body
   binding_keeps work [] body = refl
   binding_keeps work (p ∷ q ∷ ps) body = refl
-  binding_keeps work (p ∷ []) body = by (shaped_at p (place body) work.value.ty) refl
+  binding_keeps work (p ∷ []) body =
+      by (shaped_at p (before body) work.value.ty) refl
+      ∙ ap (λ o. and_then (makes (and_then (and_then o (λ x. and_then (expression_lowered (out-Arm work.arm).value x.place) (arm_of (x.shape ∷ [])))) (arm_then (place body) work)) (spot_of at body)) (does_all at body.todo))
+      (sym (shaped_anywhere p (before body) work.value.ty called))
     where
-      by_value : (x : LoweredShape) (o : Option LoweredExpr) → Grows (place body) x.place
-          → and_then (makes o (adds_shape x (spot_of at body))) (does_all at (restores body ∷ TakesBoundArm work ∷ body.todo))
+      by_value : (x : LoweredShape) (o : Option LoweredExpr) → Grows (before body) x.place
+          → and_then (makes o (spot_of at (bound_as x.place body))) (does_all at (restores body ∷ TakesArm work (x.shape ∷ []) ∷ body.todo))
           ≡ and_then (makes (and_then (and_then o (arm_of (x.shape ∷ []))) (arm_then (place body) work)) (spot_of at body)) (does_all at body.todo)
       by_value x None g = refl
-      by_value x (Some v) g = goes_back (doing (TakesBoundArm work ∷ []) body) x.place (v ∷ body.made) (x.shape ∷ body.shapes) g
+      by_value x (Some v) g = goes_back sight table (doing (TakesArm work (x.shape ∷ []) ∷ []) body) x.place (v ∷ body.made) g
 
-      by : (o : Option LoweredShape) → shaped_at p (place body) work.value.ty ≡ o
-          → and_then (and_then o (λ x. Some (adds_shape x (spot_of at body)))) (does_all at (LowersExpr (out-Arm work.arm).value ∷ restores body ∷ TakesBoundArm work ∷ body.todo))
-          ≡ and_then (makes (and_then (and_then o (λ x. and_then (expression_lowered (out-Arm work.arm).value x.place) (arm_of (x.shape ∷ [])))) (arm_then (place body) work)) (spot_of at body)) (does_all at body.todo)
+      by : (o : Option LoweredShape) → shaped_at p (before body) work.value.ty ≡ o
+          → end_of_next at (and_then o (λ s. Some (bound_as s.place (doing (LowersExpr (out-Arm work.arm).value ∷ restores body ∷ TakesArm work (s.shape ∷ []) ∷ []) body))))
+          ≡ and_then (makes (and_then (and_then (moved called o) (λ x. and_then (expression_lowered (out-Arm work.arm).value x.place) (arm_of (x.shape ∷ [])))) (arm_then (place body) work)) (spot_of at body)) (does_all at body.todo)
       by None h = refl
-      by (Some x) h = by_value x (expression_lowered (out-Arm work.arm).value x.place) (pattern_grows p (place body) work.value.ty x h)
+      by (Some x) h =
+          let g = shaped_grows p (before body) work.value.ty x h in
+          by_value x (expression_lowered (out-Arm work.arm).value (place (bound_as x.place body))) g
+          ∙ ap (λ here. and_then (makes (and_then (and_then (expression_lowered (out-Arm work.arm).value here) (arm_of (x.shape ∷ []))) (arm_then (place body) work)) (spot_of at body)) (does_all at body.todo))
+          (sym (behind_pattern sight table body x.place g))
 
   arm_keeps : (work : MatchWork) (body : OpenBody)
       → Comes (s.arm_begins sight work body) (and_then (arm_lowered (arm_becomes work.arm) (place body) work.value.ty) (arm_then (place body) work)) body
   arm_keeps work body = by (binds_nothing_new sight (out-Arm work.arm).patterns)
     where
       by : (b : Bool)
-          → Comes (if b then s.alternatives_on work [] (out-Arm work.arm).patterns body else s.binding_begins work (out-Arm work.arm).patterns body)
+          → Comes (if b then s.alternatives_begin sight work (out-Arm work.arm).patterns body else s.binding_begins sight work (out-Arm work.arm).patterns body)
           (and_then (if b then with_both (alternatives_shaped (arm_becomes work.arm).patterns (place body) work.value.ty) ((arm_becomes work.arm).value (place body)) arm_of
           else binding_arm (arm_becomes work.arm).patterns (arm_becomes work.arm).value (place body) work.value.ty) (arm_then (place body) work)) body
-      by true = alternatives_keep work [] (out-Arm work.arm).patterns body
+      by true = alternatives_keep work (out-Arm work.arm).patterns body
       by false = binding_keeps work (out-Arm work.arm).patterns body
 
-  pub arms_keep : (e : LoweredExpr) (before : List LoweredArm) (arms : List Arm) (body : OpenBody) → Comes (s.arms_on sight e before arms body) (arms_in (place body) e before arms) body
-  arms_keep e before [] body =
-      gives_keep sight table (arms_of e before) body ∙ ap (λ arms. and_then (makes (arms_of e arms) (spot_of at body)) (does_all at body.todo)) (sym (append-nil before))
-  arms_keep e before (a ∷ rest) body =
-      arm_keeps (record { value = e; before = before; arm = a; behind = rest }) body
+  pub arms_keep : (e : LoweredExpr) (front : List LoweredArm) (arms : List Arm) (body : OpenBody) → Comes (s.arms_on sight e front arms body) (arms_in (place body) e front arms) body
+  arms_keep e front [] body =
+      gives_keep sight table (arms_of e front) body ∙ ap (λ arms. and_then (makes (arms_of e arms) (spot_of at body)) (does_all at body.todo)) (sym (append-nil front))
+  arms_keep e front (a ∷ rest) body =
+      arm_keeps (record { value = e; before = front; arm = a; behind = rest }) body
       ∙ ap (λ o. and_then (makes o (spot_of at body)) (does_all at body.todo))
-      ((λ i. and_then (arm_lowered (arm_becomes a) (place body) e.ty) (λ arm. and_then (all_some (map (λ c. arm_lowered c (place body) e.ty) (map arm_becomes rest))) (λ more. arms_of e (append_assoc before (arm ∷ []) more i))))
-      ∙ sym (first_of_all (arm_lowered (arm_becomes a) (place body) e.ty) (map (λ c. arm_lowered c (place body) e.ty) (map arm_becomes rest)) (λ more. arms_of e (before ++ more))))
+      ((λ i. and_then (arm_lowered (arm_becomes a) (place body) e.ty) (λ arm. and_then (all_some (map (λ c. arm_lowered c (place body) e.ty) (map arm_becomes rest))) (λ more. arms_of e (append_assoc front (arm ∷ []) more i))))
+      ∙ sym (first_of_all (arm_lowered (arm_becomes a) (place body) e.ty) (map (λ c. arm_lowered c (place body) e.ty) (map arm_becomes rest)) (λ more. arms_of e (front ++ more))))
 
   pub taken_keeps : (work : MatchWork) (shapes : List Shape) (v : LoweredExpr) (body : OpenBody)
       → Comes (s.arm_taken sight work shapes v body) (and_then (arm_of shapes v) (arm_then (place body) work)) body
@@ -259,39 +146,64 @@ module _ (sight : InstanceSight) (table : List CoreInstance) where
 
   -- ---- loops
 
-  pub loop_keeps : (f : For) (start index : LoweredExpr) (body : OpenBody) → Comes (loop_begins f start index sight body) (loop_in (place body) f start index) body
-  loop_keeps f start index body = by (and_then (constant_at (place body) (out-For f).from) bits_of) (and_then (constant_at (place body) (out-For f).to) bits_of)
+  abbrev turn_moved : Option (Shape × LoweredShape) → Option (Shape × LoweredShape)
+  turn_moved o = and_then o (λ t. Some (t.0, record { shape = t.1.shape; place = with_callee called t.1.place }))
+
+  turn_anywhere : (f : For) (here : CorePlace) (index acc : DslxType) → turn_shaped (with_callee called here) f index acc ≡ turn_moved (turn_shaped here f index acc)
+  turn_anywhere f here index acc =
+      ap (λ o. and_then o (λ i. and_then (shaped_at (out-For f).accumulator i.place acc) (λ acc. Some (i.shape, acc)))) (shaped_anywhere (out-For f).index here index called)
+      ∙ by (shaped_at (out-For f).index here index)
     where
-      by_body : (a b : SignedWord) (i acc : LoweredShape) (o : Option LoweredExpr) → Grows (place body) acc.place
-          → and_then (makes o (adds_shape acc (adds_shape i (spot_of at body)))) (does_all at (MakesLoop start a b ∷ restores body ∷ body.todo))
-          ≡ and_then (makes (and_then o (λ r. loop_made start a b i.shape acc.shape r)) (spot_of at body)) (does_all at body.todo)
-      by_body a b i acc None g = refl
-      by_body a b i acc (Some r) g = by_made (loop_made start a b i.shape acc.shape r)
-        where
-          by_made : (o : Option LoweredExpr)
-              → and_then (makes o (record { place = acc.place; made = body.made; shapes = body.shapes })) (does_all at (restores body ∷ body.todo)) ≡ and_then (makes o (spot_of at body)) (does_all at body.todo)
-          by_made None = refl
-          by_made (Some e) = goes_back body acc.place (e ∷ body.made) body.shapes g
+      by_acc : (i : LoweredShape) (o : Option LoweredShape) → and_then (moved called o) (λ acc. Some (i.shape, acc)) ≡ turn_moved (and_then o (λ acc. Some (i.shape, acc)))
+      by_acc i None = refl
+      by_acc i (Some x) = refl
 
-      by_accumulator : (a b : SignedWord) (i : LoweredShape) (o : Option LoweredShape) → shaped_at (out-For f).accumulator i.place start.ty ≡ o → Grows (place body) i.place
-          → and_then (and_then o (λ acc. Some (adds_shape acc (adds_shape i (spot_of at body))))) (does_all at (LowersBlock (out-For f).body ∷ MakesLoop start a b ∷ restores body ∷ body.todo))
-          ≡ and_then (makes (and_then o (λ acc. and_then (block_of_text_lowered (out-For f).body acc.place) (λ r. loop_made start a b i.shape acc.shape r))) (spot_of at body)) (does_all at body.todo)
-      by_accumulator a b i None h g = refl
-      by_accumulator a b i (Some acc) h g =
-          by_body a b i acc (block_of_text_lowered (out-For f).body acc.place) (grows_on (place body) i.place acc.place g (pattern_grows (out-For f).accumulator i.place start.ty acc h))
+      by : (o : Option LoweredShape)
+          → and_then (moved called o) (λ i. and_then (shaped_at (out-For f).accumulator i.place acc) (λ acc. Some (i.shape, acc)))
+          ≡ turn_moved (and_then o (λ i. and_then (shaped_at (out-For f).accumulator i.place acc) (λ acc. Some (i.shape, acc))))
+      by None = refl
+      by (Some i) = ap (λ o. and_then o (λ acc. Some (i.shape, acc))) (shaped_anywhere (out-For f).accumulator i.place acc called) ∙ by_acc i (shaped_at (out-For f).accumulator i.place acc)
 
-      by_index : (a b : SignedWord) (o : Option LoweredShape) → shaped_at (out-For f).index (place body) index.ty ≡ o
-          → and_then (and_then o (λ i. Some (adds_shape i (spot_of at body))))
-          (does_all at (ShapesPattern (out-For f).accumulator start.ty ∷ LowersBlock (out-For f).body ∷ MakesLoop start a b ∷ restores body ∷ body.todo))
-          ≡ and_then (makes (and_then o (λ i. and_then (shaped_at (out-For f).accumulator i.place start.ty) (λ acc.
-          and_then (block_of_text_lowered (out-For f).body acc.place) (λ r. loop_made start a b i.shape acc.shape r)))) (spot_of at body)) (does_all at body.todo)
-      by_index a b None h = refl
-      by_index a b (Some i) h = by_accumulator a b i (shaped_at (out-For f).accumulator i.place start.ty) refl (pattern_grows (out-For f).index (place body) index.ty i h)
+  turn_grows : (f : For) (here : CorePlace) (index acc : DslxType) (t : Shape × LoweredShape) → turn_shaped here f index acc ≡ Some t → Grows here t.1.place
+  turn_grows f here index acc t e =
+      let i = from_then (shaped_at (out-For f).index here index) (λ i. and_then (shaped_at (out-For f).accumulator i.place acc) (λ acc. Some (i.shape, acc))) t e in
+      let a = from_then (shaped_at (out-For f).accumulator i.0.place acc) (λ acc. Some (i.0.shape, acc)) t i.2 in
+      subst (λ (q : Shape × LoweredShape). Grows here q.1.place) (same_some (i.0.shape, a.0) t a.2)
+      (grows_on here i.0.place a.0.place (shaped_grows (out-For f).index here index i.0 i.1) (shaped_grows (out-For f).accumulator i.0.place acc a.0 a.1))
+
+  pub loop_keeps : (f : For) (start index : LoweredExpr) (body : OpenBody) → Comes (loop_begins f start index sight body) (loop_in (place body) f start index) body
+  loop_keeps f start index body =
+      by (and_then (constant_at (place body) (out-For f).from) bits_of) (and_then (constant_at (place body) (out-For f).to) bits_of)
+      ∙ ap (λ o. and_then (makes (with_both (and_then (constant_at (place body) (out-For f).from) bits_of) (and_then (constant_at (place body) (out-For f).to) bits_of)
+      (λ a b. and_then o (λ t. and_then (block_of_text_lowered (out-For f).body t.1.place) (λ r. loop_made start a b t.0 t.1.shape r)))) (spot_of at body)) (does_all at body.todo))
+      (sym (turn_anywhere f (before body) index.ty start.ty))
+    where
+      by_made : (q : CorePlace) (o : Option LoweredExpr) → Grows (before body) q
+          → and_then (makes o (spot_of at (bound_as q body))) (does_all at (restores body ∷ body.todo)) ≡ and_then (makes o (spot_of at body)) (does_all at body.todo)
+      by_made q None g = refl
+      by_made q (Some e) g = goes_back sight table body q (e ∷ body.made) g
+
+      by_body : (a b : SignedWord) (t : Shape × LoweredShape) (o : Option LoweredExpr) → Grows (before body) t.1.place
+          → and_then (makes o (spot_of at (bound_as t.1.place body))) (does_all at (MakesLoop start a b t.0 t.1.shape ∷ restores body ∷ body.todo))
+          ≡ and_then (makes (and_then o (λ r. loop_made start a b t.0 t.1.shape r)) (spot_of at body)) (does_all at body.todo)
+      by_body a b t None g = refl
+      by_body a b t (Some r) g = by_made t.1.place (loop_made start a b t.0 t.1.shape r) g
+
+      by_turn : (a b : SignedWord) (o : Option (Shape × LoweredShape)) → turn_shaped (before body) f index.ty start.ty ≡ o
+          → end_of_next at (and_then o (λ t. Some (bound_as t.1.place (doing (LowersBlock (out-For f).body ∷ MakesLoop start a b t.0 t.1.shape ∷ restores body ∷ []) body))))
+          ≡ and_then (makes (and_then (turn_moved o) (λ t. and_then (block_of_text_lowered (out-For f).body t.1.place) (λ r. loop_made start a b t.0 t.1.shape r))) (spot_of at body)) (does_all at body.todo)
+      by_turn a b None h = refl
+      by_turn a b (Some t) h =
+          let g = turn_grows f (before body) index.ty start.ty t h in
+          by_body a b t (block_of_text_lowered (out-For f).body (place (bound_as t.1.place body))) g
+          ∙ ap (λ here. and_then (makes (and_then (block_of_text_lowered (out-For f).body here) (λ r. loop_made start a b t.0 t.1.shape r)) (spot_of at body)) (does_all at body.todo))
+          (sym (behind_pattern sight table body t.1.place g))
 
       by : (first end : Option SignedWord)
-          → end_of_next at (with_both first end (λ a b. Some (doing (ShapesPattern (out-For f).index index.ty ∷ ShapesPattern (out-For f).accumulator start.ty ∷ LowersBlock (out-For f).body ∷ MakesLoop start a b ∷ restores body ∷ []) body)))
-          ≡ and_then (makes (with_both first end (λ a b. and_then (shaped_at (out-For f).index (place body) index.ty) (λ i. and_then (shaped_at (out-For f).accumulator i.place start.ty) (λ acc.
-          and_then (block_of_text_lowered (out-For f).body acc.place) (λ r. loop_made start a b i.shape acc.shape r))))) (spot_of at body)) (does_all at body.todo)
+          → end_of_next at (with_both first end (λ a b. and_then (turn_shaped (before body) f index.ty start.ty) (λ t.
+          Some (bound_as t.1.place (doing (LowersBlock (out-For f).body ∷ MakesLoop start a b t.0 t.1.shape ∷ restores body ∷ []) body)))))
+          ≡ and_then (makes (with_both first end (λ a b. and_then (turn_moved (turn_shaped (before body) f index.ty start.ty)) (λ t.
+          and_then (block_of_text_lowered (out-For f).body t.1.place) (λ r. loop_made start a b t.0 t.1.shape r)))) (spot_of at body)) (does_all at body.todo)
       by None end = refl
       by (Some a) None = refl
-      by (Some a) (Some b) = by_index a b (shaped_at (out-For f).index (place body) index.ty) refl
+      by (Some a) (Some b) = by_turn a b (turn_shaped (before body) f index.ty start.ty) refl

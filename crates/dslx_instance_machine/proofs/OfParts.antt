@@ -30,7 +30,7 @@ use Rattle.dslx_lowering.specs.CorePlaces.{CoreCallee, CorePlace, with_unnamed}
 use Rattle.dslx_lowering.specs.Functions.{CoreInstance, callee_in, callee_of, instance_in}
 use Rattle.dslx_lowering.specs.Lowering.{LoweredExpr, call_lowered, cores_of, counted_lowered, field_lowered, lowered, name_lowered, number_lowered, reduced_lowered, tuple_lowered, types_of_lowered, updated_lowered}
 use Rattle.dslx_lowering.specs.Trees.{LowersField, array_lowered, element_or_number, elements_lowered, expression_lowered, field_or_other, fields_lowered, filled_lowered, names_written, of_type, struct_fields, struct_lowered_in, type_of_text_lowered, value_written, with_others, without_others}
-use Rattle.dslx_instance_machine.specs.Tasks.{PartsMaker, MakesTuple, MakesArray, Fills, CallsWith, StructWork, LowersExpr, Gathers, GathersFields, TakesOthers, BindsOthers, CallsInstance, OpenBody, InstanceSight}
+use Rattle.dslx_instance_machine.specs.Tasks.{PartsMaker, MakesTuple, MakesArray, Fills, CallsWith, StructWork, LowersExpr, Gathers, GathersFields, TakesOthers, MakesBind, CallsInstance, OpenBody, InstanceSight}
 use Rattle.dslx_instance_machine.specs.Bodies.{doing, place_in, restores, unnamed}
 use Rattle.dslx_instance_machine.specs.Parts as s
 use Rattle.dslx_instance_machine.specs.Parts.{names_of_fields, numbers_at, part_taken}
@@ -317,15 +317,15 @@ module _ (sight : InstanceSight) (table : List CoreInstance) where
   pub others_keep : (e : LoweredExpr) (t : DslxType) (fields : List (List ℕ)) (ts : List DslxType) (written : List FieldValue) (body : OpenBody)
       → Comes (s.others_taken sight e t fields ts written body) (with_others (place body) e (map field_becomes written) t fields ts) body
   others_keep e t fields ts written body =
-      fields_on_keep (record { ty = t; written = written; others = lowered (core.Slot body.count) e.ty }) [] fields ts (unnamed (doing (BindsOthers e ∷ restores body ∷ []) body))
+      fields_on_keep (record { ty = t; written = written; others = lowered (core.Slot body.count) e.ty }) [] fields ts (unnamed (doing (MakesBind e shape.Bound ∷ restores body ∷ []) body))
       ∙ by (fields_lowered (with_unnamed (place body)) (map field_becomes written) (lowered (core.Slot body.count) e.ty) fields ts)
     where
       by : (o : Option (List LoweredExpr))
-          → and_then (makes (and_then o (λ es. lowered (core.Tuple (cores_of es)) t)) (spot_of at (unnamed body))) (does_all at (BindsOthers e ∷ restores body ∷ body.todo))
+          → and_then (makes (and_then o (λ es. lowered (core.Tuple (cores_of es)) t)) (spot_of at (unnamed body))) (does_all at (MakesBind e shape.Bound ∷ restores body ∷ body.todo))
           ≡ and_then (makes (and_then o (λ es. lowered (core.Bind e.core shape.Bound (core.Tuple (cores_of es))) t)) (spot_of at body)) (does_all at body.todo)
       by None = refl
       by (Some es) =
-          ap (λ here. does_all at body.todo (record { place = here; made = record { core = core.Bind e.core shape.Bound (core.Tuple (cores_of es)); ty = t } ∷ body.made; shapes = body.shapes })) (back_from_unnamed (place body))
+          ap (λ here. does_all at body.todo (record { place = here; made = record { core = core.Bind e.core shape.Bound (core.Tuple (cores_of es)); ty = t } ∷ body.made })) (back_from_unnamed (place body))
 
   struct_of_fields : (written : List FieldValue) (rest : Option Expr) (t : DslxType) (fields : List (List ℕ)) (ts : List DslxType) (body : OpenBody)
       → Comes (s.fields_begin sight written rest t fields ts body) (struct_fields (place body) (map field_becomes written) (option_map expression_lowered rest) t fields ts) body

@@ -1,7 +1,8 @@
 -- What each task comes to, by what the parts of a text become, where calls are looked up in a table that is given.
+use Rattle.dslx_instance_machine.specs.Arms.{shaped_at}
 use Rattle.std.proofs.Common.{ℕ, List, [], ◌∷◌, ◌++◌, map, Option, Some}
 use Rattle.dslx_tree.specs.declared.block.Stmt.{Stmt}
-use Rattle.dslx_tree.specs.declared.expr.Arm.{Arm, out-Arm}
+use Rattle.dslx_tree.specs.declared.expr.Arm.{Arm}
 use Rattle.dslx_tree.specs.declared.expr.Expr.{Expr}
 use Rattle.dslx_tree.specs.declared.expr.For.{For, out-For}
 use Rattle.dslx_tree.specs.declared.pattern.Pattern.{Pattern}
@@ -12,34 +13,27 @@ use Rattle.dslx_meaning.specs.Values.{bits_of}
 use Rattle.dslx_meaning.specs.declared.ty.DslxType.{DslxType}
 use Rattle.dslx_meaning.specs.declared.ty.DslxType as ty
 use Rattle.dslx_core.specs.declared.expr.CoreExpr as core
-use Rattle.dslx_core.specs.declared.expr.Shape.{Shape}
-use Rattle.dslx_core.specs.declared.expr.Shape as shape
 use Rattle.dslx_lowering.specs.CorePlaces.{CorePlace, constant_at}
 use Rattle.dslx_lowering.specs.Lowering.{LoweredExpr, call_lowered, cores_of, lowered, types_of_lowered}
-use Rattle.dslx_lowering.specs.Patterns.{LoweredArm, LoweredShape, alternatives_shaped, arm_lowered, arm_of, arms_of, parts_shaped}
-use Rattle.dslx_lowering.specs.Steps.{pattern_of_text_lowered}
+use Rattle.dslx_lowering.specs.Patterns.{LoweredArm, arm_lowered, arm_of, arms_of}
 use Rattle.dslx_lowering.specs.Trees.{block_of_text_lowered, element_or_number, elements_lowered, expression_lowered, fields_lowered, filled_lowered, of_type, with_others}
 use Rattle.dslx_instance_machine.specs.Tasks as task
 use Rattle.dslx_instance_machine.specs.Tasks.{PartsMaker, MakesTuple, MakesArray, Fills, CallsWith, StructWork, MatchWork, LowerTask, OpenBody, InstanceSight}
-use Rattle.dslx_instance_machine.specs.Bodies.{first_bound, place_in, with_last, with_last_shape}
+use Rattle.dslx_instance_machine.specs.Bodies.{first_bound, place_in, with_last}
 use Rattle.dslx_instance_machine.specs.Parts.{numbers_at, part_taken}
-use Rattle.dslx_instance_machine.specs.Steps.{bind_made, call_made, instance_of, loop_made, made_of_last}
+use Rattle.dslx_instance_machine.specs.Steps.{bind_made, call_made, instance_of, loop_made, made_of_last, turn_shaped}
 use Rattle.dslx_instance_machine.proofs.Becomes.{arm_becomes, field_becomes, statements_become}
 
 -- where a body stands, but for what is to be done
 pub record Spot : Type 0 where
   pub place : CorePlace
   pub made : List LoweredExpr
-  pub shapes : List Shape
 
 abbrev pub spot_of : InstanceSight → OpenBody → Spot
-spot_of sight body = record { place = place_in sight body; made = body.made; shapes = body.shapes }
+spot_of sight body = record { place = place_in sight body; made = body.made }
 
 abbrev pub having : List LoweredExpr → Spot → Spot
-having made p = record { place = p.place; made = made; shapes = p.shapes }
-
-abbrev pub shaping : List Shape → Spot → Spot
-shaping shapes p = record { place = p.place; made = p.made; shapes = shapes }
+having made p = record { place = p.place; made = made }
 
 -- one more is made
 abbrev pub makes : Option LoweredExpr → Spot → Option Spot
@@ -53,16 +47,13 @@ back n count place = record { known = place.known; locals = first_bound n place.
 
 -- a value that is taken apart for the rest of a block
 abbrev pub let_in : CorePlace → LoweredExpr → Pattern → List Stmt → Option Expr → Option LoweredExpr
-let_in place e p ss last =
-    and_then ((pattern_of_text_lowered p).lower place e.ty) (λ s. and_then (statements_become ss last s.place) (λ r. bind_made e s.shape r))
+let_in place e p ss last = and_then (shaped_at p place e.ty) (λ s. and_then (statements_become ss last s.place) (λ r. bind_made e s.shape r))
 
 -- a loop from its start and its first index
 abbrev pub loop_in : CorePlace → For → LoweredExpr → LoweredExpr → Option LoweredExpr
 loop_in place f start index =
     with_both (and_then (constant_at place (out-For f).from) bits_of) (and_then (constant_at place (out-For f).to) bits_of) (λ a b.
-    and_then ((pattern_of_text_lowered (out-For f).index).lower place index.ty) (λ i.
-    and_then ((pattern_of_text_lowered (out-For f).accumulator).lower i.place start.ty) (λ acc.
-    and_then (block_of_text_lowered (out-For f).body acc.place) (λ body. loop_made start a b i.shape acc.shape body))))
+    and_then (turn_shaped place f index.ty start.ty) (λ t. and_then (block_of_text_lowered (out-For f).body t.1.place) (λ body. loop_made start a b t.0 t.1.shape body)))
 
 -- ---- several expressions
 
@@ -92,20 +83,6 @@ arms_in place e before arms = and_then (all_some (map (λ a. arm_lowered a place
 abbrev pub arm_then : CorePlace → MatchWork → LoweredArm → Option LoweredExpr
 arm_then place work arm = arms_in place work.value (work.before ++ arm ∷ []) work.behind
 
-abbrev pub alternatives_in : CorePlace → MatchWork → List Shape → List Pattern → Option LoweredExpr
-alternatives_in place work before ps =
-    and_then (with_both (alternatives_shaped (map pattern_of_text_lowered ps) place work.value.ty) (expression_lowered (out-Arm work.arm).value place) (λ more v. arm_of (before ++ more) v))
-    (arm_then place work)
-
--- ---- patterns
-
-abbrev pub adds_shape : LoweredShape → Spot → Spot
-adds_shape s p = record { place = s.place; made = p.made; shapes = s.shape ∷ p.shapes }
-
-abbrev pub shapes_in : List Shape → List Pattern → List DslxType → Spot → Option Spot
-shapes_in before ps ts p =
-    and_then (parts_shaped (map pattern_of_text_lowered ps) ts p.place) (λ r. Some (record { place = r.place; made = p.made; shapes = shape.Tuple (before ++ r.shapes) ∷ p.shapes }))
-
 -- ---- each task
 
 abbrev pub done : InstanceSight → LowerTask → Spot → Option Spot
@@ -114,24 +91,17 @@ done sight (task.LowersBlock b) p = makes (block_of_text_lowered b p.place) p
 done sight (task.LowersStatements ss last) p = makes (statements_become ss last p.place) p
 done sight (task.Makes maker) p = and_then (made_of_last maker p.place p.made) (λ made. Some (having made p))
 done sight (task.BindsValue q ss last) p = with_last p.made (λ e made. makes (let_in p.place e q ss last) (having made p))
-done sight (task.MakesBind e) p = with_last p.made (λ r made. with_last_shape p.shapes (λ s shapes. makes (bind_made e s r) (having made (shaping shapes p))))
+done sight (task.MakesBind e s) p = with_last p.made (λ r made. makes (bind_made e s r) (having made p))
 done sight (task.Gathers before es maker) p =
     with_last p.made (λ e made. makes (and_then (part_taken maker e) (λ e. list_in p.place (before ++ e ∷ []) es maker)) (having made p))
 done sight (task.TakesOthers t fields ts written) p = with_last p.made (λ e made. makes (with_others p.place e (map field_becomes written) t fields ts) (having made p))
-done sight (task.BindsOthers e) p = with_last p.made (λ r made. makes (bind_made e shape.Bound r) (having made p))
 done sight (task.GathersFields work before t fields ts) p =
     with_last p.made (λ e made. makes (and_then (of_type t (Some e)) (λ e. fields_in p.place work (before ++ e ∷ []) fields ts)) (having made p))
 done sight (task.LowersArms arms) p = with_last p.made (λ e made. makes (arms_in p.place e [] arms) (having made p))
-done sight (task.GathersAlternatives work before ps) p = with_last_shape p.shapes (λ s shapes. makes (alternatives_in p.place work (before ++ s ∷ []) ps) (shaping shapes p))
 done sight (task.TakesArm work shapes) p = with_last p.made (λ v made. makes (and_then (arm_of shapes v) (arm_then p.place work)) (having made p))
-done sight (task.TakesBoundArm work) p =
-    with_last p.made (λ v made. with_last_shape p.shapes (λ s shapes. makes (and_then (arm_of (s ∷ []) v) (arm_then p.place work)) (having made (shaping shapes p))))
 done sight (task.LoopBegins f) p = with_last p.made (λ index made. with_last made (λ start made. makes (loop_in p.place f start index) (having made p)))
-done sight (task.MakesLoop start a b) p =
-    with_last p.made (λ r made. with_last_shape p.shapes (λ acc shapes. with_last_shape shapes (λ i shapes. makes (loop_made start a b i acc r) (having made (shaping shapes p)))))
-done sight (task.ShapesPattern q t) p = and_then ((pattern_of_text_lowered q).lower p.place t) (λ s. Some (adds_shape s p))
-done sight (task.GathersShapes before ps ts) p = with_last_shape p.shapes (λ s shapes. shapes_in (before ++ s ∷ []) ps ts (shaping shapes p))
-done sight (task.Restores n count) p = Some (record { place = back n count p.place; made = p.made; shapes = p.shapes })
+done sight (task.MakesLoop start a b i acc) p = with_last p.made (λ r made. makes (loop_made start a b i acc r) (having made p))
+done sight (task.Restores n count) p = Some (record { place = back n count p.place; made = p.made })
 done sight (task.NeedsInstance i) p = and_then (instance_of sight i) (λ q. Some p)
 done sight (task.CallsInstance i es) p = makes (call_made sight i es) p
 

@@ -2,15 +2,15 @@
 use Rattle.std.proofs.Common.{◌≡◌, List, [], ◌∷◌, length, Option, Some, None, refl, sym, ap, ◌∙◌}
 use Rattle.dslx_meaning.specs.Lists.{and_then, with_both}
 use Rattle.dslx_lowering.specs.CorePlaces.{CorePlace, with_unnamed}
-use Rattle.dslx_lowering.specs.Functions.{CoreInstance}
+use Rattle.dslx_lowering.specs.Functions.{CoreInstance, callee_in}
 use Rattle.dslx_lowering.specs.Lowering.{LoweredExpr}
 use Rattle.dslx_instance_machine.specs.Tasks.{OpenBody, InstanceSight}
-use Rattle.dslx_instance_machine.specs.Bodies.{first_bound, gives, with_last}
+use Rattle.dslx_instance_machine.specs.Bodies.{first_bound, gives, with_last, place_in, restores, bound_as}
 use Rattle.dslx_instance_machine.specs.Steps.{of_last, of_last_two, of_last_three}
 use Rattle.dslx_instance_machine.specs.Reached.{at_table}
 use Rattle.dslx_instance_machine.proofs.Options.{dropped_again}
 use Rattle.dslx_instance_machine.proofs.Places.{Spot, back, does_all, end_of_next, having, makes, spot_of}
-use Rattle.dslx_instance_machine.proofs.Steady.{Grows}
+use Rattle.dslx_instance_machine.proofs.Steady.{Grows, Callees, with_callee}
 
 -- what is made where nothing else is to be done first
 pub gives_keep : (sight : InstanceSight) (table : List CoreInstance) (o : Option LoweredExpr) (body : OpenBody)
@@ -85,7 +85,7 @@ two_taken_next f (Some a) second p k = by (second p.place)
     by None = refl
     by (Some b) = refl
 
--- ---- back to what was bound before
+-- ---- what a pattern binds, and back
 
 pub back_before : (place after : CorePlace) → Grows place after → back (length place.locals) place.count after ≡ place
 back_before place after g = λ i. record { known = g.known i; locals = locals i; count = place.count }
@@ -95,3 +95,19 @@ back_before place after g = λ i. record { known = g.known i; locals = locals i;
 
 pub back_from_unnamed : (place : CorePlace) → back (length place.locals) place.count (with_unnamed place) ≡ place
 back_from_unnamed place = back_before place (with_unnamed place) (record { known = refl; new = []; locals = refl })
+
+module _ (sight : InstanceSight) (table : List CoreInstance) where
+  abbrev at : InstanceSight
+  at = at_table sight table
+
+  abbrev pub calls : Callees
+  calls = callee_in sight.text sight.items table
+
+  -- the place behind a pattern is that of the body that goes on there
+  pub behind_pattern : (body : OpenBody) (q : CorePlace) → Grows (place_in sight body) q → with_callee calls q ≡ place_in at (bound_as q body)
+  behind_pattern body q g = λ i. record { known = record { items = (g.known i).items; numbers = (g.known i).numbers; callee = calls }; locals = q.locals; count = q.count }
+
+  pub goes_back : (body : OpenBody) (q : CorePlace) (made : List LoweredExpr) → Grows (place_in sight body) q
+      → does_all at (restores body ∷ body.todo) (record { place = place_in at (bound_as q body); made = made }) ≡ does_all at body.todo (record { place = place_in at body; made = made })
+  goes_back body q made g =
+      ap (λ here. does_all at body.todo (record { place = here; made = made })) (back_before (place_in at body) (place_in at (bound_as q body)) (record { known = refl; new = g.new; locals = g.locals }))

@@ -1,8 +1,6 @@
 -- The changes that steps make where an instance is lowered.
 use Rattle.std.specs.Prelude.{ℕ, suc, List, [], ◌∷◌, ◌++◌, ◌-◌, drop, length, Option, Some, None}
 use Rattle.dslx_meaning.specs.Lists.{and_then}
-use Rattle.dslx_meaning.specs.declared.ty.DslxType.{DslxType}
-use Rattle.dslx_core.specs.declared.expr.Shape.{Shape}
 use Rattle.dslx_lowering.specs.CorePlaces.{BoundSlot, CorePlace}
 use Rattle.dslx_lowering.specs.Functions.{callee_in}
 use Rattle.dslx_lowering.specs.Lowering.{LoweredExpr}
@@ -27,28 +25,18 @@ behind todo body = record body { todo = todo }
 abbrev pub with_made : List LoweredExpr → OpenBody → OpenBody
 with_made made body = record body { made = made }
 
-abbrev pub with_shapes : List Shape → OpenBody → OpenBody
-with_shapes shapes body = record body { shapes = shapes }
-
 -- this is made
 abbrev pub gives : Option LoweredExpr → OpenBody → Option OpenBody
 gives e body = and_then e (λ e. Some (with_made (e ∷ body.made) body))
-
-abbrev pub shapes_as : Shape → OpenBody → Option OpenBody
-shapes_as s body = Some (with_shapes (s ∷ body.shapes) body)
 
 -- what was made last, and what is done with it
 abbrev pub with_last : {A : Type 0} → List LoweredExpr → (LoweredExpr → List LoweredExpr → Option A) → Option A
 with_last [] f = None
 with_last (e ∷ made) f = f e made
 
-abbrev pub with_last_shape : {A : Type 0} → List Shape → (Shape → List Shape → Option A) → Option A
-with_last_shape [] f = None
-with_last_shape (s ∷ shapes) f = f s shapes
-
--- one more value is bound, to this name
-abbrev pub naming : List ℕ → DslxType → OpenBody → OpenBody
-naming name t body = record body { locals = record { name = name; slot = body.count; ty = t } ∷ body.locals; count = suc body.count }
+-- with what is bound at another place
+abbrev pub bound_as : CorePlace → OpenBody → OpenBody
+bound_as place body = record body { locals = place.locals; count = place.count }
 
 -- one more value is bound, to no name
 abbrev pub unnamed : OpenBody → OpenBody

@@ -1,4 +1,4 @@
--- what steps do with patterns and arms
+-- what steps do with arms
 pub mod Arms
 -- how steps change what is lowered in one place
 pub mod Bodies

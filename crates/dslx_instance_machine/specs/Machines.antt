@@ -23,7 +23,6 @@ body_open f i place = record {
   given = numbers_bound [] f.parameters i.numbers;
   todo = task.LowersBlock f.body ∷ [];
   made = [];
-  shapes = [];
   locals = place.locals;
   count = place.count;
 }
@@ -112,4 +111,4 @@ machine_at sight limit root = record { sight = sight; limit = limit; root = root
 
 -- the body in which an instance is needed, and nothing else
 abbrev pub needing : Instantiated → OpenBody
-needing i = record { given = []; todo = task.NeedsInstance i ∷ []; made = []; shapes = []; locals = []; count = 0 }
+needing i = record { given = []; todo = task.NeedsInstance i ∷ []; made = []; locals = []; count = 0 }

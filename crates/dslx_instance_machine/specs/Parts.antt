@@ -16,11 +16,12 @@ use Rattle.dslx_meaning.specs.declared.value.Bare.{Bare}
 use Rattle.dslx_meaning.specs.declared.value.DslxValue.{DslxValue}
 use Rattle.dslx_rules.specs.AggregateRules.{array_in}
 use Rattle.dslx_core.specs.declared.expr.CoreExpr as core
+use Rattle.dslx_core.specs.declared.expr.Shape as shape
 use Rattle.dslx_const_machine.specs.Layers.{field_among}
 use Rattle.dslx_lowering.specs.CorePlaces.{CorePlace, constant_at}
 use Rattle.dslx_lowering.specs.Lowering.{LoweredExpr, call_lowered, cores_of, field_lowered, lowered, name_lowered, number_lowered, types_of_lowered}
 use Rattle.dslx_lowering.specs.Trees.{elements_lowered, filled_lowered, of_type, type_of_text_lowered}
-use Rattle.dslx_instance_machine.specs.Tasks.{PartsMaker, MakesTuple, MakesArray, Fills, CallsWith, StructWork, LowersExpr, Gathers, TakesOthers, BindsOthers, GathersFields, CallsInstance, OpenBody, InstanceSight}
+use Rattle.dslx_instance_machine.specs.Tasks.{PartsMaker, MakesTuple, MakesArray, Fills, CallsWith, StructWork, LowersExpr, Gathers, TakesOthers, MakesBind, GathersFields, CallsInstance, OpenBody, InstanceSight}
 use Rattle.dslx_instance_machine.specs.Bodies.{doing, gives, place_in, restores, unnamed}
 
 -- ---- calls
@@ -106,4 +107,4 @@ struct_begins sight written rest _ body = None
 -- the fields that aren't written are those of this value, which is bound
 abbrev pub others_taken : InstanceSight → LoweredExpr → DslxType → List (List ℕ) → List DslxType → List FieldValue → OpenBody → Option OpenBody
 others_taken sight e t fields ts written body =
-    fields_on sight (record { ty = t; written = written; others = lowered (core.Slot body.count) e.ty }) [] fields ts (unnamed (doing (BindsOthers e ∷ restores body ∷ []) body))
+    fields_on sight (record { ty = t; written = written; others = lowered (core.Slot body.count) e.ty }) [] fields ts (unnamed (doing (MakesBind e shape.Bound ∷ restores body ∷ []) body))

@@ -1,14 +1,9 @@
 -- What is so of a machine that has nothing left to do.
-use Rattle.std.specs.Prelude.{◌≡◌, List, [], ◌∷◌, ◌++◌, Option, Some, None}
+use Rattle.std.specs.Prelude.{◌≡◌, List, [], ◌∷◌, ◌++◌, Some}
 use Rattle.dslx_tree.specs.declared.expr.Expr.{Expr}
 use Rattle.dslx_tree.specs.declared.item.Module.{Module}
-use Rattle.dslx_tree.specs.declared.pattern.Pattern.{Pattern}
 use Rattle.dslx_meaning.specs.Environment.{Meanings}
-use Rattle.dslx_meaning.specs.declared.ty.DslxType.{DslxType}
-use Rattle.dslx_core.specs.declared.expr.Shape.{Shape}
 use Rattle.dslx_lowering.specs.Functions.{CoreInstance, Instantiated, instances_from}
-use Rattle.dslx_lowering.specs.Patterns.{LoweredShape}
-use Rattle.dslx_lowering.specs.Steps.{pattern_of_text_lowered}
 use Rattle.dslx_lowering.specs.Trees.{expression_lowered}
 use Rattle.dslx_instance_machine.specs.Tasks as task
 use Rattle.dslx_instance_machine.specs.Tasks.{OpenBody, InstanceMachine, InstanceSight}
@@ -35,20 +30,8 @@ pub record HasEnded (m : InstanceMachine) : Type 0 where
 
 -- what is to be lowered in a body, and nothing else
 abbrev pub lowering_alone : Expr → OpenBody → OpenBody
-lowering_alone e body = record { given = body.given; todo = task.LowersExpr e ∷ []; made = []; shapes = []; locals = body.locals; count = body.count }
-
-abbrev pub shaping_alone : Pattern → DslxType → OpenBody → OpenBody
-shaping_alone p t body = record { given = body.given; todo = task.ShapesPattern p t ∷ []; made = []; shapes = []; locals = body.locals; count = body.count }
-
--- the last shape, and the place behind it
-abbrev pub last_shaped : List Shape → InstanceSight → OpenBody → Option LoweredShape
-last_shaped [] sight body = None
-last_shaped (s ∷ shapes) sight body = Some (record { shape = s; place = place_in sight body })
+lowering_alone e body = record { given = body.given; todo = task.LowersExpr e ∷ []; made = []; locals = body.locals; count = body.count }
 
 -- what the machine has made is what the expression becomes, however many more instances are done later
 abbrev pub MakesExpression : InstanceSight → Expr → OpenBody → InstanceMachine → Type 0
 MakesExpression sight e body m = (table : List CoreInstance) → GrownFrom table m.sight.table → expression_lowered e (place_in (at_table sight table) body) ≡ last_made m.root.made
-
-abbrev pub ShapesAsPattern : InstanceSight → Pattern → DslxType → OpenBody → InstanceMachine → Type 0
-ShapesAsPattern sight p t body m = (table : List CoreInstance) → GrownFrom table m.sight.table
-    → (pattern_of_text_lowered p).lower (place_in (at_table sight table) body) t ≡ last_shaped m.root.shapes (at_table sight table) m.root

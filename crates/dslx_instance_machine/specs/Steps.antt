@@ -6,30 +6,37 @@ use Rattle.dslx_tree.specs.declared.block.Stmt.{Stmt, out-Stmt}
 use Rattle.dslx_tree.specs.declared.block.Stmt.TheOpen.{Stmt-F, Node-F}
 use Rattle.dslx_tree.specs.declared.expr.Expr.{Expr}
 use Rattle.dslx_tree.specs.declared.expr.For.{For, out-For}
+use Rattle.dslx_tree.specs.declared.expr.Number.{Number, out-Number}
 use Rattle.dslx_tree.specs.declared.pattern.Pattern.{Pattern}
 use Rattle.dslx_meaning.specs.Activation.{NodeLayer, StmtLayer, node_of}
 use Rattle.dslx_meaning.specs.Lists.{and_then, where_true, with_both}
 use Rattle.dslx_meaning.specs.Meaning.{turn_count}
 use Rattle.dslx_meaning.specs.Types.{unit_type}
 use Rattle.dslx_meaning.specs.Values.{bits_of, bool_value}
-use Rattle.dslx_meaning.specs.declared.ty.DslxType.{out-DslxType}
+use Rattle.dslx_meaning.specs.Operators.{number_value}
+use Rattle.dslx_meaning.specs.declared.ty.DslxType.{DslxType, out-DslxType}
+use Rattle.dslx_meaning.specs.declared.value.DslxValue.{DslxValue}
 use Rattle.dslx_meaning.specs.declared.value.SignedWord.{SignedWord}
 use Rattle.dslx_core.specs.declared.expr.CoreExpr as core
 use Rattle.dslx_core.specs.declared.expr.Shape.{Shape}
-use Rattle.dslx_core.specs.declared.expr.Shape as shape
-use Rattle.dslx_const_machine.specs.Layers.{shape_of}
+use Rattle.dslx_const_machine.specs.Layers.{written}
 use Rattle.dslx_lowering.specs.CorePlaces.{CorePlace, bound_at, constant_at}
 use Rattle.dslx_lowering.specs.EqualTypes.{equal_type}
 use Rattle.dslx_lowering.specs.Functions.{CoreInstance, Instantiated, callee_of, instance_in}
 use Rattle.dslx_lowering.specs.Lowering.{LoweredExpr, binary_lowered, cast_lowered, choice_lowered, cores_of, element_lowered, field_lowered, index_lowered, literal, lowered, name_lowered, part_lowered, prefix_lowered, slice_lowered, types_of_lowered}
+use Rattle.dslx_lowering.specs.Patterns.{LoweredShape}
 use Rattle.dslx_lowering.specs.Trees.{of_type, type_of_text_lowered}
 use Rattle.dslx_instance_machine.specs.Tasks as task
 use Rattle.dslx_instance_machine.specs.Tasks.{LastMaker, MakesPrefix, MakesBinary, MakesCast, MakesSlice, MakesPart, MakesField, MakesElement, MakesIndexed, MakesChoice, MakesTuple, CallsWith, LowerTask, OpenBody, InstanceSight}
-use Rattle.dslx_instance_machine.specs.Bodies.{doing, gives, place_in, restored, restores, with_last, with_last_shape, with_made, with_shapes}
+use Rattle.dslx_instance_machine.specs.Bodies.{bound_as, doing, gives, place_in, restored, restores, with_last, with_made}
 use Rattle.dslx_instance_machine.specs.Parts.{array_begins, fields_on, gathers, others_taken, part_taken, struct_begins}
-use Rattle.dslx_instance_machine.specs.Arms.{alternatives_on, arm_taken, arms_on, number_at, pattern_begins, shapes_on}
+use Rattle.dslx_instance_machine.specs.Arms.{arm_taken, arms_on, shaped_at}
 
 -- ---- expressions
+
+-- a number of a type that is written
+abbrev pub number_at : CorePlace → Number → Option DslxValue
+number_at place n = and_then (and_then (out-Number n).ty (λ t. type_of_text_lowered t place)) (λ t. number_value t (written n))
 
 abbrev pub node_begins : NodeLayer → InstanceSight → OpenBody → Option OpenBody
 node_begins (Node-F.Node::Number n) sight body = gives (and_then (number_at (place_in sight body) n) literal) body
@@ -92,8 +99,9 @@ abbrev pub statements_begin : List Stmt → Option Expr → OpenBody → Option 
 statements_begin [] last body = last_begins last body
 statements_begin (s ∷ ss) last body = stmt_begins (out-Stmt s) ss last body
 
-abbrev pub value_bound : LoweredExpr → Pattern → List Stmt → Option Expr → OpenBody → Option OpenBody
-value_bound e p ss last body = Some (doing (task.ShapesPattern p e.ty ∷ task.LowersStatements ss last ∷ task.MakesBind e ∷ restores body ∷ []) body)
+abbrev pub value_bound : InstanceSight → LoweredExpr → Pattern → List Stmt → Option Expr → OpenBody → Option OpenBody
+value_bound sight e p ss last body =
+    and_then (shaped_at p (place_in sight body) e.ty) (λ s. Some (bound_as s.place (doing (task.LowersStatements ss last ∷ task.MakesBind e s.shape ∷ restores body ∷ []) body)))
 
 -- a value that is bound to a shape for another
 abbrev pub bind_made : LoweredExpr → Shape → LoweredExpr → Option LoweredExpr
@@ -101,10 +109,16 @@ bind_made e s r = lowered (core.Bind e.core s r.core) r.ty
 
 -- ---- loops
 
+-- what an index and what is accumulated bind
+abbrev pub turn_shaped : CorePlace → For → DslxType → DslxType → Option (Shape × LoweredShape)
+turn_shaped place f index acc =
+    and_then (shaped_at (out-For f).index place index) (λ i. and_then (shaped_at (out-For f).accumulator i.place acc) (λ acc. Some (i.shape, acc)))
+
 abbrev pub loop_begins : For → LoweredExpr → LoweredExpr → InstanceSight → OpenBody → Option OpenBody
 loop_begins f start index sight body =
     with_both (and_then (constant_at (place_in sight body) (out-For f).from) bits_of) (and_then (constant_at (place_in sight body) (out-For f).to) bits_of) (λ a b.
-    Some (doing (task.ShapesPattern (out-For f).index index.ty ∷ task.ShapesPattern (out-For f).accumulator start.ty ∷ task.LowersBlock (out-For f).body ∷ task.MakesLoop start a b ∷ restores body ∷ []) body))
+    and_then (turn_shaped (place_in sight body) f index.ty start.ty) (λ t.
+    Some (bound_as t.1.place (doing (task.LowersBlock (out-For f).body ∷ task.MakesLoop start a b t.0 t.1.shape ∷ restores body ∷ []) body))))
 
 abbrev pub loop_made : LoweredExpr → SignedWord → SignedWord → Shape → Shape → LoweredExpr → Option LoweredExpr
 loop_made start a b i acc body =
@@ -126,24 +140,17 @@ stepped (task.LowersExpr e) sight body = node_begins (node_of e) sight body
 stepped (task.LowersBlock b) sight body = statements_begin (out-Block b).statements (out-Block b).value body
 stepped (task.LowersStatements ss last) sight body = statements_begin ss last body
 stepped (task.Makes maker) sight body = and_then (made_of_last maker (place_in sight body) body.made) (λ made. Some (with_made made body))
-stepped (task.BindsValue p ss last) sight body = with_last body.made (λ e made. value_bound e p ss last (with_made made body))
-stepped (task.MakesBind e) sight body = with_last body.made (λ r made. with_last_shape body.shapes (λ s shapes. gives (bind_made e s r) (with_made made (with_shapes shapes body))))
+stepped (task.BindsValue p ss last) sight body = with_last body.made (λ e made. value_bound sight e p ss last (with_made made body))
+stepped (task.MakesBind e s) sight body = with_last body.made (λ r made. gives (bind_made e s r) (with_made made body))
 stepped (task.Gathers before es maker) sight body =
     with_last body.made (λ e made. and_then (part_taken maker e) (λ e. gathers sight (before ++ e ∷ []) es maker (with_made made body)))
 stepped (task.TakesOthers t fields ts written) sight body = with_last body.made (λ e made. others_taken sight e t fields ts written (with_made made body))
-stepped (task.BindsOthers e) sight body = with_last body.made (λ r made. gives (bind_made e shape.Bound r) (with_made made body))
 stepped (task.GathersFields work before t fields ts) sight body =
     with_last body.made (λ e made. and_then (of_type t (Some e)) (λ e. fields_on sight work (before ++ e ∷ []) fields ts (with_made made body)))
 stepped (task.LowersArms arms) sight body = with_last body.made (λ e made. arms_on sight e [] arms (with_made made body))
-stepped (task.GathersAlternatives work before ps) sight body = with_last_shape body.shapes (λ s shapes. alternatives_on work (before ++ s ∷ []) ps (with_shapes shapes body))
 stepped (task.TakesArm work shapes) sight body = with_last body.made (λ v made. arm_taken sight work shapes v (with_made made body))
-stepped (task.TakesBoundArm work) sight body =
-    with_last body.made (λ v made. with_last_shape body.shapes (λ s shapes. arm_taken sight work (s ∷ []) v (with_made made (with_shapes shapes body))))
 stepped (task.LoopBegins f) sight body = with_last body.made (λ index made. with_last made (λ start made. loop_begins f start index sight (with_made made body)))
-stepped (task.MakesLoop start a b) sight body =
-    with_last body.made (λ r made. with_last_shape body.shapes (λ acc shapes. with_last_shape shapes (λ i shapes. gives (loop_made start a b i acc r) (with_made made (with_shapes shapes body)))))
-stepped (task.ShapesPattern p t) sight body = pattern_begins (shape_of p) sight t body
-stepped (task.GathersShapes before ps ts) sight body = with_last_shape body.shapes (λ s shapes. shapes_on (before ++ s ∷ []) ps ts (with_shapes shapes body))
+stepped (task.MakesLoop start a b i acc) sight body = with_last body.made (λ r made. gives (loop_made start a b i acc r) (with_made made body))
 stepped (task.Restores n count) sight body = Some (restored n count body)
 stepped (task.NeedsInstance i) sight body = and_then (instance_of sight i) (λ p. Some body)
 stepped (task.CallsInstance i es) sight body = gives (call_made sight i es) body

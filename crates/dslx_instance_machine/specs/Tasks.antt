@@ -65,31 +65,22 @@ pub data LowerTask : Type 0 where
   Makes : LastMaker → LowerTask
   -- what was made last is taken apart for the rest of a block
   BindsValue : Pattern → List Stmt → Option Expr → LowerTask
-  -- this value is bound to the last shape for what was made last
-  MakesBind : LoweredExpr → LowerTask
+  -- this value is bound, and taken apart so, for what was made last
+  MakesBind : LoweredExpr → Shape → LowerTask
   -- ---- several expressions
   -- what was made last is the next one behind these
   Gathers : List LoweredExpr → List Expr → PartsMaker → LowerTask
   -- what was made last has the fields of a struct that aren't written
   TakesOthers : DslxType → List (List ℕ) → List DslxType → List FieldValue → LowerTask
-  -- this value is bound, to no name, for what was made last
-  BindsOthers : LoweredExpr → LowerTask
   -- what was made last is a field of this type behind these; the names and types of those that are left
   GathersFields : StructWork → List LoweredExpr → DslxType → List (List ℕ) → List DslxType → LowerTask
   -- ---- matches and loops
   LowersArms : List Arm → LowerTask
-  -- the last shape is the next one behind these of an arm, and these patterns of it are left
-  GathersAlternatives : MatchWork → List Shape → List Pattern → LowerTask
-  -- what was made last is the value of an arm of these shapes, or of the last shape
+  -- what was made last is the value of an arm of these shapes
   TakesArm : MatchWork → List Shape → LowerTask
-  TakesBoundArm : MatchWork → LowerTask
   LoopBegins : For → LowerTask
-  -- a loop from its start and its bounds
-  MakesLoop : LoweredExpr → SignedWord → SignedWord → LowerTask
-  -- ---- patterns
-  ShapesPattern : Pattern → DslxType → LowerTask
-  -- the last shape is the next one behind these
-  GathersShapes : List Shape → List Pattern → List DslxType → LowerTask
+  -- a loop from its start, its bounds, and what an index and what is accumulated bind
+  MakesLoop : LoweredExpr → SignedWord → SignedWord → Shape → Shape → LowerTask
   -- so many names are left, and so many values are bound
   Restores : ℕ → ℕ → LowerTask
   -- ---- calls
@@ -97,13 +88,12 @@ pub data LowerTask : Type 0 where
   NeedsInstance : Instantiated → LowerTask
   CallsInstance : Instantiated → List LoweredExpr → LowerTask
 
--- what is lowered in one place: the number parameters, what is still to be done, what was made and shaped so far, the last
--- one first, the names that are bound, the last one first, and how many values are bound
+-- what is lowered in one place: the number parameters, what is still to be done, what was made so far, the last one first,
+-- the names that are bound, the last one first, and how many values are bound
 pub record OpenBody : Type 0 where
   pub given : List Given
   pub todo : List LowerTask
   pub made : List LoweredExpr
-  pub shapes : List Shape
   pub locals : List BoundSlot
   pub count : ℕ
 

@@ -6,11 +6,9 @@
 
 ghost use Rattle.std.specs.Prelude.{◌≡◌, ℕ, Option, Some};
 ghost use Rattle.dslx_tree.specs.declared.expr.Expr.{Expr};
-ghost use Rattle.dslx_tree.specs.declared.pattern.Pattern.{Pattern};
-ghost use Rattle.dslx_meaning.specs.declared.ty.DslxType.{DslxType};
 ghost use Rattle.dslx_lowering.specs.Functions.{CoreInstance, Instantiated};
 ghost use Rattle.dslx_instance_machine.specs.Machines.{after_steps, machine_at, needing};
-ghost use Rattle.dslx_instance_machine.specs.Reached.{GrownFrom, HasEnded, IsTable, MakesExpression, ShapesAsPattern, lowering_alone, shaping_alone};
+ghost use Rattle.dslx_instance_machine.specs.Reached.{GrownFrom, HasEnded, IsTable, MakesExpression, lowering_alone};
 ghost use Rattle.dslx_instance_machine.specs.Steps.{instance_of};
 ghost use Rattle.dslx_instance_machine.specs.Tasks.{InstanceMachine, InstanceSight, OpenBody};
 
@@ -28,10 +26,8 @@ pub fn needed_instances_are_done()
 {}
 
 /// What the machine has made of an expression when nothing is left to do is what it becomes where calls are looked up in the
-/// machine's table, or in a longer one; and so is what it has shaped of a pattern, with the place behind it.
+/// machine's table, or in a longer one.
 pub fn what_is_made_is_lowered()
-    ensures expression { (sight : InstanceSight) → IsTable sight.text sight.items sight.table → (limit n : ℕ) (e : Expr) (body : OpenBody) (m : InstanceMachine)
+    ensures { (sight : InstanceSight) → IsTable sight.text sight.items sight.table → (limit n : ℕ) (e : Expr) (body : OpenBody) (m : InstanceMachine)
         → after_steps n (machine_at sight limit (lowering_alone e body)) ≡ Some m → HasEnded m → MakesExpression sight e body m }
-    ensures pattern { (sight : InstanceSight) → IsTable sight.text sight.items sight.table → (limit n : ℕ) (p : Pattern) (t : DslxType) (body : OpenBody) (m : InstanceMachine)
-        → after_steps n (machine_at sight limit (shaping_alone p t body)) ≡ Some m → HasEnded m → ShapesAsPattern sight p t body m }
 {}
