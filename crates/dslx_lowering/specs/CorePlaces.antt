@@ -9,11 +9,12 @@ use Rattle.dslx_meaning.specs.Meaning.{meant, value_of, size_of, bound_of}
 use Rattle.dslx_meaning.specs.declared.ty.DslxType.{DslxType}
 use Rattle.dslx_meaning.specs.declared.value.DslxValue.{DslxValue}
 use Rattle.dslx_rules.specs.Mentions.{free_names}
+use Rattle.dslx_lowering.specs.declared.instance.CoreCallee as callee_data
+use Rattle.dslx_lowering.specs.declared.expr.BoundSlot as slot_data
 
 -- the instance that a call comes to: its number, and the type of its result
-pub record CoreCallee : Type 0 where
-  pub number : ℕ
-  pub result : DslxType
+abbrev pub CoreCallee : Type 0
+CoreCallee = callee_data.CoreCallee
 
 -- what is known in all of a body
 pub record CoreKnown : Type 0 where
@@ -25,10 +26,8 @@ pub record CoreKnown : Type 0 where
   pub callee : List ℕ → List DslxValue → List DslxType → Option CoreCallee
 
 -- a name that is bound: the number of its value among those that are bound, and its type
-pub record BoundSlot : Type 0 where
-  pub name : List ℕ
-  pub slot : ℕ
-  pub ty : DslxType
+abbrev pub BoundSlot : Type 0
+BoundSlot = slot_data.BoundSlot
 
 -- a place in a body: the names that are bound there, the last one first, and how many values are bound
 pub record CorePlace : Type 0 where

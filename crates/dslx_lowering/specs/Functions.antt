@@ -15,18 +15,18 @@ use Rattle.dslx_meaning.specs.declared.value.DslxValue.{DslxValue}
 use Rattle.dslx_meaning.specs.declared.value.SignedWord.{SignedWord}
 use Rattle.dslx_typed.specs.Kinds.{is_of}
 use Rattle.dslx_core.specs.declared.design.Function as core
-use Rattle.dslx_core.specs.declared.expr.CoreExpr.{CoreExpr}
 use Rattle.dslx_lowering.specs.CorePlaces.{CoreCallee, CoreKnown, CorePlace, with_local}
 use Rattle.dslx_lowering.specs.EqualTypes.{equal_type}
 use Rattle.dslx_lowering.specs.Trees.{block_of_text_lowered, type_of_text_lowered}
+use Rattle.dslx_lowering.specs.declared.instance.Instantiated as instantiated_data
+use Rattle.dslx_lowering.specs.declared.instance.CoreInstance as instance_data
+use Rattle.dslx_lowering.specs.declared.instance.LoweredFunction as function_data
 
 -- ---- one instance
 
 -- the types of its arguments and of its result, and its body over the arguments
-pub record LoweredFunction : Type 0 where
-  pub arguments : List DslxType
-  pub result : DslxType
-  pub body : CoreExpr
+abbrev pub LoweredFunction : Type 0
+LoweredFunction = function_data.LoweredFunction
 
 -- where nothing is bound but number parameters
 abbrev pub outer_place : CoreKnown → CorePlace
@@ -58,10 +58,8 @@ instance_lowered known f = where_true (numbers_stand known.items known.numbers) 
 -- ---- all instances
 
 -- an instance by its name and its number arguments
-pub record CoreInstance : Type 0 where
-  pub name : List ℕ
-  pub numbers : List DslxValue
-  pub function : LoweredFunction
+abbrev pub CoreInstance : Type 0
+CoreInstance = instance_data.CoreInstance
 
 -- number arguments are bits
 abbrev pub same_bits : Option SignedWord → Option SignedWord → Bool
@@ -94,9 +92,8 @@ abbrev pub instance_known : Module → Meanings → List CoreInstance → Functi
 instance_known m items instances f numbers = record { items = items; numbers = numbers_bound [] f.parameters numbers; callee = callee_in m items instances }
 
 -- a name and its number arguments
-pub record Instantiated : Type 0 where
-  pub name : List ℕ
-  pub numbers : List DslxValue
+abbrev pub Instantiated : Type 0
+Instantiated = instantiated_data.Instantiated
 
 abbrev pub next_instance : Module → Meanings → List CoreInstance → Instantiated → Option CoreInstance
 next_instance m items before i =

@@ -33,11 +33,11 @@ use Rattle.dslx_core.specs.declared.expr.CoreExpr.{CoreExpr}
 use Rattle.dslx_core.specs.declared.expr.CoreExpr as core
 use Rattle.dslx_lowering.specs.EqualTypes.{equal_type}
 use Rattle.dslx_lowering.specs.CorePlaces.{BoundSlot, CorePlace, local_in}
+use Rattle.dslx_lowering.specs.declared.expr.LoweredExpr as expr_data
 
 -- a core expression, and the type of its values
-pub record LoweredExpr : Type 0 where
-  pub core : CoreExpr
-  pub ty : DslxType
+abbrev pub LoweredExpr : Type 0
+LoweredExpr = expr_data.LoweredExpr
 
 abbrev pub lowered : CoreExpr → DslxType → Option LoweredExpr
 lowered e t = Some (record { core = e; ty = t })

@@ -10,11 +10,12 @@ use Rattle.dslx_meaning.specs.declared.value.DslxValue.{DslxValue}
 use Rattle.dslx_meaning.specs.declared.value.SignedWord.{SignedWord}
 use Rattle.dslx_core.specs.declared.expr.Shape.{Shape}
 use Rattle.dslx_core.specs.declared.expr.Shape as shape
-use Rattle.dslx_core.specs.declared.expr.Arm.{Arm, roll-Arm}
+use Rattle.dslx_core.specs.declared.expr.Arm.{roll-Arm}
 use Rattle.dslx_core.specs.declared.expr.CoreExpr as core
 use Rattle.dslx_lowering.specs.EqualTypes.{equal_type}
 use Rattle.dslx_lowering.specs.CorePlaces.{CorePlace, with_local}
 use Rattle.dslx_lowering.specs.Lowering.{LoweredExpr, lowered}
+use Rattle.dslx_lowering.specs.declared.expr.LoweredArm as arm_data
 
 -- what an expression becomes at each place
 abbrev pub Lowers : Type 0
@@ -73,9 +74,9 @@ pub record LowersArm : Type 0 where
   pub patterns : List LowersPattern
   pub value : Lowers
 
-pub record LoweredArm : Type 0 where
-  pub arm : Arm
-  pub ty : DslxType
+-- an arm, and the type of its value
+abbrev pub LoweredArm : Type 0
+LoweredArm = arm_data.LoweredArm
 
 abbrev pub arm_of : List Shape → LoweredExpr → Option LoweredArm
 arm_of shapes e = Some (record { arm = roll-Arm (record { shapes = shapes; value = e.core }); ty = e.ty })

@@ -5,10 +5,14 @@
 //! signs and names. They don't ask whether the text breaks a rule.
 #![tactic(auto)]
 
+mod expr;
 mod expressions;
+mod instance;
 mod instances;
 mod steps;
 
+pub use expr::{BoundSlot, LoweredArm, LoweredExpr};
 pub use expressions::lowered_expressions_mean_the_same;
+pub use instance::{CoreCallee, CoreInstance, Instantiated, LoweredFunction};
 pub use instances::lowered_instances_mean_the_same;
 pub use steps::lowered_steps_do_the_same;

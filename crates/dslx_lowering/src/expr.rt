@@ -1,0 +1,25 @@
+use dslx_core::{Arm, CoreExpr};
+use dslx_meaning::DslxType;
+use texts::Name;
+
+/// A core expression, and the type of its values.
+#[derive(Drop)]
+pub struct LoweredExpr {
+    pub core: CoreExpr,
+    pub ty: DslxType,
+}
+
+/// An arm, and the type of its value.
+#[derive(Drop)]
+pub struct LoweredArm {
+    pub arm: Arm,
+    pub ty: DslxType,
+}
+
+/// A name that is bound: the number of its value among those that are bound, and its type.
+#[derive(Drop)]
+pub struct BoundSlot {
+    pub name: Name,
+    pub slot: u64,
+    pub ty: DslxType,
+}
