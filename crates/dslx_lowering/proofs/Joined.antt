@@ -1,5 +1,5 @@
 -- The induction on all sorts of parts of a tree: each part means the same as what it becomes.
-use Rattle.std.proofs.Common.{◌≡◌, true, List, [], ◌∷◌, map, Option, Some, None, refl, sym, ap, subst, ◌∙◌}
+use Rattle.std.proofs.Common.{◌≡◌, List, [], ◌∷◌, map, Option, Some, None, refl, sym, ap, subst, ◌∙◌}
 use Rattle.dslx_tree.specs.declared.block.Block.{Block}
 use Rattle.dslx_tree.specs.declared.block.Stmt.{Stmt}
 use Rattle.dslx_tree.specs.declared.block.Stmt.TheOpen.{Stmt-F, Node-F, Shape-F, TypeNode-F}
@@ -22,14 +22,13 @@ use Rattle.dslx_meaning.specs.declared.ty.DslxType as ty
 use Rattle.dslx_meaning.specs.declared.value.Bare.{Bare}
 use Rattle.dslx_meaning.specs.declared.value.DslxValue.{DslxValue}
 use Rattle.dslx_meaning.specs.declared.value.SignedWord.{SignedWord}
-use Rattle.dslx_typed.specs.Kinds.{is_of}
 use Rattle.dslx_typed.proofs.Lemmas.{none_some, same_some}
 use Rattle.dslx_core.specs.CoreValues.{Bindings, Functions, taken_apart}
 use Rattle.dslx_core.specs.declared.expr.Shape as shape
 use Rattle.dslx_lowering.specs.CorePlaces.{CorePlace, constant_at}
 use Rattle.dslx_lowering.specs.EqualTypes.{equal_type}
 use Rattle.dslx_lowering.specs.Lowering.{LoweredExpr, literal}
-use Rattle.dslx_lowering.specs.Patterns.{LoweredShape, Lowers, LowersArm, shaped, value_shape}
+use Rattle.dslx_lowering.specs.Patterns.{Lowers, LowersArm, shaped, value_shape}
 use Rattle.dslx_lowering.specs.Trees.{LoweredPair, LowersField, LowersType, all_lowered, block_of_text_lowered, expression_lowered, last_lowered, second_parts, statements_lowered, type_of_text_lowered}
 use Rattle.dslx_lowering.specs.Steps.{pattern_of_text_lowered}
 use Rattle.dslx_lowering.specs.Correspondence.{FitsAsLowered, IsOwn, KeepsValue, MeansAsLowered, PatternMeansAsLowered, StandsAtPlace, TypeMeansAsLowered, env_at}
@@ -44,7 +43,7 @@ use Rattle.dslx_lowering.proofs.OfControl.{bare_keeps, choice_keeps, let_keeps, 
 use Rattle.dslx_lowering.proofs.OfMatch.{ArmMeansAsLowered, EachArmMeans, match_keeps}
 use Rattle.dslx_lowering.proofs.OfNames.{bool_keeps, bool_own, known_keeps, literal_keeps, name_keeps, number_own}
 use Rattle.dslx_lowering.proofs.OfParts.{element_keeps, field_keeps, index_keeps, tuple_keeps}
-use Rattle.dslx_lowering.proofs.OfPatterns.{EachPatternMeans, each_name, name_bare, name_fits, one_value_bare, one_value_fits, tuple_bare, tuple_fits, wild_bare, wild_fits}
+use Rattle.dslx_lowering.proofs.OfPatterns.{EachPatternMeans, PartFits, each_name, name_bare, name_fits, one_value_bare, one_value_fits, tuple_bare, tuple_fits, wild_bare, wild_fits}
 use Rattle.dslx_lowering.proofs.OfTypes.{EachTypeMeansAsLowered, array_means, tuple_means, wide_means}
 use Rattle.dslx_lowering.proofs.Operations.{prefix_keeps}
 use Rattle.dslx_lowering.proofs.Slots.{bound_means, constant_means}
@@ -242,32 +241,30 @@ type_means (TypeNode-F.TypeNode::Tuple ts) place calls given bound at t k =
 type_means (TypeNode-F.TypeNode::Array t e) place calls given bound at u k = array_means t.0.1 t.1 e.0.0 e.1 t.2.1 e.2.0 place calls given bound at u k
 
 -- a number as a pattern
-number_fits : (l : CorePlace → Option DslxValue) (x : Meant) → NumberMeans l x → (place : CorePlace) (t : DslxType) (s : LoweredShape) → value_shape (l place) place t ≡ Some s
-    → (calls : Functions) (given : List Given) (bound : Bindings) → StandsAtPlace place calls given bound → (v : DslxValue) → is_of t v ≡ true
-    → FitsAsLowered s.place calls (fit_value (x.value (env_at place given)) v (env_at place given)) (taken_apart s.shape (plain_value v) bound)
-number_fits l x means place t s e calls given bound at v of =
-    let w = from_then (l place) (λ v. where_true (equal_type t (type_of_value v)) (shaped (shape.Equal (plain_value v)) place)) s e in
-    let is = means place calls given bound at w.0 w.1 in
+number_fits : (l : CorePlace → Option DslxValue) (x : Meant) → NumberMeans l x → PartFits (λ outer place t. value_shape (l outer) place t) (λ outer v env. fit_value (x.value outer) v env)
+number_fits l x means outer place t s e calls around others out given bound at v of =
+    let w = from_then (l outer) (λ v. where_true (equal_type t (type_of_value v)) (shaped (shape.Equal (plain_value v)) place)) s e in
+    let is = means outer calls around others out w.0 w.1 in
     subst (λ o. FitsAsLowered s.place calls (fit_value o v (env_at place given)) (taken_apart s.shape (plain_value v) bound)) (w.1 ∙ sym is.0)
-    (one_value_fits (l place) place t s e (λ y q. subst IsOwn (same_some w.0 y (sym w.1 ∙ q)) is.1) calls given bound at v of)
+    (one_value_fits (l outer) place t s e (λ y q. subst IsOwn (same_some w.0 y (sym w.1 ∙ q)) is.1) calls given bound at v of)
 
 shape_means : (x : ShapeLevel Parts) → PatternMeansAsLowered (becoming.shape (map_shape Parts become (firsts become meanings (claimed same)) x)).1 (meaning.shape (map_shape Parts meanings (seconds become meanings (claimed same)) x))
-shape_means Shape-F.Wild = record { names = refl; fits = wild_fits; bare = wild_bare [] }
+shape_means Shape-F.Wild = record { names = refl; fits = λ outer place t s e calls around others out. wild_fits place t s e calls; bare = wild_bare [] }
 shape_means (Shape-F.Shape::Bool b) = record {
   names = refl;
-  fits = λ place t s e calls given bound at v of. one_value_fits (Some (bool_value b)) place t s e (λ x q. subst IsOwn (same_some (bool_value b) x q) (bool_own b)) calls given bound at v of;
-  bare = λ place t s e all. one_value_bare (Some (bool_value b)) place t s e;
+  fits = λ outer place t s e calls around others out given bound at v of. one_value_fits (Some (bool_value b)) place t s e (λ x q. subst IsOwn (same_some (bool_value b) x q) (bool_own b)) calls given bound at v of;
+  bare = λ outer place t s e all. one_value_bare (Some (bool_value b)) place t s e;
 }
 shape_means (Shape-F.Shape::Number n) = record {
   names = refl;
   fits = number_fits n.0.1 n.1 n.2.1;
-  bare = λ place t s e all. one_value_bare (n.0.1 place) place t s e;
+  bare = λ outer place t s e all. one_value_bare (n.0.1 outer) place t s e;
 }
-shape_means (Shape-F.Shape::Name name) = record { names = refl; fits = name_fits name; bare = name_bare name }
+shape_means (Shape-F.Shape::Name name) = record { names = refl; fits = λ outer place t s e calls around others out. name_fits name place t s e calls; bare = name_bare name }
 shape_means (Shape-F.Shape::Member e a) = record {
   names = refl;
-  fits = λ place t s k calls given bound at v of. one_value_fits (place.known.items.member e.name a.name) place t s k (λ x q. at.known.members e.name a.name x q) calls given bound at v of;
-  bare = λ place t s k all. one_value_bare (place.known.items.member e.name a.name) place t s k;
+  fits = λ outer place t s k calls around others out given bound at v of. one_value_fits (place.known.items.member e.name a.name) place t s k (λ x q. at.known.members e.name a.name x q) calls given bound at v of;
+  bare = λ outer place t s k all. one_value_bare (place.known.items.member e.name a.name) place t s k;
 }
 shape_means (Shape-F.Shape::Tuple ps) =
     let ls = second_parts (map (λ (p : PatternPart). p.0) ps) in

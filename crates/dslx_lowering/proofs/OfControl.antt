@@ -9,7 +9,7 @@ use Rattle.dslx_meaning.specs.Types.{unit_type}
 use Rattle.dslx_meaning.specs.Values.{plain_value, bits_of, unit_value}
 use Rattle.dslx_meaning.specs.Operators.{truth, truth_of, of_one_type}
 use Rattle.dslx_meaning.specs.Environment.{Given, Env}
-use Rattle.dslx_meaning.specs.Meaning.{Evaluates, PatternMeant, choose, loop_over, turn_count, turns_from}
+use Rattle.dslx_meaning.specs.Meaning.{Evaluates, PatternMeant, choose, fits_at_place, loop_over, turn_count, turns_from}
 use Rattle.dslx_meaning.specs.declared.ty.DslxType.{DslxType}
 use Rattle.dslx_meaning.specs.declared.ty.DslxType as ty
 use Rattle.dslx_meaning.specs.declared.value.DslxValue.{DslxValue}
@@ -23,7 +23,8 @@ use Rattle.dslx_core.specs.declared.expr.CoreExpr as core
 use Rattle.dslx_lowering.specs.CorePlaces.{CorePlace}
 use Rattle.dslx_lowering.specs.EqualTypes.{equal_type}
 use Rattle.dslx_lowering.specs.Lowering.{LoweredExpr, choice_lowered, lowered}
-use Rattle.dslx_lowering.specs.Patterns.{Lowers, LoweredShape, LowersPattern, let_lowered, loop_lowered}
+use Rattle.dslx_lowering.specs.Patterns.{Lowers, LoweredShape, LowersPattern, let_lowered, lowered_at_place, loop_lowered}
+use Rattle.dslx_lowering.proofs.OfPatterns.{fits_there}
 use Rattle.dslx_lowering.specs.Correspondence.{BothFit, FitsAsLowered, HasPlainValue, KeepsValue, MeansAsLowered, NeitherFits, PatternMeansAsLowered, StandsAtPlace, env_at}
 use Rattle.dslx_lowering.proofs.Kept.{from_both, from_then, from_where, kept_as, operand, operand_word}
 use Rattle.dslx_lowering.proofs.OneType.{one_by_test}
@@ -44,15 +45,15 @@ behind place calls o p inner e (BothFit given others x y z) = record { given = g
 behind place calls o p inner e (NeitherFits x y) = none_some inner (sym x ∙ e)
 
 pub let_keeps : (value : Lowers) (m : Evaluates) (p : LowersPattern) (f : PatternMeant) (rest : Lowers) (r : Evaluates) → MeansAsLowered value m → PatternMeansAsLowered p f → MeansAsLowered rest r
-    → MeansAsLowered (let_lowered value p rest) (λ env. and_then (m env) (λ v. and_then (f.fits v env) r))
+    → MeansAsLowered (let_lowered value p rest) (λ env. and_then (m env) (λ v. and_then (fits_at_place f v env) r))
 let_keeps value m p f rest r first pattern more place calls given bound h e l v k =
-    let a = from_then (value place) (λ e. and_then (p.lower place e.ty) (λ s. and_then (rest s.place) (λ r. lowered (core.Bind e.core s.shape r.core) r.ty))) e l in
-    let s = from_then (p.lower place a.0.ty) (λ s. and_then (rest s.place) (λ r. lowered (core.Bind a.0.core s.shape r.core) r.ty)) e a.2 in
+    let a = from_then (value place) (λ e. and_then (lowered_at_place p place e.ty) (λ s. and_then (rest s.place) (λ r. lowered (core.Bind e.core s.shape r.core) r.ty))) e l in
+    let s = from_then (lowered_at_place p place a.0.ty) (λ s. and_then (rest s.place) (λ r. lowered (core.Bind a.0.core s.shape r.core) r.ty)) e a.2 in
     let c = from_then (rest s.0.place) (λ r. lowered (core.Bind a.0.core s.0.shape r.core) r.ty) e s.2 in
-    let w = from_then (m (env_at place given)) (λ v. and_then (f.fits v (env_at place given)) r) v k in
-    let i = from_then (f.fits w.0 (env_at place given)) r v w.2 in
+    let w = from_then (m (env_at place given)) (λ v. and_then (fits_at_place f v (env_at place given)) r) v k in
+    let i = from_then (fits_at_place f w.0 (env_at place given)) r v w.2 in
     let has = first place calls given bound h a.0 a.1 w.0 w.1 in
-    let b = behind s.0.place calls (f.fits w.0 (env_at place given)) (taken_apart s.0.shape (plain_value w.0) bound) i.0 i.1 (pattern.fits place a.0.ty s.0 s.1 calls given bound h w.0 has.of) in
+    let b = behind s.0.place calls (fits_at_place f w.0 (env_at place given)) (taken_apart s.0.shape (plain_value w.0) bound) i.0 i.1 (fits_there p f pattern place a.0.ty s.0 s.1 calls given bound h w.0 has.of) in
     let g = more s.0.place calls b.given b.others b.stands c.0 c.1 v (ap r (sym b.env) ∙ i.2) in
     kept_as calls bound v (record { core = core.Bind a.0.core s.0.shape c.0.core; ty = c.0.ty }) e c.2
     (record {
@@ -144,12 +145,12 @@ pub loop_keeps : (place : CorePlace) (calls : Functions) (given : List Given) (b
     → ((x : SignedWord) → end ≡ Some x → and_then to bits_of ≡ Some x) → KeepsValue calls bound ls start → KeepsValue calls bound li from
     → (i acc : LowersPattern) (fi fa : PatternMeant) → PatternMeansAsLowered i fi → PatternMeansAsLowered acc fa → (body : Lowers) (m : Evaluates) → MeansAsLowered body m
     → KeepsValue calls bound (loop_lowered ls li first end i acc body place)
-    (and_then start (λ start. with_both (and_then from bits_of) (and_then to bits_of) (loop_over (λ k a. and_then (fi.fits k (env_at place given)) (λ inner. and_then (fa.fits a inner) m)) start)))
+    (and_then start (λ start. with_both (and_then from bits_of) (and_then to bits_of) (loop_over (λ k a. and_then (fits_at_place fi k (env_at place given)) (λ inner. and_then (fits_at_place fa a inner) m)) start)))
 loop_keeps place calls given bound h ls li start from to first end is_first is_end ks ki i acc fi fa pi pa body m kb e l v k =
     let p = from_both ls li _ e l in
     let q = from_both first end _ e p.4 in
-    let s = from_then (i.lower place p.1.ty) _ e q.4 in
-    let z = from_then (acc.lower s.0.place p.0.ty) _ e s.2 in
+    let s = from_then (lowered_at_place i place p.1.ty) _ e q.4 in
+    let z = from_then (lowered_at_place acc s.0.place p.0.ty) _ e s.2 in
     let c = from_then (body z.0.place) _ e z.2 in
     let r = from_where (equal_type p.0.ty c.0.ty && nat_lt (turn_count q.0 q.1) (2 ^ 64)) (lowered (core.Loop (turn_count q.0 q.1) q.0.word s.0.shape z.0.shape c.0.core p.0.core) p.0.ty) e c.2 in
     let one = one_by_test p.0.ty c.0.ty (and_true (equal_type p.0.ty c.0.ty) (nat_lt (turn_count q.0 q.1) (2 ^ 64)) r.0).0 in
@@ -174,17 +175,17 @@ loop_keeps place calls given bound h ls li start from to first end is_first is_e
     })
   where
     source : SourceTurn
-    source k a = and_then (fi.fits k (env_at place given)) (λ inner. and_then (fa.fits a inner) m)
+    source k a = and_then (fits_at_place fi k (env_at place given)) (λ inner. and_then (fits_at_place fa a inner) m)
 
-    turned : (index bits t u : DslxType) → index ≡ bits → t ≡ u → (s : LoweredShape) → i.lower place index ≡ Some s → (z : LoweredShape) → acc.lower s.place t ≡ Some z
+    turned : (index bits t u : DslxType) → index ≡ bits → t ≡ u → (s : LoweredShape) → lowered_at_place i place index ≡ Some s → (z : LoweredShape) → lowered_at_place acc s.place t ≡ Some z
         → (c : LoweredExpr) → body z.place ≡ Some c → c.ty ≡ u → TurnKeeps calls bound bits t source (one_turn s.shape z.shape (core_value c.core) calls bound)
     turned index bits t u is one s ls z lz c lc typed j a r of_index of_acc e =
-        let inner = from_then (fi.fits j (env_at place given)) (λ inner. and_then (fa.fits a inner) m) r e in
-        let b = behind s.place calls (fi.fits j (env_at place given)) (taken_apart s.shape (plain_value j) bound) inner.0 inner.1 (pi.fits place index s ls calls given bound h j (ap (λ t. is_of t j) is ∙ of_index)) in
-        let more = from_then (fa.fits a inner.0) m r inner.2 in
+        let inner = from_then (fits_at_place fi j (env_at place given)) (λ inner. and_then (fits_at_place fa a inner) m) r e in
+        let b = behind s.place calls (fits_at_place fi j (env_at place given)) (taken_apart s.shape (plain_value j) bound) inner.0 inner.1 (fits_there i fi pi place index s ls calls given bound h j (ap (λ t. is_of t j) is ∙ of_index)) in
+        let more = from_then (fits_at_place fa a inner.0) m r inner.2 in
         let d =
-        behind z.place calls (fa.fits a (env_at s.place b.given)) (taken_apart z.shape (plain_value a) b.others) more.0 (ap (fa.fits a) (sym b.env) ∙ more.1)
-        (pa.fits s.place t z lz calls b.given b.others b.stands a of_acc) in
+        behind z.place calls (fits_at_place fa a (env_at s.place b.given)) (taken_apart z.shape (plain_value a) b.others) more.0 (ap (fits_at_place fa a) (sym b.env) ∙ more.1)
+        (fits_there acc fa pa s.place t z lz calls b.given b.others b.stands a of_acc) in
         let g = kb z.place calls d.given d.others d.stands c lc r (ap m (sym d.env) ∙ more.2) in (
           ap (λ t. is_of t r) (one ∙ sym typed) ∙ g.of,
           ap (λ o. and_then o (λ inner. and_then (taken_apart z.shape (plain_value a) inner) (core_value c.core calls))) b.apart

@@ -5,7 +5,7 @@ use Rattle.xb_value.specs.declared.value.Value.{Value}
 use Rattle.dslx_meaning.specs.Lists.{all_some, and_then, or_else, with_both}
 use Rattle.dslx_meaning.specs.Values.{plain_value}
 use Rattle.dslx_meaning.specs.Environment.{Given, Env}
-use Rattle.dslx_meaning.specs.Meaning.{ArmMeant, PatternMeant, all_names, first_fit, match_arms, take_arm, value_without}
+use Rattle.dslx_meaning.specs.Meaning.{ArmMeant, PatternMeant, all_names, first_fit, fits_at_place, match_arms, take_arm, value_without}
 use Rattle.dslx_meaning.specs.declared.ty.DslxType.{DslxType}
 use Rattle.dslx_meaning.specs.declared.value.DslxValue.{DslxValue}
 use Rattle.dslx_laws.proofs.Lemmas.{and_true}
@@ -19,14 +19,14 @@ use Rattle.dslx_core.specs.declared.expr.Shape.{Shape}
 use Rattle.dslx_lowering.specs.CorePlaces.{CorePlace}
 use Rattle.dslx_lowering.specs.EqualTypes.{equal_type}
 use Rattle.dslx_lowering.specs.Lowering.{LoweredExpr, lowered}
-use Rattle.dslx_lowering.specs.Patterns.{LoweredArm, LoweredShape, LowersArm, LowersPattern, alternatives_shaped, arm_lowered, arm_of, arms_of, binding_arm, match_lowered, names_of_all}
+use Rattle.dslx_lowering.specs.Patterns.{LoweredArm, LoweredShape, LowersArm, LowersPattern, alternatives_shaped, arm_lowered, arm_of, arms_of, binding_arm, lowered_at_place, match_lowered, names_of_all}
 use Rattle.dslx_lowering.specs.Correspondence.{BothFit, FitsAsLowered, HasPlainValue, KeepsValue, MeansAsLowered, NeitherFits, StandsAtPlace, env_at}
 use Rattle.dslx_lowering.proofs.Kept.{from_both, from_then, from_where, kept_as}
 use Rattle.dslx_lowering.proofs.Lists.{EachThere, each_there}
 use Rattle.dslx_lowering.proofs.OneType.{one_by_test}
 use Rattle.dslx_lowering.proofs.Openings.{arm_meaning, core_arm, core_select}
 use Rattle.dslx_lowering.proofs.OfControl.{behind}
-use Rattle.dslx_lowering.proofs.OfPatterns.{EachPatternMeans, all_in_both, each_name}
+use Rattle.dslx_lowering.proofs.OfPatterns.{EachPatternMeans, all_in_both, each_name, fits_there}
 
 -- an arm, and what it means
 pub record ArmMeansAsLowered (a : LowersArm) (m : ArmMeant) : Type 0 where
@@ -55,16 +55,17 @@ alternatives_fit [] (m ∷ ms) h place t ss e all calls given bound at v of = ab
 alternatives_fit (p ∷ ps) [] h place t ss e all calls given bound at v of = absurd h
 alternatives_fit [] [] h place t ss e all calls given bound at v of = NeitherFits refl (ap (λ ss. first_apart ss (plain_value v) bound) (sym (same_some [] ss e)))
 alternatives_fit (p ∷ ps) (m ∷ ms) h place t ss e all calls given bound at v of =
-    let q = from_both (p.lower place t) (alternatives_shaped ps place t) (λ s ss. Some (s.shape ∷ ss)) ss e in
+    let q = from_both (lowered_at_place p place t) (alternatives_shaped ps place t) (λ s ss. Some (s.shape ∷ ss)) ss e in
     let r = all_in_both place.known.items.is_constant p.names (names_of_all ps) all in
     subst (λ x. FitsAsLowered place calls (first_fit (m ∷ ms) v (env_at place given)) (first_apart x (plain_value v) bound)) (same_some (q.0.shape ∷ q.1) ss q.4)
     (joined q.0 q.1
-    (subst (λ x. FitsAsLowered x calls (m.fits v (env_at place given)) (taken_apart q.0.shape (plain_value v) bound)) (h.0.bare place t q.0 q.2 r.0) (h.0.fits place t q.0 q.2 calls given bound at v of))
+    (subst (λ x. FitsAsLowered x calls (fits_at_place m v (env_at place given)) (taken_apart q.0.shape (plain_value v) bound)) (h.0.bare place place t q.0 q.2 r.0)
+    (fits_there p m h.0 place t q.0 q.2 calls given bound at v of))
     (alternatives_fit ps ms h.1 place t q.1 q.3 r.1 calls given bound at v of))
   where
-    joined : (s : LoweredShape) (ss : List Shape) → FitsAsLowered place calls (m.fits v (env_at place given)) (taken_apart s.shape (plain_value v) bound)
+    joined : (s : LoweredShape) (ss : List Shape) → FitsAsLowered place calls (fits_at_place m v (env_at place given)) (taken_apart s.shape (plain_value v) bound)
         → FitsAsLowered place calls (first_fit ms v (env_at place given)) (first_apart ss (plain_value v) bound)
-        → FitsAsLowered place calls (or_else (m.fits v (env_at place given)) (first_fit ms v (env_at place given))) (or_else (taken_apart s.shape (plain_value v) bound) (first_apart ss (plain_value v) bound))
+        → FitsAsLowered place calls (or_else (fits_at_place m v (env_at place given)) (first_fit ms v (env_at place given))) (or_else (taken_apart s.shape (plain_value v) bound) (first_apart ss (plain_value v) bound))
     joined s ss (BothFit more others x y z) rest = BothFit more others (or_first _ _ _ x) (or_first _ _ _ y) z
     joined s ss (NeitherFits x y) (BothFit more others a b c) = BothFit more others (or_second _ _ _ x a) (or_second _ _ _ y b) c
     joined s ss (NeitherFits x y) (NeitherFits a b) = NeitherFits (or_second _ _ _ x a) (or_second _ _ _ y b)
@@ -121,12 +122,12 @@ arm_keeps a m h place t c e calls given bound at v of = by_names (list_all place
     one_pattern (p ∷ []) [] h k = absurd h
     one_pattern (p ∷ []) (n ∷ o ∷ ms) h k = absurd h.1
     one_pattern (p ∷ []) (n ∷ []) h k =
-        let s = from_then (p.lower place t) (λ s. and_then (a.value s.place) (arm_of (s.shape ∷ []))) c k in
+        let s = from_then (lowered_at_place p place t) (λ s. and_then (a.value s.place) (arm_of (s.shape ∷ []))) c k in
         let e = from_then (a.value s.0.place) (arm_of (s.0.shape ∷ [])) c s.2 in
-        (s.0, e.0, e.2, e.1, alone s.0 (h.0.fits place t s.0 s.1 calls given bound at v of))
+        (s.0, e.0, e.2, e.1, alone s.0 (fits_there p n h.0 place t s.0 s.1 calls given bound at v of))
       where
-        alone : (s : LoweredShape) → FitsAsLowered s.place calls (n.fits v (env_at place given)) (taken_apart s.shape (plain_value v) bound)
-            → FitsAsLowered s.place calls (or_else (n.fits v (env_at place given)) None) (or_else (taken_apart s.shape (plain_value v) bound) None)
+        alone : (s : LoweredShape) → FitsAsLowered s.place calls (fits_at_place n v (env_at place given)) (taken_apart s.shape (plain_value v) bound)
+            → FitsAsLowered s.place calls (or_else (fits_at_place n v (env_at place given)) None) (or_else (taken_apart s.shape (plain_value v) bound) None)
         alone s (BothFit more others x y z) = BothFit more others (or_first _ _ _ x) (or_first _ _ _ y) z
         alone s (NeitherFits x y) = NeitherFits (or_second _ _ _ x refl) (or_second _ _ _ y refl)
 

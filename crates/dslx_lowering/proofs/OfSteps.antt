@@ -26,7 +26,7 @@ use Rattle.dslx_meaning.specs.Values.{at_type, bits_of, from_word, plain_value}
 use Rattle.dslx_meaning.specs.Operators.{truth, truth_of}
 use Rattle.dslx_meaning.specs.Environment.{Given, Env}
 use Rattle.dslx_meaning.specs.Items.{numbers_bound}
-use Rattle.dslx_meaning.specs.Meaning.{Fitting, fitted, value_of, written_type}
+use Rattle.dslx_meaning.specs.Meaning.{fitted, meant_pattern, value_of, written_type}
 use Rattle.dslx_meaning.specs.Activation.{Activity, Binder, Computes, Further, SendsWord, SendsWordIf, SiteAct, SiteEnv, StmtLayer, TakesWord, TakesWordIf, act_of, activation_of, activity_from, at_an_end, do_act, do_stmt, do_stmts, further, if_on, last_value_of, member_type, pair_with, send_word, take_word, then_goes, word_type_at}
 use Rattle.dslx_meaning.specs.declared.ty.DslxType.{DslxType}
 use Rattle.dslx_meaning.specs.declared.ty.DslxType as ty
@@ -44,7 +44,7 @@ use Rattle.dslx_core.specs.declared.step.Step.TheVariants as step
 use Rattle.dslx_lowering.specs.CorePlaces.{CoreKnown, CorePlace, with_local}
 use Rattle.dslx_lowering.specs.EqualTypes.{equal_type}
 use Rattle.dslx_lowering.specs.Lowering.{LoweredExpr}
-use Rattle.dslx_lowering.specs.Patterns.{LoweredShape}
+use Rattle.dslx_lowering.specs.Patterns.{LoweredShape, lowered_at_place}
 use Rattle.dslx_lowering.specs.Trees.{expression_lowered, of_type, type_of_text_lowered}
 use Rattle.dslx_lowering.specs.Functions.{numbers_stand, outer_place}
 use Rattle.dslx_lowering.specs.Steps.{BindsAtPlace, CoreMember, LoweredNext, LoweredSteps, LowersSteps, act_lowered, binds_nothing, can_travel, compute_lowered, end_names, is_sized, last_of_steps, member_in, next_lowered, pattern_of_text_lowered, receive_lowered, send_lowered, statement_steps, statements_steps, step_then, steps_from}
@@ -55,7 +55,7 @@ use Rattle.dslx_lowering.proofs.Joined.{expression_means, pattern_of_text_means,
 use Rattle.dslx_lowering.proofs.Kept.{from_both, from_then, from_where, operand, operand_word}
 use Rattle.dslx_lowering.proofs.OfAggregates.{of_its_type}
 use Rattle.dslx_lowering.proofs.OfControl.{truth_is, unit_keeps}
-use Rattle.dslx_lowering.proofs.OfPatterns.{ShapeFits, wild_fits}
+use Rattle.dslx_lowering.proofs.OfPatterns.{ShapeFits, fits_there, wild_fits}
 use Rattle.dslx_lowering.proofs.OneType.{one_by_test}
 use Rattle.dslx_lowering.proofs.Openings.{plain_token, plain_tuple}
 use Rattle.dslx_lowering.proofs.Slots.{named_stands}
@@ -89,7 +89,7 @@ StepsMean calls l rest = (place : CorePlace) (given : List Given) (bound : Bindi
     → DoesTheSame s.next.ty (rest (env_at place given) words) (do_steps calls s.steps s.next.core bound words)
 
 -- a value is taken apart, and the rest goes on
-goes_on : (calls : Functions) (binds : BindsAtPlace) (fits : Fitting) → ShapeFits binds fits → (l : LowersSteps) (rest : Further) → StepsMean calls l rest
+goes_on : (calls : Functions) (binds : BindsAtPlace) (fits : DslxValue → Env → Option Env) → ShapeFits binds fits → (l : LowersSteps) (rest : Further) → StepsMean calls l rest
     → (place : CorePlace) (given : List Given) (bound : Bindings) → StandsAtPlace place calls given bound → (t : DslxType) (s : LoweredShape) → binds place t ≡ Some s → (r : LoweredSteps) → l s.place ≡ Some r
     → (v : DslxValue) → is_of t v ≡ true → (words : List Word)
     → DoesTheSame r.next.ty (further rest (fits v (env_at place given)) words) (go_behind (do_steps calls r.steps r.next.core) (taken_apart s.shape (plain_value v) bound) words)
@@ -104,7 +104,7 @@ goes_on calls binds fits shapes l rest means place given bound at t s e r k v of
         subst (λ o. DoesTheSame r.next.ty (further rest o words) (go_behind (do_steps calls r.steps r.next.core) (taken_apart s.shape (plain_value v) bound) words)) (sym x) (nothing_done r.next.ty _)
 
 -- a value that may be missing in the text
-goes_with : (calls : Functions) (binds : BindsAtPlace) (fits : Fitting) → ShapeFits binds fits → (l : LowersSteps) (rest : Further) → StepsMean calls l rest
+goes_with : (calls : Functions) (binds : BindsAtPlace) (fits : DslxValue → Env → Option Env) → ShapeFits binds fits → (l : LowersSteps) (rest : Further) → StepsMean calls l rest
     → (place : CorePlace) (given : List Given) (bound : Bindings) → StandsAtPlace place calls given bound → (t : DslxType) (s : LoweredShape) → binds place t ≡ Some s → (r : LoweredSteps) → l s.place ≡ Some r
     → (o : Option DslxValue) (p : Option Value) → ((v : DslxValue) → o ≡ Some v → (is_of t v ≡ true) × (p ≡ Some (plain_value v))) → (words : List Word)
     → DoesTheSame r.next.ty (further rest (and_then o (λ v. fits v (env_at place given))) words) (apart_then s.shape (do_steps calls r.steps r.next.core) bound p words)
@@ -189,7 +189,7 @@ with_step s rest r e =
 
 -- the steps of a statement, whatever it binds
 abbrev ActMeans : Functions → CorePlace → List Given → List End → (BindsAtPlace → LowersSteps → LowersSteps) → (SiteEnv → Env → Binder → Further → Further) → Type 0
-ActMeans calls outer given ends low act = (binds : BindsAtPlace) (fits : Fitting) → ShapeFits binds fits → (l : LowersSteps) (rest : Further) → StepsMean calls l rest
+ActMeans calls outer given ends low act = (binds : BindsAtPlace) (fits : DslxValue → Env → Option Env) → ShapeFits binds fits → (l : LowersSteps) (rest : Further) → StepsMean calls l rest
     → StepsMean calls (low binds l) (λ env words. act (record { members = ends; env = env_at outer given }) env (λ v. fits v env) rest env words)
 
 -- a value alone
@@ -205,7 +205,7 @@ computes_mean calls outer given ends e binds fits shapes l rest means place inne
 
 -- a receive that is on
 takes_mean : (calls : Functions) (outer : CorePlace) (given : List Given) (ends : List End) (name : List ℕ) (m : CoreMember) → MemberStands outer given ends name m
-    → (binds : BindsAtPlace) (fits : Fitting) → ShapeFits binds fits → (l : LowersSteps) (rest : Further) → StepsMean calls l rest
+    → (binds : BindsAtPlace) (fits : DslxValue → Env → Option Env) → ShapeFits binds fits → (l : LowersSteps) (rest : Further) → StepsMean calls l rest
     → (place : CorePlace) (inner : List Given) (bound : Bindings) → StandsAtPlace place calls inner bound → (s : LoweredShape) → binds place (received m.word) ≡ Some s → (q : LoweredSteps) → l s.place ≡ Some q → (words : List Word)
     → DoesTheSame q.next.ty (take_word (word_type_at (record { members = ends; env = env_at outer given }) name) (λ v. fits v (env_at place inner)) rest words)
     (receive_on (plain_type m.word) s.shape (do_steps calls q.steps q.next.core) bound words)
@@ -225,7 +225,7 @@ takes_mean calls outer given ends name m member binds fits shapes l rest means p
         )) words)
 
 -- a token, behind a send or where it is off
-token_goes_on : (calls : Functions) (binds : BindsAtPlace) (fits : Fitting) → ShapeFits binds fits → (l : LowersSteps) (rest : Further) → StepsMean calls l rest
+token_goes_on : (calls : Functions) (binds : BindsAtPlace) (fits : DslxValue → Env → Option Env) → ShapeFits binds fits → (l : LowersSteps) (rest : Further) → StepsMean calls l rest
     → (place : CorePlace) (inner : List Given) (bound : Bindings) → StandsAtPlace place calls inner bound → (s : LoweredShape) → binds place ty.Token ≡ Some s → (q : LoweredSteps) → l s.place ≡ Some q → (words : List Word)
     → DoesTheSame q.next.ty (further rest (fits value.Token (env_at place inner)) words) (apart_then s.shape (do_steps calls q.steps q.next.core) bound (Some token) words)
 token_goes_on calls binds fits shapes l rest means place inner bound at s e q k words =
@@ -233,7 +233,7 @@ token_goes_on calls binds fits shapes l rest means place inner bound at s e q k 
     (λ v h. (ap (is_of ty.Token) (sym (same_some value.Token v h)) ∙ token_of, ap Some (sym plain_token ∙ ap plain_value (same_some value.Token v h)))) words
 
 -- a send that is on
-sends_mean : (calls : Functions) (word : Expr) (c : LoweredExpr) (binds : BindsAtPlace) (fits : Fitting) → ShapeFits binds fits → (l : LowersSteps) (rest : Further) → StepsMean calls l rest
+sends_mean : (calls : Functions) (word : Expr) (c : LoweredExpr) (binds : BindsAtPlace) (fits : DslxValue → Env → Option Env) → ShapeFits binds fits → (l : LowersSteps) (rest : Further) → StepsMean calls l rest
     → (place : CorePlace) (inner : List Given) (bound : Bindings) → StandsAtPlace place calls inner bound → expression_lowered word place ≡ Some c → (s : LoweredShape) → binds place ty.Token ≡ Some s
     → (q : LoweredSteps) → l s.place ≡ Some q → (words : List Word)
     → DoesTheSame q.next.ty (send_word (value_of word (env_at place inner)) (λ v. fits v (env_at place inner)) rest words)
@@ -337,8 +337,8 @@ act_means calls outer given outside there ends (SendsWord name word) e = sends
 statement_means : (calls : Functions) (outer : CorePlace) (given : List Given) (outside : Bindings) → StandsAtPlace outer calls given outside → (ends : List End) (s : StmtLayer) (l : LowersSteps) (rest : Further) → StepsMean calls l rest
     → StepsMean calls (statement_steps outer ends s l) (do_stmt (record { members = ends; env = env_at outer given }) s rest)
 statement_means calls outer given outside there ends (Stmt-F.Let l) low rest means =
-    act_means calls outer given outside there ends (act_of (out-Let l).value) (out-Let l).value (pattern_of_text_lowered (out-Let l).pattern).lower (fitted (out-Let l).pattern)
-    (pattern_of_text_means (out-Let l).pattern).fits low rest means
+    act_means calls outer given outside there ends (act_of (out-Let l).value) (out-Let l).value (lowered_at_place (pattern_of_text_lowered (out-Let l).pattern)) (fitted (out-Let l).pattern)
+    (fits_there (pattern_of_text_lowered (out-Let l).pattern) (meant_pattern (out-Let l).pattern) (pattern_of_text_means (out-Let l).pattern)) low rest means
 statement_means calls outer given outside there ends (Stmt-F.Bare e) low rest means =
     act_means calls outer given outside there ends (act_of e) e binds_nothing (λ v env. Some env) wild_fits low rest means
 

@@ -83,10 +83,12 @@ pub data FitsAsLowered (place : CorePlace) (calls : Functions) (o : Option Env) 
   BothFit : (given : List Given) (bound : Bindings) → o ≡ Some (env_at place given) → p ≡ Some bound → StandsAtPlace place calls given bound → FitsAsLowered place calls o p
   NeitherFits : o ≡ None → p ≡ None → FitsAsLowered place calls o p
 
+-- in a pattern whose own place is the outer one, behind what it bound so far
 pub record PatternMeansAsLowered (l : LowersPattern) (m : PatternMeant) : Type 0 where
   pub names : l.names ≡ m.names
-  pub fits : (place : CorePlace) (t : DslxType) (s : LoweredShape) → l.lower place t ≡ Some s
-      → (calls : Functions) (given : List Given) (bound : Bindings) → StandsAtPlace place calls given bound → (v : DslxValue) → is_of t v ≡ true
-      → FitsAsLowered s.place calls (m.fits v (env_at place given)) (taken_apart s.shape (plain_value v) bound)
+  pub fits : (outer place : CorePlace) (t : DslxType) (s : LoweredShape) → l.lower outer place t ≡ Some s
+      → (calls : Functions) (around : List Given) (others : Bindings) → StandsAtPlace outer calls around others
+      → (given : List Given) (bound : Bindings) → StandsAtPlace place calls given bound → (v : DslxValue) → is_of t v ≡ true
+      → FitsAsLowered s.place calls (m.fits (env_at outer around) v (env_at place given)) (taken_apart s.shape (plain_value v) bound)
   -- where all names are constants' it binds nothing
-  pub bare : (place : CorePlace) (t : DslxType) (s : LoweredShape) → l.lower place t ≡ Some s → list_all place.known.items.is_constant l.names ≡ true → s.place ≡ place
+  pub bare : (outer place : CorePlace) (t : DslxType) (s : LoweredShape) → l.lower outer place t ≡ Some s → list_all place.known.items.is_constant l.names ≡ true → s.place ≡ place

@@ -25,10 +25,15 @@ pub record LoweredShape : Type 0 where
   pub shape : Shape
   pub place : CorePlace
 
--- a pattern: the names in it, and what it becomes against values of a type
+-- a pattern: the names in it, and what it becomes against values of a type, by the place of the whole pattern, where its numbers
+-- are evaluated, and the place behind what is bound so far
 pub record LowersPattern : Type 0 where
   pub names : List (List ℕ)
-  pub lower : CorePlace → DslxType → Option LoweredShape
+  pub lower : CorePlace → CorePlace → DslxType → Option LoweredShape
+
+-- at its own place
+abbrev pub lowered_at_place : LowersPattern → CorePlace → DslxType → Option LoweredShape
+lowered_at_place p place t = p.lower place place t
 
 abbrev pub shaped : Shape → CorePlace → Option LoweredShape
 shaped s place = Some (record { shape = s; place = place })
@@ -47,16 +52,16 @@ pub record LoweredShapes : Type 0 where
   pub place : CorePlace
 
 -- the parts in order, each behind those before it
-abbrev pub parts_shaped : List LowersPattern → List DslxType → CorePlace → Option LoweredShapes
-parts_shaped [] [] place = Some (record { shapes = []; place = place })
-parts_shaped (p ∷ ps) (t ∷ ts) place =
-    and_then (p.lower place t) (λ s. and_then (parts_shaped ps ts s.place) (λ r. Some (record { shapes = s.shape ∷ r.shapes; place = r.place })))
-parts_shaped [] (t ∷ ts) place = None
-parts_shaped (p ∷ ps) [] place = None
+abbrev pub parts_shaped : List LowersPattern → List DslxType → CorePlace → CorePlace → Option LoweredShapes
+parts_shaped [] [] outer place = Some (record { shapes = []; place = place })
+parts_shaped (p ∷ ps) (t ∷ ts) outer place =
+    and_then (p.lower outer place t) (λ s. and_then (parts_shaped ps ts outer s.place) (λ r. Some (record { shapes = s.shape ∷ r.shapes; place = r.place })))
+parts_shaped [] (t ∷ ts) outer place = None
+parts_shaped (p ∷ ps) [] outer place = None
 
-abbrev pub tuple_shape : List LowersPattern → CorePlace → DslxType-F DslxType → Option LoweredShape
-tuple_shape ps place (DslxType-F.Tuple ts) = and_then (parts_shaped ps ts place) (λ r. shaped (shape.Tuple r.shapes) r.place)
-tuple_shape ps place _ = None
+abbrev pub tuple_shape : List LowersPattern → CorePlace → CorePlace → DslxType-F DslxType → Option LoweredShape
+tuple_shape ps outer place (DslxType-F.Tuple ts) = and_then (parts_shaped ps ts outer place) (λ r. shaped (shape.Tuple r.shapes) r.place)
+tuple_shape ps outer place _ = None
 
 abbrev pub names_of_all : List LowersPattern → List (List ℕ)
 names_of_all [] = []
@@ -78,11 +83,11 @@ arm_of shapes e = Some (record { arm = roll-Arm (record { shapes = shapes; value
 -- each alternative from the place
 abbrev pub alternatives_shaped : List LowersPattern → CorePlace → DslxType → Option (List Shape)
 alternatives_shaped [] place t = Some []
-alternatives_shaped (p ∷ ps) place t = with_both (p.lower place t) (alternatives_shaped ps place t) (λ s ss. Some (s.shape ∷ ss))
+alternatives_shaped (p ∷ ps) place t = with_both (lowered_at_place p place t) (alternatives_shaped ps place t) (λ s ss. Some (s.shape ∷ ss))
 
 -- the one pattern of an arm may bind names
 abbrev pub binding_arm : List LowersPattern → Lowers → CorePlace → DslxType → Option LoweredArm
-binding_arm (p ∷ []) value place t = and_then (p.lower place t) (λ s. and_then (value s.place) (arm_of (s.shape ∷ [])))
+binding_arm (p ∷ []) value place t = and_then (lowered_at_place p place t) (λ s. and_then (value s.place) (arm_of (s.shape ∷ [])))
 binding_arm _ value place t = None
 
 abbrev pub arm_lowered : LowersArm → CorePlace → DslxType → Option LoweredArm
@@ -106,8 +111,8 @@ abbrev pub loop_lowered : Option LoweredExpr → Option LoweredExpr → Option S
 loop_lowered start index first end i acc body place =
     with_both start index (λ start index.
     with_both first end (λ a b.
-    and_then (i.lower place index.ty) (λ i.
-    and_then (acc.lower i.place start.ty) (λ acc.
+    and_then (lowered_at_place i place index.ty) (λ i.
+    and_then (lowered_at_place acc i.place start.ty) (λ acc.
     and_then (body acc.place) (λ body.
     where_true (equal_type start.ty body.ty && nat_lt (turn_count a b) (2 ^ 64))
     (lowered (core.Loop (turn_count a b) a.word i.shape acc.shape body.core start.core) start.ty))))))
@@ -117,4 +122,4 @@ loop_lowered start index first end i acc body place =
 -- the rest of a block behind a `let`
 abbrev pub let_lowered : Lowers → LowersPattern → Lowers → Lowers
 let_lowered value pattern rest place =
-    and_then (value place) (λ e. and_then (pattern.lower place e.ty) (λ s. and_then (rest s.place) (λ r. lowered (core.Bind e.core s.shape r.core) r.ty)))
+    and_then (value place) (λ e. and_then (lowered_at_place pattern place e.ty) (λ s. and_then (rest s.place) (λ r. lowered (core.Bind e.core s.shape r.core) r.ty)))

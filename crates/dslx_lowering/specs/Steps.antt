@@ -32,7 +32,7 @@ use Rattle.dslx_lowering.specs.CorePlaces.{CoreKnown, CorePlace, with_local}
 use Rattle.dslx_lowering.specs.EqualTypes.{equal_type}
 use Rattle.dslx_lowering.specs.Functions.{CoreInstance, callee_in, numbers_stand, outer_place}
 use Rattle.dslx_lowering.specs.Lowering.{LoweredExpr, lowered}
-use Rattle.dslx_lowering.specs.Patterns.{LoweredShape, LowersPattern, shaped}
+use Rattle.dslx_lowering.specs.Patterns.{LoweredShape, LowersPattern, lowered_at_place, shaped}
 use Rattle.dslx_lowering.specs.Trees.{expression_lowered, lowered_sorts, lowering_steps, of_type, type_of_text_lowered}
 
 -- a pattern
@@ -120,7 +120,7 @@ abbrev pub binds_nothing : BindsAtPlace
 binds_nothing place t = shaped shape.Wild place
 
 abbrev pub statement_steps : CorePlace → List End → StmtLayer → LowersSteps → LowersSteps
-statement_steps outer ends (Stmt-F.Let l) rest place = act_lowered outer ends (act_of (out-Let l).value) (out-Let l).value (pattern_of_text_lowered (out-Let l).pattern).lower rest place
+statement_steps outer ends (Stmt-F.Let l) rest place = act_lowered outer ends (act_of (out-Let l).value) (out-Let l).value (lowered_at_place (pattern_of_text_lowered (out-Let l).pattern)) rest place
 statement_steps outer ends (Stmt-F.Bare e) rest place = act_lowered outer ends (act_of e) e binds_nothing rest place
 
 abbrev pub last_of_steps : Option Expr → CorePlace → Option LoweredExpr

@@ -84,13 +84,13 @@ shape_names_lowered (Shape-F.Shape::Name name) = name ∷ []
 shape_names_lowered (Shape-F.Shape::Tuple ps) = names_of_all (second_parts ps)
 shape_names_lowered _ = []
 
-abbrev pub shape_at : ShapePart lowered_sorts → CorePlace → DslxType → Option LoweredShape
-shape_at Shape-F.Wild place t = shaped shape.Wild place
-shape_at (Shape-F.Shape::Bool b) place t = value_shape (Some (bool_value b)) place t
-shape_at (Shape-F.Shape::Number n) place t = value_shape (n.1 place) place t
-shape_at (Shape-F.Shape::Name name) place t = name_shape name place t
-shape_at (Shape-F.Shape::Member e a) place t = value_shape (place.known.items.member e.name a.name) place t
-shape_at (Shape-F.Shape::Tuple ps) place t = tuple_shape (second_parts ps) place (out-DslxType t)
+abbrev pub shape_at : ShapePart lowered_sorts → CorePlace → CorePlace → DslxType → Option LoweredShape
+shape_at Shape-F.Wild outer place t = shaped shape.Wild place
+shape_at (Shape-F.Shape::Bool b) outer place t = value_shape (Some (bool_value b)) place t
+shape_at (Shape-F.Shape::Number n) outer place t = value_shape (n.1 outer) place t
+shape_at (Shape-F.Shape::Name name) outer place t = name_shape name place t
+shape_at (Shape-F.Shape::Member e a) outer place t = value_shape (place.known.items.member e.name a.name) place t
+shape_at (Shape-F.Shape::Tuple ps) outer place t = tuple_shape (second_parts ps) outer place (out-DslxType t)
 
 abbrev pub shape_lowered : ShapePart lowered_sorts → LowersPattern
 shape_lowered s = record { names = shape_names_lowered s; lower = shape_at s }
