@@ -1,5 +1,5 @@
 -- Sizes are 1 or more.
-use Rattle.std.proofs.Common.{◌≡◌, ℕ, zero, suc, Option, Some, None, refl, arith}
+use Rattle.std.proofs.Common.{◌≡◌, ℕ, zero, suc, Some, None, refl, arith}
 use Rattle.std.specs.Prelude.{◌≢◌}
 use Rattle.dslx_meaning.specs.Meaning.{some_count}
 

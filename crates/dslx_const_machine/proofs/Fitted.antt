@@ -1,7 +1,8 @@
 -- What comes of steps on patterns, matches and loops.
-use Rattle.std.proofs.Common.{◌≡◌, ℕ, zero, suc, Bool, true, false, List, [], ◌∷◌, ◌++◌, Option, Some, None, map, refl, sym, ap, ◌∙◌, if◌then◌else◌}
+use Rattle.std.proofs.Common.{◌≡◌, ℕ, zero, suc, Bool, true, false, List, [], ◌∷◌, ◌++◌, Option, Some, None, length, map, refl, sym, ap, ◌∙◌, if◌then◌else◌}
 use Rattle.std.specs.List.{list_all}
 use Rattle.std.proofs.lemmas.List.{append_assoc, append-nil}
+use Rattle.std.proofs.Math.Seq.{drop-append_seam}
 use Rattle.xb_bits.specs.Word.{Word, word}
 use Rattle.xb_bits.specs.Operations.{add}
 use Rattle.dslx_tree.specs.declared.block.Stmt.TheOpen.{Shape-F}
@@ -10,11 +11,11 @@ use Rattle.dslx_tree.specs.declared.expr.Expr.{Expr}
 use Rattle.dslx_tree.specs.declared.expr.For.{For, out-For}
 use Rattle.dslx_tree.specs.declared.item.Module.{Module}
 use Rattle.dslx_tree.specs.declared.pattern.Pattern.{Pattern}
-use Rattle.dslx_meaning.specs.Environment.{Env, bind}
+use Rattle.dslx_meaning.specs.Environment.{Env, Given, bind}
 use Rattle.dslx_meaning.specs.Items.{meanings_within}
 use Rattle.dslx_meaning.specs.Lists.{and_then, or_else, with_both}
 use Rattle.dslx_meaning.specs.Meaning as m
-use Rattle.dslx_meaning.specs.Meaning.{ArmMeant, PatternMeant, meant_pattern, value_of, fitted}
+use Rattle.dslx_meaning.specs.Meaning.{ArmMeant, PatternMeant, meant_pattern, value_of, value_of_block, fitted}
 use Rattle.dslx_meaning.specs.Operators.{of_one_type}
 use Rattle.dslx_meaning.specs.Values.{same_value, bool_value, elements_of, bits_of}
 use Rattle.dslx_meaning.specs.declared.value.DslxValue.{DslxValue, Bits}
@@ -23,30 +24,36 @@ use Rattle.dslx_const_machine.specs.Tasks.{ConstState, Waiting, Sequel, ThenStat
 use Rattle.dslx_const_machine.specs.Items.{is_constant_within}
 use Rattle.dslx_const_machine.specs.Layers.{PatternLayer, shape_of}
 use Rattle.dslx_const_machine.specs.Patterns as s
-use Rattle.dslx_const_machine.specs.States.{doing}
+use Rattle.dslx_const_machine.specs.States.{doing, binding_all}
 use Rattle.dslx_const_machine.proofs.Gathered.{uses_number_keeps}
-use Rattle.dslx_const_machine.proofs.Meanings.{pattern_opened, shape_means, arm_means, arm_by_parts, arm_opened, turn_of}
+use Rattle.dslx_const_machine.proofs.Meanings.{pattern_opened, shape_means, statements_mean, arm_means, arm_by_parts, arm_opened, turn_of}
 use Rattle.dslx_const_machine.proofs.Options.{in_turn, gives_itself, one_then_other}
-use Rattle.dslx_const_machine.proofs.Places.{place_of, env_in, gives, fitting, fit_all, rest_value, tried_value, names_in, value_if_nothing, from_first, answer, answer_of}
+use Rattle.dslx_const_machine.proofs.Places.{Place, place_of, env_in, env_behind, gives, forgot, fitting, fit_all, rest_value, tried_value, names_in, value_if_nothing, from_first, answer, answer_of}
 use Rattle.dslx_const_machine.proofs.Uses.{uses_constant_keeps, uses_member_keeps}
 
 -- ---- one pattern
 
-fails_keep : (k : ℕ) (next : Sequel) (run : ConstState) → answer_of (s.fails k next run) ≡ answer run.todo (fitting k next None (place_of run))
-fails_keep k (ThenStatements ss last) run = refl
-fails_keep k (ThenAccumulator p v b) run = refl
-fails_keep k (ThenBody b) run = refl
-fails_keep k (ThenArm ps a rest v) run = refl
+-- what is in sight where these names are bound too
+abbrev env_past : List Given → ConstState → Env
+env_past names run = env_behind names (place_of run)
 
-fits_if_keeps : (b : Bool) (work : List Waiting) (k : ℕ) (next : Sequel) (run : ConstState)
-    → answer_of (s.fits_if b work k next run) ≡ answer run.todo (fitting k next (and_then (if b then Some (env_in run) else None) (fit_all work)) (place_of run))
-fits_if_keeps true work k next run = refl
-fits_if_keeps false work k next run = fails_keep k next run
+fails_keep : (next : Sequel) (run : ConstState) → answer_of (s.fails next run) ≡ answer run.todo (fitting next None (place_of run))
+fails_keep (ThenStatements ss last) run = refl
+fails_keep (ThenAccumulator p v b) run = refl
+fails_keep (ThenBody k b) run = refl
+fails_keep (ThenArm ps a rest v) run = refl
 
-pub fits_if_same_keeps : (o : Option DslxValue) (v : DslxValue) (work : List Waiting) (k : ℕ) (next : Sequel) (run : ConstState)
-    → answer_of (s.fits_if_same o v work k next run) ≡ answer run.todo (fitting k next (and_then (m.fit_value o v (env_in run)) (fit_all work)) (place_of run))
-fits_if_same_keeps None v work k next run = fails_keep k next run
-fits_if_same_keeps (Some w) v work k next run = fits_if_keeps (same_value v w) work k next run
+fits_if_keeps : (b : Bool) (work : List Waiting) (names : List Given) (next : Sequel) (run : ConstState)
+    → answer_of (s.fits_if b work names next run)
+    ≡ answer run.todo (fitting next (and_then (if b then Some (env_past names run) else None) (fit_all (env_in run) work)) (place_of run))
+fits_if_keeps true work names next run = refl
+fits_if_keeps false work names next run = fails_keep next run
+
+pub fits_if_same_keeps : (o : Option DslxValue) (v : DslxValue) (work : List Waiting) (names : List Given) (next : Sequel) (run : ConstState)
+    → answer_of (s.fits_if_same o v work names next run)
+    ≡ answer run.todo (fitting next (and_then (m.fit_value o v (env_past names run)) (fit_all (env_in run) work)) (place_of run))
+fits_if_same_keeps None v work names next run = fails_keep next run
+fits_if_same_keeps (Some w) v work names next run = fits_if_keeps (same_value v w) work names next run
 
 constant_is : (text : Module) (n : ℕ) (name : List ℕ) → (meanings_within text n).is_constant name ≡ is_constant_within text n name
 constant_is text zero name = refl
@@ -56,61 +63,81 @@ constant_is text (suc n) name = refl
 abbrev named_fits : Bool → List ℕ → DslxValue → Env → Option Env
 named_fits b name v env = if b then m.fit_value (env.items.constant name) v env else Some (bind name v env)
 
-fits_name_keeps : (b : Bool) (name : List ℕ) (v : DslxValue) (work : List Waiting) (k : ℕ) (next : Sequel) (run : ConstState)
-    → answer_of (s.fits_name b name v work k next run) ≡ answer run.todo (fitting k next (and_then (named_fits b name v (env_in run)) (fit_all work)) (place_of run))
-fits_name_keeps true name v work k next run = uses_constant_keeps name (doing (Compares v work k next ∷ []) run)
-fits_name_keeps false name v work k next run = refl
+fits_name_keeps : (b : Bool) (name : List ℕ) (v : DslxValue) (work : List Waiting) (names : List Given) (next : Sequel) (run : ConstState)
+    → answer_of (s.fits_name b name v work names next run)
+    ≡ answer run.todo (fitting next (and_then (named_fits b name v (env_past names run)) (fit_all (env_in run) work)) (place_of run))
+fits_name_keeps true name v work names next run = uses_constant_keeps name (doing (Compares v work names next ∷ []) run)
+fits_name_keeps false name v work names next run = refl
 
-fits_parts_keep : (o : Option (List DslxValue)) (ps : List Pattern) (work : List Waiting) (k : ℕ) (next : Sequel) (run : ConstState)
-    → answer_of (s.fits_parts o ps work k next run)
-    ≡ answer run.todo (fitting k next (and_then (and_then o (λ vs. m.fit_each (map meant_pattern ps) vs (env_in run))) (fit_all work)) (place_of run))
-fits_parts_keep None ps work k next run = fails_keep k next run
-fits_parts_keep (Some vs) ps work k next run = refl
+fits_parts_keep : (o : Option (List DslxValue)) (ps : List Pattern) (work : List Waiting) (names : List Given) (next : Sequel) (run : ConstState)
+    → answer_of (s.fits_parts o ps work names next run)
+    ≡ answer run.todo (fitting next (and_then (and_then o (λ vs. m.fit_each (env_in run) (map meant_pattern ps) vs (env_past names run))) (fit_all (env_in run) work)) (place_of run))
+fits_parts_keep None ps work names next run = fails_keep next run
+fits_parts_keep (Some vs) ps work names next run = refl
 
-fits_shape_keeps : (x : PatternLayer) (v : DslxValue) (work : List Waiting) (k : ℕ) (next : Sequel) (run : ConstState)
-    → answer_of (s.fits_shape x v work k next run) ≡ answer run.todo (fitting k next (and_then ((shape_means x).fits v (env_in run)) (fit_all work)) (place_of run))
-fits_shape_keeps Shape-F.Wild v work k next run = refl
-fits_shape_keeps (Shape-F.Shape::Bool b) v work k next run = fits_if_keeps (same_value v (bool_value b)) work k next run
-fits_shape_keeps (Shape-F.Shape::Number n) v work k next run = uses_number_keeps n (doing (Compares v work k next ∷ []) run)
-fits_shape_keeps (Shape-F.Shape::Name name) v work k next run =
-    fits_name_keeps (is_constant_within run.text run.left name) name v work k next run
-    ∙ ap (λ b. answer run.todo (fitting k next (and_then (named_fits b name v (env_in run)) (fit_all work)) (place_of run))) (sym (constant_is run.text run.left name))
-fits_shape_keeps (Shape-F.Shape::Member e a) v work k next run = uses_member_keeps e.name a.name (doing (Compares v work k next ∷ []) run)
-fits_shape_keeps (Shape-F.Shape::Tuple ps) v work k next run = fits_parts_keep (elements_of v) ps work k next run
+fits_shape_keeps : (x : PatternLayer) (v : DslxValue) (work : List Waiting) (names : List Given) (next : Sequel) (run : ConstState)
+    → answer_of (s.fits_shape x v work names next run)
+    ≡ answer run.todo (fitting next (and_then ((shape_means x).fits (env_in run) v (env_past names run)) (fit_all (env_in run) work)) (place_of run))
+fits_shape_keeps Shape-F.Wild v work names next run = refl
+fits_shape_keeps (Shape-F.Shape::Bool b) v work names next run = fits_if_keeps (same_value v (bool_value b)) work names next run
+fits_shape_keeps (Shape-F.Shape::Number n) v work names next run = uses_number_keeps n (doing (Compares v work names next ∷ []) run)
+fits_shape_keeps (Shape-F.Shape::Name name) v work names next run =
+    fits_name_keeps (is_constant_within run.text run.left name) name v work names next run
+    ∙ ap (λ b. answer run.todo (fitting next (and_then (named_fits b name v (env_past names run)) (fit_all (env_in run) work)) (place_of run)))
+    (sym (constant_is run.text run.left name))
+fits_shape_keeps (Shape-F.Shape::Member e a) v work names next run = uses_member_keeps e.name a.name (doing (Compares v work names next ∷ []) run)
+fits_shape_keeps (Shape-F.Shape::Tuple ps) v work names next run = fits_parts_keep (elements_of v) ps work names next run
 
-pub fits_one_keeps : (p : Pattern) (v : DslxValue) (work : List Waiting) (k : ℕ) (next : Sequel) (run : ConstState)
-    → answer_of (s.fits_one p v work k next run) ≡ answer run.todo (fitting k next (and_then (fitted p v (env_in run)) (fit_all work)) (place_of run))
-fits_one_keeps p v work k next run =
-    fits_shape_keeps (shape_of p) v work k next run
-    ∙ ap (λ (x : PatternMeant). answer run.todo (fitting k next (and_then (x.fits v (env_in run)) (fit_all work)) (place_of run))) (sym (pattern_opened p))
+-- a pattern at a place, where these names of the whole pattern are bound already
+abbrev fits_past : Pattern → DslxValue → List Given → ConstState → Option Env
+fits_past p v names run = (meant_pattern p).fits (env_in run) v (env_past names run)
 
--- a pattern behind which nothing waits
-pub fits_alone : (p : Pattern) (v : DslxValue) (k : ℕ) (next : Sequel) (run : ConstState)
-    → answer_of (s.fits_one p v [] k next run) ≡ answer run.todo (fitting k next (fitted p v (env_in run)) (place_of run))
-fits_alone p v k next run = fits_one_keeps p v [] k next run ∙ ap (λ o. answer run.todo (fitting k next o (place_of run))) (gives_itself (fitted p v (env_in run)))
+pub fits_one_keeps : (p : Pattern) (v : DslxValue) (work : List Waiting) (names : List Given) (next : Sequel) (run : ConstState)
+    → answer_of (s.fits_one p v work names next run)
+    ≡ answer run.todo (fitting next (and_then (fits_past p v names run) (fit_all (env_in run) work)) (place_of run))
+fits_one_keeps p v work names next run =
+    fits_shape_keeps (shape_of p) v work names next run
+    ∙ ap (λ (x : PatternMeant). answer run.todo (fitting next (and_then (x.fits (env_in run) v (env_past names run)) (fit_all (env_in run) work)) (place_of run)))
+    (sym (pattern_opened p))
+
+-- a pattern in which nothing is bound yet, and behind which nothing waits
+pub fits_alone : (p : Pattern) (v : DslxValue) (next : Sequel) (run : ConstState)
+    → answer_of (s.fits_one p v [] [] next run) ≡ answer run.todo (fitting next (fitted p v (env_in run)) (place_of run))
+fits_alone p v next run = fits_one_keeps p v [] [] next run ∙ ap (λ o. answer run.todo (fitting next o (place_of run))) (gives_itself (fitted p v (env_in run)))
 
 -- ---- all patterns
 
-goes_on_keeps : (k : ℕ) (next : Sequel) (run : ConstState) → answer_of (s.goes_on k next run) ≡ answer run.todo (fitting k next (Some (env_in run)) (place_of run))
-goes_on_keeps k (ThenStatements ss last) run = refl
-goes_on_keeps k (ThenAccumulator p v b) run = fits_alone p v k (ThenBody b) run
-goes_on_keeps k (ThenBody b) run = refl
-goes_on_keeps k (ThenArm ps a rest v) run = refl
+-- with other names bound
+abbrev bound_as : Place → List Given → Place
+bound_as p bound = record p { bound = bound }
 
-fits_first_keeps : (ps : List Pattern) (vs : List DslxValue) (work : List Waiting) (k : ℕ) (next : Sequel) (run : ConstState)
-    → answer_of (s.fits_first ps vs work k next run)
-    ≡ answer run.todo (fitting k next (and_then (m.fit_each (map meant_pattern ps) vs (env_in run)) (fit_all work)) (place_of run))
-fits_first_keeps [] [] work k next run = refl
-fits_first_keeps [] (v ∷ vs) work k next run = fails_keep k next run
-fits_first_keeps (p ∷ ps) [] work k next run = fails_keep k next run
-fits_first_keeps (p ∷ ps) (v ∷ vs) work k next run =
-    fits_one_keeps p v (record { patterns = ps; values = vs } ∷ work) k next run
-    ∙ ap (λ o. answer run.todo (fitting k next o (place_of run))) (sym (in_turn (fitted p v (env_in run)) (m.fit_each (map meant_pattern ps) vs) (fit_all work)))
+goes_on_keeps : (names : List Given) (next : Sequel) (run : ConstState)
+    → answer_of (s.goes_on names next run) ≡ answer run.todo (fitting next (Some (env_past names run)) (place_of run))
+goes_on_keeps names (ThenStatements ss last) run =
+    ap (λ bound. answer run.todo (bound_as (gives (statements_mean ss last (env_past names run)) (place_of run)) bound)) (drop-append_seam names run.bound)
+goes_on_keeps names (ThenAccumulator p v b) run =
+    fits_alone p v (ThenBody (length names) b) (binding_all names run)
+    ∙ ap (λ bound. answer run.todo (bound_as (gives (and_then (fitted p v (env_past names run)) (value_of_block b)) (place_of run)) bound)) (drop-append_seam names run.bound)
+goes_on_keeps names (ThenBody k b) run =
+    ap (λ bound. answer run.todo (forgot k (bound_as (gives (value_of_block b (env_past names run)) (place_of run)) bound))) (drop-append_seam names run.bound)
+goes_on_keeps names (ThenArm ps a rest v) run =
+    ap (λ bound. answer run.todo (bound_as (gives (value_of (out-Arm a).value (env_past names run)) (place_of run)) bound)) (drop-append_seam names run.bound)
 
-pub fits_all_keep : (work : List Waiting) (k : ℕ) (next : Sequel) (run : ConstState)
-    → answer_of (s.fits_all work k next run) ≡ answer run.todo (fitting k next (fit_all work (env_in run)) (place_of run))
-fits_all_keep [] k next run = goes_on_keeps k next run
-fits_all_keep (w ∷ work) k next run = fits_first_keeps w.patterns w.values work k next run
+fits_first_keeps : (ps : List Pattern) (vs : List DslxValue) (work : List Waiting) (names : List Given) (next : Sequel) (run : ConstState)
+    → answer_of (s.fits_first ps vs work names next run)
+    ≡ answer run.todo (fitting next (and_then (m.fit_each (env_in run) (map meant_pattern ps) vs (env_past names run)) (fit_all (env_in run) work)) (place_of run))
+fits_first_keeps [] [] work names next run = refl
+fits_first_keeps [] (v ∷ vs) work names next run = fails_keep next run
+fits_first_keeps (p ∷ ps) [] work names next run = fails_keep next run
+fits_first_keeps (p ∷ ps) (v ∷ vs) work names next run =
+    fits_one_keeps p v (record { patterns = ps; values = vs } ∷ work) names next run
+    ∙ ap (λ o. answer run.todo (fitting next o (place_of run)))
+    (sym (in_turn (fits_past p v names run) (m.fit_each (env_in run) (map meant_pattern ps) vs) (fit_all (env_in run) work)))
+
+pub fits_all_keep : (work : List Waiting) (names : List Given) (next : Sequel) (run : ConstState)
+    → answer_of (s.fits_all work names next run) ≡ answer run.todo (fitting next (fit_all (env_in run) work (env_past names run)) (place_of run))
+fits_all_keep [] names next run = goes_on_keeps names next run
+fits_all_keep (w ∷ work) names next run = fits_first_keeps w.patterns w.values work names next run
 
 -- ---- matches
 
@@ -135,7 +162,7 @@ pub tries_keep : (ps : List Pattern) (a : Arm) (rest : List Arm) (v : DslxValue)
     → answer_of (s.tries ps a rest v run) ≡ answer run.todo (gives (tried_value ps a rest v (env_in run)) (place_of run))
 tries_keep [] a rest v run = last_or_next_keeps a rest v run
 tries_keep (p ∷ ps) a rest v run =
-    fits_alone p v 0 (ThenArm ps a rest v) run
+    fits_alone p v (ThenArm ps a rest v) run
     ∙ ap (λ o. answer run.todo (gives o (place_of run)))
     (either_fits (arm_by_parts a) (fitted p v (env_in run)) (m.first_fit (map meant_pattern ps) v (env_in run)) (rest_value a rest v (env_in run)))
 
@@ -185,7 +212,7 @@ pub turns_keep : (f : For) (signed : Bool) (n : ℕ) (i : Word) (o : Option Dslx
 turns_keep f signed n i None run = refl
 turns_keep f signed zero i (Some v) run = refl
 turns_keep f signed (suc n) i (Some v) run =
-    fits_alone (out-For f).index (Bits signed i) 0 (ThenAccumulator (out-For f).accumulator v (out-For f).body) (doing (Turns f signed n (add i (word i.width 1)) ∷ []) run)
+    fits_alone (out-For f).index (Bits signed i) (ThenAccumulator (out-For f).accumulator v (out-For f).body) (doing (Turns f signed n (add i (word i.width 1)) ∷ []) run)
 
 pub last_keeps : (f : For) (start : DslxValue) (a : SignedWord) (o : Option SignedWord) (run : ConstState)
     → answer_of (s.last_found f start a o run) ≡ answer run.todo (gives (and_then o (m.loop_over (turn_of f (env_in run)) start a)) (place_of run))

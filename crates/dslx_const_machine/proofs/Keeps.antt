@@ -132,7 +132,7 @@ bind_keeps : (o : Option DslxValue) (p : Pattern) (ss : List Stmt) (last : Optio
     → answer_of (s.bind_begins o p ss last run)
     ≡ answer run.todo (gives (and_then o (λ v. and_then (fitted p v (env_in run)) (statements_mean ss last))) (place_of run))
 bind_keeps None p ss last run = refl
-bind_keeps (Some v) p ss last run = fits_alone p v 0 (ThenStatements ss last) run
+bind_keeps (Some v) p ss last run = fits_alone p v (ThenStatements ss last) run
 
 passes_keep : (o : Option DslxValue) (ss : List Stmt) (last : Option Expr) (run : ConstState)
     → answer_of (s.passes o ss last run) ≡ answer run.todo (gives (and_then o (λ v. statements_mean ss last (env_in run))) (place_of run))
@@ -226,8 +226,8 @@ keeps (task.GathersFields name names vs fields rest) run = sym (field_gathered_k
 keeps (task.Selects arms) run = sym (selection_keeps arms (value_in run.found) (without_finding run))
 keeps (task.Tries ps a rest v) run = sym (tries_keep ps a rest v run)
 keeps (task.BindsNothing pss e) run = sym (all_bind_nothing_keep pss e run)
-keeps (task.Fits work k next) run = sym (fits_all_keep work k next run)
-keeps (task.Compares v work k next) run = sym (fits_if_same_keeps (value_in run.found) v work k next (without_finding run))
+keeps (task.Fits work names next) run = sym (fits_all_keep work names next run)
+keeps (task.Compares v work names next) run = sym (fits_if_same_keeps (value_in run.found) v work names next (without_finding run))
 keeps (task.Forgets k) run = refl
 keeps (task.StartsLoop f) run = sym (loop_keeps f (value_in run.found) (without_finding run))
 keeps (task.FindsFirst f start) run = sym (first_keeps f start (and_then (value_in run.found) bits_of) (without_finding run))

@@ -13,7 +13,7 @@ use Rattle.dslx_tree.specs.declared.item.Struct.{Struct as StructItem}
 use Rattle.dslx_tree.specs.declared.pattern.Pattern.{Pattern}
 use Rattle.dslx_tree.specs.declared.type_expr.TypeExpr.{TypeExpr}
 use Rattle.dslx_meaning.specs.Callees.{kind_of_call}
-use Rattle.dslx_meaning.specs.Environment.{Env, Given}
+use Rattle.dslx_meaning.specs.Environment.{Env, Given, with_bound}
 use Rattle.dslx_meaning.specs.Items.{meanings_within, all_numbers, numbers_bound, operands_bound, enum_member, name_of_field}
 use Rattle.dslx_meaning.specs.Lists.{all_some, and_then, with_both, where_true}
 use Rattle.dslx_meaning.specs.Meaning as m
@@ -49,6 +49,10 @@ env_at p = record { items = meanings_within p.text p.left; bound = p.bound }
 
 abbrev pub env_in : ConstState → Env
 env_in run = record { items = meanings_within run.text run.left; bound = run.bound }
+
+-- where these names are bound too, the last one first
+abbrev pub env_behind : List Given → Place → Env
+env_behind names p = with_bound (env_at p) (names ++ p.bound)
 
 abbrev pub gives : Option DslxValue → Place → Place
 gives v p = record p { found = ValueFound v }
@@ -97,9 +101,9 @@ rest_in env rest = m.rest_of (option_map meant rest) env
 -- ---- patterns
 
 -- what is bound where all that waits fits
-abbrev pub fit_all : List Waiting → Env → Option Env
-fit_all [] env = Some env
-fit_all (w ∷ work) env = and_then (m.fit_each (map meant_pattern w.patterns) w.values env) (fit_all work)
+abbrev pub fit_all : Env → List Waiting → Env → Option Env
+fit_all place [] env = Some env
+fit_all place (w ∷ work) env = and_then (m.fit_each place (map meant_pattern w.patterns) w.values env) (fit_all place work)
 
 -- behind an arm that doesn't fit
 abbrev pub rest_value : Arm → List Arm → DslxValue → Env → Option DslxValue
@@ -114,12 +118,17 @@ tried_value ps a rest v env = m.take_arm (arm_by_parts a) (m.first_fit (map mean
 abbrev pub sequel_value : Sequel → Option Env → Env → Option DslxValue
 sequel_value (ThenStatements ss last) inner env = and_then inner (statements_mean ss last)
 sequel_value (ThenAccumulator p v b) inner env = and_then inner (λ within. and_then (fitted p v within) (value_of_block b))
-sequel_value (ThenBody b) inner env = and_then inner (value_of_block b)
+sequel_value (ThenBody k b) inner env = and_then inner (value_of_block b)
 sequel_value (ThenArm ps a rest v) inner env = m.take_arm (arm_by_parts a) inner (tried_value ps a rest v env)
 
+-- how many names of a loop's index are bound until then
+abbrev pub names_of_index : Sequel → ℕ
+names_of_index (ThenBody k b) = k
+names_of_index _ = 0
+
 -- a pattern that what is bound fits or not, and what comes behind it
-abbrev pub fitting : ℕ → Sequel → Option Env → Place → Place
-fitting k next inner p = record p { found = ValueFound (sequel_value next inner (env_at (forgot k p))); bound = drop k p.bound }
+abbrev pub fitting : Sequel → Option Env → Place → Place
+fitting next inner p = forgot (names_of_index next) (gives (sequel_value next inner (env_at p)) p)
 
 abbrev pub names_in : List (List Pattern) → List (List ℕ)
 names_in [] = []
@@ -195,8 +204,8 @@ done (task.GathersFields name names vs fields rest) p =
 done (task.Selects arms) p = gives (and_then (value_in p.found) (λ v. m.match_arms (map arm_means arms) v (env_at p))) p
 done (task.Tries ps a rest v) p = gives (tried_value ps a rest v (env_at p)) p
 done (task.BindsNothing pss e) p = gives (value_if_nothing pss e (env_at p)) p
-done (task.Fits work k next) p = fitting k next (fit_all work (env_at p)) p
-done (task.Compares v work k next) p = fitting k next (and_then (m.fit_value (value_in p.found) v (env_at p)) (fit_all work)) p
+done (task.Fits work names next) p = fitting next (fit_all (env_at p) work (env_behind names p)) p
+done (task.Compares v work names next) p = fitting next (and_then (m.fit_value (value_in p.found) v (env_behind names p)) (fit_all (env_at p) work)) p
 done (task.Forgets k) p = forgot k p
 done (task.StartsLoop f) p = gives (and_then (value_in p.found) (λ start. from_first f start (value_of (out-For f).from (env_at p)) (env_at p))) p
 done (task.FindsFirst f start) p = gives (from_first f start (value_in p.found) (env_at p)) p

@@ -53,6 +53,10 @@ forgetting k run = record run { bound = drop k run.bound }
 abbrev pub binding : List ℕ → DslxValue → ConstState → ConstState
 binding name v run = record run { bound = record { name = name; value = v } ∷ run.bound }
 
+-- all these, the last one first
+abbrev pub binding_all : List Given → ConstState → ConstState
+binding_all names run = record run { bound = names ++ run.bound }
+
 -- one less, if there is one
 abbrev pub one_less : ℕ → Option ℕ
 one_less zero = None

@@ -118,7 +118,7 @@ statements_begin (s ∷ ss) last run = stmt_begins (out-Stmt s) ss last run
 
 abbrev pub bind_begins : Option DslxValue → Pattern → List Stmt → Option Expr → ConstState → ConstState
 bind_begins None p ss last run = finds_value None run
-bind_begins (Some v) p ss last run = fits_one p v [] 0 (ThenStatements ss last) run
+bind_begins (Some v) p ss last run = fits_one p v [] [] (ThenStatements ss last) run
 
 abbrev pub passes : Option DslxValue → List Stmt → Option Expr → ConstState → ConstState
 passes None ss last run = finds_value None run
@@ -196,8 +196,8 @@ stepped (task.GathersFields name names vs fields rest) run = field_gathered name
 stepped (task.Selects arms) run = selection_begins arms (value_in run.found) (without_finding run)
 stepped (task.Tries ps a rest v) run = tries ps a rest v run
 stepped (task.BindsNothing pss e) run = all_bind_nothing pss e run
-stepped (task.Fits work k next) run = fits_all work k next run
-stepped (task.Compares v work k next) run = fits_if_same (value_in run.found) v work k next (without_finding run)
+stepped (task.Fits work names next) run = fits_all work names next run
+stepped (task.Compares v work names next) run = fits_if_same (value_in run.found) v work names next (without_finding run)
 stepped (task.Forgets k) run = forgetting k run
 stepped (task.StartsLoop f) run = loop_begins f (value_in run.found) (without_finding run)
 stepped (task.FindsFirst f start) run = first_found f start (and_then (value_in run.found) bits_of) (without_finding run)

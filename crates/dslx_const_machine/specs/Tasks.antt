@@ -67,7 +67,8 @@ pub data Sequel : Type 0 where
   ThenStatements : List Stmt → Option Expr → Sequel
   -- a turn of a loop: the pattern of what is accumulated, that, and the body
   ThenAccumulator : Pattern → DslxValue → Block → Sequel
-  ThenBody : Block → Sequel
+  -- its body, behind as many names of the index's pattern
+  ThenBody : ℕ → Block → Sequel
   -- an arm of a match; else its other patterns, and the arms behind it
   ThenArm : List Pattern → Arm → List Arm → DslxValue → Sequel
 
@@ -117,10 +118,10 @@ pub data ConstTask : Type 0 where
   Tries : List Pattern → Arm → List Arm → DslxValue → ConstTask
   -- an expression behind patterns that may bind nothing
   BindsNothing : List (List Pattern) → Expr → ConstTask
-  -- what is still to fit, how many names are bound so far, and what comes behind
-  Fits : List Waiting → ℕ → Sequel → ConstTask
+  -- what is still to fit, what the pattern binds so far, the last one first, and what comes behind
+  Fits : List Waiting → List Given → Sequel → ConstTask
   -- the value that is to be fitted is to be the one that is found
-  Compares : DslxValue → List Waiting → ℕ → Sequel → ConstTask
+  Compares : DslxValue → List Waiting → List Given → Sequel → ConstTask
   -- so many names are bound no more
   Forgets : ℕ → ConstTask
   StartsLoop : For → ConstTask

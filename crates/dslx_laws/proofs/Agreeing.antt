@@ -146,11 +146,15 @@ fits_behind ns ms a b (Some a') (Some b') fa fb h rest = widen (fa a') (fb b') (
     widen (Some a'') None k = absurd k
     widen (Some a'') (Some b'') k = one_behind ns ms a b a' b' a'' b'' h k
 
+-- whatever else is bound there
+pub whatever_is_bound : (ns : List (List ℕ)) (a b a' b' : Env) → Extend ns a b a' b' → Extend [] a b a' b'
+whatever_is_bound ns a b a' b' h = record { first_items = h.first_items; second_items = h.second_items; kept = h.kept; bound = tt }
+
 pub binds_nothing : (ns : List (List ℕ)) (a b : Env) (oa ob : Option Env) → FitAlike ns a b oa ob → FitAlike [] a b oa ob
 binds_nothing ns a b None None h = tt
 binds_nothing ns a b None (Some b') h = absurd h
 binds_nothing ns a b (Some a') None h = absurd h
-binds_nothing ns a b (Some a') (Some b') h = record { first_items = h.first_items; second_items = h.second_items; kept = h.kept; bound = tt }
+binds_nothing ns a b (Some a') (Some b') h = whatever_is_bound ns a b a' b' h
 
 pub first_or_rest : (ns : List (List ℕ)) (a b : Env) (oa ob ra rb : Option Env) → FitAlike ns a b oa ob → FitAlike ns a b ra rb → FitAlike ns a b (or_else oa ra) (or_else ob rb)
 first_or_rest ns a b None None ra rb h k = k

@@ -19,9 +19,9 @@ use Rattle.dslx_meaning.specs.declared.ty.DslxType.TheOpen.{DslxType-F}
 use Rattle.dslx_meaning.specs.declared.value.DslxValue.{DslxValue, Tuple, Array, Struct}
 use Rattle.dslx_meaning.specs.declared.value.Bare.{Bare}
 use Rattle.dslx_rules.specs.Mentions as k
-use Rattle.dslx_rules.specs.Mentions.{AsFunction, Mention, Mentions, NamesBound, mention, all_mentions, binders_mentions, binders_names, bound_behind, statements_mentions, mentions_if}
+use Rattle.dslx_rules.specs.Mentions.{AsEnum, AsFunction, AsPattern, Mention, Mentions, NamesBound, mention, all_mentions, binders_mentions, binders_names, bound_behind, statements_mentions, mentions_if}
 use Rattle.dslx_laws.specs.Agreement.{AgreeOn}
-use Rattle.dslx_laws.proofs.Agreeing.{NamesAgree, ConstantsAgree, parts, three_parts, names_join, names_first, constants_join, all_constants_same, constants_values, name_same, Extend, FitAlike, unchanged, names_move, mentions_move, bound_moves, fits_behind, binds_nothing, first_or_rest, made_alike, value_fits, name_fits}
+use Rattle.dslx_laws.proofs.Agreeing.{NamesAgree, ConstantsAgree, parts, three_parts, names_join, names_first, constants_join, all_constants_same, constants_values, name_same, Extend, FitAlike, unchanged, names_move, mentions_move, meaning_moves, bound_moves, one_behind, whatever_is_bound, fits_behind, binds_nothing, first_or_rest, made_alike, value_fits, name_fits}
 
 -- ---- the two folds
 
@@ -119,7 +119,8 @@ GoingDepends g n = (bound : List (List ℕ)) (a b : Env) (rest : Evaluates) → 
 
 pub record PatternDepends (p : PatternMeant) (n : NamesBound) : Type 0 where
   pub same_names : p.names ≡ n.names
-  pub fits : (bound : List (List ℕ)) (a b : Env) (v : DslxValue) → NamesAgree bound a b → AgreeOn (n.mentions bound) a b → FitAlike n.names a b (p.fits v a) (p.fits v b)
+  pub fits : (bound : List (List ℕ)) (a b a' b' : Env) (v : DslxValue) → NamesAgree bound a b → AgreeOn (n.mentions bound) a b → Extend [] a b a' b'
+      → FitAlike n.names a' b' (p.fits a v a') (p.fits b v b')
   pub constants : (bound : List (List ℕ)) (a b : Env) → AgreeOn (n.mentions bound) a b → ConstantsAgree p.names a b
 
 pub record ArmDepends (arm : ArmMeant) (ms : Mentions) : Type 0 where
@@ -261,22 +262,27 @@ patterns_constants (p ∷ ps) bound a b h =
     let r = parts a b (p.1.mentions bound) (binders_mentions (map (λ (y : PatternPart). y.1) ps) bound) h in
     constants_join a b p.0.names (m.all_names (map (λ (y : PatternPart). y.0) ps)) (p.2.constants bound a b r.0) (patterns_constants ps bound a b r.1)
 
-each_fits : (ps : List PatternPart) (vs : List DslxValue) (bound : List (List ℕ)) (a b : Env) → NamesAgree bound a b → AgreeOn (binders_mentions (map (λ x. x.1) ps) bound) a b
-    → FitAlike (binders_names (map (λ x. x.1) ps)) a b (m.fit_each (map (λ x. x.0) ps) vs a) (m.fit_each (map (λ x. x.0) ps) vs b)
-each_fits [] [] bound a b n h = unchanged [] a b tt
-each_fits [] (v ∷ vs) bound a b n h = tt
-each_fits (p ∷ ps) [] bound a b n h = tt
-each_fits (p ∷ ps) (v ∷ vs) bound a b n h =
-    let rest = binders_mentions (map (λ (y : PatternPart). y.1) ps) bound in
-    let r = parts a b (p.1.mentions bound) rest h in
-    fits_behind p.1.names (binders_names (map (λ (y : PatternPart). y.1) ps)) a b (p.0.fits v a) (p.0.fits v b)
-    (m.fit_each (map (λ (y : PatternPart). y.0) ps) vs) (m.fit_each (map (λ (y : PatternPart). y.0) ps) vs) (p.2.fits bound a b v n r.0)
-    (λ a' b' x. each_fits ps vs bound a' b' (names_move p.1.names bound a b a' b' x n) (mentions_move p.1.names a b a' b' x rest r.1))
+each_fits : (ps : List PatternPart) (vs : List DslxValue) (bound : List (List ℕ)) (a b a' b' : Env) → NamesAgree bound a b → AgreeOn (binders_mentions (map (λ x. x.1) ps) bound) a b
+    → Extend [] a b a' b' → FitAlike (binders_names (map (λ x. x.1) ps)) a' b' (m.fit_each a (map (λ x. x.0) ps) vs a') (m.fit_each b (map (λ x. x.0) ps) vs b')
+each_fits [] [] bound a b a' b' n h x = unchanged [] a' b' tt
+each_fits [] (v ∷ vs) bound a b a' b' n h x = tt
+each_fits (p ∷ ps) [] bound a b a' b' n h x = tt
+each_fits (p ∷ ps) (v ∷ vs) bound a b a' b' n h x =
+    let r = parts a b (p.1.mentions bound) (binders_mentions (map (λ (y : PatternPart). y.1) ps) bound) h in
+    fits_behind p.1.names (binders_names (map (λ (y : PatternPart). y.1) ps)) a' b' (p.0.fits a v a') (p.0.fits b v b')
+    (m.fit_each a (map (λ (y : PatternPart). y.0) ps) vs) (m.fit_each b (map (λ (y : PatternPart). y.0) ps) vs) (p.2.fits bound a b a' b' v n r.0 x)
+    (λ a'' b'' y. each_fits ps vs bound a b a'' b'' n r.1 (one_behind [] [] a b a' b' a'' b'' x (whatever_is_bound p.1.names a' b' a'' b'' y)))
 
-tuple_fits : (ps : List PatternPart) (o : Option (List DslxValue)) (bound : List (List ℕ)) (a b : Env) → NamesAgree bound a b → AgreeOn (binders_mentions (map (λ x. x.1) ps) bound) a b
-    → FitAlike (binders_names (map (λ x. x.1) ps)) a b (and_then o (λ vs. m.fit_each (map (λ x. x.0) ps) vs a)) (and_then o (λ vs. m.fit_each (map (λ x. x.0) ps) vs b))
-tuple_fits ps None bound a b n h = tt
-tuple_fits ps (Some vs) bound a b n h = each_fits ps vs bound a b n h
+tuple_fits : (ps : List PatternPart) (o : Option (List DslxValue)) (bound : List (List ℕ)) (a b a' b' : Env) → NamesAgree bound a b
+    → AgreeOn (binders_mentions (map (λ x. x.1) ps) bound) a b → Extend [] a b a' b'
+    → FitAlike (binders_names (map (λ x. x.1) ps)) a' b' (and_then o (λ vs. m.fit_each a (map (λ x. x.0) ps) vs a')) (and_then o (λ vs. m.fit_each b (map (λ x. x.0) ps) vs b'))
+tuple_fits ps None bound a b a' b' n h x = tt
+tuple_fits ps (Some vs) bound a b a' b' n h x = each_fits ps vs bound a b a' b' n h x
+
+-- at its own place
+fits_there : (p : PatternPart) (bound : List (List ℕ)) (a b : Env) (v : DslxValue) → NamesAgree bound a b → AgreeOn (p.1.mentions bound) a b
+    → FitAlike p.1.names a b (m.fits_at_place p.0 v a) (m.fits_at_place p.0 v b)
+fits_there p bound a b v n h = p.2.fits bound a b a b v n h (unchanged [] a b tt)
 
 -- ---- arms
 
@@ -285,14 +291,14 @@ any_fits : (ps : List PatternPart) (v : DslxValue) (bound : List (List ℕ)) (a 
 any_fits [] v bound a b n h = tt
 any_fits (p ∷ ps) v bound a b n h =
     let r = parts a b (p.1.mentions bound) (binders_mentions (map (λ (y : PatternPart). y.1) ps) bound) h in
-    first_or_rest [] a b (p.0.fits v a) (p.0.fits v b) (m.first_fit (map (λ (y : PatternPart). y.0) ps) v a) (m.first_fit (map (λ (y : PatternPart). y.0) ps) v b)
-    (binds_nothing p.1.names a b (p.0.fits v a) (p.0.fits v b) (p.2.fits bound a b v n r.0)) (any_fits ps v bound a b n r.1)
+    first_or_rest [] a b (m.fits_at_place p.0 v a) (m.fits_at_place p.0 v b) (m.first_fit (map (λ (y : PatternPart). y.0) ps) v a) (m.first_fit (map (λ (y : PatternPart). y.0) ps) v b)
+    (binds_nothing p.1.names a b (m.fits_at_place p.0 v a) (m.fits_at_place p.0 v b) (fits_there p bound a b v n r.0)) (any_fits ps v bound a b n r.1)
 
 alternatives_fit : (ps : List PatternPart) (v : DslxValue) (bound : List (List ℕ)) (a b : Env) → NamesAgree bound a b → AgreeOn (binders_mentions (map (λ x. x.1) ps) bound) a b
     → FitAlike (bound_behind (map (λ x. x.1) ps)) a b (m.first_fit (map (λ x. x.0) ps) v a) (m.first_fit (map (λ x. x.0) ps) v b)
 alternatives_fit [] v bound a b n h = tt
 alternatives_fit (p ∷ []) v bound a b n h =
-    first_or_rest p.1.names a b (p.0.fits v a) (p.0.fits v b) None None (p.2.fits bound a b v n (parts a b (p.1.mentions bound) [] h).0) tt
+    first_or_rest p.1.names a b (m.fits_at_place p.0 v a) (m.fits_at_place p.0 v b) None None (fits_there p bound a b v n (parts a b (p.1.mentions bound) [] h).0) tt
 alternatives_fit (p ∷ q ∷ ps) v bound a b n h = any_fits (p ∷ q ∷ ps) v bound a b n h
 
 take_same : (arm : ArmMeant) (ns : List (List ℕ)) (a b : Env) (oa ob : Option Env) (r r' : Option DslxValue) → FitAlike ns a b oa ob
@@ -416,30 +422,31 @@ type_depends (TypeNode-F.TypeNode::Array t e) = λ bound a b n h.
 -- ---- patterns
 
 shape_depends : (x : ShapeLevel Parts) → PatternDepends (m.shape_meant (map_shape Parts meanings (firsts meanings mentions dependence) x)) (k.shape_mentions (map_shape Parts mentions (seconds meanings mentions dependence) x))
-shape_depends Shape-F.Wild = record { same_names = refl; fits = λ bound a b v n h. unchanged [] a b tt; constants = λ bound a b h. tt }
+shape_depends Shape-F.Wild = record { same_names = refl; fits = λ bound a b a' b' v n h x. unchanged [] a' b' tt; constants = λ bound a b h. tt }
 shape_depends (Shape-F.Shape::Bool bit) = record {
   same_names = refl;
-  fits = λ bound a b v n h. value_fits [] v a b tt (Some (bool_value bit)) (Some (bool_value bit)) refl;
+  fits = λ bound a b a' b' v n h x. value_fits [] v a' b' tt (Some (bool_value bit)) (Some (bool_value bit)) refl;
   constants = λ bound a b h. tt;
 }
 shape_depends (Shape-F.Shape::Number x) = record {
   same_names = refl;
-  fits = λ bound a b v n h. value_fits [] v a b tt (x.0.value a) (x.0.value b) (x.2 bound a b n h);
+  fits = λ bound a b a' b' v n h more. value_fits [] v a' b' tt (x.0.value a) (x.0.value b) (x.2 bound a b n h);
   constants = λ bound a b h. tt;
 }
 shape_depends (Shape-F.Shape::Name name) = record {
   same_names = refl;
-  fits = λ bound a b v n h. name_fits name v a b h.0;
+  fits = λ bound a b a' b' v n h x. name_fits name v a' b' (meaning_moves [] a b a' b' x AsPattern name h.0);
   constants = λ bound a b h. (h.0, tt);
 }
 shape_depends (Shape-F.Shape::Member e member) = record {
   same_names = refl;
-  fits = λ bound a b v n h. value_fits [] v a b tt (a.items.member e.name member.name) (b.items.member e.name member.name) (h.0 member.name);
+  fits = λ bound a b a' b' v n h x.
+      value_fits [] v a' b' tt (a'.items.member e.name member.name) (b'.items.member e.name member.name) (meaning_moves [] a b a' b' x AsEnum e.name h.0 member.name);
   constants = λ bound a b h. tt;
 }
 shape_depends (Shape-F.Shape::Tuple ps) = record {
   same_names = pattern_names ps;
-  fits = λ bound a b v n h. tuple_fits ps (elements_of v) bound a b n h;
+  fits = λ bound a b a' b' v n h x. tuple_fits ps (elements_of v) bound a b a' b' n h x;
   constants = λ bound a b h. patterns_constants ps bound a b h;
 }
 
@@ -450,10 +457,10 @@ bind_depends x = by_type x.ty
   where
     going : (bound : List (List ℕ)) (a b : Env) (rest : Evaluates) → NamesAgree bound a b → AgreeOn (x.value.1 bound) a b → AgreeOn (x.pattern.1.mentions bound) a b
         → ((a' b' : Env) → Extend x.pattern.1.names a b a' b' → rest a' ≡ rest b')
-        → and_then (x.value.0.value a) (λ v. and_then (x.pattern.0.fits v a) rest) ≡ and_then (x.value.0.value b) (λ v. and_then (x.pattern.0.fits v b) rest)
+        → and_then (x.value.0.value a) (λ v. and_then (m.fits_at_place x.pattern.0 v a) rest) ≡ and_then (x.value.0.value b) (λ v. and_then (m.fits_at_place x.pattern.0 v b) rest)
     going bound a b rest n own inner same =
         λ i. and_then (x.value.2 bound a b n own i)
-        (λ v. made_alike x.pattern.1.names a b (x.pattern.0.fits v a) (x.pattern.0.fits v b) rest rest (x.pattern.2.fits bound a b v n inner) same i)
+        (λ v. made_alike x.pattern.1.names a b (m.fits_at_place x.pattern.0 v a) (m.fits_at_place x.pattern.0 v b) rest rest (fits_there x.pattern bound a b v n inner) same i)
 
     by_type : (o : Option TypePart)
         → GoingDepends (m.let_meant (map_bind Parts meanings (firsts meanings mentions dependence) (record { span = x.span; pattern = x.pattern; ty = o; value = x.value })))
@@ -497,12 +504,12 @@ loop_depends x = by_type x.ty
 
     body_same : (bound : List (List ℕ)) (a b : Env) → NamesAgree bound a b → AgreeOn (x.index.1.mentions bound) a b → AgreeOn (x.accumulator.1.mentions bound) a b
         → AgreeOn (x.body.1 ((x.accumulator.1.names ++ x.index.1.names) ++ bound)) a b → (i acc : DslxValue)
-        → and_then (x.index.0.fits i a) (λ inner. and_then (x.accumulator.0.fits acc inner) x.body.0) ≡ and_then (x.index.0.fits i b) (λ inner. and_then (x.accumulator.0.fits acc inner) x.body.0)
+        → and_then (m.fits_at_place x.index.0 i a) (λ inner. and_then (m.fits_at_place x.accumulator.0 acc inner) x.body.0) ≡ and_then (m.fits_at_place x.index.0 i b) (λ inner. and_then (m.fits_at_place x.accumulator.0 acc inner) x.body.0)
     body_same bound a b n index accumulator body i acc =
-        made_alike x.index.1.names a b (x.index.0.fits i a) (x.index.0.fits i b) (λ inner. and_then (x.accumulator.0.fits acc inner) x.body.0) (λ inner. and_then (x.accumulator.0.fits acc inner) x.body.0)
-        (x.index.2.fits bound a b i n index)
-        (λ a' b' more. made_alike x.accumulator.1.names a' b' (x.accumulator.0.fits acc a') (x.accumulator.0.fits acc b') x.body.0 x.body.0
-        (x.accumulator.2.fits bound a' b' acc (names_move x.index.1.names bound a b a' b' more n) (mentions_move x.index.1.names a b a' b' more (x.accumulator.1.mentions bound) accumulator))
+        made_alike x.index.1.names a b (m.fits_at_place x.index.0 i a) (m.fits_at_place x.index.0 i b) (λ inner. and_then (m.fits_at_place x.accumulator.0 acc inner) x.body.0) (λ inner. and_then (m.fits_at_place x.accumulator.0 acc inner) x.body.0)
+        (fits_there x.index bound a b i n index)
+        (λ a' b' more. made_alike x.accumulator.1.names a' b' (m.fits_at_place x.accumulator.0 acc a') (m.fits_at_place x.accumulator.0 acc b') x.body.0 x.body.0
+        (fits_there x.accumulator bound a' b' acc (names_move x.index.1.names bound a b a' b' more n) (mentions_move x.index.1.names a b a' b' more (x.accumulator.1.mentions bound) accumulator))
         (λ a'' b'' still. x.body.2 ((x.accumulator.1.names ++ x.index.1.names) ++ bound) a'' b''
         (names_join a'' b'' (x.accumulator.1.names ++ x.index.1.names) bound
         (bound_moves x.accumulator.1.names x.index.1.names a' b' a'' b'' still more.bound)
@@ -513,9 +520,9 @@ loop_depends x = by_type x.ty
     same : (bound : List (List ℕ)) (a b : Env) → NamesAgree bound a b → AgreeOn (x.from.1 bound) a b → AgreeOn (x.to.1 bound) a b → AgreeOn (x.start.1 bound) a b
         → AgreeOn (x.index.1.mentions bound) a b → AgreeOn (x.accumulator.1.mentions bound) a b → AgreeOn (x.body.1 ((x.accumulator.1.names ++ x.index.1.names) ++ bound)) a b
         → and_then (x.start.0.value a) (λ start. with_both (and_then (x.from.0.value a) bits_of) (and_then (x.to.0.value a) bits_of)
-        (m.loop_over (λ i acc. and_then (x.index.0.fits i a) (λ inner. and_then (x.accumulator.0.fits acc inner) x.body.0)) start))
+        (m.loop_over (λ i acc. and_then (m.fits_at_place x.index.0 i a) (λ inner. and_then (m.fits_at_place x.accumulator.0 acc inner) x.body.0)) start))
         ≡ and_then (x.start.0.value b) (λ start. with_both (and_then (x.from.0.value b) bits_of) (and_then (x.to.0.value b) bits_of)
-        (m.loop_over (λ i acc. and_then (x.index.0.fits i b) (λ inner. and_then (x.accumulator.0.fits acc inner) x.body.0)) start))
+        (m.loop_over (λ i acc. and_then (m.fits_at_place x.index.0 i b) (λ inner. and_then (m.fits_at_place x.accumulator.0 acc inner) x.body.0)) start))
     same bound a b n from to start index accumulator body =
         λ d. and_then (x.start.2 bound a b n start d) (λ s. with_both (and_then (x.from.2 bound a b n from d) bits_of) (and_then (x.to.2 bound a b n to d) bits_of)
         (m.loop_over (λ i acc. body_same bound a b n index accumulator body i acc d) s))

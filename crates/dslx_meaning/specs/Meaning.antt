@@ -41,9 +41,10 @@ pub record Meant : Type 0 where
   pub bare : Option Bare
   pub value : Evaluates
 
--- what is bound behind a pattern, if a value fits
+-- what is bound behind a pattern, if a value fits: by what is in sight at the place of the whole pattern, where its numbers are
+-- evaluated, and what is bound so far
 abbrev pub Fitting : Type 0
-Fitting = DslxValue → Env → Option Env
+Fitting = Env → DslxValue → Env → Option Env
 
 -- a pattern: the names in it, each of which it binds unless it is a constant's
 pub record PatternMeant : Type 0 where
@@ -110,11 +111,11 @@ type_meant (TypeNode-F.TypeNode::Array t e) env = with_both (t env) (size_of e e
 -- ---- patterns
 
 -- each value of a tuple fits its own pattern, in order
-abbrev pub fit_each : List PatternMeant → List DslxValue → Env → Option Env
-fit_each [] [] env = Some env
-fit_each (p ∷ ps) (v ∷ vs) env = and_then (p.fits v env) (fit_each ps vs)
-fit_each [] (v ∷ vs) env = None
-fit_each (p ∷ ps) [] env = None
+abbrev pub fit_each : Env → List PatternMeant → List DslxValue → Env → Option Env
+fit_each place [] [] env = Some env
+fit_each place (p ∷ ps) (v ∷ vs) env = and_then (p.fits place v env) (fit_each place ps vs)
+fit_each place [] (v ∷ vs) env = None
+fit_each place (p ∷ ps) [] env = None
 
 -- the value is this one
 abbrev pub fit_value : Option DslxValue → DslxValue → Env → Option Env
@@ -122,12 +123,12 @@ fit_value None v env = None
 fit_value (Some w) v env = if same_value v w then Some env else None
 
 abbrev pub shape_fits : Shape-F Going Meant PatternMeant Typing Evaluates Going Meant ArmMeant Meant FieldMeant Evaluates Meant PatternMeant Typing → Fitting
-shape_fits Shape-F.Wild v env = Some env
-shape_fits (Shape-F.Shape::Bool b) v env = fit_value (Some (bool_value b)) v env
-shape_fits (Shape-F.Shape::Number n) v env = fit_value (n.value env) v env
-shape_fits (Shape-F.Shape::Name name) v env = if env.items.is_constant name then fit_value (env.items.constant name) v env else Some (bind name v env)
-shape_fits (Shape-F.Shape::Member e a) v env = fit_value (env.items.member e.name a.name) v env
-shape_fits (Shape-F.Shape::Tuple ps) v env = and_then (elements_of v) (λ vs. fit_each ps vs env)
+shape_fits Shape-F.Wild place v env = Some env
+shape_fits (Shape-F.Shape::Bool b) place v env = fit_value (Some (bool_value b)) v env
+shape_fits (Shape-F.Shape::Number n) place v env = fit_value (n.value place) v env
+shape_fits (Shape-F.Shape::Name name) place v env = if env.items.is_constant name then fit_value (env.items.constant name) v env else Some (bind name v env)
+shape_fits (Shape-F.Shape::Member e a) place v env = fit_value (env.items.member e.name a.name) v env
+shape_fits (Shape-F.Shape::Tuple ps) place v env = and_then (elements_of v) (λ vs. fit_each place ps vs env)
 
 abbrev pub all_names : List PatternMeant → List (List ℕ)
 all_names [] = []
@@ -140,6 +141,10 @@ shape_names _ = []
 
 abbrev pub shape_meant : Shape-F Going Meant PatternMeant Typing Evaluates Going Meant ArmMeant Meant FieldMeant Evaluates Meant PatternMeant Typing → PatternMeant
 shape_meant s = record { names = shape_names s; fits = shape_fits s }
+
+-- at its own place
+abbrev pub fits_at_place : PatternMeant → DslxValue → Env → Option Env
+fits_at_place p v env = p.fits env v env
 
 -- ---- literals
 
@@ -200,9 +205,9 @@ choose (Some true) a b = a
 choose (Some false) a b = b
 
 -- what the first pattern that fits binds
-abbrev pub first_fit : List PatternMeant → Fitting
+abbrev pub first_fit : List PatternMeant → DslxValue → Env → Option Env
 first_fit [] v env = None
-first_fit (p ∷ ps) v env = or_else (p.fits v env) (first_fit ps v env)
+first_fit (p ∷ ps) v env = or_else (fits_at_place p v env) (first_fit ps v env)
 
 -- the value of an arm whose pattern fits, and otherwise that of the rest
 abbrev pub take_arm : ArmMeant → Option Env → Option DslxValue → Option DslxValue
@@ -237,14 +242,14 @@ loop_over body start a b = where_true (of_one_type a b) (turns_from body a.signe
 
 abbrev pub for_meant : For-F Going Meant PatternMeant Typing Evaluates Going Meant ArmMeant Meant FieldMeant Evaluates Meant PatternMeant Typing → Evaluates
 for_meant f env =
-    let body : DslxValue → DslxValue → Option DslxValue = λ i acc. and_then (f.index.fits i env) (λ inner. and_then (f.accumulator.fits acc inner) f.body) in
+    let body : DslxValue → DslxValue → Option DslxValue = λ i acc. and_then (fits_at_place f.index i env) (λ inner. and_then (fits_at_place f.accumulator acc inner) f.body) in
     and_then (f.start.value env) (λ start.
     with_both (and_then (f.from.value env) bits_of) (and_then (f.to.value env) bits_of) (loop_over body start))
 
 -- ---- statements
 
 abbrev pub let_meant : Let-F Going Meant PatternMeant Typing Evaluates Going Meant ArmMeant Meant FieldMeant Evaluates Meant PatternMeant Typing → Going
-let_meant l rest env = and_then (l.value.value env) (λ v. and_then (l.pattern.fits v env) rest)
+let_meant l rest env = and_then (l.value.value env) (λ v. and_then (fits_at_place l.pattern v env) rest)
 
 abbrev pub stmt_meant : Stmt-F Going Meant PatternMeant Typing Evaluates Going Meant ArmMeant Meant FieldMeant Evaluates Meant PatternMeant Typing → Going
 stmt_meant (Stmt-F.Let l) rest env = l rest env
@@ -356,8 +361,8 @@ meant_pattern = fold-Pattern Going Meant PatternMeant Typing Evaluates Going Mea
     stmt_meant node_meant shape_meant type_meant block_meant let_meant arg_meant arm_meant expr_meant field_meant for_meant number_node pattern_meant type_expr_meant
 
 -- what a pattern binds
-abbrev pub fitted : Pattern → Fitting
-fitted p = (meant_pattern p).fits
+abbrev pub fitted : Pattern → DslxValue → Env → Option Env
+fitted p = fits_at_place (meant_pattern p)
 
 -- what stands between `<` and `>`
 abbrev pub meant_arg : Arg → Meant

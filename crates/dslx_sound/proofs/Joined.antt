@@ -240,8 +240,8 @@ type_claim (TypeNode-F.TypeNode::Array t e) span = (array_stands span t.0 t.1 e.
 
 shape_claim : (x : ShapeLevel Parts) (span : Span) → PatternClaim ((judging.shape (map_shape Parts judged (firsts judged meanings (claimed sound)) x)).1 span) (meaning.shape (map_shape Parts meanings (seconds judged meanings (claimed sound)) x))
 shape_claim Shape-F.Wild span = (wild_gives, wild_alike)
-shape_claim (Shape-F.Shape::Bool bit) span = (bool_pattern_gives span bit, one_value_alike span (λ sight. settled span (Some bool_type) [] [] (Some 1)) (λ sight. true) (λ env. Some (bool_value bit)) (λ sight a b h fine. refl))
-shape_claim (Shape-F.Shape::Number n) span = (number_pattern_gives span (n.0.1 span) n.1.value (n.2.1 span).gives, one_value_alike span (n.0.1 span) (λ sight. is_there (n.0.1 span sight).ty) n.1.value (n.2.1 span).alike)
+shape_claim (Shape-F.Shape::Bool bit) span = (bool_pattern_gives span bit, one_value_alike span (λ sight. settled span (Some bool_type) [] [] (Some 1)) (λ sight. true) (λ place env. Some (bool_value bit)) (λ sight place other a b at h fine. refl))
+shape_claim (Shape-F.Shape::Number n) span = (number_pattern_gives span (n.0.1 span) n.1.value (n.2.1 span).gives, one_value_alike span (n.0.1 span) (λ sight. is_there (n.0.1 span sight).ty) (λ place env. n.1.value place) (λ sight place other a b at h fine. (n.2.1 span).alike sight place other at fine))
 shape_claim (Shape-F.Shape::Name name) span = (name_pattern_gives span name, name_pattern_alike span name)
 shape_claim (Shape-F.Shape::Member e a) span = (member_pattern_gives span e a, member_alike span e a)
 shape_claim (Shape-F.Shape::Tuple ps) span =

@@ -5,7 +5,7 @@ use Rattle.xb_span.specs.declared.span.Span.{Span}
 use Rattle.dslx_meaning.specs.Lists.{and_then, with_both}
 use Rattle.dslx_meaning.specs.Types.{same_type, unit_type}
 use Rattle.dslx_meaning.specs.Environment.{Env}
-use Rattle.dslx_meaning.specs.Meaning.{Evaluates, Going, Meant, PatternMeant, Typing, choose, last_meant, statements_meant}
+use Rattle.dslx_meaning.specs.Meaning.{Evaluates, Going, Meant, PatternMeant, Typing, choose, fits_at_place, last_meant, statements_meant}
 use Rattle.dslx_meaning.specs.Operators.{truth}
 use Rattle.dslx_meaning.specs.declared.ty.DslxType.{DslxType}
 use Rattle.dslx_rules.specs.AggregateRules.{wanted_faults}
@@ -63,7 +63,7 @@ bound_known sight env h span (Some p) (Some f) k t e r =
 
 pub let_has : (span : Span) (e : ExprPair) (x : Meant) (written : Option TypePair) (f : Option Typing) (pattern : PatternPair) (pm : PatternMeant) → ExprGives e x → TypeStandsIf written f → PatternKeeps pattern.1 pm.fits
     → StatementGives (λ on_top sight. let_with sight e.0 span (e.1 on_top sight) (written_judged sight written) (pattern_alone false sight (bound_type (written_judged sight written) (e.1 on_top sight).ty) pattern))
-    (λ rest env. and_then (x.value env) (λ v. and_then (pm.fits v env) rest))
+    (λ rest env. and_then (x.value env) (λ v. and_then (fits_at_place pm v env) rest))
 let_has span e x written f pattern pm s st keeps = record {
   known = λ sight. refl;
   keeps = λ sight env h faults reached.

@@ -6,7 +6,7 @@ use Rattle.dslx_meaning.specs.Lists.{and_then, with_both}
 use Rattle.dslx_meaning.specs.Types.{same_type}
 use Rattle.dslx_meaning.specs.Values.{bits_of}
 use Rattle.dslx_meaning.specs.Environment.{Env}
-use Rattle.dslx_meaning.specs.Meaning.{Evaluates, Meant, PatternMeant, loop_over}
+use Rattle.dslx_meaning.specs.Meaning.{Evaluates, Meant, PatternMeant, fits_at_place, loop_over}
 use Rattle.dslx_meaning.specs.declared.ty.DslxType.{DslxType}
 use Rattle.dslx_meaning.specs.declared.value.DslxValue.{DslxValue}
 use Rattle.dslx_rules.specs.AggregateRules.{wanted_faults}
@@ -36,9 +36,9 @@ TurnsTyped sight env index acc im am body f k t ok ot = (index_seen sight index 
 turns_typed : (sight : Sight) (env : Env) (index acc : PatternPair) (im am : PatternMeant) (body : BlockPair) (f : Evaluates) (k t : DslxType) (v a : DslxValue) → PatternKeeps index.1 im.fits → PatternKeeps acc.1 am.fits
     → BlockGives body.1 f → IsWellTyped sight env → GivesOf (types_at sight) k (Some v) → GivesOf (types_at sight) t (Some a) → TurnsTyped sight env index acc im am body f k t (Some k) (Some t)
 turns_typed sight env index acc im am body f k t v a ik ak sb h gk gt fi fa fine =
-    let first = fits_surely sight (index_seen sight index (Some k)) (im.fits v env) (ik false sight k [] sight.locals env v h gk (ap has_broken fi)) in
+    let first = fits_surely sight (index_seen sight index (Some k)) (fits_at_place im v env) (ik false sight k [] sight.locals env env v h h gk (ap has_broken fi)) in
     let inner = with_typed sight (index_seen sight index (Some k)).locals in
-    let second = fits_surely inner (acc_seen sight index acc (Some k) (Some t)) (am.fits a first.0) (ak false inner t [] inner.locals first.0 a first.1 gt (ap has_broken fa)) in
+    let second = fits_surely inner (acc_seen sight index acc (Some k) (Some t)) (fits_at_place am a first.0) (ak false inner t [] inner.locals first.0 first.0 a first.1 first.1 gt (ap has_broken fa)) in
     let behind = with_typed sight (acc_seen sight index acc (Some k) (Some t)).locals in
     let g = sb behind second.0 second.1 fine in (
       g.0,

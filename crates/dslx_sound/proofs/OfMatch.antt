@@ -8,7 +8,7 @@ use Rattle.xb_span.specs.declared.span.Span.{Span}
 use Rattle.dslx_meaning.specs.Lists.{all_some, and_then, last_of, or_else, where_true}
 use Rattle.dslx_meaning.specs.Types.{flat_bits}
 use Rattle.dslx_meaning.specs.Environment.{Env}
-use Rattle.dslx_meaning.specs.Meaning.{ArmMeant, Meant, PatternMeant, all_names, first_fit, match_arms}
+use Rattle.dslx_meaning.specs.Meaning.{ArmMeant, Meant, PatternMeant, all_names, first_fit, fits_at_place, match_arms}
 use Rattle.dslx_meaning.specs.declared.ty.DslxType.{DslxType, out-DslxType}
 use Rattle.dslx_meaning.specs.declared.ty.DslxType.TheOpen.{DslxType-F}
 use Rattle.dslx_meaning.specs.declared.value.DslxValue.{DslxValue}
@@ -70,7 +70,7 @@ unbound_fit sight env h t v g [] [] k fine b inner e = none_some inner e
 unbound_fit sight env h t v g [] (m ∷ ms) k fine b inner e = absurd k
 unbound_fit sight env h t v g (p ∷ ps) [] k fine b inner e = absurd k
 unbound_fit sight env h t v g (p ∷ ps) (m ∷ ms) k fine b inner e =
-    by_fit (m.fits v env) (k.0.keeps true sight t [] sight.locals env v h g (ap has_broken q.0.faults)) (λ r. unbound_fit sight env h t v g ps ms k.1 q.1 none.1 inner r) e
+    by_fit (fits_at_place m v env) (k.0.keeps true sight t [] sight.locals env env v h h g (ap has_broken q.0.faults)) (λ r. unbound_fit sight env h t v g ps ms k.1 q.1 none.1 inner r) e
   where
     q : IsFinePattern sight (pattern_alone true sight (Some t) p) × AreFine sight (alternatives_seen sight (Some t) ps)
     q = first_fine sight (Some t) p ps fine
@@ -97,7 +97,7 @@ fit_typed sight env h t v g [] [] k fine b inner e = none_some inner e
 fit_typed sight env h t v g [] (m ∷ ms) k fine b inner e = absurd k
 fit_typed sight env h t v g (p ∷ ps) [] k fine b inner e = absurd k
 fit_typed sight env h t v g (p ∷ []) (m ∷ n ∷ ms) k fine b inner e = absurd k.1
-fit_typed sight env h t v g (p ∷ []) (m ∷ []) k fine b inner e = by_fit (m.fits v env) (k.0.keeps true sight t [] sight.locals env v h g (ap has_broken (first_fine sight (Some t) p [] fine).0.faults)) e
+fit_typed sight env h t v g (p ∷ []) (m ∷ []) k fine b inner e = by_fit (fits_at_place m v env) (k.0.keeps true sight t [] sight.locals env env v h h g (ap has_broken (first_fine sight (Some t) p [] fine).0.faults)) e
   where
     by_fit : (o : Option Env) → FitsOrFails true sight (pattern_alone true sight (Some t) p) o → or_else o None ≡ Some inner → IsWellTyped (with_typed sight (pattern_alone true sight (Some t) p).locals) inner
     by_fit o (Fits place is typed) r = subst (IsWellTyped (with_typed sight (pattern_alone true sight (Some t) p).locals)) (same_some place inner (sym (ap (λ x. or_else x None) is) ∙ r)) typed
@@ -204,7 +204,7 @@ other_fits sight env h t v other [] (m ∷ ms) k fine = absurd k
 other_fits sight env h t v other (p ∷ ps) [] k fine = absurd k
 other_fits sight env h t v other (p ∷ ps) (m ∷ ms) k fine =
     let q = first_fine sight (Some t) p ps fine in
-    by_fit (m.fits v env) (k.0.whole true sight t [] sight.locals env v other h (ap has_broken q.0.faults)) (is_there (first_fit ms v env)) refl (other_fits sight env h t v other ps ms k.1 q.1)
+    by_fit (fits_at_place m v env) (k.0.whole true sight t [] sight.locals env env v other h (ap has_broken q.0.faults)) (is_there (first_fit ms v env)) refl (other_fits sight env h t v other ps ms k.1 q.1)
   where
     left : (b : Bool) → (b || false) ≡ true → b ≡ true
     left true e = refl
@@ -224,7 +224,7 @@ sure_fits sight env h t v g [] ms k fine e = absurd (true≢false (sym e))
 sure_fits sight env h t v g (p ∷ ps) [] k fine e = absurd k
 sure_fits sight env h t v g (p ∷ ps) (m ∷ ms) k fine e =
     let q = first_fine sight (Some t) p ps fine in
-    by_fit (m.fits v env) (k.0.keeps true sight t [] sight.locals env v h g (ap has_broken q.0.faults)) (sure_fits sight env h t v g ps ms k.1 q.1)
+    by_fit (fits_at_place m v env) (k.0.keeps true sight t [] sight.locals env env v h h g (ap has_broken q.0.faults)) (sure_fits sight env h t v g ps ms k.1 q.1)
   where
     by_fit : (o : Option Env) → FitsOrFails true sight (pattern_alone true sight (Some t) p) o → ((alternatives_seen sight (Some t) ps).is_sure ≡ true → is_there (first_fit ms v env) ≡ true)
         → is_there (or_else o (first_fit ms v env)) ≡ true

@@ -9,7 +9,7 @@ use Rattle.dslx_meaning.specs.Lists.{last_of, or_else}
 use Rattle.dslx_meaning.specs.Types.{flat_bits}
 use Rattle.dslx_meaning.specs.Values.{from_word}
 use Rattle.dslx_meaning.specs.Environment.{Env}
-use Rattle.dslx_meaning.specs.Meaning.{ArmMeant, PatternMeant, all_names, first_fit, fitted}
+use Rattle.dslx_meaning.specs.Meaning.{ArmMeant, PatternMeant, all_names, first_fit, fits_at_place, fitted}
 use Rattle.dslx_meaning.specs.declared.ty.DslxType.{DslxType, out-DslxType}
 use Rattle.dslx_meaning.specs.declared.ty.DslxType.TheOpen.{DslxType-F}
 use Rattle.dslx_meaning.specs.declared.value.DslxValue.{DslxValue}
@@ -58,15 +58,16 @@ any_fits sight env h t v (p ∷ ps) [] k fine e = absurd k
 any_fits sight env h t v (p ∷ ps) (m ∷ ms) k fine e =
     let q = first_fine sight (Some t) p ps fine in
     by_first (is_there (fitted p.0 v (constant_env sight))) refl e
-    (λ fits. there_alike sight (m.fits v (constant_env sight)) (m.fits v env) (k.0.1 true sight (Some t) [] sight.locals (constant_env sight) env v (see_alike sight env h) q.0)
-    (sym (ap (λ (x : PatternMeant). is_there (x.fits v (constant_env sight))) k.0.0) ∙ fits))
+    (λ fits. there_alike sight (fits_at_place m v (constant_env sight)) (fits_at_place m v env)
+    (k.0.1 true sight (Some t) [] sight.locals (constant_env sight) env (constant_env sight) env v (see_alike sight env h) (see_alike sight env h) q.0)
+    (sym (ap (λ (x : PatternMeant). is_there (fits_at_place x v (constant_env sight))) k.0.0) ∙ fits))
     (any_fits sight env h t v ps ms k.1 q.1)
   where
     by_first : (b : Bool) → is_there (fitted p.0 v (constant_env sight)) ≡ b → (b || list_any (λ (p : PatternPair). is_there (fitted p.0 v (constant_env sight))) ps) ≡ true
-        → (is_there (fitted p.0 v (constant_env sight)) ≡ true → is_there (m.fits v env) ≡ true) → (list_any (λ (p : PatternPair). is_there (fitted p.0 v (constant_env sight))) ps ≡ true → is_there (first_fit ms v env) ≡ true)
-        → is_there (or_else (m.fits v env) (first_fit ms v env)) ≡ true
-    by_first true q e own rest = first_there (m.fits v env) (first_fit ms v env) (own q)
-    by_first false q e own rest = other_there (m.fits v env) (first_fit ms v env) (rest e)
+        → (is_there (fitted p.0 v (constant_env sight)) ≡ true → is_there (fits_at_place m v env) ≡ true) → (list_any (λ (p : PatternPair). is_there (fitted p.0 v (constant_env sight))) ps ≡ true → is_there (first_fit ms v env) ≡ true)
+        → is_there (or_else (fits_at_place m v env) (first_fit ms v env)) ≡ true
+    by_first true q e own rest = first_there (fits_at_place m v env) (first_fit ms v env) (own q)
+    by_first false q e own rest = other_there (fits_at_place m v env) (first_fit ms v env) (rest e)
 
 or_left : (a b : Bool) → a ≡ true → (a || b) ≡ true
 or_left a b e = ap (λ x. x || b) e

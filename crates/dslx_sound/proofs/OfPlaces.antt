@@ -151,20 +151,21 @@ value_fits_alike sight a b v x y h e = subst (λ z. FitsAlike sight (fit_value x
     by_value None = tt
     by_value (Some w) = by_test (same_value v w)
 
-pub wild_alike : PatternSeesAlike (λ may_fail sight t names locals. record (nothing_bound names locals) { size = 1 }) (record { names = []; fits = λ v env. Some env })
-wild_alike may_fail sight t names locals a b v h fine = h
+pub wild_alike : PatternSeesAlike (λ may_fail sight t names locals. record (nothing_bound names locals) { size = 1 }) (record { names = []; fits = λ place v env. Some env })
+wild_alike may_fail sight t names locals place other a b v at h fine = h
 
-pub one_value_alike : (span : Span) (own : Sight → Judgement) (known : Sight → Bool) (value : Evaluates) → ((sight : Sight) (a b : Env) → SeeAlike sight a b → IsFine sight.known (own sight) → value a ≡ value b)
-    → PatternSeesAlike (λ may_fail sight t names locals. one_value span may_fail t names locals (own sight) (known sight)) (record { names = []; fits = λ v env. fit_value (value env) v env })
-one_value_alike span own known value is may_fail sight t names locals a b v h fine =
-    value_fits_alike sight a b v (value a) (value b) h
-    (is sight a b h (record { faults = (none_in_three (own sight).faults (shape_faults span t (own sight).ty) (breaks_if (not may_fail) 8 span) fine.faults).0; reached = fine.reached }))
+pub one_value_alike : (span : Span) (own : Sight → Judgement) (known : Sight → Bool) (value : Env → Evaluates)
+    → ((sight : Sight) (place other a b : Env) → SeeAlike sight place other → SeeAlike sight a b → IsFine sight.known (own sight) → value place a ≡ value other b)
+    → PatternSeesAlike (λ may_fail sight t names locals. one_value span may_fail t names locals (own sight) (known sight)) (record { names = []; fits = λ place v env. fit_value (value place env) v env })
+one_value_alike span own known value is may_fail sight t names locals place other a b v at h fine =
+    value_fits_alike sight a b v (value place a) (value other b) h
+    (is sight place other a b at h (record { faults = (none_in_three (own sight).faults (shape_faults span t (own sight).ty) (breaks_if (not may_fail) 8 span) fine.faults).0; reached = fine.reached }))
 
 pub member_alike : (span : Span) (e a : Ident)
     → PatternSeesAlike (λ may_fail sight t names locals. one_value span may_fail t names locals (member_judged span sight e a) (is_there (sight.known.items.member e.name a.name)))
-    (record { names = []; fits = λ v env. fit_value (env.items.member e.name a.name) v env })
-member_alike span e a = one_value_alike span (λ sight. member_judged span sight e a) (λ sight. is_there (sight.known.items.member e.name a.name)) (λ env. env.items.member e.name a.name)
-    (λ sight x y h fine. (λ i. (h.items i).member e.name a.name) ∙ (λ i. (sym h.others i).member e.name a.name))
+    (record { names = []; fits = λ place v env. fit_value (env.items.member e.name a.name) v env })
+member_alike span e a = one_value_alike span (λ sight. member_judged span sight e a) (λ sight. is_there (sight.known.items.member e.name a.name)) (λ place env. env.items.member e.name a.name)
+    (λ sight place other x y at h fine. (λ i. (h.items i).member e.name a.name) ∙ (λ i. (sym h.others i).member e.name a.name))
 
 -- one more name, bound alike
 bound_more : (sight : Sight) (a b : Env) (name : List ℕ) (v : DslxValue) → SeeAlike sight a b → SeeAlike sight (bind name v a) (bind name v b)
@@ -181,8 +182,8 @@ bound_more sight a b name v h = record {
 
 pub name_pattern_alike : (span : Span) (name : List ℕ)
     → PatternSeesAlike (λ may_fail sight t names locals. name_pattern span may_fail sight t names locals name (sight.known.items.is_constant name))
-    (record { names = name ∷ []; fits = λ v env. if env.items.is_constant name then fit_value (env.items.constant name) v env else Some (bind name v env) })
-name_pattern_alike span name may_fail sight t names locals a b v h fine =
+    (record { names = name ∷ []; fits = λ place v env. if env.items.is_constant name then fit_value (env.items.constant name) v env else Some (bind name v env) })
+name_pattern_alike span name may_fail sight t names locals place other a b v at h fine =
     subst (λ x. FitsAlike sight x (fits b)) (sym (ap (λ k. by_kind k a) (λ i. (h.items i).is_constant name)))
     (subst (λ y. FitsAlike sight (by_kind (sight.known.items.is_constant name) a) y) (sym (ap (λ k. by_kind k b) (λ i. (h.others i).is_constant name)))
     (alike (sight.known.items.is_constant name) refl))
@@ -198,22 +199,23 @@ name_pattern_alike span name may_fail sight t names locals a b v h fine =
     alike false q = bound_more sight a b name v h
 
 -- parts, each behind those before it
-parts_alike : (ps : List PatternPair) (ms : List PatternMeant) → EachPatternSeesAlike ps ms → (may_fail : Bool) (sight : Sight) (ts : Option (List DslxType)) (names : List (List ℕ)) (locals : List Typed) (a b : Env) (vs : List DslxValue)
-    → SeeAlike sight a b → IsFinePattern sight (parts_judged may_fail sight ps ts names locals) → FitsAlike sight (fit_each ms vs a) (fit_each ms vs b)
-parts_alike [] [] k may_fail sight ts names locals a b [] h fine = h
-parts_alike [] [] k may_fail sight ts names locals a b (v ∷ vs) h fine = tt
-parts_alike [] (x ∷ ms) k may_fail sight ts names locals a b vs h fine = absurd k
-parts_alike (p ∷ ps) [] k may_fail sight ts names locals a b vs h fine = absurd k
-parts_alike (p ∷ ps) (x ∷ ms) k may_fail sight ts names locals a b [] h fine = tt
-parts_alike (p ∷ ps) (x ∷ ms) k may_fail sight ts names locals a b (v ∷ vs) h fine =
+parts_alike : (ps : List PatternPair) (ms : List PatternMeant) → EachPatternSeesAlike ps ms → (may_fail : Bool) (sight : Sight) (ts : Option (List DslxType)) (names : List (List ℕ)) (locals : List Typed) (place other a b : Env) (vs : List DslxValue)
+    → SeeAlike sight place other → SeeAlike sight a b → IsFinePattern sight (parts_judged may_fail sight ps ts names locals) → FitsAlike sight (fit_each place ms vs a) (fit_each other ms vs b)
+parts_alike [] [] k may_fail sight ts names locals place other a b [] at h fine = h
+parts_alike [] [] k may_fail sight ts names locals place other a b (v ∷ vs) at h fine = tt
+parts_alike [] (x ∷ ms) k may_fail sight ts names locals place other a b vs at h fine = absurd k
+parts_alike (p ∷ ps) [] k may_fail sight ts names locals place other a b vs at h fine = absurd k
+parts_alike (p ∷ ps) (x ∷ ms) k may_fail sight ts names locals place other a b [] at h fine = tt
+parts_alike (p ∷ ps) (x ∷ ms) k may_fail sight ts names locals place other a b (v ∷ vs) at h fine =
     let first = p.1 may_fail sight (first_part_type ts) names locals in
     let rest = parts_judged may_fail sight ps (other_part_types ts) first.names first.locals in
     let q = none_in first.faults rest.faults fine.faults in
     let r = all_in sight.known.is_sound first.reached rest.reached fine.reached in
-    by_first (x.fits v a) (x.fits v b) (k.0.1 may_fail sight (first_part_type ts) names locals a b v h (record { faults = q.0; reached = r.0 }))
-    (λ c d more. parts_alike ps ms k.1 may_fail sight (other_part_types ts) first.names first.locals c d vs more (record { faults = q.1; reached = r.1 }))
+    by_first (x.fits place v a) (x.fits other v b) (k.0.1 may_fail sight (first_part_type ts) names locals place other a b v at h (record { faults = q.0; reached = r.0 }))
+    (λ c d more. parts_alike ps ms k.1 may_fail sight (other_part_types ts) first.names first.locals place other c d vs at more (record { faults = q.1; reached = r.1 }))
   where
-    by_first : (c d : Option Env) → FitsAlike sight c d → ((c d : Env) → SeeAlike sight c d → FitsAlike sight (fit_each ms vs c) (fit_each ms vs d)) → FitsAlike sight (and_then c (fit_each ms vs)) (and_then d (fit_each ms vs))
+    by_first : (c d : Option Env) → FitsAlike sight c d → ((c d : Env) → SeeAlike sight c d → FitsAlike sight (fit_each place ms vs c) (fit_each other ms vs d))
+        → FitsAlike sight (and_then c (fit_each place ms vs)) (and_then d (fit_each other ms vs))
     by_first None None e go = tt
     by_first (Some c) (Some d) e go = go c d e
     by_first None (Some d) e go = absurd e
@@ -221,11 +223,11 @@ parts_alike (p ∷ ps) (x ∷ ms) k may_fail sight ts names locals a b (v ∷ vs
 
 pub tuple_pattern_alike : (span : Span) (ps : List PatternPair) (ms : List PatternMeant) → EachPatternSeesAlike ps ms
     → PatternSeesAlike (λ may_fail sight t names locals. tuple_pattern span t (part_types (length ps) t) (parts_judged may_fail sight ps (part_types (length ps) t) names locals))
-    (record { names = all_names ms; fits = λ v env. and_then (elements_of v) (λ vs. fit_each ms vs env) })
-tuple_pattern_alike span ps ms k may_fail sight t names locals a b v h fine = by_elements (elements_of v)
+    (record { names = all_names ms; fits = λ place v env. and_then (elements_of v) (λ vs. fit_each place ms vs env) })
+tuple_pattern_alike span ps ms k may_fail sight t names locals place other a b v at h fine = by_elements (elements_of v)
   where
-    by_elements : (o : Option (List DslxValue)) → FitsAlike sight (and_then o (λ vs. fit_each ms vs a)) (and_then o (λ vs. fit_each ms vs b))
+    by_elements : (o : Option (List DslxValue)) → FitsAlike sight (and_then o (λ vs. fit_each place ms vs a)) (and_then o (λ vs. fit_each other ms vs b))
     by_elements None = tt
     by_elements (Some vs) =
-        parts_alike ps ms k may_fail sight (part_types (length ps) t) names locals a b vs h
+        parts_alike ps ms k may_fail sight (part_types (length ps) t) names locals place other a b vs at h
         (record { faults = (none_in (tuple_faults span t (part_types (length ps) t)) (parts_judged may_fail sight ps (part_types (length ps) t) names locals).faults fine.faults).1; reached = fine.reached })

@@ -42,56 +42,56 @@ both_true false q e = absurd (true≢false (sym e))
 
 -- ---- patterns without names
 
-pub wild_gives : PatternGives (λ may_fail sight t names locals. record (nothing_bound names locals) { size = 1 }) (record { names = []; fits = λ v env. Some env })
+pub wild_gives : PatternGives (λ may_fail sight t names locals. record (nothing_bound names locals) { size = 1 }) (record { names = []; fits = λ place v env. Some env })
 wild_gives = record {
-  keeps = λ may_fail sight t names locals env v h g f. Fits env refl h;
+  keeps = λ may_fail sight t names locals place env v at h g f. Fits env refl h;
   behind = λ may_fail sight t names locals env v h g f. (env, h);
   known = λ may_fail sight t names locals env h fine. refl;
   plain = λ may_fail sight t names locals e. refl;
   unbound = λ may_fail sight t names locals e. (refl, e);
-  whole = λ may_fail sight t names locals env v other h f. refl;
+  whole = λ may_fail sight t names locals place env v other h f. refl;
 }
 
 -- a pattern that is one value, of which this judgement is known
-pub value_gives : (span : Span) (own : Sight → Judgement) (known : Sight → Bool) (value : Evaluates)
+pub value_gives : (span : Span) (own : Sight → Judgement) (known : Sight → Bool) (value : Env → Evaluates)
     → ((sight : Sight) (env : Env) → IsWellTyped sight env → IsFine sight.known (own sight) → known sight ≡ true)
-    → PatternGives (λ may_fail sight t names locals. one_value span may_fail t names locals (own sight) (known sight)) (record { names = []; fits = λ v env. fit_value (value env) v env })
+    → PatternGives (λ may_fail sight t names locals. one_value span may_fail t names locals (own sight) (known sight)) (record { names = []; fits = λ place v env. fit_value (value place env) v env })
 value_gives span own known value is = record {
-  keeps = λ may_fail sight t names locals env v h g f. one_value_keeps span may_fail sight (Some t) names locals (own sight) (known sight) env (value env) v h f;
+  keeps = λ may_fail sight t names locals place env v at h g f. one_value_keeps span may_fail sight (Some t) names locals (own sight) (known sight) env (value place env) v h f;
   behind = λ may_fail sight t names locals env v h g f. (env, h);
   known = λ may_fail sight t names locals env h fine.
       is sight env h (record { faults = (none_in_three (own sight).faults (shape_faults span t (own sight).ty) (breaks_if (not may_fail) 8 span) fine.faults).0; reached = fine.reached });
   plain = λ may_fail sight t names locals e. refl;
   unbound = λ may_fail sight t names locals e. (refl, e);
-  whole = λ may_fail sight t names locals env v other h f. refl;
+  whole = λ may_fail sight t names locals place env v other h f. refl;
 }
 
 pub bool_pattern_gives : (span : Span) (b : Bool)
-    → PatternGives (λ may_fail sight t names locals. one_value span may_fail t names locals (settled span (Some bool_type) [] [] (Some 1)) true) (record { names = []; fits = λ v env. fit_value (Some (bool_value b)) v env })
-bool_pattern_gives span b = value_gives span (λ sight. settled span (Some bool_type) [] [] (Some 1)) (λ sight. true) (λ env. Some (bool_value b)) (λ sight env h fine. refl)
+    → PatternGives (λ may_fail sight t names locals. one_value span may_fail t names locals (settled span (Some bool_type) [] [] (Some 1)) true) (record { names = []; fits = λ place v env. fit_value (Some (bool_value b)) v env })
+bool_pattern_gives span b = value_gives span (λ sight. settled span (Some bool_type) [] [] (Some 1)) (λ sight. true) (λ place env. Some (bool_value b)) (λ sight env h fine. refl)
 
 pub number_pattern_gives : (span : Span) (j : SightJudging) (value : Evaluates) → PartGives j value
-    → PatternGives (λ may_fail sight t names locals. one_value span may_fail t names locals (j sight) (is_there (j sight).ty)) (record { names = []; fits = λ v env. fit_value (value env) v env })
-number_pattern_gives span j value g = value_gives span j (λ sight. is_there (j sight).ty) value (λ sight env h fine. let k = g sight env h fine in there_is (j sight).ty k.0 k.1)
+    → PatternGives (λ may_fail sight t names locals. one_value span may_fail t names locals (j sight) (is_there (j sight).ty)) (record { names = []; fits = λ place v env. fit_value (value place) v env })
+number_pattern_gives span j value g = value_gives span j (λ sight. is_there (j sight).ty) (λ place env. value place) (λ sight env h fine. let k = g sight env h fine in there_is (j sight).ty k.0 k.1)
 
 pub member_pattern_gives : (span : Span) (e a : Ident)
     → PatternGives (λ may_fail sight t names locals. one_value span may_fail t names locals (member_judged span sight e a) (is_there (sight.known.items.member e.name a.name)))
-    (record { names = []; fits = λ v env. fit_value (env.items.member e.name a.name) v env })
-member_pattern_gives span e a = value_gives span (λ sight. member_judged span sight e a) (λ sight. is_there (sight.known.items.member e.name a.name)) (λ env. env.items.member e.name a.name)
+    (record { names = []; fits = λ place v env. fit_value (env.items.member e.name a.name) v env })
+member_pattern_gives span e a = value_gives span (λ sight. member_judged span sight e a) (λ sight. is_there (sight.known.items.member e.name a.name)) (λ place env. env.items.member e.name a.name)
     (λ sight env h fine. let k = member_has span sight e a env h fine in there_is (sight.known.items.member e.name a.name) k.2.value (sym (λ i. (h.items i).member e.name a.name) ∙ k.2.is))
 
 -- ---- names
 
 pub name_pattern_gives : (span : Span) (name : List ℕ)
     → PatternGives (λ may_fail sight t names locals. name_pattern span may_fail sight t names locals name (sight.known.items.is_constant name))
-    (record { names = name ∷ []; fits = λ v env. if env.items.is_constant name then fit_value (env.items.constant name) v env else Some (bind name v env) })
+    (record { names = name ∷ []; fits = λ place v env. if env.items.is_constant name then fit_value (env.items.constant name) v env else Some (bind name v env) })
 name_pattern_gives span name = record {
   keeps = name_pattern_keeps span name;
   behind = λ may_fail sight t names locals env v h g f. behind may_fail sight t names locals env v h g (sight.known.items.is_constant name) refl;
   known = λ may_fail sight t names locals env h fine. known may_fail sight t names locals env h (sight.known.items.is_constant name) refl;
   plain = λ may_fail sight t names locals e. plain may_fail sight t names locals (sight.known.items.is_constant name) e;
   unbound = λ may_fail sight t names locals e. unbound may_fail sight t names locals (sight.known.items.is_constant name) e;
-  whole = λ may_fail sight t names locals env v other h f. fits_or_constant sight env v (sight.known.items.is_constant name) (h.kinds name);
+  whole = λ may_fail sight t names locals place env v other h f. fits_or_constant sight env v (sight.known.items.is_constant name) (h.kinds name);
 }
   where
     behind : (may_fail : Bool) (sight : Sight) (t : DslxType) (names : List (List ℕ)) (locals : List Typed) (env : Env) (v : DslxValue) → IsWellTyped (with_typed sight locals) env → GivesOf (types_at sight) t (Some v)
@@ -178,7 +178,7 @@ each_known (p ∷ ps) (m ∷ ms) k may_fail sight ts names locals env h fine =
 
 pub tuple_pattern_gives : (span : Span) (ps : List PatternPair) (ms : List PatternMeant) → EachPatternGives ps ms
     → PatternGives (λ may_fail sight t names locals. tuple_pattern span t (part_types (length ps) t) (parts_judged may_fail sight ps (part_types (length ps) t) names locals))
-    (record { names = all_names ms; fits = λ v env. and_then (elements_of v) (λ vs. fit_each ms vs env) })
+    (record { names = all_names ms; fits = λ place v env. and_then (elements_of v) (λ vs. fit_each place ms vs env) })
 tuple_pattern_gives span ps ms k = record {
   keeps = tuple_pattern_keeps span ps ms (all_keeps ps ms k);
   behind = λ may_fail sight t names locals env v h g f. behind may_fail sight t names locals env v h g (part_types (length ps) (Some t)) refl f;
@@ -187,7 +187,7 @@ tuple_pattern_gives span ps ms k = record {
       each_known ps ms k may_fail sight (part_types (length ps) t) names locals env h (record { faults = (none_in (tuple_faults span t (part_types (length ps) t)) parts.faults fine.faults).1; reached = fine.reached });
   plain = λ may_fail sight t names locals e. each_plain ps ms k may_fail sight (part_types (length ps) t) names locals e;
   unbound = λ may_fail sight t names locals e. each_unbound ps ms k may_fail sight (part_types (length ps) t) names locals e;
-  whole = λ may_fail sight t names locals env v other h f. no_tuple may_fail sight t names locals env v (out-DslxType t) other f;
+  whole = λ may_fail sight t names locals place env v other h f. no_tuple may_fail sight t names locals place env v (out-DslxType t) other f;
 }
   where
     abbrev_whole : Bool → Sight → DslxType → List (List ℕ) → List Typed → Option (List DslxType) → PatternSeen
@@ -203,12 +203,12 @@ tuple_pattern_gives span ps ms k = record {
         let parts = is_tuple_of ts v ((λ i. is_of (sym own.0 i) (value_is i)) ∙ g.of) in
         each_behind ps ms k may_fail sight ts names locals env parts.0 own.1 h parts.2 (parts_declared (types_at sight) ts (subst (IsDeclared (types_at sight)) own.0 g.declared)) f
 
-    no_tuple : (may_fail : Bool) (sight : Sight) (t : DslxType) (names : List (List ℕ)) (locals : List Typed) (env : Env) (v : DslxValue) (l : DslxType-F DslxType) → is_some_tuple l ≡ false
+    no_tuple : (may_fail : Bool) (sight : Sight) (t : DslxType) (names : List (List ℕ)) (locals : List Typed) (place env : Env) (v : DslxValue) (l : DslxType-F DslxType) → is_some_tuple l ≡ false
         → has_broken (abbrev_whole may_fail sight t names locals (part_types_in (length ps) l)).faults ≡ false
-        → (list_all sight.known.items.is_constant (all_names ms) || is_there (and_then (elements_of v) (λ vs. fit_each ms vs env))) ≡ true
-    no_tuple may_fail sight t names locals env v (DslxType-F.Tuple ts) other f = absurd (true≢false other)
-    no_tuple may_fail sight t names locals env v (DslxType-F.Bits s w) other f = absurd (true≢false f)
-    no_tuple may_fail sight t names locals env v (DslxType-F.Array u n) other f = absurd (true≢false f)
-    no_tuple may_fail sight t names locals env v (DslxType-F.Struct name fields ts) other f = absurd (true≢false f)
-    no_tuple may_fail sight t names locals env v (DslxType-F.Enum name s w) other f = absurd (true≢false f)
-    no_tuple may_fail sight t names locals env v DslxType-F.Token other f = absurd (true≢false f)
+        → (list_all sight.known.items.is_constant (all_names ms) || is_there (and_then (elements_of v) (λ vs. fit_each place ms vs env))) ≡ true
+    no_tuple may_fail sight t names locals place env v (DslxType-F.Tuple ts) other f = absurd (true≢false other)
+    no_tuple may_fail sight t names locals place env v (DslxType-F.Bits s w) other f = absurd (true≢false f)
+    no_tuple may_fail sight t names locals place env v (DslxType-F.Array u n) other f = absurd (true≢false f)
+    no_tuple may_fail sight t names locals place env v (DslxType-F.Struct name fields ts) other f = absurd (true≢false f)
+    no_tuple may_fail sight t names locals place env v (DslxType-F.Enum name s w) other f = absurd (true≢false f)
+    no_tuple may_fail sight t names locals place env v DslxType-F.Token other f = absurd (true≢false f)

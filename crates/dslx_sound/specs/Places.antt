@@ -34,10 +34,11 @@ pub record IsFinePattern (sight : Sight) (seen : PatternSeen) : Type 0 where
   pub faults : seen.faults ≡ []
   pub reached : list_all sight.known.is_sound seen.reached ≡ true
 
--- a value fits in both or in neither, and behind the pattern all but locals are bound alike again
+-- a value fits in both or in neither, and behind the pattern all but locals are bound alike again: at two places, behind the names of
+-- the whole pattern that are bound so far
 abbrev pub PatternSeesAlike : PatternJudging → PatternMeant → Type 0
-PatternSeesAlike p meaning = (may_fail : Bool) (sight : Sight) (t : Option DslxType) (names : List (List ℕ)) (locals : List Typed) (a b : Env) (v : DslxValue) → SeeAlike sight a b
-    → IsFinePattern sight (p may_fail sight t names locals) → FitsAlike sight (meaning.fits v a) (meaning.fits v b)
+PatternSeesAlike p meaning = (may_fail : Bool) (sight : Sight) (t : Option DslxType) (names : List (List ℕ)) (locals : List Typed) (place other a b : Env) (v : DslxValue) → SeeAlike sight place other → SeeAlike sight a b
+    → IsFinePattern sight (p may_fail sight t names locals) → FitsAlike sight (meaning.fits place v a) (meaning.fits other v b)
 
 -- each pattern, beside what its tree means
 abbrev pub EachPatternSeesAlike : List PatternPair → List PatternMeant → Type 0

@@ -109,8 +109,8 @@ pub record PatternGives (p : PatternJudging) (meaning : PatternMeant) : Type 0 w
   pub unbound : (may_fail : Bool) (sight : Sight) (t : Option DslxType) (names : List (List ℕ)) (locals : List Typed) → is_empty (p may_fail sight t names locals).names ≡ true
       → ((p may_fail sight t names locals).locals ≡ locals) × (is_empty names ≡ true)
   -- against what is no tuple it binds nothing, or it fits
-  pub whole : (may_fail : Bool) (sight : Sight) (t : DslxType) (names : List (List ℕ)) (locals : List Typed) (env : Env) (v : DslxValue) → is_some_tuple (out-DslxType t) ≡ false → IsWellTyped (with_typed sight locals) env
-      → has_broken (p may_fail sight (Some t) names locals).faults ≡ false → (list_all sight.known.items.is_constant meaning.names || is_there (meaning.fits v env)) ≡ true
+  pub whole : (may_fail : Bool) (sight : Sight) (t : DslxType) (names : List (List ℕ)) (locals : List Typed) (place env : Env) (v : DslxValue) → is_some_tuple (out-DslxType t) ≡ false → IsWellTyped (with_typed sight locals) env
+      → has_broken (p may_fail sight (Some t) names locals).faults ≡ false → (list_all sight.known.items.is_constant meaning.names || is_there (meaning.fits place v env)) ≡ true
 
 abbrev pub EachPatternGives : List PatternPair → List PatternMeant → Type 0
 EachPatternGives [] [] = Unit {0}
@@ -162,7 +162,7 @@ abbrev pub body_seen : Sight → PatternPair → PatternPair → BlockPair → O
 body_seen sight index acc body k t = block_alone (with_typed sight (acc_seen sight index acc k t).locals) body
 
 abbrev pub turn_of : PatternMeant → PatternMeant → Evaluates → Env → DslxValue → DslxValue → Option DslxValue
-turn_of im am f env i a = and_then (im.fits i env) (λ inner. and_then (am.fits a inner) f)
+turn_of im am f env i a = and_then (m.fits_at_place im i env) (λ inner. and_then (m.fits_at_place am a inner) f)
 
 -- the builtins, which are neither effects nor functions of the text
 abbrev pub IsBuiltin : CallKind → Type 0

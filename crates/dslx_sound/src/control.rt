@@ -1,6 +1,6 @@
 ghost use Rattle.dslx_meaning.specs.Environment.{Env};
 ghost use Rattle.dslx_meaning.specs.Lists.{and_then, with_both};
-ghost use Rattle.dslx_meaning.specs.Meaning.{Evaluates, Going, Meant, PatternMeant, Typing, choose, last_meant, loop_over, statements_meant};
+ghost use Rattle.dslx_meaning.specs.Meaning.{Evaluates, Going, Meant, PatternMeant, Typing, choose, fits_at_place, last_meant, loop_over, statements_meant};
 ghost use Rattle.dslx_meaning.specs.Operators.{truth};
 ghost use Rattle.dslx_meaning.specs.Values.{bits_of};
 ghost use Rattle.dslx_meaning.specs.declared.ty.DslxType.{DslxType};
@@ -21,7 +21,7 @@ pub fn control_has_values_of_its_types()
         → IsFine sight.known (if_judged span sight c a b) → HasItsValue (types_at sight) (if_judged span sight c a b) (choose (and_then (x.value env) truth) (f env) (y.value env)) }
     ensures binding { (span : Span) (e : ExprPair) (x : Meant) (written : Option TypePair) (f : Option Typing) (pattern : PatternPair) (pm : PatternMeant) → ExprGives e x → TypeStandsIf written f → PatternKeeps pattern.1 pm.fits
         → StatementGives (λ on_top sight. let_with sight e.0 span (e.1 on_top sight) (written_judged sight written) (pattern_alone false sight (bound_type (written_judged sight written) (e.1 on_top sight).ty) pattern))
-        (λ rest env. and_then (x.value env) (λ v. and_then (pm.fits v env) rest)) }
+        (λ rest env. and_then (x.value env) (λ v. and_then (fits_at_place pm v env) rest)) }
     ensures bare { (e : ExprPair) (x : Meant) → ExprGives e x
         → StatementGives (λ on_top sight. record { sight = behind sight sight.locals e.0; faults = (alone sight e).faults; reached = (alone sight e).reached; size = (alone sight e).size }) (λ rest env. and_then (x.value env) (λ v. rest env)) }
     ensures block { (span : Span) (ss : List StatementJudging) (gs : List Going) (o : Option ExprPair) (x : Option Meant) → StatementsGive ss gs → ExprGivesIf o x

@@ -14,18 +14,18 @@ ghost use Rattle.xb_span.specs.declared.span.Span.{Span};
 
 /// Patterns, and what comes to an arm of a `match`.
 pub fn patterns_keep_places_typed()
-    ensures wild { PatternGives (λ may_fail sight t names locals. record (nothing_bound names locals) { size = 1 }) (record { names = []; fits = λ v env. Some env }) }
+    ensures wild { PatternGives (λ may_fail sight t names locals. record (nothing_bound names locals) { size = 1 }) (record { names = []; fits = λ place v env. Some env }) }
     ensures truth { (span : Span) (b : Bool)
-        → PatternGives (λ may_fail sight t names locals. one_value span may_fail t names locals (settled span (Some bool_type) [] [] (Some 1)) true) (record { names = []; fits = λ v env. fit_value (Some (bool_value b)) v env }) }
+        → PatternGives (λ may_fail sight t names locals. one_value span may_fail t names locals (settled span (Some bool_type) [] [] (Some 1)) true) (record { names = []; fits = λ place v env. fit_value (Some (bool_value b)) v env }) }
     ensures number { (span : Span) (j : SightJudging) (value : Evaluates) → PartGives j value
-        → PatternGives (λ may_fail sight t names locals. one_value span may_fail t names locals (j sight) (is_there (j sight).ty)) (record { names = []; fits = λ v env. fit_value (value env) v env }) }
+        → PatternGives (λ may_fail sight t names locals. one_value span may_fail t names locals (j sight) (is_there (j sight).ty)) (record { names = []; fits = λ place v env. fit_value (value place) v env }) }
     ensures member { (span : Span) (e a : Ident)
         → PatternGives (λ may_fail sight t names locals. one_value span may_fail t names locals (member_judged span sight e a) (is_there (sight.known.items.member e.name a.name)))
-        (record { names = []; fits = λ v env. fit_value (env.items.member e.name a.name) v env }) }
+        (record { names = []; fits = λ place v env. fit_value (env.items.member e.name a.name) v env }) }
     ensures name { (span : Span) (name : List ℕ)
         → PatternGives (λ may_fail sight t names locals. name_pattern span may_fail sight t names locals name (sight.known.items.is_constant name))
-        (record { names = name ∷ []; fits = λ v env. if env.items.is_constant name then fit_value (env.items.constant name) v env else Some (bind name v env) }) }
+        (record { names = name ∷ []; fits = λ place v env. if env.items.is_constant name then fit_value (env.items.constant name) v env else Some (bind name v env) }) }
     ensures tuple { (span : Span) (ps : List PatternPair) (ms : List PatternMeant) → EachPatternGives ps ms
         → PatternGives (λ may_fail sight t names locals. tuple_pattern span t (part_types (length ps) t) (parts_judged may_fail sight ps (part_types (length ps) t) names locals))
-        (record { names = all_names ms; fits = λ v env. and_then (elements_of v) (λ vs. fit_each ms vs env) }) }
+        (record { names = all_names ms; fits = λ place v env. and_then (elements_of v) (λ vs. fit_each place ms vs env) }) }
 {}

@@ -10,7 +10,7 @@ use Rattle.dslx_meaning.specs.Types.{same_bool, same_type, bool_type, unit_type}
 use Rattle.dslx_meaning.specs.Values.{signed_step, bits_of, unit_value}
 use Rattle.dslx_meaning.specs.Operators.{truth, truth_of}
 use Rattle.dslx_meaning.specs.Environment.{Env}
-use Rattle.dslx_meaning.specs.Meaning.{Evaluates, Meant, Going, PatternMeant, choose, statements_meant, last_meant, turns_from, turn_count, loop_over}
+use Rattle.dslx_meaning.specs.Meaning.{Evaluates, Meant, Going, PatternMeant, choose, fits_at_place, statements_meant, last_meant, turns_from, turn_count, loop_over}
 use Rattle.dslx_meaning.specs.declared.ty.BitKind.{BitKind}
 use Rattle.dslx_meaning.specs.declared.value.SignedWord.{SignedWord}
 use Rattle.dslx_meaning.specs.declared.ty.DslxType.{DslxType}
@@ -128,27 +128,27 @@ pub let_keeps : (sight : Sight) (e : ExprPair) (m : Meant) (span : Span) (writte
     → bound_type written (Some t) ≡ Some t → PatternKeeps pattern.1 pm.fits
     → (env : Env) → IsWellTyped sight env
     → has_broken (let_with sight e.0 span (within sight e) written (pattern_alone false sight (bound_type written (within sight e).ty) pattern)).faults ≡ false
-    → GoesOnTyped (let_with sight e.0 span (within sight e) written (pattern_alone false sight (bound_type written (within sight e).ty) pattern)) env (λ rest env. and_then (m.value env) (λ v. and_then (pm.fits v env) rest))
+    → GoesOnTyped (let_with sight e.0 span (within sight e) written (pattern_alone false sight (bound_type written (within sight e).ty) pattern)) env (λ rest env. and_then (m.value env) (λ v. and_then (fits_at_place pm v env) rest))
 let_keeps sight e m span written pattern pm t value own bound keeps env h f =
     let seen = pattern_alone false sight (bound_type written (within sight e).ty) pattern in
     let q = unbroken_parts ((within sight e).faults ++ annotation_faults span written (within sight e).ty) seen.faults f in
     by_type (bound_type written (within sight e).ty) (ap (bound_type written) own ∙ bound) (value env h t own) q.1
   where
     Behind : Option DslxType → Type 0
-    Behind o = GoesOnTyped (let_with sight e.0 span (within sight e) written (pattern_alone false sight o pattern)) env (λ rest env. and_then (m.value env) (λ v. and_then (pm.fits v env) rest))
+    Behind o = GoesOnTyped (let_with sight e.0 span (within sight e) written (pattern_alone false sight o pattern)) env (λ rest env. and_then (m.value env) (λ v. and_then (fits_at_place pm v env) rest))
 
-    on : (g : GivesOf (types_at sight) t (m.value env)) → FitsOrFails false sight (pattern_alone false sight (Some t) pattern) (pm.fits g.value env) → Behind (Some t)
+    on : (g : GivesOf (types_at sight) t (m.value env)) → FitsOrFails false sight (pattern_alone false sight (Some t) pattern) (fits_at_place pm g.value env) → Behind (Some t)
     on g (Fits inner is typed) = record {
       inner = inner;
       typed = record { locals = typed.locals; numbers = typed.numbers; constants = typed.constants; members = typed.members; kinds = typed.kinds; typed = typed.typed; valued = typed.valued; place = record { others = typed.place.others; hides = typed.place.hides }; items = typed.items; known = typed.known };
-      goes = λ rest. ap (λ o. and_then o (λ v. and_then (pm.fits v env) rest)) g.is ∙ ap (λ o. and_then o rest) is;
+      goes = λ rest. ap (λ o. and_then o (λ v. and_then (fits_at_place pm v env) rest)) g.is ∙ ap (λ o. and_then o rest) is;
     }
     on g (Fails is may sure) = absurd (true≢false (sym may))
 
     by_type : (o : Option DslxType) → o ≡ Some t → GivesOf (types_at sight) t (m.value env) → has_broken (pattern_alone false sight o pattern).faults ≡ false → Behind o
     by_type o q g k =
         subst Behind (sym q)
-        (on g (keeps false sight t [] sight.locals env g.value h (record { value = g.value; is = refl; of = g.of; declared = g.declared }) (ap (λ p. has_broken (pattern_alone false sight p pattern).faults) (sym q) ∙ k)))
+        (on g (keeps false sight t [] sight.locals env env g.value h h (record { value = g.value; is = refl; of = g.of; declared = g.declared }) (ap (λ p. has_broken (pattern_alone false sight p pattern).faults) (sym q) ∙ k)))
 
 -- an expression as a statement, where it has a type
 pub bare_keeps : (sight : Sight) (e : ExprPair) (m : Meant) (t : DslxType) → ((env : Env) → IsWellTyped sight env → GivesItsType (types_at sight) (within sight e) (m.value env)) → (within sight e).ty ≡ Some t

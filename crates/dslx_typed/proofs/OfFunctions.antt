@@ -10,7 +10,7 @@ use Rattle.dslx_meaning.specs.Lists.{and_then, with_both, where_true}
 use Rattle.dslx_meaning.specs.Values.{bits_of}
 use Rattle.dslx_meaning.specs.Types.{same_type}
 use Rattle.dslx_meaning.specs.Environment.{Meanings, Given, Env}
-use Rattle.dslx_meaning.specs.Meaning.{Evaluates, PatternMeant, loop_over, value_of_block}
+use Rattle.dslx_meaning.specs.Meaning.{Evaluates, PatternMeant, fits_at_place, loop_over, value_of_block}
 use Rattle.dslx_meaning.specs.Items.{operands_bound, numbers_bound, function_value}
 use Rattle.dslx_meaning.specs.declared.ty.DslxType.{DslxType}
 use Rattle.dslx_meaning.specs.declared.value.DslxValue.{DslxValue}
@@ -45,16 +45,16 @@ pub turn_gives : (sight : Sight) (k t u : DslxType) (index acc : PatternPair) (i
     → has_broken (pattern_alone false sight (Some k) index).faults ≡ false → has_broken (turn_seen sight k t index acc).faults ≡ false
     → j.ty ≡ Some u → same_type t u ≡ true
     → ((inner : Env) → IsWellTyped (with_typed sight (turn_seen sight k t index acc).locals) inner → GivesItsType (types_at sight) j (body inner))
-    → IsWellTyped sight env → TurnGives k t (λ i a. and_then (im.fits i env) (λ inner. and_then (am.fits a inner) body))
+    → IsWellTyped sight env → TurnGives k t (λ i a. and_then (fits_at_place im i env) (λ inner. and_then (fits_at_place am a inner) body))
 turn_gives sight k t u index acc im am j body env ik ak dk dt fi fa own same gives h i a ki ta =
-    let first = fits_surely sight (pattern_alone false sight (Some k) index) (im.fits i env)
-    (ik false sight k [] sight.locals env i h (record { value = i; is = refl; of = ki; declared = dk }) fi) in
-    let second = fits_surely (with_typed sight (pattern_alone false sight (Some k) index).locals) (turn_seen sight k t index acc) (am.fits a first.0)
-    (ak false (with_typed sight (pattern_alone false sight (Some k) index).locals) t [] (pattern_alone false sight (Some k) index).locals first.0 a first.2
+    let first = fits_surely sight (pattern_alone false sight (Some k) index) (fits_at_place im i env)
+    (ik false sight k [] sight.locals env env i h h (record { value = i; is = refl; of = ki; declared = dk }) fi) in
+    let second = fits_surely (with_typed sight (pattern_alone false sight (Some k) index).locals) (turn_seen sight k t index acc) (fits_at_place am a first.0)
+    (ak false (with_typed sight (pattern_alone false sight (Some k) index).locals) t [] (pattern_alone false sight (Some k) index).locals first.0 first.0 a first.2 first.2
     (record { value = a; is = refl; of = ta; declared = dt }) fa) in
     let g = gives second.0 second.2 u own in (
       g.value,
-      ap (λ o. and_then o (λ inner. and_then (am.fits a inner) body)) first.1 ∙ ap (λ o. and_then o body) second.1 ∙ g.is,
+      ap (λ o. and_then o (λ inner. and_then (fits_at_place am a inner) body)) first.1 ∙ ap (λ o. and_then o body) second.1 ∙ g.is,
       ap (λ x. is_of x g.value) (one_of_text (types_at sight) t u same dt g.declared) ∙ g.of,
     )
 

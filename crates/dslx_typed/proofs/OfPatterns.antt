@@ -98,8 +98,8 @@ one_value_keeps span may_fail sight t names locals own known env w v h f = by_va
 -- ---- names
 
 pub name_pattern_keeps : (span : Span) (name : List ℕ) → PatternKeeps (λ may_fail sight t names locals. name_pattern span may_fail sight t names locals name (sight.known.items.is_constant name))
-    (λ v env. if env.items.is_constant name then fit_value (env.items.constant name) v env else Some (bind name v env))
-name_pattern_keeps span name may_fail sight t names locals env v h g f = by_kind (sight.known.items.is_constant name) (h.kinds name) refl f
+    (λ place v env. if env.items.is_constant name then fit_value (env.items.constant name) v env else Some (bind name v env))
+name_pattern_keeps span name may_fail sight t names locals place env v at h g f = by_kind (sight.known.items.is_constant name) (h.kinds name) refl f
   where
     by_kind : (b : Bool) → env.items.is_constant name ≡ b → sight.known.items.is_constant name ≡ b → has_broken (name_pattern span may_fail sight (Some t) names locals name b).faults ≡ false
         → FitsOrFails may_fail sight (name_pattern span may_fail sight (Some t) names locals name b) (if env.items.is_constant name then fit_value (env.items.constant name) v env else Some (bind name v env))
@@ -112,30 +112,30 @@ name_pattern_keeps span name may_fail sight t names locals env v h g f = by_kind
 
 -- ---- tuples
 
-each_keeps : (ps : List PatternPair) (ms : List PatternMeant) → EachKeeps ps ms → (may_fail : Bool) (sight : Sight) (ts : List DslxType) (names : List (List ℕ)) (locals : List Typed) (env : Env) (vs : List DslxValue)
-    → length ts ≡ length ps → IsWellTyped (with_typed sight locals) env → each_of (map is_of ts) vs ≡ true → AllDeclared (types_at sight) ts → has_broken (parts_judged may_fail sight ps (Some ts) names locals).faults ≡ false
-    → FitsOrFails may_fail sight (parts_judged may_fail sight ps (Some ts) names locals) (fit_each ms vs env)
-each_keeps [] [] k may_fail sight [] names locals env [] n h e d f = Fits env refl h
-each_keeps [] [] k may_fail sight [] names locals env (v ∷ vs) n h e d f = absurd (true≢false (sym e))
-each_keeps [] [] k may_fail sight (t ∷ ts) names locals env vs n h e d f = absurd (some_types n)
+each_keeps : (ps : List PatternPair) (ms : List PatternMeant) → EachKeeps ps ms → (may_fail : Bool) (sight : Sight) (ts : List DslxType) (names : List (List ℕ)) (locals : List Typed) (place env : Env) (vs : List DslxValue)
+    → length ts ≡ length ps → IsWellTyped sight place → IsWellTyped (with_typed sight locals) env → each_of (map is_of ts) vs ≡ true → AllDeclared (types_at sight) ts → has_broken (parts_judged may_fail sight ps (Some ts) names locals).faults ≡ false
+    → FitsOrFails may_fail sight (parts_judged may_fail sight ps (Some ts) names locals) (fit_each place ms vs env)
+each_keeps [] [] k may_fail sight [] names locals place env [] n at h e d f = Fits env refl h
+each_keeps [] [] k may_fail sight [] names locals place env (v ∷ vs) n at h e d f = absurd (true≢false (sym e))
+each_keeps [] [] k may_fail sight (t ∷ ts) names locals place env vs n at h e d f = absurd (some_types n)
   where
     some_types : suc (length ts) ≡ 0 → ⊥
     some_types q = omega (arith, q)
-each_keeps [] (m ∷ ms) k may_fail sight ts names locals env vs n h e d f = absurd k
-each_keeps (p ∷ ps) [] k may_fail sight ts names locals env vs n h e d f = absurd k
-each_keeps (p ∷ ps) (m ∷ ms) k may_fail sight [] names locals env vs n h e d f = absurd (no_types n)
+each_keeps [] (m ∷ ms) k may_fail sight ts names locals place env vs n at h e d f = absurd k
+each_keeps (p ∷ ps) [] k may_fail sight ts names locals place env vs n at h e d f = absurd k
+each_keeps (p ∷ ps) (m ∷ ms) k may_fail sight [] names locals place env vs n at h e d f = absurd (no_types n)
   where
     no_types : 0 ≡ suc (length ps) → ⊥
     no_types q = omega (arith, q)
-each_keeps (p ∷ ps) (m ∷ ms) k may_fail sight (t ∷ ts) names locals env [] n h e d f = absurd (true≢false (sym e))
-each_keeps (p ∷ ps) (m ∷ ms) k may_fail sight (t ∷ ts) names locals env (v ∷ vs) n h e d f =
+each_keeps (p ∷ ps) (m ∷ ms) k may_fail sight (t ∷ ts) names locals place env [] n at h e d f = absurd (true≢false (sym e))
+each_keeps (p ∷ ps) (m ∷ ms) k may_fail sight (t ∷ ts) names locals place env (v ∷ vs) n at h e d f =
     let first = p.1 may_fail sight (Some t) names locals in
     let rest = parts_judged may_fail sight ps (Some ts) first.names first.locals in
     let q = unbroken_parts first.faults rest.faults f in
     let r = and_true (is_of t v) (each_of (map is_of ts) vs) e in
     let fewer : length ts ≡ length ps = omega (arith, n) in
-    behind (λ inner typed. each_keeps ps ms k.1 may_fail sight ts first.names first.locals inner vs fewer typed r.1 d.1 q.1)
-    (k.0 may_fail sight t names locals env v h (record { value = v; is = refl; of = r.0; declared = d.0 }) q.0)
+    behind (λ inner typed. each_keeps ps ms k.1 may_fail sight ts first.names first.locals place inner vs fewer at typed r.1 d.1 q.1)
+    (k.0 may_fail sight t names locals place env v at h (record { value = v; is = refl; of = r.0; declared = d.0 }) q.0)
   where
     first_seen : PatternSeen
     first_seen = p.1 may_fail sight (Some t) names locals
@@ -151,12 +151,12 @@ each_keeps (p ∷ ps) (m ∷ ms) k may_fail sight (t ∷ ts) names locals env (v
     both_fit o (Fits further is typed) = Fits further is typed
     both_fit o (Fails is may sure) = Fails is may (and_not first_seen.is_sure sure)
 
-    behind : ((inner : Env) → IsWellTyped (with_typed sight first_seen.locals) inner → FitsOrFails may_fail sight rest_seen (fit_each ms vs inner)) → FitsOrFails may_fail sight first_seen (m.fits v env)
-        → FitsOrFails may_fail sight (parts_judged may_fail sight (p ∷ ps) (Some (t ∷ ts)) names locals) (and_then (m.fits v env) (fit_each ms vs))
+    behind : ((inner : Env) → IsWellTyped (with_typed sight first_seen.locals) inner → FitsOrFails may_fail sight rest_seen (fit_each place ms vs inner)) → FitsOrFails may_fail sight first_seen (m.fits place v env)
+        → FitsOrFails may_fail sight (parts_judged may_fail sight (p ∷ ps) (Some (t ∷ ts)) names locals) (and_then (m.fits place v env) (fit_each place ms vs))
     behind go (Fits inner is typed) =
-        subst (λ o. FitsOrFails may_fail sight (parts_judged may_fail sight (p ∷ ps) (Some (t ∷ ts)) names locals) o) (ap (λ o. and_then o (fit_each ms vs)) (sym is)) (both_fit (fit_each ms vs inner) (go inner typed))
+        subst (λ o. FitsOrFails may_fail sight (parts_judged may_fail sight (p ∷ ps) (Some (t ∷ ts)) names locals) o) (ap (λ o. and_then o (fit_each place ms vs)) (sym is)) (both_fit (fit_each place ms vs inner) (go inner typed))
     behind go (Fails is may sure) =
-        Fails (ap (λ o. and_then o (fit_each ms vs)) is) may (ap (λ b. b && rest_seen.is_sure) sure)
+        Fails (ap (λ o. and_then o (fit_each place ms vs)) is) may (ap (λ b. b && rest_seen.is_sure) sure)
 
 -- a type that has as many parts is a tuple
 pub parts_of_type : (n : ℕ) (t : DslxType) (ts : List DslxType) → part_types n (Some t) ≡ Some ts → (t ≡ ty.Tuple ts) × (length ts ≡ n)
@@ -181,8 +181,8 @@ parts_of_type n t ts e = by_level (out-DslxType t) refl e
 
 pub tuple_pattern_keeps : (span : Span) (ps : List PatternPair) (ms : List PatternMeant) → EachKeeps ps ms
     → PatternKeeps (λ may_fail sight t names locals. tuple_pattern span t (part_types (length ps) t) (parts_judged may_fail sight ps (part_types (length ps) t) names locals))
-    (λ v env. and_then (elements_of v) (λ vs. fit_each ms vs env))
-tuple_pattern_keeps span ps ms k may_fail sight t names locals env v h g f = by_types (part_types (length ps) (Some t)) refl f
+    (λ place v env. and_then (elements_of v) (λ vs. fit_each place ms vs env))
+tuple_pattern_keeps span ps ms k may_fail sight t names locals place env v at h g f = by_types (part_types (length ps) (Some t)) refl f
   where
     whole : Option (List DslxType) → PatternSeen
     whole o = tuple_pattern span (Some t) o (parts_judged may_fail sight ps o names locals)
@@ -191,12 +191,12 @@ tuple_pattern_keeps span ps ms k may_fail sight t names locals env v h g f = by_
     same_fit ts o (Fits inner is typed) = Fits inner is typed
     same_fit ts o (Fails is may sure) = Fails is may sure
 
-    by_types : (o : Option (List DslxType)) → part_types (length ps) (Some t) ≡ o → has_broken (whole o).faults ≡ false → FitsOrFails may_fail sight (whole o) (and_then (elements_of v) (λ vs. fit_each ms vs env))
+    by_types : (o : Option (List DslxType)) → part_types (length ps) (Some t) ≡ o → has_broken (whole o).faults ≡ false → FitsOrFails may_fail sight (whole o) (and_then (elements_of v) (λ vs. fit_each place ms vs env))
     by_types None q e = absurd (true≢false e)
     by_types (Some ts) q e =
         let own = parts_of_type (length ps) t ts q in
         let value_is = same_some v g.value g.is in
         let parts = is_tuple_of ts v ((λ i. is_of (sym own.0 i) (value_is i)) ∙ g.of) in
-        subst (λ o. FitsOrFails may_fail sight (whole (Some ts)) o) (ap (λ l. and_then (tuple_step l) (λ vs. fit_each ms vs env)) (sym parts.1))
-        (same_fit ts (fit_each ms parts.0 env)
-        (each_keeps ps ms k may_fail sight ts names locals env parts.0 own.1 h parts.2 (parts_declared (types_at sight) ts (subst (IsDeclared (types_at sight)) own.0 g.declared)) e))
+        subst (λ o. FitsOrFails may_fail sight (whole (Some ts)) o) (ap (λ l. and_then (tuple_step l) (λ vs. fit_each place ms vs env)) (sym parts.1))
+        (same_fit ts (fit_each place ms parts.0 env)
+        (each_keeps ps ms k may_fail sight ts names locals place env parts.0 own.1 at h parts.2 (parts_declared (types_at sight) ts (subst (IsDeclared (types_at sight)) own.0 g.declared)) e))

@@ -58,11 +58,11 @@ pub data FitsOrFails (may_fail : Bool) (sight : Sight) (seen : PatternSeen) (o :
   Fits : (inner : Env) → o ≡ Some inner → IsWellTyped (with_typed sight seen.locals) inner → FitsOrFails may_fail sight seen o
   Fails : o ≡ None → may_fail ≡ true → seen.is_sure ≡ false → FitsOrFails may_fail sight seen o
 
--- of a pattern that breaks no rule
+-- of a pattern that breaks no rule, in a pattern at a place, whose other names are bound so far
 abbrev pub PatternKeeps : PatternJudging → Fitting → Type 0
-PatternKeeps p fits = (may_fail : Bool) (sight : Sight) (t : DslxType) (names : List (List ℕ)) (locals : List Typed) (env : Env) (v : DslxValue)
-    → IsWellTyped (with_typed sight locals) env → GivesOf (types_at sight) t (Some v) → has_broken (p may_fail sight (Some t) names locals).faults ≡ false
-    → FitsOrFails may_fail sight (p may_fail sight (Some t) names locals) (fits v env)
+PatternKeeps p fits = (may_fail : Bool) (sight : Sight) (t : DslxType) (names : List (List ℕ)) (locals : List Typed) (place env : Env) (v : DslxValue)
+    → IsWellTyped sight place → IsWellTyped (with_typed sight locals) env → GivesOf (types_at sight) t (Some v) → has_broken (p may_fail sight (Some t) names locals).faults ≡ false
+    → FitsOrFails may_fail sight (p may_fail sight (Some t) names locals) (fits place v env)
 
 -- each pattern keeps what is in sight well typed
 abbrev pub EachKeeps : List PatternPair → List PatternMeant → Type 0

@@ -2,7 +2,7 @@ ghost use Rattle.std.specs.Prelude.{◌≡◌, ◌++◌, ℕ, List, true, false,
 ghost use Rattle.xb_span.specs.declared.span.Span.{Span};
 ghost use Rattle.dslx_meaning.specs.Environment.{Env};
 ghost use Rattle.dslx_meaning.specs.Lists.{and_then, with_both};
-ghost use Rattle.dslx_meaning.specs.Meaning.{ArmMeant, Going, Meant, PatternMeant, choose, last_meant, loop_over, match_arms, statements_meant};
+ghost use Rattle.dslx_meaning.specs.Meaning.{ArmMeant, Going, Meant, PatternMeant, choose, fits_at_place, last_meant, loop_over, match_arms, statements_meant};
 ghost use Rattle.dslx_meaning.specs.Operators.{truth};
 ghost use Rattle.dslx_meaning.specs.Values.{bits_of};
 ghost use Rattle.dslx_meaning.specs.declared.ty.DslxType.{DslxType};
@@ -32,7 +32,7 @@ pub fn blocks_give_values_of_their_types()
         → (env : Env) → IsWellTyped sight env
         → has_broken (let_with sight e.0 span (within sight e) written (pattern_alone false sight (bound_type written (within sight e).ty) pattern)).faults ≡ false
         → GoesOnTyped (let_with sight e.0 span (within sight e) written (pattern_alone false sight (bound_type written (within sight e).ty) pattern)) env
-        (λ rest env. and_then (m.value env) (λ v. and_then (pm.fits v env) rest)) }
+        (λ rest env. and_then (m.value env) (λ v. and_then (fits_at_place pm v env) rest)) }
     ensures statements { (sight : Sight) (ss : List StatementJudging) (gs : List Going) → AllKeep sight ss gs → StatementKeeps sight (statements_judged ss) (statements_meant gs) }
     ensures whole { (span : Span) (sight : Sight) (ss : List StatementJudging) (gs : List Going) (o : Option ExprPair) (p : Option Meant) (size : Option ℕ) (env : Env)
         → AllKeep sight ss gs → LastGives (statements_judged ss false sight).sight o p → IsWellTyped sight env

@@ -2,7 +2,7 @@ ghost use Rattle.std.specs.Prelude.{◌≡◌, true, false, Option, Some};
 ghost use Rattle.xb_span.specs.declared.span.Span.{Span};
 ghost use Rattle.dslx_meaning.specs.Environment.{Env};
 ghost use Rattle.dslx_meaning.specs.Lists.{and_then, with_both};
-ghost use Rattle.dslx_meaning.specs.Meaning.{Evaluates, PatternMeant, loop_over};
+ghost use Rattle.dslx_meaning.specs.Meaning.{Evaluates, PatternMeant, fits_at_place, loop_over};
 ghost use Rattle.dslx_meaning.specs.Types.{same_type};
 ghost use Rattle.dslx_meaning.specs.Values.{bits_of};
 ghost use Rattle.dslx_meaning.specs.declared.ty.DslxType.{DslxType};
@@ -24,7 +24,7 @@ pub fn loops_give_values_of_their_types()
         → has_broken (pattern_alone false sight (Some k) index).faults ≡ false → has_broken (turn_seen sight k t index acc).faults ≡ false
         → j.ty ≡ Some u → same_type t u ≡ true
         → ((inner : Env) → IsWellTyped (with_typed sight (turn_seen sight k t index acc).locals) inner → GivesItsType (types_at sight) j (body inner))
-        → IsWellTyped sight env → TurnGives k t (λ i a. and_then (im.fits i env) (λ inner. and_then (am.fits a inner) body)) }
+        → IsWellTyped sight env → TurnGives k t (λ i a. and_then (fits_at_place im i env) (λ inner. and_then (fits_at_place am a inner) body)) }
     ensures whole { (types : Declarations) (span body_span : Span) (from to : ConstantSeen) (start : Judgement) (written : Option Judgement)
         (index acc : PatternSeen) (body : Judgement) (x y z : Option DslxValue) (turn : DslxValue → DslxValue → Option DslxValue)
         → GivesItsType types from.judgement x → GivesItsType types to.judgement y → GivesItsType types start z

@@ -20,8 +20,8 @@ pub fn patterns_keep_names_typed()
         → FitsOrFails may_fail sight (one_value span may_fail t names locals own known) (fit_value w v env) }
     ensures name { (span : Span) (name : List ℕ)
         → PatternKeeps (λ may_fail sight t names locals. name_pattern span may_fail sight t names locals name (sight.known.items.is_constant name))
-        (λ v env. if env.items.is_constant name then fit_value (env.items.constant name) v env else Some (bind name v env)) }
+        (λ place v env. if env.items.is_constant name then fit_value (env.items.constant name) v env else Some (bind name v env)) }
     ensures tuple { (span : Span) (ps : List PatternPair) (ms : List PatternMeant) → EachKeeps ps ms
         → PatternKeeps (λ may_fail sight t names locals. tuple_pattern span t (part_types (length ps) t) (parts_judged may_fail sight ps (part_types (length ps) t) names locals))
-        (λ v env. and_then (elements_of v) (λ vs. fit_each ms vs env)) }
+        (λ place v env. and_then (elements_of v) (λ vs. fit_each place ms vs env)) }
 {}
