@@ -1,5 +1,5 @@
 -- One less, where there is one.
-use Rattle.std.proofs.Common.{◌≡◌, ◌-◌, ℕ, zero, suc, Option, Some, None, refl, ap, arith}
+use Rattle.std.proofs.Common.{◌≡◌, ◌-◌, ℕ, zero, suc, Some, None, refl, ap, arith}
 use Rattle.std.specs.Prelude.{◌≢◌}
 use Rattle.dslx_const_machine.specs.States.{one_less}
 

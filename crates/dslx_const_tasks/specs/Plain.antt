@@ -59,7 +59,7 @@ plain_waiting w = record { patterns = w.patterns.now; values = w.values }
 abbrev pub plain_sequel : Sequel → m.Sequel
 plain_sequel (sequel.Statements ss last) = m.ThenStatements ss.now last.now
 plain_sequel (sequel.Accumulator p v b) = m.ThenAccumulator p.now v b.now
-plain_sequel (sequel.Body b) = m.ThenBody b.now
+plain_sequel (sequel.Body k b) = m.ThenBody k b.now
 plain_sequel (sequel.Arm ps a rest v) = m.ThenArm ps.now a.now rest.now v
 
 abbrev pub plain_call : Call → m.ConstCall
@@ -95,8 +95,8 @@ abbrev pub plain_choice_task : ChoiceTask → m.ConstTask
 plain_choice_task (choice.Select arms) = m.Selects arms.now
 plain_choice_task (choice.Try ps a rest v) = m.Tries ps.now a.now rest.now v
 plain_choice_task (choice.BindNothing pss e) = m.BindsNothing (map {B = List Pattern} (λ ps. ps.now) pss) e.now
-plain_choice_task (choice.Fit work k next) = m.Fits (map plain_waiting work) k (plain_sequel next)
-plain_choice_task (choice.Compare v work k next) = m.Compares v (map plain_waiting work) k (plain_sequel next)
+plain_choice_task (choice.Fit work names next) = m.Fits (map plain_waiting work) names (plain_sequel next)
+plain_choice_task (choice.Compare v work names next) = m.Compares v (map plain_waiting work) names (plain_sequel next)
 plain_choice_task (choice.Forget k) = m.Forgets k
 plain_choice_task (choice.StartLoop f) = m.StartsLoop f.now
 plain_choice_task (choice.FindFirst f start) = m.FindsFirst f.now start

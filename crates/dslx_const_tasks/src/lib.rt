@@ -6,7 +6,7 @@ mod machine;
 mod order;
 mod task;
 
-pub use count::{one_left, one_less, one_more};
+pub use count::{one_left, one_less};
 pub use machine::Machine;
 pub use order::in_order;
 pub use task::{

@@ -68,7 +68,8 @@ pub enum Sequel<'a> {
     Statements(&'a [Stmt], &'a Option<Boxed<Expr>>),
     /// A turn of a loop: the pattern of what is accumulated, that, and the body.
     Accumulator(&'a Pattern, DslxValue, &'a Block),
-    Body(&'a Block),
+    /// The body of a turn, behind as many names of the index.
+    Body(usize, &'a Block),
     /// An arm; else its other patterns, and the arms behind it.
     Arm(&'a [Pattern], &'a Arm, &'a [Arm], DslxValue),
 }
@@ -188,10 +189,10 @@ pub enum ChoiceTask<'a> {
     Try(&'a [Pattern], &'a Arm, &'a [Arm], DslxValue),
     /// An expression behind patterns that may bind nothing.
     BindNothing(Stack<&'a [Pattern]>, &'a Expr),
-    /// What is to fit, how many names are bound so far, and what comes behind.
-    Fit(Stack<Waiting<'a>>, usize, Boxed<Sequel<'a>>),
+    /// What is to fit, what the pattern binds so far, and what comes behind.
+    Fit(Stack<Waiting<'a>>, Scope<'a>, Boxed<Sequel<'a>>),
     /// The value is to be this one.
-    Compare(DslxValue, Stack<Waiting<'a>>, usize, Boxed<Sequel<'a>>),
+    Compare(DslxValue, Stack<Waiting<'a>>, Scope<'a>, Boxed<Sequel<'a>>),
     Forget(usize),
     StartLoop(&'a For),
     FindFirst(&'a For, DslxValue),

@@ -1,5 +1,5 @@
 -- The first of a list, as the top of a stack.
-use Rattle.std.proofs.Common.{◌≡◌, List, [], ◌∷◌, Option, Some, None, drop, refl, ap, sym, ◌∙◌}
+use Rattle.std.proofs.Common.{◌≡◌, List, [], ◌∷◌, Some, None, drop, refl, ap, sym, ◌∙◌}
 use Rattle.std.specs.Prelude.{slice_get}
 
 pub popped : {A : Type 0} (xs rest : List A) (x : A) → slice_get xs 0 ≡ Some x → rest ≡ drop 1 xs → xs ≡ x ∷ rest
