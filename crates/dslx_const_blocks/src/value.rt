@@ -10,6 +10,7 @@ use dslx_const_items::{binary, cast, number_of, part};
 use dslx_const_patterns::fit_one;
 use dslx_const_tasks::{Machine, OneMaker, PairMaker, Sequel, Task, ValueTask};
 use dslx_meaning::{Bare, BitKind, DslxValue};
+use dslx_names::Scope;
 use dslx_tree::{Block, Expr, Pattern, Stmt};
 use dslx_value_operators::{element_value, index_value, prefix_value, slice_value, truth};
 use dslx_values::{bits_in, field_of, unit_value};
@@ -112,7 +113,7 @@ fn begin_bind<'a>(
             pattern,
             value,
             Stack::new(alloc),
-            0,
+            Scope::new(alloc),
             Boxed::new(alloc, Sequel::Statements(statements, last))?,
         ),
         None => Ok(()),

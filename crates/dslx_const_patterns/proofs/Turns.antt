@@ -1,5 +1,5 @@
 -- A loop has turns where its ends are of one type.
-use Rattle.std.proofs.Common.{◌≡◌, ℕ, [], ◌∷◌, Bool, true, false, Option, Some, None, refl, if◌then◌else◌}
+use Rattle.std.proofs.Common.{◌≡◌, ℕ, [], ◌∷◌, Bool, true, false, Some, None, refl, if◌then◌else◌}
 use Rattle.dslx_tree.specs.declared.expr.For.{For}
 use Rattle.dslx_meaning.specs.Lists.{where_true}
 use Rattle.dslx_meaning.specs.Meaning.{turn_count}

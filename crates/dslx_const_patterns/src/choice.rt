@@ -15,6 +15,7 @@ use crate::pattern::{compare, fit_all, fit_one};
 use dslx_const_items::is_constant;
 use dslx_const_tasks::{ChoiceTask, Machine, Sequel, Task, one_less};
 use dslx_meaning::{DslxValue, SignedWord};
+use dslx_names::Scope;
 use dslx_tree::{Arm, Expr, For, Pattern, Shape};
 use dslx_value_operators::turns;
 use dslx_values::{bits_of, copy_value};
@@ -36,9 +37,9 @@ pub fn step_choice<'a>(
             try_patterns(machine, alloc, patterns, arm, rest, value)
         }
         ChoiceTask::BindNothing(patterns, expr) => bind_nothing(machine, alloc, patterns, expr),
-        ChoiceTask::Fit(work, count, next) => fit_all(machine, alloc, work, count, next),
-        ChoiceTask::Compare(value, work, count, next) => {
-            compare(machine, alloc, value, work, count, next)
+        ChoiceTask::Fit(work, names, next) => fit_all(machine, alloc, work, names, next),
+        ChoiceTask::Compare(value, work, names, next) => {
+            compare(machine, alloc, value, work, names, next)
         }
         ChoiceTask::Forget(count) => {
             machine.bound.forget(count);
@@ -99,7 +100,7 @@ fn try_patterns<'a>(
                 first,
                 copy,
                 Stack::new(alloc),
-                0,
+                Scope::new(alloc),
                 Boxed::new(alloc, Sequel::Arm(others, arm, rest, value))?,
             )
         }
@@ -336,7 +337,7 @@ fn turn_once<'a>(
                 &turns.index,
                 DslxValue::Bits(signed, index),
                 Stack::new(alloc),
-                0,
+                Scope::new(alloc),
                 Boxed::new(
                     alloc,
                     Sequel::Accumulator(&turns.accumulator, value, &turns.body),

@@ -9,9 +9,9 @@ ghost use Rattle.dslx_const_machine.specs.Tasks.{Compares, Forgets};
 ghost use Rattle.dslx_const_tasks.specs.Plain.{shown, plain_value_task, plain_waiting, plain_sequel};
 
 use dslx_const_items::{is_constant, use_constant, use_member};
-use dslx_const_tasks::{ChoiceTask, Machine, Sequel, ValueTask, Waiting, in_order, one_more};
+use dslx_const_tasks::{ChoiceTask, Machine, Sequel, ValueTask, Waiting, in_order};
 use dslx_meaning::{Bare, DslxValue};
-use dslx_names::Binding;
+use dslx_names::{Binding, Scope};
 use dslx_tree::{Number, Pattern, Shape};
 use dslx_values::{bool_value, into_elements, same_value};
 use stacks::Stack;
@@ -47,19 +47,19 @@ pub fn fit_one<'a>(
     pattern: &'a Pattern,
     value: DslxValue,
     work: Stack<Waiting<'a>>,
-    count: usize,
+    names: Scope<'a>,
     next: Boxed<Sequel<'a>>,
 ) -> Result<(), AllocError>
-    ensures { OnOk result (shown machine.new ≡ fits_one pattern.now value (map plain_waiting work.entry) count (plain_sequel next.entry) (shown machine.old)) }
+    ensures { OnOk result (shown machine.new ≡ fits_one pattern.now value (map plain_waiting work.entry) names.entry (plain_sequel next.entry) (shown machine.old)) }
 {
     match &pattern.shape {
-        Shape::Wild => machine.first_choice(alloc, ChoiceTask::Fit(work, count, next)),
+        Shape::Wild => machine.first_choice(alloc, ChoiceTask::Fit(work, names, next)),
         Shape::Bool(holds) => {
             let fits = same_value(&value, &bool_value(*holds));
-            fit_if(machine, alloc, fits, work, count, next)
+            fit_if(machine, alloc, fits, work, names, next)
         }
-        Shape::Number(number) => fit_number(machine, alloc, number, value, work, count, next),
-        Shape::Name(name) => fit_name(machine, alloc, name, value, work, count, next),
+        Shape::Number(number) => fit_number(machine, alloc, number, value, work, names, next),
+        Shape::Name(name) => fit_name(machine, alloc, name, value, work, names, next),
         Shape::Member(choice, member) => {
             fit_member(
                 machine,
@@ -68,7 +68,7 @@ pub fn fit_one<'a>(
                 &member.name,
                 value,
                 work,
-                count,
+                names,
                 next,
             )
         }
@@ -78,7 +78,7 @@ pub fn fit_one<'a>(
             into_elements(value),
             patterns.as_slice(),
             work,
-            count,
+            names,
             next,
         ),
     }
@@ -91,12 +91,12 @@ fn fit_number<'a>(
     number: &'a Number,
     value: DslxValue,
     work: Stack<Waiting<'a>>,
-    count: usize,
+    names: Scope<'a>,
     next: Boxed<Sequel<'a>>,
 ) -> Result<(), AllocError>
-    ensures { OnOk result (shown machine.new ≡ uses_number number.now (doing (Compares value (map plain_waiting work.entry) count (plain_sequel next.entry) ∷ []) (shown machine.old))) }
+    ensures { OnOk result (shown machine.new ≡ uses_number number.now (doing (Compares value (map plain_waiting work.entry) names.entry (plain_sequel next.entry) ∷ []) (shown machine.old))) }
 {
-    machine.first_choice(alloc, ChoiceTask::Compare(value, work, count, next))?;
+    machine.first_choice(alloc, ChoiceTask::Compare(value, work, names, next))?;
     use_number(machine, alloc, number)
 }
 
@@ -108,12 +108,12 @@ fn fit_member<'a>(
     member: &Name,
     value: DslxValue,
     work: Stack<Waiting<'a>>,
-    count: usize,
+    names: Scope<'a>,
     next: Boxed<Sequel<'a>>,
 ) -> Result<(), AllocError>
-    ensures { OnOk result (shown machine.new ≡ uses_member name.now member.now (doing (Compares value (map plain_waiting work.entry) count (plain_sequel next.entry) ∷ []) (shown machine.old))) }
+    ensures { OnOk result (shown machine.new ≡ uses_member name.now member.now (doing (Compares value (map plain_waiting work.entry) names.entry (plain_sequel next.entry) ∷ []) (shown machine.old))) }
 {
-    machine.first_choice(alloc, ChoiceTask::Compare(value, work, count, next))?;
+    machine.first_choice(alloc, ChoiceTask::Compare(value, work, names, next))?;
     use_member(machine, alloc, name, member)
 }
 
@@ -122,15 +122,15 @@ fn fit_if<'a>(
     alloc: Global,
     fits: bool,
     work: Stack<Waiting<'a>>,
-    count: usize,
+    names: Scope<'a>,
     next: Boxed<Sequel<'a>>,
 ) -> Result<(), AllocError>
-    ensures { OnOk result (shown machine.new ≡ fits_if fits (map plain_waiting work.entry) count (plain_sequel next.entry) (shown machine.old)) }
+    ensures { OnOk result (shown machine.new ≡ fits_if fits (map plain_waiting work.entry) names.entry (plain_sequel next.entry) (shown machine.old)) }
 {
     if fits {
-        machine.first_choice(alloc, ChoiceTask::Fit(work, count, next))
+        machine.first_choice(alloc, ChoiceTask::Fit(work, names, next))
     } else {
-        fail(machine, alloc, count, next)
+        fail(machine, alloc, next)
     }
 }
 
@@ -139,10 +139,10 @@ pub(crate) fn compare<'a>(
     alloc: Global,
     value: DslxValue,
     work: Stack<Waiting<'a>>,
-    count: usize,
+    names: Scope<'a>,
     next: Boxed<Sequel<'a>>,
 ) -> Result<(), AllocError>
-    ensures { OnOk result (shown machine.new ≡ stepped (Compares value (map plain_waiting work.entry) count (plain_sequel next.entry)) (shown machine.old)) }
+    ensures { OnOk result (shown machine.new ≡ stepped (Compares value (map plain_waiting work.entry) names.entry (plain_sequel next.entry)) (shown machine.old)) }
 {
     match machine.take_value() {
         Some(other) => fit_if(
@@ -150,10 +150,10 @@ pub(crate) fn compare<'a>(
             alloc,
             same_value(&value, &other),
             work,
-            count,
+            names,
             next,
         ),
-        None => fail(machine, alloc, count, next),
+        None => fail(machine, alloc, next),
     }
 }
 
@@ -164,17 +164,17 @@ fn fit_name<'a>(
     name: &'a Name,
     value: DslxValue,
     work: Stack<Waiting<'a>>,
-    count: usize,
+    mut names: Scope<'a>,
     next: Boxed<Sequel<'a>>,
 ) -> Result<(), AllocError>
-    ensures { OnOk result (shown machine.new ≡ fits_name (is_constant_within (shown machine.old).text (shown machine.old).left name.now) name.now value (map plain_waiting work.entry) count (plain_sequel next.entry) (shown machine.old)) }
+    ensures { OnOk result (shown machine.new ≡ fits_name (is_constant_within (shown machine.old).text (shown machine.old).left name.now) name.now value (map plain_waiting work.entry) names.entry (plain_sequel next.entry) (shown machine.old)) }
 {
     if is_constant(machine, name) {
-        machine.first_choice(alloc, ChoiceTask::Compare(value, work, count, next))?;
+        machine.first_choice(alloc, ChoiceTask::Compare(value, work, names, next))?;
         use_constant(machine, alloc, name)
     } else {
-        machine.bound.bind(Binding { name, value })?;
-        machine.first_choice(alloc, ChoiceTask::Fit(work, one_more(count)?, next))
+        names.bind(Binding { name, value })?;
+        machine.first_choice(alloc, ChoiceTask::Fit(work, names, next))
     }
 }
 
@@ -184,10 +184,10 @@ fn fit_parts<'a>(
     parts: Option<Seq<DslxValue>>,
     patterns: &'a [Pattern],
     mut work: Stack<Waiting<'a>>,
-    count: usize,
+    names: Scope<'a>,
     next: Boxed<Sequel<'a>>,
 ) -> Result<(), AllocError>
-    ensures { OnOk result (shown machine.new ≡ fits_parts parts patterns.now (map plain_waiting work.entry) count (plain_sequel next.entry) (shown machine.old)) }
+    ensures { OnOk result (shown machine.new ≡ fits_parts parts patterns.now (map plain_waiting work.entry) names.entry (plain_sequel next.entry) (shown machine.old)) }
 {
     match parts {
         Some(parts) => {
@@ -195,9 +195,9 @@ fn fit_parts<'a>(
                 patterns,
                 values: in_order(alloc, parts)?,
             })?;
-            machine.first_choice(alloc, ChoiceTask::Fit(work, count, next))
+            machine.first_choice(alloc, ChoiceTask::Fit(work, names, next))
         }
-        None => fail(machine, alloc, count, next),
+        None => fail(machine, alloc, next),
     }
 }
 
@@ -206,14 +206,14 @@ pub(crate) fn fit_all<'a>(
     machine: &mut Machine<'a>,
     alloc: Global,
     mut work: Stack<Waiting<'a>>,
-    count: usize,
+    names: Scope<'a>,
     next: Boxed<Sequel<'a>>,
 ) -> Result<(), AllocError>
-    ensures { OnOk result (shown machine.new ≡ fits_all (map plain_waiting work.entry) count (plain_sequel next.entry) (shown machine.old)) }
+    ensures { OnOk result (shown machine.new ≡ fits_all (map plain_waiting work.entry) names.entry (plain_sequel next.entry) (shown machine.old)) }
 {
     match work.take_off() {
-        Some(first) => fit_first(machine, alloc, first, work, count, next),
-        None => go_on(machine, alloc, count, next),
+        Some(first) => fit_first(machine, alloc, first, work, names, next),
+        None => go_on(machine, alloc, names, next),
     }
 }
 
@@ -222,22 +222,22 @@ fn fit_first<'a>(
     alloc: Global,
     first: Waiting<'a>,
     work: Stack<Waiting<'a>>,
-    count: usize,
+    names: Scope<'a>,
     next: Boxed<Sequel<'a>>,
 ) -> Result<(), AllocError>
-    ensures { OnOk result (shown machine.new ≡ fits_first first.entry.patterns.now first.entry.values (map plain_waiting work.entry) count (plain_sequel next.entry) (shown machine.old)) }
+    ensures { OnOk result (shown machine.new ≡ fits_first first.entry.patterns.now first.entry.values (map plain_waiting work.entry) names.entry (plain_sequel next.entry) (shown machine.old)) }
 {
     let mut values = first.values;
     match first.patterns {
         [] => match values.take_off() {
-            Some(_) => fail(machine, alloc, count, next),
-            None => machine.first_choice(alloc, ChoiceTask::Fit(work, count, next)),
+            Some(_) => fail(machine, alloc, next),
+            None => machine.first_choice(alloc, ChoiceTask::Fit(work, names, next)),
         },
         [pattern, rest @ ..] => match values.take_off() {
             Some(value) => fit_part(
-                machine, alloc, pattern, value, rest, values, work, count, next,
+                machine, alloc, pattern, value, rest, values, work, names, next,
             ),
-            None => fail(machine, alloc, count, next),
+            None => fail(machine, alloc, next),
         },
     }
 }
@@ -251,24 +251,26 @@ fn fit_part<'a>(
     patterns: &'a [Pattern],
     values: Stack<DslxValue>,
     mut work: Stack<Waiting<'a>>,
-    count: usize,
+    names: Scope<'a>,
     next: Boxed<Sequel<'a>>,
 ) -> Result<(), AllocError>
-    ensures { OnOk result (shown machine.new ≡ fits_first (pattern.now ∷ patterns.now) (value ∷ values) (map plain_waiting work.entry) count (plain_sequel next.entry) (shown machine.old)) }
+    ensures { OnOk result (shown machine.new ≡ fits_first (pattern.now ∷ patterns.now) (value ∷ values) (map plain_waiting work.entry) names.entry (plain_sequel next.entry) (shown machine.old)) }
 {
     work.push(Waiting { patterns, values })?;
-    fit_one(machine, alloc, pattern, value, work, count, next)
+    fit_one(machine, alloc, pattern, value, work, names, next)
 }
 
-/// All fits.
+/// All fits, and what the pattern binds is bound until what comes behind is done.
 fn go_on<'a>(
     machine: &mut Machine<'a>,
     alloc: Global,
-    count: usize,
+    names: Scope<'a>,
     next: Boxed<Sequel<'a>>,
 ) -> Result<(), AllocError>
-    ensures { OnOk result (shown machine.new ≡ goes_on count (plain_sequel next.entry) (shown machine.old)) }
+    ensures { OnOk result (shown machine.new ≡ goes_on names.entry (plain_sequel next.entry) (shown machine.old)) }
 {
+    let count = names.len();
+    machine.bound.bind_all(names)?;
     match next.into_inner() {
         Sequel::Statements(statements, last) => {
             then_forget(
@@ -284,10 +286,13 @@ fn go_on<'a>(
             pattern,
             value,
             Stack::new(alloc),
-            count,
-            Boxed::new(alloc, Sequel::Body(body))?,
+            Scope::new(alloc),
+            Boxed::new(alloc, Sequel::Body(count, body))?,
         ),
-        Sequel::Body(body) => { then_forget(machine, alloc, ValueTask::Block(body), count) }
+        Sequel::Body(of_index, body) => {
+            machine.first_choice(alloc, ChoiceTask::Forget(of_index))?;
+            then_forget(machine, alloc, ValueTask::Block(body), count)
+        }
         Sequel::Arm(_, arm, _, _) => machine.eval_then_choice(
             alloc,
             &arm.value,
@@ -309,22 +314,22 @@ fn then_forget<'a>(
     machine.first_value(alloc, task)
 }
 
-/// Something doesn't fit, and what is bound so far is forgotten.
+/// Something doesn't fit: the next pattern of an arm is tried, if it is one's.
 fn fail<'a>(
     machine: &mut Machine<'a>,
     alloc: Global,
-    count: usize,
     next: Boxed<Sequel<'a>>,
 ) -> Result<(), AllocError>
-    ensures { OnOk result (shown machine.new ≡ fails count (plain_sequel next.entry) (shown machine.old)) }
+    ensures { OnOk result (shown machine.new ≡ fails (plain_sequel next.entry) (shown machine.old)) }
 {
-    machine.bound.forget(count);
     match next.into_inner() {
         Sequel::Arm(patterns, arm, rest, value) => {
             machine.first_choice(alloc, ChoiceTask::Try(patterns, arm, rest, value))
         }
-        Sequel::Statements(_, _) | Sequel::Accumulator(_, _, _) | Sequel::Body(_) => {
+        Sequel::Body(of_index, _) => {
+            machine.bound.forget(of_index);
             machine.give(None)
         }
+        Sequel::Statements(_, _) | Sequel::Accumulator(_, _, _) => machine.give(None),
     }
 }
