@@ -21,6 +21,7 @@ use std::alloc::{AllocError, Global};
 use texts::Name;
 use xb_value::Seq;
 
+/// Goes on with the number arguments that are left, behind these values, and then with the operands.
 pub fn gather_numbers<'a>(
     machine: &mut Machine<'a>,
     alloc: Global,
@@ -72,6 +73,7 @@ pub(crate) fn gather_next_number<'a>(
     }
 }
 
+/// Calls a function of the text, or has what a builtin gives.
 pub(crate) fn call_named<'a>(
     machine: &mut Machine<'a>,
     alloc: Global,

@@ -49,6 +49,7 @@ fn begin_fields_of<'a>(
     }
 }
 
+/// Finds the value that gives the fields that aren't written, if there is one, and then the fields.
 fn begin_rest<'a>(
     machine: &mut Machine<'a>,
     alloc: Global,
@@ -139,6 +140,7 @@ fn gather_fields<'a>(
     }
 }
 
+/// Finds a field: as it is written, or else from the value that gives the others.
 fn begin_field<'a>(
     machine: &mut Machine<'a>,
     alloc: Global,
@@ -160,6 +162,7 @@ fn begin_field<'a>(
     }
 }
 
+/// Finds a field as it is written; one given by its name alone has the value of that name.
 fn begin_field_value<'a>(
     machine: &mut Machine<'a>,
     alloc: Global,

@@ -19,6 +19,7 @@ use dslx_values::filled;
 use std::alloc::{AllocError, Global};
 use xb_value::Seq;
 
+/// Does a task of several values.
 pub fn step_list<'a>(
     machine: &mut Machine<'a>,
     alloc: Global,
@@ -144,6 +145,7 @@ fn begin_elements<'a>(
     }
 }
 
+/// Goes on with the elements of an array of a type.
 fn fill<'a>(
     machine: &mut Machine<'a>,
     alloc: Global,
