@@ -5,6 +5,8 @@
 #[cfg(test)]
 mod answers;
 #[cfg(test)]
+mod chain;
+#[cfg(test)]
 mod flow;
 #[cfg(test)]
 mod items;
