@@ -8,13 +8,11 @@ ghost use Rattle.dslx_const_tasks.specs.Plain.{shown, plain_value_task, plain_on
 
 use dslx_const_items::{binary, cast, number_of, part};
 use dslx_const_patterns::fit_one;
-use dslx_const_tasks::{Machine, OneMaker, PairMaker, Sequel, Task, ValueTask};
+use dslx_const_tasks::{Fitting, Machine, OneMaker, PairMaker, Sequel, Task, ValueTask};
 use dslx_meaning::{Bare, BitKind, DslxValue};
-use dslx_names::Scope;
 use dslx_tree::{Block, Expr, Pattern, Stmt};
 use dslx_value_operators::{element_value, index_value, prefix_value, slice_value, truth};
 use dslx_values::{bits_in, field_of, unit_value};
-use stacks::Stack;
 use std::alloc::{AllocError, Global};
 use xb_value::Boxed;
 
@@ -112,9 +110,7 @@ fn begin_bind<'a>(
             alloc,
             pattern,
             value,
-            Stack::new(alloc),
-            Scope::new(alloc),
-            Boxed::new(alloc, Sequel::Statements(statements, last))?,
+            Fitting::new(alloc, Sequel::Statements(statements, last))?,
         ),
         None => Ok(()),
     }

@@ -13,16 +13,14 @@ ghost use Rattle.dslx_const_tasks.specs.Plain.{shown, plain_choice_task};
 
 use crate::pattern::{compare, fit_all, fit_one};
 use dslx_const_items::is_constant;
-use dslx_const_tasks::{ChoiceTask, Machine, Sequel, Task, one_less};
+use dslx_const_tasks::{ChoiceTask, Fitting, Machine, Sequel, Task, one_less};
 use dslx_meaning::{DslxValue, SignedWord};
-use dslx_names::Scope;
 use dslx_tree::{Arm, Expr, For, Pattern, Shape};
 use dslx_value_operators::turns;
 use dslx_values::{bits_of, copy_value};
 use stacks::Stack;
 use std::alloc::{AllocError, Global};
 use xb_bits::{Bits, add, zext};
-use xb_value::Boxed;
 
 pub fn step_choice<'a>(
     machine: &mut Machine<'a>,
@@ -37,10 +35,8 @@ pub fn step_choice<'a>(
             try_patterns(machine, alloc, patterns, arm, rest, value)
         }
         ChoiceTask::BindNothing(patterns, expr) => bind_nothing(machine, alloc, patterns, expr),
-        ChoiceTask::Fit(work, names, next) => fit_all(machine, alloc, work, names, next),
-        ChoiceTask::Compare(value, work, names, next) => {
-            compare(machine, alloc, value, work, names, next)
-        }
+        ChoiceTask::Fit(fitting) => fit_all(machine, alloc, fitting),
+        ChoiceTask::Compare(value, fitting) => compare(machine, alloc, value, fitting),
         ChoiceTask::Forget(count) => {
             machine.bound.forget(count);
             Ok(())
@@ -99,9 +95,7 @@ fn try_patterns<'a>(
                 alloc,
                 first,
                 copy,
-                Stack::new(alloc),
-                Scope::new(alloc),
-                Boxed::new(alloc, Sequel::Arm(others, arm, rest, value))?,
+                Fitting::new(alloc, Sequel::Arm(others, arm, rest, value))?,
             )
         }
     }
@@ -336,9 +330,7 @@ fn turn_once<'a>(
                 alloc,
                 &turns.index,
                 DslxValue::Bits(signed, index),
-                Stack::new(alloc),
-                Scope::new(alloc),
-                Boxed::new(
+                Fitting::new(
                     alloc,
                     Sequel::Accumulator(&turns.accumulator, value, &turns.body),
                 )?,

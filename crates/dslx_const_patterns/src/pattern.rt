@@ -9,12 +9,11 @@ ghost use Rattle.dslx_const_machine.specs.Tasks.{Compares, Forgets};
 ghost use Rattle.dslx_const_tasks.specs.Plain.{shown, plain_value_task, plain_waiting, plain_sequel};
 
 use dslx_const_items::{is_constant, use_constant, use_member};
-use dslx_const_tasks::{ChoiceTask, Machine, Sequel, ValueTask, Waiting, in_order};
+use dslx_const_tasks::{ChoiceTask, Fitting, Machine, Sequel, ValueTask, Waiting, in_order};
 use dslx_meaning::{Bare, DslxValue};
 use dslx_names::{Binding, Scope};
 use dslx_tree::{Number, Pattern, Shape};
 use dslx_values::{bool_value, into_elements, same_value};
-use stacks::Stack;
 use std::alloc::{AllocError, Global};
 use texts::Name;
 use xb_value::{Boxed, Seq};
@@ -46,40 +45,27 @@ pub fn fit_one<'a>(
     alloc: Global,
     pattern: &'a Pattern,
     value: DslxValue,
-    work: Stack<Waiting<'a>>,
-    names: Scope<'a>,
-    next: Boxed<Sequel<'a>>,
+    fitting: Fitting<'a>,
 ) -> Result<(), AllocError>
-    ensures { OnOk result (shown machine.new ≡ fits_one pattern.now value (map plain_waiting work.entry) names.entry (plain_sequel next.entry) (shown machine.old)) }
+    ensures { OnOk result (shown machine.new ≡ fits_one pattern.now value (map plain_waiting fitting.entry.work) fitting.entry.names (plain_sequel fitting.entry.next) (shown machine.old)) }
 {
     match &pattern.shape {
-        Shape::Wild => machine.first_choice(alloc, ChoiceTask::Fit(work, names, next)),
+        Shape::Wild => machine.first_choice(alloc, ChoiceTask::Fit(fitting)),
         Shape::Bool(holds) => {
             let fits = same_value(&value, &bool_value(*holds));
-            fit_if(machine, alloc, fits, work, names, next)
+            fit_if(machine, alloc, fits, fitting)
         }
-        Shape::Number(number) => fit_number(machine, alloc, number, value, work, names, next),
-        Shape::Name(name) => fit_name(machine, alloc, name, value, work, names, next),
+        Shape::Number(number) => fit_number(machine, alloc, number, value, fitting),
+        Shape::Name(name) => fit_name(machine, alloc, name, value, fitting),
         Shape::Member(choice, member) => {
-            fit_member(
-                machine,
-                alloc,
-                &choice.name,
-                &member.name,
-                value,
-                work,
-                names,
-                next,
-            )
+            fit_member(machine, alloc, &choice.name, &member.name, value, fitting)
         }
         Shape::Tuple(patterns) => fit_parts(
             machine,
             alloc,
             into_elements(value),
             patterns.as_slice(),
-            work,
-            names,
-            next,
+            fitting,
         ),
     }
 }
@@ -90,13 +76,11 @@ fn fit_number<'a>(
     alloc: Global,
     number: &'a Number,
     value: DslxValue,
-    work: Stack<Waiting<'a>>,
-    names: Scope<'a>,
-    next: Boxed<Sequel<'a>>,
+    fitting: Fitting<'a>,
 ) -> Result<(), AllocError>
-    ensures { OnOk result (shown machine.new ≡ uses_number number.now (doing (Compares value (map plain_waiting work.entry) names.entry (plain_sequel next.entry) ∷ []) (shown machine.old))) }
+    ensures { OnOk result (shown machine.new ≡ uses_number number.now (doing (Compares value (map plain_waiting fitting.entry.work) fitting.entry.names (plain_sequel fitting.entry.next) ∷ []) (shown machine.old))) }
 {
-    machine.first_choice(alloc, ChoiceTask::Compare(value, work, names, next))?;
+    machine.first_choice(alloc, ChoiceTask::Compare(value, fitting))?;
     use_number(machine, alloc, number)
 }
 
@@ -107,13 +91,11 @@ fn fit_member<'a>(
     name: &Name,
     member: &Name,
     value: DslxValue,
-    work: Stack<Waiting<'a>>,
-    names: Scope<'a>,
-    next: Boxed<Sequel<'a>>,
+    fitting: Fitting<'a>,
 ) -> Result<(), AllocError>
-    ensures { OnOk result (shown machine.new ≡ uses_member name.now member.now (doing (Compares value (map plain_waiting work.entry) names.entry (plain_sequel next.entry) ∷ []) (shown machine.old))) }
+    ensures { OnOk result (shown machine.new ≡ uses_member name.now member.now (doing (Compares value (map plain_waiting fitting.entry.work) fitting.entry.names (plain_sequel fitting.entry.next) ∷ []) (shown machine.old))) }
 {
-    machine.first_choice(alloc, ChoiceTask::Compare(value, work, names, next))?;
+    machine.first_choice(alloc, ChoiceTask::Compare(value, fitting))?;
     use_member(machine, alloc, name, member)
 }
 
@@ -121,16 +103,14 @@ fn fit_if<'a>(
     machine: &mut Machine<'a>,
     alloc: Global,
     fits: bool,
-    work: Stack<Waiting<'a>>,
-    names: Scope<'a>,
-    next: Boxed<Sequel<'a>>,
+    fitting: Fitting<'a>,
 ) -> Result<(), AllocError>
-    ensures { OnOk result (shown machine.new ≡ fits_if fits (map plain_waiting work.entry) names.entry (plain_sequel next.entry) (shown machine.old)) }
+    ensures { OnOk result (shown machine.new ≡ fits_if fits (map plain_waiting fitting.entry.work) fitting.entry.names (plain_sequel fitting.entry.next) (shown machine.old)) }
 {
     if fits {
-        machine.first_choice(alloc, ChoiceTask::Fit(work, names, next))
+        machine.first_choice(alloc, ChoiceTask::Fit(fitting))
     } else {
-        fail(machine, alloc, next)
+        fail(machine, alloc, fitting.next)
     }
 }
 
@@ -138,22 +118,13 @@ pub(crate) fn compare<'a>(
     machine: &mut Machine<'a>,
     alloc: Global,
     value: DslxValue,
-    work: Stack<Waiting<'a>>,
-    names: Scope<'a>,
-    next: Boxed<Sequel<'a>>,
+    fitting: Fitting<'a>,
 ) -> Result<(), AllocError>
-    ensures { OnOk result (shown machine.new ≡ stepped (Compares value (map plain_waiting work.entry) names.entry (plain_sequel next.entry)) (shown machine.old)) }
+    ensures { OnOk result (shown machine.new ≡ stepped (Compares value (map plain_waiting fitting.entry.work) fitting.entry.names (plain_sequel fitting.entry.next)) (shown machine.old)) }
 {
     match machine.take_value() {
-        Some(other) => fit_if(
-            machine,
-            alloc,
-            same_value(&value, &other),
-            work,
-            names,
-            next,
-        ),
-        None => fail(machine, alloc, next),
+        Some(other) => fit_if(machine, alloc, same_value(&value, &other), fitting),
+        None => fail(machine, alloc, fitting.next),
     }
 }
 
@@ -163,18 +134,16 @@ fn fit_name<'a>(
     alloc: Global,
     name: &'a Name,
     value: DslxValue,
-    work: Stack<Waiting<'a>>,
-    mut names: Scope<'a>,
-    next: Boxed<Sequel<'a>>,
+    mut fitting: Fitting<'a>,
 ) -> Result<(), AllocError>
-    ensures { OnOk result (shown machine.new ≡ fits_name (is_constant_within (shown machine.old).text (shown machine.old).left name.now) name.now value (map plain_waiting work.entry) names.entry (plain_sequel next.entry) (shown machine.old)) }
+    ensures { OnOk result (shown machine.new ≡ fits_name (is_constant_within (shown machine.old).text (shown machine.old).left name.now) name.now value (map plain_waiting fitting.entry.work) fitting.entry.names (plain_sequel fitting.entry.next) (shown machine.old)) }
 {
     if is_constant(machine, name) {
-        machine.first_choice(alloc, ChoiceTask::Compare(value, work, names, next))?;
+        machine.first_choice(alloc, ChoiceTask::Compare(value, fitting))?;
         use_constant(machine, alloc, name)
     } else {
-        names.bind(Binding { name, value })?;
-        machine.first_choice(alloc, ChoiceTask::Fit(work, names, next))
+        fitting.names.bind(Binding { name, value })?;
+        machine.first_choice(alloc, ChoiceTask::Fit(fitting))
     }
 }
 
@@ -183,21 +152,19 @@ fn fit_parts<'a>(
     alloc: Global,
     parts: Option<Seq<DslxValue>>,
     patterns: &'a [Pattern],
-    mut work: Stack<Waiting<'a>>,
-    names: Scope<'a>,
-    next: Boxed<Sequel<'a>>,
+    mut fitting: Fitting<'a>,
 ) -> Result<(), AllocError>
-    ensures { OnOk result (shown machine.new ≡ fits_parts parts patterns.now (map plain_waiting work.entry) names.entry (plain_sequel next.entry) (shown machine.old)) }
+    ensures { OnOk result (shown machine.new ≡ fits_parts parts patterns.now (map plain_waiting fitting.entry.work) fitting.entry.names (plain_sequel fitting.entry.next) (shown machine.old)) }
 {
     match parts {
         Some(parts) => {
-            work.push(Waiting {
+            fitting.work.push(Waiting {
                 patterns,
                 values: in_order(alloc, parts)?,
             })?;
-            machine.first_choice(alloc, ChoiceTask::Fit(work, names, next))
+            machine.first_choice(alloc, ChoiceTask::Fit(fitting))
         }
-        None => fail(machine, alloc, next),
+        None => fail(machine, alloc, fitting.next),
     }
 }
 
@@ -205,15 +172,13 @@ fn fit_parts<'a>(
 pub(crate) fn fit_all<'a>(
     machine: &mut Machine<'a>,
     alloc: Global,
-    mut work: Stack<Waiting<'a>>,
-    names: Scope<'a>,
-    next: Boxed<Sequel<'a>>,
+    mut fitting: Fitting<'a>,
 ) -> Result<(), AllocError>
-    ensures { OnOk result (shown machine.new ≡ fits_all (map plain_waiting work.entry) names.entry (plain_sequel next.entry) (shown machine.old)) }
+    ensures { OnOk result (shown machine.new ≡ fits_all (map plain_waiting fitting.entry.work) fitting.entry.names (plain_sequel fitting.entry.next) (shown machine.old)) }
 {
-    match work.take_off() {
-        Some(first) => fit_first(machine, alloc, first, work, names, next),
-        None => go_on(machine, alloc, names, next),
+    match fitting.work.take_off() {
+        Some(first) => fit_first(machine, alloc, first, fitting),
+        None => go_on(machine, alloc, fitting.names, fitting.next),
     }
 }
 
@@ -221,23 +186,29 @@ fn fit_first<'a>(
     machine: &mut Machine<'a>,
     alloc: Global,
     first: Waiting<'a>,
-    work: Stack<Waiting<'a>>,
-    names: Scope<'a>,
-    next: Boxed<Sequel<'a>>,
+    fitting: Fitting<'a>,
 ) -> Result<(), AllocError>
-    ensures { OnOk result (shown machine.new ≡ fits_first first.entry.patterns.now first.entry.values (map plain_waiting work.entry) names.entry (plain_sequel next.entry) (shown machine.old)) }
+    ensures { OnOk result (shown machine.new ≡ fits_first first.entry.patterns.now first.entry.values (map plain_waiting fitting.entry.work) fitting.entry.names (plain_sequel fitting.entry.next) (shown machine.old)) }
 {
     let mut values = first.values;
     match first.patterns {
         [] => match values.take_off() {
-            Some(_) => fail(machine, alloc, next),
-            None => machine.first_choice(alloc, ChoiceTask::Fit(work, names, next)),
+            Some(_) => fail(machine, alloc, fitting.next),
+            None => machine.first_choice(alloc, ChoiceTask::Fit(fitting)),
         },
         [pattern, rest @ ..] => match values.take_off() {
             Some(value) => fit_part(
-                machine, alloc, pattern, value, rest, values, work, names, next,
+                machine,
+                alloc,
+                pattern,
+                value,
+                Waiting {
+                    patterns: rest,
+                    values,
+                },
+                fitting,
             ),
-            None => fail(machine, alloc, next),
+            None => fail(machine, alloc, fitting.next),
         },
     }
 }
@@ -248,16 +219,13 @@ fn fit_part<'a>(
     alloc: Global,
     pattern: &'a Pattern,
     value: DslxValue,
-    patterns: &'a [Pattern],
-    values: Stack<DslxValue>,
-    mut work: Stack<Waiting<'a>>,
-    names: Scope<'a>,
-    next: Boxed<Sequel<'a>>,
+    rest: Waiting<'a>,
+    mut fitting: Fitting<'a>,
 ) -> Result<(), AllocError>
-    ensures { OnOk result (shown machine.new ≡ fits_first (pattern.now ∷ patterns.now) (value ∷ values) (map plain_waiting work.entry) names.entry (plain_sequel next.entry) (shown machine.old)) }
+    ensures { OnOk result (shown machine.new ≡ fits_first (pattern.now ∷ rest.entry.patterns.now) (value ∷ rest.entry.values) (map plain_waiting fitting.entry.work) fitting.entry.names (plain_sequel fitting.entry.next) (shown machine.old)) }
 {
-    work.push(Waiting { patterns, values })?;
-    fit_one(machine, alloc, pattern, value, work, names, next)
+    fitting.work.push(rest)?;
+    fit_one(machine, alloc, pattern, value, fitting)
 }
 
 /// All fits, and what the pattern binds is bound until what comes behind is done.
@@ -285,9 +253,7 @@ fn go_on<'a>(
             alloc,
             pattern,
             value,
-            Stack::new(alloc),
-            Scope::new(alloc),
-            Boxed::new(alloc, Sequel::Body(count, body))?,
+            Fitting::new(alloc, Sequel::Body(count, body))?,
         ),
         Sequel::Body(of_index, body) => {
             machine.first_choice(alloc, ChoiceTask::Forget(of_index))?;

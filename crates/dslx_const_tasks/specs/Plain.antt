@@ -95,8 +95,8 @@ abbrev pub plain_choice_task : ChoiceTask → m.ConstTask
 plain_choice_task (choice.Select arms) = m.Selects arms.now
 plain_choice_task (choice.Try ps a rest v) = m.Tries ps.now a.now rest.now v
 plain_choice_task (choice.BindNothing pss e) = m.BindsNothing (map {B = List Pattern} (λ ps. ps.now) pss) e.now
-plain_choice_task (choice.Fit work names next) = m.Fits (map plain_waiting work) names (plain_sequel next)
-plain_choice_task (choice.Compare v work names next) = m.Compares v (map plain_waiting work) names (plain_sequel next)
+plain_choice_task (choice.Fit f) = m.Fits (map plain_waiting f.work) f.names (plain_sequel f.next)
+plain_choice_task (choice.Compare v f) = m.Compares v (map plain_waiting f.work) f.names (plain_sequel f.next)
 plain_choice_task (choice.Forget k) = m.Forgets k
 plain_choice_task (choice.StartLoop f) = m.StartsLoop f.now
 plain_choice_task (choice.FindFirst f start) = m.FindsFirst f.now start

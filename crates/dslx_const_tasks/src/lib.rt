@@ -10,6 +10,6 @@ pub use count::{one_left, one_less};
 pub use machine::Machine;
 pub use order::in_order;
 pub use task::{
-    Call, CallTask, ChoiceTask, Fields, Found, ListMaker, ListTask, OneMaker, PairMaker, Sequel,
-    Task, TypeTask, ValueTask, Waiting,
+    Call, CallTask, ChoiceTask, Fields, Fitting, Found, ListMaker, ListTask, OneMaker, PairMaker,
+    Sequel, Task, TypeTask, ValueTask, Waiting,
 };

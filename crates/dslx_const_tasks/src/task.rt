@@ -1,5 +1,5 @@
-ghost use Rattle.std.specs.Prelude.{◌≡◌, IfOk};
-ghost use Rattle.dslx_const_tasks.specs.Plain.{plain_task, plain_value_task, plain_list_task, plain_choice_task, plain_type_task, plain_call_task};
+ghost use Rattle.std.specs.Prelude.{◌≡◌, [], IfOk};
+ghost use Rattle.dslx_const_tasks.specs.Plain.{plain_task, plain_value_task, plain_list_task, plain_choice_task, plain_type_task, plain_call_task, plain_sequel};
 
 use dslx_inference::Inference;
 use dslx_meaning::{Bare, BitKind, DslxType, DslxValue, SignedWord};
@@ -72,6 +72,27 @@ pub enum Sequel<'a> {
     Body(usize, &'a Block),
     /// An arm; else its other patterns, and the arms behind it.
     Arm(&'a [Pattern], &'a Arm, &'a [Arm], DslxValue),
+}
+
+/// A value that is fitted to a pattern: what is still to fit, what the pattern binds so far, and what comes behind.
+#[derive(Drop)]
+pub struct Fitting<'a> {
+    pub work: Stack<Waiting<'a>>,
+    pub names: Scope<'a>,
+    pub next: Boxed<Sequel<'a>>,
+}
+
+impl<'a> Fitting<'a> {
+    /// Nothing is bound yet, and nothing else is to fit.
+    pub fn new(alloc: Global, next: Sequel<'a>) -> Result<Fitting<'a>, AllocError>
+        ensures { IfOk result (λ fitting. (fitting.work ≡ []) × (fitting.names ≡ []) × (plain_sequel fitting.next ≡ plain_sequel next.entry)) }
+    {
+        Ok(Fitting {
+            work: Stack::new(alloc),
+            names: Scope::new(alloc),
+            next: Boxed::new(alloc, next)?,
+        })
+    }
 }
 
 /// The fields of a struct value, while they are found.
@@ -189,10 +210,9 @@ pub enum ChoiceTask<'a> {
     Try(&'a [Pattern], &'a Arm, &'a [Arm], DslxValue),
     /// An expression behind patterns that may bind nothing.
     BindNothing(Stack<&'a [Pattern]>, &'a Expr),
-    /// What is to fit, what the pattern binds so far, and what comes behind.
-    Fit(Stack<Waiting<'a>>, Scope<'a>, Boxed<Sequel<'a>>),
+    Fit(Fitting<'a>),
     /// The value is to be this one.
-    Compare(DslxValue, Stack<Waiting<'a>>, Scope<'a>, Boxed<Sequel<'a>>),
+    Compare(DslxValue, Fitting<'a>),
     Forget(usize),
     StartLoop(&'a For),
     FindFirst(&'a For, DslxValue),
