@@ -10,13 +10,13 @@ use dslx_tree::{Expr, Module};
 use stacks::Stack;
 use std::alloc::{AllocError, Global};
 
-/// The value that a constant expression of a text means where these names are bound; `None` where it has none, so nothing is
-/// required of the text. An effect has no value.
+/// The value that an expression of a text means where these names are bound; `None` where it has none, so nothing is required of
+/// the text. An effect has no value.
 ///
-/// It takes a step for each part that it meets, in each turn of a loop and in each use of a constant anew, and counts each copy of
-/// a value: a name's value is copied where it is used, and that of a `match` for each pattern that is tried. A name takes time as
-/// names are bound there, an item as there are items before it. Memory is taken for what is open at once. Past 2^64 - 1
-/// steps, and where a word would have more than 128 bits, which no checked text needs, it gives up as for want of memory.
+/// It takes a step for each part of the expression, anew in each turn of a loop and at each use of a constant. A name's value is
+/// copied where it is used, that of a `match` for each pattern that is tried. A name is looked up among those that are bound there,
+/// an item among those before it. Memory is taken for what is open at once. Past 2^64 - 1 steps, and where a word would have more
+/// than 128 bits, which no checked text needs, it gives up as for want of memory.
 pub fn const_eval<'a>(
     alloc: Global,
     text: &'a Module,

@@ -18,6 +18,7 @@ use std::alloc::{AllocError, Global};
 use texts::Name;
 use xb_value::{Boxed, Seq};
 
+/// Puts what an expression needs first, or finds its value at once.
 pub(crate) fn begin_node<'a>(
     machine: &mut Machine<'a>,
     alloc: Global,
@@ -108,6 +109,7 @@ pub(crate) fn begin_node<'a>(
     }
 }
 
+/// Finds the type of an array, if one is written, and then its elements.
 fn begin_array<'a>(
     machine: &mut Machine<'a>,
     alloc: Global,

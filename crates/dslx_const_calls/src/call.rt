@@ -21,6 +21,7 @@ use std::alloc::{AllocError, Global};
 use texts::Name;
 use xb_value::Seq;
 
+/// Does a task of a call.
 pub fn step_call<'a>(
     machine: &mut Machine<'a>,
     alloc: Global,
@@ -62,6 +63,7 @@ pub fn use_function<'a>(
     }
 }
 
+/// Puts aside what is bound where the call stands, and goes on with the number parameters.
 fn begin_call<'a>(
     machine: &mut Machine<'a>,
     alloc: Global,
@@ -90,6 +92,7 @@ fn begin_call<'a>(
     )
 }
 
+/// Goes on with the first parameter that is left, which may be given.
 fn find_parameters<'a>(
     machine: &mut Machine<'a>,
     alloc: Global,
@@ -140,6 +143,7 @@ fn find_missing<'a>(
     }
 }
 
+/// Finds a parameter: the number that the operands infer, or else its default.
 fn begin_parameter<'a>(
     machine: &mut Machine<'a>,
     alloc: Global,
@@ -250,6 +254,7 @@ fn bind_operand<'a>(
     machine.first_call(alloc, CallTask::GiveOperands(call, rest))
 }
 
+/// Goes on with the body, and then back to where the call stands.
 fn begin_body<'a>(
     machine: &mut Machine<'a>,
     alloc: Global,

@@ -1,31 +1,25 @@
 //! Several values, one after another.
 
-ghost use Rattle.dslx_meaning.specs.Callees.{kind_of_call};
-ghost use Rattle.dslx_meaning.specs.Meaning.{field_from as the_field};
-ghost use Rattle.std.specs.Prelude.{◌≡◌, ◌∷◌, ◌++◌, [], Some, None, OnOk, IfOk};
+ghost use Rattle.std.specs.Prelude.{◌≡◌, ◌∷◌, ◌++◌, [], OnOk, IfOk};
 ghost use Rattle.dslx_meaning.specs.declared.ty.DslxType.{out-DslxType};
-ghost use Rattle.dslx_const_machine.specs.Lists.{builtin_value, calls, made_of, gathers, gathers_numbers, fills, field_begins, fields_on, gathers_fields, rest_begins, fields_of_type};
-ghost use Rattle.dslx_const_machine.specs.Steps.{stepped};
-ghost use Rattle.dslx_const_machine.specs.Tasks.{FindsElements, Gathers, GathersNumbers, FindsFields, TakesRest};
-ghost use Rattle.dslx_names.specs.Called.{kind_of};
+ghost use Rattle.dslx_const_machine.specs.Lists.{made_of, gathers, fills};
 ghost use Rattle.dslx_const_machine.specs.States.{doing};
+ghost use Rattle.dslx_const_machine.specs.Steps.{stepped};
+ghost use Rattle.dslx_const_machine.specs.Tasks.{FindsElements, Gathers};
 ghost use Rattle.dslx_const_lists.specs.Inner.Elements.{begins_by, element_by, number_by};
-ghost use Rattle.dslx_const_tasks.specs.Plain.{shown, plain_list, plain_list_task, plain_fields};
+ghost use Rattle.dslx_const_tasks.specs.Plain.{shown, plain_list, plain_list_task};
 
-use dslx_const_calls::use_function;
-use dslx_const_items::{bare_of, number_of, use_name};
-use dslx_const_tasks::{Fields, ListMaker, ListTask, Machine, Task};
+use crate::call::{call_named, gather_next_number};
+use crate::field::{begin_fields, gather_next_field, take_rest};
+use dslx_const_items::{bare_of, number_of};
+use dslx_const_tasks::{ListMaker, ListTask, Machine};
 use dslx_meaning::{Bare, DslxType, DslxValue};
-use dslx_names::{Callee, callee_of, find_field};
-use dslx_tree::{Arg, Expr, FieldValue};
-use dslx_value_operators::{
-    all_ones, count_leading, count_trailing, parity, reversed, some_one, updated,
-};
-use dslx_values::{copy_name, field_of, filled};
+use dslx_tree::Expr;
+use dslx_values::filled;
 use std::alloc::{AllocError, Global};
-use texts::Name;
-use xb_value::{Boxed, Seq};
+use xb_value::Seq;
 
+/// Does a task of several values.
 pub fn step_list<'a>(
     machine: &mut Machine<'a>,
     alloc: Global,
@@ -117,57 +111,6 @@ fn gather_next<'a>(
     }
 }
 
-pub fn gather_numbers<'a>(
-    machine: &mut Machine<'a>,
-    alloc: Global,
-    values: Vec<DslxValue>,
-    numbers: &'a [Arg],
-    name: &'a Name,
-    operands: &'a [Expr],
-) -> Result<(), AllocError>
-    ensures { OnOk result (shown machine.new ≡ gathers_numbers values.items numbers.now name.now operands.now (shown machine.old)) }
-{
-    match numbers {
-        [] => gather(
-            machine,
-            alloc,
-            Vec::new(alloc),
-            operands,
-            ListMaker::Call(name, values),
-        ),
-        [first, rest @ ..] => machine.eval_then_list(
-            alloc,
-            &first.value,
-            ListTask::GatherNumbers(values, rest, name, operands),
-        ),
-    }
-}
-
-fn gather_next_number<'a>(
-    machine: &mut Machine<'a>,
-    alloc: Global,
-    values: Vec<DslxValue>,
-    rest: &'a [Arg],
-    name: &'a Name,
-    operands: &'a [Expr],
-) -> Result<(), AllocError>
-    ensures { OnOk result (shown machine.new ≡ stepped (GathersNumbers values.items rest.now name.now operands.now) (shown machine.old)) }
-{
-    match machine.take_value() {
-        Some(value) => {
-            gather_numbers(
-                machine,
-                alloc,
-                put_behind(values, value)?,
-                rest,
-                name,
-                operands,
-            )
-        }
-        None => Ok(()),
-    }
-}
-
 /// What is made of all values of a list.
 fn make_list<'a>(
     machine: &mut Machine<'a>,
@@ -188,21 +131,6 @@ fn make_list<'a>(
     }
 }
 
-fn call_named<'a>(
-    machine: &mut Machine<'a>,
-    alloc: Global,
-    name: &'a Name,
-    numbers: Vec<DslxValue>,
-    operands: Vec<DslxValue>,
-) -> Result<(), AllocError>
-    ensures { OnOk result (shown machine.new ≡ calls (kind_of_call name.now) name.now numbers.items operands.items (shown machine.old)) }
-{
-    match callee_of(name) {
-        Callee::Function => use_function(machine, alloc, name, numbers, operands),
-        callee => machine.give(built_in(callee, operands)),
-    }
-}
-
 fn begin_elements<'a>(
     machine: &mut Machine<'a>,
     alloc: Global,
@@ -217,6 +145,7 @@ fn begin_elements<'a>(
     }
 }
 
+/// Goes on with the elements of an array of a type.
 fn fill<'a>(
     machine: &mut Machine<'a>,
     alloc: Global,
@@ -238,163 +167,11 @@ fn fill<'a>(
     }
 }
 
-fn begin_fields<'a>(
-    machine: &mut Machine<'a>,
-    alloc: Global,
-    fields: &'a [FieldValue],
-    rest: &'a Option<Boxed<Expr>>,
-) -> Result<(), AllocError>
-    ensures { OnOk result (shown machine.new ≡ stepped (FindsFields fields.now rest.now) (shown machine.old)) }
-{
-    match machine.take_type() {
-        Some(ty) => begin_fields_of(machine, alloc, ty, fields, rest),
-        None => Ok(()),
-    }
-}
-
-fn begin_fields_of<'a>(
-    machine: &mut Machine<'a>,
-    alloc: Global,
-    ty: DslxType,
-    fields: &'a [FieldValue],
-    rest: &'a Option<Boxed<Expr>>,
-) -> Result<(), AllocError>
-    ensures { OnOk result (shown machine.new ≡ fields_of_type (out-DslxType ty) fields.now rest.now (shown machine.old)) }
-{
-    match ty {
-        DslxType::Struct(name, names, _) => {
-            begin_rest(machine, alloc, name, names, fields, rest)
-        }
-        _ => machine.give(None),
-    }
-}
-
-fn begin_rest<'a>(
-    machine: &mut Machine<'a>,
-    alloc: Global,
-    name: Name,
-    names: Seq<Name>,
-    fields: &'a [FieldValue],
-    rest: &'a Option<Boxed<Expr>>,
-) -> Result<(), AllocError>
-    ensures { OnOk result (shown machine.new ≡ rest_begins rest.now name names fields.now (shown machine.old)) }
-{
-    match rest {
-        Some(expr) => machine.eval_then_list(
-            alloc,
-            expr.get(),
-            ListTask::TakeRest(name, names, fields),
-        ),
-        None => gather_fields(
-            machine,
-            alloc,
-            Fields {
-                name,
-                names,
-                values: Vec::new(alloc),
-                written: fields,
-                rest: None,
-            },
-        ),
-    }
-}
-
-fn take_rest<'a>(
-    machine: &mut Machine<'a>,
-    alloc: Global,
-    name: Name,
-    names: Seq<Name>,
-    fields: &'a [FieldValue],
-) -> Result<(), AllocError>
-    ensures { OnOk result (shown machine.new ≡ stepped (TakesRest name names fields.now) (shown machine.old)) }
-{
-    let rest = machine.take_value();
-    gather_fields(
-        machine,
-        alloc,
-        Fields {
-            name,
-            names,
-            values: Vec::new(alloc),
-            written: fields,
-            rest,
-        },
-    )
-}
-
-fn gather_next_field<'a>(
-    machine: &mut Machine<'a>,
-    alloc: Global,
-    mut fields: Fields<'a>,
-) -> Result<(), AllocError>
-    ensures { OnOk result (shown machine.new ≡ stepped (plain_fields fields.entry) (shown machine.old)) }
-{
-    match machine.take_value() {
-        Some(value) => {
-            fields.values.push(value)?;
-            gather_fields(machine, alloc, fields)
-        }
-        None => Ok(()),
-    }
-}
-
-/// Goes on with the field behind those that are found.
-fn gather_fields<'a>(
-    machine: &mut Machine<'a>,
-    alloc: Global,
-    fields: Fields<'a>,
-) -> Result<(), AllocError>
-    ensures { OnOk result (shown machine.new ≡ gathers_fields fields.entry.name fields.entry.names fields.entry.values.items fields.entry.written.now fields.entry.rest (shown machine.old)) }
-{
-    match fields.names.get(fields.values.len()) {
-        Some(name) => {
-            let next = copy_name(alloc, name)?;
-            begin_field(machine, alloc, &next, fields)
-        }
-        None => machine.give(Some(DslxValue::Struct(
-            fields.name,
-            fields.names,
-            Seq::from_vec(fields.values),
-        ))),
-    }
-}
-
-fn begin_field<'a>(
-    machine: &mut Machine<'a>,
-    alloc: Global,
-    name: &Name,
-    fields: Fields<'a>,
-) -> Result<(), AllocError>
-    ensures { OnOk result (shown machine.new ≡ fields_on (Some name.now) fields.entry.name fields.entry.names fields.entry.values.items fields.entry.written.now fields.entry.rest (shown machine.old)) }
-{
-    match find_field(fields.written, name) {
-        Some(field) => {
-            machine.first_list(alloc, ListTask::GatherFields(fields))?;
-            begin_field_value(machine, alloc, field)
-        }
-        None => {
-            let value = field_from(alloc, name, &fields.rest)?;
-            machine.first_list(alloc, ListTask::GatherFields(fields))?;
-            machine.give(value)
-        }
-    }
-}
-
-fn begin_field_value<'a>(
-    machine: &mut Machine<'a>,
-    alloc: Global,
-    field: &'a FieldValue,
-) -> Result<(), AllocError>
-    ensures { OnOk result (shown machine.new ≡ field_begins (Some field.now) [] None (shown machine.old)) }
-{
-    match &field.value {
-        Some(expr) => machine.first(Task::Eval(expr.get())),
-        None => use_name(machine, alloc, &field.name.name),
-    }
-}
-
 /// The values, and one more behind them.
-fn put_behind(mut values: Vec<DslxValue>, value: DslxValue) -> Result<Vec<DslxValue>, AllocError>
+pub(crate) fn put_behind(
+    mut values: Vec<DslxValue>,
+    value: DslxValue,
+) -> Result<Vec<DslxValue>, AllocError>
     ensures { IfOk result (λ more. more.items ≡ values.items ++ value ∷ []) }
 {
     values.push(value)?;
@@ -417,37 +194,6 @@ fn number_in(ty: &DslxType, number: Option<Bare>) -> Result<Option<Option<DslxVa
 {
     match number {
         Some(number) => Ok(Some(number_of(ty, number)?)),
-        None => Ok(None),
-    }
-}
-
-/// What a builtin gives.
-fn built_in(callee: Callee, operands: Vec<DslxValue>) -> Option<DslxValue>
-    ensures { result ≡ builtin_value (kind_of callee) operands.items }
-{
-    match callee {
-        Callee::Join => Some(DslxValue::Token),
-        Callee::CountLeading => count_leading(operands.as_slice()),
-        Callee::CountTrailing => count_trailing(operands.as_slice()),
-        Callee::Reverse => reversed(operands.as_slice()),
-        Callee::AllOnes => all_ones(operands.as_slice()),
-        Callee::SomeOne => some_one(operands.as_slice()),
-        Callee::Parity => parity(operands.as_slice()),
-        Callee::Update => updated(Seq::from_vec(operands)),
-        _ => None,
-    }
-}
-
-/// A field of a value.
-fn field_from(
-    alloc: Global,
-    name: &Name,
-    value: &Option<DslxValue>,
-) -> Result<Option<DslxValue>, AllocError>
-    ensures { IfOk result (λ v. v ≡ the_field name.now value.now) }
-{
-    match value {
-        Some(value) => field_of(alloc, value, name.as_str()),
         None => Ok(None),
     }
 }
