@@ -31,7 +31,7 @@ there None = false
 there (Some a) = true
 
 -- what is no item is no constant
-no_constant : (sight : Sight) → IsComplete sight.known → (name : List ℕ) → is_item sight name ≡ false → sight.known.items.is_constant name ≡ false
+pub no_constant : (sight : Sight) → IsComplete sight.known → (name : List ℕ) → is_item sight name ≡ false → sight.known.items.is_constant name ≡ false
 no_constant sight complete name e = complete.kinds name ∙ by_item (item_named name sight.known.whole.items) e
   where
     by_item : (o : Option Definition) → there o ≡ false → is_constant_item o ≡ false

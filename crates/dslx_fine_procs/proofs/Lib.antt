@@ -1,0 +1,4 @@
+-- members
+mod Members
+-- instances of procs
+mod Instances

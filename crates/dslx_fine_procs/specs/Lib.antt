@@ -1,0 +1,2 @@
+-- words of channels
+pub mod WordsOfEnds
