@@ -9,11 +9,13 @@ use Rattle.dslx_tree.specs.declared.ident.Ident.{Ident}
 use Rattle.dslx_tree.specs.declared.block.Stmt.{Stmt}
 use Rattle.dslx_tree.specs.declared.type_expr.TypeExpr.{TypeExpr}
 use Rattle.dslx_tree_lemmas.proofs.Lemmas.Levels.{Carriers, StmtLevel, NodeLevel, ShapeLevel, TypeNodeLevel, BlockLevel, LetLevel, ArmLevel, FieldValueLevel, ForLevel, NumberLevel, map_stmt, map_node, map_shape, map_type_node, map_block, map_bind, map_arm, map_field, map_loop, map_number}
-use Rattle.dslx_tree_lemmas.proofs.Lemmas.Related.{both, firsts, seconds, KeepRelated, related_expr, related_block, related_type_expr}
+use Rattle.dslx_tree.specs.declared.pattern.Pattern.{Pattern}
+use Rattle.dslx_tree_lemmas.proofs.Lemmas.Folds.{fold_stmt}
+use Rattle.dslx_tree_lemmas.proofs.Lemmas.Related.{both, firsts, seconds, KeepRelated, related_expr, related_block, related_pattern, related_stmt, related_type_expr}
 use Rattle.dslx_meaning.specs.Callees.{AllOnes, CallKind, Calls, CountsLeading, CountsTrailing, Joins, Parity, Receives, ReceivesIf, Reverses, Sends, SendsIf, SomeOne, Updates, kind_of_call}
 use Rattle.dslx_meaning.specs.Lists.{with_both}
 use Rattle.dslx_meaning.specs.Environment.{Env}
-use Rattle.dslx_meaning.specs.Meaning.{Meant, PatternMeant, Typing, call_meant, meant, value_of, value_of_block, values_of, written_type}
+use Rattle.dslx_meaning.specs.Meaning.{Meant, PatternMeant, Typing, call_meant, meant, meant_pattern, value_of, value_of_block, values_of, written_type}
 use Rattle.dslx_meaning.specs.declared.value.Bare.{Bare}
 use Rattle.dslx_rules.specs.CallRules.{call_judged, receiving, receiving_if, sending, sending_if}
 use Rattle.dslx_rules.specs.ControlRules.{same_ends, span_of_block, written_judged}
@@ -22,9 +24,10 @@ use Rattle.dslx_rules.specs.Judging.{ExprPair, Judging, Sight, alone, breaks, no
 use Rattle.dslx_rules.specs.PatternRules.{is_there}
 use Rattle.dslx_meaning.specs.Types.{bool_type}
 use Rattle.dslx_meaning.specs.Values.{bool_value}
-use Rattle.dslx_rules.specs.Judgings.{PatternJudging, SightJudging, StatementJudging}
+use Rattle.dslx_rules.specs.Judgings.{PatternJudging, SightJudging, StatementJudging, judged_sorts}
 use Rattle.dslx_rules.specs.NameRules.{name_judged}
-use Rattle.dslx_rules.specs.NodeRules.{block_pair, expr_pair, second_of, type_pair}
+use Rattle.dslx_rules.specs.NodeRules.{block_pair, expr_pair, judged_steps, second_of, type_pair}
+use Rattle.dslx_rules.specs.Paired.{paired_pattern, paired_stmt}
 use Rattle.dslx_typed.specs.Complete.{IsFine}
 use Rattle.dslx_typed.specs.WellTyped.{IsWellTyped, types_at}
 use Rattle.dslx_typed.proofs.Lemmas.{none_some}
@@ -362,3 +365,10 @@ expression_gives e =
 -- a written type means what is known of it, and is known where nothing is wrong with it
 pub type_stands : (t : TypeExpr) → TypeStands (type_pair t).1 (written_type t)
 type_stands t = (related_type_expr judged meanings (claimed sound) judging meaning all_keep t).1.0
+
+-- a statement, and a pattern, keep what is in sight well typed
+pub statement_gives : (s : Stmt) → StatementGives (paired_stmt judged_sorts judged_steps s).1 (fold_stmt meanings meaning s)
+statement_gives s = (related_stmt judged meanings (claimed sound) judging meaning all_keep s).1
+
+pub pattern_gives : (p : Pattern) → PatternGives (paired_pattern judged_sorts judged_steps p).1 (meant_pattern p)
+pattern_gives p = (related_pattern judged meanings (claimed sound) judging meaning all_keep p).1.0

@@ -1,0 +1,6 @@
+-- induction on trees, and trees beside what they come to
+pub mod Trees
+-- equal types
+pub mod Equal
+-- what parts become
+pub mod Parts

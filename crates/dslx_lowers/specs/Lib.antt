@@ -1,0 +1,4 @@
+-- the place that stands beside what is in sight
+pub mod Beside
+-- what each part becomes
+pub mod Lowers
