@@ -4,3 +4,7 @@ pub mod Trees
 pub mod Equal
 -- what parts become
 pub mod Parts
+pub mod Limits
+pub mod OfOperations
+pub mod Constants
+pub mod Bare

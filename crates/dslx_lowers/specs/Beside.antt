@@ -1,9 +1,11 @@
 -- The place where something is lowered, beside what is in sight where it is judged.
-use Rattle.std.specs.Prelude.{◌≡◌, ℕ, List, [], ◌∷◌, map, Bool, true, Some}
+use Rattle.std.specs.Prelude.{◌≡◌, ℕ, nat_lt, List, [], ◌∷◌, map, Bool, true, Some}
 use Rattle.dslx_tree.specs.declared.item.Field.{Field}
 use Rattle.dslx_tree.specs.declared.item.Function.{Function}
 use Rattle.dslx_meaning.specs.Environment.{Given}
 use Rattle.dslx_meaning.specs.Items.{all_numbers, as_function, inferred_from, item_named, numbers_bound}
+use Rattle.dslx_meaning.specs.Types.{bits_in}
+use Rattle.dslx_meaning.specs.declared.ty.BitKind.{BitKind}
 use Rattle.dslx_meaning.specs.declared.ty.DslxType.{DslxType}
 use Rattle.dslx_meaning.specs.declared.value.DslxValue.{DslxValue}
 use Rattle.dslx_rules.specs.CallRules.{declared_type, result_type}
@@ -32,6 +34,12 @@ CallsAreKnown here known core = (name : List ℕ) (f : Function) (given numbers 
     → here (record { name = f.name.name; numbers = numbers }) ≡ true → AreDeclaredFor known f.name.name (numbers_bound [] f.parameters numbers) f.arguments types
     → HasCallee known core name f given numbers types
 
+-- ---- types
+
+-- bits that a name stands for have a width, as all that a text writes have
+abbrev pub NamesHaveWidths : Known → Type 0
+NamesHaveWidths known = (name : List ℕ) (t : DslxType) (kind : BitKind) → known.items.type_named name ≡ Some t → bits_in t ≡ Some kind → nat_lt 0 kind.width ≡ true
+
 -- ---- places
 
 -- the names that are bound, with their types
@@ -46,3 +54,4 @@ pub record StandsBeside (here : Instance → Bool) (sight : Sight) (place : Core
   pub locals : typed_slots place.locals ≡ sight.locals
   pub sound : (i : Instance) → here i ≡ true → sight.known.is_sound i ≡ true
   pub calls : CallsAreKnown here sight.known place.known
+  pub widths : NamesHaveWidths sight.known

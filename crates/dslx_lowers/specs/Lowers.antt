@@ -2,18 +2,21 @@
 --
 -- Each claim is an equation of what is lowered and what is judged. That a part has a type where nothing is wrong with it is a law
 -- of its own, of `dslx_sound`.
-use Rattle.std.specs.Prelude.{◌≡◌, ◌||◌, ℕ, List, [], ◌∷◌, Bool, true, false, Option, Some, None, option_map}
+use Rattle.std.specs.Prelude.{◌≡◌, ◌||◌, ℕ, nat_le, nat_lt, List, [], ◌∷◌, Bool, true, false, Option, Some, None, option_map}
 use Rattle.std.specs.List.{list_all}
 use Rattle.xb_span.specs.declared.fault.Fault.{Fault}
 use Rattle.dslx_meaning.specs.Environment.{Env}
 use Rattle.dslx_meaning.specs.Meaning.{Meant, Typing}
+use Rattle.dslx_meaning.specs.Types.{bits_in}
 use Rattle.dslx_meaning.specs.Values.{type_of_value}
+use Rattle.dslx_meaning.specs.declared.ty.BitKind.{BitKind}
 use Rattle.dslx_meaning.specs.declared.ty.DslxType.{DslxType}
 use Rattle.dslx_meaning.specs.declared.value.DslxValue.{DslxValue}
 use Rattle.dslx_rules.specs.AggregateRules.{field_judged}
 use Rattle.dslx_rules.specs.ConstantRules.{is_empty}
 use Rattle.dslx_rules.specs.Judging.{ExprPair, Instance, Judging, Known, Sight, Typed, with_typed}
 use Rattle.dslx_rules.specs.Judgings.{ArmSeen, FieldSeen, PatternJudging, SightJudging, StatementJudging}
+use Rattle.dslx_rules.specs.OperatorRules.{width_of_type}
 use Rattle.dslx_typed.specs.Complete.{IsFine}
 use Rattle.dslx_typed.specs.Declared.{IsDeclared}
 use Rattle.dslx_typed.specs.WellTyped.{IsWellTyped, types_at}
@@ -22,7 +25,7 @@ use Rattle.dslx_lowering.specs.CorePlaces.{CorePlace}
 use Rattle.dslx_lowering.specs.Lowering.{LoweredExpr}
 use Rattle.dslx_lowering.specs.Patterns.{LoweredShape, Lowers, LowersArm, LowersPattern}
 use Rattle.dslx_lowering.specs.Trees.{LowersField, LowersType}
-use Rattle.dslx_lowers.specs.Beside.{StandsBeside}
+use Rattle.dslx_lowers.specs.Beside.{NamesHaveWidths, StandsBeside}
 
 -- ---- expressions
 
@@ -39,11 +42,16 @@ abbrev pub PartLowers : SightJudging → Lowers → Type 0
 PartLowers j l = (here : Instance → Bool) (sight : Sight) (env : Env) (place : CorePlace) → IsWellTyped sight env → StandsBeside here sight place → IsFine (reaching sight.known here) (j sight)
     → type_of_lowered (l place) ≡ (j sight).ty
 
+-- the limits on its type are kept
+abbrev pub IsLimited : SightJudging → Type 0
+IsLimited j = (sight : Sight) → (j sight).faults ≡ [] → (t : DslxType) → (j sight).ty ≡ Some t → nat_le (width_of_type t) 128 ≡ true
+
 -- an expression that has a value of its type, and becomes something of this type
 pub record ExprLowers (e : ExprPair) (l : Lowers) : Type 0 where
   pub meaning : Meant
   pub gives : ExprGives e meaning
   pub lowers : PartLowers (e.1 false) l
+  pub limited : IsLimited (e.1 false)
 
 -- ---- types and numbers
 
@@ -52,10 +60,15 @@ abbrev pub TypeLowers : SightJudging → LowersType → Type 0
 TypeLowers j l = (here : Instance → Bool) (sight : Sight) (env : Env) (place : CorePlace) → IsWellTyped sight env → StandsBeside here sight place → IsFine (reaching sight.known here) (j sight)
     → l place ≡ (j sight).ty
 
+-- if it is bits, they have a width
+abbrev pub HasWidth : SightJudging → Type 0
+HasWidth j = (sight : Sight) → NamesHaveWidths sight.known → (t : DslxType) (kind : BitKind) → (j sight).ty ≡ Some t → bits_in t ≡ Some kind → nat_lt 0 kind.width ≡ true
+
 pub record WrittenLowers (j : SightJudging) (l : LowersType) : Type 0 where
   pub meaning : Typing
   pub stands : TypeStands j meaning
   pub lowers : TypeLowers j l
+  pub wide : HasWidth j
 
 -- a number that is written with its type is a value of it
 abbrev pub NumberLowers : SightJudging → (CorePlace → Option DslxValue) → Type 0
