@@ -8,3 +8,6 @@ pub mod Limits
 pub mod OfOperations
 pub mod Constants
 pub mod Bare
+pub mod OfSlices
+pub mod OfTypes
+pub mod OfNames
