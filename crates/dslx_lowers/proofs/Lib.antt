@@ -11,3 +11,6 @@ pub mod Bare
 pub mod OfSlices
 pub mod OfTypes
 pub mod OfNames
+pub mod Lists
+pub mod OfAggregates
+pub mod OfStructs
