@@ -14,3 +14,4 @@ pub mod OfNames
 pub mod Lists
 pub mod OfAggregates
 pub mod OfStructs
+pub mod OfPatterns

@@ -125,7 +125,7 @@ member_lowers span e a here sight env place h at fine =
 
 -- ---- `true`, `false` and numbers
 
-bool_is : (span : Span) (b : Bool) → type_of_value (bool_value b) ≡ bool_type
+pub bool_is : (span : Span) (b : Bool) → type_of_value (bool_value b) ≡ bool_type
 bool_is span b = let g = bool_gives (λ name. None) span b bool_type refl in one_type bool_type (bool_value b) (subst (λ v. is_of bool_type v ≡ true) (same_some g.value (bool_value b) (sym g.is)) g.of)
 
 pub bool_lowers : (span : Span) (b : Bool) → PartLowers (λ sight. settled span (Some bool_type) [] [] (Some 1)) (λ place. literal (bool_value b))

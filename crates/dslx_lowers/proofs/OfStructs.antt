@@ -205,7 +205,7 @@ ExprLowersIf (Some e) None = ⊥
 
 -- the place where the value that gives the others is bound
 unnamed_beside : (here : Instance → Bool) (sight : Sight) (place : CorePlace) → StandsBeside here sight place → StandsBeside here sight (with_unnamed place)
-unnamed_beside here sight place at = record { items = at.items; numbers = at.numbers; locals = at.locals; sound = at.sound; calls = at.calls; widths = at.widths }
+unnamed_beside here sight place at = record { items = at.items; numbers = at.numbers; locals = at.locals; sound = at.sound; calls = at.calls; widths = at.widths; constants = at.constants }
 
 -- the fields give a value of the struct
 record FieldsStand (sight : Sight) (place : CorePlace) (ws : List LowersField) (struct : DslxType) (names : List (List ℕ)) (types : List DslxType) (others : Option ExprPair) (rest : Option LoweredPair) : Type 0 where

@@ -5,11 +5,13 @@ use Rattle.dslx_tree.specs.declared.item.Function.{Function}
 use Rattle.dslx_meaning.specs.Environment.{Given}
 use Rattle.dslx_meaning.specs.Items.{all_numbers, as_function, inferred_from, item_named, numbers_bound}
 use Rattle.dslx_meaning.specs.Types.{bits_in}
+use Rattle.dslx_meaning.specs.Values.{type_of_value}
 use Rattle.dslx_meaning.specs.declared.ty.BitKind.{BitKind}
 use Rattle.dslx_meaning.specs.declared.ty.DslxType.{DslxType}
 use Rattle.dslx_meaning.specs.declared.value.DslxValue.{DslxValue}
 use Rattle.dslx_rules.specs.CallRules.{declared_type, result_type}
 use Rattle.dslx_rules.specs.Judging.{Instance, Known, Sight, Typed}
+use Rattle.dslx_typed.specs.Declared.{IsDeclared}
 use Rattle.dslx_lowering.specs.CorePlaces.{BoundSlot, CoreCallee, CoreKnown, CorePlace}
 
 -- ---- calls
@@ -40,6 +42,10 @@ CallsAreKnown here known core = (name : List ℕ) (f : Function) (given numbers 
 abbrev pub NamesHaveWidths : Known → Type 0
 NamesHaveWidths known = (name : List ℕ) (t : DslxType) (kind : BitKind) → known.items.type_named name ≡ Some t → bits_in t ≡ Some kind → nat_lt 0 kind.width ≡ true
 
+-- a constant is of a type of the text
+abbrev pub ConstantsAreDeclared : Known → Type 0
+ConstantsAreDeclared known = (name : List ℕ) (v : DslxValue) → known.items.constant name ≡ Some v → IsDeclared known.items.type_named (type_of_value v)
+
 -- ---- places
 
 -- the names that are bound, with their types
@@ -55,3 +61,4 @@ pub record StandsBeside (here : Instance → Bool) (sight : Sight) (place : Core
   pub sound : (i : Instance) → here i ≡ true → sight.known.is_sound i ≡ true
   pub calls : CallsAreKnown here sight.known place.known
   pub widths : NamesHaveWidths sight.known
+  pub constants : ConstantsAreDeclared sight.known

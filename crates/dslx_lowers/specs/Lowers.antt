@@ -96,7 +96,7 @@ pub record PatternLowers (p : PatternJudging) (l : LowersPattern) : Type 0 where
       → ShapeStands here (with_typed sight (p may_fail sight (Some t) names locals).locals) (l.lower outer place t)
   -- where it binds nothing its names are constants'
   pub unbound : (may_fail : Bool) (sight : Sight) (t : Option DslxType) (names : List (List ℕ)) (locals : List Typed) → is_empty (p may_fail sight t names locals).names ≡ true
-      → list_all sight.known.items.is_constant l.names ≡ true
+      → (list_all sight.known.items.is_constant l.names ≡ true) × (is_empty names ≡ true)
   -- and where they are it binds nothing
   pub plain : (may_fail : Bool) (sight : Sight) (t : Option DslxType) (names : List (List ℕ)) (locals : List Typed) → list_all sight.known.items.is_constant l.names ≡ true
       → (p may_fail sight t names locals).locals ≡ locals
