@@ -15,3 +15,4 @@ pub mod Lists
 pub mod OfAggregates
 pub mod OfStructs
 pub mod OfPatterns
+pub mod OfMatch

@@ -225,7 +225,7 @@ parts_stand (p ∷ ps) (l ∷ ls) k here may_fail sight (t ∷ ts) names locals 
       behind = more.behind;
     }
 
-list_of : (p : List ℕ → Bool) (xs ys : List (List ℕ)) → list_all p xs ≡ true → list_all p ys ≡ true → list_all p (xs ++ ys) ≡ true
+pub list_of : (p : List ℕ → Bool) (xs ys : List (List ℕ)) → list_all p xs ≡ true → list_all p ys ≡ true → list_all p (xs ++ ys) ≡ true
 list_of p [] ys e f = f
 list_of p (x ∷ xs) ys e f = let q = and_true (p x) (list_all p xs) e in λ i. q.0 i && list_of p xs ys q.1 f i
 
