@@ -16,3 +16,4 @@ pub mod OfAggregates
 pub mod OfStructs
 pub mod OfPatterns
 pub mod OfMatch
+pub mod OfControl
