@@ -17,3 +17,4 @@ pub mod OfStructs
 pub mod OfPatterns
 pub mod OfMatch
 pub mod OfControl
+pub mod OfLoops
