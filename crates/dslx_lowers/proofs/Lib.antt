@@ -18,3 +18,6 @@ pub mod OfPatterns
 pub mod OfMatch
 pub mod OfControl
 pub mod OfLoops
+pub mod OfCalls
+pub mod Limited
+pub mod Joined

@@ -19,7 +19,7 @@ use Rattle.dslx_rules.specs.OperatorRules.{width_of_type}
 use Rattle.dslx_typed.specs.Complete.{IsFine}
 use Rattle.dslx_typed.proofs.Lemmas.{none_some, same_some}
 use Rattle.dslx_sound.proofs.Lemmas.{none_in, none_in_three, settled_fine, some_fault}
-use Rattle.dslx_lowers.specs.Lowers.{IsLimited}
+use Rattle.dslx_lowers.specs.Lowers.{KeepsLimits}
 
 leaves_at : (t : DslxType) (l : DslxType-F DslxType) → out-DslxType t ≡ l → leaf_widths t ≡ widths_in (map-DslxType DslxType (List ℕ) leaf_widths l)
 leaves_at t l e = ap leaf_widths (sym (views.roll-out-DslxType t) ∙ ap views.roll-DslxType e) ∙ fold-roll-DslxType (List ℕ) widths_in l
@@ -62,9 +62,8 @@ settled_limits span own named found size fine =
     let q = none_in named (type_limits span.to (unless_broken named own)) fine in
     sym (λ i. type_limits span.to (unless_broken (q.0 i) own)) ∙ q.1
 
-pub settled_limited : (span : Span) (own : Option DslxType) (named : List Fault) (found : List Instance) (size : Option ℕ) → (settled span own named found size).faults ≡ []
-    → (t : DslxType) → (settled span own named found size).ty ≡ Some t → nat_le (width_of_type t) 128 ≡ true
-settled_limited span own named found size fine t e =
+pub settled_keeps : (span : Span) (own : Option DslxType) (named : List Fault) → KeepsLimits (named ++ type_limits span.to (unless_broken named own)) (unless_broken named own)
+settled_keeps span own named fine t e =
     let q = none_in named (type_limits span.to (unless_broken named own)) fine in
     narrow span.to t (sym (ap (type_limits span.to) e) ∙ q.1)
 

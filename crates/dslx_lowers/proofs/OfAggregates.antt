@@ -209,7 +209,7 @@ all_elements here sight env place h at w d (e ∷ es) (x ∷ xs) k f r =
     }
 
 -- the type of an array, by its element and its size
-array_is : (t : DslxType) (parts : DslxType × ℕ) → array_in t ≡ Some parts → ty.Array parts.0 parts.1 ≡ t
+pub array_is : (t : DslxType) (parts : DslxType × ℕ) → array_in t ≡ Some parts → ty.Array parts.0 parts.1 ≡ t
 array_is t parts e = by_level (out-DslxType t) refl e
   where
     by_level : (l : DslxType-F DslxType) → out-DslxType t ≡ l → array_parts l ≡ Some parts → ty.Array parts.0 parts.1 ≡ t

@@ -113,10 +113,10 @@ prefix_lowers span o e x se here sight env place h at fine =
 
 -- ---- casts
 
-unless_passed : (test : DslxType → Bool) (rule : ℕ) (span : Span) (o : Option DslxType) (t : DslxType) → o ≡ Some t → unless_type test rule span o ≡ [] → test t ≡ true
+pub unless_passed : (test : DslxType → Bool) (rule : ℕ) (span : Span) (o : Option DslxType) (t : DslxType) → o ≡ Some t → unless_type test rule span o ≡ [] → test t ≡ true
 unless_passed test rule span o t e f = passed (test t) rule span (ap (unless_type test rule span) (sym e) ∙ f)
 
-there : {A : Type 0} (o : Option A) → is_there o ≡ true → (a : A) × (o ≡ Some a)
+pub there : {A : Type 0} (o : Option A) → is_there o ≡ true → (a : A) × (o ≡ Some a)
 there None e = absurd (true≢false (sym e))
 there (Some a) e = (a, refl)
 

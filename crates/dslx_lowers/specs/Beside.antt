@@ -16,10 +16,10 @@ use Rattle.dslx_lowering.specs.CorePlaces.{BoundSlot, CoreCallee, CoreKnown, Cor
 
 -- ---- calls
 
--- the types that are declared for arguments
+-- types that are those which are declared for the arguments, where these are known
 abbrev pub AreDeclaredFor : Known → List ℕ → List Given → List Field → List DslxType → Type 0
 AreDeclaredFor known home numbers [] [] = Unit {0}
-AreDeclaredFor known home numbers (f ∷ fs) (t ∷ ts) = (declared_type known home numbers f.ty ≡ Some t) × AreDeclaredFor known home numbers fs ts
+AreDeclaredFor known home numbers (f ∷ fs) (t ∷ ts) = ((u : DslxType) → declared_type known home numbers f.ty ≡ Some u → u ≡ t) × AreDeclaredFor known home numbers fs ts
 AreDeclaredFor known home numbers [] (t ∷ ts) = ⊥
 AreDeclaredFor known home numbers (f ∷ fs) [] = ⊥
 

@@ -2,3 +2,5 @@
 pub mod Beside
 -- what each part becomes
 pub mod Lowers
+-- trees in which types have widths
+pub mod Widths

@@ -42,9 +42,12 @@ abbrev pub PartLowers : SightJudging → Lowers → Type 0
 PartLowers j l = (here : Instance → Bool) (sight : Sight) (env : Env) (place : CorePlace) → IsWellTyped sight env → StandsBeside here sight place → IsFine (reaching sight.known here) (j sight)
     → type_of_lowered (l place) ≡ (j sight).ty
 
--- the limits on its type are kept
+-- where it has no fault its type keeps the limit on words
+abbrev pub KeepsLimits : List Fault → Option DslxType → Type 0
+KeepsLimits faults ty = faults ≡ [] → (t : DslxType) → ty ≡ Some t → nat_le (width_of_type t) 128 ≡ true
+
 abbrev pub IsLimited : SightJudging → Type 0
-IsLimited j = (sight : Sight) → (j sight).faults ≡ [] → (t : DslxType) → (j sight).ty ≡ Some t → nat_le (width_of_type t) 128 ≡ true
+IsLimited j = (sight : Sight) → KeepsLimits (j sight).faults (j sight).ty
 
 -- an expression that has a value of its type, and becomes something of this type
 pub record ExprLowers (e : ExprPair) (l : Lowers) : Type 0 where
