@@ -1,5 +1,5 @@
 -- A number without a type names nothing.
-use Rattle.std.proofs.Common.{◌≡◌, ℕ, List, [], ◌∷◌, Option, Some, None, refl, ap}
+use Rattle.std.proofs.Common.{◌≡◌, ℕ, List, [], Option, Some, None, refl, ap}
 use Rattle.dslx_tree.specs.declared.block.Stmt.TheOpen.{Node-F}
 use Rattle.dslx_tree.specs.declared.expr.Expr.{Expr}
 use Rattle.dslx_tree_lemmas.proofs.Lemmas.Levels.{Carriers, NodeLevel, NumberLevel, map_node, map_number}

@@ -1,10 +1,9 @@
 -- Constants, sizes and bounds of slices have the values that are known of them.
-use Rattle.std.proofs.Common.{◌≡◌, ◌||◌, ◌++◌, ℕ, zero, suc, Bool, true, false, if◌then◌else◌, List, [], ◌∷◌, map, Option, Some, None, refl, sym, ap, subst, ◌∙◌}
+use Rattle.std.proofs.Common.{◌≡◌, ◌++◌, ℕ, Bool, false, List, [], ◌∷◌, map, Option, Some, None, refl, sym, ap, ◌∙◌}
 use Rattle.std.specs.List.{list_any}
 use Rattle.dslx_tree.specs.declared.expr.Expr.{Expr}
 use Rattle.dslx_meaning.specs.Lists.{and_then, is_in}
-use Rattle.dslx_meaning.specs.Values.{bits_of, unsigned_of}
-use Rattle.dslx_meaning.specs.Environment.{Env, Given, given_in}
+use Rattle.dslx_meaning.specs.Environment.{Env}
 use Rattle.dslx_meaning.specs.Meaning.{Meant, bound_in, bound_of, count_in, meant, size_of, some_count, value_of}
 use Rattle.dslx_meaning.specs.declared.value.Bare.{Bare}
 use Rattle.dslx_meaning.specs.declared.value.DslxValue.{DslxValue}
@@ -19,7 +18,7 @@ use Rattle.dslx_typed.specs.InSight.{local_names, place_of}
 use Rattle.dslx_typed.specs.WellTyped.{IsWellTyped}
 use Rattle.dslx_typed.proofs.Lemmas.{bound_is_meant, constant_is_meant, or_false, size_is_meant}
 use Rattle.dslx_sound.specs.Sound.{ExprGives}
-use Rattle.dslx_sound.proofs.Lemmas.{bound_has, constant_has, count_has, none_in_three, not_broken}
+use Rattle.dslx_sound.proofs.Lemmas.{bound_has, count_has, none_in_three, not_broken}
 use Rattle.dslx_lowering.specs.CorePlaces.{BoundSlot, CorePlace, bound_at, constant_at, known_env, sees_a_local, size_at, slot_names, unless_local}
 use Rattle.dslx_lowers.specs.Beside.{StandsBeside, typed_slots}
 use Rattle.dslx_lowers.specs.Lowers.{reaching}

@@ -1,5 +1,5 @@
 -- Each expression is judged within the limits on its type.
-use Rattle.std.proofs.Common.{◌≡◌, ℕ, Bool, true, false, if◌then◌else◌, List, [], ◌∷◌, Option, Some, None, length, map, not, ◌++◌, ◌-◌, ◌||◌}
+use Rattle.std.proofs.Common.{ℕ, Bool, true, false, if◌then◌else◌, List, [], ◌∷◌, Option, Some, None, length, map, not, ◌++◌, ◌-◌, ◌||◌}
 use Rattle.xb_span.specs.declared.span.Span.{Span}
 use Rattle.dslx_tree.specs.declared.ident.Ident.{Ident}
 use Rattle.dslx_tree.specs.declared.item.Enum.{Enum}
@@ -18,7 +18,7 @@ use Rattle.dslx_rules.specs.CallRules.{GivenNumber, builtin_judged, call_judged,
 use Rattle.dslx_rules.specs.Judging.{ExprPair, Judgement, Sight, all_alone, settled, typed_in, alone, breaks, breaks_if, faults_of_all, one_and, plus_size, span_of, types_of}
 use Rattle.dslx_rules.specs.Judgings.{ArgPair, FieldSeen, ArmSeen, BlockPair, PatternSeen, SightJudging, StatementJudging}
 use Rattle.dslx_rules.specs.NameRules.{item_value, local_or_other, member_judged, member_of, name_judged, number_or_item, has_member}
-use Rattle.dslx_rules.specs.OperatorRules.{width_of_type, binary_faults, binary_judged, binary_type, bound_number, cast_judged, is_bits, is_bits_or_enum, is_bool, one_bit_type, part_judged, prefix_judged, slice_faults, slice_judged, unless_type, unless_types}
+use Rattle.dslx_rules.specs.OperatorRules.{binary_faults, binary_judged, binary_type, bound_number, cast_judged, is_bits, is_bits_or_enum, is_bool, one_bit_type, part_judged, prefix_judged, slice_faults, slice_judged, unless_type, unless_types}
 use Rattle.dslx_typed.proofs.Lemmas.{none_some}
 use Rattle.dslx_lowers.specs.Lowers.{IsLimited, KeepsLimits}
 use Rattle.dslx_lowers.proofs.Limits.{settled_keeps}

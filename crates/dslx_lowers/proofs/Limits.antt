@@ -1,24 +1,21 @@
 -- Types within the limits: what a part that is settled says of its own.
-use Rattle.std.proofs.Common.{◌≡◌, ◌++◌, ℕ, Bool, true, false, List, [], ◌∷◌, Option, Some, None, if◌then◌else◌, refl, sym, ap, ◌∙◌, arith}
+use Rattle.std.proofs.Common.{◌≡◌, ◌++◌, ℕ, Bool, true, false, List, [], ◌∷◌, Option, Some, None, if◌then◌else◌, refl, sym, ap, ◌∙◌}
 use Rattle.std.specs.Prelude.{nat_le, nat_lt}
 use Rattle.std.proofs.lemmas.Bool.{le-leb, ltb-false}
-use Rattle.std.proofs.lemmas.Bool.Decides.{Decides-ltb}
 use Rattle.xb_span.specs.declared.span.Span.{Span}
 use Rattle.xb_span.specs.declared.fault.Fault.{Fault}
 use Rattle.xb_span.specs.declared.fault.Fault.TheVariants.{Passed}
 use Rattle.xb_span.specs.declared.limit.What.TheVariants as what
-use Rattle.dslx_meaning.specs.Types.{bits_in, bits_step, leaves_of, levels_of}
+use Rattle.dslx_meaning.specs.Types.{bits_step, leaves_of, levels_of}
 use Rattle.dslx_meaning.specs.declared.ty.BitKind.{BitKind}
 use Rattle.dslx_meaning.specs.declared.ty.DslxType.{DslxType, out-DslxType}
 use Rattle.dslx_meaning.specs.declared.ty.DslxType as ty
 use Rattle.dslx_meaning.specs.declared.ty.DslxType.TheOpen.{DslxType-F}
 use Rattle.dslx_meaning.specs.declared.ty.DslxType.TheViews as views
 use Rattle.dslx_meaning.specs.declared.ty.DslxType.TheFolds.{fold-roll-DslxType, map-DslxType}
-use Rattle.dslx_rules.specs.Judging.{Instance, Judgement, Known, Sight, found_number, leaf_widths, passes, passes_widths, settled, type_limits, unless_broken, widths_in}
+use Rattle.dslx_rules.specs.Judging.{Instance, found_number, leaf_widths, passes, passes_widths, settled, type_limits, unless_broken, widths_in}
 use Rattle.dslx_rules.specs.OperatorRules.{width_of_type}
-use Rattle.dslx_typed.specs.Complete.{IsFine}
-use Rattle.dslx_typed.proofs.Lemmas.{none_some, same_some}
-use Rattle.dslx_sound.proofs.Lemmas.{none_in, none_in_three, settled_fine, some_fault}
+use Rattle.dslx_sound.proofs.Lemmas.{none_in, none_in_three, some_fault}
 use Rattle.dslx_lowers.specs.Lowers.{KeepsLimits}
 
 leaves_at : (t : DslxType) (l : DslxType-F DslxType) → out-DslxType t ≡ l → leaf_widths t ≡ widths_in (map-DslxType DslxType (List ℕ) leaf_widths l)
@@ -27,7 +24,6 @@ leaves_at t l e = ap leaf_widths (sym (views.roll-out-DslxType t) ∙ ap views.r
 abbrev width_at : Option BitKind → ℕ
 width_at None = 0
 width_at (Some kind) = kind.width
-
 
 abbrev width_of_level : DslxType-F DslxType → ℕ
 width_of_level l = width_at (bits_step l)

@@ -1,7 +1,7 @@
 -- Lists of parts that each become something.
-use Rattle.std.proofs.Common.{◌≡◌, ◌++◌, ℕ, Bool, true, false, List, [], ◌∷◌, map, Option, Some, None, refl, sym, ap, subst, ◌∙◌}
+use Rattle.std.proofs.Common.{◌≡◌, ◌++◌, Bool, true, List, [], ◌∷◌, map, Option, Some, refl, ap, ◌∙◌}
 use Rattle.std.specs.List.{list_all}
-use Rattle.dslx_meaning.specs.Lists.{all_some, and_then}
+use Rattle.dslx_meaning.specs.Lists.{all_some}
 use Rattle.dslx_meaning.specs.Environment.{Env}
 use Rattle.dslx_meaning.specs.declared.ty.DslxType.{DslxType}
 use Rattle.dslx_rules.specs.AggregateRules.{element_alone}

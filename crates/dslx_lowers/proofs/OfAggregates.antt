@@ -1,7 +1,6 @@
 -- Tuples and arrays become something.
-use Rattle.std.proofs.Common.{◌≡◌, ◌&&◌, ◌||◌, ◌++◌, ◌==◌, ◌<◌, ◌≤◌, ℕ, zero, suc, length, Bool, true, false, not, if◌then◌else◌, List, [], ◌∷◌, map, Option, Some, None, refl, sym, ap, subst, ◌∙◌, arith}
+use Rattle.std.proofs.Common.{◌≡◌, ◌&&◌, ◌||◌, ◌++◌, ◌==◌, ℕ, suc, length, Bool, true, false, not, if◌then◌else◌, List, [], ◌∷◌, map, Option, Some, None, refl, sym, ap, subst, ◌∙◌}
 use mathlib.Core.Bool.{true≢false}
-use Rattle.std.specs.Prelude.{nat_le, nat_lt}
 use Rattle.std.specs.List.{list_all}
 use Rattle.std.proofs.lemmas.Bool.{le-leb, ltb-false}
 use Rattle.std.proofs.lemmas.Bool.Decides.{Decides-eqb}
@@ -18,10 +17,9 @@ use Rattle.dslx_meaning.specs.declared.ty.DslxType.TheOpen.{DslxType-F}
 use Rattle.dslx_meaning.specs.declared.ty.DslxType.TheVariants as rolls
 use Rattle.dslx_meaning.specs.declared.ty.DslxType.TheViews as views
 use Rattle.dslx_meaning.specs.declared.value.Bare.{Bare}
-use Rattle.dslx_meaning.specs.declared.value.DslxValue.{DslxValue}
 use Rattle.dslx_rules.specs.AggregateRules.{array_faults, array_in, array_parts, count_wrong, element_alone, element_in, element_type, first_type_of, is_some_tuple, like_first, pair_alone, part_type, range_faults, tuple_element_judged, tuple_judged, typed_array, untyped_array, wanted_faults, when_all}
 use Rattle.dslx_rules.specs.ConstantRules.{bare_judged, is_empty, is_zero}
-use Rattle.dslx_rules.specs.Judging.{ExprPair, Instance, Judgement, Sight, alone, bare_of, breaks, breaks_if, faults_of_all, no_token, one_and, plus_size, reached_of_all, settled, size_of_all, span_of, types_of, within}
+use Rattle.dslx_rules.specs.Judging.{ExprPair, Instance, Judgement, Sight, alone, bare_of, breaks, breaks_if, faults_of_all, no_token, one_and, reached_of_all, settled, size_of_all, span_of, types_of, within}
 use Rattle.dslx_rules.specs.Judgings.{SightJudging}
 use Rattle.dslx_rules.specs.OperatorRules.{unless_type}
 use Rattle.dslx_rules.specs.PatternRules.{is_there}
@@ -39,7 +37,7 @@ use Rattle.dslx_lowering.specs.Trees.{LoweredPair, element_or_number, filled_arr
 use Rattle.dslx_lowers.specs.Beside.{StandsBeside}
 use Rattle.dslx_lowers.specs.Lowers.{ExprLowers, PartLowers, WrittenLowers, reaching, type_of_lowered}
 use Rattle.dslx_lowers.proofs.Equal.{equal_itself, equal_of_text}
-use Rattle.dslx_lowers.proofs.Lists.{AllBecome, EachExprLowers, all_there, all_typed, elements_become}
+use Rattle.dslx_lowers.proofs.Lists.{EachExprLowers, all_there, all_typed, elements_become}
 use Rattle.dslx_lowers.proofs.Parts.{Becomes, alone_becomes, type_becomes, within_becomes}
 
 -- ---- tuples

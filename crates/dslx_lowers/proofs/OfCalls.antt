@@ -1,5 +1,5 @@
 -- Calls become something.
-use Rattle.std.proofs.Common.{◌≡◌, ◌&&◌, ◌||◌, ◌++◌, ◌==◌, ℕ, suc, length, Bool, true, false, not, if◌then◌else◌, List, [], ◌∷◌, map, Option, Some, None, refl, sym, ap, subst, ◌∙◌, arith}
+use Rattle.std.proofs.Common.{◌≡◌, ◌||◌, ◌++◌, ◌==◌, ℕ, suc, length, Bool, true, false, not, if◌then◌else◌, List, [], ◌∷◌, map, Option, Some, None, refl, sym, ap, subst, ◌∙◌, arith}
 use Rattle.std.specs.Prelude.{nat_lt}
 use Rattle.std.specs.List.{list_all}
 use Rattle.std.proofs.lemmas.Bool.Decides.{Decides-eqb}
@@ -20,7 +20,7 @@ use Rattle.dslx_meaning.specs.declared.ty.DslxType.{DslxType}
 use Rattle.dslx_meaning.specs.declared.ty.DslxType as ty
 use Rattle.dslx_meaning.specs.declared.value.DslxValue.{DslxValue}
 use Rattle.dslx_rules.specs.AggregateRules.{array_in, element_type, is_array, wanted_faults, when_all}
-use Rattle.dslx_rules.specs.CallRules.{GivenNumber, NumbersSeen, builtin_judged, call_judged, call_parts_faults, call_parts_reached, call_type, counting, declared_type, first_operand_type, function_call, given_judgements, given_numbers, has_right_count, inferred_by, joining, maybe_inferred, numbers_seen, operand_faults, reached_by, receiving, receiving_if, result_type, right_call, sending, sending_if, token_faults, token_judged, update_faults, updating, without_numbers, wrong_call}
+use Rattle.dslx_rules.specs.CallRules.{GivenNumber, NumbersSeen, builtin_judged, call_judged, call_parts_faults, call_parts_reached, counting, declared_type, first_operand_type, function_call, given_judgements, given_numbers, has_right_count, inferred_by, joining, maybe_inferred, numbers_seen, operand_faults, reached_by, receiving, receiving_if, result_type, right_call, sending, sending_if, token_faults, token_judged, update_faults, updating, without_numbers, wrong_call}
 use Rattle.dslx_rules.specs.ConstantRules.{constant_of, is_unsigned}
 use Rattle.dslx_rules.specs.Judging.{ExprPair, Instance, Judgement, Sight, all_alone, alone, breaks, breaks_if, faults_of_all, has_broken, one_and, plus_size, reached_of_all, size_of_all, span_of, types_of, within}
 use Rattle.dslx_rules.specs.Judgings.{ArgPair}
@@ -42,7 +42,7 @@ use Rattle.dslx_lowering.specs.Lowering.{LoweredExpr, call_lowered, cores_of, co
 use Rattle.dslx_lowering.specs.Patterns.{Lowers}
 use Rattle.dslx_lowering.specs.Trees.{LoweredPair, all_lowered}
 use Rattle.dslx_lowers.specs.Beside.{AreDeclaredFor, StandsBeside}
-use Rattle.dslx_lowers.specs.Lowers.{ExprLowers, PartLowers, reaching, type_of_lowered}
+use Rattle.dslx_lowers.specs.Lowers.{PartLowers, reaching, type_of_lowered}
 use Rattle.dslx_lowers.proofs.Constants.{constant_there}
 use Rattle.dslx_lowers.proofs.Equal.{equal_of_text}
 use Rattle.dslx_lowers.proofs.Lists.{AllBecome, EachExprLowers, all_alone_become, all_there, all_typed, none_become, one_more_becomes}
@@ -220,7 +220,7 @@ called_lowers here span sight env place name f as' ls es xs cyclic k h at is cou
     let w = right_fine (reaching sight.known here) sight span f gs es js cyclic n fine in
     let ns = meanings_of as' ls k in
     let c = subst (λ n. CallFound sight f gs ts n) (sym same)
-        (call_found span sight env name f as' ns.0 es cyclic ns.1 h is ts (subst (λ n. IsFine sight.known (right_call span sight f gs es js cyclic n)) same (fine_there here sight place (right_call span sight f gs es js cyclic n) at fine))) in
+    (call_found span sight env name f as' ns.0 es cyclic ns.1 h is ts (subst (λ n. IsFine sight.known (right_call span sight f gs es js cyclic n)) same (fine_there here sight place (right_call span sight f gs es js cyclic n) at fine))) in
     let numbers = numbers_there here sight env place h at as' ls k w.numbers_given w.numbers_reach c.given c.written in
     let instance = and_true (here (record { name = home; numbers = c.numbers })) true ((λ i. list_all here (reached_by (has_broken (sym w.no_cycle i) || sym w.right i) home (sym c.all i))) ∙ w.found) in
     let operands = ap (λ b. operand_faults sight.known home b f.arguments es js) (sym c.shown) ∙ ap (λ b. if◌then◌else◌ {A = List Fault} b [] (operand_faults sight.known home n.bound f.arguments es js)) (sym w.right) ∙ w.operands in

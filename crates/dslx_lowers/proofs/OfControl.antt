@@ -1,36 +1,34 @@
 -- `if`, `let`, statements and blocks become something.
-use Rattle.std.proofs.Common.{◌≡◌, ◌++◌, Bool, true, false, if◌then◌else◌, List, [], ◌∷◌, map, Option, Some, None, refl, sym, ap, subst, ◌∙◌}
+use Rattle.std.proofs.Common.{◌≡◌, ◌++◌, Bool, true, false, if◌then◌else◌, List, [], ◌∷◌, Option, Some, None, refl, sym, ap, subst, ◌∙◌}
 use Rattle.std.specs.List.{list_all}
 use Rattle.xb_span.specs.declared.span.Span.{Span}
 use Rattle.dslx_tree.specs.declared.expr.Expr.{Expr}
 use Rattle.dslx_meaning.specs.Lists.{and_then, where_true, with_both}
-use Rattle.dslx_meaning.specs.Types.{same_type, unit_type}
+use Rattle.dslx_meaning.specs.Types.{same_type}
 use Rattle.dslx_meaning.specs.Environment.{Env}
 use Rattle.dslx_meaning.specs.Meaning.{Evaluates, PatternMeant, Typing}
 use Rattle.dslx_meaning.specs.declared.ty.DslxType.{DslxType}
 use Rattle.dslx_rules.specs.AggregateRules.{wanted_faults}
 use Rattle.dslx_rules.specs.ControlRules.{annotation_faults, annotation_reached, behind, block_alone, bound_type, if_judged, last_judged, let_with, statements_judged, written_judged}
-use Rattle.dslx_rules.specs.Judging.{ExprPair, Instance, Judgement, Judging, Sight, Typed, alone, has_broken, one_and, plus_size, settled, span_of, with_typed, within}
+use Rattle.dslx_rules.specs.Judging.{ExprPair, Instance, Judging, Sight, Typed, alone, has_broken, one_and, plus_size, settled, span_of, with_typed, within}
 use Rattle.dslx_rules.specs.Judgings.{BlockPair, PatternPair, PatternSeen, StatementJudging, TypePair}
 use Rattle.dslx_rules.specs.OperatorRules.{is_bool, unless_type, unless_types}
 use Rattle.dslx_rules.specs.PatternRules.{pattern_alone}
 use Rattle.dslx_typed.specs.Complete.{IsFine}
 use Rattle.dslx_typed.specs.WellTyped.{IsWellTyped, types_at}
-use Rattle.dslx_typed.specs.InSight.{IsInSight}
 use Rattle.dslx_sound.specs.Sound.{BlockGives, PatternGives, TypeStandsIf}
-use Rattle.dslx_sound.proofs.Lemmas.{all_in, all_in_three, alone_fine, none_in, none_in_three, passed, settled_fine}
+use Rattle.dslx_sound.proofs.Lemmas.{all_in, all_in_three, none_in, none_in_three, passed, settled_fine}
 use Rattle.dslx_core.specs.declared.expr.CoreExpr.{CoreExpr}
 use Rattle.dslx_core.specs.declared.expr.CoreExpr as core
 use Rattle.dslx_lowering.specs.CorePlaces.{CorePlace}
-use Rattle.dslx_lowering.specs.EqualTypes.{equal_type}
 use Rattle.dslx_lowering.specs.Lowering.{LoweredExpr, choice_lowered, lowered}
-use Rattle.dslx_lowering.specs.Patterns.{LoweredShape, Lowers, LowersPattern, let_lowered, lowered_at_place}
+use Rattle.dslx_lowering.specs.Patterns.{Lowers, LowersPattern, let_lowered, lowered_at_place}
 use Rattle.dslx_lowering.specs.Trees.{LoweredPair, last_lowered, statements_lowered}
 use Rattle.dslx_lowers.specs.Beside.{StandsBeside}
 use Rattle.dslx_lowers.specs.Lowers.{ExprLowers, IsClean, IsLimited, PartLowers, PatternLowers, reaching, type_of_lowered}
 use Rattle.dslx_lowers.proofs.Equal.{equal_of_text}
 use Rattle.dslx_lowers.proofs.OfStructs.{ExprLowersIf}
-use Rattle.dslx_lowers.proofs.Parts.{Becomes, all_sound, alone_becomes, becomes, fine_there, within_becomes}
+use Rattle.dslx_lowers.proofs.Parts.{Becomes, alone_becomes, becomes, fine_there, within_becomes}
 
 -- ---- blocks as parts
 
@@ -117,28 +115,30 @@ bound_there here sight env place h at span (Some p) (Some f) k t e r =
 pub let_lowers : (span : Span) (e : ExprPair) (x : Lowers) (written : Option TypePair) (f : Option Typing) (p : PatternPair) (l : LowersPattern) (m : PatternMeant) → ExprLowers e x → TypeStandsIf written f → PatternLowers p.1 l
     → PatternGives p.1 m
     → StatementLowers (λ on_top sight. let_with sight e.0 span (e.1 on_top sight) (written_judged sight written) (pattern_alone false sight (bound_type (written_judged sight written) (e.1 on_top sight).ty) p)) (let_lowered x l)
-let_lowers span e x written f p l m s st pl pg = record { lowers = λ here sight env place h at clean rest t goes.
-    let value = within sight e in
-    let j = written_judged sight written in
-    let bound = pattern_alone false sight (bound_type j value.ty) p in
-    let q = none_in_three value.faults (annotation_faults span j value.ty) bound.faults clean.faults in
-    let r = all_in_three here value.reached (annotation_reached j) bound.reached clean.reached in
-    let g = within_becomes here sight env place e x s h at (record { faults = q.0; reached = r.0 }) in
-    let own = bound_there here sight env place h at span written f st g.expr.ty (ap (annotation_faults span j) (sym g.typed) ∙ q.1) r.1 in
-    let typed : bound_type j value.ty ≡ Some g.expr.ty = ap (bound_type j) g.typed ∙ own in
-    let seen : bound ≡ pattern_alone false sight (Some g.expr.ty) p = ap (λ o. pattern_alone false sight o p) typed in
-    let one = pl.lowers here false sight g.expr.ty [] sight.locals env place place h at at g.declared (record { faults = ap (λ (b : PatternSeen). b.faults) (sym seen) ∙ q.2; reached = ap (λ (b : PatternSeen). list_all here b.reached) (sym seen) ∙ r.2 }) in
-    let inner = pg.behind false sight g.expr.ty [] sight.locals env g.value h g.given (ap (λ (b : PatternSeen). has_broken b.faults) (sym seen) ∙ ap has_broken q.2) in
-    let here_typed = subst (λ (b : PatternSeen). IsWellTyped (behind sight b.locals e.0) inner.0) (sym seen) (typed_behind sight (pattern_alone false sight (Some g.expr.ty) p).locals e.0 inner.0 inner.1) in
-    let here_stands = subst (λ (b : PatternSeen). StandsBeside here (behind sight b.locals e.0) one.shape.place) (sym seen) (stands_behind here sight (pattern_alone false sight (Some g.expr.ty) p).locals e.0 one.shape.place one.behind) in
-    ap (λ o. type_of_lowered (and_then o (λ e. and_then (lowered_at_place l place e.ty) (λ s. and_then (rest s.place) (λ r. lowered (core.Bind e.core s.shape r.core) r.ty))))) g.is
-    ∙ ap (λ o. type_of_lowered (and_then o (λ s. and_then (rest s.place) (λ r. lowered (core.Bind g.expr.core s.shape r.core) r.ty)))) one.is
-    ∙ typed_rest (rest one.shape.place) (λ r. core.Bind g.expr.core one.shape.shape r.core)
-    ∙ goes inner.0 one.shape.place here_typed here_stands; }
+let_lowers span e x written f p l m s st pl pg = record {
+  lowers = λ here sight env place h at clean rest t goes.
+      let value = within sight e in
+      let j = written_judged sight written in
+      let bound = pattern_alone false sight (bound_type j value.ty) p in
+      let q = none_in_three value.faults (annotation_faults span j value.ty) bound.faults clean.faults in
+      let r = all_in_three here value.reached (annotation_reached j) bound.reached clean.reached in
+      let g = within_becomes here sight env place e x s h at (record { faults = q.0; reached = r.0 }) in
+      let own = bound_there here sight env place h at span written f st g.expr.ty (ap (annotation_faults span j) (sym g.typed) ∙ q.1) r.1 in
+      let typed : bound_type j value.ty ≡ Some g.expr.ty = ap (bound_type j) g.typed ∙ own in
+      let seen : bound ≡ pattern_alone false sight (Some g.expr.ty) p = ap (λ o. pattern_alone false sight o p) typed in
+      let one = pl.lowers here false sight g.expr.ty [] sight.locals env place place h at at g.declared (record { faults = ap (λ (b : PatternSeen). b.faults) (sym seen) ∙ q.2; reached = ap (λ (b : PatternSeen). list_all here b.reached) (sym seen) ∙ r.2 }) in
+      let inner = pg.behind false sight g.expr.ty [] sight.locals env g.value h g.given (ap (λ (b : PatternSeen). has_broken b.faults) (sym seen) ∙ ap has_broken q.2) in
+      let here_typed = subst (λ (b : PatternSeen). IsWellTyped (behind sight b.locals e.0) inner.0) (sym seen) (typed_behind sight (pattern_alone false sight (Some g.expr.ty) p).locals e.0 inner.0 inner.1) in
+      let here_stands = subst (λ (b : PatternSeen). StandsBeside here (behind sight b.locals e.0) one.shape.place) (sym seen) (stands_behind here sight (pattern_alone false sight (Some g.expr.ty) p).locals e.0 one.shape.place one.behind) in
+      ap (λ o. type_of_lowered (and_then o (λ e. and_then (lowered_at_place l place e.ty) (λ s. and_then (rest s.place) (λ r. lowered (core.Bind e.core s.shape r.core) r.ty))))) g.is
+      ∙ ap (λ o. type_of_lowered (and_then o (λ s. and_then (rest s.place) (λ r. lowered (core.Bind g.expr.core s.shape r.core) r.ty)))) one.is
+      ∙ typed_rest (rest one.shape.place) (λ r. core.Bind g.expr.core one.shape.shape r.core)
+      ∙ goes inner.0 one.shape.place here_typed here_stands;
+}
 
 pub bare_lowers : (e : ExprPair)
     → StatementLowers (λ on_top sight. record { sight = behind sight sight.locals e.0; faults = (alone sight e).faults; reached = (alone sight e).reached; size = (alone sight e).size }) (λ rest place. rest place)
-bare_lowers e = record { lowers = λ here sight env place h at clean rest t goes. goes env place (typed_behind sight sight.locals e.0 env h) (stands_behind here sight sight.locals e.0 place at); }
+bare_lowers e = record { lowers = λ here sight env place h at clean rest t goes. goes env place (typed_behind sight sight.locals e.0 env h) (stands_behind here sight sight.locals e.0 place at) }
 
 abbrev pub EachStatementLowers : List StatementJudging → List (Lowers → Lowers) → Type 0
 EachStatementLowers [] [] = Unit {0}

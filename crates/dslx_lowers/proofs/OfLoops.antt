@@ -1,6 +1,5 @@
 -- Loops become something.
-use Rattle.std.proofs.Common.{◌≡◌, ◌&&◌, ◌++◌, ◌==◌, ◌^◌, ◌<◌, ◌≤◌, ℕ, Bool, true, false, if◌then◌else◌, List, [], ◌∷◌, Option, Some, None, refl, sym, ap, subst, ◌∙◌, arith}
-use mathlib.Core.Bool.{true≢false}
+use Rattle.std.proofs.Common.{◌≡◌, ◌&&◌, ◌++◌, ◌==◌, ◌^◌, ◌<◌, ◌≤◌, ℕ, Bool, true, false, if◌then◌else◌, [], ◌∷◌, Option, Some, None, refl, sym, ap, subst, ◌∙◌, arith}
 use Rattle.std.specs.Prelude.{nat_lt}
 use Rattle.std.specs.List.{list_all}
 use Rattle.std.proofs.lemmas.Bool.{ltb-false}
@@ -186,24 +185,24 @@ loop_lowers span body_span from to start x y z written index acc il al im am bod
     let one = and_true (is_bits index_type) (same_type index_type gd.ty) (passed (one_bit_type index_type gd.ty) 26 span ((λ e. unless_types one_bit_type 26 span (sym gx.typed e) (sym gd.typed e)) ∙ r.1)) in
     let alike : ends ≡ Some index_type = (λ e. same_ends (gx.typed e) (gd.typed e)) ∙ (λ e. if (one.0 e && one.1 e) then Some index_type else None) in
     let first_value : GivesOf (types_at sight) index_type (Some gc.gives.value) =
-        subst (λ t. GivesOf (types_at sight) t (Some gc.gives.value)) (same_some gc.ty index_type (sym gc.typed ∙ gx.typed)) (record { value = gc.gives.value; is = refl; of = gc.gives.of; declared = gc.gives.declared }) in
+    subst (λ t. GivesOf (types_at sight) t (Some gc.gives.value)) (same_some gc.ty index_type (sym gc.typed ∙ gx.typed)) (record { value = gc.gives.value; is = refl; of = gc.gives.of; declared = gc.gives.declared }) in
     let last_value : GivesOf (types_at sight) index_type (Some gd.gives.value) =
-        subst (λ t. GivesOf (types_at sight) t (Some gd.gives.value)) (sym (one_of_text (types_at sight) index_type gd.ty one.1 gx.declared gd.gives.declared)) (record { value = gd.gives.value; is = refl; of = gd.gives.of; declared = gd.gives.declared }) in
+    subst (λ t. GivesOf (types_at sight) t (Some gd.gives.value)) (sym (one_of_text (types_at sight) index_type gd.ty one.1 gx.declared gd.gives.declared)) (record { value = gd.gives.value; is = refl; of = gd.gives.of; declared = gd.gives.declared }) in
     let low = bits_there (types_at sight) index_type gc.gives.value first_value one.0 in
     let high = bits_there (types_at sight) index_type gd.gives.value last_value one.0 in
     let from_word : SignedWord = record { signed = low.kind.signed; word = low.word } in
     let to_word : SignedWord = record { signed = high.kind.signed; word = high.word } in
     let count = turn_count from_word to_word in
     let few = few_turns span.to count
-        (sym (ap (turn_limit span.to) ((λ e. turns_of (gc.known e) (gd.known e)) ∙ (λ e. with_both (low.is e) (high.is e) (λ x y. if of_one_type x y then Some (turn_count x y) else None))
-        ∙ ap (λ b. if b then Some count else None) (one_type_of index_type gc.gives.value gd.gives.value low high))) ∙ q.2) in
+    (sym (ap (turn_limit span.to) ((λ e. turns_of (gc.known e) (gd.known e)) ∙ (λ e. with_both (low.is e) (high.is e) (λ x y. if of_one_type x y then Some (turn_count x y) else None))
+    ∙ ap (λ b. if b then Some count else None) (one_type_of index_type gc.gives.value gd.gives.value low high))) ∙ q.2) in
     let seen_index = ap (index_seen sight index) alike in
     let seen_acc : p ≡ acc_seen sight index acc (Some index_type) (Some acc_type) = λ e. acc_seen sight index acc (alike e) (gz.typed e) in
     let seen_body : b ≡ body_seen sight index acc body (Some index_type) (Some acc_type) = λ e. body_seen sight index acc body (alike e) (gz.typed e) in
     let turn = turn_becomes here sight env place h at index acc il al im am body bl pi pa gi ga' sb index_type acc_type gc.gives.value gz.value first_value gz.given
-        (record { faults = ap (λ (s : PatternSeen). s.faults) (sym seen_index) ∙ v.1; reached = ap (λ (s : PatternSeen). list_all here s.reached) (sym seen_index) ∙ l.1 })
-        (record { faults = ap (λ (s : PatternSeen). s.faults) (sym seen_acc) ∙ v.2; reached = ap (λ (s : PatternSeen). list_all here s.reached) (sym seen_acc) ∙ l.2 })
-        (record { faults = ap (λ (j : Judgement). j.faults) (sym seen_body) ∙ u.1; reached = ap (λ (j : Judgement). list_all here j.reached) (sym seen_body) ∙ k.1 }) in
+    (record { faults = ap (λ (s : PatternSeen). s.faults) (sym seen_index) ∙ v.1; reached = ap (λ (s : PatternSeen). list_all here s.reached) (sym seen_index) ∙ l.1 })
+    (record { faults = ap (λ (s : PatternSeen). s.faults) (sym seen_acc) ∙ v.2; reached = ap (λ (s : PatternSeen). list_all here s.reached) (sym seen_acc) ∙ l.2 })
+    (record { faults = ap (λ (j : Judgement). j.faults) (sym seen_body) ∙ u.1; reached = ap (λ (j : Judgement). list_all here j.reached) (sym seen_body) ∙ k.1 }) in
     let body_typed : b.ty ≡ Some turn.body.ty = ap (λ (j : Judgement). j.ty) seen_body ∙ turn.typed in
     let like = passed (same_type acc_type turn.body.ty) 9 body_span ((λ e. wanted_faults body_span (sym gz.typed e) (sym body_typed e)) ∙ q.1) in
     let same = equal_of_text (types_at sight) acc_type turn.body.ty like gz.declared turn.declared in

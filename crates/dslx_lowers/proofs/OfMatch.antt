@@ -1,7 +1,7 @@
 -- `match` becomes something.
-use Rattle.std.proofs.Common.{◌≡◌, ◌&&◌, ◌||◌, ◌++◌, ℕ, Bool, true, false, not, if◌then◌else◌, List, [], ◌∷◌, map, Option, Some, None, refl, sym, ap, subst, ◌∙◌}
+use Rattle.std.proofs.Common.{◌≡◌, ◌&&◌, ◌||◌, ◌++◌, Bool, true, false, not, if◌then◌else◌, List, [], ◌∷◌, map, Option, Some, refl, sym, ap, subst, ◌∙◌}
 use mathlib.Core.Bool.{true≢false}
-use Rattle.std.specs.List.{list_all, list_any}
+use Rattle.std.specs.List.{list_all}
 use Rattle.xb_span.specs.declared.span.Span.{Span}
 use Rattle.xb_span.specs.declared.fault.Fault.{Fault}
 use Rattle.dslx_meaning.specs.Lists.{all_some, and_then, where_true, with_both}
@@ -12,7 +12,7 @@ use Rattle.dslx_meaning.specs.declared.ty.DslxType.{DslxType}
 use Rattle.dslx_meaning.specs.declared.value.DslxValue.{DslxValue}
 use Rattle.dslx_rules.specs.ConstantRules.{is_empty}
 use Rattle.dslx_rules.specs.ControlRules.{AlternativesSeen, ArmJudged, all_known, all_like, alternatives_seen, arm_judged, arm_values, arms_faults, arms_reached, arms_size, differ, first_of_types, has_several, match_faults, match_judged, not_exhaustive, some_binds}
-use Rattle.dslx_rules.specs.Judging.{ExprPair, Instance, Judgement, Sight, Typed, alone, breaks_if, has_broken, one_and, plus_size, types_of, with_typed}
+use Rattle.dslx_rules.specs.Judging.{ExprPair, Instance, Judgement, Sight, alone, has_broken, one_and, plus_size, types_of, with_typed}
 use Rattle.dslx_rules.specs.Judgings.{ArmSeen, PatternPair}
 use Rattle.dslx_rules.specs.PatternRules.{pattern_alone}
 use Rattle.dslx_laws.proofs.Lemmas.{and_true}
@@ -28,8 +28,8 @@ use Rattle.dslx_core.specs.declared.expr.Shape.{Shape}
 use Rattle.dslx_core.specs.declared.expr.Arm.{roll-Arm}
 use Rattle.dslx_lowering.specs.CorePlaces.{CorePlace}
 use Rattle.dslx_lowering.specs.EqualTypes.{equal_type}
-use Rattle.dslx_lowering.specs.Lowering.{LoweredExpr, lowered}
-use Rattle.dslx_lowering.specs.Patterns.{LoweredArm, LoweredShape, Lowers, LowersArm, LowersPattern, alternatives_shaped, arm_lowered, arm_of, arms_of, binding_arm, lowered_at_place, match_lowered, names_of_all}
+use Rattle.dslx_lowering.specs.Lowering.{lowered}
+use Rattle.dslx_lowering.specs.Patterns.{LoweredArm, Lowers, LowersArm, LowersPattern, alternatives_shaped, arm_lowered, arm_of, arms_of, binding_arm, match_lowered, names_of_all}
 use Rattle.dslx_lowers.specs.Beside.{StandsBeside}
 use Rattle.dslx_lowers.specs.Lowers.{ExprLowers, IsClean, PartLowers, reaching, type_of_lowered}
 use Rattle.dslx_lowers.proofs.Equal.{equal_of_text}

@@ -1,5 +1,5 @@
 -- Names, members of enums and numbers become something.
-use Rattle.std.proofs.Common.{◌≡◌, ◌++◌, ℕ, Bool, true, false, not, if◌then◌else◌, List, [], ◌∷◌, map, Option, Some, None, refl, sym, ap, subst, ◌∙◌}
+use Rattle.std.proofs.Common.{◌≡◌, ◌++◌, ℕ, Bool, true, false, not, if◌then◌else◌, List, [], ◌∷◌, Option, Some, None, refl, sym, ap, subst, ◌∙◌}
 use mathlib.Core.Bool.{true≢false}
 use Rattle.std.specs.Prelude.{option_map}
 use Rattle.std.specs.Str.{bytes_eq}
@@ -11,14 +11,14 @@ use Rattle.dslx_tree.specs.declared.item.Enum.{Enum}
 use Rattle.dslx_meaning.specs.Lists.{and_then, is_in, or_else}
 use Rattle.dslx_meaning.specs.Types.{bool_type}
 use Rattle.dslx_meaning.specs.Values.{bool_value, type_of_value}
-use Rattle.dslx_meaning.specs.Environment.{Env, Given, Meanings, given_in}
+use Rattle.dslx_meaning.specs.Environment.{Env, Meanings, given_in}
 use Rattle.dslx_meaning.specs.Items.{as_enum, item_named}
 use Rattle.dslx_meaning.specs.Operators.{number_value}
 use Rattle.dslx_meaning.specs.declared.ty.DslxType.{DslxType}
 use Rattle.dslx_meaning.specs.declared.value.Bare.{Bare}
 use Rattle.dslx_meaning.specs.declared.value.DslxValue.{DslxValue}
 use Rattle.dslx_rules.specs.AggregateRules.{number_judged, range_faults}
-use Rattle.dslx_rules.specs.Judging.{Instance, Sight, Typed, breaks, breaks_if, settled, typed_in}
+use Rattle.dslx_rules.specs.Judging.{Instance, Sight, breaks, breaks_if, settled, typed_in}
 use Rattle.dslx_rules.specs.Judgings.{SightJudging}
 use Rattle.dslx_rules.specs.Mentions.{AsType, is_cyclic, is_of_use}
 use Rattle.dslx_rules.specs.NameRules.{has_member, item_value, local_or_other, member_judged, member_of, name_judged, number_or_item}
@@ -28,10 +28,10 @@ use Rattle.dslx_typed.specs.Kinds.{is_of}
 use Rattle.dslx_typed.specs.WellTyped.{IsWellTyped, types_at}
 use Rattle.dslx_typed.proofs.Lemmas.{bool_gives, member_gives, none_some, number_gives, one_type, same_some}
 use Rattle.dslx_sound.proofs.Lemmas.{none_in, settled_fine, some_fault}
-use Rattle.dslx_lowering.specs.CorePlaces.{BoundSlot, CorePlace, local_in}
+use Rattle.dslx_lowering.specs.CorePlaces.{BoundSlot, local_in}
 use Rattle.dslx_lowering.specs.Lowering.{literal, name_lowered, slot_or_literal}
 use Rattle.dslx_lowering.specs.Trees.{LowersType}
-use Rattle.dslx_lowers.specs.Beside.{StandsBeside, typed_slots}
+use Rattle.dslx_lowers.specs.Beside.{typed_slots}
 use Rattle.dslx_lowers.specs.Lowers.{NumberLowers, PartLowers, WrittenLowers, reaching, type_of_lowered}
 use Rattle.dslx_lowers.proofs.Parts.{type_becomes}
 

@@ -7,15 +7,15 @@ use Rattle.dslx_tree.specs.declared.ident.Ident.{Ident}
 use Rattle.dslx_tree.specs.declared.operator.Binary.{Binary}
 use Rattle.dslx_tree.specs.declared.operator.Binary.TheVariants as b
 use Rattle.dslx_tree.specs.declared.operator.Prefix.{Prefix}
-use Rattle.dslx_meaning.specs.Lists.{and_then, beside, place_in, where_true, with_both}
-use Rattle.dslx_meaning.specs.Types.{bits_in, bool_type, same_type, unsigned}
+use Rattle.dslx_meaning.specs.Lists.{and_then, place_in, where_true}
+use Rattle.dslx_meaning.specs.Types.{bits_in, same_type, unsigned}
 use Rattle.dslx_meaning.specs.declared.ty.BitKind.{BitKind}
 use Rattle.dslx_meaning.specs.declared.ty.DslxType.{DslxType, out-DslxType}
 use Rattle.dslx_meaning.specs.declared.ty.DslxType as ty
 use Rattle.dslx_meaning.specs.declared.ty.DslxType.TheOpen.{DslxType-F}
 use Rattle.dslx_rules.specs.AggregateRules.{array_in, element_type, field_part_judged, field_type, index_judged, is_array, struct_field_type}
 use Rattle.dslx_rules.specs.ConstantRules.{is_unsigned, is_unsigned_kind}
-use Rattle.dslx_rules.specs.Judging.{ExprPair, Sight, alone, one_and, plus_size, span_of, type_limits}
+use Rattle.dslx_rules.specs.Judging.{ExprPair, alone, one_and, plus_size, span_of, type_limits}
 use Rattle.dslx_rules.specs.Judgings.{SightJudging}
 use Rattle.dslx_rules.specs.OperatorRules.{binary_faults, binary_judged, binary_type, cast_judged, is_bits, is_bits_or_enum, one_comparable_type, part_judged, prefix_judged, unless_type, unless_types, width_of_type}
 use Rattle.dslx_rules.specs.PatternRules.{is_there}
@@ -27,7 +27,7 @@ use Rattle.dslx_sound.proofs.Lemmas.{all_in, all_in_three, none_in, none_in_thre
 use Rattle.dslx_core.specs.CoreValues.{is_width}
 use Rattle.dslx_core.specs.declared.expr.CoreExpr.{CoreExpr}
 use Rattle.dslx_core.specs.declared.expr.CoreExpr as core
-use Rattle.dslx_lowering.specs.Lowering.{LoweredExpr, binary_core, binary_lowered, cast_lowered, field_lowered, field_place, fits_operands, index_lowered, lowered, part_lowered, prefix_core, prefix_lowered, result_of_binary, sign_of}
+use Rattle.dslx_lowering.specs.Lowering.{LoweredExpr, binary_core, binary_lowered, cast_lowered, field_lowered, field_place, fits_operands, index_lowered, lowered, part_lowered, prefix_lowered, result_of_binary, sign_of}
 use Rattle.dslx_lowering.specs.Patterns.{Lowers}
 use Rattle.dslx_lowering.specs.Trees.{LowersType}
 use Rattle.dslx_lowers.specs.Lowers.{ExprLowers, PartLowers, WrittenLowers, reaching, type_of_lowered}

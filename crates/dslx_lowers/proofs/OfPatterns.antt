@@ -1,5 +1,5 @@
 -- Patterns become shapes, and the places behind them stand beside what is in sight there.
-use Rattle.std.proofs.Common.{◌≡◌, ◌&&◌, ◌++◌, ℕ, suc, length, Bool, true, false, not, if◌then◌else◌, List, [], ◌∷◌, map, Option, Some, None, refl, sym, ap, subst, ◌∙◌, arith}
+use Rattle.std.proofs.Common.{◌≡◌, ◌&&◌, ◌++◌, ℕ, suc, length, Bool, true, false, not, if◌then◌else◌, List, [], ◌∷◌, Option, Some, None, refl, sym, ap, subst, ◌∙◌, arith}
 use mathlib.Core.Bool.{true≢false}
 use Rattle.std.specs.Prelude.{option_map}
 use Rattle.std.specs.List.{list_all}
@@ -10,15 +10,14 @@ use Rattle.dslx_meaning.specs.Types.{bool_type, same_type}
 use Rattle.dslx_meaning.specs.Values.{bool_value, plain_value, type_of_value}
 use Rattle.dslx_meaning.specs.Environment.{Env, Meanings}
 use Rattle.dslx_meaning.specs.declared.ty.DslxType.{DslxType, out-DslxType}
-use Rattle.dslx_meaning.specs.declared.ty.DslxType as ty
 use Rattle.dslx_meaning.specs.declared.ty.DslxType.TheViews as views
 use Rattle.dslx_meaning.specs.declared.value.DslxValue.{DslxValue}
 use Rattle.dslx_rules.specs.ConstantRules.{is_empty}
 use Rattle.dslx_rules.specs.Judging.{Instance, Judgement, Sight, Typed, breaks, breaks_if, settled, with_typed}
-use Rattle.dslx_rules.specs.Judgings.{PatternJudging, PatternPair, PatternSeen, SightJudging}
+use Rattle.dslx_rules.specs.Judgings.{PatternPair, PatternSeen, SightJudging}
 use Rattle.dslx_rules.specs.Mentions.{is_cyclic}
 use Rattle.dslx_rules.specs.NameRules.{member_judged}
-use Rattle.dslx_rules.specs.PatternRules.{constant_pattern, first_part_type, is_there, name_pattern, nothing_bound, one_value, other_part_types, part_types, parts_judged, shape_faults, tuple_faults, tuple_pattern}
+use Rattle.dslx_rules.specs.PatternRules.{constant_pattern, first_part_type, is_there, name_pattern, nothing_bound, one_value, other_part_types, part_types, parts_judged, shape_faults, tuple_pattern}
 use Rattle.dslx_laws.proofs.Lemmas.{and_true}
 use Rattle.dslx_typed.specs.Complete.{IsFine}
 use Rattle.dslx_typed.specs.Declared.{AllDeclared, Declarations, IsDeclared}
@@ -27,8 +26,7 @@ use Rattle.dslx_typed.proofs.Lemmas.{bool_gives, none_some, one_type, parts_decl
 use Rattle.dslx_sound.proofs.Lemmas.{all_in, none_in, none_in_three, passed, settled_fine, some_fault}
 use Rattle.dslx_core.specs.declared.expr.Shape as shape
 use Rattle.dslx_lowering.specs.CorePlaces.{CorePlace, with_local}
-use Rattle.dslx_lowering.specs.EqualTypes.{equal_type}
-use Rattle.dslx_lowering.specs.Patterns.{LoweredShape, LoweredShapes, LowersPattern, name_shape, names_of_all, parts_shaped, shaped, tuple_shape, value_shape}
+use Rattle.dslx_lowering.specs.Patterns.{LoweredShapes, LowersPattern, name_shape, names_of_all, parts_shaped, shaped, tuple_shape, value_shape}
 use Rattle.dslx_lowers.specs.Beside.{StandsBeside}
 use Rattle.dslx_lowers.specs.Lowers.{IsClean, NumberLowers, PatternLowers, ShapeStands, reaching}
 use Rattle.dslx_lowers.proofs.Equal.{equal_of_text}

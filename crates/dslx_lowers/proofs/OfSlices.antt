@@ -1,5 +1,5 @@
 -- Slices become something.
-use Rattle.std.proofs.Common.{◌≡◌, ◌&&◌, ◌||◌, ◌++◌, ◌-◌, ◌≤◌, ℕ, Bool, true, false, not, Option, Some, None, refl, sym, ap, ◌∙◌, arith}
+use Rattle.std.proofs.Common.{◌≡◌, ◌&&◌, ◌||◌, ◌++◌, ◌-◌, ◌≤◌, ℕ, true, Some, sym, ◌∙◌, arith}
 use Rattle.std.specs.Prelude.{nat_le, nat_lt}
 use Rattle.std.proofs.lemmas.Bool.{le-leb, leb-true}
 use Rattle.xb_span.specs.declared.span.Span.{Span}

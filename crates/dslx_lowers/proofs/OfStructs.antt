@@ -8,7 +8,7 @@ use Rattle.xb_span.specs.declared.span.Span.{Span}
 use Rattle.xb_span.specs.declared.fault.Fault.{Fault}
 use Rattle.dslx_tree.specs.declared.ident.Ident.{Ident}
 use Rattle.dslx_tree.specs.declared.item.Struct.{Struct}
-use Rattle.dslx_meaning.specs.Lists.{all_some, and_then, beside, is_in, where_true, with_both}
+use Rattle.dslx_meaning.specs.Lists.{and_then, is_in, where_true, with_both}
 use Rattle.dslx_meaning.specs.Types.{same_type}
 use Rattle.dslx_meaning.specs.Environment.{Env, Meanings}
 use Rattle.dslx_meaning.specs.Items.{as_struct, item_named, name_of_field}
@@ -16,17 +16,17 @@ use Rattle.dslx_meaning.specs.declared.ty.DslxType.{DslxType, out-DslxType}
 use Rattle.dslx_meaning.specs.declared.ty.DslxType as ty
 use Rattle.dslx_meaning.specs.declared.ty.DslxType.TheViews as views
 use Rattle.dslx_rules.specs.AggregateRules.{field_judged, field_type, has_twice, lacks_one, others_judged, struct_field_type, struct_if, struct_judged, struct_with, unknown_fields, wanted_faults, when_all, written_fields}
-use Rattle.dslx_rules.specs.Judging.{ExprPair, Instance, Judgement, Sight, alone, breaks, breaks_if, faults_of_all, no_token, one_and, plus_size, reached_of_all, settled, size_of_all, span_of, types_of}
+use Rattle.dslx_rules.specs.Judging.{ExprPair, Instance, Judgement, Sight, alone, breaks, breaks_if, faults_of_all, no_token, one_and, plus_size, reached_of_all, size_of_all, span_of, types_of}
 use Rattle.dslx_rules.specs.Judgings.{FieldSeen}
 use Rattle.dslx_rules.specs.Mentions.{is_cyclic}
 use Rattle.dslx_rules.specs.NameRules.{name_judged}
 use Rattle.dslx_rules.specs.PatternRules.{is_there}
 use Rattle.dslx_laws.proofs.Lemmas.{and_true}
 use Rattle.dslx_typed.specs.Complete.{IsFine, IsStructKnown}
-use Rattle.dslx_typed.specs.Declared.{AllDeclared, Declarations, IsDeclared}
+use Rattle.dslx_typed.specs.Declared.{AllDeclared, IsDeclared}
 use Rattle.dslx_typed.specs.Given.{OwnTypes}
 use Rattle.dslx_typed.specs.WellTyped.{IsWellTyped, types_at}
-use Rattle.dslx_typed.proofs.Lemmas.{all_are, none_some, not_false, one_of_text, or_false, same_some, struct_declared}
+use Rattle.dslx_typed.proofs.Lemmas.{all_are, not_false, one_of_text, or_false, struct_declared}
 use Rattle.dslx_sound.proofs.Lemmas.{all_in, none_in, none_in_three, not_broken, passed, settled_fine, some_fault}
 use Rattle.dslx_core.specs.declared.expr.CoreExpr as core
 use Rattle.dslx_core.specs.declared.expr.Shape as shape
@@ -237,7 +237,7 @@ fields_stand here sight env place h at own names types each d fs ws kf f r other
     within_others e same =
         let o = lowered (core.Slot place.count) e.ty in
         let es = fields_there (with_unnamed place) fs ws o names types (each_found here sight env (with_unnamed place) h (unnamed_beside here sight place at) own names types fs ws kf f r names types each parts)
-            (others_give fs o (record { core = core.Slot place.count; ty = e.ty }) own names types refl same names types each) in
+        (others_give fs o (record { core = core.Slot place.count; ty = e.ty }) own names types refl same names types each) in
         ap (λ o. type_of_lowered (and_then o (λ es. lowered (core.Bind e.core shape.Bound (core.Tuple (cores_of es))) S))) es.1
 
     by_all : (l : Lowers) (e : LoweredExpr) → l place ≡ Some e → e.ty ≡ S → (b : Bool) → list_all (λ n. is_in n (written_fields fs)) names ≡ b
@@ -303,7 +303,7 @@ struct_lowers span name fields ws others rest kf ko here sight env place h at fi
             let lacks = (or_false (has_twice (written_fields fields)) (lacks_one names (written_fields fields) (is_there others)) (not_broken (has_twice (written_fields fields) || lacks_one names (written_fields fields) (is_there others)) 22 span p.2)).1 in
             let ts = fields_typed here sight env place h at S fields ws kf q.1 r.0 in
             let o = fields_stand here sight env place h at k.own k.names k.fields k.each k.declared fields ws kf q.1 r.0 others rest ko (ap (λ ns. lacks_one ns (written_fields fields) (is_there others)) (sym k.written) ∙ lacks)
-                (record { faults = q.2; reached = r.1 }) in
+            (record { faults = q.2; reached = r.1 }) in
             ap (λ o. type_of_lowered (and_then o (λ t. struct_lowered_in place ws (others_of rest) (out-DslxType t)))) (ap (λ (items : Meanings). items.struct_named name.name) at.items ∙ k.is)
             ∙ ap (λ l. type_of_lowered (struct_lowered_in place ws (others_of rest) l)) (views.outs-Struct k.own k.names k.fields)
             ∙ o.is

@@ -1,13 +1,12 @@
 -- Written types become what is known of them, and bits have a width.
-use Rattle.std.proofs.Common.{◌≡◌, ◌++◌, ℕ, zero, suc, Bool, true, false, List, [], ◌∷◌, map, Option, Some, None, refl, sym, ap, subst, ◌∙◌, arith}
-use mathlib.Core.Bool.{true≢false}
+use Rattle.std.proofs.Common.{◌≡◌, ◌++◌, ℕ, zero, suc, Bool, true, false, List, [], ◌∷◌, map, Option, Some, None, refl, sym, ap, ◌∙◌, arith}
 use Rattle.std.specs.Prelude.{nat_lt}
 use Rattle.std.specs.List.{list_all}
 use Rattle.std.proofs.lemmas.Bool.Decides.{Decides-ltb}
 use Rattle.xb_span.specs.declared.span.Span.{Span}
 use Rattle.dslx_tree.specs.declared.type_expr.TypeExpr.{TypeExpr}
 use Rattle.dslx_meaning.specs.Lists.{all_some, and_then, with_both}
-use Rattle.dslx_meaning.specs.Types.{bits_in, bits_step, bool_type}
+use Rattle.dslx_meaning.specs.Types.{bits_in, bits_step}
 use Rattle.dslx_meaning.specs.Meaning.{Meant, some_count}
 use Rattle.dslx_meaning.specs.Environment.{Env, Meanings}
 use Rattle.dslx_meaning.specs.declared.ty.BitKind.{BitKind}
@@ -16,7 +15,7 @@ use Rattle.dslx_meaning.specs.declared.ty.DslxType as ty
 use Rattle.dslx_meaning.specs.declared.ty.DslxType.TheViews as views
 use Rattle.dslx_rules.specs.ConstantRules.{count_number, count_of, constant_or_bare}
 use Rattle.dslx_rules.specs.Judging.{ExprPair, Instance, Sight, breaks, breaks_if, faults_of_all, reached_of_all, settled, types_of}
-use Rattle.dslx_rules.specs.Judgings.{SightJudging, TypePair}
+use Rattle.dslx_rules.specs.Judgings.{TypePair}
 use Rattle.dslx_rules.specs.Mentions.{is_cyclic}
 use Rattle.dslx_rules.specs.TypeRules.{array_of, counted_type, inner_type, inner_types, named_type, span_of_type, unit_faults, whole_type}
 use Rattle.dslx_typed.specs.Complete.{IsFine}
@@ -26,8 +25,8 @@ use Rattle.dslx_sound.specs.Sound.{ExprGives}
 use Rattle.dslx_sound.proofs.Lemmas.{all_in, none_in, settled_fine, some_fault}
 use Rattle.dslx_lowering.specs.CorePlaces.{CorePlace, size_at}
 use Rattle.dslx_lowering.specs.Trees.{LowersType}
-use Rattle.dslx_lowers.specs.Beside.{NamesHaveWidths, StandsBeside}
-use Rattle.dslx_lowers.specs.Lowers.{ExprLowers, HasWidth, TypeLowers, WrittenLowers, reaching}
+use Rattle.dslx_lowers.specs.Beside.{StandsBeside}
+use Rattle.dslx_lowers.specs.Lowers.{HasWidth, TypeLowers, reaching}
 use Rattle.dslx_lowers.proofs.Constants.{size_there}
 
 -- ---- bits

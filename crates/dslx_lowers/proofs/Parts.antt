@@ -1,5 +1,5 @@
 -- What parts become with which nothing is wrong.
-use Rattle.std.proofs.Common.{◌≡◌, ◌++◌, Bool, true, false, List, [], ◌∷◌, map, Option, Some, None, refl, sym, ap, subst, ◌∙◌}
+use Rattle.std.proofs.Common.{◌≡◌, Bool, true, false, List, [], ◌∷◌, Option, Some, None, refl, sym, ap, subst, ◌∙◌}
 use Rattle.std.specs.Prelude.{nat_le, nat_lt}
 use Rattle.std.specs.List.{list_all}
 use Rattle.dslx_meaning.specs.Environment.{Env}
@@ -22,7 +22,7 @@ use Rattle.dslx_lowering.specs.Lowering.{LoweredExpr}
 use Rattle.dslx_lowering.specs.Patterns.{Lowers}
 use Rattle.dslx_lowering.specs.Trees.{LowersType}
 use Rattle.dslx_lowers.specs.Beside.{StandsBeside}
-use Rattle.dslx_lowers.specs.Lowers.{ExprLowers, PartLowers, WrittenLowers, reaching, type_of_lowered}
+use Rattle.dslx_lowers.specs.Lowers.{ExprLowers, WrittenLowers, reaching, type_of_lowered}
 
 -- ---- what is reached is sound
 

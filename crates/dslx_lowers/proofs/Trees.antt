@@ -1,6 +1,6 @@
 -- Induction on all sorts of parts of a tree at once, and trees beside what they come to: each is its own.
 use Rattle.std.proofs.Common.{◌≡◌, ap, subst, ◌∙◌}
-use Rattle.dslx_tree.specs.declared.block.Stmt.TheFolds.{ind-Stmt, ind-Node, ind-Shape, ind-TypeNode, ind-Block, ind-Let, ind-Arg, ind-Arm, ind-Expr, ind-FieldValue, ind-For, ind-Number, ind-Pattern, ind-TypeExpr}
+use Rattle.dslx_tree.specs.declared.block.Stmt.TheFolds.{ind-Stmt, ind-Block, ind-Expr, ind-Pattern, ind-TypeExpr}
 use Rattle.dslx_tree.specs.declared.block.Stmt.{Stmt, roll-Stmt}
 use Rattle.dslx_tree.specs.declared.expr.Node.{Node, roll-Node}
 use Rattle.dslx_tree.specs.declared.pattern.Shape.{Shape, roll-Shape}

@@ -2,7 +2,7 @@
 --
 -- Each claim is an equation of what is lowered and what is judged. That a part has a type where nothing is wrong with it is a law
 -- of its own, of `dslx_sound`.
-use Rattle.std.specs.Prelude.{◌≡◌, ◌||◌, ℕ, nat_le, nat_lt, List, [], ◌∷◌, Bool, true, false, Option, Some, None, option_map}
+use Rattle.std.specs.Prelude.{◌≡◌, ℕ, nat_le, nat_lt, List, [], Bool, true, false, Option, Some, None, option_map}
 use Rattle.std.specs.List.{list_all}
 use Rattle.xb_span.specs.declared.fault.Fault.{Fault}
 use Rattle.dslx_meaning.specs.Environment.{Env}
@@ -12,19 +12,18 @@ use Rattle.dslx_meaning.specs.Values.{type_of_value}
 use Rattle.dslx_meaning.specs.declared.ty.BitKind.{BitKind}
 use Rattle.dslx_meaning.specs.declared.ty.DslxType.{DslxType}
 use Rattle.dslx_meaning.specs.declared.value.DslxValue.{DslxValue}
-use Rattle.dslx_rules.specs.AggregateRules.{field_judged}
 use Rattle.dslx_rules.specs.ConstantRules.{is_empty}
-use Rattle.dslx_rules.specs.Judging.{ExprPair, Instance, Judging, Known, Sight, Typed, with_typed}
-use Rattle.dslx_rules.specs.Judgings.{ArmSeen, FieldSeen, PatternJudging, SightJudging, StatementJudging}
+use Rattle.dslx_rules.specs.Judging.{ExprPair, Instance, Judgement, Known, Sight, Typed, with_typed}
+use Rattle.dslx_rules.specs.Judgings.{PatternJudging, SightJudging}
 use Rattle.dslx_rules.specs.OperatorRules.{width_of_type}
 use Rattle.dslx_typed.specs.Complete.{IsFine}
 use Rattle.dslx_typed.specs.Declared.{IsDeclared}
 use Rattle.dslx_typed.specs.WellTyped.{IsWellTyped, types_at}
-use Rattle.dslx_sound.specs.Sound.{EachPatternGives, ExprGives, TypeStands}
+use Rattle.dslx_sound.specs.Sound.{ExprGives, TypeStands}
 use Rattle.dslx_lowering.specs.CorePlaces.{CorePlace}
 use Rattle.dslx_lowering.specs.Lowering.{LoweredExpr}
-use Rattle.dslx_lowering.specs.Patterns.{LoweredShape, Lowers, LowersArm, LowersPattern}
-use Rattle.dslx_lowering.specs.Trees.{LowersField, LowersType}
+use Rattle.dslx_lowering.specs.Patterns.{LoweredShape, Lowers, LowersPattern}
+use Rattle.dslx_lowering.specs.Trees.{LowersType}
 use Rattle.dslx_lowers.specs.Beside.{NamesHaveWidths, StandsBeside}
 
 -- ---- expressions
@@ -41,6 +40,17 @@ reaching known here = record known { is_sound = here }
 abbrev pub PartLowers : SightJudging → Lowers → Type 0
 PartLowers j l = (here : Instance → Bool) (sight : Sight) (env : Env) (place : CorePlace) → IsWellTyped sight env → StandsBeside here sight place → IsFine (reaching sight.known here) (j sight)
     → type_of_lowered (l place) ≡ (j sight).ty
+
+-- it becomes something, of the type that it has
+pub record IsLoweredAsJudged (j : Judgement) (o : Option LoweredExpr) : Type 0 where
+  pub expr : LoweredExpr
+  pub is : o ≡ Some expr
+  pub typed : j.ty ≡ Some expr.ty
+
+-- in each place that stands beside what is in sight, where nothing is wrong with it
+abbrev pub IsLoweredWhereFine : SightJudging → Lowers → Type 0
+IsLoweredWhereFine j l = (here : Instance → Bool) (sight : Sight) (env : Env) (place : CorePlace) → IsWellTyped sight env → StandsBeside here sight place → IsFine (reaching sight.known here) (j sight)
+    → IsLoweredAsJudged (j sight) (l place)
 
 -- where it has no fault its type keeps the limit on words
 abbrev pub KeepsLimits : List Fault → Option DslxType → Type 0
@@ -66,6 +76,16 @@ TypeLowers j l = (here : Instance → Bool) (sight : Sight) (env : Env) (place :
 -- if it is bits, they have a width
 abbrev pub HasWidth : SightJudging → Type 0
 HasWidth j = (sight : Sight) → NamesHaveWidths sight.known → (t : DslxType) (kind : BitKind) → (j sight).ty ≡ Some t → bits_in t ≡ Some kind → nat_lt 0 kind.width ≡ true
+
+-- it becomes the type that it is judged to be
+pub record TypeIsLowered (j : Judgement) (o : Option DslxType) : Type 0 where
+  pub ty : DslxType
+  pub is : o ≡ Some ty
+  pub typed : j.ty ≡ Some ty
+
+abbrev pub TypeIsLoweredWhereFine : SightJudging → LowersType → Type 0
+TypeIsLoweredWhereFine j l = (here : Instance → Bool) (sight : Sight) (env : Env) (place : CorePlace) → IsWellTyped sight env → StandsBeside here sight place → IsFine (reaching sight.known here) (j sight)
+    → TypeIsLowered (j sight) (l place)
 
 pub record WrittenLowers (j : SightJudging) (l : LowersType) : Type 0 where
   pub meaning : Typing

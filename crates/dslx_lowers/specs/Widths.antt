@@ -1,7 +1,7 @@
 -- Trees in which each type that is written by its width has one, as in each text: there these are `u1` to `u128` and `s1` to `s128`.
 use Rattle.std.specs.Prelude.{◌&&◌, List, nat_lt, Bool, true, Option, Some, None}
 use Rattle.std.specs.List.{list_all}
-use Rattle.dslx_tree.specs.declared.block.Stmt.TheOpen.{Arm-F, Block-F, FieldValue-F, For-F, Let-F, Node-F, Number-F, Shape-F, Stmt-F, TypeNode-F}
+use Rattle.dslx_tree.specs.declared.block.Stmt.TheOpen.{Arm-F, Block-F, For-F, Let-F, Node-F, Shape-F, Stmt-F, TypeNode-F}
 use Rattle.dslx_tree.specs.declared.block.Block.{Block, fold-Block}
 use Rattle.dslx_tree.specs.declared.expr.Expr.{Expr, fold-Expr}
 use Rattle.dslx_tree.specs.declared.type_expr.TypeExpr.{TypeExpr, fold-TypeExpr}

@@ -3,6 +3,7 @@
 pub use Rattle.dslx_sound.proofs.Fine.{IsAlone, IsSettled, all_in, all_in_three, alone_fine, none_in, none_in_three, not_broken, passed, settled_fine, some_fault}
 pub use Rattle.dslx_sound.proofs.OfFunctions.{CallFound, IsRight, call_found, right_fine}
 pub use Rattle.dslx_sound.proofs.OfBuiltins.{wrongly_called}
+pub use Rattle.dslx_sound.proofs.OfNames.{name_has}
 pub use Rattle.dslx_sound.proofs.OfConstants.{bound_has, constant_has, count_has}
 pub use Rattle.dslx_sound.proofs.Joined.{block_of_text_has, expression_gives, expression_has, pattern_gives, statement_gives, type_stands}
 pub use Rattle.dslx_sound.proofs.Bodies.{function_has_value}
