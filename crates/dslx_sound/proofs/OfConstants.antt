@@ -95,7 +95,7 @@ not_negative true q b e f = not_false b f
 not_negative false true b e f = not_false b f
 not_negative false false b e f = absurd (true≢false (sym e))
 
-bound_has : (sight : Sight) (env : Env) (e : ExprPair) (x : Meant) → ExprGives e x → IsWellTyped sight env → IsFine sight.known (constant_or_bare sight e).judgement → is_negative_bound (constant_or_bare sight e) ≡ false
+pub bound_has : (sight : Sight) (env : Env) (e : ExprPair) (x : Meant) → ExprGives e x → IsWellTyped sight env → IsFine sight.known (constant_or_bare sight e).judgement → is_negative_bound (constant_or_bare sight e) ≡ false
     → (n : ℕ) × (bound_number (constant_or_bare sight e) ≡ Some n)
 bound_has sight env e x s h fine positive = by_bare (bare_of e) fine positive
   where

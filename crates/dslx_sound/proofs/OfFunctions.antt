@@ -14,25 +14,25 @@ use Rattle.dslx_meaning.specs.Types.{same_type}
 use Rattle.dslx_meaning.specs.Values.{type_of_value}
 use Rattle.dslx_meaning.specs.Environment.{Env, Given}
 use Rattle.dslx_meaning.specs.Inference.{Inferred}
-use Rattle.dslx_meaning.specs.Items.{all_numbers, as_function, inferred_from, item_named}
+use Rattle.dslx_meaning.specs.Items.{all_numbers, as_function, inferred_from, item_named, numbers_bound}
 use Rattle.dslx_meaning.specs.Meaning.{Meant, values_of}
 use Rattle.dslx_meaning.specs.declared.ty.DslxType.{DslxType}
 use Rattle.dslx_meaning.specs.declared.value.DslxValue.{DslxValue}
 use Rattle.dslx_rules.specs.AggregateRules.{wanted_faults, when_all}
 use Rattle.dslx_rules.specs.CallRules.{GivenNumber, NumbersSeen, call_parts_faults, call_parts_reached, call_type, callee_size, declared_type, function_call, given_judgements, given_numbers, has_right_count, inferred_by, maybe_inferred, numbers_seen, operand_faults, reached_by, result_type, right_call, wrong_call}
-use Rattle.dslx_rules.specs.Judging.{ExprPair, Judgement, Sight, all_alone, alone, breaks, breaks_if, faults_of_all, has_broken, one_and, plus_size, reached_of_all, size_of_all, span_of, types_of}
+use Rattle.dslx_rules.specs.Judging.{ExprPair, Judgement, Known, Sight, all_alone, alone, breaks, breaks_if, faults_of_all, has_broken, one_and, plus_size, reached_of_all, size_of_all, span_of, types_of}
 use Rattle.dslx_rules.specs.Judgings.{ArgPair}
 use Rattle.dslx_rules.specs.Mentions.{is_cyclic}
 use Rattle.dslx_typed.specs.Complete.{EachArgumentDeclared, FitArguments, IsFine}
-use Rattle.dslx_typed.specs.Declared.{IsDeclared}
+use Rattle.dslx_typed.specs.Declared.{Declarations, IsDeclared}
 use Rattle.dslx_typed.specs.Given.{GivesOf}
 use Rattle.dslx_typed.specs.Kinds.{is_of}
-use Rattle.dslx_typed.specs.Numbers.{AllOwn}
+use Rattle.dslx_typed.specs.Numbers.{AllOwn, GivenMean}
 use Rattle.dslx_typed.specs.WellTyped.{IsWellTyped, types_at}
 use Rattle.dslx_typed.proofs.Lemmas.{all_are, declared_is, inferred_alike, list_parts, numbers_found, one_of_text, one_type, same_some}
 use Rattle.dslx_sound.specs.Sound.{EachExprGives, HasItsValue}
 use Rattle.dslx_sound.proofs.OfBuiltins.{wrongly_called}
-use Rattle.dslx_sound.proofs.OfNumbers.{numbers_given, numbers_known}
+use Rattle.dslx_sound.proofs.OfNumbers.{EachGiven, numbers_given, numbers_known}
 use Rattle.dslx_sound.proofs.Fine.{all_in, all_in_three, alone_has, none_in, none_in_three, not_broken, passed, settled_fine, some_fault}
 
 -- ---- operands
@@ -101,22 +101,22 @@ and_both true q e = (refl, e)
 and_both false q e = absurd (true≢false (sym e))
 
 -- a call with the right number of arguments with which nothing is wrong
-record IsRight (sight : Sight) (span : Span) (f : Function) (gs : List GivenNumber) (es : List ExprPair) (js : List Judgement) (cyclic : List Fault) (n : NumbersSeen) : Type 0 where
-  numbers_given : faults_of_all (given_judgements gs) ≡ []
-  operands_given : faults_of_all js ≡ []
-  no_cycle : cyclic ≡ []
-  numbers : n.faults ≡ []
-  right : n.is_wrong ≡ false
-  operands : (if n.is_wrong then [] else operand_faults sight.known f.name.name n.bound f.arguments es js) ≡ []
-  numbers_reach : list_all sight.known.is_sound (reached_of_all (given_judgements gs)) ≡ true
-  operands_reach : list_all sight.known.is_sound (reached_of_all js) ≡ true
-  defaults_reach : list_all sight.known.is_sound n.reached ≡ true
-  found : list_all sight.known.is_sound (reached_by (has_broken cyclic || n.is_wrong) f.name.name n.values) ≡ true
-  own : (right_call span sight f gs es js cyclic n).ty ≡ call_type sight.known f n js
+pub record IsRight (known : Known) (sight : Sight) (span : Span) (f : Function) (gs : List GivenNumber) (es : List ExprPair) (js : List Judgement) (cyclic : List Fault) (n : NumbersSeen) : Type 0 where
+  pub numbers_given : faults_of_all (given_judgements gs) ≡ []
+  pub operands_given : faults_of_all js ≡ []
+  pub no_cycle : cyclic ≡ []
+  pub numbers : n.faults ≡ []
+  pub right : n.is_wrong ≡ false
+  pub operands : (if n.is_wrong then [] else operand_faults sight.known f.name.name n.bound f.arguments es js) ≡ []
+  pub numbers_reach : list_all known.is_sound (reached_of_all (given_judgements gs)) ≡ true
+  pub operands_reach : list_all known.is_sound (reached_of_all js) ≡ true
+  pub defaults_reach : list_all known.is_sound n.reached ≡ true
+  pub found : list_all known.is_sound (reached_by (has_broken cyclic || n.is_wrong) f.name.name n.values) ≡ true
+  pub own : (right_call span sight f gs es js cyclic n).ty ≡ call_type sight.known f n js
 
-right_fine : (sight : Sight) (span : Span) (f : Function) (gs : List GivenNumber) (es : List ExprPair) (js : List Judgement) (cyclic : List Fault) (n : NumbersSeen) → IsFine sight.known (right_call span sight f gs es js cyclic n)
-    → IsRight sight span f gs es js cyclic n
-right_fine sight span f gs es js cyclic n fine =
+pub right_fine : (known : Known) (sight : Sight) (span : Span) (f : Function) (gs : List GivenNumber) (es : List ExprPair) (js : List Judgement) (cyclic : List Fault) (n : NumbersSeen) → IsFine known (right_call span sight f gs es js cyclic n)
+    → IsRight known sight span f gs es js cyclic n
+right_fine known sight span f gs es js cyclic n fine =
     let parts = call_parts_faults gs js in
     let wrong = breaks_if n.is_wrong 10 span in
     let misfits : List Fault = if n.is_wrong then [] else operand_faults sight.known f.name.name n.bound f.arguments es js in
@@ -124,12 +124,12 @@ right_fine sight span f gs es js cyclic n fine =
     let reach = reached_by (has_broken cyclic || n.is_wrong) f.name.name n.values in
     let reached = (call_parts_reached gs js ++ n.reached) ++ reach in
     let size = one_and (plus_size (size_of_all js) (callee_size sight.known f.name.name n.values)) in
-    let s = settled_fine sight.known span (call_type sight.known f n js) faults reached size fine in
+    let s = settled_fine known span (call_type sight.known f n js) faults reached size fine in
     let p = none_in_three ((parts ++ cyclic) ++ n.faults) wrong misfits s.faults in
     let q = none_in_three parts cyclic n.faults p.0 in
     let r = none_in (faults_of_all (given_judgements gs)) (faults_of_all js) q.0 in
-    let k = all_in_three sight.known.is_sound (call_parts_reached gs js) n.reached reach s.reached in
-    let l = all_in sight.known.is_sound (reached_of_all (given_judgements gs)) (reached_of_all js) k.0 in
+    let k = all_in_three known.is_sound (call_parts_reached gs js) n.reached reach s.reached in
+    let l = all_in known.is_sound (reached_of_all (given_judgements gs)) (reached_of_all js) k.0 in
     record {
       numbers_given = r.0;
       operands_given = r.1;
@@ -183,7 +183,7 @@ called span sight env name f as' ns es xs cyclic kn kx h is count ts typed fine 
 
     known : Right []
     known fine =
-        let w = right_fine sight span f gs es js cyclic n fine in
+        let w = right_fine sight.known sight span f gs es js cyclic n fine in
         let g = numbers_given sight env h as' ns kn w.numbers_given w.numbers_reach in
         let o = operands_have sight env h es xs kx w.operands_given w.operands_reach in
         let k = h.known.functions name f is in
@@ -230,7 +230,7 @@ function_has span sight env name as' ns es xs kn kx h fine = by_function (as_fun
     typed f is n g =
         let cycle = breaks_if (is_cyclic sight.known.whole sight.home name.name) 3 span in
         let seen = numbers_seen sight.known f.name.name (inferred_by f.arguments (types_of js)) (maybe_inferred f.arguments (types_of js)) [] [] f.parameters gs in
-        let w = right_fine sight span f gs es js cycle seen g in
+        let w = right_fine sight.known sight span f gs es js cycle seen g in
         let o = operands_have sight env h es xs kx w.operands_given w.operands_reach in
         subst (λ ts. IsFine sight.known (right f ts) → Has (right f ts)) (sym o.typed) (called span sight env name.name f as' ns es xs cycle kn kx h is n (map type_of_value o.values) o.typed) g
 
@@ -244,3 +244,54 @@ function_has span sight env name as' ns es xs kn kx h fine = by_function (as_fun
         let s = settled_fine sight.known span None (call_parts_faults gs js ++ breaks 1 name.span ∷ []) (call_parts_reached gs js) None g in
         some_fault (breaks 1 name.span) [] (none_in (call_parts_faults gs js) (breaks 1 name.span ∷ []) s.faults).1
     by_function (Some f) q g = by_count f q (has_right_count f gs es) refl g
+
+-- ---- what a call comes to
+
+-- the number arguments that are written, and with them all numbers of the instance
+pub record CallFound (sight : Sight) (f : Function) (gs : List GivenNumber) (ts : List DslxType) (n : NumbersSeen) : Type 0 where
+  pub given : List DslxValue
+  pub written : map (λ (g : GivenNumber). g.seen.value) gs ≡ map Some given
+  pub numbers : List DslxValue
+  pub all : n.values ≡ Some numbers
+  pub shown : n.bound ≡ numbers_bound [] f.parameters numbers
+  pub arguments : EachArgumentDeclared sight.known f.name.name (numbers_bound [] f.parameters numbers) f.arguments
+  pub found : all_numbers sight.known.items (inferred_from f.arguments ts) [] f.parameters given ≡ Some numbers
+
+values_written : (types : Declarations) (gs : List GivenNumber) (vs : List DslxValue) → EachGiven types gs → GivenMean gs vs → map (λ (g : GivenNumber). g.seen.value) gs ≡ map Some vs
+values_written types [] [] k m = refl
+values_written types [] (v ∷ vs) k m = absurd m
+values_written types (g ∷ gs) [] k m = absurd m
+values_written types (g ∷ gs) (v ∷ vs) k m = λ i. (k.0.is ∙ ap Some (sym (m.0 k.0.value k.0.is))) i ∷ values_written types gs vs k.1 m.1 i
+
+pub call_found : (span : Span) (sight : Sight) (env : Env) (name : List ℕ) (f : Function) (as' : List ArgPair) (ns : List Meant) (es : List ExprPair) (cyclic : List Fault) → EachExprGives (map (λ (a : ArgPair). a.1) as') ns
+    → IsWellTyped sight env → as_function (item_named name sight.known.whole.items) ≡ Some f → (ts : List DslxType)
+    → IsFine sight.known (right_call span sight f (given_numbers sight as') es (all_alone sight es) cyclic (numbers_seen sight.known f.name.name (inferred_by f.arguments (map Some ts)) (maybe_inferred f.arguments (map Some ts)) [] [] f.parameters (given_numbers sight as')))
+    → CallFound sight f (given_numbers sight as') ts (numbers_seen sight.known f.name.name (inferred_by f.arguments (map Some ts)) (maybe_inferred f.arguments (map Some ts)) [] [] f.parameters (given_numbers sight as'))
+call_found span sight env name f as' ns es cyclic kn h is ts fine = subst Found (sym (none_maybe f.arguments ts)) known fine
+  where
+    gs : List GivenNumber
+    gs = given_numbers sight as'
+
+    seen : List (List ℕ) → NumbersSeen
+    seen maybe = numbers_seen sight.known f.name.name (inferred_by f.arguments (map Some ts)) maybe [] [] f.parameters gs
+
+    Found : List (List ℕ) → Type 0
+    Found maybe = IsFine sight.known (right_call span sight f gs es (all_alone sight es) cyclic (seen maybe)) → CallFound sight f gs ts (seen maybe)
+
+    known : Found []
+    known fine =
+        let w = right_fine sight.known sight span f gs es (all_alone sight es) cyclic (seen []) fine in
+        let g = numbers_given sight env h as' ns kn w.numbers_given w.numbers_reach in
+        let k = h.known.functions name f is in
+        let inferred = inferred_by f.arguments (map Some ts) in
+        let m = numbers_known sight.known f.name.name inferred [] f.parameters gs k.parameters g.each w.numbers w.defaults_reach w.right in
+        record {
+          given = g.values;
+          written = values_written (types_at sight) gs g.values g.each g.mean;
+          numbers = m.numbers;
+          all = m.all;
+          shown = m.shown;
+          arguments = k.arguments m.numbers m.fit;
+          found = ap (λ i. all_numbers sight.known.items i [] f.parameters g.values) (sym (inferred_alike f.arguments ts))
+              ∙ numbers_found sight.known sight.known.items f.name.name inferred [] [] f.parameters gs g.values m.numbers k.mean m.fit g.mean m.all;
+        }

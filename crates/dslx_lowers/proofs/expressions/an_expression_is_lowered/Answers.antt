@@ -1,0 +1,11 @@
+use Rattle.dslx_lowers.proofs.Joined.{block_is_lowered, expression_is_lowered, type_is_lowered}
+use Rattle.dslx_lowers.proofs.expressions.an_expression_is_lowered.Goals as goal
+
+pub returns-clause-expression : goal.returns-clause-expression
+returns-clause-expression c = expression_is_lowered
+
+pub returns-clause-block : goal.returns-clause-block
+returns-clause-block c = block_is_lowered
+
+pub returns-clause-ty : goal.returns-clause-ty
+returns-clause-ty c = type_is_lowered

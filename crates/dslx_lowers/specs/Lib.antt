@@ -1,0 +1,6 @@
+-- the place that stands beside what is in sight
+pub mod Beside
+-- what each part becomes
+pub mod Lowers
+-- trees in which types have widths
+pub mod Widths

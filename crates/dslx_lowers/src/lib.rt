@@ -1,0 +1,9 @@
+//! Whatever breaks no rule becomes something in a checked text: nothing that is accepted is left out.
+//!
+//! `specs/Beside.antt` says which place stands beside what is in sight, `specs/Lowers.antt` what it means that a part becomes
+//! something of its type there.
+#![tactic(auto)]
+
+mod expressions;
+
+pub use expressions::an_expression_is_lowered;
