@@ -1,0 +1,12 @@
+-- parts beside their trees
+pub mod Links
+-- judgements by those of their parts
+pub mod Same
+-- what parts need
+pub mod Places
+-- calls
+pub mod OfCalls
+-- patterns, matches, statements and loops
+pub mod OfControl
+-- the induction on trees
+pub mod Joined

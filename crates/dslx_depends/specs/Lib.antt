@@ -1,0 +1,2 @@
+-- items of which the same is known
+pub mod Alike
