@@ -10,3 +10,9 @@ pub mod OfCalls
 pub mod OfControl
 -- the induction on trees
 pub mod Joined
+-- what mentions no proc
+pub mod NoProcs
+-- items, by chains of items
+pub mod OfItems
+-- chains that are long enough
+pub mod Stages

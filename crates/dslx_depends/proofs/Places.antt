@@ -80,7 +80,7 @@ use_agrees P a b given k AsProc name h = tt
 use_agrees P a b given k AsEnum name h = h.members
 use_agrees P a b given k AsStruct name h = h
 
-mentions_agree : (P : List ℕ → Bool) (a b : Known) (given : List Given) → KnownAlike P a b → (ms : List Mention) → MentionsAlike a b ms → AgreeOn ms (env_of a given) (env_of b given)
+pub mentions_agree : (P : List ℕ → Bool) (a b : Known) (given : List Given) → KnownAlike P a b → (ms : List Mention) → MentionsAlike a b ms → AgreeOn ms (env_of a given) (env_of b given)
 mentions_agree P a b given k [] h = tt
 mentions_agree P a b given k (m ∷ ms) h = (use_agrees P a b given k m.use_as m.name h.0, mentions_agree P a b given k ms h.1)
 

@@ -49,10 +49,10 @@ all_alike P f g h (i ∷ is) k = λ j. h i k.0 j && all_alike P f g h is k.1 j
 -- ---- constants
 
 -- the limit on its size, where it reaches something that breaks a rule or not
-abbrev size_by : Bool → ℕ → Judgement → List Fault
+abbrev pub size_by : Bool → ℕ → Judgement → List Fault
 size_by clean end j = if not (has_broken j.faults) && clean then over_size end j.size else []
 
-abbrev limited_by : Bool → ℕ → Judgement → Judgement
+abbrev pub limited_by : Bool → ℕ → Judgement → Judgement
 limited_by clean end j = record j { faults = j.faults ++ size_by clean end j }
 
 abbrev constant_by : Bool → Bool → ℕ → Judgement → Option DslxValue → ConstantSeen
@@ -117,11 +117,11 @@ name_same P span sight other name k same = by_local (typed_in name sight.locals)
 pub member_same : (P : List ℕ → Bool) (span : Span) (sight : Sight) (other : Known) (e a : Ident) → KnownAlike P sight.known other → EnumAlike sight.known other e.name
     → member_judged span sight e a ≡ member_judged span (in_known sight other) e a
 member_same P span sight other e a k h =
-    by_enum (as_enum (item_named e.name sight.known.whole.items)) ∙ ap (member_of span (in_known sight other) e a) (λ i. as_enum (item_named e.name (k.whole i).items))
+    by_enum (as_enum (item_named e.name sight.known.whole.items)) refl ∙ ap (member_of span (in_known sight other) e a) (λ i. as_enum (item_named e.name (k.whole i).items))
   where
-    by_enum : (o : Option Enum) → member_of span sight e a o ≡ member_of span (in_known sight other) e a o
-    by_enum None = refl
-    by_enum (Some declared) = λ i. settled span (h.ty i) (breaks_if (is_cyclic (k.whole i) sight.home e.name) 3 e.span ++ breaks_if (not (has_member declared a.name)) 1 a.span) [] (Some 1)
+    by_enum : (o : Option Enum) → as_enum (item_named e.name sight.known.whole.items) ≡ o → member_of span sight e a o ≡ member_of span (in_known sight other) e a o
+    by_enum None q = refl
+    by_enum (Some declared) q = λ i. settled span (h.ty declared q i) (breaks_if (is_cyclic (k.whole i) sight.home e.name) 3 e.span ++ breaks_if (not (has_member declared a.name)) 1 a.span) [] (Some 1)
 
 pub named_same : (P : List ℕ → Bool) (span : Span) (sight : Sight) (other : Known) (name : List ℕ) → KnownAlike P sight.known other → sight.known.items.type_named name ≡ other.items.type_named name
     → named_type span sight name (is_of_use AsType (item_named name sight.known.whole.items)) ≡ named_type span (in_known sight other) name (is_of_use AsType (item_named name other.whole.items))

@@ -1,11 +1,12 @@
 -- Items of a text of which the same is known in two ways.
 use Rattle.std.specs.Prelude.{◌≡◌, ℕ, List, [], ◌∷◌, Bool, true, Some}
 use Rattle.dslx_tree.specs.declared.expr.Expr.{Expr}
+use Rattle.dslx_tree.specs.declared.item.Enum.{Enum}
 use Rattle.dslx_tree.specs.declared.item.Field.{Field}
 use Rattle.dslx_tree.specs.declared.item.Function.{Function}
 use Rattle.dslx_tree.specs.declared.item.Parameter.{Parameter}
 use Rattle.dslx_meaning.specs.Environment.{Given}
-use Rattle.dslx_meaning.specs.Items.{as_function, item_named}
+use Rattle.dslx_meaning.specs.Items.{as_enum, as_function, item_named}
 use Rattle.dslx_meaning.specs.declared.value.DslxValue.{DslxValue}
 use Rattle.dslx_rules.specs.CallRules.{result_type}
 use Rattle.dslx_rules.specs.Judging.{Instance, Known, Sight}
@@ -45,9 +46,9 @@ pub record CalleeAlike (a b : Known) (name : List ℕ) : Type 0 where
   pub call : (numbers operands : List DslxValue) → a.items.call name numbers operands ≡ b.items.call name numbers operands
   pub function : (f : Function) → as_function (item_named name a.whole.items) ≡ Some f → FunctionAlike a b f
 
--- an enum by its name, and its members
+-- an enum by its name, if it is one, and its members
 pub record EnumAlike (a b : Known) (name : List ℕ) : Type 0 where
-  pub ty : a.items.type_named name ≡ b.items.type_named name
+  pub ty : (e : Enum) → as_enum (item_named name a.whole.items) ≡ Some e → a.items.type_named name ≡ b.items.type_named name
   pub members : (member : List ℕ) → a.items.member name member ≡ b.items.member name member
 
 -- ---- what is mentioned
