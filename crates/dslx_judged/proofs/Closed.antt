@@ -16,7 +16,7 @@ use Rattle.dslx_rules.specs.Mentions.{AsFunction, AsProc, AsType, AsValue, is_of
 use Rattle.dslx_rules.specs.ModuleRules.{add_new, found_of_instance, found_of_item, is_reached, known_within, reached_next, reached_within}
 use Rattle.dslx_laws.specs.Recursion.{HasNoCycle}
 use Rattle.dslx_laws.proofs.Chains.{Ends, OfEach, item_ends}
-use Rattle.dslx_judged.specs.Closed.{ReachOneAnother, IsOneOf}
+use Rattle.dslx_judged.specs.Closed.{ReachOneAnother, IsOneOf, ends_within}
 use Rattle.dslx_judged.specs.Reached.{AllNamed, IsClosed}
 use Rattle.dslx_judged.proofs.OfItems.{instances_reach, whole_is}
 use Rattle.dslx_judged.proofs.Values.{value_itself}
@@ -139,12 +139,7 @@ old_or_new i found (x ∷ is) h = by_test (is_reached x found) refl (old_or_new 
 
 -- ---- chains of items
 
--- no chain from this item has more than so many items
-abbrev ends_within : Module → ℕ → List ℕ → Bool
-ends_within m zero name = false
-ends_within m (suc k) name = list_all (ends_within m k) (mentions_of m (item_named name m.items))
-
-all_weaker : (P Q : List ℕ → Bool) → ((x : List ℕ) → P x ≡ true → Q x ≡ true) → (xs : List (List ℕ)) → list_all P xs ≡ true → list_all Q xs ≡ true
+pub all_weaker : (P Q : List ℕ → Bool) → ((x : List ℕ) → P x ≡ true → Q x ≡ true) → (xs : List (List ℕ)) → list_all P xs ≡ true → list_all Q xs ≡ true
 all_weaker P Q f [] e = refl
 all_weaker P Q f (x ∷ xs) e = by_first (P x) refl e (all_weaker P Q f xs)
   where
@@ -152,11 +147,11 @@ all_weaker P Q f (x ∷ xs) e = by_first (P x) refl e (all_weaker P Q f xs)
     by_first true q g rest = λ i. f x q i && rest g i
     by_first false q g rest = absurd (true≢false (sym g))
 
-longer : (m : Module) (k : ℕ) (name : List ℕ) → ends_within m k name ≡ true → ends_within m (suc k) name ≡ true
+pub longer : (m : Module) (k : ℕ) (name : List ℕ) → ends_within m k name ≡ true → ends_within m (suc k) name ≡ true
 longer m zero name e = absurd (true≢false (sym e))
 longer m (suc k) name e = all_weaker (ends_within m k) (ends_within m (suc k)) (longer m k) (mentions_of m (item_named name m.items)) e
 
-closed : (m : Module) (k : ℕ) → IsClosed (ends_within m k) m
+pub closed : (m : Module) (k : ℕ) → IsClosed (ends_within m k) m
 closed m zero name e = absurd (true≢false (sym e))
 closed m (suc k) name e = all_weaker (ends_within m k) (ends_within m (suc k)) (longer m k) (mentions_of m (item_named name m.items)) e
 
@@ -168,7 +163,7 @@ ends_so : (m : Module) (k : ℕ) (name : List ℕ) → Ends m k name → ends_wi
 ends_so m zero name h = absurd h
 ends_so m (suc k) name h = each_within m k (ends_so m k) (mentions_of m (item_named name m.items)) h
 
-every_item : (m : Module) → HasNoCycle m → (name : List ℕ) (x : Definition) → item_named name m.items ≡ Some x → ends_within m (length m.items) name ≡ true
+pub every_item : (m : Module) → HasNoCycle m → (name : List ℕ) (x : Definition) → item_named name m.items ≡ Some x → ends_within m (length m.items) name ≡ true
 every_item m free name x e = ends_so m (length m.items) name (by_kind x e)
   where
     by_kind : (x : Definition) → item_named name m.items ≡ Some x → Ends m (length m.items) name

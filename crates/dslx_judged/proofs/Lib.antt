@@ -10,3 +10,5 @@ pub mod OfItems
 pub mod Values
 -- instances that reach none but one another
 pub mod Closed
+-- for other crates' proofs
+pub mod Lemmas

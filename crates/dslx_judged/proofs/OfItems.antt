@@ -61,7 +61,7 @@ there None = false
 there (Some a) = true
 
 -- an item has the name by which it is found
-item_so_named : (is : List Item) (name : List ℕ) (x : Definition) → item_named name is ≡ Some x → name_of_definition x ≡ name
+pub item_so_named : (is : List Item) (name : List ℕ) (x : Definition) → item_named name is ≡ Some x → name_of_definition x ≡ name
 item_so_named [] name x e = absurd (true≢false (sym (ap there e)))
 item_so_named (i ∷ is) name x e = by_name (bytes_eq name (name_of_definition i.definition)) refl e (item_so_named is name x)
   where
@@ -73,7 +73,7 @@ item_so_named (i ∷ is) name x e = by_name (bytes_eq name (name_of_definition i
     by_name true r q rest = ap name_of_definition (sym (ap definition_if q)) ∙ sym ((bytes_eq-Decides name (name_of_definition i.definition)).0 r)
     by_name false r q rest = rest q
 
-function_is : (o : Option Definition) (f : Function) → as_function o ≡ Some f → o ≡ Some (d.Function f)
+pub function_is : (o : Option Definition) (f : Function) → as_function o ≡ Some f → o ≡ Some (d.Function f)
 function_is (Some (d.Function g)) f e = ap (option_map d.Function) e
 function_is (Some (d.Proc p)) f e = absurd (true≢false (sym (ap there e)))
 function_is (Some (d.Constant c)) f e = absurd (true≢false (sym (ap there e)))
@@ -412,6 +412,10 @@ found_item P known numbers (d.Enum n) h = tt
 
 named_mentions : (P : List ℕ → Bool) (m : Module) → IsClosed P m → (n : ℕ) (x : Definition) → list_all P (names_meant m (definition_mentions x)) ≡ true → MentionsReach P (known_within m n) (definition_mentions x)
 named_mentions P m closed n x h = mentions_reach P m (known_within m n) (whole_is m n) (all_reach P m closed n) (definition_mentions x) h
+
+-- and where a part mentions items alone whose names pass the test
+pub meant_reach : (P : List ℕ → Bool) (m : Module) → IsClosed P m → (n : ℕ) (ms : List Mention) → list_all P (names_meant m ms) ≡ true → MentionsReach P (known_within m n) ms
+meant_reach P m closed n ms h = mentions_reach P m (known_within m n) (whole_is m n) (all_reach P m closed n) ms h
 
 -- an instance of an item that mentions items alone whose names pass the test reaches instances of such alone
 pub instances_reach : (P : List ℕ → Bool) (m : Module) → IsClosed P m → (n : ℕ) (i : Instance) → list_all P (mentions_of m (item_named i.name m.items)) ≡ true → AllNamed P (found_of_instance (known_within m n) i).reached

@@ -1,4 +1,4 @@
 -- what is reached, by what is mentioned
 pub mod Reached
--- instances that reach none but one another
+-- instances that reach none but one another, and how long chains of items are
 pub mod Closed

@@ -233,7 +233,7 @@ operands_given so_far (f ∷ fs) (v ∷ vs) h = (
 -- ---- each kind of item
 
 -- what is mentioned means one thing in both, whatever is bound
-abbrev Agreeing : Meanings → Meanings → List Mention → Type 0
+abbrev pub Agreeing : Meanings → Meanings → List Mention → Type 0
 Agreeing x y ms = (bound : List Given) → AgreeOn ms (within_items x bound) (within_items y bound)
 
 firsts_agree : (x y : Meanings) (xs ys : List Mention) → Agreeing x y (xs ++ ys) → Agreeing x y xs
@@ -287,7 +287,7 @@ inferred_one x y names bound given p (Some n) t h =
     ap (λ o. and_then o (λ u. number_value u (record { is_negative = false; value = n })))
     (written_type_depends p.ty names (within_items x bound) (within_items y bound) (given_agree x y names bound given) (t bound))
 
-numbers_one : (x y : Meanings) (inferred : List Inferred) (names : List (List ℕ)) (bound : List Given) → AllGiven names bound → (ps : List Parameter) (vs : List DslxValue)
+pub numbers_one : (x y : Meanings) (inferred : List Inferred) (names : List (List ℕ)) (bound : List Given) → AllGiven names bound → (ps : List Parameter) (vs : List DslxValue)
     → Agreeing x y (parameters_mentions ps names) → i.all_numbers x inferred bound ps vs ≡ i.all_numbers y inferred bound ps vs
 numbers_one x y inferred names bound given [] [] h = refl
 numbers_one x y inferred names bound given [] (v ∷ vs) h = refl
@@ -306,7 +306,7 @@ numbers_one x y inferred names bound given (p ∷ ps) [] h =
     ((v, given_here p.name.name v bound), given_more names p.name.name v bound given) ps [] (lasts_agree x y (typed ++ default) behind h) j))
 
 -- all numbers are as many as the parameters
-abbrev IfAsMany : List Parameter → Option (List DslxValue) → Type 0
+abbrev pub IfAsMany : List Parameter → Option (List DslxValue) → Type 0
 IfAsMany ps None = Unit {0}
 IfAsMany ps (Some vs) = AsMany ps vs
 
@@ -314,7 +314,7 @@ put_many : (p : Parameter) (ps : List Parameter) (v : DslxValue) (o : Option (Li
 put_many p ps v None h = tt
 put_many p ps v (Some vs) h = h
 
-numbers_many : (x : Meanings) (inferred : List Inferred) (bound : List Given) (ps : List Parameter) (vs : List DslxValue) → IfAsMany ps (i.all_numbers x inferred bound ps vs)
+pub numbers_many : (x : Meanings) (inferred : List Inferred) (bound : List Given) (ps : List Parameter) (vs : List DslxValue) → IfAsMany ps (i.all_numbers x inferred bound ps vs)
 numbers_many x inferred bound [] [] = tt
 numbers_many x inferred bound [] (v ∷ vs) = tt
 numbers_many x inferred bound (p ∷ ps) (v ∷ vs) = put_many p ps v (i.all_numbers x inferred (i.with_number bound p v) ps vs) (numbers_many x inferred (i.with_number bound p v) ps vs)
@@ -326,7 +326,7 @@ numbers_many x inferred bound (p ∷ ps) [] =
     found None rest = tt
     found (Some v) rest = put_many p ps v (i.all_numbers x inferred (i.with_number bound p v) ps []) (rest v)
 
-function_one : (x y : Meanings) (f : Function) (ns vs : List DslxValue) → AsMany f.parameters ns → Agreeing x y (mentioned_in_block f.body (field_names f.arguments ++ parameter_names f.parameters))
+pub function_one : (x y : Meanings) (f : Function) (ns vs : List DslxValue) → AsMany f.parameters ns → Agreeing x y (mentioned_in_block f.body (field_names f.arguments ++ parameter_names f.parameters))
     → i.function_value x f ns vs ≡ i.function_value y f ns vs
 function_one x y f ns vs many h = pick (length vs == length f.arguments) refl
   where

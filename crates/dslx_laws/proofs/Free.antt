@@ -3,13 +3,15 @@ use Rattle.std.proofs.Common.{ℕ, List, [], ◌∷◌, refl, ap}
 use Rattle.dslx_tree.specs.declared.expr.Expr.{Expr}
 use Rattle.dslx_tree.specs.declared.block.Block.{Block}
 use Rattle.dslx_tree.specs.declared.type_expr.TypeExpr.{TypeExpr}
-use Rattle.dslx_tree_lemmas.proofs.Lemmas.Related.{related_expr, related_block, related_type_expr}
+use Rattle.dslx_tree.specs.declared.pattern.Pattern.{Pattern}
+use Rattle.dslx_tree_lemmas.proofs.Lemmas.Folds.{fold_pattern}
+use Rattle.dslx_tree_lemmas.proofs.Lemmas.Related.{related_expr, related_block, related_type_expr, related_pattern}
 use Rattle.dslx_meaning.specs.Lists.{or_else}
 use Rattle.dslx_meaning.specs.Environment.{Meanings, Given}
-use Rattle.dslx_meaning.specs.Meaning.{meant, value_of_block, written_type}
+use Rattle.dslx_meaning.specs.Meaning.{meant, meant_pattern, value_of_block, written_type}
 use Rattle.dslx_rules.specs.Mentions.{Use, AsValue, AsPattern, AsType, AsFunction, AsProc, AsEnum, AsStruct, Mention, mentioned, mentioned_in_block, mentioned_in_type, value_names}
 use Rattle.dslx_laws.specs.Agreement.{MeansOne, AgreeOn, AreBoundAlike, BindConstantsAlike}
-use Rattle.dslx_laws.proofs.Dependence.{meanings, mentions, meaning_steps, mention_steps, dependence, ValueDepends, BlockDepends, TypeDepends, all_depend}
+use Rattle.dslx_laws.proofs.Dependence.{meanings, mentions, meaning_steps, mention_steps, dependence, ValueDepends, BlockDepends, PatternDepends, TypeDepends, all_depend}
 
 pub value_depends : (e : Expr) → ValueDepends (meant e) (mentioned e)
 value_depends = related_expr meanings mentions dependence meaning_steps mention_steps all_depend
@@ -19,6 +21,10 @@ block_value_depends = related_block meanings mentions dependence meaning_steps m
 
 pub written_type_depends : (t : TypeExpr) → TypeDepends (written_type t) (mentioned_in_type t)
 written_type_depends = related_type_expr meanings mentions dependence meaning_steps mention_steps all_depend
+
+-- what a pattern binds
+pub pattern_depends : (p : Pattern) → PatternDepends (meant_pattern p) (fold_pattern mentions mention_steps p)
+pattern_depends = related_pattern meanings mentions dependence meaning_steps mention_steps all_depend
 
 -- names that are bound alike mean the same where the items are the same
 pub bound_alike : (items : Meanings) (bound others : List Given) → BindConstantsAlike items bound others → (ms : List Mention)

@@ -23,6 +23,7 @@ use Rattle.dslx_meaning.specs.declared.value.DslxValue.{DslxValue}
 use Rattle.dslx_rules.specs.Judging.{Sight, Typed, Instance, Judgement, ExprPair, Judging, breaks_if, settled, passes, span_of, alone, no_token, types_of, plus_size, one_and, with_typed, constant_env}
 use Rattle.dslx_rules.specs.Judgings.{ArmSeen, BlockPair, PatternPair, PatternSeen, StatementSeen, StatementJudging, StmtSeenLayer, BlockLayer, LetLayer, ForLayer, TypePair}
 use Rattle.dslx_rules.specs.ConstantRules.{ConstantSeen, constant_of, is_empty}
+use Rattle.dslx_rules.specs.Mentions.{item_reaches}
 use Rattle.dslx_rules.specs.PatternRules.{pattern_alone, is_there}
 use Rattle.dslx_rules.specs.OperatorRules.{unless_type, unless_types, is_bool, one_bit_type}
 use Rattle.dslx_rules.specs.AggregateRules.{wanted_faults}
@@ -193,9 +194,10 @@ abbrev pub values_match : Sight → List ArmJudged → DslxType → Bool
 values_match sight arms t =
     if nat_le (flat_bits t) 8 then all_words_match sight arms t (flat_bits t) (2 ^ flat_bits t) else last_is_sure (last_of arms)
 
--- each member of an enum is
+-- each member of an enum is, which the item reaches as it does each enum that a type in its text names
 abbrev pub is_exhaustive_in : Sight → List ArmJudged → DslxType → DslxType-F DslxType → Bool
-is_exhaustive_in sight arms t (DslxType-F.Enum name s w) = members_match sight arms name (as_enum (item_named name sight.known.whole.items))
+is_exhaustive_in sight arms t (DslxType-F.Enum name s w) =
+    item_reaches sight.known.whole sight.home name && members_match sight arms name (as_enum (item_named name sight.known.whole.items))
 is_exhaustive_in sight arms t _ = values_match sight arms t
 
 abbrev pub is_exhaustive : Sight → List ArmJudged → DslxType → Bool
