@@ -38,7 +38,7 @@ use Rattle.dslx_typed.specs.Kinds.{is_of, tuple_of}
 use Rattle.dslx_typed.specs.WellTyped.{Fails, Fits, FitsOrFails, IsWellTyped, types_at}
 use Rattle.dslx_typed.proofs.Lemmas.{of_tuple, one_of_text, same_some, tuple_declared}
 use Rattle.dslx_sound.specs.Sound.{TypeStandsIf}
-use Rattle.dslx_sound.proofs.Lemmas.{alone_fine, alone_has, all_in, all_in_three, bound_known, expression_gives, none_in, none_in_three, passed, pattern_stands, settled_fine, type_stands}
+use Rattle.dslx_sound.proofs.Lemmas.{alone_fine, alone_has, all_in, all_in_three, bound_known, expression_gives, none_in, none_in_three, passed, pattern_gives, settled_fine, type_stands}
 use Rattle.dslx_activities.specs.ActivityGoesOn.{ActivityGoesOn, Ends}
 use Rattle.dslx_activities.specs.Members.{ProcMembersStand}
 use Rattle.dslx_activities.proofs.Effects.{Binds, act_goes}
@@ -155,7 +155,7 @@ let_binds t n rest sight env h l value fine faults reached goes u v is of declar
     let r = all_in_three sight.known.is_sound value.reached (annotation_reached written) bound.reached reached in
     let own = bound_known sight env h span (pair_if (out-Let l).ty) (typing_if (out-Let l).ty) (written_stands (out-Let l).ty) u (ap (annotation_faults span written) (sym is) ∙ p.1) r.1 in
     let typed : bound_type written value.ty ≡ Some u = ap (bound_type written) is ∙ own in
-    fits typed (pattern_stands (out-Let l).pattern false sight u [] sight.locals env env v h h (record { value = v; is = refl; of = of; declared = declared })
+    fits typed ((pattern_gives (out-Let l).pattern).keeps false sight u [] sight.locals env env v h h (record { value = v; is = refl; of = of; declared = declared })
     (ap has_broken (ap (λ o. (pattern_alone false sight o (pattern_pair (out-Let l).pattern)).faults) (sym typed) ∙ p.2)))
   where
     span : Span

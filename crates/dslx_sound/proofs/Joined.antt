@@ -10,14 +10,9 @@ use Rattle.dslx_tree.specs.declared.block.Stmt.{Stmt}
 use Rattle.dslx_tree.specs.declared.pattern.Pattern.{Pattern}
 use Rattle.dslx_tree.specs.declared.type_expr.TypeExpr.{TypeExpr}
 use Rattle.dslx_tree_lemmas.proofs.Lemmas.Levels.{Carriers, StmtLevel, NodeLevel, ShapeLevel, TypeNodeLevel, BlockLevel, LetLevel, ArmLevel, FieldValueLevel, ForLevel, NumberLevel, map_stmt, map_node, map_shape, map_type_node, map_block, map_bind, map_arm, map_field, map_loop, map_number}
-<<<<<<< HEAD
-use Rattle.dslx_tree_lemmas.proofs.Lemmas.Folds.{fold_pattern}
-use Rattle.dslx_tree_lemmas.proofs.Lemmas.Related.{both, firsts, seconds, KeepRelated, related_expr, related_block, related_pattern, related_type_expr}
-=======
 use Rattle.dslx_tree.specs.declared.pattern.Pattern.{Pattern}
 use Rattle.dslx_tree_lemmas.proofs.Lemmas.Folds.{fold_stmt}
 use Rattle.dslx_tree_lemmas.proofs.Lemmas.Related.{both, firsts, seconds, KeepRelated, related_expr, related_block, related_pattern, related_stmt, related_type_expr}
->>>>>>> 8663b89e56e4a22bcb2af470f29dba192f88d5d4
 use Rattle.dslx_meaning.specs.Callees.{AllOnes, CallKind, Calls, CountsLeading, CountsTrailing, Joins, Parity, Receives, ReceivesIf, Reverses, Sends, SendsIf, SomeOne, Updates, kind_of_call}
 use Rattle.dslx_meaning.specs.Lists.{with_both}
 use Rattle.dslx_meaning.specs.Environment.{Env}
@@ -35,7 +30,7 @@ use Rattle.dslx_rules.specs.NameRules.{name_judged}
 use Rattle.dslx_rules.specs.NodeRules.{block_pair, expr_pair, judged_steps, second_of, type_pair}
 use Rattle.dslx_rules.specs.Paired.{paired_pattern, paired_stmt}
 use Rattle.dslx_typed.specs.Complete.{IsFine}
-use Rattle.dslx_typed.specs.WellTyped.{IsWellTyped, PatternKeeps, types_at}
+use Rattle.dslx_typed.specs.WellTyped.{IsWellTyped, types_at}
 use Rattle.dslx_typed.proofs.Lemmas.{none_some}
 use Rattle.dslx_sound.specs.Places.{EachPatternSeesAlike, PatternSeesAlike, SeeAlike, TypeSeesAlike}
 use Rattle.dslx_sound.specs.Sound.{ArmHasValue, BlockGives, EachArmHasValue, EachExprGives, EachFieldGives, EachPatternGives, EachTypeStands, ExprGives, FieldGives, HasItsValue, PartGives, PatternGives, StatementGives, StatementsGive, TypeStands}
@@ -372,15 +367,9 @@ expression_gives e =
 pub type_stands : (t : TypeExpr) → TypeStands (type_pair t).1 (written_type t)
 type_stands t = (related_type_expr judged meanings (claimed sound) judging meaning all_keep t).1.0
 
-<<<<<<< HEAD
--- behind a pattern that breaks no rule what is in sight is well typed
-pub pattern_stands : (p : Pattern) → PatternKeeps (fold_pattern judged judging p).1 (meant_pattern p).fits
-pattern_stands p = (related_pattern judged meanings (claimed sound) judging meaning all_keep p).1.0.keeps
-=======
 -- a statement, and a pattern, keep what is in sight well typed
 pub statement_gives : (s : Stmt) → StatementGives (paired_stmt judged_sorts judged_steps s).1 (fold_stmt meanings meaning s)
 statement_gives s = (related_stmt judged meanings (claimed sound) judging meaning all_keep s).1
 
 pub pattern_gives : (p : Pattern) → PatternGives (paired_pattern judged_sorts judged_steps p).1 (meant_pattern p)
 pattern_gives p = (related_pattern judged meanings (claimed sound) judging meaning all_keep p).1.0
->>>>>>> 8663b89e56e4a22bcb2af470f29dba192f88d5d4

@@ -1,17 +1,10 @@
 -- The laws of this crate as lemmas, of whole trees, and what a judgement with which nothing is wrong says of its parts. This module
 -- is for other crates' proofs; nothing else of this folder is.
-<<<<<<< HEAD
 pub use Rattle.dslx_sound.proofs.Fine.{IsAlone, IsSettled, all_in, all_in_three, alone_fine, alone_has, none_in, none_in_three, not_broken, passed, settled_fine, some_fault}
-pub use Rattle.dslx_sound.proofs.OfConstants.{constant_has}
-pub use Rattle.dslx_sound.proofs.Joined.{block_of_text_has, expression_gives, expression_has, pattern_stands, type_stands}
-pub use Rattle.dslx_sound.proofs.OfBuiltins.{token_declared}
-pub use Rattle.dslx_sound.proofs.OfControl.{bound_known}
-=======
-pub use Rattle.dslx_sound.proofs.Fine.{IsAlone, IsSettled, all_in, all_in_three, alone_fine, none_in, none_in_three, not_broken, passed, settled_fine, some_fault}
 pub use Rattle.dslx_sound.proofs.OfFunctions.{CallFound, IsRight, call_found, right_fine}
-pub use Rattle.dslx_sound.proofs.OfBuiltins.{wrongly_called}
+pub use Rattle.dslx_sound.proofs.OfBuiltins.{token_declared, wrongly_called}
 pub use Rattle.dslx_sound.proofs.OfNames.{name_has}
 pub use Rattle.dslx_sound.proofs.OfConstants.{bound_has, constant_has, count_has}
+pub use Rattle.dslx_sound.proofs.OfControl.{bound_known}
 pub use Rattle.dslx_sound.proofs.Joined.{block_of_text_has, expression_gives, expression_has, pattern_gives, statement_gives, type_stands}
->>>>>>> 8663b89e56e4a22bcb2af470f29dba192f88d5d4
 pub use Rattle.dslx_sound.proofs.Bodies.{function_has_value}
