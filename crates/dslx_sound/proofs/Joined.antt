@@ -10,7 +10,6 @@ use Rattle.dslx_tree.specs.declared.block.Stmt.{Stmt}
 use Rattle.dslx_tree.specs.declared.pattern.Pattern.{Pattern}
 use Rattle.dslx_tree.specs.declared.type_expr.TypeExpr.{TypeExpr}
 use Rattle.dslx_tree_lemmas.proofs.Lemmas.Levels.{Carriers, StmtLevel, NodeLevel, ShapeLevel, TypeNodeLevel, BlockLevel, LetLevel, ArmLevel, FieldValueLevel, ForLevel, NumberLevel, map_stmt, map_node, map_shape, map_type_node, map_block, map_bind, map_arm, map_field, map_loop, map_number}
-use Rattle.dslx_tree.specs.declared.pattern.Pattern.{Pattern}
 use Rattle.dslx_tree_lemmas.proofs.Lemmas.Folds.{fold_stmt}
 use Rattle.dslx_tree_lemmas.proofs.Lemmas.Related.{both, firsts, seconds, KeepRelated, related_expr, related_block, related_pattern, related_stmt, related_type_expr}
 use Rattle.dslx_meaning.specs.Callees.{AllOnes, CallKind, Calls, CountsLeading, CountsTrailing, Joins, Parity, Receives, ReceivesIf, Reverses, Sends, SendsIf, SomeOne, Updates, kind_of_call}
