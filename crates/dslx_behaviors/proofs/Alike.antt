@@ -10,7 +10,7 @@ use Rattle.net_core.specs.declared.net.ProcHead.{ProcHead}
 use Rattle.dslx_tree.specs.declared.block.Block.{out-Block}
 use Rattle.dslx_tree.specs.declared.item.Module.{Module}
 use Rattle.dslx_tree.specs.declared.process.Proc.{Proc}
-use Rattle.dslx_meaning.specs.Activation.{Activity, activation_of, site_names, state_of, state_type_of, turn_at}
+use Rattle.dslx_meaning.specs.Activation.{Activity, activation_of, site_names, state_of, turn_at}
 use Rattle.dslx_meaning.specs.Items.{meanings_of, meanings_over}
 use Rattle.dslx_meaning.specs.Lists.{and_then, where_true}
 use Rattle.dslx_meaning.specs.Network.{Placed, behavior_at, behaviors_if, behaviors_of, chans_of_top, family_of, head_at, width_of_chan}
@@ -37,7 +37,7 @@ use Rattle.dslx_activities.specs.Members.{IsFineNext}
 use Rattle.dslx_activities.proofs.Lemmas.{activation_goes}
 use Rattle.dslx_networks.specs.Making.{IsDesignFrom}
 use Rattle.dslx_networks.proofs.Lemmas.{AllStandFor, Becomes, StandsFor, chans_alike, design_made, family_stands, head_alike, networks_alike}
-use Rattle.dslx_behaviors.specs.FineNexts.{EachNextIsFine, HasFineNexts}
+use Rattle.dslx_behaviors.specs.FineNexts.{EachNextIsFine, HasFineNexts, NextIsFine}
 use Rattle.dslx_behaviors.proofs.Waits.{WaitsThere, steps_wait}
 
 -- ---- one activation
@@ -69,22 +69,22 @@ state_is_sized known p l low =
 
 -- ---- a proc
 
-module _ (m : Module) (settled : meanings_over m (meanings_of m) ≡ meanings_of m) (own : ItemsAreOwn (meanings_of m)) (known : Known) (items : known.items ≡ meanings_of m) (is : List Instantiated) (functions : List CoreInstance)
+module _ (m : Module) (settled : meanings_over m (meanings_of m) ≡ meanings_of m) (own : ItemsAreOwn (meanings_of m)) (known : Known) (is : List Instantiated) (functions : List CoreInstance)
     (each : instances_from m (meanings_of m) [] is ≡ Some functions) where
   activation_alike : (p : Proc) (numbers : List DslxValue) (l : LoweredNext) → next_lowered (proc_known m (meanings_of m) functions p numbers) p ≡ Some l → IsFineNext known p numbers l.state
-      → (state : Value) → IsOfType (plain_type l.state) state → (words : List Word)
+      → (state : Value) → IsOfType (plain_type l.state) state → (words : List Word) → activation_of known.items p numbers state words ≡ activation_of (meanings_of m) p numbers state words
       → IsOneActivity (activation_of (meanings_of m) p numbers state words) (do_steps (functions_of_instances functions) l.steps l.next (state ∷ []) words)
-  activation_alike p numbers l low fine state typed words =
+  activation_alike p numbers l low fine state typed words means =
       let of = (from_plain l.state (state_is_sized (proc_known m (meanings_of m) functions p numbers) p l low) state typed).0 in
       let goes = activation_goes known p numbers l.state fine state of words in
       one_activity l.state (length (site_names p)) words (activation_of (meanings_of m) p numbers state words) (do_steps (functions_of_instances functions) l.steps l.next (state ∷ []) words)
       (next_of_instances m (meanings_of m) settled own is functions each p numbers l low state words typed)
-      (subst (λ x. ActivityGoesOn l.state (length (site_names p)) words (activation_of x p numbers state words)) items goes)
+      (subst (ActivityGoesOn l.state (length (site_names p)) words) means goes)
       (steps_wait (functions_of_instances functions) l.steps l.next (state ∷ []) words)
 
   -- a proc that is placed, in each design whose functions these are
   behavior_alike : (design : Design) → functions_of design ≡ functions_of_instances functions → (chans : List Chan) → core_chans design ≡ chans → (a : Placed) (c : CorePlaced) → StandsFor (Becomes m (meanings_of m) functions) a c
-      → ((t : DslxType) → state_type_of known.items a.proc a.numbers ≡ Some t → IsFineNext known a.proc a.numbers t) → BehavesAlike (core_behavior design c) (behavior_at (meanings_of m) chans a)
+      → NextIsFine m known a → BehavesAlike (core_behavior design c) (behavior_at (meanings_of m) chans a)
   behavior_alike design calls chans same a c stands fine = record {
     state = ap (λ (h : ProcHead). h.state) head;
     sites = ap (λ (h : ProcHead). h.sites) head;
@@ -100,16 +100,16 @@ module _ (m : Module) (settled : meanings_over m (meanings_of m) ≡ meanings_of
       head = head_alike m (meanings_of m) settled own is functions each a c stands
 
       own_fine : IsFineNext known a.proc a.numbers b.next.state
-      own_fine = fine b.next.state (ap (λ x. state_type_of x a.proc a.numbers) items ∙ state_of_instances m (meanings_of m) settled own is functions each a.proc a.numbers b.next b.lowered)
+      own_fine = fine.fine b.next.state (fine.state ∙ state_of_instances m (meanings_of m) settled own is functions each a.proc a.numbers b.next b.lowered)
 
       alike : (state : Value) → IsOfType c.instance.state state → (words : List Word) → IsOneActivity (activation_of (meanings_of m) a.proc a.numbers state words) (core_activation (functions_of design) c.instance state words)
       alike state typed words =
           subst (λ f. IsOneActivity (activation_of (meanings_of m) a.proc a.numbers state words) (core_activation f c.instance state words)) (sym calls)
           (subst (λ (i : Instance). IsOneActivity (activation_of (meanings_of m) a.proc a.numbers state words) (core_activation (functions_of_instances functions) i state words)) b.is
-          (activation_alike a.proc a.numbers b.next b.lowered own_fine state (subst (λ (i : Instance). IsOfType i.state state) (sym b.is) typed) words))
+          (activation_alike a.proc a.numbers b.next b.lowered own_fine state (subst (λ (i : Instance). IsOfType i.state state) (sym b.is) typed) words (fine.means state words)))
 
   behaviors_alike : (design : Design) → functions_of design ≡ functions_of_instances functions → (chans : List Chan) → core_chans design ≡ chans → (as' : List Placed) (cs : List CorePlaced) → AllStandFor (Becomes m (meanings_of m) functions) as' cs
-      → EachNextIsFine known as' → EachBehavesAlike (map (core_behavior design) cs) (map (behavior_at (meanings_of m) chans) as')
+      → EachNextIsFine m known as' → EachBehavesAlike (map (core_behavior design) cs) (map (behavior_at (meanings_of m) chans) as')
   behaviors_alike design calls chans same [] [] h fine = tt
   behaviors_alike design calls chans same [] (c ∷ cs) h fine = absurd h
   behaviors_alike design calls chans same (a ∷ as') [] h fine = absurd h
@@ -123,7 +123,7 @@ texts_stand m top design free settled own h fine = record {
   behaviors =
       subst (λ d. EachBehavesAlike (core_behaviors d) (behaviors_of m top)) (sym h.design_is)
       (subst (EachBehavesAlike (core_behaviors made)) (sym (ap (behaviors_if m) h.is_top))
-      (behaviors_alike m settled own fine.known fine.items h.named_functions h.functions h.each_function made refl (chans_of_top m h.proc) (chans_alike m top design free own h) (family_of m h.proc).procs (core_family made).procs
+      (behaviors_alike m settled own fine.known h.named_functions h.functions h.each_function made refl (chans_of_top m h.proc) (chans_alike m top design free own h) (family_of m h.proc).procs (core_family made).procs
       (family_stands m top design free own h).procs (fine.nexts h.proc h.is_top)));
 }
   where
