@@ -51,7 +51,7 @@ is_proc_item _ = false
 -- ---- an item over what it mentions
 
 module _ (P : List ℕ → Bool) (m : Module) (a b : Known) (closed_in : IsClosed P m) (s : Stage P m a b) (plain : BindsNoConstant m) where
-  abbrev Own : List ℕ → Type 0
+  abbrev pub Own : List ℕ → Type 0
   Own home = list_all P (mentions_of m (item_named home m.items)) ≡ true
 
   other_text : b.whole ≡ m
@@ -61,14 +61,14 @@ module _ (P : List ℕ → Bool) (m : Module) (a b : Known) (closed_in : IsClose
   at_item : {X : Type 0} (name : List ℕ) (f : Known → Option Definition → X) → f a (item_named name m.items) ≡ f b (item_named name m.items) → f a (item_named name a.whole.items) ≡ f b (item_named name b.whole.items)
   at_item name f e = (λ i. f a (item_named name (s.text i).items)) ∙ e ∙ sym (λ i. f b (item_named name (other_text i).items))
 
-  named_again : (name : List ℕ) (x : Definition) → item_named name m.items ≡ Some x → item_named (name_of_definition x) m.items ≡ Some x
+  pub named_again : (name : List ℕ) (x : Definition) → item_named name m.items ≡ Some x → item_named (name_of_definition x) m.items ≡ Some x
   named_again name x q = subst (λ n. item_named n m.items ≡ Some x) (sym (item_so_named m.items name x q)) q
 
   -- an item's mentions
-  own_mentions : (name : List ℕ) (x : Definition) → item_named name m.items ≡ Some x → Own name → list_all P (names_meant m (definition_mentions x)) ≡ true
+  pub own_mentions : (name : List ℕ) (x : Definition) → item_named name m.items ≡ Some x → Own name → list_all P (names_meant m (definition_mentions x)) ≡ true
   own_mentions name x q own = (λ i. list_all P (mentions_of m (sym q i))) ∙ own
 
-  own_again : (name : List ℕ) (x : Definition) → item_named name m.items ≡ Some x → Own name → Own (name_of_definition x)
+  pub own_again : (name : List ℕ) (x : Definition) → item_named name m.items ≡ Some x → Own name → Own (name_of_definition x)
   own_again name x q own = (λ i. list_all P (mentions_of m (named_again name x q i))) ∙ own_mentions name x q own
 
   function_at : (name : List ℕ) (f : Function) → item_named name m.items ≡ Some (d.Function f) → Own name → (numbers : List DslxValue) → function_seen a f numbers ≡ function_seen b f numbers
@@ -223,11 +223,11 @@ module _ (P : List ℕ → Bool) (m : Module) (a b : Known) (closed_in : IsClose
 abbrev pub passes : Module → ℕ → List ℕ → Bool
 passes m k name = ends_within m k name && not (is_proc_item (item_named name m.items))
 
-and_both : (p q : Bool) → (p && q) ≡ true → (p ≡ true) × (q ≡ true)
+pub and_both : (p q : Bool) → (p && q) ≡ true → (p ≡ true) × (q ≡ true)
 and_both true q e = (refl, e)
 and_both false q e = absurd (true≢false (sym e))
 
-not_true : (b : Bool) → not b ≡ true → b ≡ false
+pub not_true : (b : Bool) → not b ≡ true → b ≡ false
 not_true false e = refl
 not_true true e = absurd (true≢false (sym e))
 
@@ -309,7 +309,7 @@ passes_closed m k name h =
     mentions_pass m k (item_named name m.items) (not_true (is_proc_item (item_named name m.items)) r.1) (closed m k name r.0)
 
 -- one item more
-passes_next : (m : Module) (k : ℕ) (name : List ℕ) → passes m (suc k) name ≡ true → (list_all (passes m k) (mentions_of m (item_named name m.items)) ≡ true) × (is_proc_item (item_named name m.items) ≡ false)
+pub passes_next : (m : Module) (k : ℕ) (name : List ℕ) → passes m (suc k) name ≡ true → (list_all (passes m k) (mentions_of m (item_named name m.items)) ≡ true) × (is_proc_item (item_named name m.items) ≡ false)
 passes_next m k name h =
     let r = and_both (ends_within m (suc k) name) (not (is_proc_item (item_named name m.items))) h in
     let other = not_true (is_proc_item (item_named name m.items)) r.1 in
@@ -405,7 +405,7 @@ no_enum (Some (d.Alias x)) e q = sym (ap there q)
 no_enum (Some (d.Struct x)) e q = sym (ap there q)
 no_enum None e q = sym (ap there q)
 
-unused_alike : (m : Module) (a b : ℕ) (u : Use) (name : List ℕ) → is_of_use u (item_named name m.items) ≡ false → UseAlike (known_within m a) (known_within m b) u name
+pub unused_alike : (m : Module) (a b : ℕ) (u : Use) (name : List ℕ) → is_of_use u (item_named name m.items) ≡ false → UseAlike (known_within m a) (known_within m b) u name
 unused_alike m a b AsValue name e = constant_unknown m a name e ∙ sym (constant_unknown m b name e)
 unused_alike m a b AsPattern name e =
     let q = sym (pattern_use (item_named name m.items)) ∙ e in

@@ -1,0 +1,4 @@
+-- types that are declared
+pub mod Declaring
+-- all items, with what is filled in
+pub mod Filling

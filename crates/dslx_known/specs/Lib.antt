@@ -1,0 +1,4 @@
+-- what is known of some items alone
+pub mod Filled
+-- items that are known with all that they need
+pub mod Passing
