@@ -1,14 +1,11 @@
 -- The induction on all sorts of parts of a tree: each is judged alike where the same is known of what it mentions.
-use Rattle.std.proofs.Common.{◌≡◌, ◌&&◌, ◌||◌, ◌++◌, ◌-◌, ℕ, Bool, true, false, if◌then◌else◌, List, [], ◌∷◌, map, length, Option, Some, None, refl, sym, ap, subst, ◌∙◌}
+use Rattle.std.proofs.Common.{◌≡◌, ◌||◌, ◌++◌, ◌-◌, ℕ, Bool, false, if◌then◌else◌, List, [], ◌∷◌, map, length, Option, Some, None, refl, sym, ap, subst, ◌∙◌}
 use Rattle.std.specs.List.{list_any}
 use Rattle.xb_span.specs.declared.span.Span.{Span}
 use Rattle.dslx_tree.specs.declared.block.Block.{Block}
 use Rattle.dslx_tree.specs.declared.block.Stmt.{Stmt}
 use Rattle.dslx_tree.specs.declared.block.Stmt.TheOpen.{Stmt-F, Node-F, Shape-F, TypeNode-F}
-use Rattle.dslx_tree.specs.declared.expr.Arg.{Arg}
-use Rattle.dslx_tree.specs.declared.expr.Arm.{Arm}
 use Rattle.dslx_tree.specs.declared.expr.Expr.{Expr}
-use Rattle.dslx_tree.specs.declared.expr.FieldValue.{FieldValue}
 use Rattle.dslx_tree.specs.declared.ident.Ident.{Ident}
 use Rattle.dslx_tree.specs.declared.item.Function.{Function}
 use Rattle.dslx_tree.specs.declared.type_expr.TypeExpr.{TypeExpr}
@@ -23,23 +20,21 @@ use Rattle.dslx_meaning.specs.declared.ty.DslxType as ty
 use Rattle.dslx_meaning.specs.declared.value.DslxValue.{DslxValue}
 use Rattle.dslx_rules.specs.AggregateRules.{field_judged, field_part_judged, field_type, index_judged, number_judged, struct_judged, tuple_element_judged, wanted_faults}
 use Rattle.dslx_rules.specs.CallRules.{call_judged}
-use Rattle.dslx_rules.specs.ConstantRules.{ConstantSeen, constant_of, constant_or_bare, count_of}
+use Rattle.dslx_rules.specs.ConstantRules.{ConstantSeen, constant_of}
 use Rattle.dslx_rules.specs.ControlRules.{bare_judged_at, behind, block_alone, if_judged, last_judged, loop_with, same_ends, span_of_block, statements_judged}
-use Rattle.dslx_rules.specs.EffectNames.{is_effect}
 use Rattle.dslx_rules.specs.Judging.{ExprPair, Judgement, Judging, Known, Sight, alone, constant_env, faults_of_all, no_token, one_and, plus_size, reached_of_all, settled, span_of, types_of, with_typed}
-use Rattle.dslx_rules.specs.Judgings.{ArmSeen, BlockPair, FieldSeen, PatternJudging, PatternPair, PatternSeen, SightJudging, StatementJudging, StatementSeen, TypePair}
-use Rattle.dslx_rules.specs.Mentions.{AsFunction, AsStruct, Mention, Mentions, NamesBound, all_mentions, binders_mentions, binders_names, bound_behind, mention, mentioned, mentioned_in_block, mentioned_in_type, mentions_if, statements_mentions, value_mention}
-use Rattle.dslx_rules.specs.NameRules.{name_judged}
+use Rattle.dslx_rules.specs.Judgings.{BlockPair, PatternJudging, PatternPair, SightJudging, StatementJudging, StatementSeen}
+use Rattle.dslx_rules.specs.Mentions.{AsFunction, AsStruct, Mention, Mentions, NamesBound, all_mentions, binders_mentions, binders_names, bound_behind, mention, mentioned, mentioned_in_block, mentioned_in_type, mentions_if, statements_mentions}
 use Rattle.dslx_rules.specs.NodeRules.{block_pair, expr_pair, second_of, type_pair}
 use Rattle.dslx_rules.specs.OperatorRules.{binary_judged, bound_number, cast_judged, part_judged, prefix_judged, slice_faults}
 use Rattle.dslx_rules.specs.PatternRules.{is_there, one_value, part_types, pattern_alone, tuple_pattern}
 use Rattle.dslx_rules.specs.TypeRules.{array_of, counted_type}
-use Rattle.dslx_depends.specs.Alike.{FunctionAlike, KnownAlike, MentionsAlike, NamesAlike, SeesAlike, in_known}
+use Rattle.dslx_depends.specs.Alike.{FunctionAlike, NamesAlike, SeesAlike, in_known}
 use Rattle.dslx_depends.proofs.Links.{Claims, claimed, judged, judging, mentions, mention_steps, seen_stmt, seen_node, seen_shape, seen_type_node, seen_block, seen_bind, seen_arg, seen_arm, seen_expr, seen_field, seen_loop, seen_number, seen_pattern, seen_type_expr, mentioned_stmt, mentioned_node, mentioned_shape, mentioned_type_node, mentioned_block, mentioned_bind, mentioned_arg, mentioned_arm, mentioned_expr, mentioned_field, mentioned_loop, mentioned_number, mentioned_pattern, mentioned_type_expr}
 use Rattle.dslx_depends.proofs.OfCalls.{EachGivenSame, IfCalled, call_same}
 use Rattle.dslx_depends.proofs.OfControl.{ArmSame, EachArmSame, EachPatternSame, PatternSame, arm_same, behind_in_known, let_same, loop_same, match_same, name_pattern_same, parts_same}
 use Rattle.dslx_depends.proofs.Places.{ExprAlike, JudgedAlike, behind_names, constant_alike, first_part, fits_alike, names_join, second_part, value_alike}
-use Rattle.dslx_depends.proofs.Same.{EachFieldSame, EachSame, EachTypeSame, FieldSame, OthersSame, PartSame, alone_same, array_same, bare_same, constant_same, count_same, frozen, inner_same, inner_types_same, member_same, name_same, named_same, pair_same, struct_same, tuple_same, untyped_same}
+use Rattle.dslx_depends.proofs.Same.{EachFieldSame, EachSame, EachTypeSame, FieldSame, OthersSame, alone_same, array_same, bare_same, constant_same, count_same, frozen, inner_same, inner_types_same, member_same, name_same, named_same, struct_same, tuple_same, untyped_same}
 
 -- ---- what is to hold of each sort
 

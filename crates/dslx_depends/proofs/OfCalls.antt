@@ -1,7 +1,5 @@
 -- Calls by what is known in two ways.
-use Rattle.std.proofs.Common.{◌≡◌, ◌&&◌, ◌||◌, ◌++◌, ◌==◌, ℕ, Bool, true, false, not, if◌then◌else◌, List, [], ◌∷◌, map, length, Option, Some, None, refl, sym, ap, ◌∙◌}
-use Rattle.std.specs.Prelude.{nat_lt}
-use Rattle.std.specs.List.{list_all}
+use Rattle.std.proofs.Common.{◌≡◌, ◌||◌, ◌++◌, ℕ, Bool, true, false, if◌then◌else◌, List, [], ◌∷◌, map, Option, Some, None, refl, ap, ◌∙◌}
 use Rattle.xb_span.specs.declared.fault.Fault.{Fault}
 use Rattle.xb_span.specs.declared.span.Span.{Span}
 use Rattle.dslx_tree.specs.declared.expr.Expr.{Expr, out-Expr}
@@ -22,7 +20,7 @@ use Rattle.dslx_rules.specs.AggregateRules.{wanted_faults, when_all}
 use Rattle.dslx_rules.specs.CallRules as c
 use Rattle.dslx_rules.specs.CallRules.{ChannelSeen, GivenNumber, NotGiven, Number, NumbersSeen, Resolved, Unknown, Wrong, bound_by_number, builtin_judged, call_judged, call_parts_faults, call_parts_reached, call_type, callee_size, channel_seen, declared_type, default_value, function_call, given_judgements, given_numbers, has_right_count, in_type, inferred_by, maybe_inferred, not_given, number_before, numbers_for, numbers_seen, of_type, operand_faults, reached_by, resolved_value, result_type, right_call, token_judged, type_without_value, unknown_behind, without_default, without_numbers, wrong_call}
 use Rattle.dslx_rules.specs.ConstantRules.{constant_of}
-use Rattle.dslx_rules.specs.Judging.{ExprPair, Judgement, Known, Sight, all_alone, alone, breaks, breaks_if, faults_of_all, has_broken, name_of_expr, one_and, plus_size, reached_of_all, settled, size_of_all, span_of, types_of, within}
+use Rattle.dslx_rules.specs.Judging.{ExprPair, Judgement, Known, Sight, all_alone, breaks_if, faults_of_all, has_broken, name_of_expr, one_and, plus_size, reached_of_all, settled, size_of_all, span_of, types_of}
 use Rattle.dslx_rules.specs.Judgings.{ArgPair}
 use Rattle.dslx_rules.specs.Mentions.{is_cyclic}
 use Rattle.dslx_depends.specs.Alike.{EachArgumentAlike, EachParameterAlike, FunctionAlike, KnownAlike, ParameterAlike, in_known}

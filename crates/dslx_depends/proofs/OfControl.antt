@@ -1,13 +1,10 @@
 -- Patterns, matches, statements, blocks and loops by what is known in two ways.
-use Rattle.std.proofs.Common.{◌≡◌, ◌&&◌, ◌||◌, ◌++◌, ◌+◌, ◌^◌, ℕ, zero, suc, Bool, true, false, not, if◌then◌else◌, List, [], ◌∷◌, map, length, Option, Some, None, refl, sym, ap, subst, ◌∙◌}
-use mathlib.Core.Bool.{true≢false}
+use Rattle.std.proofs.Common.{◌≡◌, ◌&&◌, ◌||◌, ◌++◌, ◌+◌, ◌^◌, ℕ, zero, suc, Bool, true, false, not, if◌then◌else◌, List, [], ◌∷◌, map, Option, Some, None, refl, sym, ap, ◌∙◌}
 use Rattle.std.specs.Prelude.{nat_le}
 use Rattle.std.specs.List.{list_all, list_any}
 use Rattle.std.specs.Option.{option_map}
-use Rattle.xb_span.specs.declared.fault.Fault.{Fault}
 use Rattle.xb_span.specs.declared.span.Span.{Span}
 use Rattle.xb_bits.specs.Word.{word}
-use Rattle.dslx_tree.specs.declared.ident.Ident.{Ident}
 use Rattle.dslx_tree.specs.declared.item.Enum.{Enum}
 use Rattle.dslx_tree.specs.declared.item.Member.{Member}
 use Rattle.dslx_meaning.specs.Items.{as_enum, item_named}
@@ -18,13 +15,12 @@ use Rattle.dslx_meaning.specs.Values.{from_word, type_of_value}
 use Rattle.dslx_meaning.specs.declared.ty.DslxType.{DslxType, out-DslxType}
 use Rattle.dslx_meaning.specs.declared.ty.DslxType.TheOpen.{DslxType-F}
 use Rattle.dslx_meaning.specs.declared.value.DslxValue.{DslxValue}
-use Rattle.dslx_rules.specs.ConstantRules.{ConstantSeen, constant_of, is_empty}
-use Rattle.dslx_rules.specs.ControlRules.{AlternativesSeen, ArmJudged, all_known, all_words_match, alternatives_seen, arm_judged, arm_values, arms_faults, arms_reached, arms_size, block_alone, bound_type, differ, first_of_types, is_exhaustive, is_exhaustive_in, is_matched, last_is_sure, last_judged, let_with, loop_with, match_faults, match_judged, member_matches, members_match, not_exhaustive, same_ends, some_binds, statements_judged, values_match, written_judged}
-use Rattle.dslx_rules.specs.EffectNames.{is_effect}
-use Rattle.dslx_rules.specs.Judging.{ExprPair, Judgement, Known, Sight, Typed, alone, breaks_if, constant_env, no_token, one_and, plus_size, settled, span_of, types_of, with_typed}
-use Rattle.dslx_rules.specs.Judgings.{ArmSeen, BlockPair, PatternJudging, PatternPair, PatternSeen, StatementJudging, StatementSeen}
+use Rattle.dslx_rules.specs.ConstantRules.{ConstantSeen, is_empty}
+use Rattle.dslx_rules.specs.ControlRules.{ArmJudged, all_known, all_words_match, alternatives_seen, arm_judged, arm_values, arms_faults, arms_reached, arms_size, block_alone, bound_type, differ, first_of_types, is_exhaustive, is_exhaustive_in, is_matched, last_is_sure, let_with, loop_with, match_judged, member_matches, members_match, not_exhaustive, same_ends, some_binds, values_match}
+use Rattle.dslx_rules.specs.Judging.{ExprPair, Judgement, Known, Sight, Typed, alone, breaks_if, constant_env, one_and, plus_size, settled, types_of, with_typed}
+use Rattle.dslx_rules.specs.Judgings.{ArmSeen, BlockPair, PatternJudging, PatternPair, StatementSeen}
 use Rattle.dslx_rules.specs.Mentions.{is_cyclic, item_reaches}
-use Rattle.dslx_rules.specs.PatternRules.{both_patterns, constant_pattern, first_part_type, is_there, name_pattern, one_value, other_part_types, part_types, parts_judged, pattern_alone, tuple_pattern}
+use Rattle.dslx_rules.specs.PatternRules.{both_patterns, first_part_type, is_there, name_pattern, one_value, other_part_types, parts_judged, pattern_alone}
 use Rattle.dslx_depends.specs.Alike.{KnownAlike, in_known}
 use Rattle.dslx_depends.proofs.Same.{PartSame, alone_same}
 

@@ -6,7 +6,6 @@ use Rattle.std.specs.Str.{bytes_eq}
 use Rattle.std.specs.List.{list_all, list_any}
 use Rattle.std.proofs.lemmas.Slice.Eq.{bytes_eq-Decides}
 use Rattle.xb_span.specs.declared.fault.Fault.{Fault}
-use Rattle.xb_span.specs.declared.span.Span.{Span}
 use Rattle.dslx_tree.specs.declared.block.Block.{Block, out-Block}
 use Rattle.dslx_tree.specs.declared.expr.Expr.{Expr, out-Expr}
 use Rattle.dslx_tree.specs.declared.ident.Ident.{Ident}
@@ -24,7 +23,7 @@ use Rattle.dslx_tree.specs.declared.item.Struct.{Struct}
 use Rattle.dslx_tree.specs.declared.type_expr.TypeExpr.{TypeExpr}
 use Rattle.dslx_meaning.specs.Environment.{Given}
 use Rattle.dslx_meaning.specs.Inference.{Inferred}
-use Rattle.dslx_meaning.specs.Items.{all_numbers, as_constant, as_enum, as_function, as_struct, enum_member, function_value, inferred_from, is_constant_item, item_named, member_named, name_of_definition, name_of_field, numbers_bound}
+use Rattle.dslx_meaning.specs.Items.{all_numbers, enum_member, function_value, inferred_from, is_constant_item, item_named, member_named, name_of_field, numbers_bound}
 use Rattle.dslx_meaning.specs.Lists.{all_some, and_then, where_true}
 use Rattle.dslx_meaning.specs.Operators.{number_value}
 use Rattle.dslx_meaning.specs.Values.{type_of_value}
@@ -35,17 +34,17 @@ use Rattle.dslx_meaning.specs.declared.value.DslxValue.{DslxValue}
 use Rattle.dslx_rules.specs.AggregateRules.{range_faults, wanted_faults}
 use Rattle.dslx_rules.specs.CallRules.{result_type}
 use Rattle.dslx_rules.specs.ConstantRules.{ConstantSeen, constant_of, is_empty}
-use Rattle.dslx_rules.specs.ItemRules.{ConstantFound, Found, FunctionSeen, TypeFound, alias_seen, and_found, annotation_judged, arguments_found, arguments_typed, base_if_bits, body_judged, bound_with, constant_seen, default_found, enum_member_value, enum_of_base, enum_seen, fields_found, fields_types, found_in, function_seen, has_equal_values, item_sight, judged_inner, judged_type, member_constant, member_values, members_found, nothing_found, number_at, numbers_behind, only_faults, parameters_found, result_judged, struct_seen}
+use Rattle.dslx_rules.specs.ItemRules.{ConstantFound, Found, TypeFound, alias_seen, and_found, annotation_judged, arguments_found, arguments_typed, base_if_bits, body_judged, bound_with, constant_seen, default_found, enum_member_value, enum_of_base, enum_seen, fields_found, found_in, function_seen, has_equal_values, item_sight, judged_inner, judged_type, member_constant, member_values, members_found, number_at, numbers_behind, only_faults, parameters_found, result_judged, struct_seen}
 use Rattle.dslx_rules.specs.Judging.{ExprPair, Instance, Judgement, Known, Sight, Typed, bare_of, breaks_if, has_broken, span_of, type_limits, unless_broken}
-use Rattle.dslx_rules.specs.Mentions.{Use, AsValue, AsPattern, AsType, AsFunction, AsProc, AsEnum, AsStruct, Mention, definition_mentions, expr_if, field_names, fields_mentions, is_of_use, item_reaches, mentioned, mentioned_in_block, mentioned_in_type, mentions_of, names_meant, parameter_names, parameters_mentions, reaches_within, type_if}
-use Rattle.dslx_rules.specs.ModuleRules.{call_known, default_known, found_of_instance, found_of_item, known_over, sound_instance, size_known, type_known, unbroken_instance}
+use Rattle.dslx_rules.specs.Mentions.{Use, AsValue, AsEnum, Mention, definition_mentions, expr_if, field_names, fields_mentions, is_of_use, item_reaches, mentioned, mentioned_in_block, mentioned_in_type, mentions_of, names_meant, parameter_names, parameters_mentions, reaches_within, type_if}
+use Rattle.dslx_rules.specs.ModuleRules.{call_known, found_of_instance, known_over, sound_instance, unbroken_instance}
 use Rattle.dslx_rules.specs.NameRules.{listed_name, local_name}
 use Rattle.dslx_rules.specs.NodeRules.{block_pair, expr_pair, type_pair}
 use Rattle.dslx_rules.specs.OperatorRules.{is_bits, unless_type}
 use Rattle.dslx_judged.specs.Reached.{AllNamed, IsClosed, MentionsReach}
-use Rattle.dslx_judged.proofs.Lemmas.{block_of_text_reaches, item_so_named}
+use Rattle.dslx_judged.proofs.Lemmas.{block_of_text_reaches}
 use Rattle.dslx_laws.proofs.Lemmas.{Agreeing, IfAsMany, function_one, numbers_many, numbers_one}
-use Rattle.dslx_depends.specs.Alike.{CalleeAlike, EachArgumentAlike, EachParameterAlike, EnumAlike, FunctionAlike, KnownAlike, MentionsAlike, NamesAlike, ParameterAlike, SeesAlike, UseAlike, in_known}
+use Rattle.dslx_depends.specs.Alike.{EachArgumentAlike, EachParameterAlike, KnownAlike, MentionsAlike, NamesAlike, SeesAlike, UseAlike}
 use Rattle.dslx_depends.specs.Settled.{AreNoConstants}
 use Rattle.dslx_depends.proofs.Joined.{block_of_text_alike, expression_alike, written_type_alike}
 use Rattle.dslx_depends.proofs.Places.{constant_alike, mentions_agree, names_join}

@@ -5,11 +5,11 @@ use Rattle.std.specs.Str.{bytes_eq}
 use Rattle.std.proofs.lemmas.Slice.Eq.{bytes_eq-Decides}
 use Rattle.dslx_tree.specs.declared.pattern.Pattern.{Pattern}
 use Rattle.dslx_tree_lemmas.proofs.Lemmas.Folds.{fold_pattern}
-use Rattle.dslx_meaning.specs.Environment.{Env, Given, given_in, value_of_name}
+use Rattle.dslx_meaning.specs.Environment.{Env, Given, given_in}
 use Rattle.dslx_meaning.specs.Lists.{is_in, or_else}
 use Rattle.dslx_meaning.specs.Meaning.{fitted}
 use Rattle.dslx_meaning.specs.declared.value.DslxValue.{DslxValue}
-use Rattle.dslx_rules.specs.Judging.{ExprPair, Judging, Known, Sight, alone, constant_env, span_of, within}
+use Rattle.dslx_rules.specs.Judging.{ExprPair, Judging, Known, Sight, constant_env, span_of, within}
 use Rattle.dslx_rules.specs.Mentions.{Use, AsValue, AsPattern, AsType, AsFunction, AsProc, AsEnum, AsStruct, Mention, Mentions, NamesBound, mention, mentioned, value_mention}
 use Rattle.dslx_rules.specs.NodeRules.{expr_pair}
 use Rattle.dslx_rules.specs.PatternRules.{is_there}
@@ -17,7 +17,7 @@ use Rattle.dslx_laws.specs.Agreement.{AgreeOn, MeansOne}
 use Rattle.dslx_laws.proofs.Lemmas.{FitAlike, NamesAgree, pattern_depends, unchanged, value_depends}
 use Rattle.dslx_judged.specs.Reached.{AllNamed, MentionsReach}
 use Rattle.dslx_judged.proofs.Lemmas.{expression_reaches, parts, unmarked}
-use Rattle.dslx_depends.specs.Alike.{CalleeAlike, EnumAlike, KnownAlike, MentionsAlike, NamesAlike, SeesAlike, UseAlike, in_known}
+use Rattle.dslx_depends.specs.Alike.{KnownAlike, MentionsAlike, NamesAlike, SeesAlike, UseAlike, in_known}
 use Rattle.dslx_depends.proofs.Links.{mentions, mention_steps}
 use Rattle.dslx_depends.proofs.Same.{ConstantSame}
 

@@ -1,10 +1,9 @@
 -- Judgements by what is known in two ways, by those of their parts.
-use Rattle.std.proofs.Common.{◌≡◌, ◌&&◌, ◌||◌, ◌++◌, ℕ, Bool, true, false, not, if◌then◌else◌, List, [], ◌∷◌, map, length, Option, Some, None, refl, sym, ap, subst, ◌∙◌}
-use Rattle.std.specs.List.{list_all, list_any}
+use Rattle.std.proofs.Common.{◌≡◌, ◌&&◌, ◌||◌, ◌++◌, ℕ, Bool, true, false, not, if◌then◌else◌, List, [], ◌∷◌, map, length, Option, Some, None, refl, ap, ◌∙◌}
+use Rattle.std.specs.List.{list_all}
 use Rattle.std.specs.Option.{option_map}
 use Rattle.xb_span.specs.declared.fault.Fault.{Fault}
 use Rattle.xb_span.specs.declared.span.Span.{Span}
-use Rattle.dslx_tree.specs.declared.expr.Expr.{Expr}
 use Rattle.dslx_tree.specs.declared.ident.Ident.{Ident}
 use Rattle.dslx_tree.specs.declared.item.Enum.{Enum}
 use Rattle.dslx_tree.specs.declared.item.Struct.{Struct}
@@ -19,10 +18,10 @@ use Rattle.dslx_meaning.specs.declared.value.Bare.{Bare}
 use Rattle.dslx_meaning.specs.declared.value.DslxValue.{DslxValue}
 use Rattle.dslx_rules.specs.AggregateRules.{array_faults, array_in, array_judged, element_alone, element_in, element_type, field_judged, first_type_of, has_twice, lacks_one, like_first, others_judged, pair_alone, range_faults, struct_if, struct_judged, tuple_judged, unknown_fields, wanted_faults, when_all, written_fields}
 use Rattle.dslx_rules.specs.PatternRules.{is_there}
-use Rattle.dslx_rules.specs.ConstantRules.{ConstantSeen, CountSeen, bare_judged, constant_judged, constant_of, constant_or_bare, count_number, count_of, count_with, is_empty, is_sound_here, names_a_local, over_size, value_if_typed}
-use Rattle.dslx_rules.specs.Judging.{ExprPair, Instance, Judgement, Known, Sight, Typed, all_alone, alone, bare_of, breaks, breaks_if, constant_env, faults_of_all, has_broken, no_token, one_and, plus_size, reached_of_all, settled, size_of_all, span_of, typed_in, types_of, within}
+use Rattle.dslx_rules.specs.ConstantRules.{ConstantSeen, bare_judged, constant_of, constant_or_bare, count_number, count_of, count_with, is_empty, names_a_local, over_size, value_if_typed}
+use Rattle.dslx_rules.specs.Judging.{ExprPair, Instance, Judgement, Known, Sight, all_alone, alone, bare_of, breaks, breaks_if, constant_env, faults_of_all, has_broken, no_token, one_and, plus_size, reached_of_all, settled, size_of_all, span_of, typed_in, types_of}
 use Rattle.dslx_rules.specs.Judgings.{FieldSeen, TypePair}
-use Rattle.dslx_rules.specs.Mentions.{AsEnum, AsStruct, AsType, Mention, is_cyclic, is_of_use, mention}
+use Rattle.dslx_rules.specs.Mentions.{AsType, is_cyclic, is_of_use}
 use Rattle.dslx_rules.specs.NameRules.{item_value, local_or_other, member_judged, member_of, name_judged, number_or_item, has_member}
 use Rattle.dslx_rules.specs.TypeRules.{inner_type, inner_types, named_type}
 use Rattle.dslx_judged.specs.Reached.{AllNamed}

@@ -17,7 +17,7 @@ use Rattle.dslx_meaning.specs.Items.{as_constant, as_enum, as_function, as_struc
 use Rattle.dslx_meaning.specs.Lists.{and_then}
 use Rattle.dslx_meaning.specs.declared.ty.DslxType.{DslxType}
 use Rattle.dslx_meaning.specs.declared.value.DslxValue.{DslxValue}
-use Rattle.dslx_rules.specs.ItemRules.{ConstantFound, Found, FunctionSeen, TypeFound, constant_seen, enum_member_value, function_seen, struct_seen}
+use Rattle.dslx_rules.specs.ItemRules.{ConstantFound, FunctionSeen, TypeFound, constant_seen, enum_member_value, function_seen, struct_seen}
 use Rattle.dslx_rules.specs.Judging.{Instance, Known}
 use Rattle.dslx_rules.specs.Mentions.{Use, AsValue, AsPattern, AsType, AsFunction, AsProc, AsEnum, AsStruct, Mention, definition_mentions, expr_if, field_names, fields_mentions, is_of_use, mentioned, mentioned_in_block, mentioned_in_type, mentions_of, names_meant, parameter_names, parameters_mentions, type_if}
 use Rattle.dslx_rules.specs.ModuleRules.{call_known, found_of_instance, found_of_item, known_over, known_within, size_known, type_known}
