@@ -1,11 +1,10 @@
 -- Where the items whose names pass are known, all are, with what is filled in for the others.
-use Rattle.std.proofs.Common.{◌≡◌, ◌&&◌, ◌<◌, ◌^◌, ◌%◌, ℕ, zero, suc, Bool, true, false, not, if◌then◌else◌, List, [], ◌∷◌, map, Option, Some, None, pred, arith, refl, sym, ap, subst, ◌∙◌}
+use Rattle.std.proofs.Common.{◌≡◌, ◌&&◌, ◌<◌, ◌^◌, ℕ, zero, suc, Bool, true, false, not, if◌then◌else◌, List, [], ◌∷◌, map, Option, Some, None, pred, arith, refl, sym, ap, subst, ◌∙◌}
 use mathlib.Core.Bool.{true≢false}
 use Rattle.std.specs.Prelude.{slice_get}
 use Rattle.std.specs.Str.{bytes_eq}
 use Rattle.std.specs.List.{list_all}
-use Rattle.std.proofs.lemmas.Bool.Decides.{Decides-ltb}
-use Rattle.std.proofs.lemmas.Nat.{mod_below, pow_pos}
+use Rattle.std.proofs.lemmas.Nat.{pow_pos}
 use Rattle.std.proofs.lemmas.Slice.Eq.{bytes_eq-Decides}
 use Rattle.xb_bits.specs.Word.{word}
 use Rattle.dslx_tree.specs.declared.expr.Expr.{Expr}
@@ -36,7 +35,7 @@ use Rattle.dslx_typed.specs.Declared.{AllDeclared, Declarations, IsDeclared}
 use Rattle.dslx_typed.specs.Given.{GivesOf, OwnTypes}
 use Rattle.dslx_typed.specs.Kinds.{is_of}
 use Rattle.dslx_typed.specs.Numbers.{FitNumbers, ParametersMean}
-use Rattle.dslx_typed.proofs.Lemmas.{bits_of_width, none_some, one_type, same_some}
+use Rattle.dslx_typed.proofs.Lemmas.{bits_of_width, lies, none_some, one_type, same_some}
 use Rattle.dslx_judged.proofs.Lemmas.{item_so_named}
 use Rattle.dslx_complete.specs.Standing.{AreTyped}
 use Rattle.dslx_known.specs.Filled.{constant_filler, filled, filler_struct, filler_type, member_filler, refused, struct_filler, zero_bits}
@@ -55,7 +54,7 @@ abbrev filler : ℕ → DslxType
 filler w = ty.Bits false w
 
 zero_of : (w : ℕ) → is_of (filler w) (zero_bits w) ≡ true
-zero_of w = bits_of_width false (word w 0) w refl ((Decides-ltb (0 % 2 ^ w) (2 ^ w)).1 (mod_below 0 (2 ^ w) (pow_pos w)))
+zero_of w = bits_of_width false (word w 0) w refl (lies (word w 0) (pow_pos w))
 
 bits_given : (types : Declarations) (w : ℕ) → GivesOf types (filler w) (Some (zero_bits w))
 bits_given types w = record { value = zero_bits w; is = refl; of = zero_of w; declared = bits_declared types false w }

@@ -2,3 +2,5 @@
 pub mod Declaring
 -- all items, with what is filled in
 pub mod Filling
+pub mod OnFilled
+pub mod Next
