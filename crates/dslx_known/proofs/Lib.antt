@@ -4,3 +4,4 @@ pub mod Declaring
 pub mod Filling
 pub mod OnFilled
 pub mod Next
+pub mod NextFunctions

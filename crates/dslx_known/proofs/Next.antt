@@ -51,7 +51,7 @@ EachItemFine m = (name : List ℕ) (x : Definition) → item_named name m.items 
 no_item_value : {A B : Type 0} (f : A → Option B) (o : Option A) (b : B) → o ≡ None → and_then o f ≡ Some b → ⊥
 no_item_value f o b e q = none_some b (sym (ap (λ x. and_then x f) e) ∙ q)
 
-constant_item : (o : Option Definition) → is_constant_item o ≡ true → (c : Constant) × (o ≡ Some (d.Constant c))
+pub constant_item : (o : Option Definition) → is_constant_item o ≡ true → (c : Constant) × (o ≡ Some (d.Constant c))
 constant_item (Some (d.Constant c)) e = (c, refl)
 constant_item (Some (d.Function f)) e = absurd (true≢false (sym e))
 constant_item (Some (d.Proc p)) e = absurd (true≢false (sym e))
@@ -60,7 +60,7 @@ constant_item (Some (d.Struct s)) e = absurd (true≢false (sym e))
 constant_item (Some (d.Enum n)) e = absurd (true≢false (sym e))
 constant_item None e = absurd (true≢false (sym e))
 
-struct_item : (o : Option Definition) (s : StructItem) → as_struct o ≡ Some s → o ≡ Some (d.Struct s)
+pub struct_item : (o : Option Definition) (s : StructItem) → as_struct o ≡ Some s → o ≡ Some (d.Struct s)
 struct_item (Some (d.Struct x)) s e = ap (λ y. Some (d.Struct y)) (same_some x s e)
 struct_item (Some (d.Alias x)) s e = none_some s e
 struct_item (Some (d.Enum x)) s e = none_some s e
@@ -69,7 +69,7 @@ struct_item (Some (d.Function x)) s e = none_some s e
 struct_item (Some (d.Proc x)) s e = none_some s e
 struct_item None s e = none_some s e
 
-enum_item : (o : Option Definition) (s : Enum) → as_enum o ≡ Some s → o ≡ Some (d.Enum s)
+pub enum_item : (o : Option Definition) (s : Enum) → as_enum o ≡ Some s → o ≡ Some (d.Enum s)
 enum_item (Some (d.Enum x)) s e = ap (λ y. Some (d.Enum y)) (same_some x s e)
 enum_item (Some (d.Alias x)) s e = none_some s e
 enum_item (Some (d.Struct x)) s e = none_some s e
@@ -138,16 +138,16 @@ module _ (m : Module) (free : HasNoCycle m) (plain : BindsNoConstant m) (fine : 
   abbrev next : ℕ → Declarations
   next w = (filled w Q K).items.type_named
 
-  complete : (w : ℕ) → IsComplete (F w)
+  pub complete : (w : ℕ) → IsComplete (F w)
   complete w = filled_complete w P K (stand w)
 
-  typed : (w : ℕ) → AreTyped (F w)
+  pub typed : (w : ℕ) → AreTyped (F w)
   typed w = filled_typed w P K (stand w)
 
   abbrev Own : List ℕ → Type 0
   Own home = list_all P (mentions_of m (item_named home m.items)) ≡ true
 
-  text : K.whole ≡ m
+  pub text : K.whole ≡ m
   text = whole_is m (length m.items)
 
   own : (name : List ℕ) → Q name ≡ true → Own name
@@ -156,20 +156,20 @@ module _ (m : Module) (free : HasNoCycle m) (plain : BindsNoConstant m) (fine : 
   own_of : (name : List ℕ) (x : Definition) → item_named name m.items ≡ Some x → Q name ≡ true → Own (name_of_definition x)
   own_of name x e q = of.own_again P m K (F 1) (passes_closed m k) (stage_filled m 1 k) plain name x e (own name q)
 
-  mentions : (name : List ℕ) (x : Definition) → item_named name m.items ≡ Some x → Q name ≡ true → list_all P (names_meant m (definition_mentions x)) ≡ true
+  pub mentions : (name : List ℕ) (x : Definition) → item_named name m.items ≡ Some x → Q name ≡ true → list_all P (names_meant m (definition_mentions x)) ≡ true
   mentions name x e q = of.own_mentions P m K (F 1) (passes_closed m k) (stage_filled m 1 k) plain name x e (own name q)
 
   -- longer chains say the same
-  settle : (u : Use) (name : List ℕ) → UseAlike K (known_over K) u name
+  pub settle : (u : Use) (name : List ℕ) → UseAlike K (known_over K) u name
   settle u name =
       let same : length m.items ≤ length m.items = omega arith in
       let more : length m.items ≤ suc (length m.items) = omega arith in
       uses_settle m free plain (length m.items) (suc (length m.items)) same more u name
 
-  named : (name : List ℕ) (x : Definition) → item_named name m.items ≡ Some x → item_named name K.whole.items ≡ Some x
+  pub named : (name : List ℕ) (x : Definition) → item_named name m.items ≡ Some x → item_named name K.whole.items ≡ Some x
   named name x e = (λ i. item_named name (text i).items) ∙ e
 
-  here : (name : List ℕ) (x : Definition) → item_named name K.whole.items ≡ Some x → item_named name m.items ≡ Some x
+  pub here : (name : List ℕ) (x : Definition) → item_named name K.whole.items ≡ Some x → item_named name m.items ≡ Some x
   here name x e = (λ i. item_named name (sym text i).items) ∙ e
 
   -- nothing is wrong with an item, with something else in the place of those that it doesn't mention
@@ -223,7 +223,7 @@ module _ (m : Module) (free : HasNoCycle m) (plain : BindsNoConstant m) (fine : 
 
   -- ---- what is declared with either in the place of the others is so by what passes
 
-  more : (name : List ℕ) → P name ≡ true → Q name ≡ true
+  pub more : (name : List ℕ) → P name ≡ true → Q name ≡ true
   more name p =
       let r = of.and_both (ends_within m k name) (not (of.is_proc_item (item_named name m.items))) p in
       λ i. longer m k name r.0 i && r.1 i
@@ -267,22 +267,22 @@ module _ (m : Module) (free : HasNoCycle m) (plain : BindsNoConstant m) (fine : 
       by_test true p = sym (pass (Q name) (K.items.type_named name) (filler_type w (item_at name)) (more name p)) ∙ pass (P name) (K.items.type_named name) (filler_type 1 (item_at name)) p ∙ e
       by_test false p = by_item (item_at name) refl (first p) (second p)
 
-  carry : (w : ℕ) (t : DslxType) → IsDeclared (types 1) t → IsDeclared (types 2) t → IsDeclared (next w) t
+  pub carry : (w : ℕ) (t : DslxType) → IsDeclared (types 1) t → IsDeclared (types 2) t → IsDeclared (next w) t
   carry w = declared_by_both (types 1) (types 2) (next w) (names_carry w)
 
-  all_carry : (w : ℕ) (ts : List DslxType) → AllDeclared (types 1) ts → AllDeclared (types 2) ts → AllDeclared (next w) ts
+  pub all_carry : (w : ℕ) (ts : List DslxType) → AllDeclared (types 1) ts → AllDeclared (types 2) ts → AllDeclared (next w) ts
   all_carry w [] a b = tt
   all_carry w (t ∷ ts) a b = (carry w t a.0 b.0, all_carry w ts a.1 b.1)
 
   -- ---- the item's own name
 
-  again : (name : List ℕ) (x : Definition) → item_named name m.items ≡ Some x → name_of_definition x ≡ name
+  pub again : (name : List ℕ) (x : Definition) → item_named name m.items ≡ Some x → name_of_definition x ≡ name
   again name x e = item_so_named m.items name x e
 
   next_type : (w : ℕ) (name : List ℕ) (t : DslxType) → Q name ≡ true → K.items.type_named name ≡ Some t → next w name ≡ Some t
   next_type w name t q e = sym (pass (Q name) (K.items.type_named name) (filler_type w (item_at name)) q) ∙ e
 
-  declared_next : (w : ℕ) (name : List ℕ) (t : DslxType) → Q name ≡ true → K.items.type_named name ≡ Some t → IsDeclared (next w) t
+  pub declared_next : (w : ℕ) (name : List ℕ) (t : DslxType) → Q name ≡ true → K.items.type_named name ≡ Some t → IsDeclared (next w) t
   declared_next w name t q e = by_item (item_named name m.items) refl
     where
       no_type : is_of_use AsType (item_named name m.items) ≡ false → IsDeclared (next w) t
@@ -308,7 +308,7 @@ module _ (m : Module) (free : HasNoCycle m) (plain : BindsNoConstant m) (fine : 
       by_item (Some (d.Proc x)) r = no_type (ap (is_of_use AsType) r)
       by_item None r = no_type (ap (is_of_use AsType) r)
 
-  type_next : (name : List ℕ) → Q name ≡ true → is_of_use AsType (item_named name m.items) ≡ true → (t : DslxType) × (K.items.type_named name ≡ Some t)
+  pub type_next : (name : List ℕ) → Q name ≡ true → is_of_use AsType (item_named name m.items) ≡ true → (t : DslxType) × (K.items.type_named name ≡ Some t)
   type_next name q u = by_item (item_named name m.items) refl u
     where
       by_item : (o : Option Definition) → item_named name m.items ≡ o → is_of_use AsType o ≡ true → (t : DslxType) × (K.items.type_named name ≡ Some t)
@@ -323,7 +323,7 @@ module _ (m : Module) (free : HasNoCycle m) (plain : BindsNoConstant m) (fine : 
   parts_of : (w : ℕ) (own : List ℕ) (fields : List (List ℕ)) (ts : List DslxType) → IsDeclared (types w) (ty.Struct own fields ts) → AllDeclared (types w) ts
   parts_of w own fields ts h = (complete w).parts.fields own own fields ts (struct_declared (types w) own fields ts h)
 
-  parts_next : (w : ℕ) (name own : List ℕ) (fields : List (List ℕ)) (ts : List DslxType) → Q name ≡ true → K.items.type_named name ≡ Some (ty.Struct own fields ts) → AllDeclared (next w) ts
+  pub parts_next : (w : ℕ) (name own : List ℕ) (fields : List (List ℕ)) (ts : List DslxType) → Q name ≡ true → K.items.type_named name ≡ Some (ty.Struct own fields ts) → AllDeclared (next w) ts
   parts_next w name own fields ts q e = by_item (item_named name m.items) refl
     where
       no_type : is_of_use AsType (item_named name m.items) ≡ false → AllDeclared (next w) ts
@@ -351,7 +351,7 @@ module _ (m : Module) (free : HasNoCycle m) (plain : BindsNoConstant m) (fine : 
       by_item (Some (d.Proc x)) r = no_type (ap (is_of_use AsType) r)
       by_item None r = no_type (ap (is_of_use AsType) r)
 
-  struct_next : (w : ℕ) (name : List ℕ) (s : StructItem) → Q name ≡ true → item_named name m.items ≡ Some (d.Struct s) → IsStructKnown (next w) s (K.items.struct_named name)
+  pub struct_next : (w : ℕ) (name : List ℕ) (s : StructItem) → Q name ≡ true → item_named name m.items ≡ Some (d.Struct s) → IsStructKnown (next w) s (K.items.struct_named name)
   struct_next w name s q e =
       let stands = struct_of 1 name s e q in
       let names = map name_of_field s.fields in
@@ -365,7 +365,7 @@ module _ (m : Module) (free : HasNoCycle m) (plain : BindsNoConstant m) (fine : 
         declared = declared_next w name (ty.Struct s.name.name names stands.fields) q (struct_type 1 name s e q);
       }
 
-  member_next : (w : ℕ) (name member : List ℕ) (x : Enum) (t : DslxType) → Q name ≡ true → item_named name m.items ≡ Some (d.Enum x) → has_member x member ≡ true → K.items.type_named name ≡ Some t
+  pub member_next : (w : ℕ) (name member : List ℕ) (x : Enum) (t : DslxType) → Q name ≡ true → item_named name m.items ≡ Some (d.Enum x) → has_member x member ≡ true → K.items.type_named name ≡ Some t
       → GivesOf (next w) t (K.items.member name member)
   member_next w name member x t q e h z =
       let stands = enum_of 1 name x e q in
@@ -380,7 +380,7 @@ module _ (m : Module) (free : HasNoCycle m) (plain : BindsNoConstant m) (fine : 
         declared = declared_next w name t q z;
       }
 
-  constant_next : (w : ℕ) (name : List ℕ) (c : Constant) → Q name ≡ true → item_named name m.items ≡ Some (d.Constant c)
+  pub constant_next : (w : ℕ) (name : List ℕ) (c : Constant) → Q name ≡ true → item_named name m.items ≡ Some (d.Constant c)
       → (v : DslxValue) × (K.items.constant name ≡ Some v) × GivesOf (next w) (type_of_value v) (Some v)
   constant_next w name c q e =
       let one = constant_of_name 1 name c e q in
