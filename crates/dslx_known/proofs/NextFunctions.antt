@@ -45,14 +45,22 @@ use Rattle.dslx_depends.proofs.Lemmas as of
 use Rattle.dslx_depends.proofs.Lemmas.{all_alike, meant_parts, passes, passes_closed, passes_next}
 use Rattle.dslx_complete.specs.Standing.{AreTyped, InstanceStands, IsFineFound, ParameterStands}
 use Rattle.dslx_complete.proofs.Lemmas.{inner_known, instance_stands, none_own, parameter_stands}
-use Rattle.dslx_known.specs.Filled.{filled, refused}
+use Rattle.dslx_known.specs.Filled.{filled}
 use Rattle.dslx_known.specs.Passing.{PassingStand}
 use Rattle.dslx_known.proofs.Next as of_next
 use Rattle.dslx_known.proofs.Next.{EachItemFine}
-use Rattle.dslx_known.proofs.OnFilled.{other, pass, stage_filled}
+use Rattle.dslx_known.proofs.OnFilled.{stage_filled}
+
+-- what is known of the text of an item, whatever it is that the text mentions
+pub record AlikeAt (home : List ℕ) (a b : Known) : Type 0 where
+  pub ty : (so_far : List Given) (t : TypeExpr) → a.type_in home so_far t ≡ b.type_in home so_far t
+  pub seen : (so_far : List Given) (t : TypeExpr) → a.type_seen_in home so_far [] t ≡ b.type_seen_in home so_far [] t
+  pub default : (so_far : List Given) (e : Expr) → a.default_in home so_far [] e ≡ b.default_in home so_far [] e
 
 module _ (m : Module) (free : HasNoCycle m) (plain : BindsNoConstant m) (fine : EachItemFine m) (k : ℕ) (stand : (w : ℕ) → PassingStand w (passes m k) (known_of m))
-    (w : ℕ) (name : List ℕ) (f : Function) (is : item_named name m.items ≡ Some (d.Function f)) (q : passes m (suc k) name ≡ true) where
+    (G : Known) (s : of.Stage (passes m (suc k)) m (known_of m) G)
+    (carry : (t : DslxType) → IsDeclared (filled 1 (passes m k) (known_of m)).items.type_named t → IsDeclared (filled 2 (passes m k) (known_of m)).items.type_named t → IsDeclared G.items.type_named t)
+    (name : List ℕ) (f : Function) (is : item_named name m.items ≡ Some (d.Function f)) (q : passes m (suc k) name ≡ true) (alike : AlikeAt f.name.name G (known_of m)) where
   abbrev K : Known
   K = known_of m
 
@@ -64,9 +72,6 @@ module _ (m : Module) (free : HasNoCycle m) (plain : BindsNoConstant m) (fine : 
 
   abbrev F : ℕ → Known
   F v = filled v P K
-
-  abbrev G : Known
-  G = filled w Q K
 
   abbrev types : ℕ → Declarations
   types v = (F v).items.type_named
@@ -82,9 +87,6 @@ module _ (m : Module) (free : HasNoCycle m) (plain : BindsNoConstant m) (fine : 
 
   typed : (v : ℕ) → AreTyped (F v)
   typed v = of_next.typed m free plain fine k stand v
-
-  carry : (t : DslxType) → IsDeclared (types 1) t → IsDeclared (types 2) t → IsDeclared next t
-  carry t = of_next.carry m free plain fine k stand w t
 
   more : (n : List ℕ) → P n ≡ true → Q n ≡ true
   more n p = of_next.more m free plain fine k stand n p
@@ -117,14 +119,14 @@ module _ (m : Module) (free : HasNoCycle m) (plain : BindsNoConstant m) (fine : 
   -- ---- types and defaults of number parameters
 
   shown : (so_far : List Given) (t : TypeExpr) → G.type_in home so_far t ≡ K.type_in home so_far t
-  shown so_far t = sym (pass (Q home) (K.type_in home so_far t) None home_in)
+  shown so_far t = alike.ty so_far t
 
   -- a part is judged with nothing wrong over either as it is by what passes
   fine_over : (v : ℕ) (j a b : Judgement) → j ≡ a → a ≡ b → AllNamed P a.reached → IsFine G j → IsFine (F v) b
   fine_over v j a b x y reached h = subst (IsFine (F v)) y (record {
     faults = ap (λ (c : Judgement). c.faults) (sym x) ∙ h.faults;
     reached = sym (all_alike P K.is_sound (F v).is_sound (stage_filled m v k).known.sound a.reached reached)
-        ∙ all_alike P K.is_sound G.is_sound (λ i p. (stage_filled m w (suc k)).known.sound i (more i.name p)) a.reached reached
+        ∙ all_alike P K.is_sound G.is_sound (λ i p. s.known.sound i (more i.name p)) a.reached reached
         ∙ ap (λ (c : Judgement). list_all G.is_sound c.reached) (sym x) ∙ h.reached;
   })
 
@@ -137,14 +139,14 @@ module _ (m : Module) (free : HasNoCycle m) (plain : BindsNoConstant m) (fine : 
   same_written : (names : List (List ℕ)) (bound : List Given) → AllGiven names bound → (t : TypeExpr) → Meant (mentioned_in_type t names) → written_type t (env_of G bound) ≡ written_type t (env_of (F 1) bound)
   same_written names bound given t h =
       sym (written_type_depends t names (env_of K bound) (env_of G bound) (given_agree K.items G.items names bound given)
-      (of.agreeing Q m K G (passes_closed m (suc k)) (stage_filled m w (suc k)) (mentioned_in_type t names) (wider (names_meant m (mentioned_in_type t names)) h) bound))
+      (of.agreeing Q m K G (passes_closed m (suc k)) s (mentioned_in_type t names) (wider (names_meant m (mentioned_in_type t names)) h) bound))
       ∙ written_type_depends t names (env_of K bound) (env_of (F 1) bound) (given_agree K.items (F 1).items names bound given)
       (of.agreeing P m K (F 1) (passes_closed m k) (stage_filled m 1 k) (mentioned_in_type t names) h bound)
 
   same_value : (names : List (List ℕ)) (bound : List Given) → AllGiven names bound → (e : Expr) → Meant (mentioned e names) → value_of e (env_of G bound) ≡ value_of e (env_of (F 1) bound)
   same_value names bound given e h =
       sym (value_depends e names (env_of K bound) (env_of G bound) (given_agree K.items G.items names bound given)
-      (of.agreeing Q m K G (passes_closed m (suc k)) (stage_filled m w (suc k)) (mentioned e names) (wider (names_meant m (mentioned e names)) h) bound))
+      (of.agreeing Q m K G (passes_closed m (suc k)) s (mentioned e names) (wider (names_meant m (mentioned e names)) h) bound))
       ∙ value_depends e names (env_of K bound) (env_of (F 1) bound) (given_agree K.items (F 1).items names bound given)
       (of.agreeing P m K (F 1) (passes_closed m k) (stage_filled m 1 k) (mentioned e names) h bound)
 
@@ -175,14 +177,11 @@ module _ (m : Module) (free : HasNoCycle m) (plain : BindsNoConstant m) (fine : 
   type_reached : (names : List (List ℕ)) (so_far : List Given) (t : TypeExpr) → Meant (mentioned_in_type t names) → AllNamed P (judged_inner (item_sight K home so_far) t).reached
   type_reached names so_far t h = written_type_reaches P t names (item_sight K home so_far) ((stage_filled m 1 k).reach (mentioned_in_type t names) h)
 
-  abbrev nothing_seen : DefaultSeen
-  nothing_seen = record { judgement = refused; value = None }
-
   shown_default : (so_far : List Given) (x : Expr) → G.default_in home so_far [] x ≡ K.default_in home so_far [] x
-  shown_default so_far x = sym (pass (Q home) (K.default_in home so_far [] x) nothing_seen home_in)
+  shown_default so_far x = alike.default so_far x
 
   shown_seen : (so_far : List Given) (t : TypeExpr) → G.type_seen_in home so_far [] t ≡ K.type_seen_in home so_far [] t
-  shown_seen so_far t = sym (pass (Q home) (K.type_seen_in home so_far [] t) refused home_in)
+  shown_seen so_far t = alike.seen so_far t
 
   default_reached_of : (names : List (List ℕ)) (p : Parameter) → Meant (expr_if p.default names) → (so_far : List Given) (x : Expr) → p.default ≡ Some x → AllNamed P (default_known K home so_far [] x).judgement.reached
   default_reached_of names p h so_far x e = default_reached P K p.default names ((stage_filled m 1 k).reach (expr_if p.default names) h) home so_far [] x e
@@ -349,7 +348,7 @@ module _ (m : Module) (free : HasNoCycle m) (plain : BindsNoConstant m) (fine : 
       let same : length m.items ≤ length m.items = omega arith in
       let longer : length m.items ≤ suc (length m.items) = omega arith in
       sym (of.instances_settle m free plain (length m.items) (suc (length m.items)) same longer (instance_of numbers) f (ap as_function home_named)).0
-      ∙ (λ i. (sym home_in i) && K.is_sound (instance_of numbers)) ∙ e
+      ∙ s.known.sound (instance_of numbers) home_in ∙ e
 
   instance_fine : (v : ℕ) (numbers : List DslxValue) → G.is_sound (instance_of numbers) ≡ true → IsFineFound (F v) (function_seen (F v) f numbers).found
   instance_fine v numbers e =
@@ -379,8 +378,8 @@ module _ (m : Module) (free : HasNoCycle m) (plain : BindsNoConstant m) (fine : 
       let inferred = inferred_from f.arguments (map type_of_value operands) in
       let ms = parameters_mentions f.parameters [] in
       let one = numbers_one K.items (F 1).items inferred [] [] tt f.parameters given (of.agreeing P m K (F 1) (passes_closed m k) (stage_filled m 1 k) ms parts.parameters) in
-      let two = numbers_one K.items G.items inferred [] [] tt f.parameters given (of.agreeing Q m K G (passes_closed m (suc k)) (stage_filled m w (suc k)) ms (wider (names_meant m ms) parts.parameters)) in
-      sym (pass (Q name) (K.items.call name given operands) None q)
+      let two = numbers_one K.items G.items inferred [] [] tt f.parameters given (of.agreeing Q m K G (passes_closed m (suc k)) s ms (wider (names_meant m ms) parts.parameters)) in
+      sym ((s.uses AsFunction name (λ e. q)).call given operands)
       ∙ (of_next.settle m free plain fine k stand AsFunction name).call given operands
       ∙ (over 1).call given operands
       ∙ ap (λ o. and_then (as_function o) (λ g. call_known (F 1) g given operands)) named
