@@ -39,17 +39,11 @@ use Rattle.dslx_depends.proofs.Lemmas.{Stage, all_alike, passes, passes_closed, 
 use Rattle.dslx_complete.specs.Standing.{AliasStands, AreTyped, ConstantStands, EnumStands, IsFineFound, MemberStands, StructStands}
 use Rattle.dslx_complete.proofs.Lemmas.{alias_stands, constant_stands, enum_stands, struct_stands}
 use Rattle.dslx_known.specs.Filled.{filled, filler_struct, filler_type}
+use Rattle.dslx_known.specs.Fine.{EachItemFine}
 use Rattle.dslx_known.specs.Passing.{PassingStand}
 use Rattle.dslx_known.proofs.Declaring.{DeclareNames, declared_by_both, named_enum, named_struct}
 use Rattle.dslx_known.proofs.Filling.{filled_complete, filled_typed}
 use Rattle.dslx_known.proofs.OnFilled.{other, pass, stage_filled}
-
--- nothing is wrong with any item outside instances
-abbrev pub EachItemFine : Module → Type 0
-EachItemFine m = (name : List ℕ) (x : Definition) → item_named name m.items ≡ Some x → IsFineFound (known_of m) (item_found (known_of m) x)
-
-no_item_value : {A B : Type 0} (f : A → Option B) (o : Option A) (b : B) → o ≡ None → and_then o f ≡ Some b → ⊥
-no_item_value f o b e q = none_some b (sym (ap (λ x. and_then x f) e) ∙ q)
 
 pub constant_item : (o : Option Definition) → is_constant_item o ≡ true → (c : Constant) × (o ≡ Some (d.Constant c))
 constant_item (Some (d.Constant c)) e = (c, refl)

@@ -46,9 +46,9 @@ use Rattle.dslx_depends.proofs.Lemmas.{all_alike, meant_parts, passes, passes_cl
 use Rattle.dslx_complete.specs.Standing.{AreTyped, InstanceStands, IsFineFound, ParameterStands}
 use Rattle.dslx_complete.proofs.Lemmas.{inner_known, instance_stands, none_own, parameter_stands}
 use Rattle.dslx_known.specs.Filled.{filled}
+use Rattle.dslx_known.specs.Fine.{EachItemFine}
 use Rattle.dslx_known.specs.Passing.{PassingStand}
 use Rattle.dslx_known.proofs.Next as of_next
-use Rattle.dslx_known.proofs.Next.{EachItemFine}
 use Rattle.dslx_known.proofs.OnFilled.{stage_filled}
 
 -- what is known of the text of an item, whatever it is that the text mentions

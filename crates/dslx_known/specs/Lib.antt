@@ -2,3 +2,5 @@
 pub mod Filled
 -- items that are known with all that they need
 pub mod Passing
+-- texts with whose constants and types nothing is wrong
+pub mod Fine
