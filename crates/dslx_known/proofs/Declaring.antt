@@ -1,5 +1,5 @@
 -- Types that are declared in two ways, whatever stands for some names.
-use Rattle.std.proofs.Common.{◌≡◌, ℕ, zero, suc, Bool, true, false, not, List, [], ◌∷◌, map, Option, Some, None, refl, sym, ap, subst, ◌∙◌}
+use Rattle.std.proofs.Common.{◌≡◌, ℕ, Bool, true, false, List, [], ◌∷◌, Option, Some, None, refl, sym, ap, ◌∙◌}
 use mathlib.Core.Bool.{true≢false}
 use Rattle.std.specs.Prelude.{unwrap_or}
 use Rattle.xb_value.proofs.Lemmas.Types.{EachHas}
@@ -10,7 +10,6 @@ use Rattle.dslx_meaning.specs.declared.ty.DslxType.TheVariants as rolls
 use Rattle.dslx_meaning.specs.declared.ty.DslxType.TheOpen.{DslxType-F}
 use Rattle.dslx_meaning.specs.declared.ty.DslxType.TheViews as views
 use Rattle.dslx_meaning.specs.declared.ty.DslxType.TheFolds.{fold-roll-DslxType}
-use Rattle.dslx_rules.specs.ConstantRules.{is_zero}
 use Rattle.dslx_typed.specs.Declared.{AllDeclared, Declarations, IsDeclared, as_declared, declared_step}
 use Rattle.dslx_typed.proofs.Lemmas.{array_declared, element_declared, parts_declared, struct_declared, tuple_declared, type_induction}
 

@@ -1,9 +1,8 @@
 -- Where the items whose names pass are known, all are, with what is filled in for the others.
-use Rattle.std.proofs.Common.{◌≡◌, ◌&&◌, ◌<◌, ◌^◌, ℕ, zero, suc, Bool, true, false, not, if◌then◌else◌, List, [], ◌∷◌, map, Option, Some, None, pred, arith, refl, sym, ap, subst, ◌∙◌}
+use Rattle.std.proofs.Common.{◌≡◌, ◌&&◌, ℕ, zero, suc, Bool, true, false, if◌then◌else◌, List, [], ◌∷◌, map, Option, Some, None, pred, arith, refl, sym, ap, subst, ◌∙◌}
 use mathlib.Core.Bool.{true≢false}
 use Rattle.std.specs.Prelude.{slice_get}
 use Rattle.std.specs.Str.{bytes_eq}
-use Rattle.std.specs.List.{list_all}
 use Rattle.std.proofs.lemmas.Nat.{pow_pos}
 use Rattle.std.proofs.lemmas.Slice.Eq.{bytes_eq-Decides}
 use Rattle.xb_bits.specs.Word.{word}
@@ -16,7 +15,7 @@ use Rattle.dslx_tree.specs.declared.item.Function.{Function}
 use Rattle.dslx_tree.specs.declared.item.Parameter.{Parameter}
 use Rattle.dslx_tree.specs.declared.item.Struct.{Struct as StructItem}
 use Rattle.dslx_meaning.specs.Environment.{Given, Meanings}
-use Rattle.dslx_meaning.specs.Items.{as_enum, as_function, as_struct, is_constant_item, item_named, name_of_definition, name_of_field, numbers_bound, with_number}
+use Rattle.dslx_meaning.specs.Items.{as_enum, as_function, as_struct, is_constant_item, item_named, name_of_field, numbers_bound}
 use Rattle.dslx_meaning.specs.Lists.{and_then, place_in}
 use Rattle.dslx_meaning.specs.Types.{is_unit}
 use Rattle.dslx_meaning.specs.Values.{type_of_value}
@@ -25,18 +24,17 @@ use Rattle.dslx_meaning.specs.declared.ty.DslxType as ty
 use Rattle.dslx_meaning.specs.declared.ty.DslxType.TheOpen.{DslxType-F}
 use Rattle.dslx_meaning.specs.declared.ty.DslxType.TheViews as views
 use Rattle.dslx_meaning.specs.declared.value.DslxValue.{DslxValue}
-use Rattle.dslx_meaning.specs.declared.value.DslxValue as value
 use Rattle.dslx_rules.specs.CallRules.{declared_type}
-use Rattle.dslx_rules.specs.Judging.{DefaultSeen, Instance, Judgement, Known}
+use Rattle.dslx_rules.specs.Judging.{DefaultSeen, Judgement, Known}
 use Rattle.dslx_rules.specs.Mentions.{AsType, is_of_use}
 use Rattle.dslx_rules.specs.NameRules.{has_member}
-use Rattle.dslx_typed.specs.Complete.{EachArgumentDeclared, EachParameterKnown, IsCallable, IsComplete, IsFine, IsFunctionKnown, IsStructKnown}
+use Rattle.dslx_typed.specs.Complete.{EachArgumentDeclared, EachParameterKnown, IsComplete, IsFunctionKnown, IsStructKnown}
 use Rattle.dslx_typed.specs.Declared.{AllDeclared, Declarations, IsDeclared}
 use Rattle.dslx_typed.specs.Given.{GivesOf, OwnTypes}
 use Rattle.dslx_typed.specs.Kinds.{is_of}
-use Rattle.dslx_typed.specs.Numbers.{FitNumbers, ParametersMean}
+use Rattle.dslx_typed.specs.Numbers.{ParametersMean}
 use Rattle.dslx_typed.proofs.Lemmas.{bits_of_width, lies, none_some, one_type, same_some}
-use Rattle.dslx_judged.proofs.Lemmas.{item_so_named}
+use Rattle.dslx_judged.proofs.Lemmas.{function_is, item_so_named}
 use Rattle.dslx_complete.specs.Standing.{AreTyped}
 use Rattle.dslx_known.specs.Filled.{constant_filler, filled, filler_struct, filler_type, member_filler, refused, struct_filler, zero_bits}
 use Rattle.dslx_tree.specs.declared.type_expr.TypeExpr.{TypeExpr}
@@ -47,6 +45,15 @@ use Rattle.dslx_known.proofs.Declaring.{bits_declared, named_struct}
 abbrev there : {A : Type 0} → Option A → Bool
 there None = false
 there (Some a) = true
+
+pub struct_item : (o : Option Definition) (s : StructItem) → as_struct o ≡ Some s → o ≡ Some (d.Struct s)
+struct_item (Some (d.Struct x)) s e = ap (λ y. Some (d.Struct y)) (same_some x s e)
+struct_item (Some (d.Alias x)) s e = none_some s e
+struct_item (Some (d.Enum x)) s e = none_some s e
+struct_item (Some (d.Constant x)) s e = none_some s e
+struct_item (Some (d.Function x)) s e = none_some s e
+struct_item (Some (d.Proc x)) s e = none_some s e
+struct_item None s e = none_some s e
 
 -- ---- fillers
 
@@ -301,15 +308,6 @@ module _ (w : ℕ) (P : List ℕ → Bool) (known : Known) where
         by_test true p = h.parts name own fields ts p (sym (passed name (known.items.type_named name) (filler_type w (item_of name)) p) ∙ e)
         by_test false p = filler_parts own fields ts (item_of name) (sym (other name (known.items.type_named name) (filler_type w (item_of name)) p) ∙ e)
 
-    struct_item : (o : Option Definition) (s : StructItem) → as_struct o ≡ Some s → o ≡ Some (d.Struct s)
-    struct_item (Some (d.Struct x)) s e = ap (λ y. Some (d.Struct y)) (same_some x s e)
-    struct_item (Some (d.Alias x)) s e = none_some s e
-    struct_item (Some (d.Enum x)) s e = none_some s e
-    struct_item (Some (d.Constant x)) s e = none_some s e
-    struct_item (Some (d.Function x)) s e = none_some s e
-    struct_item (Some (d.Proc x)) s e = none_some s e
-    struct_item None s e = none_some s e
-
     struct_there : (name : List ℕ) (s : StructItem) → as_struct (item_of name) ≡ Some s → IsStructKnown types s (F.items.struct_named name)
     struct_there name s e = by_test (P name) refl
       where
@@ -327,21 +325,12 @@ module _ (w : ℕ) (P : List ℕ → Bool) (known : Known) where
               declared = named_struct types s.name.name (map name_of_field s.fields) (map (λ (f : Field). filler w) s.fields) (struct_filled name s p q);
             }
 
-    function_item : (o : Option Definition) (f : Function) → as_function o ≡ Some f → o ≡ Some (d.Function f)
-    function_item (Some (d.Function x)) f e = ap (λ y. Some (d.Function y)) (same_some x f e)
-    function_item (Some (d.Struct x)) f e = none_some f e
-    function_item (Some (d.Alias x)) f e = none_some f e
-    function_item (Some (d.Enum x)) f e = none_some f e
-    function_item (Some (d.Constant x)) f e = none_some f e
-    function_item (Some (d.Proc x)) f e = none_some f e
-    function_item None f e = none_some f e
-
     function_there : (name : List ℕ) (f : Function) → as_function (item_of name) ≡ Some f → IsFunctionKnown F name f
     function_there name f e = by_test (P name) refl
       where
         by_test : (b : Bool) → P name ≡ b → IsFunctionKnown F name f
         by_test true p = h.functions name f p e
-        by_test false p = function_filled name f p (function_item (item_of name) f e)
+        by_test false p = function_filled name f p (function_is (item_of name) f e)
 
     pub filled_complete : IsComplete F
     filled_complete = record {

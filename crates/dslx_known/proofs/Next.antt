@@ -1,5 +1,5 @@
 -- One item more on chains: what is known of it, where all that it mentions is known.
-use Rattle.std.proofs.Common.{◌≡◌, ◌&&◌, ◌≤◌, ℕ, zero, suc, Bool, true, false, not, if◌then◌else◌, List, [], ◌∷◌, map, length, Option, Some, None, arith, refl, sym, ap, subst, ◌∙◌}
+use Rattle.std.proofs.Common.{◌≡◌, ◌&&◌, ◌≤◌, ℕ, suc, Bool, true, false, not, List, [], ◌∷◌, map, length, Option, Some, None, arith, refl, sym, ap, subst, ◌∙◌}
 use mathlib.Core.Bool.{true≢false}
 use Rattle.std.specs.List.{list_all}
 use Rattle.dslx_tree.specs.declared.item.Alias.{Alias}
@@ -8,7 +8,6 @@ use Rattle.dslx_tree.specs.declared.item.Definition.{Definition}
 use Rattle.dslx_tree.specs.declared.item.Definition.TheVariants as d
 use Rattle.dslx_tree.specs.declared.item.Enum.{Enum}
 use Rattle.dslx_tree.specs.declared.item.Field.{Field}
-use Rattle.dslx_tree.specs.declared.item.Function.{Function}
 use Rattle.dslx_tree.specs.declared.item.Module.{Module}
 use Rattle.dslx_tree.specs.declared.item.Struct.{Struct as StructItem}
 use Rattle.dslx_meaning.specs.Items.{as_constant, as_enum, as_struct, is_constant_item, item_named, member_named, name_of_definition, name_of_field}
@@ -19,10 +18,10 @@ use Rattle.dslx_meaning.specs.declared.ty.DslxType as ty
 use Rattle.dslx_meaning.specs.declared.ty.DslxType.TheOpen.{DslxType-F}
 use Rattle.dslx_meaning.specs.declared.ty.DslxType.TheViews as views
 use Rattle.dslx_meaning.specs.declared.value.DslxValue.{DslxValue}
-use Rattle.dslx_rules.specs.ItemRules.{ConstantFound, Found, TypeFound, alias_seen, constant_seen, enum_member_value, enum_seen, struct_seen}
+use Rattle.dslx_rules.specs.ItemRules.{ConstantFound, TypeFound, alias_seen, constant_seen, enum_member_value, enum_seen, struct_seen}
 use Rattle.dslx_rules.specs.Judging.{Known}
 use Rattle.dslx_rules.specs.Mentions.{AsEnum, AsStruct, AsType, AsValue, Use, definition_mentions, is_of_use, mentions_of, names_meant}
-use Rattle.dslx_rules.specs.ModuleRules.{item_found, known_of, known_over, known_within, type_known}
+use Rattle.dslx_rules.specs.ModuleRules.{item_found, known_of, known_over, type_known}
 use Rattle.dslx_rules.specs.NameRules.{has_member}
 use Rattle.dslx_typed.specs.Complete.{IsComplete, IsStructKnown}
 use Rattle.dslx_typed.specs.Declared.{AllDeclared, Declarations, IsDeclared}
@@ -36,7 +35,7 @@ use Rattle.dslx_depends.specs.Alike.{UseAlike}
 use Rattle.dslx_depends.specs.Settled.{BindsNoConstant}
 use Rattle.dslx_depends.proofs.Lemmas as of
 use Rattle.dslx_depends.proofs.Lemmas.{Stage, all_alike, passes, passes_closed, passes_next, uses_settle}
-use Rattle.dslx_complete.specs.Standing.{AliasStands, AreTyped, ConstantStands, EnumStands, IsFineFound, MemberStands, StructStands}
+use Rattle.dslx_complete.specs.Standing.{AliasStands, AreTyped, ConstantStands, EnumStands, IsFineFound, StructStands}
 use Rattle.dslx_complete.proofs.Lemmas.{alias_stands, constant_stands, enum_stands, struct_stands}
 use Rattle.dslx_known.specs.Filled.{filled, filler_struct, filler_type}
 use Rattle.dslx_known.specs.Fine.{EachItemFine}
@@ -53,15 +52,6 @@ constant_item (Some (d.Alias a)) e = absurd (true≢false (sym e))
 constant_item (Some (d.Struct s)) e = absurd (true≢false (sym e))
 constant_item (Some (d.Enum n)) e = absurd (true≢false (sym e))
 constant_item None e = absurd (true≢false (sym e))
-
-pub struct_item : (o : Option Definition) (s : StructItem) → as_struct o ≡ Some s → o ≡ Some (d.Struct s)
-struct_item (Some (d.Struct x)) s e = ap (λ y. Some (d.Struct y)) (same_some x s e)
-struct_item (Some (d.Alias x)) s e = none_some s e
-struct_item (Some (d.Enum x)) s e = none_some s e
-struct_item (Some (d.Constant x)) s e = none_some s e
-struct_item (Some (d.Function x)) s e = none_some s e
-struct_item (Some (d.Proc x)) s e = none_some s e
-struct_item None s e = none_some s e
 
 pub enum_item : (o : Option Definition) (s : Enum) → as_enum o ≡ Some s → o ≡ Some (d.Enum s)
 enum_item (Some (d.Enum x)) s e = ap (λ y. Some (d.Enum y)) (same_some x s e)
@@ -109,6 +99,7 @@ no_field s t e q =
     by_fields : (fs : List Field) → map (λ (f : Field). ty.Bits false 1) fs ≡ map (λ (f : Field). ty.Bits false 2) fs → fs ≡ []
     by_fields [] h = refl
     by_fields (f ∷ fs) h = absurd (apart (sym (ap width_in (views.outs-Bits false 1)) ∙ ap first_width h ∙ ap width_in (views.outs-Bits false 2)))
+
 none_own : (fs : List Field) (ts : List DslxType) → fs ≡ [] → OwnTypes (map name_of_field fs) ts (map name_of_field fs) ts → ts ≡ []
 none_own fs [] e h = refl
 none_own fs (t ∷ ts) e h = absurd (subst (λ (xs : List Field). OwnTypes (map name_of_field xs) (t ∷ ts) (map name_of_field xs) (t ∷ ts)) e h)
@@ -379,8 +370,7 @@ module _ (m : Module) (free : HasNoCycle m) (plain : BindsNoConstant m) (fine : 
   constant_next w name c q e =
       let one = constant_of_name 1 name c e q in
       let two = constant_of_name 2 name c e q in
-      let same = same_some two.value one.value (sym two.is ∙ ap (λ (x : ConstantFound). x.value) (sym (constant_same 2 name c e q) ∙ constant_same 1 name c e q) ∙ one.is) in
-      (
+      let same = same_some two.value one.value (sym two.is ∙ ap (λ (x : ConstantFound). x.value) (sym (constant_same 2 name c e q) ∙ constant_same 1 name c e q) ∙ one.is) in (
         one.value,
         settle AsValue name ∙ ap (λ o. and_then (as_constant o) (λ y. (constant_seen K y).value)) (named name (d.Constant c) e) ∙ ap (λ (x : ConstantFound). x.value) (constant_same 1 name c e q) ∙ one.is,
         record {

@@ -1,10 +1,8 @@
 -- One function more on chains: what is known of it, where all that it mentions is known.
-use Rattle.std.proofs.Common.{◌≡◌, ◌&&◌, ◌≤◌, ℕ, zero, suc, Bool, true, false, not, if◌then◌else◌, List, [], ◌∷◌, ◌++◌, map, length, Option, Some, None, arith, refl, sym, ap, subst, ◌∙◌}
+use Rattle.std.proofs.Common.{◌≡◌, ◌≤◌, ℕ, suc, Bool, true, false, if◌then◌else◌, List, [], ◌∷◌, ◌++◌, map, length, Option, Some, None, arith, refl, sym, ap, subst, ◌∙◌}
 use mathlib.Core.Bool.{true≢false}
 use Rattle.std.specs.List.{list_all}
-use Rattle.xb_span.specs.declared.fault.Fault.{Fault}
 use Rattle.dslx_tree.specs.declared.expr.Expr.{Expr}
-use Rattle.dslx_tree.specs.declared.item.Definition.{Definition}
 use Rattle.dslx_tree.specs.declared.item.Definition.TheVariants as d
 use Rattle.dslx_tree.specs.declared.item.Field.{Field}
 use Rattle.dslx_tree.specs.declared.item.Function.{Function}
@@ -12,8 +10,7 @@ use Rattle.dslx_tree.specs.declared.item.Module.{Module}
 use Rattle.dslx_tree.specs.declared.item.Parameter.{Parameter}
 use Rattle.dslx_tree.specs.declared.type_expr.TypeExpr.{TypeExpr}
 use Rattle.dslx_meaning.specs.Environment.{Env, Given}
-use Rattle.dslx_meaning.specs.Items.{all_numbers, as_function, function_value, inferred_from, item_named, name_of_definition, numbers_bound, with_number}
-use Rattle.dslx_meaning.specs.Inference.{Inferred}
+use Rattle.dslx_meaning.specs.Items.{all_numbers, as_function, function_value, inferred_from, item_named, numbers_bound, with_number}
 use Rattle.dslx_meaning.specs.Lists.{and_then, where_true}
 use Rattle.dslx_meaning.specs.Meaning.{value_of, written_type}
 use Rattle.dslx_meaning.specs.Types.{is_unit}
@@ -22,12 +19,11 @@ use Rattle.dslx_meaning.specs.declared.ty.DslxType.{DslxType}
 use Rattle.dslx_meaning.specs.declared.value.DslxValue.{DslxValue}
 use Rattle.dslx_rules.specs.CallRules.{declared_type, result_type}
 use Rattle.dslx_rules.specs.ConstantRules.{is_empty}
-use Rattle.dslx_rules.specs.ItemRules.{Found, arguments_found, body_judged, arguments_typed, function_seen, function_sight, item_sight, judged_inner, judged_type, parameters_found, result_judged}
-use Rattle.dslx_rules.specs.Judging.{DefaultSeen, Instance, Judgement, Known, Sight}
-use Rattle.dslx_rules.specs.Mentions.{AsFunction, Mention, expr_if, fields_mentions, mentioned, mentioned_in_type, names_meant, parameter_names, parameters_mentions}
+use Rattle.dslx_rules.specs.ItemRules.{arguments_found, body_judged, arguments_typed, function_seen, function_sight, item_sight, judged_inner, parameters_found, result_judged}
+use Rattle.dslx_rules.specs.Judging.{DefaultSeen, Instance, Judgement, Known}
+use Rattle.dslx_rules.specs.Mentions.{AsFunction, Mention, expr_if, mentioned, mentioned_in_type, names_meant, parameters_mentions}
 use Rattle.dslx_rules.specs.ModuleRules.{call_known, default_known, found_of_instance, found_of_item, known_of, known_over, sound_instance}
 use Rattle.dslx_rules.specs.NameRules.{local_name}
-use Rattle.dslx_rules.specs.NodeRules.{type_pair}
 use Rattle.dslx_laws.specs.Recursion.{HasNoCycle}
 use Rattle.dslx_laws.proofs.Lemmas.{AllGiven, given_agree, given_here, given_more, numbers_one, value_depends, written_type_depends}
 use Rattle.dslx_typed.specs.Complete.{EachArgumentDeclared, EachParameterKnown, FitArguments, IsCallable, IsComplete, IsDefaultKnown, IsFine, IsFunctionKnown, IsParameterKnown}
@@ -35,7 +31,7 @@ use Rattle.dslx_typed.specs.Declared.{Declarations, IsDeclared}
 use Rattle.dslx_typed.specs.Given.{GivesOf}
 use Rattle.dslx_typed.specs.Numbers.{AllOwn, AreOwn, FitNumbers, ParameterMeans, ParametersMean}
 use Rattle.dslx_typed.specs.WellTyped.{AreOperandsOf}
-use Rattle.dslx_typed.proofs.Lemmas.{declared_is, none_some, own_bound, own_more, own_value, same_some}
+use Rattle.dslx_typed.proofs.Lemmas.{declared_is, own_bound, own_more, own_value, same_some}
 use Rattle.dslx_sound.proofs.Lemmas.{all_in, none_in}
 use Rattle.dslx_judged.specs.Reached.{AllNamed}
 use Rattle.dslx_judged.proofs.Lemmas.{all_weaker, default_reached, written_type_reaches}
@@ -43,7 +39,7 @@ use Rattle.dslx_depends.specs.Alike.{CalleeAlike, EachArgumentAlike, EachParamet
 use Rattle.dslx_depends.specs.Settled.{BindsNoConstant}
 use Rattle.dslx_depends.proofs.Lemmas as of
 use Rattle.dslx_depends.proofs.Lemmas.{all_alike, meant_parts, passes, passes_closed, passes_next}
-use Rattle.dslx_complete.specs.Standing.{AreTyped, InstanceStands, IsFineFound, ParameterStands}
+use Rattle.dslx_complete.specs.Standing.{AreTyped, IsFineFound, ParameterStands}
 use Rattle.dslx_complete.proofs.Lemmas.{inner_known, instance_stands, none_own, parameter_stands}
 use Rattle.dslx_known.specs.Filled.{filled}
 use Rattle.dslx_known.specs.Fine.{EachItemFine}
@@ -240,7 +236,7 @@ module _ (m : Module) (free : HasNoCycle m) (plain : BindsNoConstant m) (fine : 
         declared = λ t e. carry t (declared_one 1 so_far p t own.0 (a.0.0.ty so_far) (a.1.0.ty so_far) e).1 (declared_one 2 so_far p t own.1 (a.0.0.ty so_far) (a.2.0.ty so_far) e).1;
         typed = λ z.
             let r = first.typed so_far own.0 (fine_over 1 (G.type_seen_in home so_far [] p.ty) (judged_inner (item_sight K home so_far) p.ty) (judged_inner (item_sight (F 1) home so_far) p.ty)
-                (shown_seen so_far p.ty ∙ a.0.0.seen so_far []) (a.1.0.seen so_far []) (type_reached names so_far p.ty both.0) z) in
+            (shown_seen so_far p.ty ∙ a.0.0.seen so_far []) (a.1.0.seen so_far []) (type_reached names so_far p.ty both.0) z) in
             (r.0, shown so_far p.ty ∙ a.0.0.ty so_far ∙ a.1.0.ty so_far ∙ r.1, r.2);
         default = λ x e z.
             let seen = λ (c : DefaultSeen). c.judgement in
@@ -256,7 +252,7 @@ module _ (m : Module) (free : HasNoCycle m) (plain : BindsNoConstant m) (fine : 
   numbers_known names so_far given own (p ∷ ps) a h =
       let it = one_known names so_far given own p ps a h in
       let rest = λ (t : DslxType) (x : DslxValue) (e : declared_type G home so_far p.ty ≡ Some t) (g : GivesOf next t (Some x)).
-          numbers_known (p.name.name ∷ names) (with_number so_far p x) ((x, given_here p.name.name x so_far), given_more names p.name.name x so_far given) (behind so_far p ps t x a own e g) ps (a.0.1, a.1.1, a.2.1) (front names p ps h).1 in
+      numbers_known (p.name.name ∷ names) (with_number so_far p x) ((x, given_here p.name.name x so_far), given_more names p.name.name x so_far given) (behind so_far p ps t x a own e g) ps (a.0.1, a.1.1, a.2.1) (front names p ps h).1 in
       ((it.0, λ t x e g. (rest t x e g).0), (it.1, λ t x e g. (rest t x e g).1))
 
   own_both : (so_far : List Given) → Bound so_far → (ps : List Parameter) → OverAlike ps → (numbers : List DslxValue) → FitNumbers G home so_far ps numbers → AllOwn (types 1) numbers × AllOwn (types 2) numbers

@@ -9,13 +9,13 @@ use Rattle.dslx_tree.specs.declared.item.Module.{Module}
 use Rattle.dslx_tree.specs.declared.item.Parameter.{Parameter}
 use Rattle.dslx_tree.specs.declared.type_expr.TypeExpr.{TypeExpr}
 use Rattle.dslx_meaning.specs.Environment.{Given}
-use Rattle.dslx_meaning.specs.Items.{as_enum, as_function, item_named}
+use Rattle.dslx_meaning.specs.Items.{item_named}
 use Rattle.dslx_rules.specs.CallRules.{result_type}
 use Rattle.dslx_rules.specs.Judging.{DefaultSeen, Known}
 use Rattle.dslx_rules.specs.Mentions.{Use, AsValue, AsPattern, AsType, AsFunction, AsProc, AsEnum, AsStruct, is_of_use}
 use Rattle.dslx_rules.specs.ModuleRules.{known_of}
 use Rattle.dslx_judged.proofs.Lemmas.{function_is, instances_reach, item_so_named, meant_reach, whole_is}
-use Rattle.dslx_depends.specs.Alike.{CalleeAlike, EachArgumentAlike, EachParameterAlike, EnumAlike, FunctionAlike, UseAlike}
+use Rattle.dslx_depends.specs.Alike.{EachArgumentAlike, EachParameterAlike, FunctionAlike, UseAlike}
 use Rattle.dslx_depends.proofs.Lemmas.{Stage, call_unknown, constant_unknown, member_unknown, no_enum, no_function, passes, passes_closed, pattern_use, struct_unknown, type_unknown}
 use Rattle.dslx_known.specs.Filled.{constant_filler, filled, filler_type, member_filler, refused, struct_filler}
 

@@ -1,24 +1,20 @@
 -- All items of a text are known: the induction on chains of items.
-use Rattle.std.proofs.Common.{◌≡◌, ◌&&◌, ◌≤◌, ℕ, zero, suc, Bool, true, false, not, if◌then◌else◌, List, [], ◌∷◌, map, length, Option, Some, None, arith, refl, sym, ap, subst, ◌∙◌}
+use Rattle.std.proofs.Common.{◌≡◌, ℕ, zero, suc, Bool, true, false, List, [], ◌∷◌, length, Option, Some, None, refl, sym, ap, subst, ◌∙◌}
 use mathlib.Core.Bool.{true≢false}
 use Rattle.dslx_tree.specs.declared.item.Definition.{Definition}
 use Rattle.dslx_tree.specs.declared.item.Definition.TheVariants as d
-use Rattle.dslx_tree.specs.declared.item.Enum.{Enum}
 use Rattle.dslx_tree.specs.declared.item.Field.{Field}
-use Rattle.dslx_tree.specs.declared.item.Function.{Function}
 use Rattle.dslx_tree.specs.declared.item.Module.{Module}
 use Rattle.dslx_tree.specs.declared.item.Parameter.{Parameter}
-use Rattle.dslx_tree.specs.declared.item.Struct.{Struct as StructItem}
 use Rattle.dslx_meaning.specs.Items.{as_enum, as_function, as_struct, is_constant_item, item_named}
 use Rattle.dslx_meaning.specs.Values.{type_of_value}
 use Rattle.dslx_meaning.specs.declared.ty.DslxType.{DslxType, Struct}
 use Rattle.dslx_meaning.specs.declared.value.DslxValue.{DslxValue}
-use Rattle.dslx_rules.specs.Judging.{DefaultSeen, Known}
+use Rattle.dslx_rules.specs.Judging.{Known}
 use Rattle.dslx_rules.specs.Mentions.{Use, AsValue, AsPattern, AsType, AsFunction, AsProc, AsEnum, AsStruct, is_of_use}
 use Rattle.dslx_rules.specs.ModuleRules.{known_of, known_within}
-use Rattle.dslx_rules.specs.NameRules.{has_member}
 use Rattle.dslx_laws.specs.Recursion.{HasNoCycle}
-use Rattle.dslx_typed.specs.Complete.{IsComplete, IsStructKnown}
+use Rattle.dslx_typed.specs.Complete.{IsComplete}
 use Rattle.dslx_typed.specs.Declared.{AllDeclared, Declarations, IsDeclared}
 use Rattle.dslx_typed.specs.Given.{GivesOf}
 use Rattle.dslx_typed.proofs.Lemmas.{none_some, same_some}
@@ -32,8 +28,9 @@ use Rattle.dslx_complete.proofs.Lemmas.{declared_stays, gives_still}
 use Rattle.dslx_known.specs.Filled.{filled, filler_type, refused}
 use Rattle.dslx_known.specs.Fine.{EachItemFine}
 use Rattle.dslx_known.specs.Passing.{PassingStand}
+use Rattle.dslx_known.proofs.Filling.{struct_item}
 use Rattle.dslx_known.proofs.Next as of_next
-use Rattle.dslx_known.proofs.Next.{constant_item, enum_item, struct_item}
+use Rattle.dslx_known.proofs.Next.{constant_item, enum_item}
 use Rattle.dslx_known.proofs.NextFunctions.{AlikeAt, function_next}
 use Rattle.dslx_known.proofs.OnFilled.{other, pass, stage_filled}
 

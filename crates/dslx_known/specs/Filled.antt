@@ -10,7 +10,7 @@ use Rattle.dslx_meaning.specs.declared.ty.DslxType.{DslxType, Bits, Struct}
 use Rattle.dslx_meaning.specs.declared.value.DslxValue.{DslxValue}
 use Rattle.dslx_meaning.specs.declared.value.DslxValue as value
 use Rattle.dslx_rules.specs.ConstantRules.{bare_judged}
-use Rattle.dslx_rules.specs.Judging.{Instance, Judgement, Known, breaks}
+use Rattle.dslx_rules.specs.Judging.{Judgement, Known, breaks}
 use Rattle.dslx_rules.specs.ModuleRules.{nowhere}
 
 -- a struct whose fields are bits of one width
