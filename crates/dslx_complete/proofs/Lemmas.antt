@@ -1,0 +1,7 @@
+-- The laws of this crate as lemmas. This module is for other crates' proofs; nothing else of this folder is.
+pub use Rattle.dslx_complete.proofs.OfConstants.{alias_stands, constant_stands, inner_known, parameter_stands}
+pub use Rattle.dslx_complete.proofs.OfEnums.{enum_stands}
+pub use Rattle.dslx_complete.proofs.OfInstances.{instance_stands}
+pub use Rattle.dslx_complete.proofs.OfStructs.{struct_stands}
+pub use Rattle.dslx_complete.proofs.OfTypes.{declared_stays, gives_still, own_numbers}
+pub use Rattle.dslx_complete.proofs.Places.{none_own}
