@@ -287,7 +287,7 @@ inferred_one x y names bound given p (Some n) t h =
     ap (λ o. and_then o (λ u. number_value u (record { is_negative = false; value = n })))
     (written_type_depends p.ty names (within_items x bound) (within_items y bound) (given_agree x y names bound given) (t bound))
 
-pub numbers_one : (x y : Meanings) (inferred : List Inferred) (names : List (List ℕ)) (bound : List Given) → AllGiven names bound → (ps : List Parameter) (vs : List DslxValue)
+numbers_one : (x y : Meanings) (inferred : List Inferred) (names : List (List ℕ)) (bound : List Given) → AllGiven names bound → (ps : List Parameter) (vs : List DslxValue)
     → Agreeing x y (parameters_mentions ps names) → i.all_numbers x inferred bound ps vs ≡ i.all_numbers y inferred bound ps vs
 numbers_one x y inferred names bound given [] [] h = refl
 numbers_one x y inferred names bound given [] (v ∷ vs) h = refl
@@ -306,7 +306,7 @@ numbers_one x y inferred names bound given (p ∷ ps) [] h =
     ((v, given_here p.name.name v bound), given_more names p.name.name v bound given) ps [] (lasts_agree x y (typed ++ default) behind h) j))
 
 -- all numbers are as many as the parameters
-abbrev pub IfAsMany : List Parameter → Option (List DslxValue) → Type 0
+abbrev IfAsMany : List Parameter → Option (List DslxValue) → Type 0
 IfAsMany ps None = Unit {0}
 IfAsMany ps (Some vs) = AsMany ps vs
 
@@ -314,7 +314,7 @@ put_many : (p : Parameter) (ps : List Parameter) (v : DslxValue) (o : Option (Li
 put_many p ps v None h = tt
 put_many p ps v (Some vs) h = h
 
-pub numbers_many : (x : Meanings) (inferred : List Inferred) (bound : List Given) (ps : List Parameter) (vs : List DslxValue) → IfAsMany ps (i.all_numbers x inferred bound ps vs)
+numbers_many : (x : Meanings) (inferred : List Inferred) (bound : List Given) (ps : List Parameter) (vs : List DslxValue) → IfAsMany ps (i.all_numbers x inferred bound ps vs)
 numbers_many x inferred bound [] [] = tt
 numbers_many x inferred bound [] (v ∷ vs) = tt
 numbers_many x inferred bound (p ∷ ps) (v ∷ vs) = put_many p ps v (i.all_numbers x inferred (i.with_number bound p v) ps vs) (numbers_many x inferred (i.with_number bound p v) ps vs)
@@ -326,7 +326,7 @@ numbers_many x inferred bound (p ∷ ps) [] =
     found None rest = tt
     found (Some v) rest = put_many p ps v (i.all_numbers x inferred (i.with_number bound p v) ps []) (rest v)
 
-pub function_one : (x y : Meanings) (f : Function) (ns vs : List DslxValue) → AsMany f.parameters ns → Agreeing x y (mentioned_in_block f.body (field_names f.arguments ++ parameter_names f.parameters))
+function_one : (x y : Meanings) (f : Function) (ns vs : List DslxValue) → AsMany f.parameters ns → Agreeing x y (mentioned_in_block f.body (field_names f.arguments ++ parameter_names f.parameters))
     → i.function_value x f ns vs ≡ i.function_value y f ns vs
 function_one x y f ns vs many h = pick (length vs == length f.arguments) refl
   where
@@ -348,7 +348,8 @@ function_one x y f ns vs many h = pick (length vs == length f.arguments) refl
     pick true e = block_value_depends f.body names (within_items x bound) (within_items y bound) (given_agree x y names bound (all_given ((Decides-eqb (length vs) (length f.arguments)).0 e))) (h bound)
     pick false e = refl
 
-call_one : (x y : Meanings) (f : Function) (ns vs : List DslxValue) → Agreeing x y (definition_mentions (d.Function f)) → i.call_of x f ns vs ≡ i.call_of y f ns vs
+-- a call means one thing in both
+pub call_one : (x y : Meanings) (f : Function) (ns vs : List DslxValue) → Agreeing x y (definition_mentions (d.Function f)) → i.call_of x f ns vs ≡ i.call_of y f ns vs
 call_one x y f ns vs h =
     ap (λ o. and_then o (λ numbers. i.function_value x f numbers vs)) (numbers_one x y inferred [] [] tt f.parameters ns (firsts_agree x y own of_fields (firsts_agree x y (own ++ of_fields) of_result front)))
     ∙ values (i.all_numbers y inferred [] f.parameters ns) (numbers_many y inferred [] f.parameters ns)
