@@ -22,11 +22,9 @@ use Rattle.dslx_tree.specs.declared.item.Parameter.{Parameter}
 use Rattle.dslx_tree.specs.declared.item.Struct.{Struct}
 use Rattle.dslx_tree.specs.declared.type_expr.TypeExpr.{TypeExpr}
 use Rattle.dslx_meaning.specs.Environment.{Given}
-use Rattle.dslx_meaning.specs.Inference.{Inferred}
-use Rattle.dslx_meaning.specs.Items.{all_numbers, enum_member, function_value, inferred_from, is_constant_item, item_named, member_named, name_of_field, numbers_bound}
-use Rattle.dslx_meaning.specs.Lists.{all_some, and_then, where_true}
+use Rattle.dslx_meaning.specs.Items.{call_of, enum_member, is_constant_item, item_named, member_named, name_of_field, numbers_bound}
+use Rattle.dslx_meaning.specs.Lists.{all_some, and_then}
 use Rattle.dslx_meaning.specs.Operators.{number_value}
-use Rattle.dslx_meaning.specs.Values.{type_of_value}
 use Rattle.dslx_meaning.specs.declared.ty.DslxType.{DslxType}
 use Rattle.dslx_meaning.specs.declared.ty.DslxType as ty
 use Rattle.dslx_meaning.specs.declared.value.Bare.{Bare}
@@ -37,13 +35,13 @@ use Rattle.dslx_rules.specs.ConstantRules.{ConstantSeen, constant_of, is_empty}
 use Rattle.dslx_rules.specs.ItemRules.{ConstantFound, Found, TypeFound, alias_seen, and_found, annotation_judged, arguments_found, arguments_typed, base_if_bits, body_judged, bound_with, constant_seen, default_found, enum_member_value, enum_of_base, enum_seen, fields_found, found_in, function_seen, has_equal_values, item_sight, judged_inner, judged_type, member_constant, member_values, members_found, number_at, numbers_behind, only_faults, parameters_found, result_judged, struct_seen}
 use Rattle.dslx_rules.specs.Judging.{ExprPair, Instance, Judgement, Known, Sight, Typed, bare_of, breaks_if, has_broken, span_of, type_limits, unless_broken}
 use Rattle.dslx_rules.specs.Mentions.{Use, AsValue, AsEnum, Mention, definition_mentions, expr_if, field_names, fields_mentions, is_of_use, item_reaches, mentioned, mentioned_in_block, mentioned_in_type, mentions_of, names_meant, parameter_names, parameters_mentions, reaches_within, type_if}
-use Rattle.dslx_rules.specs.ModuleRules.{call_known, found_of_instance, known_over, sound_instance, unbroken_instance}
+use Rattle.dslx_rules.specs.ModuleRules.{found_of_instance, known_over, sound_instance, unbroken_instance}
 use Rattle.dslx_rules.specs.NameRules.{listed_name, local_name}
 use Rattle.dslx_rules.specs.NodeRules.{block_pair, expr_pair, type_pair}
 use Rattle.dslx_rules.specs.OperatorRules.{is_bits, unless_type}
 use Rattle.dslx_judged.specs.Reached.{AllNamed, IsClosed, MentionsReach}
 use Rattle.dslx_judged.proofs.Lemmas.{block_of_text_reaches}
-use Rattle.dslx_laws.proofs.Lemmas.{Agreeing, IfAsMany, function_one, numbers_many, numbers_one}
+use Rattle.dslx_laws.proofs.Lemmas.{Agreeing, call_one}
 use Rattle.dslx_depends.specs.Alike.{EachArgumentAlike, EachParameterAlike, KnownAlike, MentionsAlike, NamesAlike, SeesAlike, UseAlike}
 use Rattle.dslx_depends.specs.Settled.{AreNoConstants}
 use Rattle.dslx_depends.proofs.Joined.{block_of_text_alike, expression_alike, written_type_alike}
@@ -305,23 +303,9 @@ module _ (P : List ℕ → Bool) (m : Module) (a b : Known) (closed : IsClosed P
   pub agreeing : (ms : List Mention) → Meant ms → Agreeing a.items b.items ms
   agreeing ms h bound = mentions_agree P a b bound s.known ms (mentions_alike ms h)
 
-  pub call_at : (f : Function) → FunctionParts f → ((numbers : List DslxValue) → sound_instance a (record { name = f.name.name; numbers = numbers }) ≡ sound_instance b (record { name = f.name.name; numbers = numbers }))
-      → (given operands : List DslxValue) → call_known a f given operands ≡ call_known b f given operands
-  call_at f h sound given operands =
-      ap (λ o. and_then o (λ numbers. where_true (sound_instance a (record { name = f.name.name; numbers = numbers })) (function_value a.items f numbers operands)))
-      (numbers_one a.items b.items inferred [] [] tt f.parameters given (agreeing (parameters_mentions f.parameters []) h.parameters))
-      ∙ values (all_numbers b.items inferred [] f.parameters given) (numbers_many b.items inferred [] f.parameters given)
-    where
-      inferred : List Inferred
-      inferred = inferred_from f.arguments (map type_of_value operands)
-
-      values : (o : Option (List DslxValue)) → IfAsMany f.parameters o
-          → and_then o (λ numbers. where_true (sound_instance a (record { name = f.name.name; numbers = numbers })) (function_value a.items f numbers operands))
-          ≡ and_then o (λ numbers. where_true (sound_instance b (record { name = f.name.name; numbers = numbers })) (function_value b.items f numbers operands))
-      values None many = refl
-      values (Some numbers) many =
-          let body = function_one a.items b.items f numbers operands many (agreeing (mentioned_in_block f.body (field_names f.arguments ++ parameter_names f.parameters)) h.body) in
-          λ i. where_true (sound numbers i) (body i)
+  -- a call gives one value by both
+  pub call_at : (f : Function) → Meant (definition_mentions (d.Function f)) → (given operands : List DslxValue) → call_of a.items f given operands ≡ call_of b.items f given operands
+  call_at f h given operands = call_one a.items b.items f given operands (agreeing (definition_mentions (d.Function f)) h)
 
   -- ---- other items
 

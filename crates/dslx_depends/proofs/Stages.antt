@@ -13,14 +13,14 @@ use Rattle.dslx_tree.specs.declared.item.Member.{Member}
 use Rattle.dslx_tree.specs.declared.item.Module.{Module}
 use Rattle.dslx_tree.specs.declared.item.Parameter.{Parameter}
 use Rattle.dslx_tree.specs.declared.type_expr.TypeExpr.{TypeExpr}
-use Rattle.dslx_meaning.specs.Items.{as_constant, as_enum, as_function, as_struct, is_constant_item, item_named, member_named, name_of_definition}
+use Rattle.dslx_meaning.specs.Items.{as_constant, as_enum, as_function, as_struct, call_of, is_constant_item, item_named, member_named, name_of_definition}
 use Rattle.dslx_meaning.specs.Lists.{and_then}
 use Rattle.dslx_meaning.specs.declared.ty.DslxType.{DslxType}
 use Rattle.dslx_meaning.specs.declared.value.DslxValue.{DslxValue}
 use Rattle.dslx_rules.specs.ItemRules.{ConstantFound, FunctionSeen, TypeFound, constant_seen, enum_member_value, function_seen, struct_seen}
 use Rattle.dslx_rules.specs.Judging.{Instance, Known}
 use Rattle.dslx_rules.specs.Mentions.{Use, AsValue, AsPattern, AsType, AsFunction, AsProc, AsEnum, AsStruct, Mention, definition_mentions, expr_if, field_names, fields_mentions, is_of_use, mentioned, mentioned_in_block, mentioned_in_type, mentions_of, names_meant, parameter_names, parameters_mentions, type_if}
-use Rattle.dslx_rules.specs.ModuleRules.{call_known, found_of_instance, found_of_item, known_over, known_within, size_known, type_known}
+use Rattle.dslx_rules.specs.ModuleRules.{found_of_instance, found_of_item, known_over, known_within, size_known, type_known}
 use Rattle.dslx_judged.specs.Closed.{ends_within}
 use Rattle.dslx_judged.specs.Reached.{IsClosed}
 use Rattle.dslx_judged.proofs.Lemmas.{closed, every_item, function_is, instances_reach, item_so_named, meant_reach, whole_is}
@@ -139,17 +139,13 @@ module _ (P : List ℕ → Bool) (m : Module) (a b : Known) (closed_in : IsClose
   member_at member name None q own = refl
 
   abbrev call_over : List DslxValue → List DslxValue → Known → Option Definition → Option DslxValue
-  call_over given operands known o = and_then (as_function o) (λ f. call_known known f given operands)
+  call_over given operands known o = and_then (as_function o) (λ f. call_of known.items f given operands)
 
   abbrev size_over : List DslxValue → Known → Option Definition → Option ℕ
   size_over numbers known o = size_known known numbers (as_function o)
 
   call_at : (given operands : List DslxValue) (name : List ℕ) (o : Option Definition) → item_named name m.items ≡ o → (is_of_use AsFunction o ≡ true → Own name) → call_over given operands a o ≡ call_over given operands b o
-  call_at given operands name (Some (d.Function f)) q own =
-      let own_name = own_again name (d.Function f) q (own refl) in
-      of.call_at P m a b closed_in s f (of.function_parts P m a b closed_in s f (own_mentions name (d.Function f) q (own refl)))
-      (λ numbers. of.sound_at P m a b closed_in s (record { name = f.name.name; numbers = numbers }) own_name
-      (found_at (record { name = f.name.name; numbers = numbers }) own_name (ap is_proc_item (named_again name (d.Function f) q)))) given operands
+  call_at given operands name (Some (d.Function f)) q own = of.call_at P m a b closed_in s f (own_mentions name (d.Function f) q (own refl)) given operands
   call_at given operands name (Some (d.Enum x)) q own = refl
   call_at given operands name (Some (d.Struct x)) q own = refl
   call_at given operands name (Some (d.Alias x)) q own = refl
@@ -359,7 +355,7 @@ member_none known member (Some (d.Alias x)) e = refl
 member_none known member (Some (d.Struct x)) e = refl
 member_none known member None e = refl
 
-call_none : (known : Known) (given operands : List DslxValue) (o : Option Definition) → is_of_use AsFunction o ≡ false → and_then (as_function o) (λ f. call_known known f given operands) ≡ None
+call_none : (known : Known) (given operands : List DslxValue) (o : Option Definition) → is_of_use AsFunction o ≡ false → and_then (as_function o) (λ f. call_of known.items f given operands) ≡ None
 call_none known given operands (Some (d.Function f)) e = not_used e
 call_none known given operands (Some (d.Constant c)) e = refl
 call_none known given operands (Some (d.Enum x)) e = refl
@@ -389,7 +385,7 @@ member_unknown m (suc n) name member e =
 pub call_unknown : (m : Module) (n : ℕ) (name : List ℕ) (given operands : List DslxValue) → is_of_use AsFunction (item_named name m.items) ≡ false → (known_within m n).items.call name given operands ≡ None
 call_unknown m zero name given operands e = refl
 call_unknown m (suc n) name given operands e =
-    no_item m n name (λ o. and_then (as_function o) (λ f. call_known (known_within m n) f given operands)) (call_none (known_within m n) given operands (item_named name m.items) e)
+    no_item m n name (λ o. and_then (as_function o) (λ f. call_of (known_within m n).items f given operands)) (call_none (known_within m n) given operands (item_named name m.items) e)
 
 pub no_function : (m : Module) (n : ℕ) (name : List ℕ) (f : Function) → is_of_use AsFunction (item_named name m.items) ≡ false → as_function (item_named name (known_within m n).whole.items) ≡ Some f → true ≡ false
 no_function m n name f e q =

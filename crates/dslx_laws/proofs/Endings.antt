@@ -1,6 +1,6 @@
 -- What an item means depends on the items that it mentions alone, so where no chain of mentions is longer than some number, it is
 -- reached in so many steps.
-use Rattle.std.proofs.Common.{◌≡◌, ◌==◌, ◌≤◌, ℕ, zero, suc, Bool, true, false, if◌then◌else◌, List, [], ◌∷◌, ◌++◌, map, length, Option, Some, None, refl, sym, ap, ◌∙◌, arith}
+use Rattle.std.proofs.Common.{◌≡◌, ◌==◌, ◌≤◌, ℕ, zero, suc, Bool, true, false, if◌then◌else◌, List, [], ◌∷◌, ◌++◌, map, length, Option, Some, None, refl, sym, ap, subst, ◌∙◌, arith}
 use mathlib.Core.Bool.{true≢false}
 use Rattle.std.proofs.Math.Path.{fun_ext}
 use Rattle.std.specs.Prelude.{flat_map}
@@ -113,6 +113,16 @@ no_call x (Some (d.Enum n)) e ns vs = refl
 no_call x (Some (d.Proc p)) e ns vs = refl
 no_call x None e ns vs = refl
 
+of_kinds_over : (m : Module) (x : Meanings) → OfKinds m (meanings_over m x)
+of_kinds_over m x = record {
+  types = λ name e. no_type x (item_named name m.items) e;
+  structs = λ name e. no_struct x (item_named name m.items) e;
+  kind = λ name e. no_kind (item_named name m.items) e;
+  constants = λ name e. no_constant x (item_named name m.items) e;
+  members = λ name e a. no_member x (item_named name m.items) e a;
+  calls = λ name e ns vs. no_call x (item_named name m.items) e ns vs;
+}
+
 of_kinds : (m : Module) (n : ℕ) → OfKinds m (meanings_within m n)
 of_kinds m zero = record {
   types = λ name e. refl;
@@ -122,14 +132,10 @@ of_kinds m zero = record {
   members = λ name e a. refl;
   calls = λ name e ns vs. refl;
 }
-of_kinds m (suc n) = record {
-  types = λ name e. no_type (meanings_within m n) (item_named name m.items) e;
-  structs = λ name e. no_struct (meanings_within m n) (item_named name m.items) e;
-  kind = λ name e. no_kind (item_named name m.items) e;
-  constants = λ name e. no_constant (meanings_within m n) (item_named name m.items) e;
-  members = λ name e a. no_member (meanings_within m n) (item_named name m.items) e a;
-  calls = λ name e ns vs. no_call (meanings_within m n) (item_named name m.items) e ns vs;
-}
+of_kinds m (suc n) = of_kinds_over m (meanings_within m n)
+
+over_itself : (m : Module) (x : Meanings) → meanings_over m x ≡ x → OfKinds m x
+over_itself m x same = subst (OfKinds m) same (of_kinds_over m x)
 
 -- a mention means one thing in both, whatever is bound
 mention_one : (m : Module) (x y : Meanings) → OfKinds m x → OfKinds m y → (bound : List Given) (u : Use) (name : List ℕ)
@@ -287,7 +293,7 @@ inferred_one x y names bound given p (Some n) t h =
     ap (λ o. and_then o (λ u. number_value u (record { is_negative = false; value = n })))
     (written_type_depends p.ty names (within_items x bound) (within_items y bound) (given_agree x y names bound given) (t bound))
 
-pub numbers_one : (x y : Meanings) (inferred : List Inferred) (names : List (List ℕ)) (bound : List Given) → AllGiven names bound → (ps : List Parameter) (vs : List DslxValue)
+numbers_one : (x y : Meanings) (inferred : List Inferred) (names : List (List ℕ)) (bound : List Given) → AllGiven names bound → (ps : List Parameter) (vs : List DslxValue)
     → Agreeing x y (parameters_mentions ps names) → i.all_numbers x inferred bound ps vs ≡ i.all_numbers y inferred bound ps vs
 numbers_one x y inferred names bound given [] [] h = refl
 numbers_one x y inferred names bound given [] (v ∷ vs) h = refl
@@ -306,7 +312,7 @@ numbers_one x y inferred names bound given (p ∷ ps) [] h =
     ((v, given_here p.name.name v bound), given_more names p.name.name v bound given) ps [] (lasts_agree x y (typed ++ default) behind h) j))
 
 -- all numbers are as many as the parameters
-abbrev pub IfAsMany : List Parameter → Option (List DslxValue) → Type 0
+abbrev IfAsMany : List Parameter → Option (List DslxValue) → Type 0
 IfAsMany ps None = Unit {0}
 IfAsMany ps (Some vs) = AsMany ps vs
 
@@ -314,7 +320,7 @@ put_many : (p : Parameter) (ps : List Parameter) (v : DslxValue) (o : Option (Li
 put_many p ps v None h = tt
 put_many p ps v (Some vs) h = h
 
-pub numbers_many : (x : Meanings) (inferred : List Inferred) (bound : List Given) (ps : List Parameter) (vs : List DslxValue) → IfAsMany ps (i.all_numbers x inferred bound ps vs)
+numbers_many : (x : Meanings) (inferred : List Inferred) (bound : List Given) (ps : List Parameter) (vs : List DslxValue) → IfAsMany ps (i.all_numbers x inferred bound ps vs)
 numbers_many x inferred bound [] [] = tt
 numbers_many x inferred bound [] (v ∷ vs) = tt
 numbers_many x inferred bound (p ∷ ps) (v ∷ vs) = put_many p ps v (i.all_numbers x inferred (i.with_number bound p v) ps vs) (numbers_many x inferred (i.with_number bound p v) ps vs)
@@ -326,7 +332,7 @@ numbers_many x inferred bound (p ∷ ps) [] =
     found None rest = tt
     found (Some v) rest = put_many p ps v (i.all_numbers x inferred (i.with_number bound p v) ps []) (rest v)
 
-pub function_one : (x y : Meanings) (f : Function) (ns vs : List DslxValue) → AsMany f.parameters ns → Agreeing x y (mentioned_in_block f.body (field_names f.arguments ++ parameter_names f.parameters))
+function_one : (x y : Meanings) (f : Function) (ns vs : List DslxValue) → AsMany f.parameters ns → Agreeing x y (mentioned_in_block f.body (field_names f.arguments ++ parameter_names f.parameters))
     → i.function_value x f ns vs ≡ i.function_value y f ns vs
 function_one x y f ns vs many h = pick (length vs == length f.arguments) refl
   where
@@ -348,7 +354,8 @@ function_one x y f ns vs many h = pick (length vs == length f.arguments) refl
     pick true e = block_value_depends f.body names (within_items x bound) (within_items y bound) (given_agree x y names bound (all_given ((Decides-eqb (length vs) (length f.arguments)).0 e))) (h bound)
     pick false e = refl
 
-call_one : (x y : Meanings) (f : Function) (ns vs : List DslxValue) → Agreeing x y (definition_mentions (d.Function f)) → i.call_of x f ns vs ≡ i.call_of y f ns vs
+-- a call means one thing in both
+pub call_one : (x y : Meanings) (f : Function) (ns vs : List DslxValue) → Agreeing x y (definition_mentions (d.Function f)) → i.call_of x f ns vs ≡ i.call_of y f ns vs
 call_one x y f ns vs h =
     ap (λ o. and_then o (λ numbers. i.function_value x f numbers vs)) (numbers_one x y inferred [] [] tt f.parameters ns (firsts_agree x y own of_fields (firsts_agree x y (own ++ of_fields) of_result front)))
     ∙ values (i.all_numbers y inferred [] f.parameters ns) (numbers_many y inferred [] f.parameters ns)
@@ -444,14 +451,19 @@ item_over m x y name h = record {
 
 -- ---- the recursion
 
-agreeing_at : (m : Module) (a b : ℕ) (o : Option Definition) → OfEach (ItemMeansOne (meanings_within m a) (meanings_within m b)) (mentions_of m o)
-    → Agreeing (meanings_within m a) (meanings_within m b) (mentions_in o)
-agreeing_at m a b None h bound = tt
-agreeing_at m a b (Some definition) h bound = agree_on m (meanings_within m a) (meanings_within m b) (of_kinds m a) (of_kinds m b) bound (definition_mentions definition) h
+agreeing_at : (m : Module) (x y : Meanings) → OfKinds m x → OfKinds m y → (o : Option Definition) → OfEach (ItemMeansOne x y) (mentions_of m o) → Agreeing x y (mentions_in o)
+agreeing_at m x y p q None h bound = tt
+agreeing_at m x y p q (Some definition) h bound = agree_on m x y p q bound (definition_mentions definition) h
 
 each_of : (P Q : List ℕ → Type 0) (xs : List (List ℕ)) → ((x : List ℕ) → P x → Q x) → OfEach P xs → OfEach Q xs
 each_of P Q [] f h = tt
 each_of P Q (x ∷ xs) f h = (f x h.0, each_of P Q xs f h.1)
+
+-- an item means one thing over meanings in which all that it mentions does
+item_next : (m : Module) (x y : Meanings) → OfKinds m x → OfKinds m y → (k : ℕ) (name : List ℕ) → ((next : List ℕ) → Ends m k next → ItemMeansOne x y next) → Ends m (suc k) name
+    → ItemMeansOne (meanings_over m x) (meanings_over m y) name
+item_next m x y p q k name next h =
+    item_over m x y name (agreeing_at m x y p q (item_named name m.items) (each_of (Ends m k) (ItemMeansOne x y) (mentions_of m (item_named name m.items)) next h))
 
 -- beyond the longest chain an item means one thing
 settles : (m : Module) (k a b : ℕ) (name : List ℕ) → k ≤ a → k ≤ b → Ends m k name → ItemMeansOne (meanings_within m a) (meanings_within m b) name
@@ -459,13 +471,19 @@ settles m zero a b name p q h = absurd h
 settles m (suc k) zero b name p q h = absurd (omega arith)
 settles m (suc k) (suc a) zero name p q h = absurd (omega arith)
 settles m (suc k) (suc a) (suc b) name p q h =
-    item_over m (meanings_within m a) (meanings_within m b) name
-    (agreeing_at m a b (item_named name m.items)
-    (each_of (Ends m k) (ItemMeansOne (meanings_within m a) (meanings_within m b)) (mentions_of m (item_named name m.items)) (λ next e. settles m k a b next (omega arith) (omega arith) e) h))
+    item_next m (meanings_within m a) (meanings_within m b) (of_kinds m a) (of_kinds m b) k name (λ next e. settles m k a b next (omega arith) (omega arith) e) h
+
+-- and it means that in all meanings that are those over themselves
+settles_so : (m : Module) (x : Meanings) → meanings_over m x ≡ x → (k b : ℕ) (name : List ℕ) → k ≤ b → Ends m k name → ItemMeansOne x (meanings_within m b) name
+settles_so m x same zero b name p h = absurd h
+settles_so m x same (suc k) zero name p h = absurd (omega arith)
+settles_so m x same (suc k) (suc b) name p h =
+    subst (λ z. ItemMeansOne z (meanings_within m (suc b)) name) same
+    (item_next m x (meanings_within m b) (over_itself m x same) (of_kinds m b) k name (λ next e. settles_so m x same k b next (omega arith) e) h)
 
 -- what means nothing means nothing
-nothing_one : (m : Module) (a b : ℕ) (name : List ℕ) → item_named name m.items ≡ None → ItemMeansOne (meanings_within m a) (meanings_within m b) name
-nothing_one m a b name e = record {
+nothing_one : (m : Module) (x y : Meanings) → OfKinds m x → OfKinds m y → (name : List ℕ) → item_named name m.items ≡ None → ItemMeansOne x y name
+nothing_one m x y p q name e = record {
   types = p.types name (ap (is_of_use AsType) e) ∙ sym (q.types name (ap (is_of_use AsType) e));
   structs = p.structs name (ap (is_of_use AsStruct) e) ∙ sym (q.structs name (ap (is_of_use AsStruct) e));
   kind = p.kind name (ap (is_of_use AsPattern) e) ∙ sym (q.kind name (ap (is_of_use AsPattern) e));
@@ -473,21 +491,16 @@ nothing_one m a b name e = record {
   members = λ c. p.members name (ap (is_of_use AsEnum) e) c ∙ sym (q.members name (ap (is_of_use AsEnum) e) c);
   calls = λ ns vs. p.calls name (ap (is_of_use AsFunction) e) ns vs ∙ sym (q.calls name (ap (is_of_use AsFunction) e) ns vs);
 }
+
+-- what is said of all chains from items is said of all names
+every_name : (m : Module) → HasNoCycle m → (x y : Meanings) → OfKinds m x → OfKinds m y → ((name : List ℕ) → Ends m (length m.items) name → ItemMeansOne x y name) → (name : List ℕ) → ItemMeansOne x y name
+every_name m free x y p q ending name = by_item (item_named name m.items) refl
   where
-    p : OfKinds m (meanings_within m a)
-    p = of_kinds m a
+    ends : (u : Use) → is_of_use u (item_named name m.items) ≡ true → ItemMeansOne x y name
+    ends u e = ending name (item_ends m free name u e)
 
-    q : OfKinds m (meanings_within m b)
-    q = of_kinds m b
-
-every_item : (m : Module) → HasNoCycle m → (a b : ℕ) → length m.items ≤ a → length m.items ≤ b → (name : List ℕ) → ItemMeansOne (meanings_within m a) (meanings_within m b) name
-every_item m free a b p q name = by_item (item_named name m.items) refl
-  where
-    ends : (u : Use) → is_of_use u (item_named name m.items) ≡ true → ItemMeansOne (meanings_within m a) (meanings_within m b) name
-    ends u e = settles m (length m.items) a b name p q (item_ends m free name u e)
-
-    by_item : (o : Option Definition) → item_named name m.items ≡ o → ItemMeansOne (meanings_within m a) (meanings_within m b) name
-    by_item None e = nothing_one m a b name e
+    by_item : (o : Option Definition) → item_named name m.items ≡ o → ItemMeansOne x y name
+    by_item None e = nothing_one m x y p q name e
     by_item (Some (d.Function f)) e = ends AsFunction (ap (is_of_use AsFunction) e)
     by_item (Some (d.Proc f)) e = ends AsProc (ap (is_of_use AsProc) e)
     by_item (Some (d.Constant c)) e = ends AsValue (ap (is_of_use AsValue) e)
@@ -495,9 +508,9 @@ every_item m free a b p q name = by_item (item_named name m.items) refl
     by_item (Some (d.Struct s)) e = ends AsStruct (ap (is_of_use AsStruct) e)
     by_item (Some (d.Enum n)) e = ends AsEnum (ap (is_of_use AsEnum) e)
 
--- where no item reaches itself, a longer recursion gives nothing more
-pub recursion_settles : (m : Module) → HasNoCycle m → (a b : ℕ) → length m.items ≤ a → length m.items ≤ b → meanings_within m a ≡ meanings_within m b
-recursion_settles m free a b p q = λ j. record {
+-- meanings in which each name means one thing are one
+one_meaning : (x y : Meanings) → ((name : List ℕ) → ItemMeansOne x y name) → x ≡ y
+one_meaning x y every = λ j. record {
   type_named = types j;
   struct_named = structs j;
   is_constant = kind j;
@@ -506,23 +519,33 @@ recursion_settles m free a b p q = λ j. record {
   call = calls j;
 }
   where
-    every : (name : List ℕ) → ItemMeansOne (meanings_within m a) (meanings_within m b) name
-    every = every_item m free a b p q
-
-    types : (meanings_within m a).type_named ≡ (meanings_within m b).type_named
+    types : x.type_named ≡ y.type_named
     types = fun_ext (λ name. (every name).types)
 
-    structs : (meanings_within m a).struct_named ≡ (meanings_within m b).struct_named
+    structs : x.struct_named ≡ y.struct_named
     structs = fun_ext (λ name. (every name).structs)
 
-    kind : (meanings_within m a).is_constant ≡ (meanings_within m b).is_constant
+    kind : x.is_constant ≡ y.is_constant
     kind = fun_ext (λ name. (every name).kind)
 
-    constants : (meanings_within m a).constant ≡ (meanings_within m b).constant
+    constants : x.constant ≡ y.constant
     constants = fun_ext (λ name. (every name).constants)
 
-    members : (meanings_within m a).member ≡ (meanings_within m b).member
+    members : x.member ≡ y.member
     members = fun_ext (λ name. fun_ext (λ c. (every name).members c))
 
-    calls : (meanings_within m a).call ≡ (meanings_within m b).call
+    calls : x.call ≡ y.call
     calls = fun_ext (λ name. fun_ext (λ ns. fun_ext (λ vs. (every name).calls ns vs)))
+
+-- where no item reaches itself, a longer recursion gives nothing more
+pub recursion_settles : (m : Module) → HasNoCycle m → (a b : ℕ) → length m.items ≤ a → length m.items ≤ b → meanings_within m a ≡ meanings_within m b
+recursion_settles m free a b p q =
+    one_meaning (meanings_within m a) (meanings_within m b)
+    (every_name m free (meanings_within m a) (meanings_within m b) (of_kinds m a) (of_kinds m b) (λ name e. settles m (length m.items) a b name p q e))
+
+-- and no other meanings are those over themselves
+pub only_meanings : (m : Module) → HasNoCycle m → (x : Meanings) → meanings_over m x ≡ x → x ≡ meanings_within m (length m.items)
+only_meanings m free x same =
+    one_meaning x (meanings_within m (length m.items))
+    (every_name m free x (meanings_within m (length m.items)) (over_itself m x same) (of_kinds m (length m.items))
+    (λ name e. settles_so m x same (length m.items) (length m.items) name (omega arith) e))

@@ -55,10 +55,11 @@ pub fn a_value_depends_on_free_names()
 
 /// Recursion between items ends where no item reaches itself: what the items mean, which is defined by chains of at most as
 /// many items as there are, is what they mean by longer chains, and so it is what they mean where what they mention means
-/// that.
+/// that. It is the only meaning of which this is so.
 pub fn recursion_ends()
     ensures longer { (m : Module) → HasNoCycle m → (n : ℕ) → length m.items ≤ n → meanings_within m n ≡ meanings_of m }
     ensures settled { (m : Module) → HasNoCycle m → meanings_over m (meanings_of m) ≡ meanings_of m }
+    ensures only { (m : Module) → HasNoCycle m → (items : Meanings) → meanings_over m items ≡ items → items ≡ meanings_of m }
 {}
 
 /// What an operation gives for values of types that break none of its rules is a value, and of the type that the rules give

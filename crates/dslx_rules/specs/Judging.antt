@@ -51,8 +51,8 @@ pub record DefaultSeen : Type 0 where
   pub judgement : Judgement
   pub value : Option DslxValue
 
--- what is known of the items. A constant has a value, and a call is known, only where nothing that it reaches breaks a rule
--- or passes a limit; a type is known only where its declaration breaks no rule
+-- what is known of the items. A constant has a value only where nothing that it reaches breaks a rule or passes a limit; a
+-- type is known only where its declaration breaks no rule. A call has the value that it means, whatever it reaches
 pub record Known : Type 0 where
   pub whole : Module
   pub items : Meanings

@@ -15,10 +15,9 @@ use Rattle.dslx_tree.specs.declared.item.Definition.TheVariants as d
 use Rattle.dslx_tree.specs.declared.item.Function.{Function}
 use Rattle.dslx_tree.specs.declared.item.Parameter.{Parameter}
 use Rattle.dslx_tree.specs.declared.process.Proc.{Proc}
-use Rattle.dslx_meaning.specs.Lists.{and_then, where_true}
-use Rattle.dslx_meaning.specs.Values.{type_of_value}
+use Rattle.dslx_meaning.specs.Lists.{and_then}
 use Rattle.dslx_meaning.specs.Environment.{Given}
-use Rattle.dslx_meaning.specs.Items.{item_named, as_function, as_constant, as_struct, as_enum, is_constant_item, nothing_known, all_numbers, inferred_from, function_value, member_named}
+use Rattle.dslx_meaning.specs.Items.{item_named, as_function, as_constant, as_struct, as_enum, is_constant_item, nothing_known, call_of, member_named}
 use Rattle.dslx_meaning.specs.Network.{top_proc}
 use Rattle.dslx_meaning.specs.declared.ty.DslxType.{DslxType}
 use Rattle.dslx_meaning.specs.declared.value.DslxValue.{DslxValue}
@@ -54,12 +53,6 @@ sound_instance known i = let found = found_of_instance known i in is_empty found
 abbrev pub unbroken_instance : Known → Instance → Bool
 unbroken_instance known i = let found = found_of_instance known i in not (has_broken found.faults) && list_all known.is_unbroken found.reached
 
--- a call is known where its instance is sound
-abbrev pub call_known : Known → Function → List DslxValue → List DslxValue → Option DslxValue
-call_known known f given operands =
-    and_then (all_numbers known.items (inferred_from f.arguments (map type_of_value operands)) [] f.parameters given)
-    (λ numbers. where_true (sound_instance known (record { name = f.name.name; numbers = numbers })) (function_value known.items f numbers operands))
-
 abbrev pub size_known : Known → List DslxValue → Option Function → Option ℕ
 size_known known numbers None = None
 size_known known numbers (Some f) = (function_seen known f numbers).body.size
@@ -91,7 +84,7 @@ known_over known = record {
     is_constant = λ name. is_constant_item (item_named name known.whole.items);
     constant = λ name. and_then (as_constant (item_named name known.whole.items)) (λ c. (constant_seen known c).value);
     member = λ name a. and_then (as_enum (item_named name known.whole.items)) (λ e. enum_member_value known e a (member_named a e.members));
-    call = λ name numbers operands. and_then (as_function (item_named name known.whole.items)) (λ f. call_known known f numbers operands);
+    call = λ name numbers operands. and_then (as_function (item_named name known.whole.items)) (λ f. call_of known.items f numbers operands);
   };
   is_sound = sound_instance known;
   is_unbroken = unbroken_instance known;
