@@ -21,3 +21,5 @@ pub mod OfLoops
 pub mod OfCalls
 pub mod Limited
 pub mod Joined
+pub mod Inhabited
+pub mod OfInstances

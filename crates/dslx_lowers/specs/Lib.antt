@@ -4,3 +4,5 @@ pub mod Beside
 pub mod Lowers
 -- trees in which types have widths
 pub mod Widths
+-- instances of functions
+pub mod Instances
