@@ -5,3 +5,4 @@ pub use Rattle.dslx_lowering.proofs.Tables.{numbers_own, numbers_hide, all_one_n
 pub use Rattle.dslx_lowering.proofs.Slots.{constant_means, size_means}
 pub use Rattle.dslx_lowering.proofs.Joined.{type_of_text_means}
 pub use Rattle.dslx_lowering.proofs.OfProcs.{state_of_instances}
+pub use Rattle.dslx_lowering.proofs.OneValue.{value_equals_itself}

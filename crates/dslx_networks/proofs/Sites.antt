@@ -23,7 +23,7 @@ use Rattle.dslx_lowering.specs.CorePlaces.{CoreKnown, CorePlace, with_local}
 use Rattle.dslx_lowering.specs.EqualTypes.{equal_type}
 use Rattle.dslx_lowering.specs.Functions.{numbers_stand, outer_place}
 use Rattle.dslx_lowering.specs.Lowering.{LoweredExpr}
-use Rattle.dslx_lowering.specs.Patterns.{LoweredShape}
+use Rattle.dslx_lowering.specs.Patterns.{LoweredShape, lowered_at_place}
 use Rattle.dslx_lowering.specs.Steps.{BindsAtPlace, CoreMember, LoweredNext, LoweredSteps, LowersSteps, act_lowered, binds_nothing, can_travel, compute_lowered, end_names, is_sized, last_of_steps, member_in, next_lowered, pattern_of_text_lowered, receive_lowered, send_lowered, statement_steps, statements_steps, step_then, steps_from}
 use Rattle.dslx_lowering.specs.Trees.{expression_lowered, of_type, type_of_text_lowered}
 use Rattle.dslx_lowering.proofs.Lemmas.{from_both, from_then, from_where}
@@ -113,7 +113,7 @@ act_has outer ends channels (SendsWordIf c p word) e binds rest sites h place l 
 statement_has : (outer : CorePlace) (ends : List End) (channels : List ℕ) (s : StmtLayer) (rest : LowersSteps) (sites : List Site) → RestHas channels rest sites
     → (place : CorePlace) (l : LoweredSteps) → statement_steps outer ends s rest place ≡ Some l → sites_of_steps channels l.steps ≡ map (site_in ends channels) (sites_in_stmt s) ++ sites
 statement_has outer ends channels (Stmt-F.Let b) rest sites h place l k =
-    act_has outer ends channels (act_of (out-Let b).value) (out-Let b).value (pattern_of_text_lowered (out-Let b).pattern).lower rest sites h place l k
+    act_has outer ends channels (act_of (out-Let b).value) (out-Let b).value (lowered_at_place (pattern_of_text_lowered (out-Let b).pattern)) rest sites h place l k
 statement_has outer ends channels (Stmt-F.Bare e) rest sites h place l k = act_has outer ends channels (act_of e) e binds_nothing rest sites h place l k
 
 statements_have : (outer : CorePlace) (ends : List End) (channels : List ℕ) (ss : List Stmt) (last : Option Expr) → RestHas channels (statements_steps outer ends ss last) (map (site_in ends channels) (sites_in_stmts ss))
