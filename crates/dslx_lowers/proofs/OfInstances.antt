@@ -24,7 +24,7 @@ use Rattle.dslx_rules.specs.ItemRules.{arguments_found, arguments_typed, body_ju
 use Rattle.dslx_rules.specs.ConstantRules.{size_faults}
 use Rattle.dslx_rules.specs.AggregateRules.{wanted_faults}
 use Rattle.dslx_meaning.specs.declared.value.DslxValue.{DslxValue}
-use Rattle.dslx_meaning.specs.Types.{same_type, unit_type}
+use Rattle.dslx_meaning.specs.Types.{same_type, unit_type, is_unit}
 use Rattle.dslx_meaning.specs.Lists.{all_some, and_then, is_in, where_true}
 use Rattle.dslx_meaning.specs.Items.{is_constant_item, item_named, numbers_bound, with_number}
 use Rattle.dslx_meaning.specs.Environment.{Env, Given, Meanings, bind}
@@ -43,6 +43,7 @@ use Rattle.dslx_lowering.specs.CorePlaces.{CoreKnown, CorePlace, with_local}
 use Rattle.dslx_laws.proofs.Lemmas.{and_true}
 use Rattle.dslx_typed.specs.Kinds.{is_of}
 use Rattle.dslx_meaning.specs.Values.{type_of_value}
+use Rattle.dslx_rules.specs.ControlRules.{behind}
 
 -- ---- names
 
@@ -85,6 +86,7 @@ record ArgumentsStand (here : Instance → Bool) (sight : Sight) (fs : List Fiel
   types : List DslxType
   are : map (λ (f : Field). type_of_text_lowered f.ty (outer_place core)) fs ≡ map Some types
   judged : map (λ (f : Field). (judged_inner sight f.ty).ty) fs ≡ map Some types
+  inner : list_all (λ t. not (is_unit t)) types ≡ true
   behind : CorePlace
   placed : arguments_placed fs types place ≡ Some behind
   stands : StandsBeside here (with_typed sight (arguments_typed sight locals fs)) behind
@@ -94,7 +96,7 @@ record ArgumentsStand (here : Instance → Bool) (sight : Sight) (fs : List Fiel
 arguments_stand : (here : Instance → Bool) (sight : Sight) (outer : Env) (core : CoreKnown) → IsWellTyped sight outer → StandsBeside here sight (outer_place core) → (before : List (List ℕ)) (fs : List Field)
     → list_all (λ (a : Field). type_writes_widths a.ty) fs ≡ true → (arguments_found sight before fs).faults ≡ [] → list_all here (arguments_found sight before fs).reached ≡ true
     → (locals : List Typed) (env : Env) (place : CorePlace) → IsWellTyped (with_typed sight locals) env → StandsBeside here (with_typed sight locals) place → ArgumentsStand here sight fs locals core place
-arguments_stand here sight outer core ho ao before [] w f r locals env place h at = record { types = []; are = refl; judged = refl; behind = place; placed = refl; stands = at; env = env; typed = h }
+arguments_stand here sight outer core ho ao before [] w f r locals env place h at = record { types = []; are = refl; judged = refl; inner = refl; behind = place; placed = refl; stands = at; env = env; typed = h }
 arguments_stand here sight outer core ho ao before (g ∷ fs) w f r locals env place h at =
     let listed = local_name sight before g.name in
     let j = judged_inner sight g.ty in
@@ -105,6 +107,8 @@ arguments_stand here sight outer core ho ao before (g ∷ fs) w f r locals env p
     let wide = and_true (type_writes_widths g.ty) (list_all (λ (a : Field). type_writes_widths a.ty) fs) w in
     let own = (type_pair g.ty).1 sight in
     let t = type_part_becomes here sight outer (outer_place core) g.ty wide.0 ho ao (record { faults = (none_in own.faults (unit_faults (span_of_type (type_pair g.ty)) own.ty) b.0).0; reached = k.0 }) in
+    let units = none_in own.faults (unit_faults (span_of_type (type_pair g.ty)) own.ty) b.0 in
+    let not_unit = not_broken (is_unit t.ty) 31 (span_of_type (type_pair g.ty)) (ap (unit_faults (span_of_type (type_pair g.ty))) (sym t.typed) ∙ units.1) in
     let plain = plain_name sight ho.known before g.name a.0 in
     let v = some_value (types_at sight) ho.known.parts t.ty t.declared in
     let local : Typed = record { name = g.name.name; ty = j.ty } in
@@ -115,6 +119,7 @@ arguments_stand here sight outer core ho ao before (g ∷ fs) w f r locals env p
       types = t.ty ∷ more.types;
       are = λ i. t.is i ∷ more.are i;
       judged = λ i. t.typed i ∷ more.judged i;
+      inner = λ i. not (not_unit i) && more.inner i;
       behind = more.behind;
       placed = ap (λ b. if b then None else arguments_placed fs more.types (with_local g.name.name t.ty place)) (ap (λ (items : Meanings). items.is_constant g.name.name) at.items ∙ plain) ∙ more.placed;
       stands = more.stands;
@@ -174,5 +179,6 @@ instance_is_lowered here known f numbers core own w h at clean =
           ∙ ap (λ o. and_then o (λ place. and_then (block_of_text_lowered f.body place) (λ e. Some (record { arguments = args.types; result = e.ty; body = e.core })))) args.placed
           ∙ ap (λ o. and_then o (λ e. Some (record { arguments = args.types; result = e.ty; body = e.core }))) e.is;
       arguments = args.judged;
+      inner = args.inner;
       result = k.typed ∙ ap Some one;
     }

@@ -6,3 +6,5 @@ pub mod Lowers
 pub mod Widths
 -- instances of functions
 pub mod Instances
+-- instances in order
+pub mod InstanceLists

@@ -1,7 +1,8 @@
-ghost use Rattle.std.specs.Prelude.{◌≡◌, List, [], true, Bool};
+ghost use Rattle.std.specs.Prelude.{◌≡◌, Bool, List, [], Some, true};
 ghost use Rattle.dslx_lowering.specs.CorePlaces.{CoreKnown};
-ghost use Rattle.dslx_lowering.specs.Functions.{instance_lowered, outer_place};
+ghost use Rattle.dslx_lowering.specs.Functions.{CoreInstance, Instantiated, instance_lowered, instances_from, outer_place};
 ghost use Rattle.dslx_lowers.specs.Beside.{StandsBeside};
+ghost use Rattle.dslx_lowers.specs.InstanceLists.{CanLower, EachReachesThoseBefore};
 ghost use Rattle.dslx_lowers.specs.Instances.{InstanceIsLowered, function_writes_widths};
 ghost use Rattle.dslx_lowers.specs.Lowers.{IsClean};
 ghost use Rattle.dslx_meaning.specs.Items.{numbers_bound};
@@ -21,4 +22,11 @@ pub fn an_instance_is_lowered()
         → StandsBeside here (function_sight known f numbers) (outer_place core)
         → IsClean here (function_seen known f numbers).found.faults (function_seen known f numbers).found.reached
         → InstanceIsLowered known f numbers (instance_lowered core f) }
+{}
+
+/// Instances of functions with whose texts nothing is wrong, in an order in which each reaches those before it alone: all of
+/// them become functions, each of which calls those before it.
+pub fn instances_in_order_are_lowered()
+    ensures { (known : Known) → CanLower known → (is : List Instantiated) → EachReachesThoseBefore known [] is
+        → (table : List CoreInstance) × (instances_from known.whole known.items [] is ≡ Some table) }
 {}
