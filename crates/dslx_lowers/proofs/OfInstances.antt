@@ -43,7 +43,6 @@ use Rattle.dslx_lowering.specs.CorePlaces.{CoreKnown, CorePlace, with_local}
 use Rattle.dslx_laws.proofs.Lemmas.{and_true}
 use Rattle.dslx_typed.specs.Kinds.{is_of}
 use Rattle.dslx_meaning.specs.Values.{type_of_value}
-use Rattle.dslx_rules.specs.ControlRules.{behind}
 
 -- ---- names
 

@@ -8,15 +8,10 @@ use Rattle.std.proofs.lemmas.Slice.Eq.{bytes_eq-Decides}
 use Rattle.std.proofs.Common.{Bool, List, None, Option, Some, [], ap, false, if◌then◌else◌, map, not, refl, subst, suc, sym, true, ℕ, ◌&&◌, ◌++◌, ◌||◌, ◌∙◌, ◌∷◌, ◌≡◌}
 use Rattle.dslx_typed.proofs.Lemmas.{list_parts, none_some, same_some}
 use Rattle.dslx_tree.specs.declared.type_expr.TypeExpr.{TypeExpr}
-use Rattle.dslx_tree.specs.declared.process.Proc.{Proc}
-use Rattle.dslx_tree.specs.declared.item.Struct.{Struct}
 use Rattle.dslx_tree.specs.declared.item.Item.{Item}
 use Rattle.dslx_tree.specs.declared.item.Function.{Function}
 use Rattle.dslx_tree.specs.declared.item.Field.{Field}
-use Rattle.dslx_tree.specs.declared.item.Enum.{Enum}
 use Rattle.dslx_tree.specs.declared.item.Definition.{Definition}
-use Rattle.dslx_tree.specs.declared.item.Constant.{Constant}
-use Rattle.dslx_tree.specs.declared.item.Alias.{Alias}
 use Rattle.dslx_sound.proofs.Lemmas.{some_fault}
 use Rattle.dslx_rules.specs.Judging.{Known}
 use Rattle.dslx_rules.specs.ItemRules.{function_sight, item_sight, judged_inner, judged_type, result_judged}
@@ -29,10 +24,8 @@ use Rattle.dslx_meaning.specs.Environment.{Given}
 use Rattle.dslx_lowers.specs.Instances.{InstanceIsLowered}
 use Rattle.dslx_lowers.specs.InstanceLists.{CanLower, EachReachesThoseBefore, ReachesThese, is_among}
 use Rattle.dslx_lowers.specs.Beside.{AreDeclaredFor, CallsAreKnown, StandsBeside}
-use Rattle.dslx_lowers.proofs.OfOperations.{there}
 use Rattle.dslx_lowers.proofs.OfInstances.{instance_is_lowered}
 use Rattle.dslx_lowers.proofs.Equal.{equal_itself}
-use Rattle.dslx_lowering.specs.Lowering.{lowered}
 use Rattle.dslx_lowering.specs.Functions.{CoreInstance, Instantiated, LoweredFunction, callee_in, callee_of, instance_in, instance_known, instance_lowered, instances_from, is_instance, next_instance, outer_place}
 use Rattle.dslx_lowering.specs.EqualValues.{equal_value}
 use Rattle.dslx_lowering.specs.EqualTypes.{equal_type}

@@ -1,3 +1,4 @@
+use Rattle.std.proofs.Common.{[]}
 use Rattle.dslx_lowers.proofs.OfTables.{instances_are_lowered}
 use Rattle.dslx_lowers.proofs.instances.instances_in_order_are_lowered.Goals as goal
 
