@@ -10,3 +10,5 @@ pub mod OfEnums
 pub mod OfInstances
 -- types that are declared
 pub mod OfTypes
+-- for other crates' proofs
+pub mod Lemmas

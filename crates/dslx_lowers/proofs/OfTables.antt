@@ -6,12 +6,13 @@ use Rattle.std.specs.Str.{bytes_eq}
 use Rattle.std.specs.List.{list_all}
 use Rattle.std.proofs.lemmas.Slice.Eq.{bytes_eq-Decides}
 use Rattle.std.proofs.Common.{Bool, List, None, Option, Some, [], ap, false, if◌then◌else◌, map, not, refl, subst, suc, sym, true, ℕ, ◌&&◌, ◌++◌, ◌||◌, ◌∙◌, ◌∷◌, ◌≡◌}
-use Rattle.dslx_typed.proofs.Lemmas.{list_parts, none_some, same_some}
+use Rattle.dslx_typed.proofs.Lemmas.{list_parts, none_some, own_bound, same_some}
 use Rattle.dslx_tree.specs.declared.type_expr.TypeExpr.{TypeExpr}
 use Rattle.dslx_tree.specs.declared.item.Item.{Item}
 use Rattle.dslx_tree.specs.declared.item.Function.{Function}
 use Rattle.dslx_tree.specs.declared.item.Field.{Field}
 use Rattle.dslx_tree.specs.declared.item.Definition.{Definition}
+use Rattle.dslx_complete.proofs.Lemmas.{item_typed, none_own}
 use Rattle.dslx_sound.proofs.Lemmas.{some_fault}
 use Rattle.dslx_rules.specs.Judging.{Known}
 use Rattle.dslx_rules.specs.ItemRules.{function_sight, item_sight, judged_inner, judged_type, result_judged}
@@ -168,9 +169,10 @@ next_there known can is cs table i r =
       sound = r.sound;
       calls = calls_known known can is cs table bound;
       widths = can.widths;
-      constants = can.constants;
+      constants = λ name v q. (can.typed.constants name v q).declared;
     } in
-    let l = instance_is_lowered (is_among is) known r.function i.numbers core r.own r.widths r.typed at r.clean in
+    let typed = item_typed known can.complete can.typed r.function.name.name bound (own_bound known.items.type_named [] r.function.parameters i.numbers (none_own known) r.own) in
+    let l = instance_is_lowered (is_among is) known r.function i.numbers core r.own r.widths typed at r.clean in
     let c : CoreInstance = record { name = i.name; numbers = i.numbers; function = l.function } in (
       c,
       ap (λ o. and_then o (λ f. and_then (instance_lowered (instance_known known.whole known.items cs f i.numbers) f) (λ l. Some (record { name = i.name; numbers = i.numbers; function = l })))) r.is
