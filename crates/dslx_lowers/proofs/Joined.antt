@@ -574,7 +574,7 @@ all_become = record {
     expr_claim : (y : ExprLevel Held) → fold_node wide widths y.node.0 ≡ true → PartClaim ((fold_node seen seeing y.node.0).1 y.span false) (fold_node become becoming y.node.0).1
     expr_claim y w = y.node.1 w y.span
 
-expression_part : (e : Expr) → writes_widths e ≡ true → ExprLowers (expr_pair e) (expression_lowered e)
+pub expression_part : (e : Expr) → writes_widths e ≡ true → ExprLowers (expr_pair e) (expression_lowered e)
 expression_part e w = expr_part (e, holds_expr becomes_something all_become e) w
 
 -- whole parts, with what else is known of what they become

@@ -44,3 +44,4 @@ pub mod Inhabited
 pub mod OfInstances
 -- tables of instances
 pub mod OfTables
+pub mod OfEffects
