@@ -293,7 +293,7 @@ inferred_one x y names bound given p (Some n) t h =
     ap (λ o. and_then o (λ u. number_value u (record { is_negative = false; value = n })))
     (written_type_depends p.ty names (within_items x bound) (within_items y bound) (given_agree x y names bound given) (t bound))
 
-numbers_one : (x y : Meanings) (inferred : List Inferred) (names : List (List ℕ)) (bound : List Given) → AllGiven names bound → (ps : List Parameter) (vs : List DslxValue)
+pub numbers_one : (x y : Meanings) (inferred : List Inferred) (names : List (List ℕ)) (bound : List Given) → AllGiven names bound → (ps : List Parameter) (vs : List DslxValue)
     → Agreeing x y (parameters_mentions ps names) → i.all_numbers x inferred bound ps vs ≡ i.all_numbers y inferred bound ps vs
 numbers_one x y inferred names bound given [] [] h = refl
 numbers_one x y inferred names bound given [] (v ∷ vs) h = refl

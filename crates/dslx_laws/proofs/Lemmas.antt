@@ -3,4 +3,4 @@
 pub use Rattle.dslx_laws.proofs.Typed.{and_true, unbroken, both_unbroken, AreBits, is_bits_value, is_unsigned_value, is_bits_type, some_typed, binary_typed, prefix_typed, cast_typed}
 pub use Rattle.dslx_laws.proofs.Free.{value_depends, written_type_depends, pattern_depends, bound_alike}
 pub use Rattle.dslx_laws.proofs.Agreeing.{NamesAgree, Extend, FitAlike, unchanged}
-pub use Rattle.dslx_laws.proofs.Endings.{Agreeing, AllGiven, IfAsMany, call_one, given_agree, given_here, given_more, numbers_one, numbers_many, function_one}
+pub use Rattle.dslx_laws.proofs.Endings.{Agreeing, AllGiven, call_one, given_agree, given_here, given_more, numbers_one}
