@@ -10,8 +10,8 @@ use Rattle.dslx_tree.specs.declared.item.Module.{Module}
 use Rattle.dslx_tree.specs.declared.item.Parameter.{Parameter}
 use Rattle.dslx_tree.specs.declared.type_expr.TypeExpr.{TypeExpr}
 use Rattle.dslx_meaning.specs.Environment.{Env, Given}
-use Rattle.dslx_meaning.specs.Items.{all_numbers, as_function, function_value, inferred_from, item_named, numbers_bound, with_number}
-use Rattle.dslx_meaning.specs.Lists.{and_then, where_true}
+use Rattle.dslx_meaning.specs.Items.{call_of, all_numbers, as_function, function_value, inferred_from, item_named, numbers_bound, with_number}
+use Rattle.dslx_meaning.specs.Lists.{and_then}
 use Rattle.dslx_meaning.specs.Meaning.{value_of, written_type}
 use Rattle.dslx_meaning.specs.Types.{is_unit}
 use Rattle.dslx_meaning.specs.Values.{type_of_value}
@@ -22,7 +22,7 @@ use Rattle.dslx_rules.specs.ConstantRules.{is_empty}
 use Rattle.dslx_rules.specs.ItemRules.{arguments_found, body_judged, arguments_typed, function_seen, function_sight, item_sight, judged_inner, parameters_found, result_judged}
 use Rattle.dslx_rules.specs.Judging.{DefaultSeen, Instance, Judgement, Known}
 use Rattle.dslx_rules.specs.Mentions.{AsFunction, Mention, expr_if, mentioned, mentioned_in_type, names_meant, parameters_mentions}
-use Rattle.dslx_rules.specs.ModuleRules.{call_known, default_known, found_of_instance, found_of_item, known_of, known_over, sound_instance}
+use Rattle.dslx_rules.specs.ModuleRules.{default_known, found_of_instance, found_of_item, known_of, known_over, sound_instance}
 use Rattle.dslx_rules.specs.NameRules.{local_name}
 use Rattle.dslx_laws.specs.Recursion.{HasNoCycle}
 use Rattle.dslx_laws.proofs.Lemmas.{AllGiven, given_agree, given_here, given_more, numbers_one, value_depends, written_type_depends}
@@ -378,9 +378,8 @@ module _ (m : Module) (free : HasNoCycle m) (plain : BindsNoConstant m) (fine : 
       sym ((s.uses AsFunction name (λ e. q)).call given operands)
       ∙ (of_next.settle m free plain fine k stand AsFunction name).call given operands
       ∙ (over 1).call given operands
-      ∙ ap (λ o. and_then (as_function o) (λ g. call_known (F 1) g given operands)) named
-      ∙ ap (λ o. and_then o (λ ns. where_true (sound_instance (F 1) (instance_of ns)) (function_value (F 1).items f ns operands))) (sym one ∙ two ∙ h)
-      ∙ ap (λ b. where_true b (function_value (F 1).items f numbers operands)) (sym (sound 1 (instance_of numbers) home_in) ∙ sound_here numbers e)
+      ∙ ap (λ o. and_then (as_function o) (λ g. call_of (F 1).items g given operands)) named
+      ∙ ap (λ o. and_then o (λ ns. function_value (F 1).items f ns operands)) (sym one ∙ two ∙ h)
 
   callable : (numbers : List DslxValue) → FitNumbers G home [] f.parameters numbers → G.is_sound (instance_of numbers) ≡ true → IsCallable G f name numbers
   callable numbers fit e =
