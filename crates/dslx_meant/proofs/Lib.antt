@@ -1,0 +1,2 @@
+-- each item means what is known of it
+mod Itself
