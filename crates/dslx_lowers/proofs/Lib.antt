@@ -45,3 +45,4 @@ pub mod OfInstances
 -- tables of instances
 pub mod OfTables
 pub mod OfEffects
+pub mod OfNext

@@ -38,7 +38,7 @@ use Rattle.dslx_lowers.specs.Lowers.{reaching}
 use Rattle.dslx_lowers.specs.Beside.{StandsBeside}
 use Rattle.dslx_lowers.proofs.Trees.{paired, pairing, own_expr}
 use Rattle.dslx_lowers.proofs.Parts.{Becomes, alone_becomes, within_becomes}
-use Rattle.dslx_lowers.proofs.Joined.{expression_part}
+use Rattle.dslx_lowers.proofs.Joined.{seen, seeing, expression_part}
 use Rattle.dslx_lowers.proofs.Equal.{equal_of_text}
 use Rattle.dslx_lowering.specs.Trees.{expression_lowered, of_type}
 use Rattle.dslx_lowering.specs.Steps.{BindsAtPlace, CoreMember, LoweredSteps, LowersSteps, act_lowered, compute_lowered, member_in, step_then, receive_lowered, send_lowered}
@@ -53,16 +53,10 @@ use Rattle.dslx_core.specs.Designs.{token}
 
 -- ---- what an expression is judged to be at the top
 
-abbrev seen : Carriers
-seen = paired judged_sorts
-
-abbrev seeing : Steps seen
-seeing = pairing judged_sorts judged_steps
-
-abbrev node_seen : Expr → NodeLevel seen
+abbrev pub node_seen : Expr → NodeLevel seen
 node_seen e = map_node trees seen (folds seen seeing) (node_of e)
 
-judged_at : (e : Expr) (on_top : Bool) (sight : Sight) → (expr_pair e).1 on_top sight ≡ node_judged (node_seen e) (out-Expr e).span on_top sight
+pub judged_at : (e : Expr) (on_top : Bool) (sight : Sight) → (expr_pair e).1 on_top sight ≡ node_judged (node_seen e) (out-Expr e).span on_top sight
 judged_at e on_top sight =
     (λ i. (fold_out-Expr seen.stmt seen.node seen.shape seen.type_node seen.block seen.bind seen.arg seen.arm seen.expr seen.field seen.loop seen.number seen.pattern seen.type_expr
     seeing.stmt seeing.node seeing.shape seeing.type_node seeing.block seeing.bind seeing.arg seeing.arm seeing.expr seeing.field seeing.loop seeing.number seeing.pattern seeing.type_expr e i).1 on_top sight)
@@ -154,7 +148,7 @@ received_declared : (types : Declarations) (w : DslxType) → IsDeclared types w
 received_declared types w d = tuple_declared types (ty.Token ∷ w ∷ []) (token_declared types, (d, tt))
 
 module _ (here : Instance → Bool) (sight : Sight) (env : Env) (outer place : CorePlace) (ends : List End) (h : IsWellTyped sight env) (at : StandsBeside here sight place) (members : MembersStand sight outer ends) where
-  computes_there : (e : Expr) → writes_widths e ≡ true → IsFine (reaching sight.known here) ((expr_pair e).1 false sight) → ActThere (types_at sight) outer ends place e Computes ((expr_pair e).1 false sight)
+  pub computes_there : (e : Expr) → writes_widths e ≡ true → IsFine (reaching sight.known here) ((expr_pair e).1 false sight) → ActThere (types_at sight) outer ends place e Computes ((expr_pair e).1 false sight)
   computes_there e w fine =
       let b = within_becomes here sight env place (expr_pair e) (expression_lowered e) (expression_part e w) h at fine in
       record {
@@ -189,7 +183,7 @@ module _ (here : Instance → Bool) (sight : Sight) (env : Env) (outer place : C
   member_there : (c : Expr) (ch : ChannelThere sight (expr_pair c) (name_of_expr (expr_pair c))) (act : List ℕ → SiteAct) → at_channel c act ≡ act ch.name
   member_there c ch act = ap (act_named act) (ap (λ x. name_in_node (node_of x)) (sym (own_expr judged_sorts judged_steps c)) ∙ ch.is)
 
-  receiving_there : (span : Span) (e t c : Expr) → writes_widths t ≡ true → IsFine (reaching sight.known here) (receiving span sight (expr_pair t ∷ expr_pair c ∷ []))
+  pub receiving_there : (span : Span) (e t c : Expr) → writes_widths t ≡ true → IsFine (reaching sight.known here) (receiving span sight (expr_pair t ∷ expr_pair c ∷ []))
       → ActThere (types_at sight) outer ends place e (at_channel c TakesWord) (receiving span sight (expr_pair t ∷ expr_pair c ∷ []))
   receiving_there span e t c w fine =
       let channel = channel_seen sight (expr_pair c) in
@@ -209,7 +203,7 @@ module _ (here : Instance → Bool) (sight : Sight) (env : Env) (outer place : C
             ∙ one_step (step.Receive (record { member = m.member.number; word = plain_type m.member.word; condition = None; shape = s.shape })) (rest s.place);
       })
 
-  sending_there : (span : Span) (e t c x : Expr) → writes_widths t ≡ true → writes_widths x ≡ true → IsFine (reaching sight.known here) (sending span sight (expr_pair t ∷ expr_pair c ∷ expr_pair x ∷ []))
+  pub sending_there : (span : Span) (e t c x : Expr) → writes_widths t ≡ true → writes_widths x ≡ true → IsFine (reaching sight.known here) (sending span sight (expr_pair t ∷ expr_pair c ∷ expr_pair x ∷ []))
       → ActThere (types_at sight) outer ends place e (at_channel c (λ name. SendsWord name x)) (sending span sight (expr_pair t ∷ expr_pair c ∷ expr_pair x ∷ []))
   sending_there span e t c x w wx fine =
       let channel = channel_seen sight (expr_pair c) in
@@ -233,7 +227,7 @@ module _ (here : Instance → Bool) (sight : Sight) (env : Env) (outer place : C
             ∙ one_step (step.Send (record { member = m.member.number; condition = None; word = b.expr.core; shape = s.shape })) (rest s.place);
       })
 
-  receiving_if_there : (span : Span) (e t c p x : Expr) → writes_widths t ≡ true → writes_widths p ≡ true → writes_widths x ≡ true
+  pub receiving_if_there : (span : Span) (e t c p x : Expr) → writes_widths t ≡ true → writes_widths p ≡ true → writes_widths x ≡ true
       → IsFine (reaching sight.known here) (receiving_if span sight (expr_pair t ∷ expr_pair c ∷ expr_pair p ∷ expr_pair x ∷ []))
       → ActThere (types_at sight) outer ends place e (at_channel c (λ name. TakesWordIf name p x)) (receiving_if span sight (expr_pair t ∷ expr_pair c ∷ expr_pair p ∷ expr_pair x ∷ []))
   receiving_if_there span e t c p x w wp wx fine =
@@ -264,7 +258,7 @@ module _ (here : Instance → Bool) (sight : Sight) (env : Env) (outer place : C
             ∙ one_step (step.Receive (record { member = m.member.number; word = plain_type m.member.word; condition = Some (a.expr.core, b.expr.core); shape = s.shape })) (rest s.place);
       })
 
-  sending_if_there : (span : Span) (e t c p x : Expr) → writes_widths t ≡ true → writes_widths p ≡ true → writes_widths x ≡ true
+  pub sending_if_there : (span : Span) (e t c p x : Expr) → writes_widths t ≡ true → writes_widths p ≡ true → writes_widths x ≡ true
       → IsFine (reaching sight.known here) (sending_if span sight (expr_pair t ∷ expr_pair c ∷ expr_pair p ∷ expr_pair x ∷ []))
       → ActThere (types_at sight) outer ends place e (at_channel c (λ name. SendsWordIf name p x)) (sending_if span sight (expr_pair t ∷ expr_pair c ∷ expr_pair p ∷ expr_pair x ∷ []))
   sending_if_there span e t c p x w wp wx fine =
