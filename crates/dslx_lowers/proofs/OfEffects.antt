@@ -34,6 +34,7 @@ use Rattle.dslx_meaning.specs.Lists.{and_then, where_true, with_both}
 use Rattle.dslx_meaning.specs.Environment.{Env, bind}
 use Rattle.dslx_meaning.specs.Activation.{Computes, SiteAct, TakesWord, node_of, SendsWord, SendsWordIf, TakesWordIf, name_in_node, at_channel}
 use Rattle.dslx_lowers.specs.Widths.{writes_widths}
+use Rattle.dslx_lowers.specs.NextSteps.{MemberThere, MembersStand}
 use Rattle.dslx_lowers.specs.Lowers.{reaching}
 use Rattle.dslx_lowers.specs.Beside.{StandsBeside}
 use Rattle.dslx_lowers.proofs.Trees.{paired, pairing, own_expr}
@@ -72,16 +73,6 @@ type_of_steps (Some l) = Some l.next.ty
 one_step : (s : Step) (o : Option LoweredSteps) → type_of_steps (step_then s o) ≡ type_of_steps o
 one_step s None = refl
 one_step s (Some l) = refl
-
--- the members of the proc, each with the type of its words
-pub record MemberThere (types : Declarations) (outer : CorePlace) (ends : List End) (name : List ℕ) (o : Outlet) : Type 0 where
-  pub member : CoreMember
-  pub is : member_in outer ends name ≡ Some member
-  pub word : o.word ≡ Some member.word
-  pub declared : IsDeclared types member.word
-
-abbrev pub MembersStand : Sight → CorePlace → List End → Type 0
-MembersStand sight outer ends = (name : List ℕ) (o : Outlet) → outlet_in name sight.members ≡ Some o → MemberThere (types_at sight) outer ends name o
 
 -- the channel of a site
 record ChannelThere (sight : Sight) (e : ExprPair) (named : Option (List ℕ)) : Type 0 where

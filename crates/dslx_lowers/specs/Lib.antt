@@ -8,3 +8,5 @@ pub mod Widths
 pub mod Instances
 -- instances in order
 pub mod InstanceLists
+-- the block of `next`
+pub mod NextSteps
