@@ -6,6 +6,8 @@ use Rattle.xb_span.specs.declared.span.Span.{Span}
 use Rattle.std.proofs.Common.{Bool, List, [], false, if◌then◌else◌, map, subst, sym, true, ◌&&◌, ◌∙◌, ◌∷◌, ◌≡◌, None, Option, Some, ap, refl, ◌++◌}
 use Rattle.dslx_typed.specs.WellTyped.{IsWellTyped, types_at}
 use Rattle.dslx_typed.specs.Complete.{IsFine}
+use Rattle.dslx_typed.specs.Declared.{Declarations, IsDeclared}
+use Rattle.dslx_typed.proofs.Lemmas.{same_some, tuple_declared}
 use Rattle.dslx_tree_lemmas.proofs.Lemmas.Levels.{map_node, trees, BlockLevel, Carriers, LetLevel, StmtLevel, map_bind, map_block, map_stmt}
 use Rattle.dslx_tree_lemmas.proofs.Lemmas.Folds.{fold_arg, folds, Steps, fold_bind, fold_block, fold_pattern, fold_stmt, fold_type_expr}
 use Rattle.dslx_tree.specs.declared.process.End.{End}
@@ -175,40 +177,43 @@ module _ (here : Instance → Bool) (sight : Sight) (env : Env) (outer place : C
 
 -- ---- steps of a type
 
-record GoesTo (t : Option DslxType) (o : Option LoweredSteps) : Type 0 where
+record GoesTo (types : Declarations) (t : Option DslxType) (o : Option LoweredSteps) : Type 0 where
   own : DslxType
   typed : t ≡ Some own
+  declared : IsDeclared types own
   is : type_of_steps o ≡ Some own
 
 abbrev is_some : Option DslxType → Bool
 is_some None = false
 is_some (Some t) = true
 
-steps_there : (j : Judgement) (o : Option LoweredSteps) → GoesTo j.ty o → BecomesSteps j o
-steps_there j None g = absurd (true≢false (sym (ap is_some g.is)))
-steps_there j (Some l) g = record { steps = l; is = refl; typed = g.typed ∙ sym g.is }
+steps_there : (types : Declarations) (j : Judgement) (o : Option LoweredSteps) → GoesTo types j.ty o → BecomesSteps types j o
+steps_there types j None g = absurd (true≢false (sym (ap is_some g.is)))
+steps_there types j (Some l) g = record { steps = l; is = refl; typed = g.typed ∙ sym g.is; declared = subst (IsDeclared types) (sym (same_some l.next.ty g.own g.is)) g.declared }
 
 last_there : (here : Instance → Bool) (sight : Sight) (env : Env) (place : CorePlace) (e : Expr) → writes_widths e ≡ true → IsWellTyped sight env → StandsBeside here sight place → IsFine (reaching sight.known here) (alone sight (expr_pair e))
-    → GoesTo (alone sight (expr_pair e)).ty (and_then (expression_lowered e place) (λ e. Some (record { steps = []; next = e })))
+    → GoesTo (types_at sight) (alone sight (expr_pair e)).ty (and_then (expression_lowered e place) (λ e. Some (record { steps = []; next = e })))
 last_there here sight env place e w h at fine =
     let g = alone_becomes here sight env place (expr_pair e) (expression_lowered e) (expression_part e w) h at fine.faults fine.reached in
-    record { own = g.expr.ty; typed = g.typed; is = ap (λ o. type_of_steps (and_then o (λ e. Some (record { steps = []; next = e })))) g.is }
+    record { own = g.expr.ty; typed = g.typed; declared = g.declared; is = ap (λ o. type_of_steps (and_then o (λ e. Some (record { steps = []; next = e })))) g.is }
 
 -- ---- statements
 
 -- whatever type the next state has behind a statement, it has at the statement
 record StepStands (s : StatementJudging) (l : CorePlace → List End → LowersSteps → LowersSteps) : Type 0 where
   lowers : (here : Instance → Bool) (sight : Sight) (env : Env) (outer place : CorePlace) (ends : List End) → IsWellTyped sight env → StandsBeside here sight place → MembersStand sight outer ends
-      → IsClean here (s true sight).faults (s true sight).reached → (rest : LowersSteps) (t : Option DslxType)
-      → ((inner : Env) (beyond : CorePlace) → IsWellTyped (s true sight).sight inner → StandsBeside here (s true sight).sight beyond → MembersStand (s true sight).sight outer ends → GoesTo t (rest beyond))
-      → GoesTo t (l outer ends rest place)
+      → IsClean here (s true sight).faults (s true sight).reached → (rest : LowersSteps) (types : Declarations) (t : Option DslxType)
+      → ((inner : Env) (beyond : CorePlace) → IsWellTyped (s true sight).sight inner → StandsBeside here (s true sight).sight beyond → MembersStand (s true sight).sight outer ends → GoesTo types t (rest beyond))
+      → GoesTo types t (l outer ends rest place)
+  -- it leaves what is known alone
+  known : (sight : Sight) → (s true sight).sight.known ≡ sight.known
 
 let_there : (e : Expr) → writes_widths e ≡ true → (written : Option TypePair) (f : Option Typing) → TypeStandsIf written f → (p : Pattern) → fold_pattern wide widths p ≡ true
     → StepStands (λ on_top sight. let_with sight (expr_pair e).0 (span_of (expr_pair e)) ((expr_pair e).1 on_top sight) (written_judged sight written)
     (pattern_alone false sight (bound_type (written_judged sight written) ((expr_pair e).1 on_top sight).ty) (fold_pattern seen seeing p)))
     (λ outer ends. act_lowered outer ends (act_of e) e (lowered_at_place (fold_pattern become becoming p).1))
 let_there e w written f st text wp = record {
-  lowers = λ here sight env outer place ends h at members clean rest t goes.
+  lowers = λ here sight env outer place ends h at members clean rest types t goes.
       let p = fold_pattern seen seeing text in
       let l = (fold_pattern become becoming text).1 in
       let tree = (expr_pair e).0 in
@@ -228,7 +233,8 @@ let_there e w written f st text wp = record {
       let here_typed = subst (λ (b : PatternSeen). IsWellTyped (behind sight b.locals tree) inner.0) (sym same) (typed_behind sight (pattern_alone false sight (Some a.own) p).locals tree inner.0 inner.1) in
       let here_stands = subst (λ (b : PatternSeen). StandsBeside here (behind sight b.locals tree) one.shape.place) (sym same) (stands_behind here sight (pattern_alone false sight (Some a.own) p).locals tree one.shape.place one.behind) in
       let g = goes inner.0 one.shape.place here_typed here_stands members in
-      record { own = g.own; typed = g.typed; is = a.steps (lowered_at_place l) rest one.shape one.is ∙ g.is };
+      record { own = g.own; typed = g.typed; declared = g.declared; is = a.steps (lowered_at_place l) rest one.shape one.is ∙ g.is };
+  known = λ sight. refl;
 }
 
 bare_there : (e : Expr) → writes_widths e ≡ true
@@ -240,11 +246,12 @@ bare_there : (e : Expr) → writes_widths e ≡ true
     })
     (λ outer ends. act_lowered outer ends (act_of e) e binds_nothing)
 bare_there e w = record {
-  lowers = λ here sight env outer place ends h at members clean rest t goes.
+  lowers = λ here sight env outer place ends h at members clean rest types t goes.
       let j = (expr_pair e).1 true sight in
       let a = act_there here sight env outer place ends h at members e w (bare_fine (reaching sight.known here) (is_effect (expr_pair e).0) j (record { faults = clean.faults; reached = clean.reached })) in
       let g = goes env place (typed_behind sight sight.locals (expr_pair e).0 env h) (stands_behind here sight sight.locals (expr_pair e).0 place at) members in
-      record { own = g.own; typed = g.typed; is = a.steps binds_nothing rest (record { shape = shape.Wild; place = place }) refl ∙ g.is };
+      record { own = g.own; typed = g.typed; declared = g.declared; is = a.steps binds_nothing rest (record { shape = shape.Wild; place = place }) refl ∙ g.is };
+  known = λ sight. refl;
 }
   where
     bare_fine : (known : Known) (b : Bool) (j : Judgement) → IsFine known (if b then j else no_token (span_of (expr_pair e)) j) → IsFine known j
@@ -285,32 +292,38 @@ statement_there x w =
         fold_out-Stmt c.stmt c.node c.shape c.type_node c.block c.bind c.arg c.arm c.expr c.field c.loop c.number c.pattern c.type_expr s.stmt s.node s.shape s.type_node s.block s.bind s.arg s.arm s.expr s.field s.loop s.number s.pattern s.type_expr x
 
     by_layer : (y : StmtLevel trees) → stmt_wide (map_stmt trees wide (folds wide widths) y) ≡ true → StepStands (seeing.stmt (map_stmt trees seen (folds seen seeing) y)).1 (λ outer ends. statement_steps outer ends y)
-    by_layer (Stmt-F.Let l) w = record { lowers = (let_at_top l w).lowers }
-    by_layer (Stmt-F.Bare e) w = record { lowers = (bare_there e w).lowers }
+    by_layer (Stmt-F.Let l) w = record { lowers = (let_at_top l w).lowers; known = (let_at_top l w).known }
+    by_layer (Stmt-F.Bare e) w = record { lowers = (bare_there e w).lowers; known = (bare_there e w).known }
 
 abbrev judged_statements : List Stmt → StatementJudging
 judged_statements ss = statements_judged (map (λ (s : Stmt × StatementJudging). s.1) (map (fold_stmt seen seeing) ss))
 
-statements_there : (ss : List Stmt) → all_wide (map (fold_stmt wide widths) ss) ≡ true → (last : Option Expr) (t : Option DslxType) (here : Instance → Bool) (sight : Sight) (env : Env) (outer place : CorePlace) (ends : List End)
+statements_there : (ss : List Stmt) → all_wide (map (fold_stmt wide widths) ss) ≡ true → (last : Option Expr) (types : Declarations) (t : Option DslxType) (here : Instance → Bool) (sight : Sight) (env : Env) (outer place : CorePlace) (ends : List End)
     → IsWellTyped sight env → StandsBeside here sight place → MembersStand sight outer ends → IsClean here (judged_statements ss true sight).faults (judged_statements ss true sight).reached
-    → ((inner : Env) (beyond : CorePlace) → IsWellTyped (judged_statements ss true sight).sight inner → StandsBeside here (judged_statements ss true sight).sight beyond → GoesTo t (statements_steps outer ends [] last beyond))
-    → GoesTo t (statements_steps outer ends ss last place)
-statements_there [] w last t here sight env outer place ends h at members clean goes = goes env place h at
-statements_there (s ∷ ss) w last t here sight env outer place ends h at members clean goes =
+    → ((inner : Env) (beyond : CorePlace) → IsWellTyped (judged_statements ss true sight).sight inner → StandsBeside here (judged_statements ss true sight).sight beyond → GoesTo types t (statements_steps outer ends [] last beyond))
+    → GoesTo types t (statements_steps outer ends ss last place)
+statements_there [] w last types t here sight env outer place ends h at members clean goes = goes env place h at
+statements_there (s ∷ ss) w last types t here sight env outer place ends h at members clean goes =
     let first = (fold_stmt seen seeing s).1 true sight in
     let rest = judged_statements ss true first.sight in
     let p = none_in first.faults rest.faults clean.faults in
     let q = all_in here first.reached rest.reached clean.reached in
     let v = and_true (fold_stmt wide widths s) (all_wide (map (fold_stmt wide widths) ss)) w in
-    (statement_there s v.0).lowers here sight env outer place ends h at members (record { faults = p.0; reached = q.0 }) (statements_steps outer ends ss last) t
-    (λ inner beyond typed stands there. statements_there ss v.1 last t here first.sight inner outer beyond ends typed stands there (record { faults = p.1; reached = q.1 }) goes)
+    (statement_there s v.0).lowers here sight env outer place ends h at members (record { faults = p.0; reached = q.0 }) (statements_steps outer ends ss last) types t
+    (λ inner beyond typed stands there. statements_there ss v.1 last types t here first.sight inner outer beyond ends typed stands there (record { faults = p.1; reached = q.1 }) goes)
+
+statements_known : (ss : List Stmt) → all_wide (map (fold_stmt wide widths) ss) ≡ true → (sight : Sight) → (judged_statements ss true sight).sight.known ≡ sight.known
+statements_known [] w sight = refl
+statements_known (s ∷ ss) w sight =
+    let v = and_true (fold_stmt wide widths s) (all_wide (map (fold_stmt wide widths) ss)) w in
+    statements_known ss v.1 ((fold_stmt seen seeing s).1 true sight).sight ∙ (statement_there s v.0).known sight
 
 -- ---- the block
 
 pub block_of_next : (b : Block) → block_writes_widths b ≡ true → (here : Instance → Bool) (sight : Sight) (env : Env) (outer place : CorePlace) (ends : List End) → IsWellTyped sight env → StandsBeside here sight place → MembersStand sight outer ends
-    → IsFine (reaching sight.known here) ((block_pair b).1 true sight) → BecomesSteps ((block_pair b).1 true sight) (statements_steps outer ends (out-Block b).statements (out-Block b).value place)
+    → IsFine (reaching sight.known here) ((block_pair b).1 true sight) → BecomesSteps (types_at sight) ((block_pair b).1 true sight) (statements_steps outer ends (out-Block b).statements (out-Block b).value place)
 block_of_next b w here sight env outer place ends h at members fine =
-    subst (λ j. BecomesSteps j (statements_steps outer ends (out-Block b).statements (out-Block b).value place)) (sym judged)
+    subst (λ j. BecomesSteps (types_at sight) j (statements_steps outer ends (out-Block b).statements (out-Block b).value place)) (sym judged)
     (by_value (out-Block b).value (sym (out_block wide widths b) ∙ w) (subst (IsFine (reaching sight.known here)) judged fine))
   where
     out_block : (c : Carriers) (s : Steps c) (x : Block) → fold_block c s x ≡ s.block (map_block trees c (folds c s) (out-Block x))
@@ -334,20 +347,20 @@ block_of_next b w here sight env outer place ends h at members fine =
 
     by_last : (o : Option Expr) (last : Judgement) → all_wide (map (fold_stmt wide widths) ss) ≡ true
         → IsFine (reaching sight.known here) (settled (out-Block b).span last.ty (walked.faults ++ last.faults) (walked.reached ++ last.reached) (one_and (plus_size walked.size last.size)))
-        → ((inner : Env) (beyond : CorePlace) → IsWellTyped walked.sight inner → StandsBeside here walked.sight beyond → IsFine (reaching sight.known here) last → GoesTo last.ty (statements_steps outer ends [] o beyond))
-        → BecomesSteps (settled (out-Block b).span last.ty (walked.faults ++ last.faults) (walked.reached ++ last.reached) (one_and (plus_size walked.size last.size))) (statements_steps outer ends ss o place)
+        → ((inner : Env) (beyond : CorePlace) → IsWellTyped walked.sight inner → StandsBeside here walked.sight beyond → IsFine (reaching sight.known here) last → GoesTo (types_at walked.sight) last.ty (statements_steps outer ends [] o beyond))
+        → BecomesSteps (types_at sight) (settled (out-Block b).span last.ty (walked.faults ++ last.faults) (walked.reached ++ last.reached) (one_and (plus_size walked.size last.size))) (statements_steps outer ends ss o place)
     by_last o last v fine goes =
         let size = one_and (plus_size walked.size last.size) in
         let s = settled_fine (reaching sight.known here) (out-Block b).span last.ty (walked.faults ++ last.faults) (walked.reached ++ last.reached) size fine in
         let p = none_in walked.faults last.faults s.faults in
         let q = all_in here walked.reached last.reached s.reached in
-        let g = statements_there ss v o last.ty here sight env outer place ends h at members (record { faults = p.0; reached = q.0 }) (λ inner beyond typed stands. goes inner beyond typed stands (record { faults = p.1; reached = q.1 })) in
-        steps_there (settled (out-Block b).span last.ty (walked.faults ++ last.faults) (walked.reached ++ last.reached) size) (statements_steps outer ends ss o place) (record { own = g.own; typed = s.ty ∙ g.typed; is = g.is })
+        let g = statements_there ss v o (types_at walked.sight) last.ty here sight env outer place ends h at members (record { faults = p.0; reached = q.0 }) (λ inner beyond typed stands. goes inner beyond typed stands (record { faults = p.1; reached = q.1 })) in
+        steps_there (types_at sight) (settled (out-Block b).span last.ty (walked.faults ++ last.faults) (walked.reached ++ last.reached) size) (statements_steps outer ends ss o place) (record { own = g.own; typed = s.ty ∙ g.typed; declared = subst (λ (k : Known). IsDeclared k.items.type_named g.own) (statements_known ss v sight) g.declared; is = g.is })
 
-    by_value : (o : Option Expr) → block_wide (map_block trees wide (folds wide widths) (with_value o)) ≡ true → IsFine (reaching sight.known here) (judgement o) → BecomesSteps (judgement o) (statements_steps outer ends ss o place)
+    by_value : (o : Option Expr) → block_wide (map_block trees wide (folds wide widths) (with_value o)) ≡ true → IsFine (reaching sight.known here) (judgement o) → BecomesSteps (types_at sight) (judgement o) (statements_steps outer ends ss o place)
     by_value None w fine =
         let v = and_true (all_wide (map (fold_stmt wide widths) ss)) true w in
-        by_last None (last_judged walked.sight None) v.0 fine (λ inner beyond typed stands fine. record { own = unit_type; typed = refl; is = refl })
+        by_last None (last_judged walked.sight None) v.0 fine (λ inner beyond typed stands fine. record { own = unit_type; typed = refl; declared = tuple_declared (types_at walked.sight) [] tt; is = refl })
     by_value (Some e) w fine =
         let v = and_true (all_wide (map (fold_stmt wide widths) ss)) (writes_widths e) w in
         by_last (Some e) (last_judged walked.sight (Some (expr_pair e))) v.0 fine (λ inner beyond typed stands fine. last_there here walked.sight inner beyond e v.1 typed stands (record { faults = fine.faults; reached = fine.reached }))

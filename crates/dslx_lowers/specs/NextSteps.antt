@@ -21,7 +21,8 @@ abbrev pub MembersStand : Sight → CorePlace → List End → Type 0
 MembersStand sight outer ends = (name : List ℕ) (o : Outlet) → outlet_in name sight.members ≡ Some o → MemberThere (types_at sight) outer ends name o
 
 -- it becomes steps, and the next state has the type that it has
-pub record BecomesSteps (j : Judgement) (o : Option LoweredSteps) : Type 0 where
+pub record BecomesSteps (types : Declarations) (j : Judgement) (o : Option LoweredSteps) : Type 0 where
   pub steps : LoweredSteps
   pub is : o ≡ Some steps
   pub typed : j.ty ≡ Some steps.next.ty
+  pub declared : IsDeclared types steps.next.ty
