@@ -48,3 +48,5 @@ pub mod OfTables
 pub mod OfEffects
 -- the block of `next`
 pub mod OfNext
+-- `next` of instances of procs
+pub mod OfProcs

@@ -10,3 +10,5 @@ pub mod Instances
 pub mod InstanceLists
 -- the block of `next`
 pub mod NextSteps
+-- `next` of instances of procs
+pub mod Nexts
