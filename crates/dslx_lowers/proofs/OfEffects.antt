@@ -8,15 +8,14 @@ use Rattle.dslx_meaning.specs.declared.ty.DslxType.TheOpen.{DslxType-F}
 use Rattle.dslx_meaning.specs.declared.ty.DslxType.TheFolds.{fold-roll-DslxType}
 use Rattle.dslx_core.specs.declared.step.Step.TheVariants as step
 use Rattle.xb_span.specs.declared.span.Span.{Span}
-use Rattle.xb_bits.specs.Word.{word}
 use Rattle.std.specs.List.{list_all}
-use Rattle.std.proofs.Common.{Bool, List, None, Option, Some, [], ap, false, if◌then◌else◌, not, refl, sym, true, ℕ, ◌||◌, ◌∙◌, ◌∷◌, ◌≡◌, subst, ◌++◌}
+use Rattle.std.proofs.Common.{Bool, List, None, Option, Some, [], ap, false, not, refl, sym, true, ℕ, ◌||◌, ◌∙◌, ◌∷◌, ◌≡◌, subst, ◌++◌}
 use Rattle.dslx_typed.specs.WellTyped.{IsWellTyped, types_at}
 use Rattle.dslx_typed.specs.Declared.{Declarations, IsDeclared, as_declared, declared_step}
 use Rattle.dslx_typed.specs.Complete.{IsFine}
 use Rattle.dslx_typed.proofs.Lemmas.{or_false, tuple_declared}
-use Rattle.dslx_tree_lemmas.proofs.Lemmas.Levels.{Carriers, NodeLevel, map_node, trees}
-use Rattle.dslx_tree_lemmas.proofs.Lemmas.Folds.{Steps, folds}
+use Rattle.dslx_tree_lemmas.proofs.Lemmas.Levels.{NodeLevel, map_node, trees}
+use Rattle.dslx_tree_lemmas.proofs.Lemmas.Folds.{folds}
 use Rattle.dslx_tree.specs.declared.process.End.{End}
 use Rattle.dslx_tree.specs.declared.process.Direction.{Direction}
 use Rattle.dslx_tree.specs.declared.expr.Expr.{Expr, out-Expr}
@@ -26,31 +25,28 @@ use Rattle.dslx_rules.specs.Judgings.{judged_sorts}
 use Rattle.dslx_rules.specs.Judging.{ExprPair, Instance, Judgement, Outlet, Sight, alone, span_of, typed_in, within, Known, faults_of_all, name_of_expr, one_and, plus_size, reached_of_all, size_of_all, types_of}
 use Rattle.dslx_rules.specs.CallRules.{channel_named, outlet_at, outlet_in, receiving, token_faults, token_judged, channel_seen, receiving_if, sending, sending_if, word_of, site_faults, effect_with, ChannelSeen, goes_there, has_site, outlet_if}
 use Rattle.dslx_rules.specs.AggregateRules.{wanted_faults, when_all}
-use Rattle.dslx_meaning.specs.declared.value.DslxValue.{Token}
 use Rattle.dslx_meaning.specs.declared.ty.DslxType.TheOpen.{DslxType-F}
 use Rattle.dslx_meaning.specs.declared.ty.DslxType.TheFolds.{fold-roll-DslxType}
 use Rattle.dslx_meaning.specs.Types.{received, same_type, plain_type}
 use Rattle.dslx_meaning.specs.Lists.{and_then, where_true, with_both}
-use Rattle.dslx_meaning.specs.Environment.{Env, bind}
+use Rattle.dslx_meaning.specs.Environment.{Env}
 use Rattle.dslx_meaning.specs.Activation.{Computes, SiteAct, TakesWord, node_of, SendsWord, SendsWordIf, TakesWordIf, name_in_node, at_channel}
 use Rattle.dslx_lowers.specs.Widths.{writes_widths}
-use Rattle.dslx_lowers.specs.NextSteps.{MemberThere, MembersStand}
+use Rattle.dslx_lowers.specs.NextSteps.{MembersStand}
 use Rattle.dslx_lowers.specs.Lowers.{reaching}
 use Rattle.dslx_lowers.specs.Beside.{StandsBeside}
-use Rattle.dslx_lowers.proofs.Trees.{paired, pairing, own_expr}
+use Rattle.dslx_lowers.proofs.Trees.{own_expr}
 use Rattle.dslx_lowers.proofs.Parts.{Becomes, alone_becomes, within_becomes}
 use Rattle.dslx_lowers.proofs.Joined.{seen, seeing, expression_part}
 use Rattle.dslx_lowers.proofs.Equal.{equal_of_text}
 use Rattle.dslx_lowering.specs.Trees.{expression_lowered, of_type}
-use Rattle.dslx_lowering.specs.Steps.{BindsAtPlace, CoreMember, LoweredSteps, LowersSteps, act_lowered, compute_lowered, member_in, step_then, receive_lowered, send_lowered}
+use Rattle.dslx_lowering.specs.Steps.{BindsAtPlace, CoreMember, LoweredSteps, LowersSteps, act_lowered, compute_lowered, step_then, receive_lowered, send_lowered}
 use Rattle.dslx_lowering.specs.Patterns.{LoweredShape}
 use Rattle.dslx_lowering.specs.CorePlaces.{CorePlace}
 use Rattle.dslx_core.specs.declared.step.Step.{Step}
 use Rattle.xb_span.specs.declared.fault.Fault.{Fault}
-use Rattle.net_core.specs.Behavior.{Receive}
 use Rattle.dslx_tree.specs.declared.process.Direction.TheVariants.{In, Out}
 use Rattle.dslx_rules.specs.OperatorRules.{is_bool, unless_type}
-use Rattle.dslx_core.specs.Designs.{token}
 
 -- ---- what an expression is judged to be at the top
 
@@ -113,7 +109,7 @@ effect_fine known span sight direction t c js wrong given fine =
     let sites = site_faults span sight direction c in
     let parts = (t.faults ++ c.judgement.faults) ++ faults_of_all js in
     let s = settled_fine known span (and_then t.ty (λ u. when_all (types_of js) given)) ((parts ++ wrong) ++ sites) ((t.reached ++ c.judgement.reached) ++ reached_of_all js)
-        (one_and (plus_size t.size (plus_size c.judgement.size (size_of_all js)))) fine in
+    (one_and (plus_size t.size (plus_size c.judgement.size (size_of_all js)))) fine in
     let p = none_in_three parts wrong sites s.faults in
     let q = none_in_three t.faults c.judgement.faults (faults_of_all js) p.0 in
     let r = all_in_three known.is_sound t.reached c.judgement.reached (reached_of_all js) s.reached in

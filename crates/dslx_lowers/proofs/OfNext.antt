@@ -11,15 +11,7 @@ use Rattle.dslx_typed.proofs.Lemmas.{same_some, tuple_declared}
 use Rattle.dslx_tree_lemmas.proofs.Lemmas.Levels.{map_node, trees, BlockLevel, Carriers, LetLevel, StmtLevel, map_bind, map_block, map_stmt}
 use Rattle.dslx_tree_lemmas.proofs.Lemmas.Folds.{fold_arg, folds, Steps, fold_bind, fold_block, fold_pattern, fold_stmt, fold_type_expr}
 use Rattle.dslx_tree.specs.declared.process.End.{End}
-use Rattle.dslx_tree.specs.declared.operator.Prefix.{Prefix}
-use Rattle.dslx_tree.specs.declared.operator.Binary.{Binary}
-use Rattle.dslx_tree.specs.declared.item.Struct.{Struct}
-use Rattle.dslx_tree.specs.declared.item.Member.{Member}
-use Rattle.dslx_tree.specs.declared.item.Field.{Field}
 use Rattle.dslx_tree.specs.declared.ident.Ident.{Ident}
-use Rattle.dslx_tree.specs.declared.expr.Number.{Number}
-use Rattle.dslx_tree.specs.declared.expr.Node.{Node}
-use Rattle.dslx_tree.specs.declared.expr.For.{For}
 use Rattle.dslx_tree.specs.declared.expr.Expr.{Expr, out-Expr}
 use Rattle.dslx_tree.specs.declared.expr.Arg.{Arg}
 use Rattle.dslx_tree.specs.declared.block.Stmt.TheOpen.{Node-F, Stmt-F}
@@ -29,8 +21,7 @@ use Rattle.dslx_sound.proofs.Lemmas.{wrongly_called, all_in, all_in_three, alone
 use Rattle.dslx_rules.specs.NodeRules.{expr_pair, node_judged, block_pair}
 use Rattle.dslx_rules.specs.Judging.{ExprPair, Instance, Judgement, Known, Sight, all_alone, alone, has_broken, no_token, one_and, plus_size, settled, span_of}
 use Rattle.dslx_rules.specs.CallRules.{call_judged, channel_seen, held_judged, receiving, receiving_if, sending, sending_if, wrong_effect}
-use Rattle.dslx_meaning.specs.declared.value.DslxValue.{Array, Tuple}
-use Rattle.dslx_meaning.specs.Environment.{Env, bind}
+use Rattle.dslx_meaning.specs.Environment.{Env}
 use Rattle.dslx_meaning.specs.Callees.{AllOnes, CallKind, Calls, CountsLeading, CountsTrailing, Joins, Parity, Receives, ReceivesIf, Reverses, Sends, SendsIf, SomeOne, Updates, kind_of_call}
 use Rattle.dslx_meaning.specs.Activation.{Computes, NodeLayer, act_of, act_of_call, act_of_node, node_of}
 use Rattle.dslx_lowers.specs.Widths.{all_wide, node_wide, writes_widths, block_wide, block_writes_widths, let_wide, stmt_wide, wide_if}

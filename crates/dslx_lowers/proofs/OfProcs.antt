@@ -1,27 +1,24 @@
 -- The `next` of an instance of a proc becomes something.
-use Rattle.dslx_meaning.specs.declared.ty.DslxType as ty
 use Rattle.dslx_meaning.specs.declared.ty.DslxType.TheVariants as rolls
 use Rattle.dslx_meaning.specs.declared.ty.DslxType.TheOpen.{DslxType-F}
 use Rattle.dslx_meaning.specs.declared.ty.DslxType.TheFolds.{fold-roll-DslxType}
 use Rattle.std.specs.List.{list_all}
-use Rattle.std.proofs.Common.{Bool, List, None, Option, Some, [], ap, false, if◌then◌else◌, map, not, refl, subst, sym, true, ℕ, ◌&&◌, ◌++◌, ◌∙◌, ◌∷◌, ◌≡◌}
-use Rattle.xb_span.specs.declared.span.Span.{Span}
-use Rattle.xb_span.specs.declared.fault.Fault.{Fault}
+use Rattle.std.proofs.Common.{Bool, List, Some, [], ap, false, map, not, refl, subst, sym, true, ◌&&◌, ◌++◌, ◌∙◌, ◌∷◌, ◌≡◌}
 use Rattle.xb_span.specs.declared.limit.What.TheVariants as what
 use Rattle.dslx_tree.specs.declared.process.Proc.{Proc}
-use Rattle.dslx_tree.specs.declared.block.Block.{Block, out-Block}
+use Rattle.dslx_tree.specs.declared.block.Block.{out-Block}
 use Rattle.dslx_meaning.specs.declared.ty.DslxType.{DslxType}
-use Rattle.dslx_meaning.specs.declared.value.DslxValue.{DslxValue, Array, Bits, Token, Tuple}
+use Rattle.dslx_meaning.specs.declared.value.DslxValue.{DslxValue}
 use Rattle.dslx_meaning.specs.Types.{same_type}
 use Rattle.dslx_meaning.specs.Lists.{and_then, where_true}
 use Rattle.dslx_meaning.specs.Environment.{Env, Meanings, bind}
 use Rattle.dslx_rules.specs.AggregateRules.{wanted_faults}
 use Rattle.dslx_rules.specs.ConstantRules.{size_faults}
-use Rattle.dslx_rules.specs.ItemRules.{Found, and_found, body_judged, found_in, judged_type, only_faults, parameters_found}
-use Rattle.dslx_rules.specs.Judging.{Instance, Judgement, Known, Outlet, Sight, Typed, passes_count, with_typed}
+use Rattle.dslx_rules.specs.ItemRules.{and_found, body_judged, found_in, judged_type, only_faults, parameters_found}
+use Rattle.dslx_rules.specs.Judging.{Instance, Known, Outlet, Sight, Typed, passes_count, with_typed}
 use Rattle.dslx_rules.specs.NameRules.{local_name}
-use Rattle.dslx_rules.specs.NodeRules.{block_pair, type_pair}
-use Rattle.dslx_rules.specs.ProcRules.{config_found, count_sites, ends_found, outlet_of, proc_seen, proc_sight}
+use Rattle.dslx_rules.specs.NodeRules.{block_pair}
+use Rattle.dslx_rules.specs.ProcRules.{config_found, count_sites, ends_found, proc_seen, proc_sight}
 use Rattle.dslx_typed.specs.WellTyped.{IsWellTyped, types_at}
 use Rattle.dslx_typed.specs.Numbers.{AllOwn}
 use Rattle.dslx_typed.specs.Declared.{AllDeclared, Declarations, DeclaresParts, IsDeclared}
@@ -34,8 +31,8 @@ use Rattle.dslx_lowering.specs.Functions.{numbers_stand, outer_place}
 use Rattle.dslx_lowering.specs.Steps.{LoweredNext, is_sized, next_lowered, sized_step, steps_from}
 use Rattle.dslx_lowering.specs.Trees.{type_of_text_lowered}
 use Rattle.dslx_lowers.specs.Beside.{StandsBeside}
-use Rattle.dslx_lowers.specs.Lowers.{IsClean, reaching}
-use Rattle.dslx_lowers.specs.NextSteps.{BecomesSteps, MembersStand}
+use Rattle.dslx_lowers.specs.Lowers.{IsClean}
+use Rattle.dslx_lowers.specs.NextSteps.{MembersStand}
 use Rattle.dslx_lowers.specs.Nexts.{NextIsLowered, members_sight, next_writes_widths}
 use Rattle.dslx_lowers.specs.Widths.{block_writes_widths, type_writes_widths}
 use Rattle.dslx_lowers.proofs.Equal.{equal_of_text}
@@ -141,7 +138,7 @@ next_is_lowered here known p numbers env core own w h at members clean =
     let size = size_faults known span.to (record j { faults = j.faults ++ wrong }) in
     let fine = none_in j.faults wrong (none_in (j.faults ++ wrong) size a7.0).0 in
     let e = block_of_next body wide.1 here inner (bind name v.0 env) outer (with_local name t.ty outer) p.members (typed_with (with_typed sight (local ∷ [])) inside.members (bind name v.0 env) h')
-        (stands_with here (with_typed sight (local ∷ [])) inside.members (with_local name t.ty outer) at') members (record { faults = fine.0; reached = r7.0 }) in
+    (stands_with here (with_typed sight (local ∷ [])) inside.members (with_local name t.ty outer) at') members (record { faults = fine.0; reached = r7.0 }) in
     let same = passed (same_type t.ty e.steps.next.ty) 9 span ((λ i. wanted_faults span (sym t.typed i) (sym e.typed i)) ∙ fine.1) in
     let equal = equal_of_text (types_at sight) t.ty e.steps.next.ty same t.declared e.declared in
     let stand = (λ i. numbers_stand (at.items i) (at.numbers i)) ∙ numbers_stand_there known h.known p.name.name [] [] p.parameters numbers a1.0 own refl in

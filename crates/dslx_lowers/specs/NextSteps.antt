@@ -1,7 +1,6 @@
 -- The block of `next` that becomes steps.
 use Rattle.std.specs.Prelude.{◌≡◌, ℕ, List, Option, Some}
 use Rattle.dslx_tree.specs.declared.process.End.{End}
-use Rattle.dslx_meaning.specs.declared.ty.DslxType.{DslxType}
 use Rattle.dslx_rules.specs.CallRules.{outlet_in}
 use Rattle.dslx_rules.specs.Judging.{Judgement, Outlet, Sight}
 use Rattle.dslx_typed.specs.Declared.{Declarations, IsDeclared}
