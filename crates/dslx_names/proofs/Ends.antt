@@ -4,7 +4,7 @@ use Rattle.std.specs.Str.{bytes_eq}
 use Rattle.std.proofs.Math.ListN.{drop_of_length-le, get_or-map}
 use Rattle.std.proofs.Math.Seq.{drop-cons}
 use Rattle.std.proofs.lemmas.Bool.{cases_Bool, leb-true, leb-false}
-use Rattle.std.proofs.lemmas.List.{length-drop, length-map, length-reverse, reverse-append, take-append-drop, take-map, get_or-reverse}
+use Rattle.std.proofs.lemmas.List.{length-drop, length-map, length-reverse, map-append, reverse-append, take-append-drop, take-map, get_or-reverse}
 use Rattle.dslx_meaning.specs.Environment.{Given, given_in}
 use Rattle.dslx_names.specs.Bound.{given}
 use Rattle.dslx_names.specs.declared.scope.Binding.{Binding}
@@ -58,3 +58,11 @@ passed_here name xs i m b within at is other =
     let e = from_end xs i m b within at is in
     let next : suc i ≡ i + 1 = omega arith in
     rw (e, other) (ap (λ (j : ℕ). given_in name (drop j (reverse (map given xs)))) next)
+
+-- as many as were bound
+pub counted : (xs : List Binding) → length (reverse (map given xs)) ≡ length xs
+counted xs = length-reverse (map given xs) ∙ length-map xs given
+
+-- names that are bound behind others
+pub joined : (xs ys : List Binding) → reverse (map given (xs ++ ys)) ≡ reverse (map given ys) ++ reverse (map given xs)
+joined xs ys = ap reverse (map-append given xs ys) ∙ reverse-append (map given xs) (map given ys)

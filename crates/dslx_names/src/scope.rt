@@ -1,4 +1,4 @@
-ghost use Rattle.std.specs.Prelude.{◌≡◌, ◌∷◌, [], drop, OnOk, map, reverse};
+ghost use Rattle.std.specs.Prelude.{◌≡◌, ◌∷◌, ◌++◌, [], drop, length, OnOk, map, reverse};
 ghost use Rattle.std.specs.Option.{option_copied};
 ghost use Rattle.dslx_meaning.specs.Environment.{given_in};
 ghost use Rattle.dslx_names.specs.Bound.{given};
@@ -50,6 +50,23 @@ impl<'a> Scope<'a> {
         ensures { OnOk result (self.new ≡ given binding.entry ∷ self.old) }
     {
         self.bindings.push(binding)?;
+        Ok(())
+    }
+
+    /// How many names are bound.
+    #[tactic(auto, using(crate::proofs::Ends::counted))]
+    pub fn len(&self) -> usize
+        ensures { result ≡ length self.now }
+    {
+        self.bindings.len()
+    }
+
+    /// Binds all of these too, in their order.
+    #[tactic(auto, using(crate::proofs::Ends::joined))]
+    pub fn bind_all(&mut self, mut names: Scope<'a>) -> Result<(), AllocError>
+        ensures { OnOk result (self.new ≡ names.entry ++ self.old) }
+    {
+        self.bindings.append(&mut names.bindings)?;
         Ok(())
     }
 

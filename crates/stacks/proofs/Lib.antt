@@ -1,2 +1,4 @@
 -- ends of lists
 mod Tails
+-- the first of a list
+mod Tops

@@ -1,4 +1,4 @@
-ghost use Rattle.std.specs.Prelude.{◌≡◌, ℕ, [], ◌∷◌, drop, take, reverse, slice_get, IfOk, OnOk};
+ghost use Rattle.std.specs.Prelude.{◌≡◌, ℕ, [], ◌∷◌, drop, take, reverse, length, slice_get, IfOk, OnOk, MatchOption};
 
 use std::alloc::{AllocError, Global};
 use std::marker::Model;
@@ -30,6 +30,15 @@ impl<T> Stack<T> {
     }
 }
 
+impl<T> Stack<T> {
+    /// How many there are.
+    pub fn len(&self) -> usize
+        ensures { result ≡ length self.now }
+    {
+        self.items.len()
+    }
+}
+
 impl<T: Drop> Stack<T> {
     pub fn push(&mut self, item: T) -> Result<(), AllocError>
         ensures { OnOk result (self.new ≡ item ∷ self.old) }
@@ -44,6 +53,17 @@ impl<T: Drop> Stack<T> {
         ensures rest { self.new ≡ drop 1 self.old }
     {
         self.items.pop()
+    }
+
+    /// Takes off the top, if there is one: what was there is that and what is left.
+    #[tactic(auto, using(crate::proofs::Tops::popped, crate::proofs::Tops::emptied, crate::proofs::Tops::left_empty))]
+    pub fn take_off(&mut self) -> Option<T>
+        ensures { MatchOption result ((self.old ≡ []) × (self.new ≡ [])) (λ top. self.old ≡ top ∷ self.new) }
+    {
+        match self.pop() {
+            Some(top) => Some(top),
+            None => None,
+        }
     }
 
     /// So many from the top, the lowest first; all where there are fewer.

@@ -1,0 +1,2 @@
+-- a step of the machine in the code
+mod Taken

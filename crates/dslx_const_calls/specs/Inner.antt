@@ -1,0 +1,2 @@
+-- what operands infer
+pub mod Inferred

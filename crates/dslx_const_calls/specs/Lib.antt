@@ -1,0 +1,2 @@
+-- contracts of private parts
+pub mod Inner

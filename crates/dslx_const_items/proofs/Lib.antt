@@ -1,0 +1,2 @@
+-- sizes are 1 or more
+mod Sizes

@@ -1,0 +1,2 @@
+-- elements that are numbers without a type
+pub mod Elements

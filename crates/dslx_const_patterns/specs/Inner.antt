@@ -1,0 +1,2 @@
+-- the turns of a loop
+pub mod Turns

@@ -1,0 +1,2 @@
+-- one less, where there is one
+mod Counts
