@@ -2,7 +2,7 @@
 use Rattle.std.proofs.Common.{◌≡◌, ℕ, Bool, true, false, if◌then◌else◌, List, [], ◌∷◌, ◌++◌, length, map, Option, Some, None, refl, sym, ap, ◌∙◌}
 use Rattle.std.proofs.lemmas.List.{append_assoc, append-nil}
 use Rattle.dslx_tree.specs.declared.block.Block.{Block, out-Block}
-use Rattle.dslx_tree.specs.declared.block.Let.{Let, out-Let}
+use Rattle.dslx_tree.specs.declared.block.Let.{out-Let}
 use Rattle.dslx_tree.specs.declared.block.Stmt.{Stmt, out-Stmt}
 use Rattle.dslx_tree.specs.declared.block.Stmt.TheOpen.{Stmt-F, Node-F, Shape-F, TypeNode-F}
 use Rattle.dslx_tree.specs.declared.expr.Arg.{Arg, out-Arg}
@@ -26,7 +26,7 @@ use Rattle.dslx_free_names.specs.Tasks as task
 use Rattle.dslx_free_names.specs.Tasks.{FreeTask, FreeState}
 use Rattle.dslx_free_names.proofs.Ends.{back_to}
 use Rattle.dslx_free_names.proofs.Named.{in_seven, in_three, in_two}
-use Rattle.dslx_free_names.proofs.Opened.{arg_opened, arm_opened, bind_opened, block_opened, expr_opened, field_mentioned, field_opened, in_arm_by, in_bind, in_bind_by, in_loop, in_loop_by, in_shape, in_stmt_layer, expr_mentions_if, loop_opened, node_mentioned, number_mentions, number_opened, pattern_opened, stmt_opened, type_mentioned, type_mentions_if, type_opened}
+use Rattle.dslx_free_names.proofs.Opened.{arg_opened, arm_opened, bind_opened, block_opened, expr_opened, field_mentioned, field_opened, in_loop, in_shape, in_stmt_layer, expr_mentions_if, loop_opened, node_mentioned, number_mentions, number_opened, pattern_opened, stmt_opened, type_mentioned, type_mentions_if, type_opened}
 
 -- what is mentioned here, and then what is to be done
 abbrev pub here : List Mention → FreeState → List (List ℕ)

@@ -1,8 +1,7 @@
 -- A step of the machine in the code, and its end.
-use Rattle.std.proofs.Common.{◌≡◌, ℕ, List, [], ◌∷◌, ◌++◌, map, sym, ap, ◌∙◌}
+use Rattle.std.proofs.Common.{◌≡◌, List, [], ◌∷◌, map, sym, ap, ◌∙◌}
 use Rattle.std.proofs.lemmas.List.{append-nil}
-use denote.Ref.{Bor}
-use Rattle.dslx_free_names.specs.Found.{all_found, names_of_tasks}
+use Rattle.dslx_free_names.specs.Found.{all_found}
 use Rattle.dslx_free_names.specs.Plain.{plain_task, shown}
 use Rattle.dslx_free_names.specs.Steps.{visited, with_todo}
 use Rattle.dslx_free_names.specs.declared.machine.Machine.{Machine}

@@ -1,7 +1,6 @@
 -- What comes of each task: the free names of what is to be visited, and what is bound behind it.
 use Rattle.std.specs.Prelude.{ℕ, List, [], ◌∷◌, ◌++◌, map}
 use Rattle.dslx_tree.specs.declared.block.Stmt.{Stmt}
-use Rattle.dslx_tree.specs.declared.pattern.Pattern.{Pattern}
 use Rattle.dslx_rules.specs.Mentions.{Mentions, all_mentions, binders_mentions, binders_names, mentioned, mentioned_in_arg, mentioned_in_block, mentioned_in_type, nowhere, value_names}
 use Rattle.dslx_free_names.specs.Tasks as task
 use Rattle.dslx_free_names.specs.Tasks.{FreeTask, FreeState}

@@ -93,16 +93,20 @@ fn open_loop<'a>(machine: &mut Machine<'a>, turns: &'a For) -> Result<(), AllocE
     let keep = machine.keep();
     machine.both(Task::Block(&turns.body), keep)?;
     machine.both(Task::Bind(&turns.index), Task::Bind(&turns.accumulator))?;
-    machine.both(Task::Pattern(&turns.index), Task::Pattern(&turns.accumulator))?;
+    machine.both(
+        Task::Pattern(&turns.index),
+        Task::Pattern(&turns.accumulator),
+    )?;
     machine.type_first(&turns.ty)?;
-    machine.three(Task::Expr(&turns.from), Task::Expr(&turns.to), Task::Expr(&turns.start))
+    machine.three(
+        Task::Expr(&turns.from),
+        Task::Expr(&turns.to),
+        Task::Expr(&turns.start),
+    )
 }
 
 /// Visits expressions in order.
-pub(crate) fn open_exprs<'a>(
-    machine: &mut Machine<'a>,
-    exprs: &'a [Expr],
-) -> Result<(), AllocError>
+pub(crate) fn open_exprs<'a>(machine: &mut Machine<'a>, exprs: &'a [Expr]) -> Result<(), AllocError>
     ensures { OnOk result (shown machine.new ≡ exprs_open exprs.now (shown machine.old)) }
 {
     match exprs {

@@ -42,7 +42,10 @@ fn open_block<'a>(machine: &mut Machine<'a>, block: &'a Block) -> Result<(), All
     ensures { OnOk result (shown machine.new ≡ block_opens block.now (shown machine.old)) }
 {
     let keep = machine.keep();
-    machine.both(Task::Statements(block.statements.as_slice(), &block.value), keep)
+    machine.both(
+        Task::Statements(block.statements.as_slice(), &block.value),
+        keep,
+    )
 }
 
 /// Visits statements in order, and then the last expression.
