@@ -3,15 +3,12 @@ use mathlib.Core.Bool.{true≢false}
 use Rattle.std.specs.List.{list_all}
 use Rattle.std.specs.Str.{bytes_eq}
 use Rattle.std.specs.Prelude.{slice_get}
-use Rattle.std.proofs.Common.{Bool, List, None, Option, Some, [], ap, false, if◌then◌else◌, map, refl, subst, sym, suc, true, ℕ, ◌&&◌, ◌++◌, ◌∙◌, ◌∷◌, ◌≡◌}
-use Rattle.xb_value.specs.Width.{widths_step}
-use Rattle.xb_value.specs.declared.ty.Ty.{fold-Ty}
+use Rattle.std.proofs.Common.{Bool, List, None, Option, Some, [], ap, false, if◌then◌else◌, map, refl, sym, suc, true, ℕ, ◌&&◌, ◌++◌, ◌∙◌, ◌∷◌, ◌≡◌}
 use Rattle.dslx_tree.specs.declared.process.End.{End}
 use Rattle.dslx_tree.specs.declared.type_expr.TypeExpr.{out-TypeExpr}
 use Rattle.dslx_meaning.specs.declared.ty.DslxType.{DslxType}
 use Rattle.dslx_meaning.specs.Lists.{and_then, place_in, where_true}
 use Rattle.dslx_meaning.specs.Environment.{Env}
-use Rattle.dslx_meaning.specs.Types.{plain_type}
 use Rattle.dslx_rules.specs.CallRules.{outlet_in}
 use Rattle.dslx_rules.specs.ItemRules.{judged_inner}
 use Rattle.dslx_rules.specs.Judging.{Instance, Judgement, Outlet, Sight}
@@ -23,12 +20,12 @@ use Rattle.dslx_typed.specs.Complete.{IsFine}
 use Rattle.dslx_typed.specs.WellTyped.{IsWellTyped, types_at}
 use Rattle.dslx_sound.proofs.Lemmas.{all_in, none_in}
 use Rattle.dslx_lowering.specs.CorePlaces.{CorePlace}
-use Rattle.dslx_lowering.specs.Steps.{can_travel, end_names, member_in}
+use Rattle.dslx_lowering.specs.Steps.{can_travel, end_names}
 use Rattle.dslx_lowering.specs.Trees.{type_of_text_lowered}
 use Rattle.dslx_lowers.specs.Beside.{StandsBeside}
 use Rattle.dslx_lowers.specs.Lowers.{IsClean, reaching}
 use Rattle.dslx_lowers.specs.Members.{EachHasWords, HasWords}
-use Rattle.dslx_lowers.specs.NextSteps.{MemberThere, MembersStand}
+use Rattle.dslx_lowers.specs.NextSteps.{MembersStand}
 use Rattle.dslx_lowers.proofs.Joined.{type_part_becomes}
 use Rattle.dslx_lowers.proofs.OfProcs.{sized_there}
 
