@@ -16,6 +16,7 @@ use dslx_values::{bits_in, field_of, unit_value};
 use std::alloc::{AllocError, Global};
 use xb_value::Boxed;
 
+/// Does a task of a block, or of an operation of one value or two.
 pub fn step_value<'a>(
     machine: &mut Machine<'a>,
     alloc: Global,

@@ -24,6 +24,7 @@ use std::alloc::{AllocError, Global};
 use texts::Name;
 use xb_value::{Boxed, Seq};
 
+/// Does a task of a type, a size or a bound.
 pub fn step_type<'a>(
     machine: &mut Machine<'a>,
     alloc: Global,

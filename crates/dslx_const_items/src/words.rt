@@ -19,6 +19,7 @@ pub fn number_of(ty: &DslxType, number: Bare) -> Result<Option<DslxValue>, Alloc
     }
 }
 
+/// A value as one of a type; a width that no word has is answered as for want of memory.
 pub fn cast(ty: &DslxType, value: &DslxValue) -> Result<Option<DslxValue>, AllocError>
     ensures { IfOk result (λ v. v ≡ the.cast_value ty.now value.now) }
 {
@@ -28,6 +29,7 @@ pub fn cast(ty: &DslxType, value: &DslxValue) -> Result<Option<DslxValue>, Alloc
     }
 }
 
+/// So many bits of a value from a bit on; a width that no word has is answered as for want of memory.
 pub fn part(
     value: &DslxValue,
     start: &DslxValue,
@@ -41,6 +43,7 @@ pub fn part(
     }
 }
 
+/// What an operator gives for two values; a width that no word has is answered as for want of memory.
 pub fn binary(
     op: Binary,
     left: &DslxValue,

@@ -48,6 +48,7 @@ pub fn gather_numbers<'a>(
     }
 }
 
+/// Puts the number argument that was found behind those before it, and goes on with the next.
 pub(crate) fn gather_next_number<'a>(
     machine: &mut Machine<'a>,
     alloc: Global,

@@ -18,6 +18,7 @@ use std::alloc::{AllocError, Global};
 use texts::Name;
 use xb_value::{Boxed, Seq};
 
+/// Begins with the fields of the struct type that was found.
 pub(crate) fn begin_fields<'a>(
     machine: &mut Machine<'a>,
     alloc: Global,
@@ -80,6 +81,7 @@ fn begin_rest<'a>(
     }
 }
 
+/// Goes on with the fields, where those that aren't written are those of the value that was found.
 pub(crate) fn take_rest<'a>(
     machine: &mut Machine<'a>,
     alloc: Global,
@@ -103,6 +105,7 @@ pub(crate) fn take_rest<'a>(
     )
 }
 
+/// Puts the field that was found behind those before it, and goes on with the next.
 pub(crate) fn gather_next_field<'a>(
     machine: &mut Machine<'a>,
     alloc: Global,

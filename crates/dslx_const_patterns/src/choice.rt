@@ -22,6 +22,7 @@ use stacks::Stack;
 use std::alloc::{AllocError, Global};
 use xb_bits::{Bits, add, zext};
 
+/// Does a task of a pattern, a match or a loop.
 pub fn step_choice<'a>(
     machine: &mut Machine<'a>,
     alloc: Global,

@@ -114,6 +114,7 @@ fn fit_if<'a>(
     }
 }
 
+/// Goes on with the pattern where the value that was found is the one that is to fit.
 pub(crate) fn compare<'a>(
     machine: &mut Machine<'a>,
     alloc: Global,

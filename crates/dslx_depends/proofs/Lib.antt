@@ -16,3 +16,5 @@ pub mod NoProcs
 pub mod OfItems
 -- chains that are long enough
 pub mod Stages
+-- for other crates' proofs
+pub mod Lemmas

@@ -159,11 +159,11 @@ module _ (P : List ℕ → Bool) (m : Module) (a b : Known) (closed : IsClosed P
 
   -- ---- parts
 
-  type_at : (home : List ℕ) → Own home → (bound : List (List ℕ)) → NamesAlike a b bound → (t : TypeExpr) → Meant (mentioned_in_type t bound) → (numbers : List Given) (unknown : List (List ℕ)) (locals : List Typed)
+  pub type_at : (home : List ℕ) → Own home → (bound : List (List ℕ)) → NamesAlike a b bound → (t : TypeExpr) → Meant (mentioned_in_type t bound) → (numbers : List Given) (unknown : List (List ℕ)) (locals : List Typed)
       → judged_type (sight_at a home numbers unknown locals) t ≡ judged_type (sight_at b home numbers unknown locals) t
   type_at home own bound n t h numbers unknown locals = written_type_alike P t bound (sight_at a home numbers unknown locals) b (sees home own bound n (mentioned_in_type t bound) h)
 
-  inner_at : (home : List ℕ) → Own home → (bound : List (List ℕ)) → NamesAlike a b bound → (t : TypeExpr) → Meant (mentioned_in_type t bound) → (numbers : List Given) (unknown : List (List ℕ)) (locals : List Typed)
+  pub inner_at : (home : List ℕ) → Own home → (bound : List (List ℕ)) → NamesAlike a b bound → (t : TypeExpr) → Meant (mentioned_in_type t bound) → (numbers : List Given) (unknown : List (List ℕ)) (locals : List Typed)
       → judged_inner (sight_at a home numbers unknown locals) t ≡ judged_inner (sight_at b home numbers unknown locals) t
   inner_at home own bound n t h numbers unknown locals = inner_same (sight_at a home numbers unknown locals) b (type_pair t) (type_at home own bound n t h numbers unknown locals)
 
@@ -300,7 +300,7 @@ module _ (P : List ℕ → Bool) (m : Module) (a b : Known) (closed : IsClosed P
       let unbroken = all_alike P a.is_unbroken b.is_unbroken s.known.unbroken (found_of_instance a k).reached (s.reached k own) ∙ ap (λ (f : Found). list_all b.is_unbroken f.reached) same in
       λ i. unbroken_by (unbroken i) (same i)
 
-  agreeing : (ms : List Mention) → Meant ms → Agreeing a.items b.items ms
+  pub agreeing : (ms : List Mention) → Meant ms → Agreeing a.items b.items ms
   agreeing ms h bound = mentions_agree P a b bound s.known ms (mentions_alike ms h)
 
   -- a call gives one value by both

@@ -35,7 +35,7 @@ abbrev there : {A : Type 0} → Option A → Bool
 there None = false
 there (Some a) = true
 
-pattern_use : (o : Option Definition) → is_of_use AsPattern o ≡ is_of_use AsValue o
+pub pattern_use : (o : Option Definition) → is_of_use AsPattern o ≡ is_of_use AsValue o
 pattern_use (Some (d.Constant c)) = refl
 pattern_use (Some (d.Function f)) = refl
 pattern_use (Some (d.Proc p)) = refl
@@ -51,27 +51,27 @@ is_proc_item _ = false
 -- ---- an item over what it mentions
 
 module _ (P : List ℕ → Bool) (m : Module) (a b : Known) (closed_in : IsClosed P m) (s : Stage P m a b) (plain : BindsNoConstant m) where
-  abbrev Own : List ℕ → Type 0
+  abbrev pub Own : List ℕ → Type 0
   Own home = list_all P (mentions_of m (item_named home m.items)) ≡ true
 
   other_text : b.whole ≡ m
   other_text = sym s.known.whole ∙ s.text
 
   -- what is known of the item of a name, where it is the same of both
-  at_item : {X : Type 0} (name : List ℕ) (f : Known → Option Definition → X) → f a (item_named name m.items) ≡ f b (item_named name m.items) → f a (item_named name a.whole.items) ≡ f b (item_named name b.whole.items)
+  pub at_item : {X : Type 0} (name : List ℕ) (f : Known → Option Definition → X) → f a (item_named name m.items) ≡ f b (item_named name m.items) → f a (item_named name a.whole.items) ≡ f b (item_named name b.whole.items)
   at_item name f e = (λ i. f a (item_named name (s.text i).items)) ∙ e ∙ sym (λ i. f b (item_named name (other_text i).items))
 
-  named_again : (name : List ℕ) (x : Definition) → item_named name m.items ≡ Some x → item_named (name_of_definition x) m.items ≡ Some x
+  pub named_again : (name : List ℕ) (x : Definition) → item_named name m.items ≡ Some x → item_named (name_of_definition x) m.items ≡ Some x
   named_again name x q = subst (λ n. item_named n m.items ≡ Some x) (sym (item_so_named m.items name x q)) q
 
   -- an item's mentions
-  own_mentions : (name : List ℕ) (x : Definition) → item_named name m.items ≡ Some x → Own name → list_all P (names_meant m (definition_mentions x)) ≡ true
+  pub own_mentions : (name : List ℕ) (x : Definition) → item_named name m.items ≡ Some x → Own name → list_all P (names_meant m (definition_mentions x)) ≡ true
   own_mentions name x q own = (λ i. list_all P (mentions_of m (sym q i))) ∙ own
 
-  own_again : (name : List ℕ) (x : Definition) → item_named name m.items ≡ Some x → Own name → Own (name_of_definition x)
+  pub own_again : (name : List ℕ) (x : Definition) → item_named name m.items ≡ Some x → Own name → Own (name_of_definition x)
   own_again name x q own = (λ i. list_all P (mentions_of m (named_again name x q i))) ∙ own_mentions name x q own
 
-  function_at : (name : List ℕ) (f : Function) → item_named name m.items ≡ Some (d.Function f) → Own name → (numbers : List DslxValue) → function_seen a f numbers ≡ function_seen b f numbers
+  pub function_at : (name : List ℕ) (f : Function) → item_named name m.items ≡ Some (d.Function f) → Own name → (numbers : List DslxValue) → function_seen a f numbers ≡ function_seen b f numbers
   function_at name f q own numbers =
       let names = plain name f (ap as_function q) in
       of.function_at P m a b closed_in s f (own_again name (d.Function f) q own) (of.function_parts P m a b closed_in s f (own_mentions name (d.Function f) q own))
@@ -219,11 +219,11 @@ module _ (P : List ℕ → Bool) (m : Module) (a b : Known) (closed_in : IsClose
 abbrev pub passes : Module → ℕ → List ℕ → Bool
 passes m k name = ends_within m k name && not (is_proc_item (item_named name m.items))
 
-and_both : (p q : Bool) → (p && q) ≡ true → (p ≡ true) × (q ≡ true)
+pub and_both : (p q : Bool) → (p && q) ≡ true → (p ≡ true) × (q ≡ true)
 and_both true q e = (refl, e)
 and_both false q e = absurd (true≢false (sym e))
 
-not_true : (b : Bool) → not b ≡ true → b ≡ false
+pub not_true : (b : Bool) → not b ≡ true → b ≡ false
 not_true false e = refl
 not_true true e = absurd (true≢false (sym e))
 
@@ -305,7 +305,7 @@ passes_closed m k name h =
     mentions_pass m k (item_named name m.items) (not_true (is_proc_item (item_named name m.items)) r.1) (closed m k name r.0)
 
 -- one item more
-passes_next : (m : Module) (k : ℕ) (name : List ℕ) → passes m (suc k) name ≡ true → (list_all (passes m k) (mentions_of m (item_named name m.items)) ≡ true) × (is_proc_item (item_named name m.items) ≡ false)
+pub passes_next : (m : Module) (k : ℕ) (name : List ℕ) → passes m (suc k) name ≡ true → (list_all (passes m k) (mentions_of m (item_named name m.items)) ≡ true) × (is_proc_item (item_named name m.items) ≡ false)
 passes_next m k name h =
     let r = and_both (ends_within m (suc k) name) (not (is_proc_item (item_named name m.items))) h in
     let other = not_true (is_proc_item (item_named name m.items)) r.1 in
@@ -365,34 +365,34 @@ call_none known given operands (Some (d.Struct x)) e = refl
 call_none known given operands None e = refl
 
 -- nothing is known of a name as an item of a kind that its item isn't of
-constant_unknown : (m : Module) (n : ℕ) (name : List ℕ) → is_of_use AsValue (item_named name m.items) ≡ false → (known_within m n).items.constant name ≡ None
+pub constant_unknown : (m : Module) (n : ℕ) (name : List ℕ) → is_of_use AsValue (item_named name m.items) ≡ false → (known_within m n).items.constant name ≡ None
 constant_unknown m zero name e = refl
 constant_unknown m (suc n) name e = no_item m n name (λ o. and_then (as_constant o) (λ c. (constant_seen (known_within m n) c).value)) (constant_none (known_within m n) (item_named name m.items) e)
 
-type_unknown : (m : Module) (n : ℕ) (name : List ℕ) → is_of_use AsType (item_named name m.items) ≡ false → (known_within m n).items.type_named name ≡ None
+pub type_unknown : (m : Module) (n : ℕ) (name : List ℕ) → is_of_use AsType (item_named name m.items) ≡ false → (known_within m n).items.type_named name ≡ None
 type_unknown m zero name e = refl
 type_unknown m (suc n) name e = no_item m n name (type_known (known_within m n)) (type_none (known_within m n) (item_named name m.items) e)
 
-struct_unknown : (m : Module) (n : ℕ) (name : List ℕ) → is_of_use AsStruct (item_named name m.items) ≡ false → (known_within m n).items.struct_named name ≡ None
+pub struct_unknown : (m : Module) (n : ℕ) (name : List ℕ) → is_of_use AsStruct (item_named name m.items) ≡ false → (known_within m n).items.struct_named name ≡ None
 struct_unknown m zero name e = refl
 struct_unknown m (suc n) name e = no_item m n name (λ o. and_then (as_struct o) (λ x. (struct_seen (known_within m n) x).ty)) (struct_none (known_within m n) (item_named name m.items) e)
 
-member_unknown : (m : Module) (n : ℕ) (name member : List ℕ) → is_of_use AsEnum (item_named name m.items) ≡ false → (known_within m n).items.member name member ≡ None
+pub member_unknown : (m : Module) (n : ℕ) (name member : List ℕ) → is_of_use AsEnum (item_named name m.items) ≡ false → (known_within m n).items.member name member ≡ None
 member_unknown m zero name member e = refl
 member_unknown m (suc n) name member e =
     no_item m n name (λ o. and_then (as_enum o) (λ x. enum_member_value (known_within m n) x member (member_named member x.members))) (member_none (known_within m n) member (item_named name m.items) e)
 
-call_unknown : (m : Module) (n : ℕ) (name : List ℕ) (given operands : List DslxValue) → is_of_use AsFunction (item_named name m.items) ≡ false → (known_within m n).items.call name given operands ≡ None
+pub call_unknown : (m : Module) (n : ℕ) (name : List ℕ) (given operands : List DslxValue) → is_of_use AsFunction (item_named name m.items) ≡ false → (known_within m n).items.call name given operands ≡ None
 call_unknown m zero name given operands e = refl
 call_unknown m (suc n) name given operands e =
     no_item m n name (λ o. and_then (as_function o) (λ f. call_of (known_within m n).items f given operands)) (call_none (known_within m n) given operands (item_named name m.items) e)
 
-no_function : (m : Module) (n : ℕ) (name : List ℕ) (f : Function) → is_of_use AsFunction (item_named name m.items) ≡ false → as_function (item_named name (known_within m n).whole.items) ≡ Some f → true ≡ false
+pub no_function : (m : Module) (n : ℕ) (name : List ℕ) (f : Function) → is_of_use AsFunction (item_named name m.items) ≡ false → as_function (item_named name (known_within m n).whole.items) ≡ Some f → true ≡ false
 no_function m n name f e q =
     let is = function_is (item_named name m.items) f ((λ i. as_function (item_named name (sym (whole_is m n) i).items)) ∙ q) in
     sym (ap (is_of_use AsFunction) is) ∙ e
 
-no_enum : {e : Enum} (o : Option Definition) → is_of_use AsEnum o ≡ false → as_enum o ≡ Some e → true ≡ false
+pub no_enum : {e : Enum} (o : Option Definition) → is_of_use AsEnum o ≡ false → as_enum o ≡ Some e → true ≡ false
 no_enum (Some (d.Enum x)) e q = e
 no_enum (Some (d.Constant c)) e q = sym (ap there q)
 no_enum (Some (d.Function f)) e q = sym (ap there q)
@@ -401,7 +401,7 @@ no_enum (Some (d.Alias x)) e q = sym (ap there q)
 no_enum (Some (d.Struct x)) e q = sym (ap there q)
 no_enum None e q = sym (ap there q)
 
-unused_alike : (m : Module) (a b : ℕ) (u : Use) (name : List ℕ) → is_of_use u (item_named name m.items) ≡ false → UseAlike (known_within m a) (known_within m b) u name
+pub unused_alike : (m : Module) (a b : ℕ) (u : Use) (name : List ℕ) → is_of_use u (item_named name m.items) ≡ false → UseAlike (known_within m a) (known_within m b) u name
 unused_alike m a b AsValue name e = constant_unknown m a name e ∙ sym (constant_unknown m b name e)
 unused_alike m a b AsPattern name e =
     let q = sym (pattern_use (item_named name m.items)) ∙ e in

@@ -100,7 +100,7 @@ constant_reached : (P : List ℕ → Bool) (known : Known) (sight : Sight) → s
 constant_reached P known sight same e bound h =
     unmarked P (span_of (expr_pair e)) (within sight (expr_pair e)) (expression_reaches P e bound false sight (subst (λ k. MentionsReach P k (expr_if (Some e) bound)) (sym same) h))
 
-default_reached : (P : List ℕ → Bool) (known : Known) (o : Option Expr) (bound : List (List ℕ)) → MentionsReach P known (expr_if o bound) → (home : List ℕ) (so_far : List Given) (unknown : List (List ℕ)) (e : Expr) → o ≡ Some e
+pub default_reached : (P : List ℕ → Bool) (known : Known) (o : Option Expr) (bound : List (List ℕ)) → MentionsReach P known (expr_if o bound) → (home : List ℕ) (so_far : List Given) (unknown : List (List ℕ)) (e : Expr) → o ≡ Some e
     → AllNamed P ((known_over known).default_in home so_far unknown e).judgement.reached
 default_reached P known o bound h home so_far unknown e q =
     constant_reached P known (record (item_sight known home so_far) { unknown = unknown }) refl e bound (subst (λ x. MentionsReach P known (expr_if x bound)) q h)

@@ -176,15 +176,15 @@ agree_on m x y p q bound (n ∷ ns) h = pick (is_of_use n.use_as (item_named n.n
 -- ---- what is bound
 
 -- each of these names is bound
-abbrev AllGiven : List (List ℕ) → List Given → Type 0
+abbrev pub AllGiven : List (List ℕ) → List Given → Type 0
 AllGiven [] bound = Unit {0}
 AllGiven (n ∷ ns) bound = ((v : DslxValue) × (given_in n bound ≡ Some v)) × AllGiven ns bound
 
-given_agree : (x y : Meanings) (ns : List (List ℕ)) (bound : List Given) → AllGiven ns bound → NamesAgree ns (within_items x bound) (within_items y bound)
+pub given_agree : (x y : Meanings) (ns : List (List ℕ)) (bound : List Given) → AllGiven ns bound → NamesAgree ns (within_items x bound) (within_items y bound)
 given_agree x y [] bound h = tt
 given_agree x y (n ∷ ns) bound h = (ap (λ o. or_else o (x.constant n)) h.0.1 ∙ sym (ap (λ o. or_else o (y.constant n)) h.0.1), given_agree x y ns bound h.1)
 
-given_more : (ns : List (List ℕ)) (name : List ℕ) (v : DslxValue) (bound : List Given) → AllGiven ns bound → AllGiven ns (record { name = name; value = v } ∷ bound)
+pub given_more : (ns : List (List ℕ)) (name : List ℕ) (v : DslxValue) (bound : List Given) → AllGiven ns bound → AllGiven ns (record { name = name; value = v } ∷ bound)
 given_more [] name v bound h = tt
 given_more (n ∷ ns) name v bound h = (pick (bytes_eq n name), given_more ns name v bound h.1)
   where
@@ -192,7 +192,7 @@ given_more (n ∷ ns) name v bound h = (pick (bytes_eq n name), given_more ns na
     pick true = (v, refl)
     pick false = h.0
 
-given_here : (name : List ℕ) (v : DslxValue) (bound : List Given) → given_in name (record { name = name; value = v } ∷ bound) ≡ Some v
+pub given_here : (name : List ℕ) (v : DslxValue) (bound : List Given) → given_in name (record { name = name; value = v } ∷ bound) ≡ Some v
 given_here name v bound = ap (λ t. if t then Some v else given_in name bound) ((bytes_eq-Decides name name).1 refl)
 
 given_join : (xs ys : List (List ℕ)) (bound : List Given) → AllGiven xs bound → AllGiven ys bound → AllGiven (xs ++ ys) bound
@@ -293,7 +293,7 @@ inferred_one x y names bound given p (Some n) t h =
     ap (λ o. and_then o (λ u. number_value u (record { is_negative = false; value = n })))
     (written_type_depends p.ty names (within_items x bound) (within_items y bound) (given_agree x y names bound given) (t bound))
 
-numbers_one : (x y : Meanings) (inferred : List Inferred) (names : List (List ℕ)) (bound : List Given) → AllGiven names bound → (ps : List Parameter) (vs : List DslxValue)
+pub numbers_one : (x y : Meanings) (inferred : List Inferred) (names : List (List ℕ)) (bound : List Given) → AllGiven names bound → (ps : List Parameter) (vs : List DslxValue)
     → Agreeing x y (parameters_mentions ps names) → i.all_numbers x inferred bound ps vs ≡ i.all_numbers y inferred bound ps vs
 numbers_one x y inferred names bound given [] [] h = refl
 numbers_one x y inferred names bound given [] (v ∷ vs) h = refl

@@ -1,5 +1,5 @@
 -- Instances of functions, each of which calls those before it, give what the text's functions give.
-use Rattle.std.proofs.Common.{◌≡◌, ◌&&◌, ◌++◌, ◌==◌, ◌+◌, ◌<◌, ℕ, zero, suc, length, Bool, true, false, not, if◌then◌else◌, List, [], ◌∷◌, map, Option, Some, None, refl, sym, ap, subst, ◌∙◌, inl, inr, arith}
+use Rattle.std.proofs.Common.{◌≡◌, ◌&&◌, ◌++◌, ◌==◌, ◌+◌, ◌<◌, ℕ, zero, suc, length, Bool, true, false, not, if◌then◌else◌, List, [], ◌∷◌, map, Some, None, refl, sym, ap, subst, ◌∙◌, inl, inr, arith}
 use mathlib.Core.Bool.{true≢false}
 use Rattle.std.specs.Prelude.{slice_get, ◌⊎◌}
 use Rattle.std.specs.Str.{bytes_eq}
@@ -7,25 +7,19 @@ use Rattle.std.proofs.lemmas.Bool.Decides.{Decides-eqb}
 use Rattle.std.proofs.lemmas.Slice.Eq.{bytes_eq-Decides}
 use Rattle.std.proofs.lemmas.List.{append_assoc}
 use Rattle.std.proofs.lemmas.Option.{slice_get_within}
-use Rattle.xb_bits.specs.Word.{Word}
 use Rattle.dslx_tree.specs.declared.item.Module.{Module}
 use Rattle.dslx_tree.specs.declared.item.Function.{Function}
 use Rattle.dslx_tree.specs.declared.item.Field.{Field}
 use Rattle.dslx_meaning.specs.Lists.{and_then, pairwise}
-use Rattle.dslx_meaning.specs.Types.{same_bool}
-use Rattle.dslx_meaning.specs.Values.{bits_of, plain_value, same_word, type_of_value}
+use Rattle.dslx_meaning.specs.Values.{plain_value, type_of_value}
 use Rattle.dslx_meaning.specs.Environment.{Meanings, Given, given_in}
 use Rattle.dslx_meaning.specs.Meaning.{value_of_block}
 use Rattle.dslx_meaning.specs.Items.{all_numbers, as_function, call_of, function_value, inferred_from, item_named, meanings_over, numbers_bound, operands_bound}
 use Rattle.dslx_meaning.specs.declared.ty.DslxType.{DslxType}
 use Rattle.dslx_meaning.specs.declared.value.DslxValue.{DslxValue}
-use Rattle.dslx_meaning.specs.declared.value.DslxValue as value
-use Rattle.dslx_meaning.specs.declared.value.DslxValue.TheOpen.{DslxValue-F}
-use Rattle.dslx_meaning.specs.declared.value.DslxValue.TheVariants as rolls
-use Rattle.dslx_meaning.specs.declared.value.SignedWord.{SignedWord}
 use Rattle.dslx_laws.proofs.Lemmas.{and_true}
 use Rattle.dslx_typed.specs.Kinds.{each_of, is_of}
-use Rattle.dslx_typed.proofs.Lemmas.{bits_level, none_some, one_bool, one_type, same_some}
+use Rattle.dslx_typed.proofs.Lemmas.{none_some, one_type, same_some}
 use Rattle.dslx_core.specs.CoreValues.{Bindings, Functions, core_value}
 use Rattle.dslx_core.specs.Designs.{and_function, functions_from, no_function}
 use Rattle.dslx_core.specs.declared.design.Function as core
@@ -33,12 +27,13 @@ use Rattle.dslx_lowering.specs.CorePlaces.{CoreCallee, CoreKnown, CorePlace, wit
 use Rattle.dslx_lowering.specs.EqualTypes.{equal_type}
 use Rattle.dslx_lowering.specs.Trees.{block_of_text_lowered}
 use Rattle.dslx_lowering.specs.Correspondence.{CallsStand, HidesNoConstant, IsOwn, StandsAtPlace, KnownStands}
-use Rattle.dslx_lowering.specs.Functions.{CoreInstance, Instantiated, LoweredFunction, argument_types, arguments_placed, body_lowered, callee_in, callee_of, core_function, instance_known, instance_in, instance_lowered, instances_from, is_instance, next_instance, numbers_stand, outer_place, same_bits, same_number}
+use Rattle.dslx_lowering.specs.Functions.{CoreInstance, Instantiated, LoweredFunction, argument_types, arguments_placed, body_lowered, callee_in, callee_of, core_function, instance_known, instance_in, instance_lowered, instances_from, is_instance, next_instance, numbers_stand, outer_place}
 use Rattle.dslx_lowering.specs.Instances.{InstanceStandsFor, InstancesStand, ItemsAreOwn, functions_of_instances}
 use Rattle.dslx_lowering.proofs.Joined.{block_of_text_means}
 use Rattle.dslx_lowering.proofs.Kept.{from_then, from_where}
+use Rattle.dslx_lowering.specs.EqualValues.{equal_value}
 use Rattle.dslx_lowering.proofs.OneType.{one_by_test}
-use Rattle.dslx_lowering.proofs.Openings.{of_level}
+use Rattle.dslx_lowering.proofs.OneValue.{one_value_by_test}
 use Rattle.dslx_lowering.proofs.Slots.{named_stands}
 
 -- ---- number parameters
@@ -135,28 +130,11 @@ instance_gives known f l calls stands e operands v of k =
 
 -- ---- the instance of a name and number arguments
 
-one_word : (x y : Word) → same_word x y ≡ true → x ≡ y
-one_word x y e =
-    let q = and_true (x.width == y.width) (x.value == y.value) e in
-    λ i. record { width = (Decides-eqb x.width y.width).0 q.0 i; value = (Decides-eqb x.value y.value).0 q.1 i }
-
-one_number : (v w : DslxValue) → same_number v w ≡ true → v ≡ w
-one_number v w e = by_bits (bits_of v) (bits_of w) refl refl e
-  where
-    by_bits : (p q : Option SignedWord) → bits_of v ≡ p → bits_of w ≡ q → same_bits p q ≡ true → v ≡ w
-    by_bits (Some x) (Some y) ep eq k =
-        let r = and_true (same_bool x.signed y.signed) (same_word x.word y.word) k in
-        of_level v (DslxValue-F.Bits x.signed x.word) (bits_level v x ep) ∙ rolls.rolls-Bits x.signed x.word
-        ∙ (λ i. value.Bits (one_bool x.signed y.signed r.0 i) (one_word x.word y.word r.1 i))
-        ∙ sym (of_level w (DslxValue-F.Bits y.signed y.word) (bits_level w y eq) ∙ rolls.rolls-Bits y.signed y.word)
-    by_bits None q ep eq k = absurd (true≢false (sym k))
-    by_bits (Some x) None ep eq k = absurd (true≢false (sym k))
-
-pub all_one_number : (vs ws : List DslxValue) → pairwise same_number vs ws ≡ true → vs ≡ ws
+pub all_one_number : (vs ws : List DslxValue) → pairwise equal_value vs ws ≡ true → vs ≡ ws
 all_one_number [] [] e = refl
 all_one_number [] (w ∷ ws) e = absurd (true≢false (sym e))
 all_one_number (v ∷ vs) [] e = absurd (true≢false (sym e))
-all_one_number (v ∷ vs) (w ∷ ws) e = let q = and_true (same_number v w) (pairwise same_number vs ws) e in λ i. one_number v w q.0 i ∷ all_one_number vs ws q.1 i
+all_one_number (v ∷ vs) (w ∷ ws) e = let q = and_true (equal_value v w) (pairwise equal_value vs ws) e in λ i. one_value_by_test v w q.0 i ∷ all_one_number vs ws q.1 i
 
 each_equal : (ts us : List DslxType) → pairwise equal_type ts us ≡ true → ts ≡ us
 each_equal [] [] e = refl
@@ -181,7 +159,7 @@ found_instance name numbers n (i ∷ is) p e = by_test (is_instance name numbers
     by_test : (b : Bool) → is_instance name numbers i ≡ b → (if b then Some (n, i) else instance_in name numbers (suc n) is) ≡ Some p
         → (instance_in name numbers (suc n) is ≡ Some p → FoundInstance name numbers (suc n) is p) → FoundInstance name numbers n (i ∷ is) p
     by_test true q k rest =
-        let t = and_true (bytes_eq name i.name) (pairwise same_number numbers i.numbers) q in
+        let t = and_true (bytes_eq name i.name) (pairwise equal_value numbers i.numbers) q in
         subst (FoundInstance name numbers n (i ∷ is)) (same_some (n, i) p k)
         (record { place = 0; number = omega arith; there = refl; named = (bytes_eq-Decides name i.name).0 t.0; numbered = all_one_number numbers i.numbers t.1 })
     by_test false q k rest =

@@ -1,22 +1,21 @@
 -- Which functions the instances of a text's functions become, and which of them a call comes to.
-use Rattle.std.specs.Prelude.{ℕ, suc, List, [], ◌∷◌, ◌++◌, ◌&&◌, map, Bool, false, not, Option, Some, None, length, if◌then◌else◌}
+use Rattle.std.specs.Prelude.{ℕ, suc, List, [], ◌∷◌, ◌++◌, ◌&&◌, map, Bool, not, Option, Some, None, length, if◌then◌else◌}
 use Rattle.std.specs.Str.{bytes_eq}
 use Rattle.std.specs.List.{list_all}
 use Rattle.dslx_tree.specs.declared.item.Module.{Module}
 use Rattle.dslx_tree.specs.declared.item.Function.{Function}
 use Rattle.dslx_tree.specs.declared.item.Field.{Field}
 use Rattle.dslx_meaning.specs.Lists.{all_some, and_then, pairwise, where_true}
-use Rattle.dslx_meaning.specs.Types.{same_bool}
-use Rattle.dslx_meaning.specs.Values.{bits_of, same_word, type_of_value}
+use Rattle.dslx_meaning.specs.Values.{type_of_value}
 use Rattle.dslx_meaning.specs.Environment.{Meanings, Given}
 use Rattle.dslx_meaning.specs.Items.{all_numbers, as_function, inferred_from, item_named, numbers_bound}
 use Rattle.dslx_meaning.specs.declared.ty.DslxType.{DslxType}
 use Rattle.dslx_meaning.specs.declared.value.DslxValue.{DslxValue}
-use Rattle.dslx_meaning.specs.declared.value.SignedWord.{SignedWord}
 use Rattle.dslx_typed.specs.Kinds.{is_of}
 use Rattle.dslx_core.specs.declared.design.Function as core
 use Rattle.dslx_lowering.specs.CorePlaces.{CoreCallee, CoreKnown, CorePlace, with_local}
 use Rattle.dslx_lowering.specs.EqualTypes.{equal_type}
+use Rattle.dslx_lowering.specs.EqualValues.{equal_value}
 use Rattle.dslx_lowering.specs.Trees.{block_of_text_lowered, type_of_text_lowered}
 use Rattle.dslx_lowering.specs.declared.instance.Instantiated as instantiated_data
 use Rattle.dslx_lowering.specs.declared.instance.CoreInstance as instance_data
@@ -61,16 +60,8 @@ instance_lowered known f = where_true (numbers_stand known.items known.numbers) 
 abbrev pub CoreInstance : Type 0
 CoreInstance = instance_data.CoreInstance
 
--- number arguments are bits
-abbrev pub same_bits : Option SignedWord → Option SignedWord → Bool
-same_bits (Some x) (Some y) = same_bool x.signed y.signed && same_word x.word y.word
-same_bits _ _ = false
-
-abbrev pub same_number : DslxValue → DslxValue → Bool
-same_number v w = same_bits (bits_of v) (bits_of w)
-
 abbrev pub is_instance : List ℕ → List DslxValue → CoreInstance → Bool
-is_instance name numbers i = bytes_eq name i.name && pairwise same_number numbers i.numbers
+is_instance name numbers i = bytes_eq name i.name && pairwise equal_value numbers i.numbers
 
 -- the first instance of a name and number arguments, with its number
 abbrev pub instance_in : List ℕ → List DslxValue → ℕ → List CoreInstance → Option (ℕ × CoreInstance)

@@ -4,6 +4,8 @@ pub mod CorePlaces
 pub mod Correspondence
 -- types that are equal in all their parts
 pub mod EqualTypes
+-- values that are equal in all their parts
+pub mod EqualValues
 -- operators, parts and calls
 pub mod Lowering
 -- patterns, arms, loops and blocks

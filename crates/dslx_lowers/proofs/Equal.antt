@@ -30,13 +30,13 @@ sign_itself : (s : Bool) → same_bool s s ≡ true
 sign_itself true = refl
 sign_itself false = refl
 
-bits_itself : (s : Bool) (w : ℕ) → (same_bool s s && w == w) ≡ true
+pub bits_itself : (s : Bool) (w : ℕ) → (same_bool s s && w == w) ≡ true
 bits_itself s w = λ i. sign_itself s i && (Decides-eqb w w).1 refl i
 
-name_itself : (name : List ℕ) → bytes_eq name name ≡ true
+pub name_itself : (name : List ℕ) → bytes_eq name name ≡ true
 name_itself name = (bytes_eq-Decides name name).1 refl
 
-names_themselves : (names : List (List ℕ)) → same_names names names ≡ true
+pub names_themselves : (names : List (List ℕ)) → same_names names names ≡ true
 names_themselves [] = refl
 names_themselves (n ∷ ns) = λ i. name_itself n i && names_themselves ns i
 

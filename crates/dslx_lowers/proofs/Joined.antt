@@ -6,7 +6,7 @@ use Rattle.dslx_tree_lemmas.proofs.Lemmas.Folds.{Steps, fold_arg, fold_arm, fold
 use Rattle.dslx_tree.specs.declared.expr.Expr.{Expr}
 use Rattle.dslx_rules.specs.NodeRules.{judged_steps, second_of, block_pair, expr_pair, type_pair}
 use Rattle.dslx_rules.specs.Judgings.{SightJudging, judged_sorts, StatementJudging}
-use Rattle.dslx_rules.specs.Judging.{ExprPair, Sight, alone, breaks, no_token, span_of}
+use Rattle.dslx_rules.specs.Judging.{ExprPair, Sight, alone, breaks, no_token, span_of, Instance}
 use Rattle.dslx_meaning.specs.declared.ty.DslxType as ty
 use Rattle.dslx_meaning.specs.declared.value.DslxValue.{DslxValue}
 use Rattle.dslx_lowers.specs.Widths.{arm_wide, block_wide, for_wide, let_wide, node_wide, shape_wide, stmt_wide, type_wide, wide_if, all_wide, block_writes_widths, type_writes_widths, writes_widths}
@@ -44,16 +44,18 @@ use Rattle.dslx_lowers.proofs.Lists.{EachExprLowers}
 use Rattle.dslx_lowers.proofs.Limited.{binary_limited, bool_limited, call_limited, cast_limited, element_limited, field_limited, if_limited, index_limited, match_limited, member_limited, name_limited, part_limited, prefix_limited, slice_limited, struct_limited, tuple_limited, typed_limited, untyped_limited, block_limited, loop_limited, number_limited}
 use Rattle.dslx_lowering.specs.Lowering.{slice_lowered, name_lowered}
 use Rattle.dslx_laws.proofs.Lemmas.{and_true}
-use Rattle.dslx_typed.specs.WellTyped.{types_at}
+use Rattle.dslx_typed.specs.WellTyped.{types_at, IsWellTyped}
 use Rattle.dslx_tree.specs.declared.type_expr.TypeExpr.{TypeExpr}
 use Rattle.dslx_rules.specs.NameRules.{name_judged}
 use Rattle.dslx_rules.specs.ControlRules.{same_ends, span_of_block, written_judged}
 use Rattle.dslx_rules.specs.AggregateRules.{range_faults}
 use Rattle.dslx_meaning.specs.declared.value.Bare.{Bare}
 use Rattle.dslx_meaning.specs.Values.{bits_of}
-use Rattle.dslx_meaning.specs.Environment.{value_of_name}
-use Rattle.dslx_lowers.proofs.Parts.{alone_becomes, becomes, fine_there, type_becomes, within_becomes}
+use Rattle.dslx_meaning.specs.Environment.{value_of_name, Env}
+use Rattle.dslx_lowers.proofs.Parts.{alone_becomes, becomes, fine_there, type_becomes, within_becomes, Becomes, BecomesType}
 use Rattle.dslx_lowers.proofs.OfLoops.{loop_lowers}
+use Rattle.dslx_typed.specs.Complete.{IsFine}
+use Rattle.dslx_lowers.specs.Beside.{StandsBeside}
 
 -- ---- what parts come to, and what they become
 
@@ -572,8 +574,17 @@ all_become = record {
     expr_claim : (y : ExprLevel Held) → fold_node wide widths y.node.0 ≡ true → PartClaim ((fold_node seen seeing y.node.0).1 y.span false) (fold_node become becoming y.node.0).1
     expr_claim y w = y.node.1 w y.span
 
-expression_part : (e : Expr) → writes_widths e ≡ true → ExprLowers (expr_pair e) (expression_lowered e)
+pub expression_part : (e : Expr) → writes_widths e ≡ true → ExprLowers (expr_pair e) (expression_lowered e)
 expression_part e w = expr_part (e, holds_expr becomes_something all_become e) w
+
+-- whole parts, with what else is known of what they become
+pub block_part_becomes : (here : Instance → Bool) (sight : Sight) (env : Env) (place : CorePlace) (b : Block) → block_writes_widths b ≡ true → IsWellTyped sight env → StandsBeside here sight place
+    → IsFine (reaching sight.known here) ((block_pair b).1 false sight) → Becomes (types_at sight) ((block_pair b).1 false sight) (block_of_text_lowered b place)
+block_part_becomes here sight env place b w h at fine = block_becomes here sight env place (block_pair b).1 (block_of_text_lowered b) (block_part (b, holds_block becomes_something all_become b) w) h at fine
+
+pub type_part_becomes : (here : Instance → Bool) (sight : Sight) (env : Env) (place : CorePlace) (t : TypeExpr) → type_writes_widths t ≡ true → IsWellTyped sight env → StandsBeside here sight place
+    → IsFine (reaching sight.known here) ((type_pair t).1 sight) → BecomesType (types_at sight) ((type_pair t).1 sight) (type_of_text_lowered t place)
+type_part_becomes here sight env place t w h at fine = type_becomes here sight env place (type_pair t).1 (type_of_text_lowered t) (type_part (t, holds_type_expr becomes_something all_become t) w) h at fine
 
 -- an expression becomes something of its type
 pub expression_is_lowered : (e : Expr) → writes_widths e ≡ true → IsLoweredWhereFine ((expr_pair e).1 false) (expression_lowered e)
@@ -584,11 +595,11 @@ expression_is_lowered e w here sight env place h at fine =
 -- so does a block
 pub block_is_lowered : (b : Block) → block_writes_widths b ≡ true → IsLoweredWhereFine ((block_pair b).1 false) (block_of_text_lowered b)
 block_is_lowered b w here sight env place h at fine =
-    let c = block_becomes here sight env place (block_pair b).1 (block_of_text_lowered b) (block_part (b, holds_block becomes_something all_become b) w) h at fine in
+    let c = block_part_becomes here sight env place b w h at fine in
     record { expr = c.expr; is = c.is; typed = c.typed }
 
 -- and a written type becomes what is known of it
 pub type_is_lowered : (t : TypeExpr) → type_writes_widths t ≡ true → TypeIsLoweredWhereFine (type_pair t).1 (type_of_text_lowered t)
 type_is_lowered t w here sight env place h at fine =
-    let b = type_becomes here sight env place (type_pair t).1 (type_of_text_lowered t) (type_part (t, holds_type_expr becomes_something all_become t) w) h at fine in
+    let b = type_part_becomes here sight env place t w h at fine in
     record { ty = b.ty; is = b.is; typed = b.typed }

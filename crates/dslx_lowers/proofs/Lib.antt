@@ -1,23 +1,47 @@
 -- induction on trees, and trees beside what they come to
 pub mod Trees
--- equal types
+-- types that are equal in all their parts
 pub mod Equal
 -- what parts become
 pub mod Parts
-pub mod Limits
-pub mod OfOperations
-pub mod Constants
-pub mod Bare
-pub mod OfSlices
-pub mod OfTypes
-pub mod OfNames
+-- lists of parts
 pub mod Lists
-pub mod OfAggregates
-pub mod OfStructs
-pub mod OfPatterns
-pub mod OfMatch
-pub mod OfControl
-pub mod OfLoops
-pub mod OfCalls
+-- types within the limits
+pub mod Limits
+-- judgements within the limits
 pub mod Limited
+-- numbers without a type
+pub mod Bare
+-- constants, sizes and bounds
+pub mod Constants
+-- operators, casts, indices and fields
+pub mod OfOperations
+-- slices
+pub mod OfSlices
+-- written types
+pub mod OfTypes
+-- names, members of enums and numbers
+pub mod OfNames
+-- tuples and arrays
+pub mod OfAggregates
+-- struct values
+pub mod OfStructs
+-- patterns
+pub mod OfPatterns
+-- `match`
+pub mod OfMatch
+-- `if`, statements and blocks
+pub mod OfControl
+-- loops
+pub mod OfLoops
+-- calls
+pub mod OfCalls
+-- the induction on trees
 pub mod Joined
+-- a value of each type
+pub mod Inhabited
+-- instances of functions
+pub mod OfInstances
+-- tables of instances
+pub mod OfTables
+pub mod OfEffects

@@ -4,3 +4,7 @@ pub mod Beside
 pub mod Lowers
 -- trees in which types have widths
 pub mod Widths
+-- instances of functions
+pub mod Instances
+-- instances in order
+pub mod InstanceLists

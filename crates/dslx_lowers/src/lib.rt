@@ -5,5 +5,7 @@
 #![tactic(auto)]
 
 mod expressions;
+mod instances;
 
 pub use expressions::an_expression_is_lowered;
+pub use instances::{an_instance_is_lowered, instances_in_order_are_lowered};

@@ -22,7 +22,7 @@ use Rattle.dslx_core.specs.declared.design.Child.{Child}
 use Rattle.dslx_core.specs.declared.design.Instance.{Instance}
 use Rattle.dslx_lowering.specs.CorePlaces.{CorePlace}
 use Rattle.dslx_lowering.specs.Correspondence.{StandsAtPlace, env_at}
-use Rattle.dslx_lowering.specs.Functions.{same_number}
+use Rattle.dslx_lowering.specs.EqualValues.{equal_value}
 use Rattle.dslx_lowering.proofs.Lemmas.{all_one_number, from_both, from_then, from_where}
 use Rattle.dslx_networks.specs.Configs.{LoweredConfig, ProcInstance, child_lowered, children_lowered, config_lowered, config_place, is_proc_instance, made_lowered, proc_instance_in, spawn_numbers_lowered}
 use Rattle.dslx_networks.specs.Ends.{end_numbers, numbered_ends}
@@ -80,7 +80,7 @@ found_proc name numbers n (i ∷ is) k e = by_test (is_proc_instance name number
     by_test : (b : Bool) → is_proc_instance name numbers i ≡ b → (if b then Some n else proc_instance_in name numbers (suc n) is) ≡ Some k
         → (proc_instance_in name numbers (suc n) is ≡ Some k → FoundProc name numbers (suc n) is k) → FoundProc name numbers n (i ∷ is) k
     by_test true q h rest =
-        let t = and_true (bytes_eq name i.name) (pairwise same_number numbers i.numbers) q in
+        let t = and_true (bytes_eq name i.name) (pairwise equal_value numbers i.numbers) q in
         let same : n ≡ k = same_some n k h in
         record { place = 0; found = i; number = omega (arith, same); there = refl; named = (bytes_eq-Decides name i.name).0 t.0; numbered = all_one_number numbers i.numbers t.1 }
     by_test false q h rest =

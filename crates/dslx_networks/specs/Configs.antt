@@ -18,7 +18,8 @@ use Rattle.dslx_core.specs.declared.design.Child.{Child}
 use Rattle.dslx_core.specs.declared.design.Instance.{Instance}
 use Rattle.dslx_core.specs.declared.design.MadeChannel.{MadeChannel}
 use Rattle.dslx_lowering.specs.CorePlaces.{CoreKnown, CorePlace, constant_at, size_at}
-use Rattle.dslx_lowering.specs.Functions.{outer_place, same_number}
+use Rattle.dslx_lowering.specs.EqualValues.{equal_value}
+use Rattle.dslx_lowering.specs.Functions.{outer_place}
 use Rattle.dslx_lowering.specs.Trees.{type_of_text_lowered}
 use Rattle.dslx_networks.specs.Ends.{end_numbers, numbered_ends}
 
@@ -53,7 +54,7 @@ made_lowered place (making.Spawn s ∷ ms) = made_lowered place ms
 -- ---- children
 
 abbrev pub is_proc_instance : List ℕ → List DslxValue → ProcInstance → Bool
-is_proc_instance name numbers i = bytes_eq name i.name && pairwise same_number numbers i.numbers
+is_proc_instance name numbers i = bytes_eq name i.name && pairwise equal_value numbers i.numbers
 
 -- the number of the first instance of a name and number arguments
 abbrev pub proc_instance_in : List ℕ → List DslxValue → ℕ → List ProcInstance → Option ℕ

@@ -1,0 +1,2 @@
+-- what is to be done and where the machine stands, without references
+pub mod Shown

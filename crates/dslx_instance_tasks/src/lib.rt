@@ -1,0 +1,14 @@
+//! What is to be done where instances of functions are lowered, and where the machine that does it stands.
+#![tactic(auto)]
+
+mod body;
+mod machine;
+mod maker;
+mod task;
+
+pub use body::OpenBody;
+pub use machine::{InstanceMachine, OpenInstance};
+pub use maker::{LastMaker, PartsMaker};
+pub use task::{
+    ArmsTask, BlockTask, CallTask, LoopTask, LowerTask, MatchWork, PartsTask, StructWork,
+};

@@ -1,0 +1,2 @@
+-- what is made where words have so many bits
+mod Widths

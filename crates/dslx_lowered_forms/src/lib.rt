@@ -1,0 +1,13 @@
+//! The core expressions that the forms of a text's expressions become, made of those that their parts became.
+//!
+//! Each call is its definition in `dslx_lowering`; `None` where types don't fit.
+#![tactic(auto)]
+
+mod operators;
+mod types;
+
+pub use operators::{
+    binary_lowered, cast_lowered, counted_lowered, part_lowered, prefix_lowered, reduced_lowered,
+    slice_lowered,
+};
+pub use types::{into_element, sign_of, width_of_type};

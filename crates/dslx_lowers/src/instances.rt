@@ -1,0 +1,32 @@
+ghost use Rattle.std.specs.Prelude.{◌≡◌, Bool, List, [], Some, true};
+ghost use Rattle.dslx_lowering.specs.CorePlaces.{CoreKnown};
+ghost use Rattle.dslx_lowering.specs.Functions.{CoreInstance, Instantiated, instance_lowered, instances_from, outer_place};
+ghost use Rattle.dslx_lowers.specs.Beside.{StandsBeside};
+ghost use Rattle.dslx_lowers.specs.InstanceLists.{CanLower, EachReachesThoseBefore};
+ghost use Rattle.dslx_lowers.specs.Instances.{InstanceIsLowered, function_writes_widths};
+ghost use Rattle.dslx_lowers.specs.Lowers.{IsClean};
+ghost use Rattle.dslx_meaning.specs.Items.{numbers_bound};
+ghost use Rattle.dslx_meaning.specs.declared.value.DslxValue.{DslxValue};
+ghost use Rattle.dslx_rules.specs.ItemRules.{function_seen, function_sight};
+ghost use Rattle.dslx_rules.specs.Judging.{Instance, Known};
+ghost use Rattle.dslx_tree.specs.declared.item.Function.{Function};
+ghost use Rattle.dslx_typed.specs.Numbers.{AllOwn};
+ghost use Rattle.dslx_typed.specs.WellTyped.{IsWellTyped};
+
+/// An instance of a function with whose text nothing is wrong: where its number parameters have values of their own types, and
+/// all instances that it calls are known with the types of their results, it becomes a function of the types that are
+/// declared for its arguments and its result.
+pub fn an_instance_is_lowered()
+    ensures { (here : Instance → Bool) (known : Known) (f : Function) (numbers : List DslxValue) (core : CoreKnown) → AllOwn known.items.type_named numbers → function_writes_widths f ≡ true
+        → IsWellTyped (function_sight known f numbers) (record { items = known.items; bound = numbers_bound [] f.parameters numbers })
+        → StandsBeside here (function_sight known f numbers) (outer_place core)
+        → IsClean here (function_seen known f numbers).found.faults (function_seen known f numbers).found.reached
+        → InstanceIsLowered known f numbers (instance_lowered core f) }
+{}
+
+/// Instances of functions with whose texts nothing is wrong, in an order in which each reaches those before it alone: all of
+/// them become functions, each of which calls those before it.
+pub fn instances_in_order_are_lowered()
+    ensures { (known : Known) → CanLower known → (is : List Instantiated) → EachReachesThoseBefore known [] is
+        → (table : List CoreInstance) × (instances_from known.whole known.items [] is ≡ Some table) }
+{}
