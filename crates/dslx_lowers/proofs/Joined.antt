@@ -4,6 +4,7 @@ use Rattle.std.proofs.Common.{Bool, Option, false, true, ◌≡◌, List, None, 
 use Rattle.dslx_tree_lemmas.proofs.Lemmas.Levels.{Carriers, Maps, trees, ArmLevel, NodeLevel, ShapeLevel, TypeNodeLevel, map_arm, map_node, map_shape, map_type_node, BlockLevel, ExprLevel, FieldValueLevel, ForLevel, LetLevel, NumberLevel, StmtLevel, map_arg, map_bind, map_block, map_expr, map_field, map_loop, map_number, map_pattern, map_stmt, map_type_expr}
 use Rattle.dslx_tree_lemmas.proofs.Lemmas.Folds.{Steps, fold_arg, fold_arm, fold_bind, fold_block, fold_expr, fold_field, fold_loop, fold_node, fold_number, fold_pattern, fold_shape, fold_stmt, fold_type_expr, fold_type_node, folds, fold_arg-roll, fold_arm-roll, fold_bind-roll, fold_block-roll, fold_expr-roll, fold_field-roll, fold_loop-roll, fold_node-roll, fold_number-roll, fold_pattern-roll, fold_shape-roll, fold_stmt-roll, fold_type_expr-roll, fold_type_node-roll}
 use Rattle.dslx_tree.specs.declared.expr.Expr.{Expr}
+use Rattle.dslx_tree.specs.declared.pattern.Pattern.{Pattern}
 use Rattle.dslx_rules.specs.NodeRules.{judged_steps, second_of, block_pair, expr_pair, type_pair}
 use Rattle.dslx_rules.specs.Judgings.{SightJudging, judged_sorts, StatementJudging}
 use Rattle.dslx_rules.specs.Judging.{ExprPair, Sight, alone, breaks, no_token, span_of, Instance}
@@ -11,7 +12,7 @@ use Rattle.dslx_meaning.specs.declared.ty.DslxType as ty
 use Rattle.dslx_meaning.specs.declared.value.DslxValue.{DslxValue}
 use Rattle.dslx_lowers.specs.Widths.{arm_wide, block_wide, for_wide, let_wide, node_wide, shape_wide, stmt_wide, type_wide, wide_if, all_wide, block_writes_widths, type_writes_widths, writes_widths}
 use Rattle.dslx_lowers.specs.Lowers.{HasWidth, IsLimited, PartLowers, PatternLowers, TypeLowers, ExprLowers, WrittenLowers, reaching, IsLoweredWhereFine, TypeIsLoweredWhereFine}
-use Rattle.dslx_lowers.proofs.Trees.{HoldOn, TreeClaims, holds_block, holds_expr, holds_type_expr, own_expr, held, held_tree, paired, pairing}
+use Rattle.dslx_lowers.proofs.Trees.{HoldOn, TreeClaims, holds_block, holds_expr, holds_pattern, holds_type_expr, own_expr, held, held_tree, paired, pairing}
 use Rattle.dslx_lowers.proofs.OfStructs.{FieldLowers, EachFieldLowers, struct_lowers}
 use Rattle.dslx_lowers.proofs.OfPatterns.{NumberStands, EachPatternLowers, bool_pattern_lowers, member_pattern_lowers, name_pattern_lowers, number_pattern_lowers, tuple_pattern_lowers, wild_lowers}
 use Rattle.dslx_lowers.proofs.OfMatch.{ArmLowers, EachArmLowers, match_lowers}
@@ -59,20 +60,20 @@ use Rattle.dslx_lowers.specs.Beside.{StandsBeside}
 
 -- ---- what parts come to, and what they become
 
-abbrev seen : Carriers
+abbrev pub seen : Carriers
 seen = paired judged_sorts
 
-abbrev seeing : Steps seen
+abbrev pub seeing : Steps seen
 seeing = pairing judged_sorts judged_steps
 
-abbrev become : Carriers
+abbrev pub become : Carriers
 become = paired lowered_sorts
 
-abbrev becoming : Steps become
+abbrev pub becoming : Steps become
 becoming = pairing lowered_sorts lowering_steps
 
 -- whether their types have widths
-abbrev wide : Carriers
+abbrev pub wide : Carriers
 wide = record {
   stmt = Bool;
   node = Bool;
@@ -90,7 +91,7 @@ wide = record {
   type_expr = Bool;
 }
 
-abbrev widths : Steps wide
+abbrev pub widths : Steps wide
 widths = record {
   stmt = stmt_wide;
   node = node_wide;
@@ -576,6 +577,9 @@ all_become = record {
 
 pub expression_part : (e : Expr) → writes_widths e ≡ true → ExprLowers (expr_pair e) (expression_lowered e)
 expression_part e w = expr_part (e, holds_expr becomes_something all_become e) w
+
+pub pattern_part : (p : Pattern) → fold_pattern wide widths p ≡ true → PatternLowers (fold_pattern seen seeing p).1 (fold_pattern become becoming p).1
+pattern_part = holds_pattern becomes_something all_become
 
 -- whole parts, with what else is known of what they become
 pub block_part_becomes : (here : Instance → Bool) (sight : Sight) (env : Env) (place : CorePlace) (b : Block) → block_writes_widths b ≡ true → IsWellTyped sight env → StandsBeside here sight place

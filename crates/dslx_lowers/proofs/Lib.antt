@@ -44,4 +44,9 @@ pub mod Inhabited
 pub mod OfInstances
 -- tables of instances
 pub mod OfTables
+-- effects at the top of `next`
 pub mod OfEffects
+-- the block of `next`
+pub mod OfNext
+-- `next` of instances of procs
+pub mod OfProcs

@@ -77,7 +77,7 @@ pub record StatementLowers (s : StatementJudging) (l : Lowers → Lowers) : Type
       → ((inner : Env) (beyond : CorePlace) → IsWellTyped (s false sight).sight inner → StandsBeside here (s false sight).sight beyond → type_of_lowered (rest beyond) ≡ t) → type_of_lowered (l rest place) ≡ t
 
 -- what a statement uses up of channels types don't see
-typed_behind : (sight : Sight) (locals : List Typed) (e : Expr) (env : Env) → IsWellTyped (with_typed sight locals) env → IsWellTyped (behind sight locals e) env
+pub typed_behind : (sight : Sight) (locals : List Typed) (e : Expr) (env : Env) → IsWellTyped (with_typed sight locals) env → IsWellTyped (behind sight locals e) env
 typed_behind sight locals e env h = record {
   locals = h.locals;
   numbers = h.numbers;
@@ -91,7 +91,7 @@ typed_behind sight locals e env h = record {
   known = h.known;
 }
 
-stands_behind : (here : Instance → Bool) (sight : Sight) (locals : List Typed) (e : Expr) (place : CorePlace) → StandsBeside here (with_typed sight locals) place → StandsBeside here (behind sight locals e) place
+pub stands_behind : (here : Instance → Bool) (sight : Sight) (locals : List Typed) (e : Expr) (place : CorePlace) → StandsBeside here (with_typed sight locals) place → StandsBeside here (behind sight locals e) place
 stands_behind here sight locals e place at =
     record { items = at.items; numbers = at.numbers; locals = at.locals; sound = at.sound; calls = at.calls; widths = at.widths; constants = at.constants }
 
@@ -100,7 +100,7 @@ typed_rest None f = refl
 typed_rest (Some r) f = refl
 
 -- the type that a `let` gives its pattern
-bound_there : (here : Instance → Bool) (sight : Sight) (env : Env) (place : CorePlace) → IsWellTyped sight env → StandsBeside here sight place → (span : Span) (written : Option TypePair) (f : Option Typing) → TypeStandsIf written f → (t : DslxType)
+pub bound_there : (here : Instance → Bool) (sight : Sight) (env : Env) (place : CorePlace) → IsWellTyped sight env → StandsBeside here sight place → (span : Span) (written : Option TypePair) (f : Option Typing) → TypeStandsIf written f → (t : DslxType)
     → annotation_faults span (written_judged sight written) (Some t) ≡ [] → list_all here (annotation_reached (written_judged sight written)) ≡ true → bound_type (written_judged sight written) (Some t) ≡ Some t
 bound_there here sight env place h at span None None k t e r = refl
 bound_there here sight env place h at span None (Some f) k t e r = absurd k

@@ -8,15 +8,14 @@ use Rattle.dslx_meaning.specs.declared.ty.DslxType.TheOpen.{DslxType-F}
 use Rattle.dslx_meaning.specs.declared.ty.DslxType.TheFolds.{fold-roll-DslxType}
 use Rattle.dslx_core.specs.declared.step.Step.TheVariants as step
 use Rattle.xb_span.specs.declared.span.Span.{Span}
-use Rattle.xb_bits.specs.Word.{word}
 use Rattle.std.specs.List.{list_all}
-use Rattle.std.proofs.Common.{Bool, List, None, Option, Some, [], ap, false, if◌then◌else◌, not, refl, sym, true, ℕ, ◌||◌, ◌∙◌, ◌∷◌, ◌≡◌, subst, ◌++◌}
+use Rattle.std.proofs.Common.{Bool, List, None, Option, Some, [], ap, false, not, refl, sym, true, ℕ, ◌||◌, ◌∙◌, ◌∷◌, ◌≡◌, subst, ◌++◌}
 use Rattle.dslx_typed.specs.WellTyped.{IsWellTyped, types_at}
 use Rattle.dslx_typed.specs.Declared.{Declarations, IsDeclared, as_declared, declared_step}
 use Rattle.dslx_typed.specs.Complete.{IsFine}
 use Rattle.dslx_typed.proofs.Lemmas.{or_false, tuple_declared}
-use Rattle.dslx_tree_lemmas.proofs.Lemmas.Levels.{Carriers, NodeLevel, map_node, trees}
-use Rattle.dslx_tree_lemmas.proofs.Lemmas.Folds.{Steps, folds}
+use Rattle.dslx_tree_lemmas.proofs.Lemmas.Levels.{NodeLevel, map_node, trees}
+use Rattle.dslx_tree_lemmas.proofs.Lemmas.Folds.{folds}
 use Rattle.dslx_tree.specs.declared.process.End.{End}
 use Rattle.dslx_tree.specs.declared.process.Direction.{Direction}
 use Rattle.dslx_tree.specs.declared.expr.Expr.{Expr, out-Expr}
@@ -26,43 +25,35 @@ use Rattle.dslx_rules.specs.Judgings.{judged_sorts}
 use Rattle.dslx_rules.specs.Judging.{ExprPair, Instance, Judgement, Outlet, Sight, alone, span_of, typed_in, within, Known, faults_of_all, name_of_expr, one_and, plus_size, reached_of_all, size_of_all, types_of}
 use Rattle.dslx_rules.specs.CallRules.{channel_named, outlet_at, outlet_in, receiving, token_faults, token_judged, channel_seen, receiving_if, sending, sending_if, word_of, site_faults, effect_with, ChannelSeen, goes_there, has_site, outlet_if}
 use Rattle.dslx_rules.specs.AggregateRules.{wanted_faults, when_all}
-use Rattle.dslx_meaning.specs.declared.value.DslxValue.{Token}
 use Rattle.dslx_meaning.specs.declared.ty.DslxType.TheOpen.{DslxType-F}
 use Rattle.dslx_meaning.specs.declared.ty.DslxType.TheFolds.{fold-roll-DslxType}
 use Rattle.dslx_meaning.specs.Types.{received, same_type, plain_type}
 use Rattle.dslx_meaning.specs.Lists.{and_then, where_true, with_both}
-use Rattle.dslx_meaning.specs.Environment.{Env, bind}
+use Rattle.dslx_meaning.specs.Environment.{Env}
 use Rattle.dslx_meaning.specs.Activation.{Computes, SiteAct, TakesWord, node_of, SendsWord, SendsWordIf, TakesWordIf, name_in_node, at_channel}
 use Rattle.dslx_lowers.specs.Widths.{writes_widths}
+use Rattle.dslx_lowers.specs.NextSteps.{MembersStand}
 use Rattle.dslx_lowers.specs.Lowers.{reaching}
 use Rattle.dslx_lowers.specs.Beside.{StandsBeside}
-use Rattle.dslx_lowers.proofs.Trees.{paired, pairing, own_expr}
+use Rattle.dslx_lowers.proofs.Trees.{own_expr}
 use Rattle.dslx_lowers.proofs.Parts.{Becomes, alone_becomes, within_becomes}
-use Rattle.dslx_lowers.proofs.Joined.{expression_part}
+use Rattle.dslx_lowers.proofs.Joined.{seen, seeing, expression_part}
 use Rattle.dslx_lowers.proofs.Equal.{equal_of_text}
 use Rattle.dslx_lowering.specs.Trees.{expression_lowered, of_type}
-use Rattle.dslx_lowering.specs.Steps.{BindsAtPlace, CoreMember, LoweredSteps, LowersSteps, act_lowered, compute_lowered, member_in, step_then, receive_lowered, send_lowered}
+use Rattle.dslx_lowering.specs.Steps.{BindsAtPlace, CoreMember, LoweredSteps, LowersSteps, act_lowered, compute_lowered, step_then, receive_lowered, send_lowered}
 use Rattle.dslx_lowering.specs.Patterns.{LoweredShape}
 use Rattle.dslx_lowering.specs.CorePlaces.{CorePlace}
 use Rattle.dslx_core.specs.declared.step.Step.{Step}
 use Rattle.xb_span.specs.declared.fault.Fault.{Fault}
-use Rattle.net_core.specs.Behavior.{Receive}
 use Rattle.dslx_tree.specs.declared.process.Direction.TheVariants.{In, Out}
 use Rattle.dslx_rules.specs.OperatorRules.{is_bool, unless_type}
-use Rattle.dslx_core.specs.Designs.{token}
 
 -- ---- what an expression is judged to be at the top
 
-abbrev seen : Carriers
-seen = paired judged_sorts
-
-abbrev seeing : Steps seen
-seeing = pairing judged_sorts judged_steps
-
-abbrev node_seen : Expr → NodeLevel seen
+abbrev pub node_seen : Expr → NodeLevel seen
 node_seen e = map_node trees seen (folds seen seeing) (node_of e)
 
-judged_at : (e : Expr) (on_top : Bool) (sight : Sight) → (expr_pair e).1 on_top sight ≡ node_judged (node_seen e) (out-Expr e).span on_top sight
+pub judged_at : (e : Expr) (on_top : Bool) (sight : Sight) → (expr_pair e).1 on_top sight ≡ node_judged (node_seen e) (out-Expr e).span on_top sight
 judged_at e on_top sight =
     (λ i. (fold_out-Expr seen.stmt seen.node seen.shape seen.type_node seen.block seen.bind seen.arg seen.arm seen.expr seen.field seen.loop seen.number seen.pattern seen.type_expr
     seeing.stmt seeing.node seeing.shape seeing.type_node seeing.block seeing.bind seeing.arg seeing.arm seeing.expr seeing.field seeing.loop seeing.number seeing.pattern seeing.type_expr e i).1 on_top sight)
@@ -78,16 +69,6 @@ type_of_steps (Some l) = Some l.next.ty
 one_step : (s : Step) (o : Option LoweredSteps) → type_of_steps (step_then s o) ≡ type_of_steps o
 one_step s None = refl
 one_step s (Some l) = refl
-
--- the members of the proc, each with the type of its words
-pub record MemberThere (types : Declarations) (outer : CorePlace) (ends : List End) (name : List ℕ) (o : Outlet) : Type 0 where
-  pub member : CoreMember
-  pub is : member_in outer ends name ≡ Some member
-  pub word : o.word ≡ Some member.word
-  pub declared : IsDeclared types member.word
-
-abbrev pub MembersStand : Sight → CorePlace → List End → Type 0
-MembersStand sight outer ends = (name : List ℕ) (o : Outlet) → outlet_in name sight.members ≡ Some o → MemberThere (types_at sight) outer ends name o
 
 -- the channel of a site
 record ChannelThere (sight : Sight) (e : ExprPair) (named : Option (List ℕ)) : Type 0 where
@@ -128,7 +109,7 @@ effect_fine known span sight direction t c js wrong given fine =
     let sites = site_faults span sight direction c in
     let parts = (t.faults ++ c.judgement.faults) ++ faults_of_all js in
     let s = settled_fine known span (and_then t.ty (λ u. when_all (types_of js) given)) ((parts ++ wrong) ++ sites) ((t.reached ++ c.judgement.reached) ++ reached_of_all js)
-        (one_and (plus_size t.size (plus_size c.judgement.size (size_of_all js)))) fine in
+    (one_and (plus_size t.size (plus_size c.judgement.size (size_of_all js)))) fine in
     let p = none_in_three parts wrong sites s.faults in
     let q = none_in_three t.faults c.judgement.faults (faults_of_all js) p.0 in
     let r = all_in_three known.is_sound t.reached c.judgement.reached (reached_of_all js) s.reached in
@@ -154,7 +135,7 @@ received_declared : (types : Declarations) (w : DslxType) → IsDeclared types w
 received_declared types w d = tuple_declared types (ty.Token ∷ w ∷ []) (token_declared types, (d, tt))
 
 module _ (here : Instance → Bool) (sight : Sight) (env : Env) (outer place : CorePlace) (ends : List End) (h : IsWellTyped sight env) (at : StandsBeside here sight place) (members : MembersStand sight outer ends) where
-  computes_there : (e : Expr) → writes_widths e ≡ true → IsFine (reaching sight.known here) ((expr_pair e).1 false sight) → ActThere (types_at sight) outer ends place e Computes ((expr_pair e).1 false sight)
+  pub computes_there : (e : Expr) → writes_widths e ≡ true → IsFine (reaching sight.known here) ((expr_pair e).1 false sight) → ActThere (types_at sight) outer ends place e Computes ((expr_pair e).1 false sight)
   computes_there e w fine =
       let b = within_becomes here sight env place (expr_pair e) (expression_lowered e) (expression_part e w) h at fine in
       record {
@@ -189,7 +170,7 @@ module _ (here : Instance → Bool) (sight : Sight) (env : Env) (outer place : C
   member_there : (c : Expr) (ch : ChannelThere sight (expr_pair c) (name_of_expr (expr_pair c))) (act : List ℕ → SiteAct) → at_channel c act ≡ act ch.name
   member_there c ch act = ap (act_named act) (ap (λ x. name_in_node (node_of x)) (sym (own_expr judged_sorts judged_steps c)) ∙ ch.is)
 
-  receiving_there : (span : Span) (e t c : Expr) → writes_widths t ≡ true → IsFine (reaching sight.known here) (receiving span sight (expr_pair t ∷ expr_pair c ∷ []))
+  pub receiving_there : (span : Span) (e t c : Expr) → writes_widths t ≡ true → IsFine (reaching sight.known here) (receiving span sight (expr_pair t ∷ expr_pair c ∷ []))
       → ActThere (types_at sight) outer ends place e (at_channel c TakesWord) (receiving span sight (expr_pair t ∷ expr_pair c ∷ []))
   receiving_there span e t c w fine =
       let channel = channel_seen sight (expr_pair c) in
@@ -209,7 +190,7 @@ module _ (here : Instance → Bool) (sight : Sight) (env : Env) (outer place : C
             ∙ one_step (step.Receive (record { member = m.member.number; word = plain_type m.member.word; condition = None; shape = s.shape })) (rest s.place);
       })
 
-  sending_there : (span : Span) (e t c x : Expr) → writes_widths t ≡ true → writes_widths x ≡ true → IsFine (reaching sight.known here) (sending span sight (expr_pair t ∷ expr_pair c ∷ expr_pair x ∷ []))
+  pub sending_there : (span : Span) (e t c x : Expr) → writes_widths t ≡ true → writes_widths x ≡ true → IsFine (reaching sight.known here) (sending span sight (expr_pair t ∷ expr_pair c ∷ expr_pair x ∷ []))
       → ActThere (types_at sight) outer ends place e (at_channel c (λ name. SendsWord name x)) (sending span sight (expr_pair t ∷ expr_pair c ∷ expr_pair x ∷ []))
   sending_there span e t c x w wx fine =
       let channel = channel_seen sight (expr_pair c) in
@@ -233,7 +214,7 @@ module _ (here : Instance → Bool) (sight : Sight) (env : Env) (outer place : C
             ∙ one_step (step.Send (record { member = m.member.number; condition = None; word = b.expr.core; shape = s.shape })) (rest s.place);
       })
 
-  receiving_if_there : (span : Span) (e t c p x : Expr) → writes_widths t ≡ true → writes_widths p ≡ true → writes_widths x ≡ true
+  pub receiving_if_there : (span : Span) (e t c p x : Expr) → writes_widths t ≡ true → writes_widths p ≡ true → writes_widths x ≡ true
       → IsFine (reaching sight.known here) (receiving_if span sight (expr_pair t ∷ expr_pair c ∷ expr_pair p ∷ expr_pair x ∷ []))
       → ActThere (types_at sight) outer ends place e (at_channel c (λ name. TakesWordIf name p x)) (receiving_if span sight (expr_pair t ∷ expr_pair c ∷ expr_pair p ∷ expr_pair x ∷ []))
   receiving_if_there span e t c p x w wp wx fine =
@@ -264,7 +245,7 @@ module _ (here : Instance → Bool) (sight : Sight) (env : Env) (outer place : C
             ∙ one_step (step.Receive (record { member = m.member.number; word = plain_type m.member.word; condition = Some (a.expr.core, b.expr.core); shape = s.shape })) (rest s.place);
       })
 
-  sending_if_there : (span : Span) (e t c p x : Expr) → writes_widths t ≡ true → writes_widths p ≡ true → writes_widths x ≡ true
+  pub sending_if_there : (span : Span) (e t c p x : Expr) → writes_widths t ≡ true → writes_widths p ≡ true → writes_widths x ≡ true
       → IsFine (reaching sight.known here) (sending_if span sight (expr_pair t ∷ expr_pair c ∷ expr_pair p ∷ expr_pair x ∷ []))
       → ActThere (types_at sight) outer ends place e (at_channel c (λ name. SendsWordIf name p x)) (sending_if span sight (expr_pair t ∷ expr_pair c ∷ expr_pair p ∷ expr_pair x ∷ []))
   sending_if_there span e t c p x w wp wx fine =

@@ -47,7 +47,7 @@ use Rattle.dslx_meaning.specs.Values.{type_of_value}
 -- ---- names
 
 -- what is no item is no constant
-plain_name : (sight : Sight) → IsComplete sight.known → (before : List (List ℕ)) (name : Ident) → local_name sight before name ≡ [] → sight.known.items.is_constant name.name ≡ false
+pub plain_name : (sight : Sight) → IsComplete sight.known → (before : List (List ℕ)) (name : Ident) → local_name sight before name ≡ [] → sight.known.items.is_constant name.name ≡ false
 plain_name sight complete before name f =
     let own = is_own_name name.name in
     let item = is_item sight name.name in
@@ -64,7 +64,7 @@ plain_name sight complete before name f =
     by_item (Some d) q = absurd (true≢false q)
 
 -- number parameters have names and values of their own
-numbers_stand_there : (known : Known) → IsComplete known → (home : List ℕ) (before : List (List ℕ)) (so_far : List Given) (ps : List Parameter) (vs : List DslxValue) → (parameters_found known home before so_far ps vs).faults ≡ []
+pub numbers_stand_there : (known : Known) → IsComplete known → (home : List ℕ) (before : List (List ℕ)) (so_far : List Given) (ps : List Parameter) (vs : List DslxValue) → (parameters_found known home before so_far ps vs).faults ≡ []
     → AllOwn known.items.type_named vs → numbers_stand known.items so_far ≡ true → numbers_stand known.items (numbers_bound so_far ps vs) ≡ true
 numbers_stand_there known complete home before so_far [] vs f own h = h
 numbers_stand_there known complete home before so_far (p ∷ ps) [] f own h = h

@@ -8,3 +8,7 @@ pub mod Widths
 pub mod Instances
 -- instances in order
 pub mod InstanceLists
+-- the block of `next`
+pub mod NextSteps
+-- `next` of instances of procs
+pub mod Nexts

@@ -6,6 +6,8 @@
 
 mod expressions;
 mod instances;
+mod nexts;
 
 pub use expressions::an_expression_is_lowered;
 pub use instances::{an_instance_is_lowered, instances_in_order_are_lowered};
+pub use nexts::{next_is_lowered, the_block_of_next_is_lowered};
