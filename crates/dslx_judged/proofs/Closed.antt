@@ -13,7 +13,7 @@ use Rattle.dslx_meaning.specs.Values.{same_value}
 use Rattle.dslx_meaning.specs.declared.value.DslxValue.{DslxValue}
 use Rattle.dslx_rules.specs.Judging.{Instance, Known, same_instance}
 use Rattle.dslx_rules.specs.Mentions.{AsFunction, AsProc, AsType, AsValue, is_of_use, mentions_of}
-use Rattle.dslx_rules.specs.ModuleRules.{add_new, found_of_instance, found_of_item, is_reached, known_within, reached_next, reached_within}
+use Rattle.dslx_rules.specs.ModuleRules.{add_new, found_of_instance, found_of_item, instances_of, is_reached, known_of, known_within, outside_instances, own_instances, reached_next, reached_within}
 use Rattle.dslx_laws.specs.Recursion.{HasNoCycle}
 use Rattle.dslx_laws.proofs.Chains.{Ends, OfEach, item_ends}
 use Rattle.dslx_judged.specs.Closed.{ReachOneAnother, IsOneOf, ends_within}
@@ -23,12 +23,12 @@ use Rattle.dslx_judged.proofs.Values.{value_itself}
 
 -- ---- lists of instances
 
-in_first : (i : Instance) (xs ys : List Instance) → IsOneOf i xs → IsOneOf i (xs ++ ys)
+pub in_first : (i : Instance) (xs ys : List Instance) → IsOneOf i xs → IsOneOf i (xs ++ ys)
 in_first i [] ys h = absurd h
 in_first i (x ∷ xs) ys (inl e) = inl e
 in_first i (x ∷ xs) ys (inr h) = inr (in_first i xs ys h)
 
-in_second : (i : Instance) (xs ys : List Instance) → IsOneOf i ys → IsOneOf i (xs ++ ys)
+pub in_second : (i : Instance) (xs ys : List Instance) → IsOneOf i ys → IsOneOf i (xs ++ ys)
 in_second i [] ys h = h
 in_second i (x ∷ xs) ys h = inr (in_second i xs ys h)
 
@@ -214,3 +214,13 @@ at_start m free a start i h = by_item (item_named i.name m.items) refl
 
 pub reaching_ends : (m : Module) → HasNoCycle m → (a : ℕ) (start : List Instance) → ReachOneAnother (known_within m a) (reached_within (known_within m a) (length m.items) start)
 reaching_ends m free a start = steps_end m a (length m.items) start (at_start m free a start)
+
+-- what is there stays there
+steps_keep : (known : Known) (i : Instance) (n : ℕ) (found : List Instance) → is_reached i found ≡ true → is_reached i (reached_within known n found) ≡ true
+steps_keep known i zero found e = e
+steps_keep known i (suc n) found e = steps_keep known i n (reached_next known found) (still_reached i found (flat_map (reached_from known) found) e)
+
+pub outside_reached : (m : Module) (top : Option (List ℕ)) (i : Instance) → IsOneOf i (outside_instances m top).reached → is_reached i (instances_of m top) ≡ true
+outside_reached m top i h =
+    let own = add_new [] (own_instances m.items) in
+    steps_keep (known_of m) i (length m.items) (add_new own (outside_instances m top).reached) (all_added i own (outside_instances m top).reached h)

@@ -3,4 +3,4 @@
 pub use Rattle.dslx_judged.proofs.Joined.{expression_reaches, block_of_text_reaches, written_type_reaches, argument_reaches}
 pub use Rattle.dslx_judged.proofs.Parts.{parts, three_parts, unmarked}
 pub use Rattle.dslx_judged.proofs.OfItems.{whole_is, item_so_named, function_is, meant_reach, instances_reach, items_reach, default_reached}
-pub use Rattle.dslx_judged.proofs.Closed.{all_weaker, longer, closed, every_item}
+pub use Rattle.dslx_judged.proofs.Closed.{all_weaker, longer, closed, every_item, in_first, in_second}

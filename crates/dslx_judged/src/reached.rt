@@ -1,10 +1,10 @@
-ghost use Rattle.dslx_judged.specs.Closed.{ReachOneAnother};
+ghost use Rattle.dslx_judged.specs.Closed.{IsOneOf, ReachOneAnother};
 ghost use Rattle.dslx_judged.specs.Reached.{AllNamed, IsClosed, MentionsReach};
 ghost use Rattle.dslx_laws.specs.Recursion.{HasNoCycle};
 ghost use Rattle.dslx_meaning.specs.Items.{item_named};
 ghost use Rattle.dslx_rules.specs.Judging.{Instance, Sight};
 ghost use Rattle.dslx_rules.specs.Mentions.{mentioned, mentioned_in_block, mentioned_in_type, mentions_of, names_meant};
-ghost use Rattle.dslx_rules.specs.ModuleRules.{found_of_instance, instances_of, item_found, known_of, known_within, reached_within};
+ghost use Rattle.dslx_rules.specs.ModuleRules.{found_of_instance, instances_of, is_reached, item_found, known_of, known_within, outside_instances, reached_within};
 ghost use Rattle.dslx_rules.specs.NodeRules.{block_pair, expr_pair, type_pair};
 ghost use Rattle.dslx_tree.specs.declared.block.Block.{Block};
 ghost use Rattle.dslx_tree.specs.declared.expr.Expr.{Expr};
@@ -34,8 +34,9 @@ pub fn items_reach_what_they_mention()
 {}
 
 /// Where no item reaches itself, the instances of a text that are checked reach none but one another: as many calls and spawns
-/// as there are items come to the end of what any instances reach.
+/// as there are items come to the end of what any instances reach. What is reached outside all instances is checked, too.
 pub fn instances_reach_one_another()
     ensures any { (m : Module) → HasNoCycle m → (n : ℕ) (start : List Instance) → ReachOneAnother (known_within m n) (reached_within (known_within m n) (length m.items) start) }
     ensures text { (m : Module) (top : Option (List ℕ)) → HasNoCycle m → ReachOneAnother (known_of m) (instances_of m top) }
+    ensures outside { (m : Module) (top : Option (List ℕ)) (i : Instance) → IsOneOf i (outside_instances m top).reached → is_reached i (instances_of m top) ≡ true }
 {}

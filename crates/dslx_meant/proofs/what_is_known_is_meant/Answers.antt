@@ -5,7 +5,9 @@ use Rattle.dslx_meant.proofs.Itself.{over_itself}
 use Rattle.dslx_meant.proofs.what_is_known_is_meant.Goals as goal
 
 pub returns : goal.returns
-returns c = λ m free plain complete typed fine.
+returns c = λ m free plain fine.
+    let complete = c.all_items_are_known.ensures.complete m free plain fine in
+    let typed = c.all_items_are_known.ensures.typed m free plain fine in
     c.recursion_ends.ensures.only m free (known_of m).items
     (over_itself m (known_of m) (record {
       text = whole_is m (length m.items);

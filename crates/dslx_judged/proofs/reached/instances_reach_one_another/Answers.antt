@@ -1,6 +1,6 @@
 use Rattle.std.proofs.Common.{[], length}
 use Rattle.dslx_rules.specs.ModuleRules.{add_new, outside_instances, own_instances}
-use Rattle.dslx_judged.proofs.Closed.{reaching_ends}
+use Rattle.dslx_judged.proofs.Closed.{outside_reached, reaching_ends}
 use Rattle.dslx_judged.proofs.reached.instances_reach_one_another.Goals as goal
 
 pub returns-clause-any : goal.returns-clause-any
@@ -8,3 +8,6 @@ returns-clause-any c = reaching_ends
 
 pub returns-clause-text : goal.returns-clause-text
 returns-clause-text c = λ m top free. reaching_ends m free (length m.items) (add_new (add_new [] (own_instances m.items)) (outside_instances m top).reached)
+
+pub returns-clause-outside : goal.returns-clause-outside
+returns-clause-outside c = outside_reached

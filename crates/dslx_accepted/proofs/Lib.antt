@@ -1,0 +1,2 @@
+-- items and instances without faults
+mod Sound

@@ -1,0 +1,2 @@
+-- texts whose instances are told apart
+pub mod Apart
