@@ -4,10 +4,12 @@
 #![tactic(auto)]
 
 mod control;
+mod literals;
 mod operators;
 mod types;
 
 pub use control::{bind_lowered, choice_lowered, element_lowered, index_lowered};
+pub use literals::{literal, plain_value};
 pub use operators::{
     binary_lowered, cast_lowered, counted_lowered, part_lowered, prefix_lowered, reduced_lowered,
     slice_lowered,
