@@ -1,15 +1,18 @@
 //! Blocks, and values that are bound in them.
 
-ghost use Rattle.std.specs.Prelude.{◌≡◌, [], Some, OnOk};
+ghost use Rattle.std.specs.Prelude.{◌≡◌, [], Some, IfOk, OnOk};
 ghost use Rattle.dslx_tree.specs.declared.block.Stmt.{out-Stmt};
+ghost use Rattle.dslx_meaning.specs.Lists.{where_true};
 ghost use Rattle.dslx_meaning.specs.Types.{unit_type};
 ghost use Rattle.dslx_core.specs.declared.expr.CoreExpr.{Tuple as tuple_of};
 ghost use Rattle.dslx_lowering.specs.Lowering.{lowered};
-ghost use Rattle.dslx_instance_machine.specs.Steps.{last_begins, statements_begin, stmt_begins};
+ghost use Rattle.dslx_instance_machine.specs.Bodies.{gives, with_last, with_made};
+ghost use Rattle.dslx_instance_machine.specs.Steps.{bind_made, last_begins, statements_begin, stmt_begins};
 ghost use Rattle.dslx_instance_tasks.specs.Shown.{body_shown};
 
-use dslx_core::CoreExpr;
+use dslx_core::{CoreExpr, Shape};
 use dslx_instance_tasks::{BlockTask, LowerTask, OpenBody};
+use dslx_lowered_forms::bind_lowered;
 use dslx_lowering::LoweredExpr;
 use dslx_meaning::DslxType;
 use dslx_tree::{Expr, Stmt};
@@ -71,5 +74,23 @@ fn unit_lowered(alloc: Global) -> LoweredExpr
     LoweredExpr {
         core: CoreExpr::Tuple(Seq::new(alloc)),
         ty: DslxType::Tuple(Seq::new(alloc)),
+    }
+}
+
+/// A value is bound, and taken apart so, for what was made last; whether anything was.
+pub fn make_bind<'a>(
+    body: &mut OpenBody<'a>,
+    alloc: Global,
+    value: LoweredExpr,
+    shape: Shape,
+) -> Result<bool, AllocError>
+    ensures { IfOk result (λ is. where_true is (Some (body_shown body.new)) ≡ with_last (body_shown body.old).made (λ r made. gives (bind_made value shape r) (with_made made (body_shown body.old)))) }
+{
+    match body.made.take_off() {
+        Some(last) => {
+            body.give(bind_lowered(alloc, value.core, shape, last)?)?;
+            Ok(true)
+        }
+        None => Ok(false),
     }
 }

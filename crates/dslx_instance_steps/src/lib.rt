@@ -4,10 +4,15 @@
 
 mod block;
 mod instance;
+mod name;
 mod operation;
 mod several;
 
-pub use block::begin_statements;
+pub use block::{begin_statements, make_bind};
 pub use instance::close_instance;
-pub use operation::{make_binary, make_cast, make_part, make_prefix, make_slice};
+pub use name::slot_lowered;
+pub use operation::{
+    make_binary, make_cast, make_choice, make_element, make_indexed, make_part, make_prefix,
+    make_slice,
+};
 pub use several::{begin_choice, begin_loop, begin_match, begin_next, bind_unnamed, fits_part};

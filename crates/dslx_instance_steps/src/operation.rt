@@ -6,7 +6,8 @@ ghost use Rattle.dslx_lowering.specs.Lowering as lowering;
 ghost use Rattle.dslx_instance_machine.specs.Steps.{of_last, of_last_two, of_last_three};
 
 use dslx_lowered_forms::{
-    binary_lowered, cast_lowered, part_lowered, prefix_lowered, slice_lowered,
+    binary_lowered, cast_lowered, choice_lowered, element_lowered, index_lowered, part_lowered,
+    prefix_lowered, slice_lowered,
 };
 use dslx_lowering::LoweredExpr;
 use dslx_meaning::DslxType;
@@ -134,6 +135,72 @@ fn part_of(
     match ty {
         Some(ty) => {
             let expr = part_lowered(alloc, operand, start, ty)?;
+            put(made, expr)
+        }
+        None => Ok(false),
+    }
+}
+
+/// The second of the last three where the first is 1, else the third.
+pub fn make_choice(made: &mut Stack<LoweredExpr>, alloc: Global) -> Result<bool, AllocError>
+    ensures { IfOk result (λ is. where_true is (Some made.new) ≡ of_last_three made.old (λ c a b. lowering.choice_lowered (Some c) (Some a) (Some b))) }
+{
+    match made.take_off() {
+        Some(no) => match made.take_off() {
+            Some(yes) => choice_of(made, alloc, yes, no),
+            None => Ok(false),
+        },
+        None => Ok(false),
+    }
+}
+
+fn choice_of(
+    made: &mut Stack<LoweredExpr>,
+    alloc: Global,
+    yes: LoweredExpr,
+    no: LoweredExpr,
+) -> Result<bool, AllocError>
+    ensures { IfOk result (λ is. where_true is (Some made.new) ≡ of_last_three (no ∷ yes ∷ made.old) (λ c a b. lowering.choice_lowered (Some c) (Some a) (Some b))) }
+{
+    match made.take_off() {
+        Some(condition) => {
+            let expr = choice_lowered(alloc, condition, yes, no)?;
+            put(made, expr)
+        }
+        None => Ok(false),
+    }
+}
+
+/// The element of an array at an index.
+pub fn make_indexed(made: &mut Stack<LoweredExpr>, alloc: Global) -> Result<bool, AllocError>
+    ensures { IfOk result (λ is. where_true is (Some made.new) ≡ of_last_two made.old (λ e i. lowering.index_lowered (Some e) (Some i))) }
+{
+    match made.take_off() {
+        Some(index) => match made.take_off() {
+            Some(array) => {
+                let expr = index_lowered(alloc, array, index)?;
+                put(made, expr)
+            }
+            None => Ok(false),
+        },
+        None => Ok(false),
+    }
+}
+
+/// The part of a tuple of this number. Past 2^64 - 1, which no tuple has, it gives up as for want of memory.
+pub fn make_element(
+    made: &mut Stack<LoweredExpr>,
+    alloc: Global,
+    place: u128,
+) -> Result<bool, AllocError>
+    ensures { IfOk result (λ is. where_true is (Some made.new) ≡ of_last made.old (λ e. lowering.element_lowered (Some e) place)) }
+{
+    if place > u64::MAX as u128 {
+        return Err(AllocError);
+    }
+    match made.take_off() {
+        Some(tuple) => {
+            let expr = element_lowered(alloc, tuple, place as u64)?;
             put(made, expr)
         }
         None => Ok(false),
