@@ -30,7 +30,7 @@ pub returns : goal.returns
 returns c m top design fine made =
     let complete = c.all_items_are_known.ensures.complete m fine.free fine.plain fine.items in
     let typed = c.all_items_are_known.ensures.typed m fine.free fine.plain fine.items in
-    let same = c.what_is_known_is_meant.ensures m fine.free fine.plain complete typed fine.items in
+    let same = c.what_is_known_is_meant.ensures m fine.free fine.plain fine.items in
     let own = items_are_own m (known_of m) (known_whole m) complete typed (meanings_of m) (c.recursion_ends.ensures.settled m fine.free) same in
     c.made_designs_stand_for_texts.ensures m top design fine.free own made (record {
       known = known_of m;
