@@ -88,9 +88,20 @@ pub fn make_bind<'a>(
 {
     match body.made.take_off() {
         Some(last) => {
-            body.give(bind_lowered(alloc, value.core, shape, last)?)?;
+            body.give(bound(alloc, value, shape, last)?)?;
             Ok(true)
         }
         None => Ok(false),
     }
+}
+
+fn bound(
+    alloc: Global,
+    value: LoweredExpr,
+    shape: Shape,
+    last: LoweredExpr,
+) -> Result<LoweredExpr, AllocError>
+    ensures { IfOk result (λ e. Some e ≡ bind_made value shape last) }
+{
+    bind_lowered(alloc, value.core, shape, last)
 }
