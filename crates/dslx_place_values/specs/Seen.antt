@@ -15,7 +15,7 @@ CalleesThere = List ℕ → List DslxValue → List DslxType → Option CoreCall
 abbrev pub place_with : CalleesThere → ℕ → PlaceSight → CorePlace
 place_with callee count s = record {
   known = record { items = meanings_of s.text.now; numbers = reverse (map given s.numbers.now); callee = callee };
-  locals = reverse s.locals.now;
+  locals = s.locals.now;
   count = count;
 }
 

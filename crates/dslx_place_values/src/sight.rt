@@ -1,18 +1,18 @@
 ghost use Rattle.std.specs.Prelude.{◌≡◌, IfOk, map, reverse};
 ghost use Rattle.dslx_names.specs.Bound.{given};
 
-use dslx_lowering::BoundSlot;
+use dslx_locals::Locals;
 use dslx_names::{Binding, Scope};
 use dslx_tree::Module;
 use dslx_values::copy_value;
 use std::alloc::{AllocError, Global};
 
-/// What is in sight at a place: a text, the number parameters, and the names that are bound there, the last ones last.
+/// What is in sight at a place: a text, the number parameters, the last one last, and the names that are bound there.
 #[derive(Clone, Copy)]
 pub struct PlaceSight<'a> {
     pub text: &'a Module,
     pub numbers: &'a [Binding<'a>],
-    pub locals: &'a [BoundSlot],
+    pub locals: &'a Locals,
 }
 
 /// The number parameters with copies of their values.
