@@ -1,6 +1,5 @@
 -- A step of the machine in the code, and its end.
 use Rattle.std.proofs.Common.{◌≡◌, List, [], ◌∷◌, map, sym, ap, ◌∙◌}
-use Rattle.dslx_const_machine.specs.States.{value_in}
 use Rattle.dslx_const_machine.specs.Steps.{stepped, behind}
 use Rattle.dslx_const_machine.proofs.Lemmas.{comes_to, comes_to_stepped}
 use Rattle.dslx_const_tasks.specs.Plain.{shown, plain_task, plain_found}
@@ -16,5 +15,5 @@ taken m new task rest first does =
     ∙ sym (ap (λ (ts : List Task). comes_to (behind (map plain_task ts) (shown m))) first))
 
 -- nothing is left to be done
-pub ended : (m : Machine) → m.tasks ≡ [] → comes_to (shown m) ≡ value_in (plain_found m.found)
+pub ended : (m : Machine) → m.tasks ≡ [] → comes_to (shown m) ≡ plain_found m.found
 ended m none = ap (λ (ts : List Task). comes_to (behind (map plain_task ts) (shown m))) none

@@ -1,13 +1,12 @@
 ghost use Rattle.std.specs.Prelude.{◌≡◌, IfOk};
 ghost use Rattle.dslx_meaning.specs.Items.{meanings_of};
-ghost use Rattle.dslx_meaning.specs.Meaning.{value_of};
+ghost use Rattle.dslx_meaning.specs.Meaning.{bound_of, meant, size_of, value_of, written_type};
 
-use crate::step::step;
-use dslx_const_tasks::{Found, Machine, Task};
-use dslx_meaning::DslxValue;
+use crate::found::{count_found, found_by, type_found, value_found};
+use dslx_const_tasks::{Task, TypeTask};
+use dslx_meaning::{DslxType, DslxValue};
 use dslx_names::Scope;
-use dslx_tree::{Expr, Module};
-use stacks::Stack;
+use dslx_tree::{Expr, Module, TypeExpr};
 use std::alloc::{AllocError, Global};
 
 /// The value that an expression of a text means where these names are bound; `None` where it has none, so nothing is required of
@@ -25,19 +24,48 @@ pub fn const_eval<'a>(
 ) -> Result<Option<DslxValue>, AllocError>
     ensures { IfOk result (λ v. v ≡ value_of expr.now (record { items = meanings_of text.now; bound = bound.entry })) }
 {
-    let mut machine = Machine {
-        text,
-        tasks: Stack::new(alloc),
-        found: Found::Value(None),
-        bound,
-        left: text.items.len() as u64,
-    };
-    machine.tasks.push(Task::Eval(expr))?;
-    'steps: for _ in 0..u64::MAX {
-        match machine.tasks.take_off() {
-            Some(task) => step(&mut machine, alloc, task)?,
-            None => return Ok(machine.take_value()),
-        }
-    }
-    Err(AllocError)
+    let found = found_by(alloc, text, bound, Task::Eval(expr))?;
+    Ok(value_found(found))
+}
+
+/// The type that is written, where these names are bound; `None` where it has no meaning.
+pub fn type_eval<'a>(
+    alloc: Global,
+    text: &'a Module,
+    bound: Scope<'a>,
+    ty: &'a TypeExpr,
+) -> Result<Option<DslxType>, AllocError>
+    ensures { IfOk result (λ t. t ≡ written_type ty.now (record { items = meanings_of text.now; bound = bound.entry })) }
+{
+    let task = Task::ty(alloc, TypeTask::Find(ty))?;
+    let found = found_by(alloc, text, bound, task)?;
+    Ok(type_found(found))
+}
+
+/// The size that an expression gives, as of an array or the width of a type.
+pub fn size_eval<'a>(
+    alloc: Global,
+    text: &'a Module,
+    bound: Scope<'a>,
+    size: &'a Expr,
+) -> Result<Option<u128>, AllocError>
+    ensures { IfOk result (λ n. n ≡ size_of (meant size.now) (record { items = meanings_of text.now; bound = bound.entry })) }
+{
+    let task = Task::ty(alloc, TypeTask::CountSize(size))?;
+    let found = found_by(alloc, text, bound, task)?;
+    Ok(count_found(found))
+}
+
+/// The bound of a slice that an expression gives.
+pub fn bound_eval<'a>(
+    alloc: Global,
+    text: &'a Module,
+    bound: Scope<'a>,
+    end: &'a Expr,
+) -> Result<Option<u128>, AllocError>
+    ensures { IfOk result (λ n. n ≡ bound_of (meant end.now) (record { items = meanings_of text.now; bound = bound.entry })) }
+{
+    let task = Task::ty(alloc, TypeTask::CountBound(end))?;
+    let found = found_by(alloc, text, bound, task)?;
+    Ok(count_found(found))
 }

@@ -1,10 +1,11 @@
-//! The values of constant expressions of a text that is not checked yet.
+//! The values of constant expressions of a text that is not checked yet, and the types, sizes and bounds that are written in it.
 //!
 //! A machine with stacks of its own finds them: neither calls, one in another, nor expressions take room of the processor's stack.
 #![tactic(auto)]
 
 mod eval;
+mod found;
 mod node;
 mod step;
 
-pub use eval::const_eval;
+pub use eval::{bound_eval, const_eval, size_eval, type_eval};

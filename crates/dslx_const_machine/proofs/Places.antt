@@ -230,10 +230,10 @@ done (task.GivesParameter call q ps) p = back_from call (parameter_in call q ps 
 done (task.GivesOperands call fs) p = back_from call (operands_in call fs (env_at p)) p
 done (task.Returns bound n) p = record p { bound = bound; left = n }
 
--- what comes of what is to be done
-abbrev pub answer : List ConstTask → Place → Option DslxValue
-answer [] p = value_in p.found
+-- where the machine stands when all of this is done
+abbrev pub answer : List ConstTask → Place → Place
+answer [] p = p
 answer (d ∷ todo) p = answer todo (done d p)
 
-abbrev pub answer_of : ConstState → Option DslxValue
+abbrev pub answer_of : ConstState → Place
 answer_of run = answer run.todo (place_of run)

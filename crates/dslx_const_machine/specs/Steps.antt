@@ -231,15 +231,15 @@ abbrev pub stepped_first : List ConstTask → ConstState → ConstState
 stepped_first [] run = run
 stepped_first (d ∷ todo) run = stepped d (behind todo run)
 
-abbrev pub answered : List ConstTask → Finding → Option (Option DslxValue)
-answered [] f = Some (value_in f)
+abbrev pub answered : List ConstTask → Finding → Option Finding
+answered [] f = Some f
 answered (d ∷ todo) f = None
 
--- what is found after so many steps, if nothing is left to be done then
-abbrev pub after : ℕ → ConstState → Option (Option DslxValue)
+-- what was found last after so many steps, if nothing is left to be done then
+abbrev pub after : ℕ → ConstState → Option Finding
 after zero run = answered run.todo run.found
 after (suc n) run = after n (stepped_first run.todo run)
 
--- the machine that is to find the value of an expression of a text where these names are bound, the last one first
-abbrev pub begins : Module → List Given → Expr → ConstState
-begins m bound e = record { text = m; todo = task.Evaluates e ∷ []; found = task.ValueFound None; bound = bound; left = length m.items }
+-- the machine that is to do this in a text where these names are bound, the last one first
+abbrev pub begins : Module → List Given → ConstTask → ConstState
+begins m bound d = record { text = m; todo = d ∷ []; found = task.ValueFound None; bound = bound; left = length m.items }

@@ -23,7 +23,8 @@ use Rattle.dslx_instance_machine.specs.Steps.{stepped}
 use Rattle.dslx_instance_machine.proofs.Keeps.{keeps}
 use Rattle.dslx_instance_machine.proofs.Options.{from_then, from_where}
 use Rattle.dslx_instance_machine.proofs.Places.{does_all, end_of, end_of_next, makes, spot_of}
-use Rattle.dslx_instance_machine.proofs.Steady.{Callees, type_anywhere}
+use Rattle.dslx_instance_machine.specs.Callees.{CalleesByName}
+use Rattle.dslx_instance_machine.proofs.Steady.{type_anywhere}
 
 -- ---- tables that grow
 
@@ -75,13 +76,13 @@ stand_further sight c (o ∷ rest) stand = (
 
 -- ---- an instance that is opened
 
-abbrev calling : CoreKnown → Callees → CoreKnown
+abbrev calling : CoreKnown → CalleesByName → CoreKnown
 calling known c = record { items = known.items; numbers = known.numbers; callee = c }
 
-types_anywhere : (known : CoreKnown) (c : Callees) (fields : List Field) → argument_types (calling known c) fields ≡ argument_types known fields
+types_anywhere : (known : CoreKnown) (c : CalleesByName) (fields : List Field) → argument_types (calling known c) fields ≡ argument_types known fields
 types_anywhere known c fields = λ i. all_some (map (λ (f : Field). type_anywhere f.ty (outer_place known) c i) fields)
 
-placed_anywhere : (known : CoreKnown) (c : Callees) (fields : List Field) (ts : List DslxType) (locals : List BoundSlot) (count : ℕ)
+placed_anywhere : (known : CoreKnown) (c : CalleesByName) (fields : List Field) (ts : List DslxType) (locals : List BoundSlot) (count : ℕ)
     → arguments_placed fields ts (record { known = calling known c; locals = locals; count = count })
     ≡ and_then (arguments_placed fields ts (record { known = known; locals = locals; count = count })) (λ p. Some (record { known = calling known c; locals = p.locals; count = p.count }))
 placed_anywhere known c [] [] locals count = refl

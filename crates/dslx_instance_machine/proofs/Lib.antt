@@ -17,7 +17,7 @@ mod Options
 -- what each task comes to
 mod Places
 -- trees beside what they become
-mod Rebuilt
+pub mod Rebuilt
 -- what comes of tasks in a row
 mod Sequels
 -- what is the same at several places

@@ -29,7 +29,8 @@ use Rattle.dslx_instance_machine.proofs.Becomes.{arm_becomes, statements_become}
 use Rattle.dslx_instance_machine.proofs.Options.{first_of_all, from_then}
 use Rattle.dslx_instance_machine.proofs.Places.{arm_then, arms_in, does_all, end_of_next, let_in, loop_in, makes, spot_of}
 use Rattle.dslx_instance_machine.proofs.Sequels.{behind_pattern, calls, gives_keep, goes_back, taken_next}
-use Rattle.dslx_instance_machine.proofs.Steady.{Grows, alternatives_anywhere, grows_on, moved, shaped_anywhere, shaped_grows, with_callee, Callees}
+use Rattle.dslx_instance_machine.specs.Callees.{CalleesByName, moved, with_callee}
+use Rattle.dslx_instance_machine.proofs.Steady.{Grows, alternatives_anywhere, grows_on, shaped_anywhere, shaped_grows}
 
 module _ (sight : InstanceSight) (table : List CoreInstance) where
   abbrev at : InstanceSight
@@ -45,7 +46,7 @@ module _ (sight : InstanceSight) (table : List CoreInstance) where
   abbrev before : OpenBody → CorePlace
   before body = place_in sight body
 
-  abbrev called : Callees
+  abbrev called : CalleesByName
   called = calls sight table
 
   -- ---- values that are bound

@@ -10,7 +10,8 @@ use Rattle.dslx_instance_machine.specs.Steps.{of_last, of_last_two, of_last_thre
 use Rattle.dslx_instance_machine.specs.Reached.{at_table}
 use Rattle.dslx_instance_machine.proofs.Options.{dropped_again}
 use Rattle.dslx_instance_machine.proofs.Places.{Spot, back, does_all, end_of_next, having, makes, spot_of}
-use Rattle.dslx_instance_machine.proofs.Steady.{Grows, Callees, with_callee}
+use Rattle.dslx_instance_machine.specs.Callees.{CalleesByName, with_callee}
+use Rattle.dslx_instance_machine.proofs.Steady.{Grows}
 
 -- what is made where nothing else is to be done first
 pub gives_keep : (sight : InstanceSight) (table : List CoreInstance) (o : Option LoweredExpr) (body : OpenBody)
@@ -100,7 +101,7 @@ module _ (sight : InstanceSight) (table : List CoreInstance) where
   abbrev at : InstanceSight
   at = at_table sight table
 
-  abbrev pub calls : Callees
+  abbrev pub calls : CalleesByName
   calls = callee_in sight.text sight.items table
 
   -- the place behind a pattern is that of the body that goes on there

@@ -17,26 +17,20 @@ use Rattle.dslx_meaning.specs.declared.value.DslxValue.{DslxValue}
 use Rattle.dslx_typed.proofs.Lemmas.{none_some, same_some}
 use Rattle.dslx_core.specs.declared.expr.Shape.{Shape}
 use Rattle.dslx_core.specs.declared.expr.Shape as shape
-use Rattle.dslx_lowering.specs.CorePlaces.{BoundSlot, CoreCallee, CorePlace, size_at, with_local}
+use Rattle.dslx_lowering.specs.CorePlaces.{BoundSlot, CorePlace, size_at, with_local}
 use Rattle.dslx_lowering.specs.EqualTypes.{equal_type}
 use Rattle.dslx_lowering.specs.Patterns.{LoweredShape, LoweredShapes, LowersPattern, parts_shaped, shaped, tuple_shape, value_shape, alternatives_shaped}
 use Rattle.dslx_lowering.specs.Steps.{pattern_of_text_lowered}
 use Rattle.dslx_lowering.specs.Trees.{LowersType, shape_lowered, type_lowered, type_of_text_lowered, number_meaning}
 use Rattle.dslx_instance_machine.specs.Arms.{shaped_at}
+use Rattle.dslx_instance_machine.specs.Callees.{CalleesByName, moved, with_callee}
 use Rattle.dslx_instance_machine.proofs.Options.{from_then, from_where}
 use Rattle.dslx_instance_machine.proofs.Rebuilt.{become, becoming}
 
 -- ---- what holds of types and patterns
 
--- what calls come to
-abbrev pub Callees : Type 0
-Callees = List ℕ → List DslxValue → List DslxType → Option CoreCallee
-
-abbrev pub with_callee : Callees → CorePlace → CorePlace
-with_callee c place = record { known = record { items = place.known.items; numbers = place.known.numbers; callee = c }; locals = place.locals; count = place.count }
-
 abbrev KnowsNoCallee : {A : Type 0} → (CorePlace → Option A) → Type 0
-KnowsNoCallee l = (place : CorePlace) (c : Callees) → l (with_callee c place) ≡ l place
+KnowsNoCallee l = (place : CorePlace) (c : CalleesByName) → l (with_callee c place) ≡ l place
 
 -- more may be bound, the rest is as it was
 pub record Grows (before after : CorePlace) : Type 0 where
@@ -44,12 +38,9 @@ pub record Grows (before after : CorePlace) : Type 0 where
   pub new : List BoundSlot
   pub locals : after.locals ≡ new ++ before.locals
 
-abbrev pub moved : Callees → Option LoweredShape → Option LoweredShape
-moved c o = and_then o (λ s. Some (record { shape = s.shape; place = with_callee c s.place }))
-
 record PatternIsSteady (l : LowersPattern) : Type 0 where
   grows : (outer place : CorePlace) (t : DslxType) (s : LoweredShape) → l.lower outer place t ≡ Some s → Grows place s.place
-  moves : (outer place : CorePlace) (t : DslxType) (c : Callees) → l.lower (with_callee c outer) (with_callee c place) t ≡ moved c (l.lower outer place t)
+  moves : (outer place : CorePlace) (t : DslxType) (c : CalleesByName) → l.lower (with_callee c outer) (with_callee c place) t ≡ moved c (l.lower outer place t)
 
 -- ---- nothing holds of the other sorts
 
@@ -112,7 +103,7 @@ Part = both become alone steady
 
 -- ---- types
 
-types_steady : (ts : List Part.type_expr) (place : CorePlace) (c : Callees)
+types_steady : (ts : List Part.type_expr) (place : CorePlace) (c : CalleesByName)
     → map (λ (t : TypeExpr × LowersType). t.1 (with_callee c place)) (map (λ (x : Part.type_expr). x.0) ts) ≡ map (λ (t : TypeExpr × LowersType). t.1 place) (map (λ (x : Part.type_expr). x.0) ts)
 types_steady [] place c = refl
 types_steady (t ∷ ts) place c = λ i. t.2 place c i ∷ types_steady ts place c i
@@ -186,7 +177,7 @@ tuple_grows ps outer place (DslxType-F.Struct name fields ts) s e = none_some s 
 tuple_grows ps outer place (DslxType-F.Enum name sign w) s e = none_some s e
 tuple_grows ps outer place DslxType-F.Token s e = none_some s e
 
-value_moves : (v : Option DslxValue) (place : CorePlace) (t : DslxType) (c : Callees) → value_shape v (with_callee c place) t ≡ moved c (value_shape v place t)
+value_moves : (v : Option DslxValue) (place : CorePlace) (t : DslxType) (c : CalleesByName) → value_shape v (with_callee c place) t ≡ moved c (value_shape v place t)
 value_moves None place t c = refl
 value_moves (Some v) place t c = by (equal_type t (type_of_value v))
   where
@@ -194,16 +185,16 @@ value_moves (Some v) place t c = by (equal_type t (type_of_value v))
     by true = refl
     by false = refl
 
-name_moves : (b : Bool) (name : List ℕ) (place : CorePlace) (t : DslxType) (c : Callees)
+name_moves : (b : Bool) (name : List ℕ) (place : CorePlace) (t : DslxType) (c : CalleesByName)
     → (if b then value_shape (place.known.items.constant name) (with_callee c place) t else shaped shape.Bound (with_local name t (with_callee c place)))
     ≡ moved c (if b then value_shape (place.known.items.constant name) place t else shaped shape.Bound (with_local name t place))
 name_moves true name place t c = value_moves (place.known.items.constant name) place t c
 name_moves false name place t c = refl
 
-abbrev parts_moved : Callees → Option LoweredShapes → Option LoweredShapes
+abbrev parts_moved : CalleesByName → Option LoweredShapes → Option LoweredShapes
 parts_moved c o = and_then o (λ r. Some (record { shapes = r.shapes; place = with_callee c r.place }))
 
-parts_move : (ps : List Part.pattern) (ts : List DslxType) (outer place : CorePlace) (c : Callees)
+parts_move : (ps : List Part.pattern) (ts : List DslxType) (outer place : CorePlace) (c : CalleesByName)
     → parts_shaped (patterns_of ps) ts (with_callee c outer) (with_callee c place) ≡ parts_moved c (parts_shaped (patterns_of ps) ts outer place)
 parts_move [] [] outer place c = refl
 parts_move [] (t ∷ ts) outer place c = refl
@@ -225,7 +216,7 @@ parts_move (p ∷ ps) (t ∷ ts) outer place c =
     by (Some s) rest =
         ap (λ o. and_then o (λ (r : LoweredShapes). Some (record { shapes = s.shape ∷ r.shapes; place = r.place }))) (rest s.place) ∙ by_rest s (parts_shaped (patterns_of ps) ts outer s.place)
 
-tuple_moves : (ps : List Part.pattern) (outer place : CorePlace) (x : DslxType-F DslxType) (c : Callees)
+tuple_moves : (ps : List Part.pattern) (outer place : CorePlace) (x : DslxType-F DslxType) (c : CalleesByName)
     → tuple_shape (patterns_of ps) (with_callee c outer) (with_callee c place) x ≡ moved c (tuple_shape (patterns_of ps) outer place x)
 tuple_moves ps outer place (DslxType-F.Tuple ts) c = ap (λ o. and_then o (λ r. shaped (shape.Tuple r.shapes) r.place)) (parts_move ps ts outer place c) ∙ by (parts_shaped (patterns_of ps) ts outer place)
   where
@@ -281,7 +272,7 @@ keep_steady = record {
   type_expr = λ x. x.node.2;
 }
 
-pub type_anywhere : (t : TypeExpr) (place : CorePlace) (c : Callees) → type_of_text_lowered t (with_callee c place) ≡ type_of_text_lowered t place
+pub type_anywhere : (t : TypeExpr) (place : CorePlace) (c : CalleesByName) → type_of_text_lowered t (with_callee c place) ≡ type_of_text_lowered t place
 type_anywhere = related_type_expr become alone steady becoming nothing_more keep_steady
 
 pattern_steady : (p : Pattern) → PatternIsSteady (pattern_of_text_lowered p)
@@ -292,10 +283,10 @@ pattern_steady = related_pattern become alone steady becoming nothing_more keep_
 pub shaped_grows : (p : Pattern) (place : CorePlace) (t : DslxType) (s : LoweredShape) → shaped_at p place t ≡ Some s → Grows place s.place
 shaped_grows p place t s e = (pattern_steady p).grows place place t s e
 
-pub shaped_anywhere : (p : Pattern) (place : CorePlace) (t : DslxType) (c : Callees) → shaped_at p (with_callee c place) t ≡ moved c (shaped_at p place t)
+pub shaped_anywhere : (p : Pattern) (place : CorePlace) (t : DslxType) (c : CalleesByName) → shaped_at p (with_callee c place) t ≡ moved c (shaped_at p place t)
 shaped_anywhere p place t c = (pattern_steady p).moves place place t c
 
-pub alternatives_anywhere : (ps : List Pattern) (place : CorePlace) (t : DslxType) (c : Callees)
+pub alternatives_anywhere : (ps : List Pattern) (place : CorePlace) (t : DslxType) (c : CalleesByName)
     → alternatives_shaped (map pattern_of_text_lowered ps) (with_callee c place) t ≡ alternatives_shaped (map pattern_of_text_lowered ps) place t
 alternatives_anywhere [] place t c = refl
 alternatives_anywhere (p ∷ ps) place t c =

@@ -2,6 +2,8 @@
 pub mod Arms
 -- how steps change what is lowered in one place
 pub mod Bodies
+-- places that differ in what calls come to
+pub mod Callees
 -- how instances are opened and closed, and several steps
 pub mod Machines
 -- what steps do with several expressions

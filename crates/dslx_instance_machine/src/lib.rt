@@ -6,7 +6,14 @@
 
 ghost use Rattle.std.specs.Prelude.{◌≡◌, ℕ, Option, Some};
 ghost use Rattle.dslx_tree.specs.declared.expr.Expr.{Expr};
+ghost use Rattle.dslx_tree.specs.declared.pattern.Pattern.{Pattern};
+ghost use Rattle.dslx_tree.specs.declared.type_expr.TypeExpr.{TypeExpr};
+ghost use Rattle.dslx_meaning.specs.declared.ty.DslxType.{DslxType};
+ghost use Rattle.dslx_lowering.specs.CorePlaces.{CorePlace};
+ghost use Rattle.dslx_lowering.specs.Trees.{type_of_text_lowered};
 ghost use Rattle.dslx_lowering.specs.Functions.{CoreInstance, Instantiated};
+ghost use Rattle.dslx_instance_machine.specs.Arms.{shaped_at};
+ghost use Rattle.dslx_instance_machine.specs.Callees.{CalleesByName, moved, with_callee};
 ghost use Rattle.dslx_instance_machine.specs.Machines.{after_steps, machine_at, needing};
 ghost use Rattle.dslx_instance_machine.specs.Reached.{GrownFrom, HasEnded, IsTable, MakesExpression, lowering_alone};
 ghost use Rattle.dslx_instance_machine.specs.Steps.{instance_of};
@@ -30,4 +37,10 @@ pub fn needed_instances_are_done()
 pub fn what_is_made_is_lowered()
     ensures { (sight : InstanceSight) → IsTable sight.text sight.items sight.table → (limit n : ℕ) (e : Expr) (body : OpenBody) (m : InstanceMachine)
         → after_steps n (machine_at sight limit (lowering_alone e body)) ≡ Some m → HasEnded m → MakesExpression sight e body m }
+{}
+
+/// Written types and patterns become the same whatever calls come to at their place.
+pub fn types_and_patterns_know_no_calls()
+    ensures ty { (t : TypeExpr) (place : CorePlace) (c : CalleesByName) → type_of_text_lowered t (with_callee c place) ≡ type_of_text_lowered t place }
+    ensures pattern { (p : Pattern) (place : CorePlace) (t : DslxType) (c : CalleesByName) → shaped_at p (with_callee c place) t ≡ moved c (shaped_at p place t) }
 {}

@@ -5,7 +5,8 @@ ghost use Rattle.dslx_instance_machine.specs.Tasks.{LowersExpr};
 ghost use Rattle.dslx_instance_tasks.specs.Shown.{arms_task_shown, block_task_shown, body_shown, call_task_shown, loop_task_shown, parts_task_shown, task_shown};
 
 use crate::task::{ArmsTask, BlockTask, CallTask, LoopTask, LowerTask, PartsTask};
-use dslx_lowering::{BoundSlot, LoweredExpr};
+use dslx_locals::Locals;
+use dslx_lowering::LoweredExpr;
 use dslx_names::Scope;
 use dslx_tree::Expr;
 use stacks::Stack;
@@ -20,8 +21,8 @@ pub struct OpenBody<'a> {
     pub todo: Stack<LowerTask<'a>>,
     /// What was made so far, the last one on the top.
     pub made: Stack<LoweredExpr>,
-    /// The names that are bound, the last one on the top.
-    pub locals: Stack<BoundSlot>,
+    /// The names that are bound.
+    pub locals: Locals,
     /// How many values are bound.
     pub count: u64,
 }
@@ -139,12 +140,10 @@ impl<'a> OpenBody<'a> {
     }
 
     /// Back to so many names and values, the first ones.
-    pub fn restore(&mut self, names: usize, count: u64) -> Result<(), AllocError>
-        ensures { OnOk result (body_shown self.new ≡ restored names count (body_shown self.old)) }
+    pub fn restore(&mut self, names: usize, count: u64)
+        ensures { body_shown self.new ≡ restored names count (body_shown self.old) }
     {
-        let above = self.locals.len().saturating_sub(names);
-        self.locals.take_top(above)?;
+        self.locals.keep(names);
         self.count = count;
-        Ok(())
     }
 }

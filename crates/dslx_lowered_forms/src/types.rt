@@ -1,17 +1,18 @@
 //! What is asked of the types of operands.
 
-ghost use Rattle.std.specs.Prelude.{◌≡◌, Some};
+ghost use Rattle.std.specs.Prelude.{◌≡◌, Some, slice_get};
 ghost use Rattle.std.specs.Option.{option_map};
 ghost use Rattle.dslx_core.specs.CoreValues.{is_width as is_some_width};
 ghost use Rattle.dslx_lowering.specs.Lowering.{sign_of as the_sign};
 ghost use Rattle.dslx_meaning.specs.Lists.{and_then, where_true};
 ghost use Rattle.dslx_meaning.specs.Types.{bits_in as the_bits, bool_type as one_bit, unsigned as unsigned_bits};
-ghost use Rattle.dslx_rules.specs.AggregateRules.{array_in};
+ghost use Rattle.dslx_rules.specs.AggregateRules.{array_in, part_type as the_part_type};
 ghost use Rattle.dslx_rules.specs.OperatorRules.{width_of_type as the_width};
 
 use dslx_core::Sign;
 use dslx_meaning::DslxType;
 use dslx_values::{bits_in, bits_or_enum};
+use xb_value::Seq;
 
 /// How bits of a type, or those of an enum, are read.
 pub fn sign_of(ty: &DslxType) -> Sign
@@ -78,5 +79,27 @@ pub fn into_element(ty: DslxType) -> Option<DslxType>
     match ty {
         DslxType::Array(part, _) => Some(part.into_inner()),
         _ => None,
+    }
+}
+
+/// The type of the part of a tuple of this number.
+pub fn into_part(ty: DslxType, place: u64) -> Option<DslxType>
+    ensures { result ≡ the_part_type ty place }
+{
+    match ty {
+        DslxType::Tuple(parts) => nth(parts, place),
+        _ => None,
+    }
+}
+
+/// The type of this number.
+fn nth(types: Seq<DslxType>, place: u64) -> Option<DslxType>
+    ensures { result ≡ slice_get types place }
+{
+    if place < types.len() as u64 {
+        let mut types = types;
+        Some(types.remove(place as usize))
+    } else {
+        None
     }
 }

@@ -50,3 +50,5 @@ pub mod OfEffects
 pub mod OfNext
 -- `next` of instances of procs
 pub mod OfProcs
+-- members of procs
+pub mod OfMembers

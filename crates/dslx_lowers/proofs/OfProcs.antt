@@ -52,7 +52,7 @@ each_sized : (types : Declarations) (ts : List DslxType) → EachHas (IsSized ty
 each_sized types [] h d = refl
 each_sized types (t ∷ ts) h d = λ i. h.0 d.0 i && each_sized types ts h.1 d.1 i
 
-sized_there : (types : Declarations) → DeclaresParts types → (t : DslxType) → IsSized types t
+pub sized_there : (types : Declarations) → DeclaresParts types → (t : DslxType) → IsSized types t
 sized_there types parts = type_induction (IsSized types)
     (λ s w d. ap is_sized (sym (rolls.rolls-Bits s w)) ∙ fold-roll-DslxType Bool sized_step (DslxType-F.Bits s w))
     (λ ts h d. ap is_sized (sym (rolls.rolls-Tuple ts)) ∙ fold-roll-DslxType Bool sized_step (DslxType-F.Tuple ts) ∙ each_sized types ts h (parts_declared types ts d))

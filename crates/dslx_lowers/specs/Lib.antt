@@ -12,3 +12,5 @@ pub mod InstanceLists
 pub mod NextSteps
 -- `next` of instances of procs
 pub mod Nexts
+-- members of procs
+pub mod Members

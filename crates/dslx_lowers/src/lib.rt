@@ -6,8 +6,10 @@
 
 mod expressions;
 mod instances;
+mod members;
 mod nexts;
 
 pub use expressions::an_expression_is_lowered;
 pub use instances::{an_instance_is_lowered, instances_in_order_are_lowered};
+pub use members::members_stand;
 pub use nexts::{next_is_lowered, the_block_of_next_is_lowered};

@@ -1,0 +1,4 @@
+-- constants and members of enums
+mod Own
+-- what is known of a text
+mod Wholes

@@ -1,0 +1,2 @@
+-- texts with which nothing is wrong
+pub mod FineTexts

@@ -1,0 +1,21 @@
+//! A checked text that is made of the instances of a text with which nothing is wrong stands for it.
+#![tactic(auto)]
+
+ghost use Rattle.std.specs.Prelude.{ℕ, List, Option};
+ghost use Rattle.dslx_tree.specs.declared.item.Module.{Module};
+ghost use Rattle.dslx_core.specs.CoreOf.{CoreOf};
+ghost use Rattle.dslx_core.specs.declared.design.Design.{Design};
+ghost use Rattle.dslx_networks.specs.Making.{IsDesignFrom};
+ghost use Rattle.dslx_fine_texts.specs.FineTexts.{IsFineText};
+
+/// What is made of the instances of functions and procs of a text with which nothing is wrong has the text's network, and from
+/// each state of its type and over all words each of its procs does what the text's proc does.
+pub fn fine_texts_stand()
+    ensures { (m : Module) (top : Option (List ℕ)) (design : Design) → IsFineText m top → IsDesignFrom m top design → CoreOf m top design }
+{
+    dslx_known::all_items_are_known();
+    dslx_meant::what_is_known_is_meant();
+    dslx_laws::recursion_ends();
+    dslx_fine_procs::fine_procs_have_fine_nexts();
+    dslx_behaviors::made_designs_stand_for_texts();
+}

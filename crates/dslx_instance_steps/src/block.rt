@@ -1,0 +1,96 @@
+//! Blocks, and values that are bound in them.
+
+ghost use Rattle.std.specs.Prelude.{◌≡◌, [], Some, IfOk, OnOk};
+ghost use Rattle.dslx_tree.specs.declared.block.Stmt.{out-Stmt};
+ghost use Rattle.dslx_meaning.specs.Lists.{where_true};
+ghost use Rattle.dslx_meaning.specs.Types.{unit_type};
+ghost use Rattle.dslx_core.specs.declared.expr.CoreExpr.{Tuple as tuple_of};
+ghost use Rattle.dslx_lowering.specs.Lowering.{lowered};
+ghost use Rattle.dslx_instance_machine.specs.Bodies.{gives, with_last, with_made};
+ghost use Rattle.dslx_instance_machine.specs.Steps.{bind_made, last_begins, statements_begin, stmt_begins};
+ghost use Rattle.dslx_instance_tasks.specs.Shown.{body_shown};
+
+use dslx_core::{CoreExpr, Shape};
+use dslx_instance_tasks::{BlockTask, LowerTask, OpenBody};
+use dslx_lowered_forms::bind_lowered;
+use dslx_lowering::LoweredExpr;
+use dslx_meaning::DslxType;
+use dslx_tree::{Expr, Stmt};
+use std::alloc::{AllocError, Global};
+use xb_value::{Boxed, Seq};
+
+/// The statements of a block are to be lowered, and then what stands behind them.
+pub fn begin_statements<'a>(
+    body: &mut OpenBody<'a>,
+    alloc: Global,
+    statements: &'a [Stmt],
+    last: &'a Option<Boxed<Expr>>,
+) -> Result<(), AllocError>
+    ensures { OnOk result (Some (body_shown body.new) ≡ statements_begin statements.now last.now (body_shown body.old)) }
+{
+    match statements {
+        [] => begin_last(body, alloc, last),
+        [first, rest @ ..] => begin_statement(body, alloc, first, rest, last),
+    }
+}
+
+fn begin_last<'a>(
+    body: &mut OpenBody<'a>,
+    alloc: Global,
+    last: &'a Option<Boxed<Expr>>,
+) -> Result<(), AllocError>
+    ensures { OnOk result (Some (body_shown body.new) ≡ last_begins last.now (body_shown body.old)) }
+{
+    match last {
+        Some(expr) => body.first(LowerTask::Expr(expr.get())),
+        None => body.give(unit_lowered(alloc)),
+    }
+}
+
+/// The value of a statement that is an expression alone isn't used, so that it isn't lowered.
+fn begin_statement<'a>(
+    body: &mut OpenBody<'a>,
+    alloc: Global,
+    statement: &'a Stmt,
+    rest: &'a [Stmt],
+    last: &'a Option<Boxed<Expr>>,
+) -> Result<(), AllocError>
+    ensures { OnOk result (Some (body_shown body.new) ≡ stmt_begins (out-Stmt statement.now) rest.now last.now (body_shown body.old)) }
+{
+    match statement {
+        Stmt::Let(binding) => body.expr_then_block(
+            alloc,
+            &binding.value,
+            BlockTask::BindValue(&binding.pattern, rest, last),
+        ),
+        Stmt::Bare(_) => body.first_block(alloc, BlockTask::Statements(rest, last)),
+    }
+}
+
+/// The value of a block without a last expression.
+fn unit_lowered(alloc: Global) -> LoweredExpr
+    ensures { Some result ≡ lowered (tuple_of []) unit_type }
+{
+    LoweredExpr {
+        core: CoreExpr::Tuple(Seq::new(alloc)),
+        ty: DslxType::Tuple(Seq::new(alloc)),
+    }
+}
+
+/// A value is bound, and taken apart so, for what was made last; whether anything was.
+pub fn make_bind<'a>(
+    body: &mut OpenBody<'a>,
+    alloc: Global,
+    value: LoweredExpr,
+    shape: Shape,
+) -> Result<bool, AllocError>
+    ensures { IfOk result (λ is. where_true is (Some (body_shown body.new)) ≡ with_last (body_shown body.old).made (λ r made. gives (bind_made value shape r) (with_made made (body_shown body.old)))) }
+{
+    match body.made.take_off() {
+        Some(last) => {
+            body.give(bind_lowered(alloc, value.core, shape, last)?)?;
+            Ok(true)
+        }
+        None => Ok(false),
+    }
+}

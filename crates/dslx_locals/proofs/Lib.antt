@@ -1,0 +1,2 @@
+-- what is bound, from the last name on
+mod Ends

@@ -1,0 +1,2 @@
+-- which written types see a local
+pub mod Seen
