@@ -22,7 +22,7 @@ use Rattle.dslx_depends.specs.Settled.{BindsNoConstant}
 use Rattle.dslx_depends.proofs.Lemmas.{every_item_passes, is_proc_item, passes, passes_closed, passes_next, stage}
 use Rattle.dslx_complete.specs.Standing.{IsFineFound}
 use Rattle.dslx_known.specs.Fine.{EachItemFine}
-use Rattle.dslx_accepted.specs.Apart.{AreToldApart, IsReachedIn}
+use Rattle.dslx_accepted.proofs.OneInstance.{one_instance}
 
 -- ---- lists
 
@@ -35,13 +35,13 @@ all_so : (f : Instance → Bool) (P : List ℕ → Bool) (is : List Instance) �
 all_so f P [] named h = refl
 all_so f P (x ∷ xs) named h = λ t. h x (inl refl) named.0 t && all_so f P xs named.1 (λ i one p. h i (inr one) p) t
 
--- an instance that is the same as one of these and is told apart from the others is one of these
-one_of_these : (i : Instance) (is : List Instance) → ((j : Instance) → IsOneOf j is → same_instance i j ≡ true → i ≡ j) → is_reached i is ≡ true → IsOneOf i is
-one_of_these i [] apart e = absurd (true≢false (sym e))
-one_of_these i (x ∷ xs) apart e = by_first (same_instance i x) refl e (one_of_these i xs (λ j one s. apart j (inr one) s))
+-- an instance that is the same as one of these is one of these
+one_of_these : (i : Instance) (is : List Instance) → is_reached i is ≡ true → IsOneOf i is
+one_of_these i [] e = absurd (true≢false (sym e))
+one_of_these i (x ∷ xs) e = by_first (same_instance i x) refl e (one_of_these i xs)
   where
     by_first : (b : Bool) → same_instance i x ≡ b → (b || is_reached i xs) ≡ true → (is_reached i xs ≡ true → IsOneOf i xs) → IsOneOf i (x ∷ xs)
-    by_first true q g rest = inl (apart x (inl refl) q)
+    by_first true q g rest = inl (one_instance i x q)
     by_first false q g rest = inr (rest g)
 
 -- ---- what an item comes to is among what all come to
@@ -76,7 +76,6 @@ instance_faults known i (x ∷ xs) (inr h) e = instance_faults known i xs h (bot
 pub record IsAccepted (m : Module) (top : Option (List ℕ)) : Type 0 where
   pub free : HasNoCycle m
   pub plain : BindsNoConstant m
-  pub apart : AreToldApart m top
   pub faults : faults_of m top ≡ []
   pub among : ReachOneAnother (known_of m) (instances_of m top)
   pub outside : (i : Instance) → IsOneOf i (outside_instances m top).reached → is_reached i (instances_of m top) ≡ true
@@ -100,24 +99,19 @@ module _ (m : Module) (top : Option (List ℕ)) (s : IsAccepted m top) where
       let rest = both_empty own ((items_found K m.items).faults ++ (top_found K (top_proc m top)).faults) all_empty.0 in
       (both_empty (items_found K m.items).faults (top_found K (top_proc m top)).faults rest.1).0
 
-  -- what is reached is checked
-  checked : (i : Instance) → IsReachedIn m top i → IsOneOf i instances
-  checked i h = one_of_these i instances (λ j one e. s.apart i j h one e) (by_whom h)
-    where
-      by_whom : IsReachedIn m top i → is_reached i instances ≡ true
-      by_whom (inl o) = s.outside i o
-      by_whom (inr r) = s.among r.0 i r.1 r.2
-
   -- by chains of so many items, an instance that is checked is sound
   sound : (k : ℕ) → k ≤ length m.items → (i : Instance) → IsOneOf i instances → passes m k i.name ≡ true → K.is_sound i ≡ true
   sound zero l i one p = absurd (true≢false (sym p))
   sound (suc k) l i one p =
       let mentions = (passes_next m k i.name p).0 in
       let named = instances_reach (passes m k) m (passes_closed m k) (length m.items) i mentions in
-      let reached = all_so K.is_sound (passes m k) (found_of_instance K i).reached named (λ j r q. sound k (omega (arith, l)) j (checked j (inr (i, one, r))) q) in
+      let reached = all_so K.is_sound (passes m k) (found_of_instance K i).reached named (λ j r q. sound k (omega (arith, l)) j (one_of_these j instances (s.among i j one r)) q) in
       let longer : length m.items ≤ suc (length m.items) = omega arith in
       let settled = (stage m s.plain (suc k) (length m.items) (suc (length m.items)) l (omega (arith, l, longer))).known.sound i p in
       settled ∙ (λ t. is_empty (instance_faults K i instances one all_empty.1 t) && reached t)
+
+  outside : (i : Instance) → IsOneOf i (outside_instances m top).reached → IsOneOf i instances
+  outside i h = one_of_these i instances (s.outside i h)
 
   -- an item that is no proc
   fine_item : (name : List ℕ) (x : Definition) → item_named name m.items ≡ Some x → is_proc_item (Some x) ≡ false → IsFineFound K (item_found K x)
@@ -128,7 +122,7 @@ module _ (m : Module) (top : Option (List ℕ)) (s : IsAccepted m top) where
       record {
         faults = item_faults K name x m.items e items_empty;
         reached = all_so K.is_sound P (item_found K x).reached (items_reach P m closed (length m.items) x mentions)
-            (λ j h p. sound (length m.items) (omega arith) j (checked j (inl (in_first j (items_found K m.items).reached (top_found K (top_proc m top)).reached (item_reached K name x j m.items e h)))) p);
+            (λ j h p. sound (length m.items) (omega arith) j (outside j (in_first j (items_found K m.items).reached (top_found K (top_proc m top)).reached (item_reached K name x j m.items e h))) p);
       }
 
   pub each_fine : EachItemFine m

@@ -8,15 +8,13 @@ ghost use Rattle.dslx_rules.specs.ModuleRules.{faults_of, known_of};
 ghost use Rattle.dslx_laws.specs.Recursion.{HasNoCycle};
 ghost use Rattle.dslx_depends.specs.Settled.{BindsNoConstant};
 ghost use Rattle.dslx_known.specs.Fine.{EachItemFine};
-ghost use Rattle.dslx_accepted.specs.Apart.{AreToldApart};
 
 /// Where no part of a text breaks a rule or passes a limit, nothing is wrong with any constant, alias, struct or enum, nor with
-/// any instance that these reach; so what is known of the text's items is what they mean. No item may reach itself, no function
-/// bind the name of a constant, and instances have to be told apart, also where nothing calls a function and so nothing is
-/// checked of it.
+/// any instance that these reach; so what is known of the text's items is what they mean. No item may reach itself and no
+/// function bind the name of a constant, also where nothing calls a function and so nothing is checked of it.
 pub fn items_of_accepted_texts_are_fine()
-    ensures fine { (m : Module) (top : Option (List ℕ)) → HasNoCycle m → BindsNoConstant m → AreToldApart m top → faults_of m top ≡ [] → EachItemFine m }
-    ensures meant { (m : Module) (top : Option (List ℕ)) → HasNoCycle m → BindsNoConstant m → AreToldApart m top → faults_of m top ≡ [] → (known_of m).items ≡ meanings_of m }
+    ensures fine { (m : Module) (top : Option (List ℕ)) → HasNoCycle m → BindsNoConstant m → faults_of m top ≡ [] → EachItemFine m }
+    ensures meant { (m : Module) (top : Option (List ℕ)) → HasNoCycle m → BindsNoConstant m → faults_of m top ≡ [] → (known_of m).items ≡ meanings_of m }
 {
     dslx_judged::instances_reach_one_another();
     dslx_meant::what_is_known_is_meant();

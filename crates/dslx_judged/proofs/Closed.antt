@@ -9,17 +9,17 @@ use Rattle.dslx_tree.specs.declared.item.Definition.TheVariants as d
 use Rattle.dslx_tree.specs.declared.item.Module.{Module}
 use Rattle.dslx_meaning.specs.Items.{item_named}
 use Rattle.dslx_meaning.specs.Lists.{pairwise}
-use Rattle.dslx_meaning.specs.Values.{same_value}
 use Rattle.dslx_meaning.specs.declared.value.DslxValue.{DslxValue}
+use Rattle.dslx_rules.specs.EqualValues.{equal_value}
 use Rattle.dslx_rules.specs.Judging.{Instance, Known, same_instance}
 use Rattle.dslx_rules.specs.Mentions.{AsFunction, AsProc, AsType, AsValue, is_of_use, mentions_of}
 use Rattle.dslx_rules.specs.ModuleRules.{add_new, found_of_instance, found_of_item, instances_of, is_reached, known_of, known_within, outside_instances, own_instances, reached_next, reached_within}
 use Rattle.dslx_laws.specs.Recursion.{HasNoCycle}
+use Rattle.dslx_laws.proofs.Lemmas.{value_equals_itself}
 use Rattle.dslx_laws.proofs.Chains.{Ends, OfEach, item_ends}
 use Rattle.dslx_judged.specs.Closed.{ReachOneAnother, IsOneOf, ends_within}
 use Rattle.dslx_judged.specs.Reached.{AllNamed, IsClosed}
 use Rattle.dslx_judged.proofs.OfItems.{instances_reach, whole_is}
-use Rattle.dslx_judged.proofs.Values.{value_itself}
 
 -- ---- lists of instances
 
@@ -67,9 +67,9 @@ or_second : (p q : Bool) → q ≡ true → (p || q) ≡ true
 or_second true q e = refl
 or_second false q e = e
 
-numbers_itself : (vs : List DslxValue) → pairwise same_value vs vs ≡ true
+numbers_itself : (vs : List DslxValue) → pairwise equal_value vs vs ≡ true
 numbers_itself [] = refl
-numbers_itself (v ∷ vs) = λ i. value_itself v i && numbers_itself vs i
+numbers_itself (v ∷ vs) = λ i. value_equals_itself v i && numbers_itself vs i
 
 itself : (i : Instance) → same_instance i i ≡ true
 itself i = λ k. (bytes_eq-Decides i.name i.name).1 refl k && numbers_itself i.numbers k

@@ -6,8 +6,6 @@ pub mod OfCalls
 pub mod Joined
 -- items, by chains of items
 pub mod OfItems
--- a value is one with itself
-pub mod Values
 -- instances that reach none but one another
 pub mod Closed
 -- for other crates' proofs

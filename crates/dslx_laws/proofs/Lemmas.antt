@@ -4,3 +4,4 @@ pub use Rattle.dslx_laws.proofs.Typed.{and_true, unbroken, both_unbroken, AreBit
 pub use Rattle.dslx_laws.proofs.Free.{value_depends, written_type_depends, pattern_depends, bound_alike}
 pub use Rattle.dslx_laws.proofs.Agreeing.{NamesAgree, Extend, FitAlike, unchanged}
 pub use Rattle.dslx_laws.proofs.Endings.{Agreeing, AllGiven, call_one, given_agree, given_here, given_more, numbers_one}
+pub use Rattle.dslx_laws.proofs.OneValue.{one_value_by_test, value_equals_itself}

@@ -8,6 +8,8 @@ pub mod Chains
 pub mod Endings
 -- what operations give
 pub mod Typed
+-- the test of equality of values
+pub mod OneValue
 -- the least fault
 pub mod Orders
 -- for other crates' proofs

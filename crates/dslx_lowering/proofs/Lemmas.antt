@@ -6,4 +6,3 @@ pub use Rattle.dslx_lowering.proofs.Slots.{constant_means, size_means}
 pub use Rattle.dslx_lowering.proofs.Joined.{type_of_text_means}
 pub use Rattle.dslx_lowering.proofs.OfProcs.{next_of_instances, state_of_instances}
 pub use Rattle.dslx_lowering.proofs.FromPlain.{from_plain}
-pub use Rattle.dslx_lowering.proofs.OneValue.{value_equals_itself}

@@ -8,8 +8,6 @@ mod Kept
 mod Operations
 -- the test of equal types
 mod OneType
--- values that pass the test are one
-mod OneValue
 -- names at their numbers
 mod Slots
 -- equal values without signs and names

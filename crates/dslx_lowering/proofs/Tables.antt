@@ -17,7 +17,7 @@ use Rattle.dslx_meaning.specs.Meaning.{value_of_block}
 use Rattle.dslx_meaning.specs.Items.{all_numbers, as_function, call_of, function_value, inferred_from, item_named, meanings_over, numbers_bound, operands_bound}
 use Rattle.dslx_meaning.specs.declared.ty.DslxType.{DslxType}
 use Rattle.dslx_meaning.specs.declared.value.DslxValue.{DslxValue}
-use Rattle.dslx_laws.proofs.Lemmas.{and_true}
+use Rattle.dslx_laws.proofs.Lemmas.{and_true, one_value_by_test}
 use Rattle.dslx_typed.specs.Kinds.{each_of, is_of}
 use Rattle.dslx_typed.proofs.Lemmas.{none_some, one_type, same_some}
 use Rattle.dslx_core.specs.CoreValues.{Bindings, Functions, core_value}
@@ -31,9 +31,8 @@ use Rattle.dslx_lowering.specs.Functions.{CoreInstance, Instantiated, LoweredFun
 use Rattle.dslx_lowering.specs.Instances.{InstanceStandsFor, InstancesStand, ItemsAreOwn, functions_of_instances}
 use Rattle.dslx_lowering.proofs.Joined.{block_of_text_means}
 use Rattle.dslx_lowering.proofs.Kept.{from_then, from_where}
-use Rattle.dslx_lowering.specs.EqualValues.{equal_value}
+use Rattle.dslx_rules.specs.EqualValues.{equal_value}
 use Rattle.dslx_lowering.proofs.OneType.{one_by_test}
-use Rattle.dslx_lowering.proofs.OneValue.{one_value_by_test}
 use Rattle.dslx_lowering.proofs.Slots.{named_stands}
 
 -- ---- number parameters

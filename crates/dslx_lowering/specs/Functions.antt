@@ -15,7 +15,7 @@ use Rattle.dslx_typed.specs.Kinds.{is_of}
 use Rattle.dslx_core.specs.declared.design.Function as core
 use Rattle.dslx_lowering.specs.CorePlaces.{CoreCallee, CoreKnown, CorePlace, with_local}
 use Rattle.dslx_lowering.specs.EqualTypes.{equal_type}
-use Rattle.dslx_lowering.specs.EqualValues.{equal_value}
+use Rattle.dslx_rules.specs.EqualValues.{equal_value}
 use Rattle.dslx_lowering.specs.Trees.{block_of_text_lowered, type_of_text_lowered}
 use Rattle.dslx_lowering.specs.declared.instance.Instantiated as instantiated_data
 use Rattle.dslx_lowering.specs.declared.instance.CoreInstance as instance_data

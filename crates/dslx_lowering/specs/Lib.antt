@@ -4,8 +4,6 @@ pub mod CorePlaces
 pub mod Correspondence
 -- types that are equal in all their parts
 pub mod EqualTypes
--- values that are equal in all their parts
-pub mod EqualValues
 -- operators, parts and calls
 pub mod Lowering
 -- patterns, arms, loops and blocks

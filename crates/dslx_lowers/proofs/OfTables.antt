@@ -28,7 +28,7 @@ use Rattle.dslx_lowers.specs.Beside.{AreDeclaredFor, CallsAreKnown, StandsBeside
 use Rattle.dslx_lowers.proofs.OfInstances.{instance_is_lowered}
 use Rattle.dslx_lowers.proofs.Equal.{equal_itself}
 use Rattle.dslx_lowering.specs.Functions.{CoreInstance, Instantiated, LoweredFunction, callee_in, callee_of, instance_in, instance_known, instance_lowered, instances_from, is_instance, next_instance, outer_place}
-use Rattle.dslx_lowering.specs.EqualValues.{equal_value}
+use Rattle.dslx_rules.specs.EqualValues.{equal_value}
 use Rattle.dslx_lowering.specs.EqualTypes.{equal_type}
 use Rattle.dslx_laws.proofs.Lemmas.{and_true}
 use Rattle.dslx_lowering.proofs.Lemmas.{all_one_number}

@@ -12,7 +12,7 @@ use Rattle.dslx_rules.specs.Judging.{Instance, Known}
 use Rattle.dslx_typed.specs.Complete.{IsComplete}
 use Rattle.dslx_typed.specs.Numbers.{AllOwn}
 use Rattle.dslx_complete.specs.Standing.{AreTyped}
-use Rattle.dslx_lowering.specs.EqualValues.{equal_value}
+use Rattle.dslx_rules.specs.EqualValues.{equal_value}
 use Rattle.dslx_lowering.specs.Functions.{Instantiated}
 use Rattle.dslx_lowers.specs.Beside.{NamesHaveWidths}
 use Rattle.dslx_lowers.specs.Instances.{function_writes_widths}

@@ -22,7 +22,7 @@ use Rattle.dslx_core.specs.declared.design.Child.{Child}
 use Rattle.dslx_core.specs.declared.design.Instance.{Instance}
 use Rattle.dslx_lowering.specs.CorePlaces.{CorePlace}
 use Rattle.dslx_lowering.specs.Correspondence.{StandsAtPlace, env_at}
-use Rattle.dslx_lowering.specs.EqualValues.{equal_value}
+use Rattle.dslx_rules.specs.EqualValues.{equal_value}
 use Rattle.dslx_lowering.proofs.Lemmas.{all_one_number, from_both, from_then, from_where}
 use Rattle.dslx_networks.specs.Configs.{LoweredConfig, ProcInstance, child_lowered, children_lowered, config_lowered, config_place, is_proc_instance, made_lowered, proc_instance_in, spawn_numbers_lowered}
 use Rattle.dslx_networks.specs.Ends.{end_numbers, numbered_ends}

@@ -16,7 +16,6 @@ use Rattle.dslx_tree.specs.declared.item.Module.{Module}
 use Rattle.dslx_tree.specs.declared.process.Direction.{Direction}
 use Rattle.dslx_meaning.specs.Lists.{pairwise, is_in}
 use Rattle.dslx_meaning.specs.Types.{leaves_of, levels_of, holds_token}
-use Rattle.dslx_meaning.specs.Values.{same_value}
 use Rattle.dslx_meaning.specs.Environment.{Meanings, Given, Env}
 use Rattle.dslx_meaning.specs.Meaning.{meant}
 use Rattle.dslx_meaning.specs.Items.{item_named}
@@ -25,6 +24,7 @@ use Rattle.dslx_meaning.specs.declared.ty.DslxType.{DslxType, fold-DslxType}
 use Rattle.dslx_meaning.specs.declared.ty.DslxType.TheOpen.{DslxType-F}
 use Rattle.dslx_meaning.specs.declared.value.DslxValue.{DslxValue}
 use Rattle.dslx_meaning.specs.declared.value.Bare.{Bare}
+use Rattle.dslx_rules.specs.EqualValues.{equal_value}
 
 -- ---- instances
 
@@ -34,7 +34,7 @@ pub record Instance : Type 0 where
   pub numbers : List DslxValue
 
 abbrev pub same_instance : Instance → Instance → Bool
-same_instance a b = bytes_eq a.name b.name && pairwise same_value a.numbers b.numbers
+same_instance a b = bytes_eq a.name b.name && pairwise equal_value a.numbers b.numbers
 
 -- ---- what is known
 

@@ -8,6 +8,8 @@ pub mod ConstantRules
 pub mod ControlRules
 -- which calls are effects
 pub mod EffectNames
+-- values that are equal in all their parts
+pub mod EqualValues
 -- functions, constants, types, structs and enums
 pub mod ItemRules
 -- judgements

@@ -1,4 +1,5 @@
--- Values that are equal in all their parts.
+-- Values that are equal in all their parts, names of fields and signs of enums as well, which `==` doesn't see. Instances are told
+-- apart by them.
 use Rattle.std.specs.Prelude.{ℕ, List, ◌&&◌, Bool, false}
 use Rattle.std.specs.Str.{bytes_eq}
 use Rattle.xb_bits.specs.Word.{Word}
@@ -7,10 +8,9 @@ use Rattle.dslx_meaning.specs.Types.{same_bool}
 use Rattle.dslx_meaning.specs.Values.{array_same, bits_same, same_word, token_same, tuple_same}
 use Rattle.dslx_meaning.specs.declared.value.DslxValue.{DslxValue, out-DslxValue, fold-DslxValue}
 use Rattle.dslx_meaning.specs.declared.value.DslxValue.TheOpen.{DslxValue-F}
-use Rattle.dslx_typed.specs.Kinds.{same_names}
 
 abbrev pub struct_value_equal : List ℕ → List (List ℕ) → List (DslxValue → Bool) → DslxValue-F DslxValue → Bool
-struct_value_equal name fields ps (DslxValue-F.Struct name' fields' vs) = (bytes_eq name name' && same_names fields fields') && pairwise (λ p v. p v) ps vs
+struct_value_equal name fields ps (DslxValue-F.Struct name' fields' vs) = (bytes_eq name name' && pairwise bytes_eq fields fields') && pairwise (λ p v. p v) ps vs
 struct_value_equal name fields ps _ = false
 
 abbrev pub enum_value_equal : List ℕ → Bool → Word → DslxValue-F DslxValue → Bool

@@ -15,10 +15,8 @@ use Rattle.dslx_meaning.specs.declared.value.DslxValue.TheVariants as rolls
 use Rattle.dslx_meaning.specs.declared.value.DslxValue.TheOpen.{DslxValue-F}
 use Rattle.dslx_meaning.specs.declared.value.DslxValue.TheViews as views
 use Rattle.dslx_meaning.specs.declared.value.DslxValue.TheFolds.{fold-roll-DslxValue, ind-DslxValue, map-DslxValue}
-use Rattle.dslx_laws.proofs.Lemmas.{and_true}
-use Rattle.dslx_typed.specs.Kinds.{same_names}
-use Rattle.dslx_typed.proofs.Lemmas.{one_bool, one_list, one_name}
-use Rattle.dslx_lowering.specs.EqualValues.{enum_value_equal, equal_value, equal_value_step, struct_value_equal}
+use Rattle.dslx_rules.specs.EqualValues.{enum_value_equal, equal_value, equal_value_step, struct_value_equal}
+use Rattle.dslx_laws.proofs.Typed.{and_true}
 
 equal_as : (l : DslxValue-F DslxValue) (u : DslxValue) → equal_value (views.roll-DslxValue l) u ≡ equal_value_step (map-DslxValue DslxValue (DslxValue → Bool) equal_value l) u
 equal_as l u = ap (λ f. f u) (fold-roll-DslxValue (DslxValue → Bool) equal_value_step l)
@@ -45,6 +43,21 @@ value_induction P bits tuple array struct enum token = ind-DslxValue P (λ x y i
     case DslxValue-F.Token = subst P (sym rolls.rolls-Token) token
 
 -- ---- what passes is one
+
+one_bool : (s t : Bool) → same_bool s t ≡ true → s ≡ t
+one_bool true true e = refl
+one_bool true false e = absurd (true≢false (sym e))
+one_bool false true e = absurd (true≢false (sym e))
+one_bool false false e = refl
+
+one_name : (a b : List ℕ) → bytes_eq a b ≡ true → a ≡ b
+one_name a b e = (bytes_eq-Decides a b).0 e
+
+one_list : (ns ms : List (List ℕ)) → pairwise bytes_eq ns ms ≡ true → ns ≡ ms
+one_list [] [] e = refl
+one_list [] (m ∷ ms) e = absurd (true≢false (sym e))
+one_list (n ∷ ns) [] e = absurd (true≢false (sym e))
+one_list (n ∷ ns) (m ∷ ms) e = let q = and_true (bytes_eq n m) (pairwise bytes_eq ns ms) e in λ i. one_name n m q.0 i ∷ one_list ns ms q.1 i
 
 one_word : (x y : Word) → same_word x y ≡ true → x ≡ y
 one_word x y e =
@@ -100,8 +113,8 @@ struct_one name fields vs all u e = by_level (out-DslxValue u) refl (sym (ap (λ
   where
     by_level : (l : DslxValue-F DslxValue) → out-DslxValue u ≡ l → struct_value_equal name fields (map equal_value vs) l ≡ true → value.Struct name fields vs ≡ u
     by_level (DslxValue-F.Struct name' fields' us) q h =
-        let r = and_true (bytes_eq name name' && same_names fields fields') (pairwise (λ (p : DslxValue → Bool) v. p v) (map equal_value vs) us) h in
-        let n = and_true (bytes_eq name name') (same_names fields fields') r.0 in
+        let r = and_true (bytes_eq name name' && pairwise bytes_eq fields fields') (pairwise (λ (p : DslxValue → Bool) v. p v) (map equal_value vs) us) h in
+        let n = and_true (bytes_eq name name') (pairwise bytes_eq fields fields') r.0 in
         (λ i. value.Struct (one_name name name' n.0 i) (one_list fields fields' n.1 i) (each_one vs us all r.1 i)) ∙ sym (rolls.rolls-Struct name' fields' us) ∙ of_value_level u (DslxValue-F.Struct name' fields' us) q
     by_level (DslxValue-F.Bits s w) q h = absurd (true≢false (sym h))
     by_level (DslxValue-F.Tuple us) q h = absurd (true≢false (sym h))
@@ -149,7 +162,7 @@ sign_itself false = refl
 word_itself : (x : Word) → same_word x x ≡ true
 word_itself x = λ i. (Decides-eqb x.width x.width).1 refl i && (Decides-eqb x.value x.value).1 refl i
 
-names_themselves : (names : List (List ℕ)) → same_names names names ≡ true
+names_themselves : (names : List (List ℕ)) → pairwise bytes_eq names names ≡ true
 names_themselves [] = refl
 names_themselves (n ∷ ns) = λ i. (bytes_eq-Decides n n).1 refl i && names_themselves ns i
 

@@ -1,2 +1,0 @@
--- texts whose instances are told apart
-pub mod Apart
