@@ -2,3 +2,5 @@
 mod OneInstance
 -- items and instances without faults
 mod Sound
+-- lemmas for other crates
+pub mod Lemmas

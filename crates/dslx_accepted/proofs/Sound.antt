@@ -26,17 +26,17 @@ use Rattle.dslx_accepted.proofs.OneInstance.{one_instance}
 
 -- ---- lists
 
-both_empty : {X : Type 0} (xs ys : List X) → xs ++ ys ≡ [] → (xs ≡ []) × (ys ≡ [])
+pub both_empty : {X : Type 0} (xs ys : List X) → xs ++ ys ≡ [] → (xs ≡ []) × (ys ≡ [])
 both_empty [] ys e = (refl, e)
 both_empty (x ∷ xs) ys e = absurd (true≢false (sym (ap is_empty e)))
 
 -- what is so of each one whose name passes a test is so of all, where their names pass it
-all_so : (f : Instance → Bool) (P : List ℕ → Bool) (is : List Instance) → AllNamed P is → ((i : Instance) → IsOneOf i is → P i.name ≡ true → f i ≡ true) → list_all f is ≡ true
+pub all_so : (f : Instance → Bool) (P : List ℕ → Bool) (is : List Instance) → AllNamed P is → ((i : Instance) → IsOneOf i is → P i.name ≡ true → f i ≡ true) → list_all f is ≡ true
 all_so f P [] named h = refl
 all_so f P (x ∷ xs) named h = λ t. h x (inl refl) named.0 t && all_so f P xs named.1 (λ i one p. h i (inr one) p) t
 
 -- an instance that is the same as one of these is one of these
-one_of_these : (i : Instance) (is : List Instance) → is_reached i is ≡ true → IsOneOf i is
+pub one_of_these : (i : Instance) (is : List Instance) → is_reached i is ≡ true → IsOneOf i is
 one_of_these i [] e = absurd (true≢false (sym e))
 one_of_these i (x ∷ xs) e = by_first (same_instance i x) refl e (one_of_these i xs)
   where
@@ -66,7 +66,7 @@ item_reached known name x j (i ∷ is) q h = by_name (bytes_eq name (name_of_def
     by_name true r rest = in_first j (item_found known i.definition).reached (items_found known is).reached (subst (λ z. IsOneOf j (item_found known z).reached) (sym (same_some i.definition x r)) h)
     by_name false r rest = in_second j (item_found known i.definition).reached (items_found known is).reached (rest r)
 
-instance_faults : (known : Known) (i : Instance) (is : List Instance) → IsOneOf i is → instances_faults known is ≡ [] → (found_of_instance known i).faults ≡ []
+pub instance_faults : (known : Known) (i : Instance) (is : List Instance) → IsOneOf i is → instances_faults known is ≡ [] → (found_of_instance known i).faults ≡ []
 instance_faults known i [] h e = absurd h
 instance_faults known i (x ∷ xs) (inl q) e = ap (λ z. (found_of_instance known z).faults) q ∙ (both_empty (found_of_instance known x).faults (instances_faults known xs) e).0
 instance_faults known i (x ∷ xs) (inr h) e = instance_faults known i xs h (both_empty (found_of_instance known x).faults (instances_faults known xs) e).1
@@ -88,7 +88,7 @@ module _ (m : Module) (top : Option (List ℕ)) (s : IsAccepted m top) where
   instances = instances_of m top
 
   -- nothing is found outside instances, nor in them
-  all_empty : ((outside_instances m top).faults ≡ []) × (instances_faults K instances ≡ [])
+  pub all_empty : ((outside_instances m top).faults ≡ []) × (instances_faults K instances ≡ [])
   all_empty =
       let front = both_empty (instance_limit instances ++ (outside_instances m top).faults) (instances_faults K instances) s.faults in
       ((both_empty (instance_limit instances) (outside_instances m top).faults front.0).1, front.1)
@@ -100,7 +100,7 @@ module _ (m : Module) (top : Option (List ℕ)) (s : IsAccepted m top) where
       (both_empty (items_found K m.items).faults (top_found K (top_proc m top)).faults rest.1).0
 
   -- by chains of so many items, an instance that is checked is sound
-  sound : (k : ℕ) → k ≤ length m.items → (i : Instance) → IsOneOf i instances → passes m k i.name ≡ true → K.is_sound i ≡ true
+  pub sound : (k : ℕ) → k ≤ length m.items → (i : Instance) → IsOneOf i instances → passes m k i.name ≡ true → K.is_sound i ≡ true
   sound zero l i one p = absurd (true≢false (sym p))
   sound (suc k) l i one p =
       let mentions = (passes_next m k i.name p).0 in
@@ -110,7 +110,7 @@ module _ (m : Module) (top : Option (List ℕ)) (s : IsAccepted m top) where
       let settled = (stage m s.plain (suc k) (length m.items) (suc (length m.items)) l (omega (arith, l, longer))).known.sound i p in
       settled ∙ (λ t. is_empty (instance_faults K i instances one all_empty.1 t) && reached t)
 
-  outside : (i : Instance) → IsOneOf i (outside_instances m top).reached → IsOneOf i instances
+  pub outside : (i : Instance) → IsOneOf i (outside_instances m top).reached → IsOneOf i instances
   outside i h = one_of_these i instances (s.outside i h)
 
   -- an item that is no proc

@@ -1,12 +1,12 @@
 ghost use Rattle.std.specs.Prelude.{◌≡◌, IfOk};
 ghost use Rattle.dslx_meaning.specs.Items.{meanings_of};
-ghost use Rattle.dslx_meaning.specs.Meaning.{bound_of, meant, size_of, value_of, written_type};
+ghost use Rattle.dslx_meaning.specs.Meaning.{bound_of, meant, size_of, value_of, value_of_block, written_type};
 
 use crate::found::{count_found, found_by, type_found, value_found};
-use dslx_const_tasks::{Task, TypeTask};
+use dslx_const_tasks::{Task, TypeTask, ValueTask};
 use dslx_meaning::{DslxType, DslxValue};
 use dslx_names::Scope;
-use dslx_tree::{Expr, Module, TypeExpr};
+use dslx_tree::{Block, Expr, Module, TypeExpr};
 use std::alloc::{AllocError, Global};
 
 /// The value that an expression of a text means where these names are bound; `None` where it has none, so nothing is required of
@@ -25,6 +25,20 @@ pub fn const_eval<'a>(
     ensures { IfOk result (λ v. v ≡ value_of expr.now (record { items = meanings_of text.now; bound = bound.entry })) }
 {
     let found = found_by(alloc, text, bound, Task::Eval(expr))?;
+    Ok(value_found(found))
+}
+
+/// The value of a block, where these names are bound.
+pub fn block_eval<'a>(
+    alloc: Global,
+    text: &'a Module,
+    bound: Scope<'a>,
+    block: &'a Block,
+) -> Result<Option<DslxValue>, AllocError>
+    ensures { IfOk result (λ v. v ≡ value_of_block block.now (record { items = meanings_of text.now; bound = bound.entry })) }
+{
+    let task = Task::value(alloc, ValueTask::Block(block))?;
+    let found = found_by(alloc, text, bound, task)?;
     Ok(value_found(found))
 }
 

@@ -1,10 +1,11 @@
 //! What the machine finds.
 
-ghost use Rattle.std.specs.Prelude.{◌≡◌, IfOk};
+ghost use Rattle.std.specs.Prelude.{◌≡◌, [], None, length, IfOk};
 ghost use Rattle.dslx_const_machine.specs.States.{count_in_finding, type_in, value_in};
 ghost use Rattle.dslx_const_machine.specs.Steps.{begins};
+ghost use Rattle.dslx_const_machine.specs.Tasks.{ValueFound};
 ghost use Rattle.dslx_const_machine.proofs.Lemmas.{comes_to};
-ghost use Rattle.dslx_const_tasks.specs.Plain.{plain_found, plain_task};
+ghost use Rattle.dslx_const_tasks.specs.Plain.{plain_found, plain_task, shown};
 
 use crate::step::step;
 use dslx_const_tasks::{Found, Machine, Task};
@@ -13,6 +14,32 @@ use dslx_names::Scope;
 use dslx_tree::Module;
 use stacks::Stack;
 use std::alloc::{AllocError, Global};
+
+/// The machine in a text where these names are bound, with nothing to do.
+pub fn machine_in<'a>(alloc: Global, text: &'a Module, bound: Scope<'a>) -> Machine<'a>
+    ensures { shown result ≡ record { text = text.now; todo = []; found = ValueFound None; bound = bound.entry; left = length text.now.items } }
+{
+    Machine {
+        text,
+        tasks: Stack::new(alloc),
+        found: Found::Value(None),
+        bound,
+        left: text.items.len() as u64,
+    }
+}
+
+/// What is found when all that is to be done, and what comes of it, is done.
+pub fn run<'a>(alloc: Global, mut machine: Machine<'a>) -> Result<Found, AllocError>
+    ensures { IfOk result (λ found. plain_found found ≡ comes_to (shown machine.entry)) }
+{
+    'steps: for _ in 0..u64::MAX {
+        match machine.tasks.take_off() {
+            Some(task) => step(&mut machine, alloc, task)?,
+            None => return Ok(machine.found),
+        }
+    }
+    Err(AllocError)
+}
 
 /// What is found when the task and all that comes of it is done, in a text where these names are bound.
 pub(crate) fn found_by<'a>(
@@ -23,25 +50,13 @@ pub(crate) fn found_by<'a>(
 ) -> Result<Found, AllocError>
     ensures { IfOk result (λ found. plain_found found ≡ comes_to (begins text.now bound.entry (plain_task task.entry))) }
 {
-    let mut machine = Machine {
-        text,
-        tasks: Stack::new(alloc),
-        found: Found::Value(None),
-        bound,
-        left: text.items.len() as u64,
-    };
-    machine.tasks.push(task)?;
-    'steps: for _ in 0..u64::MAX {
-        match machine.tasks.take_off() {
-            Some(task) => step(&mut machine, alloc, task)?,
-            None => return Ok(machine.found),
-        }
-    }
-    Err(AllocError)
+    let mut machine = machine_in(alloc, text, bound);
+    machine.first(task)?;
+    run(alloc, machine)
 }
 
 /// The value that was found, if it is one.
-pub(crate) fn value_found(found: Found) -> Option<DslxValue>
+pub fn value_found(found: Found) -> Option<DslxValue>
     ensures { result ≡ value_in (plain_found found) }
 {
     match found {
@@ -51,7 +66,7 @@ pub(crate) fn value_found(found: Found) -> Option<DslxValue>
 }
 
 /// The type that was found, if it is one.
-pub(crate) fn type_found(found: Found) -> Option<DslxType>
+pub fn type_found(found: Found) -> Option<DslxType>
     ensures { result ≡ type_in (plain_found found) }
 {
     match found {

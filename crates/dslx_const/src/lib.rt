@@ -8,4 +8,5 @@ mod found;
 mod node;
 mod step;
 
-pub use eval::{bound_eval, const_eval, size_eval, type_eval};
+pub use eval::{block_eval, bound_eval, const_eval, size_eval, type_eval};
+pub use found::{machine_in, run, type_found, value_found};

@@ -2,13 +2,14 @@
 use Rattle.std.proofs.Common.{◌++◌, ℕ, Bool, true, false, if◌then◌else◌, List, [], ◌∷◌, map, Option, Some, None}
 use Rattle.dslx_tree.specs.declared.block.Block.{Block}
 use Rattle.dslx_tree.specs.declared.block.Stmt.TheOpen.{Stmt-F, Node-F, Shape-F, TypeNode-F}
+use Rattle.dslx_tree.specs.declared.expr.Arg.{Arg}
 use Rattle.dslx_tree.specs.declared.expr.Expr.{Expr}
 use Rattle.dslx_tree.specs.declared.type_expr.TypeExpr.{TypeExpr}
 use Rattle.dslx_tree_lemmas.proofs.Lemmas.Levels.{Carriers, StmtLevel, NodeLevel, ShapeLevel, TypeNodeLevel, BlockLevel, LetLevel, FieldValueLevel, ForLevel, NumberLevel, map_stmt, map_node, map_shape, map_type_node, map_block, map_bind, map_field, map_loop, map_number}
-use Rattle.dslx_tree_lemmas.proofs.Lemmas.Related.{Relations, both, firsts, KeepRelated, related_expr, related_block, related_type_expr}
+use Rattle.dslx_tree_lemmas.proofs.Lemmas.Related.{Relations, both, firsts, KeepRelated, related_expr, related_arg, related_block, related_type_expr}
 use Rattle.dslx_meaning.specs.Callees.{is_text_function, kind_of_call}
 use Rattle.dslx_meaning.specs.Lists.{is_in}
-use Rattle.dslx_rules.specs.Mentions.{Use, AsValue, AsFunction, AsProc, AsStruct, Mention, Mentions, NamesBound, all_mentions, binders_mentions, bound_behind, mention, mentioned, mentioned_in_block, mentioned_in_type, mentions_if, statements_mentions, value_mention}
+use Rattle.dslx_rules.specs.Mentions.{Use, AsValue, AsFunction, AsProc, AsStruct, Mention, Mentions, NamesBound, all_mentions, binders_mentions, bound_behind, mention, mentioned, mentioned_in_arg, mentioned_in_block, mentioned_in_type, mentions_if, statements_mentions, value_mention}
 use Rattle.dslx_depends.proofs.Links.{mentions, mention_steps}
 
 abbrev pub IsNoProc : Use → Type 0
@@ -200,3 +201,6 @@ no_proc_in_block = related_block mentions mentions holding mention_steps mention
 
 pub no_proc_in_type : (t : TypeExpr) (bound : List (List ℕ)) → NoProcs (mentioned_in_type t bound)
 no_proc_in_type = related_type_expr mentions mentions holding mention_steps mention_steps all_hold
+
+pub no_proc_in_arg : (a : Arg) (bound : List (List ℕ)) → NoProcs (mentioned_in_arg a bound)
+no_proc_in_arg = related_arg mentions mentions holding mention_steps mention_steps all_hold

@@ -148,14 +148,19 @@ module _ (P : List ℕ → Bool) (m : Module) (a b : Known) (closed : IsClosed P
   plain_alike [] h = tt
   plain_alike (n ∷ ns) h = (s.uses AsValue n (λ e. absurd (true≢false (sym e ∙ value_use (item_named n m.items) ∙ h.0))), plain_alike ns h.1)
 
-  pub sees : (home : List ℕ) → Own home → (bound : List (List ℕ)) → NamesAlike a b bound → (ms : List Mention) → Meant ms → SeesAlike P bound home a b ms
-  sees home own bound n ms h = record {
+  -- where each enum that the item reaches passes
+  pub sees_where : (home : List ℕ) → ((name : List ℕ) → item_reaches a.whole home name ≡ true → is_of_use AsEnum (item_named name m.items) ≡ true → P name ≡ true) → (bound : List (List ℕ)) → NamesAlike a b bound
+      → (ms : List Mention) → Meant ms → SeesAlike P bound home a b ms
+  sees_where home reached bound n ms h = record {
     known = s.known;
-    enums = λ name member e. (s.uses AsEnum name (λ q. reached_in P m closed (length m.items) home name own (sym (λ i. item_reaches (s.text i) home name) ∙ e))).members member;
+    enums = λ name member e. (s.uses AsEnum name (reached name e)).members member;
     hidden = n;
     reach = s.reach ms h;
     alike = mentions_alike ms h;
   }
+
+  pub sees : (home : List ℕ) → Own home → (bound : List (List ℕ)) → NamesAlike a b bound → (ms : List Mention) → Meant ms → SeesAlike P bound home a b ms
+  sees home own = sees_where home (λ name e q. reached_in P m closed (length m.items) home name own (sym (λ i. item_reaches (s.text i) home name) ∙ e))
 
   -- ---- parts
 

@@ -242,7 +242,7 @@ no_proc_use AsProc h (Some (d.Proc p)) e = absurd h
 no_proc_use AsEnum h (Some (d.Proc p)) e = absurd (true≢false (sym e))
 no_proc_use AsStruct h (Some (d.Proc p)) e = absurd (true≢false (sym e))
 
-names_no_procs : (m : Module) (k : ℕ) (ms : List Mention) → NoProcs ms → list_all (ends_within m k) (names_meant m ms) ≡ true → list_all (passes m k) (names_meant m ms) ≡ true
+pub names_no_procs : (m : Module) (k : ℕ) (ms : List Mention) → NoProcs ms → list_all (ends_within m k) (names_meant m ms) ≡ true → list_all (passes m k) (names_meant m ms) ≡ true
 names_no_procs m k [] h e = refl
 names_no_procs m k (x ∷ ms) h e = by_use (is_of_use x.use_as (item_named x.name m.items)) refl e (names_no_procs m k ms h.1)
   where
@@ -262,7 +262,7 @@ expr_if_none : (o : Option Expr) (bound : List (List ℕ)) → NoProcs (expr_if 
 expr_if_none None bound = tt
 expr_if_none (Some e) bound = no_proc_in_expression e bound
 
-parameters_none : (ps : List Parameter) (bound : List (List ℕ)) → NoProcs (parameters_mentions ps bound)
+pub parameters_none : (ps : List Parameter) (bound : List (List ℕ)) → NoProcs (parameters_mentions ps bound)
 parameters_none [] bound = tt
 parameters_none (p ∷ ps) bound =
     no_procs_join (mentioned_in_type p.ty bound ++ expr_if p.default bound) (parameters_mentions ps (p.name.name ∷ bound))

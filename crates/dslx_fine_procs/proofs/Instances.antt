@@ -14,7 +14,7 @@ use Rattle.dslx_meaning.specs.declared.value.DslxValue.{DslxValue}
 use Rattle.dslx_rules.specs.ItemRules.{Found, and_found, body_judged, found_in, judged_type, only_faults, parameters_found}
 use Rattle.dslx_rules.specs.Judging.{Judgement, Known, Sight, is_item, passes_count}
 use Rattle.dslx_rules.specs.NameRules.{local_name}
-use Rattle.dslx_rules.specs.ProcRules.{config_found, count_sites, ends_found, proc_seen, proc_sight}
+use Rattle.dslx_rules.specs.ProcRules.{count_sites, ends_found, proc_sight}
 use Rattle.dslx_typed.specs.Complete.{IsComplete, IsFine}
 use Rattle.dslx_typed.specs.Declared.{IsDeclared}
 use Rattle.dslx_typed.specs.Numbers.{AllOwn}
@@ -24,16 +24,16 @@ use Rattle.dslx_sound.proofs.Lemmas.{not_broken, type_stands}
 use Rattle.dslx_complete.specs.Standing.{AreTyped, IsFineFound}
 use Rattle.dslx_complete.proofs.Lemmas.{item_typed, no_constant, none_own}
 use Rattle.dslx_activities.specs.Members.{IsFineNext, ProcMembersStand, inner_env, inner_sight}
+use Rattle.dslx_complete.specs.Acts.{acts_found}
 use Rattle.dslx_fine_procs.specs.WordsOfEnds.{WordsAreValues}
 use Rattle.dslx_fine_procs.proofs.Members.{both_fine, members_typed}
 
-pub next_is_fine : (known : Known) → IsComplete known → AreTyped known → (p : Proc) (numbers : List DslxValue) → AllOwn known.items.type_named numbers → IsFineFound known (proc_seen known p numbers)
+pub next_is_fine : (known : Known) → IsComplete known → AreTyped known → (p : Proc) (numbers : List DslxValue) → AllOwn known.items.type_named numbers → IsFineFound known (acts_found known p numbers)
     → WordsAreValues (proc_sight known p numbers) p.members → (t : DslxType) → state_type_of known.items p numbers ≡ Some t → IsFineNext known p numbers t
 next_is_fine known complete typed p numbers own fine holds t is =
     let a = both_fine known (parameters_found known p.name.name [] [] p.parameters numbers) of_members fine in
-    let b = both_fine known members of_config a.second in
-    let c = both_fine known (config_found sight p) of_init b.second in
-    let d = both_fine known (found_in (body_judged false inside state.ty p.init)) of_name c.second in
+    let b = both_fine known members of_init a.second in
+    let d = both_fine known (found_in (body_judged false inside state.ty p.init)) of_name b.second in
     let e = both_fine known (only_faults name) of_state d.second in
     let f = both_fine known (found_in state) of_next e.second in
     let g = both_fine known (found_in next) sites f.second in
@@ -103,14 +103,11 @@ next_is_fine known complete typed p numbers own fine holds t is =
     of_init : Found
     of_init = and_found (found_in (body_judged false inside state.ty p.init)) of_name
 
-    of_config : Found
-    of_config = and_found (config_found sight p) of_init
-
     members : Found
     members = ends_found sight [] p.members
 
     of_members : Found
-    of_members = and_found members of_config
+    of_members = and_found members of_init
 
     stand : IsFineFound known members → ProcMembersStand inside (record { members = p.members; env = env })
     stand f n o e = let w = members_typed sight env place [] p.members f holds n o e in record { word = w.word; typed = w.typed; means = w.means; declared = w.declared; holds = w.holds }

@@ -7,18 +7,19 @@ ghost use Rattle.dslx_meaning.specs.Activation.{state_type_of};
 ghost use Rattle.dslx_meaning.specs.declared.ty.DslxType.{DslxType};
 ghost use Rattle.dslx_meaning.specs.declared.value.DslxValue.{DslxValue};
 ghost use Rattle.dslx_rules.specs.Judging.{Known};
-ghost use Rattle.dslx_rules.specs.ProcRules.{proc_seen, proc_sight};
+ghost use Rattle.dslx_rules.specs.ProcRules.{proc_sight};
 ghost use Rattle.dslx_typed.specs.Complete.{IsComplete};
 ghost use Rattle.dslx_typed.specs.Numbers.{AllOwn};
 ghost use Rattle.dslx_complete.specs.Standing.{AreTyped, IsFineFound};
 ghost use Rattle.dslx_activities.specs.Members.{IsFineNext};
+ghost use Rattle.dslx_complete.specs.Acts.{acts_found};
 ghost use Rattle.dslx_fine_procs.specs.WordsOfEnds.{WordsAreValues};
 
-/// Where all items are known, an instance of a proc with whose text nothing is wrong, and whose number parameters have values
-/// of their own types, has members whose words have the types that are meant, and states of the type that is meant; and nothing
+/// Where all items are known, an instance of a proc with whose text outside its `config` nothing is wrong, and whose number
+/// parameters have values of their own types, has members whose words have the types that are meant, and states of the type that is meant; and nothing
 /// is wrong with its `next`, so that its activations come to their end or wait for a word (`dslx_activities`).
 pub fn fine_procs_have_fine_nexts()
     ensures { (known : Known) → IsComplete known → AreTyped known → (p : Proc) (numbers : List DslxValue) → AllOwn known.items.type_named numbers
-        → IsFineFound known (proc_seen known p numbers) → WordsAreValues (proc_sight known p numbers) p.members
+        → IsFineFound known (acts_found known p numbers) → WordsAreValues (proc_sight known p numbers) p.members
         → (t : DslxType) → state_type_of known.items p numbers ≡ Some t → IsFineNext known p numbers t }
 {}

@@ -6,19 +6,20 @@ use Rattle.dslx_meaning.specs.Network.{Placed, family_of, top_proc}
 use Rattle.dslx_meaning.specs.declared.value.DslxValue.{DslxValue}
 use Rattle.dslx_rules.specs.Judging.{Known}
 use Rattle.dslx_rules.specs.ModuleRules.{known_of}
-use Rattle.dslx_rules.specs.ProcRules.{proc_seen, proc_sight}
+use Rattle.dslx_rules.specs.ProcRules.{proc_sight}
 use Rattle.dslx_laws.specs.Recursion.{HasNoCycle}
 use Rattle.dslx_depends.specs.Settled.{BindsNoConstant}
 use Rattle.dslx_typed.specs.Numbers.{AllOwn}
 use Rattle.dslx_complete.specs.Standing.{IsFineFound}
 use Rattle.dslx_known.specs.Fine.{EachItemFine}
+use Rattle.dslx_complete.specs.Acts.{acts_found}
 use Rattle.dslx_fine_procs.specs.WordsOfEnds.{WordsAreValues}
 
--- nothing is wrong with the text of an instance of a proc, its number parameters have values of their own types, and each word of its
+-- nothing is wrong with the text of an instance of a proc outside its `config`, its number parameters have values of their own types, and each word of its
 -- channels is a value
 pub record IsFineProc (known : Known) (p : Proc) (numbers : List DslxValue) : Type 0 where
   pub own : AllOwn known.items.type_named numbers
-  pub found : IsFineFound known (proc_seen known p numbers)
+  pub found : IsFineFound known (acts_found known p numbers)
   pub words : WordsAreValues (proc_sight known p numbers) p.members
 
 abbrev pub EachProcIsFine : Known → List Placed → Type 0

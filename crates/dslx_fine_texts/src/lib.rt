@@ -15,7 +15,7 @@ pub fn fine_texts_stand()
 {
     dslx_known::all_items_are_known();
     dslx_meant::what_is_known_is_meant();
-    dslx_laws::recursion_ends();
+    dslx_own_items::items_are_own();
     dslx_fine_procs::fine_procs_have_fine_nexts();
     dslx_behaviors::made_designs_stand_for_texts();
 }

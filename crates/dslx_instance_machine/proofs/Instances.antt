@@ -1,6 +1,6 @@
 -- Each step of the machine keeps that its table is of instances, each of which calls those before it, and what comes of all
 -- that is open.
-use Rattle.std.proofs.Common.{◌≡◌, ℕ, zero, suc, Bool, true, false, if◌then◌else◌, List, [], ◌∷◌, ◌++◌, length, map, Option, Some, None, refl, sym, subst, ap, ◌∙◌}
+use Rattle.std.proofs.Common.{◌≡◌, ℕ, zero, suc, Bool, true, false, not, if◌then◌else◌, List, [], ◌∷◌, ◌++◌, length, map, Option, Some, None, refl, sym, subst, ap, ◌∙◌}
 use Rattle.std.specs.Prelude.{nat_lt}
 use Rattle.std.proofs.lemmas.List.{append_assoc, append-nil}
 use Rattle.dslx_tree.specs.declared.item.Field.{Field}
@@ -17,7 +17,7 @@ use Rattle.dslx_lowering.specs.Lowering.{LoweredExpr}
 use Rattle.dslx_lowering.specs.Trees.{block_of_text_lowered}
 use Rattle.dslx_instance_machine.specs.Tasks.{LowerTask, OpenBody, OpenInstance, InstanceSight, InstanceMachine}
 use Rattle.dslx_instance_machine.specs.Bodies.{behind, place_in}
-use Rattle.dslx_instance_machine.specs.Machines.{after_steps, body_open, by_opened, closes, function_open, in_instance, in_root, instance_done, instance_open, instance_stepped, known_of, last_made, machine_at, machine_stepped, missing_for, opens, root_stepped, with_done}
+use Rattle.dslx_instance_machine.specs.Machines.{after_steps, body_open, by_opened, closes, function_open, in_instance, in_root, instance_done, instance_open, instance_stepped, is_done, known_of, last_made, machine_at, machine_stepped, missing_for, opens, root_stepped, with_done}
 use Rattle.dslx_instance_machine.specs.Reached.{GrownFrom, IsTable, at_table}
 use Rattle.dslx_instance_machine.specs.Steps.{stepped}
 use Rattle.dslx_instance_machine.proofs.Keeps.{keeps}
@@ -34,10 +34,10 @@ begins_itself table = record { more = []; is = sym (append-nil table) }
 pub begins_further : (a b c : List CoreInstance) → GrownFrom b a → GrownFrom c b → GrownFrom c a
 begins_further a b c g h = record { more = g.more ++ h.more; is = h.is ∙ ap (λ t. t ++ h.more) g.is ∙ append_assoc a g.more h.more }
 
-begins_with_done : (table : List CoreInstance) (c : CoreInstance) → GrownFrom (table ++ c ∷ []) table
+pub begins_with_done : (table : List CoreInstance) (c : CoreInstance) → GrownFrom (table ++ c ∷ []) table
 begins_with_done table c = record { more = c ∷ []; is = refl }
 
-instances_further : (m : Module) (items : Meanings) (before : List CoreInstance) (is js : List Instantiated)
+pub instances_further : (m : Module) (items : Meanings) (before : List CoreInstance) (is js : List Instantiated)
     → instances_from m items before (is ++ js) ≡ and_then (instances_from m items before is) (λ table. instances_from m items table js)
 instances_further m items before [] js = refl
 instances_further m items before (i ∷ is) js = by (next_instance m items before i) (λ c. instances_further m items (before ++ c ∷ []) is js)
@@ -49,7 +49,7 @@ instances_further m items before (i ∷ is) js = by (next_instance m items befor
     by (Some c) rest = rest c
 
 -- one more instance
-table_further : (m : Module) (items : Meanings) (table : List CoreInstance) (i : Instantiated) (c : CoreInstance) → IsTable m items table → next_instance m items table i ≡ Some c → IsTable m items (table ++ c ∷ [])
+pub table_further : (m : Module) (items : Meanings) (table : List CoreInstance) (i : Instantiated) (c : CoreInstance) → IsTable m items table → next_instance m items table i ≡ Some c → IsTable m items (table ++ c ∷ [])
 table_further m items table i c is e = (
   is.0 ++ i ∷ [],
   instances_further m items [] is.0 (i ∷ []) ∙ ap (λ o. and_then o (λ table. instances_from m items table (i ∷ []))) is.1
@@ -76,13 +76,13 @@ stand_further sight c (o ∷ rest) stand = (
 
 -- ---- an instance that is opened
 
-abbrev calling : CoreKnown → CalleesByName → CoreKnown
+abbrev pub calling : CoreKnown → CalleesByName → CoreKnown
 calling known c = record { items = known.items; numbers = known.numbers; callee = c }
 
-types_anywhere : (known : CoreKnown) (c : CalleesByName) (fields : List Field) → argument_types (calling known c) fields ≡ argument_types known fields
+pub types_anywhere : (known : CoreKnown) (c : CalleesByName) (fields : List Field) → argument_types (calling known c) fields ≡ argument_types known fields
 types_anywhere known c fields = λ i. all_some (map (λ (f : Field). type_anywhere f.ty (outer_place known) c i) fields)
 
-placed_anywhere : (known : CoreKnown) (c : CalleesByName) (fields : List Field) (ts : List DslxType) (locals : List BoundSlot) (count : ℕ)
+pub placed_anywhere : (known : CoreKnown) (c : CalleesByName) (fields : List Field) (ts : List DslxType) (locals : List BoundSlot) (count : ℕ)
     → arguments_placed fields ts (record { known = calling known c; locals = locals; count = count })
     ≡ and_then (arguments_placed fields ts (record { known = known; locals = locals; count = count })) (λ p. Some (record { known = calling known c; locals = p.locals; count = p.count }))
 placed_anywhere known c [] [] locals count = refl
@@ -151,7 +151,7 @@ pub record MachineStands (began : InstanceSight) (root : OpenBody) (m : Instance
   pub opened : AllStand m.sight m.opened
 
 module _ (began : InstanceSight) (start : OpenBody) where
-  abbrev machine : InstanceSight → ℕ → OpenBody → List OpenInstance → InstanceMachine
+  abbrev pub machine : InstanceSight → ℕ → OpenBody → List OpenInstance → InstanceMachine
   machine sight limit root opened = record { sight = sight; limit = limit; root = root; opened = opened }
 
   as_machine : (m r : InstanceMachine) → Some m ≡ Some r → MachineStands began start m → MachineStands began start r
@@ -200,7 +200,8 @@ module _ (began : InstanceSight) (start : OpenBody) where
   closes_keeps : (sight : InstanceSight) (limit : ℕ) (root : OpenBody) (o : OpenInstance) (rest : List OpenInstance) (r : InstanceMachine) → o.body.todo ≡ []
       → MachineStands began start (machine sight limit root (o ∷ rest)) → closes o rest (machine sight limit root (o ∷ rest)) ≡ Some r → MachineStands began start r
   closes_keeps sight limit root o rest r empty stands h =
-      let e = from_then (last_made o.body.made) (λ e. Some (machine (with_done sight (instance_done o e)) limit root rest)) r h in
+      let made = from_where (not (is_done sight o.instance)) (and_then (last_made o.body.made) (λ e. Some (machine (with_done sight (instance_done o e)) limit root rest))) r h in
+      let e = from_then (last_made o.body.made) (λ e. Some (machine (with_done sight (instance_done o e)) limit root rest)) r made.1 in
       let c : CoreInstance = instance_done o e.0 in
       as_machine (machine (with_done sight c) limit root rest) r e.2 (record {
         text = stands.text;
@@ -215,7 +216,7 @@ module _ (began : InstanceSight) (start : OpenBody) where
       })
 
   -- the body of the instance that was opened last
-  abbrev with_body : OpenInstance → OpenBody → OpenInstance
+  abbrev pub with_body : OpenInstance → OpenBody → OpenInstance
   with_body o body = record { instance = o.instance; arguments = o.arguments; body = body }
 
   instance_keeps : (sight : InstanceSight) (limit : ℕ) (root : OpenBody) (todo : List LowerTask) (o : OpenInstance) (rest : List OpenInstance) (r : InstanceMachine)

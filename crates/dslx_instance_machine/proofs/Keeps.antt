@@ -43,7 +43,7 @@ use Rattle.dslx_instance_machine.proofs.Steady.{type_anywhere}
 -- ---- instances that are done
 
 -- an instance that is found is found in each longer table
-found_longer : (name : List ℕ) (numbers : List DslxValue) (n : ℕ) (table more : List CoreInstance) (p : ℕ × CoreInstance) → instance_in name numbers n table ≡ Some p
+pub found_longer : (name : List ℕ) (numbers : List DslxValue) (n : ℕ) (table more : List CoreInstance) (p : ℕ × CoreInstance) → instance_in name numbers n table ≡ Some p
     → instance_in name numbers n (table ++ more) ≡ Some p
 found_longer name numbers n [] more p e = none_some p e
 found_longer name numbers n (c ∷ table) more p e = by (is_instance name numbers c) (found_longer name numbers (suc n) table more p) e

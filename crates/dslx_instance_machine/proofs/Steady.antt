@@ -29,7 +29,7 @@ use Rattle.dslx_instance_machine.proofs.Rebuilt.{become, becoming}
 
 -- ---- what holds of types and patterns
 
-abbrev KnowsNoCallee : {A : Type 0} → (CorePlace → Option A) → Type 0
+abbrev pub KnowsNoCallee : {A : Type 0} → (CorePlace → Option A) → Type 0
 KnowsNoCallee l = (place : CorePlace) (c : CalleesByName) → l (with_callee c place) ≡ l place
 
 -- more may be bound, the rest is as it was
@@ -38,13 +38,13 @@ pub record Grows (before after : CorePlace) : Type 0 where
   pub new : List BoundSlot
   pub locals : after.locals ≡ new ++ before.locals
 
-record PatternIsSteady (l : LowersPattern) : Type 0 where
-  grows : (outer place : CorePlace) (t : DslxType) (s : LoweredShape) → l.lower outer place t ≡ Some s → Grows place s.place
-  moves : (outer place : CorePlace) (t : DslxType) (c : CalleesByName) → l.lower (with_callee c outer) (with_callee c place) t ≡ moved c (l.lower outer place t)
+pub record PatternIsSteady (l : LowersPattern) : Type 0 where
+  pub grows : (outer place : CorePlace) (t : DslxType) (s : LoweredShape) → l.lower outer place t ≡ Some s → Grows place s.place
+  pub moves : (outer place : CorePlace) (t : DslxType) (c : CalleesByName) → l.lower (with_callee c outer) (with_callee c place) t ≡ moved c (l.lower outer place t)
 
 -- ---- nothing holds of the other sorts
 
-abbrev alone : Carriers
+abbrev pub alone : Carriers
 alone = record {
   stmt = Unit {0};
   node = Unit {0};
@@ -62,7 +62,7 @@ alone = record {
   type_expr = Unit {0};
 }
 
-abbrev nothing_more : Steps alone
+abbrev pub nothing_more : Steps alone
 nothing_more = record {
   stmt = λ x. tt;
   node = λ x. tt;
@@ -80,7 +80,7 @@ nothing_more = record {
   type_expr = λ x. tt;
 }
 
-abbrev steady : Relations become alone
+abbrev pub steady : Relations become alone
 steady = record {
   stmt = λ p u. Unit {0};
   node = λ p u. Unit {0};
@@ -98,7 +98,7 @@ steady = record {
   type_expr = λ p u. KnowsNoCallee p.1;
 }
 
-abbrev Part : Carriers
+abbrev pub Part : Carriers
 Part = both become alone steady
 
 -- ---- types
@@ -108,7 +108,7 @@ types_steady : (ts : List Part.type_expr) (place : CorePlace) (c : CalleesByName
 types_steady [] place c = refl
 types_steady (t ∷ ts) place c = λ i. t.2 place c i ∷ types_steady ts place c i
 
-type_steady : (x : TypeNodeLevel Part) → KnowsNoCallee (type_lowered (map_type_node Part become (firsts become alone steady) x))
+pub type_steady : (x : TypeNodeLevel Part) → KnowsNoCallee (type_lowered (map_type_node Part become (firsts become alone steady) x))
 type_steady (TypeNode-F.Bits s w) place c = refl
 type_steady (TypeNode-F.Wide s e) place c = refl
 type_steady TypeNode-F.TypeNode::Bool place c = refl
@@ -116,7 +116,7 @@ type_steady (TypeNode-F.TypeNode::Name name) place c = refl
 type_steady (TypeNode-F.TypeNode::Tuple ts) place c = ap (λ os. and_then (all_some os) (λ ts. Some (ty.Tuple ts))) (types_steady ts place c)
 type_steady (TypeNode-F.TypeNode::Array t e) place c = λ i. with_both (t.2 place c i) (size_at place e.0.0) (λ t n. Some (ty.Array t n))
 
-number_steady : (x : NumberLevel Part) → KnowsNoCallee (number_meaning (map_number Part become (firsts become alone steady) x))
+pub number_steady : (x : NumberLevel Part) → KnowsNoCallee (number_meaning (map_number Part become (firsts become alone steady) x))
 number_steady x place c = by x.ty
   where
     by : (o : Option Part.type_expr)
@@ -229,7 +229,7 @@ tuple_moves ps outer place (DslxType-F.Struct name fields ts) c = refl
 tuple_moves ps outer place (DslxType-F.Enum name sign w) c = refl
 tuple_moves ps outer place DslxType-F.Token c = refl
 
-shape_steady : (x : ShapeLevel Part) → PatternIsSteady (shape_lowered (map_shape Part become (firsts become alone steady) x))
+pub shape_steady : (x : ShapeLevel Part) → PatternIsSteady (shape_lowered (map_shape Part become (firsts become alone steady) x))
 shape_steady Shape-F.Wild = record { grows = λ outer place t s e. as_shaped shape.Wild place place s (not_grown place) e; moves = λ outer place t c. refl }
 shape_steady (Shape-F.Shape::Bool b) = record {
   grows = λ outer place t s e. value_grows (Some (bool_value b)) place t s e;

@@ -1,6 +1,6 @@
 -- What each step of the machine does: it goes on in the instance that was opened last, closes it where nothing is left to be
 -- done in it, or opens one that is needed first.
-use Rattle.std.specs.Prelude.{ℕ, zero, suc, nat_lt, List, [], ◌∷◌, ◌++◌, length, Option, Some, None}
+use Rattle.std.specs.Prelude.{ℕ, zero, suc, nat_lt, List, [], ◌∷◌, ◌++◌, length, Bool, not, is_some, Option, Some, None}
 use Rattle.dslx_tree.specs.declared.item.Function.{Function}
 use Rattle.dslx_meaning.specs.Items.{as_function, item_named, numbers_bound}
 use Rattle.dslx_meaning.specs.Lists.{and_then, where_true}
@@ -53,9 +53,15 @@ instance_done o e = record { name = o.instance.name; numbers = o.instance.number
 abbrev pub with_done : InstanceSight → CoreInstance → InstanceSight
 with_done sight c = record { text = sight.text; items = sight.items; table = sight.table ++ c ∷ [] }
 
+-- whether it is done
+abbrev pub is_done : InstanceSight → Instantiated → Bool
+is_done sight i = is_some (instance_of sight i)
+
+-- it goes to the end of the table, unless it is there: so the table has one instance for each name and number arguments
 abbrev pub closes : OpenInstance → List OpenInstance → InstanceMachine → Option InstanceMachine
 closes o rest m =
-    and_then (last_made o.body.made) (λ e. Some (record { sight = with_done m.sight (instance_done o e); limit = m.limit; root = m.root; opened = rest }))
+    where_true (not (is_done m.sight o.instance))
+    (and_then (last_made o.body.made) (λ e. Some (record { sight = with_done m.sight (instance_done o e); limit = m.limit; root = m.root; opened = rest })))
 
 -- ---- one step
 

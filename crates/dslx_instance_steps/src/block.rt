@@ -12,7 +12,7 @@ ghost use Rattle.dslx_instance_tasks.specs.Shown.{body_shown};
 
 use dslx_core::{CoreExpr, Shape};
 use dslx_instance_tasks::{BlockTask, LowerTask, OpenBody};
-use dslx_lowered_forms::bind_lowered;
+use dslx_lowered_control::bind_lowered;
 use dslx_lowering::LoweredExpr;
 use dslx_meaning::DslxType;
 use dslx_tree::{Expr, Stmt};

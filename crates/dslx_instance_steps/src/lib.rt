@@ -1,16 +1,12 @@
-//! Steps where instances of functions are lowered, which need nothing but what was made: blocks, operations, expressions one after
-//! another, instances that are done.
+//! Steps where instances of functions are lowered, which need nothing but what was made: blocks, operations, and expressions one
+//! after another.
 #![tactic(auto)]
 
 mod block;
-mod instance;
-mod name;
 mod operation;
 mod several;
 
 pub use block::{begin_statements, make_bind};
-pub use instance::close_instance;
-pub use name::slot_lowered;
 pub use operation::{
     make_binary, make_cast, make_choice, make_element, make_indexed, make_part, make_prefix,
     make_slice,

@@ -5,9 +5,9 @@ ghost use Rattle.dslx_meaning.specs.Lists.{and_then, where_true};
 ghost use Rattle.dslx_lowering.specs.Lowering as lowering;
 ghost use Rattle.dslx_instance_machine.specs.Steps.{of_last, of_last_two, of_last_three};
 
-use dslx_lowered_forms::{
-    binary_lowered, cast_lowered, choice_lowered, element_lowered, index_lowered, part_lowered,
-    prefix_lowered, slice_lowered,
+use dslx_lowered_control::{choice_lowered, element_lowered, index_lowered};
+use dslx_lowered_operators::{
+    binary_lowered, cast_lowered, part_lowered, prefix_lowered, slice_lowered,
 };
 use dslx_lowering::LoweredExpr;
 use dslx_meaning::DslxType;

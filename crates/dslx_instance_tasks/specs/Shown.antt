@@ -1,12 +1,16 @@
 -- What is to be done where instances are lowered, and where the machine stands, without references.
-use Rattle.std.specs.Prelude.{List, map}
+use Rattle.std.specs.Prelude.{List, Option, None, Some, map, reverse}
 use Rattle.dslx_tree.specs.declared.item.Module.{Module}
 use Rattle.dslx_meaning.specs.Items.{meanings_of}
+use Rattle.dslx_core.specs.declared.expr.CoreExpr as core
+use Rattle.dslx_names.specs.Bound.{given}
 use Rattle.dslx_lowering.specs.Functions.{CoreInstance}
+use Rattle.dslx_lowering.specs.Lowering.{LoweredExpr, lowered}
 use Rattle.dslx_instance_tasks.specs.declared.maker.LastMaker.{LastMaker}
 use Rattle.dslx_instance_tasks.specs.declared.maker.LastMaker.TheVariants as last
 use Rattle.dslx_instance_tasks.specs.declared.maker.PartsMaker.{PartsMaker}
 use Rattle.dslx_instance_tasks.specs.declared.maker.PartsMaker.TheVariants as parts
+use Rattle.dslx_instance_tasks.specs.declared.task.OtherFields.{OtherFields}
 use Rattle.dslx_instance_tasks.specs.declared.task.StructWork.{StructWork}
 use Rattle.dslx_instance_tasks.specs.declared.task.MatchWork.{MatchWork}
 use Rattle.dslx_instance_tasks.specs.declared.task.LowerTask.{LowerTask}
@@ -45,8 +49,13 @@ parts_shown parts.Array = m.MakesArray
 parts_shown (parts.Fill t n dots) = m.Fills t n dots
 parts_shown (parts.Call name numbers) = m.CallsWith name.now numbers.now
 
+-- the bound value that has the other fields
+abbrev pub others_shown : Option OtherFields → Option LoweredExpr
+others_shown None = None
+others_shown (Some o) = lowered (core.Slot o.slot) o.ty
+
 abbrev pub struct_shown : StructWork → m.StructWork
-struct_shown w = record { ty = w.ty; written = w.written.now; others = w.others }
+struct_shown w = record { ty = w.ty; written = w.written.now; others = others_shown w.others }
 
 abbrev pub match_shown : MatchWork → m.MatchWork
 match_shown w = record { value = w.value; before = w.before.items; arm = w.arm.now; behind = w.behind.now }
@@ -87,7 +96,7 @@ task_shown (task.Call t) = call_task_shown t
 -- ---- where the machine stands
 
 abbrev pub body_shown : OpenBody → m.OpenBody
-body_shown b = record { given = b.given; todo = map task_shown b.todo; made = b.made; locals = b.locals; count = b.count }
+body_shown b = record { given = reverse (map given b.given.items); todo = map task_shown b.todo; made = b.made; locals = b.locals; count = b.count }
 
 abbrev pub instance_shown : OpenInstance → m.OpenInstance
 instance_shown o = record { instance = o.instance; arguments = o.arguments; body = body_shown o.body }
@@ -97,4 +106,4 @@ abbrev pub sight_of : Module → List CoreInstance → m.InstanceSight
 sight_of text table = record { text = text; items = meanings_of text; table = table }
 
 abbrev pub machine_shown : InstanceMachine → m.InstanceMachine
-machine_shown x = record { sight = sight_of x.text.now x.table.items; limit = x.limit; root = body_shown x.root; opened = map instance_shown x.opened }
+machine_shown x = record { sight = sight_of x.text.now x.table; limit = x.limit; root = body_shown x.root; opened = map instance_shown x.opened }

@@ -7,7 +7,7 @@ ghost use Rattle.dslx_instance_tasks.specs.Shown.{arms_task_shown, block_task_sh
 use crate::task::{ArmsTask, BlockTask, CallTask, LoopTask, LowerTask, PartsTask};
 use dslx_locals::Locals;
 use dslx_lowering::LoweredExpr;
-use dslx_names::Scope;
+use dslx_names::Binding;
 use dslx_tree::Expr;
 use stacks::Stack;
 use std::alloc::{AllocError, Global};
@@ -15,8 +15,8 @@ use std::alloc::{AllocError, Global};
 /// What is lowered in one place.
 #[derive(Drop)]
 pub struct OpenBody<'a> {
-    /// The number parameters.
-    pub given: Scope<'a>,
+    /// The number parameters, in order.
+    pub given: Vec<Binding<'a>>,
     /// What is still to be done, the next task on the top.
     pub todo: Stack<LowerTask<'a>>,
     /// What was made so far, the last one on the top.

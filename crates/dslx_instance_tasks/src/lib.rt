@@ -10,5 +10,6 @@ pub use body::OpenBody;
 pub use machine::{InstanceMachine, OpenInstance};
 pub use maker::{LastMaker, PartsMaker};
 pub use task::{
-    ArmsTask, BlockTask, CallTask, LoopTask, LowerTask, MatchWork, PartsTask, StructWork,
+    ArmsTask, BlockTask, CallTask, LoopTask, LowerTask, MatchWork, OtherFields, PartsTask,
+    StructWork,
 };

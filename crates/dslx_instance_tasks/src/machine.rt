@@ -1,5 +1,6 @@
 use crate::body::OpenBody;
-use dslx_lowering::{CoreInstance, Instantiated};
+use dslx_instance_table::InstanceTable;
+use dslx_lowering::Instantiated;
 use dslx_meaning::DslxType;
 use dslx_tree::Module;
 use stacks::Stack;
@@ -18,7 +19,7 @@ pub struct OpenInstance<'a> {
 pub struct InstanceMachine<'a> {
     pub text: &'a Module,
     /// The instances that are done.
-    pub table: Vec<CoreInstance>,
+    pub table: InstanceTable,
     /// How many may be open at once.
     pub limit: usize,
     pub root: OpenBody<'a>,

@@ -11,13 +11,19 @@ use std::alloc::{AllocError, Global};
 use texts::Name;
 use xb_value::{Boxed, Seq};
 
+/// The value that has the fields of a struct that aren't written: the number under which it is bound, and its type.
+#[derive(Drop)]
+pub struct OtherFields {
+    pub slot: u64,
+    pub ty: DslxType,
+}
+
 /// A struct value of a type, while its fields are lowered.
 #[derive(Drop)]
 pub struct StructWork<'a> {
     pub ty: DslxType,
     pub written: &'a [FieldValue],
-    /// What has the fields that aren't written.
-    pub others: Option<LoweredExpr>,
+    pub others: Option<OtherFields>,
 }
 
 /// A match on a value, while an arm of it is lowered: the arms before, this one, and those behind.

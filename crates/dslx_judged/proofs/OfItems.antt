@@ -105,7 +105,7 @@ pub default_reached : (P : List ℕ → Bool) (known : Known) (o : Option Expr) 
 default_reached P known o bound h home so_far unknown e q =
     constant_reached P known (record (item_sight known home so_far) { unknown = unknown }) refl e bound (subst (λ x. MentionsReach P known (expr_if x bound)) q h)
 
-parameters_reach : (P : List ℕ → Bool) (known : Known) (home : List ℕ) (ps : List Parameter) (bound : List (List ℕ)) → MentionsReach P known (parameters_mentions ps bound) → EachParameterReaches P (known_over known) home ps
+pub parameters_reach : (P : List ℕ → Bool) (known : Known) (home : List ℕ) (ps : List Parameter) (bound : List (List ℕ)) → MentionsReach P known (parameters_mentions ps bound) → EachParameterReaches P (known_over known) home ps
 parameters_reach P known home [] bound h = tt
 parameters_reach P known home (p ∷ ps) bound h =
     let r = three_parts P known (mentioned_in_type p.ty bound) (expr_if p.default bound) (parameters_mentions ps (p.name.name ∷ bound)) h in (
@@ -217,7 +217,7 @@ found_defaults : (P : List ℕ → Bool) (sight : Sight) (t : Option DslxType) (
 found_defaults P sight t None bound h = tt
 found_defaults P sight t (Some e) bound h = constant_reached P sight.known sight refl e bound h
 
-found_parameters : (P : List ℕ → Bool) (known : Known) (home : List ℕ) (before : List (List ℕ)) (so_far : List Given) (ps : List Parameter) (values : List DslxValue) (bound : List (List ℕ))
+pub found_parameters : (P : List ℕ → Bool) (known : Known) (home : List ℕ) (before : List (List ℕ)) (so_far : List Given) (ps : List Parameter) (values : List DslxValue) (bound : List (List ℕ))
     → MentionsReach P known (parameters_mentions ps bound) → AllNamed P (parameters_found known home before so_far ps values).reached
 found_parameters P known home before so_far [] values bound h = tt
 found_parameters P known home before so_far (p ∷ ps) values bound h =
@@ -259,7 +259,7 @@ instance_reaches P known f numbers h =
 
 -- ---- instances of procs
 
-found_ends : (P : List ℕ → Bool) (sight : Sight) (before : List (List ℕ)) (es : List End) (bound : List (List ℕ)) → MentionsReach P sight.known (ends_mentions es bound) → AllNamed P (ends_found sight before es).reached
+pub found_ends : (P : List ℕ → Bool) (sight : Sight) (before : List (List ℕ)) (es : List End) (bound : List (List ℕ)) → MentionsReach P sight.known (ends_mentions es bound) → AllNamed P (ends_found sight before es).reached
 found_ends P sight before [] bound h = tt
 found_ends P sight before (e ∷ es) bound h =
     let r = parts P sight.known (mentioned_in_type e.word bound) (ends_mentions es bound) h in
@@ -272,17 +272,17 @@ found_depth P sight (Some a) bound h =
     let e = (arg_pair a).1 in
     constant_reaches P sight e (unmarked P (span_of e) (within sight e) (argument_reaches P a bound false sight h))
 
-spawned : (P : List ℕ → Bool) (sight : Sight) (as' : List Arg) (bound : List (List ℕ)) → MentionsReach P sight.known (flat_map (λ a. mentioned_in_arg a bound) as') → EachReaches P sight (map (λ (a : ArgPair). a.1) (map arg_pair as'))
-spawned P sight [] bound h = tt
-spawned P sight (a ∷ as') bound h =
+pub arguments_reach : (P : List ℕ → Bool) (sight : Sight) (as' : List Arg) (bound : List (List ℕ)) → MentionsReach P sight.known (flat_map (λ a. mentioned_in_arg a bound) as') → EachReaches P sight (map (λ (a : ArgPair). a.1) (map arg_pair as'))
+arguments_reach P sight [] bound h = tt
+arguments_reach P sight (a ∷ as') bound h =
     let r = parts P sight.known (mentioned_in_arg a bound) (flat_map (λ b. mentioned_in_arg b bound) as') h in
-    (argument_reaches P a bound false sight r.0, spawned P sight as' bound r.1)
+    (argument_reaches P a bound false sight r.0, arguments_reach P sight as' bound r.1)
 
 found_spawn : (P : List ℕ → Bool) (sight : Sight) (made : Made) (s : Spawn) (bound : List (List ℕ)) → MentionsReach P sight.known (mention AsProc s.target.name ++ flat_map (λ a. mentioned_in_arg a bound) s.arguments)
     → AllNamed P (spawn_found sight made s).reached
 found_spawn P sight made s bound h =
     join P (reached_of_all (given_judgements given)) (spawn_of sight made s given (as_proc (item_named s.target.name sight.known.whole.items))).reached
-    (given_reach P sight (map arg_pair s.arguments) (spawned P sight s.arguments bound r.1)) (by_proc (as_proc (item_named s.target.name sight.known.whole.items)) refl)
+    (given_reach P sight (map arg_pair s.arguments) (arguments_reach P sight s.arguments bound r.1)) (by_proc (as_proc (item_named s.target.name sight.known.whole.items)) refl)
   where
     given : List GivenNumber
     given = given_numbers sight (map arg_pair s.arguments)

@@ -12,6 +12,10 @@ use Rattle.dslx_lowering.specs.CorePlaces.{BoundSlot, local_in, slot_names}
 pub counted : (xs : List BoundSlot) → length (reverse xs) ≡ length xs
 counted xs = length-reverse xs
 
+-- names that are bound behind others
+pub joined : (xs ys : List BoundSlot) → reverse (xs ++ ys) ≡ reverse ys ++ reverse xs
+joined xs ys = reverse-append xs ys
+
 drop_front : {T : Type 0} (a b : List T) → drop (length a) (a ++ b) ≡ b
 drop_front [] b = refl
 drop_front (x ∷ xs) b = drop_front xs b

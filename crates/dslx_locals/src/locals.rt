@@ -1,4 +1,4 @@
-ghost use Rattle.std.specs.Prelude.{◌≡◌, ◌∷◌, ◌-◌, [], drop, length, OnOk};
+ghost use Rattle.std.specs.Prelude.{◌≡◌, ◌∷◌, ◌++◌, ◌-◌, [], drop, length, OnOk};
 ghost use Rattle.std.specs.Option.{option_copied};
 ghost use Rattle.dslx_meaning.specs.Lists.{is_in};
 ghost use Rattle.dslx_lowering.specs.CorePlaces.{local_in, slot_names};
@@ -42,6 +42,15 @@ impl Locals {
         ensures { OnOk result (self.new ≡ slot ∷ self.old) }
     {
         self.slots.push(slot)?;
+        Ok(())
+    }
+
+    /// Binds all of these too, in their order.
+    #[tactic(auto, using(crate::proofs::Ends::joined))]
+    pub fn bind_all(&mut self, mut names: Locals) -> Result<(), AllocError>
+        ensures { OnOk result (self.new ≡ names ++ self.old) }
+    {
+        self.slots.append(&mut names.slots)?;
         Ok(())
     }
 

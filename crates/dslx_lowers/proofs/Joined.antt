@@ -11,8 +11,7 @@ use Rattle.dslx_rules.specs.Judging.{ExprPair, Sight, alone, breaks, no_token, s
 use Rattle.dslx_meaning.specs.declared.ty.DslxType as ty
 use Rattle.dslx_meaning.specs.declared.value.DslxValue.{DslxValue}
 use Rattle.dslx_lowers.specs.Widths.{arm_wide, block_wide, for_wide, let_wide, node_wide, shape_wide, stmt_wide, type_wide, wide_if, all_wide, block_writes_widths, type_writes_widths, writes_widths}
-use Rattle.dslx_lowers.specs.Lowers.{HasWidth, IsLimited, PartLowers, PatternLowers, TypeLowers, ExprLowers, WrittenLowers, reaching, IsLoweredWhereFine, TypeIsLoweredWhereFine}
-use Rattle.dslx_lowers.proofs.Trees.{HoldOn, TreeClaims, holds_block, holds_expr, holds_pattern, holds_type_expr, own_expr, held, held_tree, paired, pairing}
+use Rattle.dslx_lowers.specs.Lowers.{IsWide, IsLimited, PartLowers, PatternLowers, TypeLowers, ExprLowers, WrittenLowers, reaching, IsLoweredWhereFine, TypeIsLoweredWhereFine}
 use Rattle.dslx_lowers.proofs.OfStructs.{FieldLowers, EachFieldLowers, struct_lowers}
 use Rattle.dslx_lowers.proofs.OfPatterns.{NumberStands, EachPatternLowers, bool_pattern_lowers, member_pattern_lowers, name_pattern_lowers, number_pattern_lowers, tuple_pattern_lowers, wild_lowers}
 use Rattle.dslx_lowers.proofs.OfMatch.{ArmLowers, EachArmLowers, match_lowers}
@@ -27,7 +26,7 @@ use Rattle.dslx_tree.specs.declared.block.Stmt.TheOpen.{Node-F, Shape-F, TypeNod
 use Rattle.dslx_tree.specs.declared.block.Stmt.{Stmt}
 use Rattle.dslx_tree.specs.declared.block.Block.{Block}
 use Rattle.dslx_sound.specs.Sound.{EachPatternGives, acc_seen, body_seen, index_seen}
-use Rattle.dslx_sound.proofs.Lemmas.{alone_fine, block_of_text_has, expression_gives, name_has, none_in, pattern_gives, settled_fine, some_fault, type_stands}
+use Rattle.dslx_sound.proofs.Lemmas.{alone_fine, block_of_text_has, expression_gives, name_has, none_in, pattern_gives, settled_fine, some_fault, type_stands, HoldOn, TreeClaims, holds_block, holds_expr, holds_pattern, holds_type_expr, own_expr, held, held_tree, paired, pairing}
 use Rattle.dslx_rules.specs.TypeRules.{array_of, counted_type, inner_type}
 use Rattle.dslx_rules.specs.OperatorRules.{slice_judged}
 use Rattle.dslx_rules.specs.Mentions.{AsType, is_of_use}
@@ -36,7 +35,7 @@ use Rattle.dslx_meaning.specs.Meaning.{meant, meant_pattern, value_of_block, wri
 use Rattle.dslx_meaning.specs.Lists.{and_then, with_both}
 use Rattle.dslx_meaning.specs.Items.{item_named}
 use Rattle.dslx_meaning.specs.Callees.{kind_of_call}
-use Rattle.dslx_lowers.proofs.OfTypes.{EachTypeLowers, array_type_lowers, array_type_wide, bits_type_lowers, bits_type_wide, named_lowers, named_wide, tuple_type_lowers, tuple_type_wide, wide_lowers, wide_wide}
+use Rattle.dslx_lowers.proofs.OfTypes.{EachIsWide, EachTypeLowers, array_type_lowers, array_type_wide, bits_type_lowers, bits_type_wide, named_lowers, named_wide, tuple_type_lowers, tuple_type_wide, wide_lowers, wide_wide}
 use Rattle.dslx_lowers.proofs.OfSlices.{slice_lowers}
 use Rattle.dslx_lowers.proofs.OfOperations.{binary_lowers, cast_lowers, field_lowers, index_lowers, part_lowers, prefix_lowers}
 use Rattle.dslx_lowers.proofs.OfNames.{bool_lowers, literal_typed, member_lowers, name_lowers, number_lowers}
@@ -118,7 +117,7 @@ pub record PartClaim (j : SightJudging) (l : Lowers) : Type 0 where
 
 pub record TypeClaim (j : SightJudging) (l : LowersType) : Type 0 where
   pub lowers : TypeLowers j l
-  pub wide : HasWidth j
+  pub wide : IsWide j
 
 pub record NumberClaim (j : SightJudging) (l : CorePlace → Option DslxValue) : Type 0 where
   pub stands : NumberStands j l
@@ -241,6 +240,12 @@ each_type [] w = tt
 each_type (p ∷ ps) w =
     let q = and_true (fold_type_expr wide widths p.0) (all_wide (map (fold_type_expr wide widths) (map (λ (p : TypePart). p.0) ps))) w in
     ((p.1 q.0).lowers, each_type ps q.1)
+
+each_type_wide : (ps : List TypePart) → all_wide (map (fold_type_expr wide widths) (map (λ (p : TypePart). p.0) ps)) ≡ true → EachIsWide (map (fold_type_expr seen seeing) (map (λ (p : TypePart). p.0) ps))
+each_type_wide [] w = tt
+each_type_wide (p ∷ ps) w =
+    let q = and_true (fold_type_expr wide widths p.0) (all_wide (map (fold_type_expr wide widths) (map (λ (p : TypePart). p.0) ps))) w in
+    ((p.1 q.0).wide, each_type_wide ps q.1)
 
 each_stmt : (ps : List StmtPart) → all_wide (map (fold_stmt wide widths) (map (λ (p : StmtPart). p.0) ps)) ≡ true
     → EachStatementLowers (map (λ (s : Stmt × StatementJudging). s.1) (map (fold_stmt seen seeing) (map (λ (p : StmtPart). p.0) ps))) (map (λ (s : Stmt × (Lowers → Lowers)). s.1) (map (fold_stmt become becoming) (map (λ (p : StmtPart). p.0) ps)))
@@ -365,7 +370,7 @@ type_claim (TypeNode-F.TypeNode::Name name) w span =
     record { lowers = named_lowers span name named; wide = named_wide span name named }
 type_claim (TypeNode-F.TypeNode::Tuple ts) w span =
     let ps = map (fold_type_expr seen seeing) (map (λ (p : TypePart). p.0) ts) in
-    record { lowers = tuple_type_lowers span ps (map (fold_type_expr become becoming) (map (λ (p : TypePart). p.0) ts)) (each_type ts w); wide = tuple_type_wide span ps }
+    record { lowers = tuple_type_lowers span ps (map (fold_type_expr become becoming) (map (λ (p : TypePart). p.0) ts)) (each_type ts w); wide = tuple_type_wide span ps (each_type_wide ts w) }
 type_claim (TypeNode-F.TypeNode::Array t e) w span =
     let q = and_true (fold_type_expr wide widths t.0) (fold_expr wide widths e.0) w in
     let p = fold_type_expr seen seeing t.0 in
@@ -373,7 +378,7 @@ type_claim (TypeNode-F.TypeNode::Array t e) w span =
     record {
       lowers = subst (λ x. TypeLowers (λ sight. array_of span (inner_type sight p) (count_of sight n)) (λ place. with_both ((fold_type_expr become becoming t.0).1 place) (size_at place x) (λ t n. Some (ty.Array t n)))) (same_tree e.0)
           (array_type_lowers span p (fold_type_expr become becoming t.0).1 n (meant e.0) (t.1 q.0).lowers (expression_gives e.0));
-      wide = array_type_wide span p n;
+      wide = array_type_wide span p n (t.1 q.0).wide;
     }
 
 shape_claim : (y : ShapeLevel Held) → shape_wide (map_shape trees wide (folds wide widths) (map_shape Held trees tree y)) ≡ true → (span : Span)
@@ -607,3 +612,7 @@ pub type_is_lowered : (t : TypeExpr) → type_writes_widths t ≡ true → TypeI
 type_is_lowered t w here sight env place h at fine =
     let b = type_part_becomes here sight env place t w h at fine in
     record { ty = b.ty; is = b.is; typed = b.typed }
+
+-- all bits in a type have a width
+pub type_is_wide : (t : TypeExpr) → type_writes_widths t ≡ true → IsWide (type_pair t).1
+type_is_wide t w = (type_part (t, holds_type_expr becomes_something all_become t) w).wide

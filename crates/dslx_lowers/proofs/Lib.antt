@@ -1,7 +1,7 @@
--- induction on trees, and trees beside what they come to
-pub mod Trees
 -- types that are equal in all their parts
 pub mod Equal
+-- widths of all bits in a type
+pub mod InTypes
 -- what parts become
 pub mod Parts
 -- lists of parts
@@ -52,3 +52,5 @@ pub mod OfNext
 pub mod OfProcs
 -- members of procs
 pub mod OfMembers
+-- lemmas for other crates
+pub mod Lemmas

@@ -31,6 +31,7 @@ use Rattle.dslx_typed.specs.Complete.{EachArgumentDeclared, IsFine}
 use Rattle.dslx_typed.specs.Declared.{AllDeclared, IsDeclared}
 use Rattle.dslx_typed.specs.WellTyped.{IsWellTyped, types_at}
 use Rattle.dslx_typed.proofs.Lemmas.{all_are, declared_is, element_declared, list_parts, one_of_text}
+use Rattle.dslx_complete.proofs.Lemmas.{own_numbers}
 use Rattle.dslx_sound.specs.Sound.{EachExprGives, ExprGives}
 use Rattle.dslx_sound.proofs.Lemmas.{CallFound, all_in, all_in_three, call_found, none_in, none_in_three, passed, right_fine, settled_fine, some_fault, wrongly_called}
 use Rattle.dslx_core.specs.declared.expr.CoreExpr as core
@@ -225,7 +226,7 @@ called_lowers here span sight env place name f as' ls es xs cyclic k h at is cou
     let instance = and_true (here (record { name = home; numbers = c.numbers })) true ((λ i. list_all here (reached_by (has_broken (sym w.no_cycle i) || sym w.right i) home (sym c.all i))) ∙ w.found) in
     let operands = ap (λ b. operand_faults sight.known home b f.arguments es js) (sym c.shown) ∙ ap (λ b. if◌then◌else◌ {A = List Fault} b [] (operand_faults sight.known home n.bound f.arguments es js)) (sym w.right) ∙ w.operands in
     let fits = declared_for sight home (numbers_bound [] f.parameters c.numbers) f.arguments es exprs c.arguments count typed declared operands in
-    let callee = at.calls name f c.given c.numbers ts is c.found instance.0 fits in
+    let callee = at.calls name f c.given c.numbers ts is c.found (own_numbers sight.known home [] f.parameters c.numbers c.fit) instance.0 fits in
     (λ i. type_of_lowered (with_both (all_some (numbers i)) (all_some (are i)) (λ numbers es. and_then (place.known.callee name numbers (types_of_lowered es)) (λ callee. lowered (core.Call callee.number (cores_of es)) callee.result))))
     ∙ (λ i. type_of_lowered (with_both (all_are c.given i) (all_are exprs i) (λ numbers es. and_then (place.known.callee name numbers (types_of_lowered es)) (λ callee. lowered (core.Call callee.number (cores_of es)) callee.result))))
     ∙ ap (λ o. type_of_lowered (and_then o (λ callee. lowered (core.Call callee.number (cores_of exprs)) callee.result))) callee.is

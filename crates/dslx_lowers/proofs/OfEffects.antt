@@ -19,7 +19,7 @@ use Rattle.dslx_tree_lemmas.proofs.Lemmas.Folds.{folds}
 use Rattle.dslx_tree.specs.declared.process.End.{End}
 use Rattle.dslx_tree.specs.declared.process.Direction.{Direction}
 use Rattle.dslx_tree.specs.declared.expr.Expr.{Expr, out-Expr}
-use Rattle.dslx_sound.proofs.Lemmas.{none_in, not_broken, passed, all_in, all_in_three, none_in_three, settled_fine}
+use Rattle.dslx_sound.proofs.Lemmas.{none_in, not_broken, passed, all_in, all_in_three, none_in_three, settled_fine, own_expr}
 use Rattle.dslx_rules.specs.NodeRules.{expr_pair, judged_steps, node_judged}
 use Rattle.dslx_rules.specs.Judgings.{judged_sorts}
 use Rattle.dslx_rules.specs.Judging.{ExprPair, Instance, Judgement, Outlet, Sight, alone, span_of, typed_in, within, Known, faults_of_all, name_of_expr, one_and, plus_size, reached_of_all, size_of_all, types_of}
@@ -35,7 +35,6 @@ use Rattle.dslx_lowers.specs.Widths.{writes_widths}
 use Rattle.dslx_lowers.specs.NextSteps.{MembersStand}
 use Rattle.dslx_lowers.specs.Lowers.{reaching}
 use Rattle.dslx_lowers.specs.Beside.{StandsBeside}
-use Rattle.dslx_lowers.proofs.Trees.{own_expr}
 use Rattle.dslx_lowers.proofs.Parts.{Becomes, alone_becomes, within_becomes}
 use Rattle.dslx_lowers.proofs.Joined.{seen, seeing, expression_part}
 use Rattle.dslx_lowers.proofs.Equal.{equal_of_text}

@@ -18,11 +18,12 @@ use Rattle.dslx_rules.specs.ItemRules.{and_found, body_judged, found_in, judged_
 use Rattle.dslx_rules.specs.Judging.{Instance, Known, Outlet, Sight, Typed, passes_count, with_typed}
 use Rattle.dslx_rules.specs.NameRules.{local_name}
 use Rattle.dslx_rules.specs.NodeRules.{block_pair}
-use Rattle.dslx_rules.specs.ProcRules.{config_found, count_sites, ends_found, proc_seen, proc_sight}
+use Rattle.dslx_rules.specs.ProcRules.{count_sites, ends_found, proc_sight}
 use Rattle.dslx_typed.specs.WellTyped.{IsWellTyped, types_at}
 use Rattle.dslx_typed.specs.Numbers.{AllOwn}
 use Rattle.dslx_typed.specs.Declared.{AllDeclared, Declarations, DeclaresParts, IsDeclared}
 use Rattle.dslx_typed.proofs.Lemmas.{bound_keeps, element_declared, parts_declared, struct_declared, type_induction}
+use Rattle.dslx_complete.specs.Acts.{acts_found}
 use Rattle.dslx_sound.proofs.Lemmas.{all_in, none_in, passed}
 use Rattle.dslx_laws.proofs.Lemmas.{and_true}
 use Rattle.dslx_lowering.specs.CorePlaces.{CoreKnown, CorePlace, with_local}
@@ -90,7 +91,7 @@ stands_with here sight members place at =
 
 pub next_is_lowered : (here : Instance → Bool) (known : Known) (p : Proc) (numbers : List DslxValue) (env : Env) (core : CoreKnown) → AllOwn known.items.type_named numbers → next_writes_widths p ≡ true
     → IsWellTyped (proc_sight known p numbers) env → StandsBeside here (proc_sight known p numbers) (outer_place core) → MembersStand (members_sight known p numbers) (outer_place core) p.members
-    → IsClean here (proc_seen known p numbers).faults (proc_seen known p numbers).reached → NextIsLowered known p numbers (next_lowered core p)
+    → IsClean here (acts_found known p numbers).faults (acts_found known p numbers).reached → NextIsLowered known p numbers (next_lowered core p)
 next_is_lowered here known p numbers env core own w h at members clean =
     let sight = proc_sight known p numbers in
     let outer = outer_place core in
@@ -104,7 +105,6 @@ next_is_lowered here known p numbers env core own w h at members clean =
     let judged = body_judged true inner state.ty body in
     let parameters = parameters_found known p.name.name [] [] p.parameters numbers in
     let ends = ends_found sight [] p.members in
-    let config = config_found sight p in
     let init = body_judged false inside state.ty p.init in
     let names = local_name sight [] p.next.state in
     let sites = only_faults (passes_count what.Sites 32 p.span.to (count_sites (out-Block body).statements)) in
@@ -112,19 +112,16 @@ next_is_lowered here known p numbers env core own w h at members clean =
     let f6 = and_found (found_in state) f7 in
     let f5 = and_found (only_faults names) f6 in
     let f4 = and_found (found_in init) f5 in
-    let f3 = and_found config f4 in
-    let f2 = and_found ends f3 in
+    let f2 = and_found ends f4 in
     let a1 = none_in parameters.faults f2.faults clean.faults in
-    let a2 = none_in ends.faults f3.faults a1.1 in
-    let a3 = none_in config.faults f4.faults a2.1 in
-    let a4 = none_in init.faults f5.faults a3.1 in
+    let a2 = none_in ends.faults f4.faults a1.1 in
+    let a4 = none_in init.faults f5.faults a2.1 in
     let a5 = none_in names f6.faults a4.1 in
     let a6 = none_in state.faults f7.faults a5.1 in
     let a7 = none_in judged.faults sites.faults a6.1 in
     let r1 = all_in here parameters.reached f2.reached clean.reached in
-    let r2 = all_in here ends.reached f3.reached r1.1 in
-    let r3 = all_in here config.reached f4.reached r2.1 in
-    let r4 = all_in here init.reached f5.reached r3.1 in
+    let r2 = all_in here ends.reached f4.reached r1.1 in
+    let r4 = all_in here init.reached f5.reached r2.1 in
     let r6 = all_in here state.reached f7.reached r4.1 in
     let r7 = all_in here judged.reached sites.reached r6.1 in
     let wide = and_true (type_writes_widths p.next.ty) (block_writes_widths body) w in

@@ -4,26 +4,26 @@ use Rattle.dslx_tree.specs.declared.item.Definition.TheVariants as d
 use mathlib.Core.Bool.{true≢false}
 use Rattle.std.specs.Str.{bytes_eq}
 use Rattle.std.specs.List.{list_all}
+use Rattle.std.proofs.lemmas.List.{append-nil, append_assoc}
 use Rattle.std.proofs.lemmas.Slice.Eq.{bytes_eq-Decides}
-use Rattle.std.proofs.Common.{Bool, List, None, Option, Some, [], ap, false, if◌then◌else◌, map, not, refl, subst, suc, sym, true, ℕ, ◌&&◌, ◌++◌, ◌||◌, ◌∙◌, ◌∷◌, ◌≡◌}
+use Rattle.std.proofs.Common.{Bool, List, None, Some, [], ap, false, if◌then◌else◌, length, map, not, refl, subst, suc, sym, true, ℕ, ◌&&◌, ◌++◌, ◌||◌, ◌∙◌, ◌∷◌, ◌≡◌}
 use Rattle.dslx_typed.proofs.Lemmas.{list_parts, none_some, own_bound, same_some}
-use Rattle.dslx_tree.specs.declared.type_expr.TypeExpr.{TypeExpr}
 use Rattle.dslx_tree.specs.declared.item.Item.{Item}
 use Rattle.dslx_tree.specs.declared.item.Function.{Function}
 use Rattle.dslx_tree.specs.declared.item.Field.{Field}
 use Rattle.dslx_tree.specs.declared.item.Definition.{Definition}
 use Rattle.dslx_complete.proofs.Lemmas.{item_typed, none_own}
 use Rattle.dslx_sound.proofs.Lemmas.{some_fault}
-use Rattle.dslx_rules.specs.Judging.{Known}
-use Rattle.dslx_rules.specs.ItemRules.{function_sight, item_sight, judged_inner, judged_type, result_judged}
-use Rattle.dslx_rules.specs.CallRules.{declared_type, result_type}
+use Rattle.dslx_rules.specs.Judging.{Instance, Known}
+use Rattle.dslx_rules.specs.ItemRules.{function_sight, item_sight, judged_inner}
+use Rattle.dslx_rules.specs.CallRules.{declared_type}
 use Rattle.dslx_meaning.specs.declared.value.DslxValue.{DslxValue}
 use Rattle.dslx_meaning.specs.Types.{is_unit}
 use Rattle.dslx_meaning.specs.Lists.{and_then, pairwise, where_true}
 use Rattle.dslx_meaning.specs.Items.{all_numbers, as_function, inferred_from, item_named, name_of_definition, numbers_bound}
 use Rattle.dslx_meaning.specs.Environment.{Given}
 use Rattle.dslx_lowers.specs.Instances.{InstanceIsLowered}
-use Rattle.dslx_lowers.specs.InstanceLists.{CanLower, EachReachesThoseBefore, ReachesThese, is_among}
+use Rattle.dslx_lowers.specs.InstanceLists.{AreJudged, AreThere, CanLower, EachReachesThoseBefore, HaveTable, ReachesThese, is_among}
 use Rattle.dslx_lowers.specs.Beside.{AreDeclaredFor, CallsAreKnown, StandsBeside}
 use Rattle.dslx_lowers.proofs.OfInstances.{instance_is_lowered}
 use Rattle.dslx_lowers.proofs.Equal.{equal_itself}
@@ -113,47 +113,45 @@ found_there known name numbers n (i ∷ is) (c ∷ cs) h e =
 -- ---- calls
 
 -- types that are declared for the arguments are those of the function
-arguments_equal : (known : Known) (home : List ℕ) (bound : List Given) → ((t : TypeExpr) → known.type_in home bound t ≡ (judged_type (item_sight known home bound) t).ty) → (fs : List Field) (us ts : List DslxType)
+arguments_equal : (known : Known) (home : List ℕ) (bound : List Given) (fs : List Field) → AreJudged known home fs → (us ts : List DslxType)
     → map (λ (a : Field). (judged_inner (item_sight known home bound) a.ty).ty) fs ≡ map Some us → list_all (λ t. not (is_unit t)) us ≡ true → AreDeclaredFor known home bound fs ts → pairwise equal_type us ts ≡ true
-arguments_equal known home bound types [] [] [] j u d = refl
-arguments_equal known home bound types [] [] (t ∷ ts) j u d = absurd d
-arguments_equal known home bound types [] (x ∷ us) ts j u d = some_fault (Some x) (map Some us) (sym j)
-arguments_equal known home bound types (g ∷ fs) us [] j u d = absurd d
-arguments_equal known home bound types (g ∷ fs) [] (t ∷ ts) j u d = some_fault (judged_inner (item_sight known home bound) g.ty).ty (map (λ (a : Field). (judged_inner (item_sight known home bound) a.ty).ty) fs) j
-arguments_equal known home bound types (g ∷ fs) (x ∷ us) (t ∷ ts) j u d =
+arguments_equal known home bound [] types [] [] j u d = refl
+arguments_equal known home bound [] types [] (t ∷ ts) j u d = absurd d
+arguments_equal known home bound [] types (x ∷ us) ts j u d = some_fault (Some x) (map Some us) (sym j)
+arguments_equal known home bound (g ∷ fs) types us [] j u d = absurd d
+arguments_equal known home bound (g ∷ fs) types [] (t ∷ ts) j u d = some_fault (judged_inner (item_sight known home bound) g.ty).ty (map (λ (a : Field). (judged_inner (item_sight known home bound) a.ty).ty) fs) j
+arguments_equal known home bound (g ∷ fs) types (x ∷ us) (t ∷ ts) j u d =
     let sight = item_sight known home bound in
     let p = list_parts (judged_inner sight g.ty).ty (Some x) (map (λ (a : Field). (judged_inner sight a.ty).ty) fs) (map Some us) j in
     let q = and_true (not (is_unit x)) (list_all (λ t. not (is_unit t)) us) u in
-    let declared : declared_type known home bound g.ty ≡ Some x = ap (λ o. and_then o (λ t. if is_unit t then None else Some t)) (types g.ty ∙ p.0) ∙ ap (λ b. if b then None else Some x) (is_false (is_unit x) q.0) in
-    λ i. (ap (equal_type x) (sym (d.0 x declared)) ∙ equal_itself x) i && arguments_equal known home bound types fs us ts p.1 q.1 d.1 i
+    let declared : declared_type known home bound g.ty ≡ Some x = ap (λ o. and_then o (λ t. if is_unit t then None else Some t)) (types.0 bound ∙ p.0) ∙ ap (λ b. if b then None else Some x) (is_false (is_unit x) q.0) in
+    λ i. (ap (equal_type x) (sym (d.0 x declared)) ∙ equal_itself x) i && arguments_equal known home bound fs types.1 us ts p.1 q.1 d.1 i
   where
     is_false : (b : Bool) → not b ≡ true → b ≡ false
     is_false true e = absurd (true≢false (sym e))
     is_false false e = refl
 
-calls_known : (known : Known) → CanLower known → (is : List Instantiated) (cs : List CoreInstance) → TableHas known is cs → (numbers : List Given)
-    → CallsAreKnown (is_among is) known (record { items = known.items; numbers = numbers; callee = callee_in known.whole known.items cs })
-calls_known known can is cs table outer name f given numbers types named found here fits =
+calls_known : (known : Known) → CanLower known → (is : List Instantiated) (cs : List CoreInstance) → TableHas known is cs → (here : Instance → Bool) → AreThere here known is → (numbers : List Given)
+    → CallsAreKnown here known (record { items = known.items; numbers = numbers; callee = callee_in known.whole known.items cs })
+calls_known known can is cs table here among outer name f given numbers types named found own reached fits =
     let same = function_named name known.whole.items f named in
-    let there = subst (λ n. is_among is (record { name = n; numbers = numbers }) ≡ true) same here in
+    let again = ap (λ n. as_function (item_named n known.whole.items)) same ∙ named in
+    let there = subst (λ n. is_among is (record { name = n; numbers = numbers }) ≡ true) same (among (record { name = f.name.name; numbers = numbers }) f again own reached) in
+    let judged = can.types name f named in
     let c = found_there known name numbers 0 is cs table there in
     let one = same_some c.function f (sym c.named ∙ named) in
     let lowered = subst (λ g. InstanceIsLowered known g numbers (Some c.found.1.function)) one c.lowered in
     let function = same_some c.found.1.function lowered.function lowered.is in
     let bound = numbers_bound [] f.parameters numbers in
-    let equal = arguments_equal known f.name.name bound (can.types f.name.name bound) f.arguments lowered.function.arguments types lowered.arguments lowered.inner fits in
+    let equal = arguments_equal known f.name.name bound f.arguments judged.arguments lowered.function.arguments types lowered.arguments lowered.inner fits in
     record {
       callee = record { number = c.found.0; result = c.found.1.function.result };
       is = ap (λ o. and_then o (λ f. and_then (all_numbers known.items (inferred_from f.arguments types) [] f.parameters given) (λ numbers. and_then (instance_in name numbers 0 cs) (callee_of types)))) named
           ∙ ap (λ o. and_then o (λ numbers. and_then (instance_in name numbers 0 cs) (callee_of types))) found
           ∙ ap (λ o. and_then o (callee_of types)) c.is
           ∙ ap (λ b. where_true b (Some (record { number = c.found.0; result = c.found.1.function.result }))) (ap (λ (l : LoweredFunction). pairwise equal_type l.arguments types) function ∙ equal);
-      result = by_result f.result lowered.result ∙ ap (λ (l : LoweredFunction). Some l.result) (sym function);
+      result = judged.result bound ∙ lowered.result ∙ ap (λ (l : LoweredFunction). Some l.result) (sym function);
     }
-  where
-    by_result : (o : Option TypeExpr) {t : DslxType} → (result_judged (function_sight known f numbers) o).ty ≡ Some t → result_type known f.name.name (numbers_bound [] f.parameters numbers) o ≡ Some t
-    by_result None q = q
-    by_result (Some t) q = can.types f.name.name (numbers_bound [] f.parameters numbers) t ∙ q
 
 -- ---- all instances
 
@@ -162,17 +160,17 @@ next_there : (known : Known) → CanLower known → (is : List Instantiated) (cs
 next_there known can is cs table i r =
     let core = instance_known known.whole known.items cs r.function i.numbers in
     let bound = numbers_bound [] r.function.parameters i.numbers in
-    let at : StandsBeside (is_among is) (function_sight known r.function i.numbers) (outer_place core) = record {
+    let at : StandsBeside r.here (function_sight known r.function i.numbers) (outer_place core) = record {
       items = refl;
       numbers = refl;
       locals = refl;
       sound = r.sound;
-      calls = calls_known known can is cs table bound;
+      calls = calls_known known can is cs table r.here r.there bound;
       widths = can.widths;
       constants = λ name v q. (can.typed.constants name v q).declared;
     } in
     let typed = item_typed known can.complete can.typed r.function.name.name bound (own_bound known.items.type_named [] r.function.parameters i.numbers (none_own known) r.own) in
-    let l = instance_is_lowered (is_among is) known r.function i.numbers core r.own r.widths typed at r.clean in
+    let l = instance_is_lowered r.here known r.function i.numbers core r.own r.widths typed at r.clean in
     let c : CoreInstance = record { name = i.name; numbers = i.numbers; function = l.function } in (
       c,
       ap (λ o. and_then o (λ f. and_then (instance_lowered (instance_known known.whole known.items cs f i.numbers) f) (λ l. Some (record { name = i.name; numbers = i.numbers; function = l })))) r.is
@@ -180,10 +178,25 @@ next_there known can is cs table i r =
       record { name = refl; numbers = refl; function = r.function; is = r.is; lowered = record { function = l.function; is = refl; arguments = l.arguments; inner = l.inner; result = l.result } },
     )
 
-pub instances_are_lowered : (known : Known) → CanLower known → (before : List Instantiated) (cs : List CoreInstance) → TableHas known before cs → (is : List Instantiated) → EachReachesThoseBefore known before is
-    → (table : List CoreInstance) × (instances_from known.whole known.items cs is ≡ Some table)
-instances_are_lowered known can before cs table [] r = (cs, refl)
-instances_are_lowered known can before cs table (i ∷ is) r =
+-- those behind the ones of a table
+more_there : (known : Known) → CanLower known → (before : List Instantiated) (cs : List CoreInstance) → TableHas known before cs → (is : List Instantiated) → EachReachesThoseBefore known before is
+    → (table : List CoreInstance) × (instances_from known.whole known.items cs is ≡ Some table) × TableHas known (before ++ is) table
+more_there known can before cs table [] r = (cs, refl, subst (λ xs. TableHas known xs cs) (sym (append-nil before)) table)
+more_there known can before cs table (i ∷ is) r =
     let c = next_there known can before cs table i r.0 in
-    let more = instances_are_lowered known can (before ++ i ∷ []) (cs ++ c.0 ∷ []) (one_more known before cs i c.0 table c.2) is r.1 in
-    (more.0, ap (λ o. and_then o (λ c. instances_from known.whole known.items (cs ++ c ∷ []) is)) c.1 ∙ more.1)
+    let more = more_there known can (before ++ i ∷ []) (cs ++ c.0 ∷ []) (one_more known before cs i c.0 table c.2) is r.1 in (
+      more.0,
+      ap (λ o. and_then o (λ c. instances_from known.whole known.items (cs ++ c ∷ []) is)) c.1 ∙ more.1,
+      subst (λ xs. TableHas known xs more.0) (append_assoc before (i ∷ []) is) more.2,
+    )
+
+as_many : (known : Known) (is : List Instantiated) (cs : List CoreInstance) → TableHas known is cs → length cs ≡ length is
+as_many known [] [] h = refl
+as_many known [] (c ∷ cs) h = absurd h
+as_many known (i ∷ is) [] h = absurd h
+as_many known (i ∷ is) (c ∷ cs) h = ap suc (as_many known is cs h.1)
+
+pub instances_have_table : (known : Known) → CanLower known → (is : List Instantiated) → EachReachesThoseBefore known [] is → HaveTable known is
+instances_have_table known can is r =
+    let t = more_there known can [] [] tt is r in
+    record { table = t.0; lowered = t.1; many = as_many known is t.0 t.2; calls = λ here among numbers. calls_known known can is t.0 t.2 here among numbers }

@@ -21,6 +21,7 @@ use Rattle.dslx_lowering.specs.CorePlaces.{CorePlace}
 use Rattle.dslx_lowering.specs.Lowering.{LoweredExpr}
 use Rattle.dslx_lowering.specs.Patterns.{Lowers}
 use Rattle.dslx_lowering.specs.Trees.{LowersType}
+use Rattle.dslx_lowers.proofs.InTypes.{own_width}
 use Rattle.dslx_lowers.specs.Beside.{StandsBeside}
 use Rattle.dslx_lowers.specs.Lowers.{ExprLowers, WrittenLowers, reaching, type_of_lowered}
 
@@ -93,4 +94,4 @@ pub type_becomes : (here : Instance → Bool) (sight : Sight) (env : Env) (place
     → IsFine (reaching sight.known here) (j sight) → BecomesType (types_at sight) (j sight) (l place)
 type_becomes here sight env place j l s h at fine =
     let t = s.stands.known sight env h (fine_there here sight place (j sight) at fine) in
-    record { ty = t.0; is = s.lowers here sight env place h at fine ∙ t.1; typed = t.1; declared = (s.stands.means sight env h t.0 t.1).1; wide = λ kind q. s.wide sight at.widths t.0 kind t.1 q }
+    record { ty = t.0; is = s.lowers here sight env place h at fine ∙ t.1; typed = t.1; declared = (s.stands.means sight env h t.0 t.1).1; wide = λ kind q. own_width t.0 (s.wide sight at.widths t.0 t.1) kind q }

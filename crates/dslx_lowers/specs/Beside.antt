@@ -1,17 +1,18 @@
 -- The place where something is lowered, beside what is in sight where it is judged.
 use Rattle.std.specs.Prelude.{◌≡◌, ℕ, nat_lt, List, [], ◌∷◌, map, Bool, true, Some}
+use Rattle.std.specs.List.{list_all}
 use Rattle.dslx_tree.specs.declared.item.Field.{Field}
 use Rattle.dslx_tree.specs.declared.item.Function.{Function}
 use Rattle.dslx_meaning.specs.Environment.{Given}
 use Rattle.dslx_meaning.specs.Items.{all_numbers, as_function, inferred_from, item_named, numbers_bound}
-use Rattle.dslx_meaning.specs.Types.{bits_in}
 use Rattle.dslx_meaning.specs.Values.{type_of_value}
-use Rattle.dslx_meaning.specs.declared.ty.BitKind.{BitKind}
-use Rattle.dslx_meaning.specs.declared.ty.DslxType.{DslxType}
+use Rattle.dslx_meaning.specs.declared.ty.DslxType.{DslxType, fold-DslxType}
+use Rattle.dslx_meaning.specs.declared.ty.DslxType.TheOpen.{DslxType-F}
 use Rattle.dslx_meaning.specs.declared.value.DslxValue.{DslxValue}
 use Rattle.dslx_rules.specs.CallRules.{declared_type, result_type}
 use Rattle.dslx_rules.specs.Judging.{Instance, Known, Sight, Typed}
 use Rattle.dslx_typed.specs.Declared.{IsDeclared}
+use Rattle.dslx_typed.specs.Numbers.{AllOwn}
 use Rattle.dslx_lowering.specs.CorePlaces.{BoundSlot, CoreCallee, CoreKnown, CorePlace}
 
 -- ---- calls
@@ -29,18 +30,31 @@ pub record HasCallee (known : Known) (core : CoreKnown) (name : List ℕ) (f : F
   pub is : core.callee name given types ≡ Some callee
   pub result : result_type known f.name.name (numbers_bound [] f.parameters numbers) f.result ≡ Some callee.result
 
--- calls of these instances, with operands of the types of the arguments, are known
+-- calls of these instances, whose number parameters have values of their own types, with operands of the types of the arguments, are
+-- known
 abbrev pub CallsAreKnown : (Instance → Bool) → Known → CoreKnown → Type 0
 CallsAreKnown here known core = (name : List ℕ) (f : Function) (given numbers : List DslxValue) (types : List DslxType)
     → as_function (item_named name known.whole.items) ≡ Some f → all_numbers known.items (inferred_from f.arguments types) [] f.parameters given ≡ Some numbers
-    → here (record { name = f.name.name; numbers = numbers }) ≡ true → AreDeclaredFor known f.name.name (numbers_bound [] f.parameters numbers) f.arguments types
+    → AllOwn known.items.type_named numbers → here (record { name = f.name.name; numbers = numbers }) ≡ true → AreDeclaredFor known f.name.name (numbers_bound [] f.parameters numbers) f.arguments types
     → HasCallee known core name f given numbers types
 
 -- ---- types
 
--- bits that a name stands for have a width, as all that a text writes have
+abbrev pub has_widths_step : DslxType-F Bool → Bool
+has_widths_step (DslxType-F.Bits s w) = nat_lt 0 w
+has_widths_step (DslxType-F.Tuple bs) = list_all (λ b. b) bs
+has_widths_step (DslxType-F.Array b n) = b
+has_widths_step (DslxType-F.Struct name fields bs) = list_all (λ b. b) bs
+has_widths_step (DslxType-F.Enum name s w) = nat_lt 0 w
+has_widths_step DslxType-F.Token = true
+
+-- all bits in it have a width
+abbrev pub has_widths : DslxType → Bool
+has_widths = fold-DslxType Bool has_widths_step
+
+-- so it is in what a name stands for, as in all that a text writes
 abbrev pub NamesHaveWidths : Known → Type 0
-NamesHaveWidths known = (name : List ℕ) (t : DslxType) (kind : BitKind) → known.items.type_named name ≡ Some t → bits_in t ≡ Some kind → nat_lt 0 kind.width ≡ true
+NamesHaveWidths known = (name : List ℕ) (t : DslxType) → known.items.type_named name ≡ Some t → has_widths t ≡ true
 
 -- a constant is of a type of the text
 abbrev pub ConstantsAreDeclared : Known → Type 0

@@ -2,14 +2,12 @@
 --
 -- Each claim is an equation of what is lowered and what is judged. That a part has a type where nothing is wrong with it is a law
 -- of its own, of `dslx_sound`.
-use Rattle.std.specs.Prelude.{◌≡◌, ℕ, nat_le, nat_lt, List, [], Bool, true, false, Option, Some, None, option_map}
+use Rattle.std.specs.Prelude.{◌≡◌, ℕ, nat_le, List, [], Bool, true, false, Option, Some, None, option_map}
 use Rattle.std.specs.List.{list_all}
 use Rattle.xb_span.specs.declared.fault.Fault.{Fault}
 use Rattle.dslx_meaning.specs.Environment.{Env}
 use Rattle.dslx_meaning.specs.Meaning.{Meant, Typing}
-use Rattle.dslx_meaning.specs.Types.{bits_in}
 use Rattle.dslx_meaning.specs.Values.{type_of_value}
-use Rattle.dslx_meaning.specs.declared.ty.BitKind.{BitKind}
 use Rattle.dslx_meaning.specs.declared.ty.DslxType.{DslxType}
 use Rattle.dslx_meaning.specs.declared.value.DslxValue.{DslxValue}
 use Rattle.dslx_rules.specs.ConstantRules.{is_empty}
@@ -24,7 +22,7 @@ use Rattle.dslx_lowering.specs.CorePlaces.{CorePlace}
 use Rattle.dslx_lowering.specs.Lowering.{LoweredExpr}
 use Rattle.dslx_lowering.specs.Patterns.{LoweredShape, Lowers, LowersPattern}
 use Rattle.dslx_lowering.specs.Trees.{LowersType}
-use Rattle.dslx_lowers.specs.Beside.{NamesHaveWidths, StandsBeside}
+use Rattle.dslx_lowers.specs.Beside.{NamesHaveWidths, StandsBeside, has_widths}
 
 -- ---- expressions
 
@@ -73,9 +71,9 @@ abbrev pub TypeLowers : SightJudging → LowersType → Type 0
 TypeLowers j l = (here : Instance → Bool) (sight : Sight) (env : Env) (place : CorePlace) → IsWellTyped sight env → StandsBeside here sight place → IsFine (reaching sight.known here) (j sight)
     → l place ≡ (j sight).ty
 
--- if it is bits, they have a width
-abbrev pub HasWidth : SightJudging → Type 0
-HasWidth j = (sight : Sight) → NamesHaveWidths sight.known → (t : DslxType) (kind : BitKind) → (j sight).ty ≡ Some t → bits_in t ≡ Some kind → nat_lt 0 kind.width ≡ true
+-- all bits in it have a width
+abbrev pub IsWide : SightJudging → Type 0
+IsWide j = (sight : Sight) → NamesHaveWidths sight.known → (t : DslxType) → (j sight).ty ≡ Some t → has_widths t ≡ true
 
 -- it becomes the type that it is judged to be
 pub record TypeIsLowered (j : Judgement) (o : Option DslxType) : Type 0 where
@@ -91,7 +89,7 @@ pub record WrittenLowers (j : SightJudging) (l : LowersType) : Type 0 where
   pub meaning : Typing
   pub stands : TypeStands j meaning
   pub lowers : TypeLowers j l
-  pub wide : HasWidth j
+  pub wide : IsWide j
 
 -- a number that is written with its type is a value of it
 abbrev pub NumberLowers : SightJudging → (CorePlace → Option DslxValue) → Type 0

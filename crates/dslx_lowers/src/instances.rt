@@ -1,8 +1,8 @@
-ghost use Rattle.std.specs.Prelude.{◌≡◌, Bool, List, [], Some, true};
+ghost use Rattle.std.specs.Prelude.{◌≡◌, Bool, List, [], true};
 ghost use Rattle.dslx_lowering.specs.CorePlaces.{CoreKnown};
-ghost use Rattle.dslx_lowering.specs.Functions.{CoreInstance, Instantiated, instance_lowered, instances_from, outer_place};
+ghost use Rattle.dslx_lowering.specs.Functions.{Instantiated, instance_lowered, outer_place};
 ghost use Rattle.dslx_lowers.specs.Beside.{StandsBeside};
-ghost use Rattle.dslx_lowers.specs.InstanceLists.{CanLower, EachReachesThoseBefore};
+ghost use Rattle.dslx_lowers.specs.InstanceLists.{CanLower, EachReachesThoseBefore, HaveTable};
 ghost use Rattle.dslx_lowers.specs.Instances.{InstanceIsLowered, function_writes_widths};
 ghost use Rattle.dslx_lowers.specs.Lowers.{IsClean};
 ghost use Rattle.dslx_meaning.specs.Items.{numbers_bound};
@@ -25,8 +25,7 @@ pub fn an_instance_is_lowered()
 {}
 
 /// Instances of functions with whose texts nothing is wrong, in an order in which each reaches those before it alone: all of
-/// them become functions, each of which calls those before it.
+/// them become functions, each of which calls those before it, and where this table is at hand calls of them are known.
 pub fn instances_in_order_are_lowered()
-    ensures { (known : Known) → CanLower known → (is : List Instantiated) → EachReachesThoseBefore known [] is
-        → (table : List CoreInstance) × (instances_from known.whole known.items [] is ≡ Some table) }
+    ensures { (known : Known) → CanLower known → (is : List Instantiated) → EachReachesThoseBefore known [] is → HaveTable known is }
 {}

@@ -1,4 +1,5 @@
 ghost use Rattle.std.specs.Prelude.{◌≡◌, Bool, List, true};
+ghost use Rattle.dslx_complete.specs.Acts.{acts_found};
 ghost use Rattle.dslx_lowering.specs.CorePlaces.{CoreKnown, CorePlace};
 ghost use Rattle.dslx_lowering.specs.Functions.{outer_place};
 ghost use Rattle.dslx_lowering.specs.Steps.{next_lowered, statements_steps};
@@ -11,7 +12,7 @@ ghost use Rattle.dslx_meaning.specs.Environment.{Env};
 ghost use Rattle.dslx_meaning.specs.declared.value.DslxValue.{DslxValue};
 ghost use Rattle.dslx_rules.specs.Judging.{Instance, Known, Sight};
 ghost use Rattle.dslx_rules.specs.NodeRules.{block_pair};
-ghost use Rattle.dslx_rules.specs.ProcRules.{proc_seen, proc_sight};
+ghost use Rattle.dslx_rules.specs.ProcRules.{proc_sight};
 ghost use Rattle.dslx_tree.specs.declared.block.Block.{Block, out-Block};
 ghost use Rattle.dslx_tree.specs.declared.process.End.{End};
 ghost use Rattle.dslx_tree.specs.declared.process.Proc.{Proc};
@@ -27,11 +28,11 @@ pub fn the_block_of_next_is_lowered()
         → BecomesSteps (types_at sight) ((block_pair b).1 true sight) (statements_steps outer ends (out-Block b).statements (out-Block b).value place) }
 {}
 
-/// The `next` of an instance of a proc with whose text nothing is wrong: where its number parameters have values of their own
-/// types, each of its members is an end whose words a channel holds, and all instances that it calls are known with the types
-/// of their results, it becomes steps and a next state of the type that is declared for its state.
+/// The `next` of an instance of a proc with whose text outside its `config` nothing is wrong: where its number parameters have
+/// values of their own types, each of its members is an end whose words a channel holds, and all instances that it calls are
+/// known with the types of their results, it becomes steps and a next state of the type that is declared for its state.
 pub fn next_is_lowered()
     ensures { (here : Instance → Bool) (known : Known) (p : Proc) (numbers : List DslxValue) (env : Env) (core : CoreKnown) → AllOwn known.items.type_named numbers → next_writes_widths p ≡ true
         → IsWellTyped (proc_sight known p numbers) env → StandsBeside here (proc_sight known p numbers) (outer_place core) → MembersStand (members_sight known p numbers) (outer_place core) p.members
-        → IsClean here (proc_seen known p numbers).faults (proc_seen known p numbers).reached → NextIsLowered known p numbers (next_lowered core p) }
+        → IsClean here (acts_found known p numbers).faults (acts_found known p numbers).reached → NextIsLowered known p numbers (next_lowered core p) }
 {}

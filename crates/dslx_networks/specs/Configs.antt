@@ -15,19 +15,18 @@ use Rattle.dslx_meaning.specs.Network.{Held, as_proc}
 use Rattle.dslx_meaning.specs.Types.{plain_type}
 use Rattle.dslx_meaning.specs.declared.value.DslxValue.{DslxValue}
 use Rattle.dslx_core.specs.declared.design.Child.{Child}
-use Rattle.dslx_core.specs.declared.design.Instance.{Instance}
 use Rattle.dslx_core.specs.declared.design.MadeChannel.{MadeChannel}
 use Rattle.dslx_lowering.specs.CorePlaces.{CoreKnown, CorePlace, constant_at, size_at}
 use Rattle.dslx_rules.specs.EqualValues.{equal_value}
 use Rattle.dslx_lowering.specs.Functions.{outer_place}
 use Rattle.dslx_lowering.specs.Trees.{type_of_text_lowered}
 use Rattle.dslx_networks.specs.Ends.{end_numbers, numbered_ends}
+use Rattle.dslx_networks.specs.declared.instance.ProcInstance as instance_data
+use Rattle.dslx_networks.specs.declared.config.LoweredConfig as config_data
 
 -- an instance of a proc by its name and its number arguments
-pub record ProcInstance : Type 0 where
-  pub name : List ℕ
-  pub numbers : List DslxValue
-  pub instance : Instance
+abbrev pub ProcInstance : Type 0
+ProcInstance = instance_data.ProcInstance
 
 -- where a `config` stands: its number parameters are bound, and functions are called in constants alone
 abbrev pub config_known : Meanings → Proc → List DslxValue → CoreKnown
@@ -80,10 +79,8 @@ children_lowered m place held procs (making.Spawn s ∷ ms) = with_both (child_l
 
 -- ---- the whole
 
-pub record LoweredConfig : Type 0 where
-  pub made : List MadeChannel
-  pub children : List Child
-  pub members : List ℕ
+abbrev pub LoweredConfig : Type 0
+LoweredConfig = config_data.LoweredConfig
 
 -- a `config`, where these instances are there to be spawned
 abbrev pub config_lowered : Module → Meanings → List ProcInstance → Proc → List DslxValue → Option LoweredConfig

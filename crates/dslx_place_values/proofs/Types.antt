@@ -8,7 +8,8 @@ use Rattle.dslx_names.specs.Bound.{given}
 use Rattle.dslx_lowering.specs.CorePlaces.{CorePlace, known_env, unless_local}
 use Rattle.dslx_lowering.specs.Trees.{type_of_text_lowered}
 use Rattle.dslx_written_types.specs.Seen.{type_sees_a_local}
-use Rattle.dslx_place_values.specs.Seen.{CalleesThere, place_seen, place_with}
+use Rattle.dslx_instance_machine.specs.Callees.{CalleesByName}
+use Rattle.dslx_place_values.specs.Seen.{place_seen, place_with}
 use Rattle.dslx_place_values.specs.declared.sight.PlaceSight.{PlaceSight}
 
 -- what the law of written types says
@@ -16,7 +17,7 @@ abbrev pub AreLowered : Type 0
 AreLowered = (t : TypeExpr) (place : CorePlace) → type_of_text_lowered t place ≡ unless_local (type_sees_a_local place t) (written_type t (known_env place.known))
 
 pub means_the_same : (t : TypeExpr) (s : PlaceSight) (bound : List Given) (sees : Bool) → AreLowered → bound ≡ reverse (map given s.numbers.now) → sees ≡ type_sees_a_local (place_seen s) t → sees ≡ false
-    → (callee : CalleesThere) (count : ℕ) → written_type t (record { items = meanings_of s.text.now; bound = bound }) ≡ type_of_text_lowered t (place_with callee count s)
+    → (callee : CalleesByName) (count : ℕ) → written_type t (record { items = meanings_of s.text.now; bound = bound }) ≡ type_of_text_lowered t (place_with callee count s)
 means_the_same t s bound sees law is_bound is none callee count =
     ap (λ (names : List Given). written_type t (record { items = meanings_of s.text.now; bound = names })) is_bound
     ∙ sym (ap (λ (b : Bool). unless_local b (written_type t (known_env (place_seen s).known))) (sym is ∙ none))

@@ -6,5 +6,5 @@ mod local;
 mod sight;
 mod value;
 
-pub use sight::PlaceSight;
+pub use sight::{PlaceSight, bind_numbers};
 pub use value::{bound_there, constant_there, size_there, type_there};

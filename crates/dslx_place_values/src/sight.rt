@@ -16,10 +16,7 @@ pub struct PlaceSight<'a> {
 }
 
 /// The number parameters with copies of their values.
-pub(crate) fn bind_numbers<'a>(
-    alloc: Global,
-    numbers: &'a [Binding<'a>],
-) -> Result<Scope<'a>, AllocError>
+pub fn bind_numbers<'a>(alloc: Global, numbers: &'a [Binding<'a>]) -> Result<Scope<'a>, AllocError>
     ensures { IfOk result (λ bound. bound ≡ reverse (map given numbers.now)) }
 {
     let mut bound = Scope::new(alloc);

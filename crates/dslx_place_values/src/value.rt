@@ -1,7 +1,8 @@
 ghost use Rattle.std.specs.Prelude.{◌≡◌, ℕ, IfOk};
 ghost use Rattle.dslx_lowering.specs.CorePlaces.{bound_at, constant_at, size_at};
 ghost use Rattle.dslx_lowering.specs.Trees.{type_of_text_lowered};
-ghost use Rattle.dslx_place_values.specs.Seen.{CalleesThere, place_seen, place_with};
+ghost use Rattle.dslx_instance_machine.specs.Callees.{CalleesByName};
+ghost use Rattle.dslx_place_values.specs.Seen.{place_seen, place_with};
 
 use crate::local::{sees_local, type_sees_local};
 use crate::sight::{PlaceSight, bind_numbers};
@@ -58,7 +59,7 @@ pub fn type_there<'a>(
     sight: PlaceSight<'a>,
     ty: &'a TypeExpr,
 ) -> Result<Option<DslxType>, AllocError>
-    ensures { IfOk result (λ t. (callee : CalleesThere) (count : ℕ) → t ≡ type_of_text_lowered ty.now (place_with callee count sight.entry)) }
+    ensures { IfOk result (λ t. (callee : CalleesByName) (count : ℕ) → t ≡ type_of_text_lowered ty.now (place_with callee count sight.entry)) }
 {
     dslx_written_types::written_types_are_lowered();
     if type_sees_local(alloc, sight, ty)? {

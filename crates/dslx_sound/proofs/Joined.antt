@@ -11,11 +11,11 @@ use Rattle.dslx_tree.specs.declared.pattern.Pattern.{Pattern}
 use Rattle.dslx_tree.specs.declared.type_expr.TypeExpr.{TypeExpr}
 use Rattle.dslx_tree_lemmas.proofs.Lemmas.Levels.{Carriers, StmtLevel, NodeLevel, ShapeLevel, TypeNodeLevel, BlockLevel, LetLevel, ArmLevel, FieldValueLevel, ForLevel, NumberLevel, map_stmt, map_node, map_shape, map_type_node, map_block, map_bind, map_arm, map_field, map_loop, map_number}
 use Rattle.dslx_tree_lemmas.proofs.Lemmas.Folds.{fold_stmt}
-use Rattle.dslx_tree_lemmas.proofs.Lemmas.Related.{both, firsts, seconds, KeepRelated, related_expr, related_block, related_pattern, related_stmt, related_type_expr}
+use Rattle.dslx_tree_lemmas.proofs.Lemmas.Related.{both, firsts, seconds, KeepRelated, related_arg, related_expr, related_block, related_pattern, related_stmt, related_type_expr}
 use Rattle.dslx_meaning.specs.Callees.{AllOnes, CallKind, Calls, CountsLeading, CountsTrailing, Joins, Parity, Receives, ReceivesIf, Reverses, Sends, SendsIf, SomeOne, Updates, kind_of_call}
 use Rattle.dslx_meaning.specs.Lists.{with_both}
 use Rattle.dslx_meaning.specs.Environment.{Env}
-use Rattle.dslx_meaning.specs.Meaning.{Meant, PatternMeant, Typing, call_meant, meant, meant_pattern, value_of, value_of_block, values_of, written_type}
+use Rattle.dslx_meaning.specs.Meaning.{Meant, PatternMeant, Typing, call_meant, meant, meant_arg, meant_pattern, value_of, value_of_block, values_of, written_type}
 use Rattle.dslx_meaning.specs.declared.value.Bare.{Bare}
 use Rattle.dslx_rules.specs.CallRules.{call_judged, receiving, receiving_if, sending, sending_if}
 use Rattle.dslx_rules.specs.ControlRules.{same_ends, span_of_block, written_judged}
@@ -26,7 +26,7 @@ use Rattle.dslx_meaning.specs.Types.{bool_type}
 use Rattle.dslx_meaning.specs.Values.{bool_value}
 use Rattle.dslx_rules.specs.Judgings.{PatternJudging, SightJudging, StatementJudging, judged_sorts}
 use Rattle.dslx_rules.specs.NameRules.{name_judged}
-use Rattle.dslx_rules.specs.NodeRules.{block_pair, expr_pair, judged_steps, second_of, type_pair}
+use Rattle.dslx_rules.specs.NodeRules.{arg_pair, block_pair, expr_pair, judged_steps, second_of, type_pair}
 use Rattle.dslx_rules.specs.Paired.{paired_pattern, paired_stmt}
 use Rattle.dslx_typed.specs.Complete.{IsFine}
 use Rattle.dslx_typed.specs.WellTyped.{IsWellTyped, types_at}
@@ -361,6 +361,10 @@ pub expression_gives : (e : Expr) → ExprGives (expr_pair e) (meant e)
 expression_gives e =
     let claim = related_expr judged meanings (claimed sound) judging meaning all_keep e in
     record { is = claim.0; gives = claim.1.gives; untyped = claim.1.untyped }
+
+-- so is what stands between `<` and `>`
+pub argument_gives : (a : Arg) → ExprGives (arg_pair a).1 (meant_arg a)
+argument_gives a = (related_arg judged meanings (claimed sound) judging meaning all_keep a).1
 
 -- a written type means what is known of it, and is known where nothing is wrong with it
 pub type_stands : (t : TypeExpr) → TypeStands (type_pair t).1 (written_type t)

@@ -2,9 +2,11 @@
 -- is for other crates' proofs; nothing else of this folder is.
 pub use Rattle.dslx_sound.proofs.Fine.{IsAlone, IsSettled, all_in, all_in_three, alone_fine, alone_has, none_in, none_in_three, not_broken, passed, settled_fine, some_fault}
 pub use Rattle.dslx_sound.proofs.OfFunctions.{CallFound, IsRight, call_found, right_fine}
+pub use Rattle.dslx_sound.proofs.OfNumbers.{AreGiven, EachGiven, NumbersKnown, numbers_given, numbers_known}
 pub use Rattle.dslx_sound.proofs.OfBuiltins.{token_declared, wrongly_called}
 pub use Rattle.dslx_sound.proofs.OfNames.{name_has}
 pub use Rattle.dslx_sound.proofs.OfConstants.{bound_has, constant_has, count_has}
 pub use Rattle.dslx_sound.proofs.OfControl.{bound_known}
-pub use Rattle.dslx_sound.proofs.Joined.{block_of_text_has, expression_gives, expression_has, pattern_gives, statement_gives, type_stands}
+pub use Rattle.dslx_sound.proofs.Joined.{argument_gives, block_of_text_has, expression_gives, expression_has, pattern_gives, statement_gives, type_stands}
 pub use Rattle.dslx_sound.proofs.Bodies.{function_has_value}
+pub use Rattle.dslx_sound.proofs.Trees.{HoldOn, TreeClaims, held, held_tree, holds_block, holds_expr, holds_pattern, holds_type_expr, own_expr, paired, pairing}

@@ -1,3 +1,5 @@
+-- induction on trees, and trees beside what they come to
+pub mod Trees
 -- judgements with which nothing is wrong
 pub mod Fine
 -- operators, casts, indices, parts of bits and fields

@@ -27,7 +27,7 @@ use Rattle.dslx_typed.specs.Complete.{EachArgumentDeclared, FitArguments, IsFine
 use Rattle.dslx_typed.specs.Declared.{Declarations, IsDeclared}
 use Rattle.dslx_typed.specs.Given.{GivesOf}
 use Rattle.dslx_typed.specs.Kinds.{is_of}
-use Rattle.dslx_typed.specs.Numbers.{AllOwn, GivenMean}
+use Rattle.dslx_typed.specs.Numbers.{AllOwn, FitNumbers, GivenMean}
 use Rattle.dslx_typed.specs.WellTyped.{IsWellTyped, types_at}
 use Rattle.dslx_typed.proofs.Lemmas.{all_are, declared_is, inferred_alike, list_parts, numbers_found, one_of_text, one_type, same_some}
 use Rattle.dslx_sound.specs.Sound.{EachExprGives, HasItsValue}
@@ -254,6 +254,7 @@ pub record CallFound (sight : Sight) (f : Function) (gs : List GivenNumber) (ts 
   pub numbers : List DslxValue
   pub all : n.values ≡ Some numbers
   pub shown : n.bound ≡ numbers_bound [] f.parameters numbers
+  pub fit : FitNumbers sight.known f.name.name [] f.parameters numbers
   pub arguments : EachArgumentDeclared sight.known f.name.name (numbers_bound [] f.parameters numbers) f.arguments
   pub found : all_numbers sight.known.items (inferred_from f.arguments ts) [] f.parameters given ≡ Some numbers
 
@@ -291,6 +292,7 @@ call_found span sight env name f as' ns es cyclic kn h is ts fine = subst Found 
           numbers = m.numbers;
           all = m.all;
           shown = m.shown;
+          fit = m.fit;
           arguments = k.arguments m.numbers m.fit;
           found = ap (λ i. all_numbers sight.known.items i [] f.parameters g.values) (sym (inferred_alike f.arguments ts))
               ∙ numbers_found sight.known sight.known.items f.name.name inferred [] [] f.parameters gs g.values m.numbers k.mean m.fit g.mean m.all;

@@ -25,7 +25,7 @@ use Rattle.net_core.specs.WellFormed.{AreBehaviorsOf, AreWordsOf, EachKeepsTypes
 use Rattle.net_core.proofs.Lemmas.{ends_by_position, opening_typed, rounds_settle, run_fits}
 use Rattle.ir_tree.specs.declared.package.Package.{Package}
 use Rattle.ir_tree.specs.Networks.{behaviors_of, network_of}
-use Rattle.ir_tree.specs.SameBehavior.{IsMeantBy, SameActivations, SameBehavior}
+use Rattle.ir_tree.specs.SameBehavior.{IsMeantBy, SameActivations, SameActivationsEach, SameBehavior}
 use Rattle.ir_typed.proofs.Lemmas.{network_fits, procs_fit, procs_keep_types}
 use Rattle.ir_verify.specs.Verified.{IsVerified}
 use Rattle.ir_outcomes.proofs.Positions.{trace_stands}
@@ -160,6 +160,12 @@ module _ (nexts : TheSameNext) (net : Net) (well : IsNet net) (xs ys : List Beha
       let same : j ≡ p = omega (arith, is) in
       subst (λ k. end_of one (final_cut one) k x ≡ end_of two (final_cut two) k y) (sym same) (end_same p x y e f (there_same p x y e f))) in
       λ i. record { streams = all i; procs = ends i }
+
+pub behaviors_outcome : TheSameNext → (net : Net) (behaviors others : List Behavior) (inputs : List (List Word)) (n : ℕ) (depths : List ℕ)
+    → SameActivationsEach behaviors others → IsNet net → AreBehaviorsOf net behaviors → EachKeepsTypes behaviors → IsInputs net inputs → n < 2 ^ 32
+    → outcome_of (run_of net behaviors inputs n depths) (final_cut (run_of net behaviors inputs n depths))
+    ≡ outcome_of (run_of net others inputs n depths) (final_cut (run_of net others inputs n depths))
+behaviors_outcome nexts net behaviors others inputs n depths same well fit keep given small = same_outcome nexts net well behaviors others same.count same.each fit keep inputs given n small depths
 
 pub network_outcome : TheSameNext → (net : Net) (behaviors : List Behavior) (ir : Package) (inputs : List (List Word)) (n : ℕ) (depths : List ℕ)
     → IsMeantBy net behaviors ir → IsNet net → AreBehaviorsOf net behaviors → EachKeepsTypes behaviors → IsInputs net inputs → n < 2 ^ 32

@@ -9,8 +9,6 @@ use Rattle.dslx_rules.specs.ModuleRules.{known_of}
 use Rattle.dslx_behaviors.specs.FineNexts.{EachNextIsFine}
 use Rattle.dslx_activities.specs.Members.{IsFineNext}
 use Rattle.dslx_fine_texts.specs.FineTexts.{EachProcIsFine, IsFineProc}
-use Rattle.dslx_fine_texts.proofs.Own.{items_are_own}
-use Rattle.dslx_fine_texts.proofs.Wholes.{known_whole}
 use Rattle.dslx_fine_texts.proofs.fine_texts_stand.Goals as goal
 
 nexts_fine : (m : Module) → (known_of m).items ≡ meanings_of m
@@ -31,7 +29,7 @@ returns c m top design fine made =
     let complete = c.all_items_are_known.ensures.complete m fine.free fine.plain fine.items in
     let typed = c.all_items_are_known.ensures.typed m fine.free fine.plain fine.items in
     let same = c.what_is_known_is_meant.ensures m fine.free fine.plain fine.items in
-    let own = items_are_own m (known_of m) (known_whole m) complete typed (meanings_of m) (c.recursion_ends.ensures.settled m fine.free) same in
+    let own = c.items_are_own.ensures m fine.free fine.plain fine.items in
     c.made_designs_stand_for_texts.ensures m top design fine.free own made (record {
       known = known_of m;
       nexts = λ p e. nexts_fine m same

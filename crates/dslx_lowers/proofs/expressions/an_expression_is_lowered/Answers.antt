@@ -1,4 +1,4 @@
-use Rattle.dslx_lowers.proofs.Joined.{block_is_lowered, expression_is_lowered, type_is_lowered}
+use Rattle.dslx_lowers.proofs.Joined.{block_is_lowered, expression_is_lowered, type_is_lowered, type_is_wide}
 use Rattle.dslx_lowers.proofs.expressions.an_expression_is_lowered.Goals as goal
 
 pub returns-clause-expression : goal.returns-clause-expression
@@ -9,3 +9,6 @@ returns-clause-block c = block_is_lowered
 
 pub returns-clause-ty : goal.returns-clause-ty
 returns-clause-ty c = type_is_lowered
+
+pub returns-clause-wide : goal.returns-clause-wide
+returns-clause-wide c = type_is_wide

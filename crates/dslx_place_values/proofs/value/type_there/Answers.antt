@@ -3,14 +3,15 @@ use Rattle.std.proofs.lemmas.Result.{IfOk-weaker}
 use Rattle.dslx_meaning.specs.Items.{meanings_of}
 use Rattle.dslx_meaning.specs.Meaning.{written_type}
 use Rattle.dslx_lowering.specs.Trees.{type_of_text_lowered}
-use Rattle.dslx_place_values.specs.Seen.{CalleesThere, place_with}
+use Rattle.dslx_instance_machine.specs.Callees.{CalleesByName}
+use Rattle.dslx_place_values.specs.Seen.{place_with}
 use Rattle.dslx_place_values.proofs.Types.{means_the_same}
 use Rattle.dslx_place_values.proofs.value.type_there.Goals as goal
 
 pub returns : goal.returns
 returns c =
     IfOk-weaker c.type_eval.result (λ t. t ≡ written_type c.args.ty.now (record { items = meanings_of c.args.sight.text.now; bound = c.in_ok-bind_numbers.field-0 }))
-    (λ t. (callee : CalleesThere) (count : ℕ) → t ≡ type_of_text_lowered c.args.ty.now (place_with callee count c.args.sight))
+    (λ t. (callee : CalleesByName) (count : ℕ) → t ≡ type_of_text_lowered c.args.ty.now (place_with callee count c.args.sight))
     (λ t is callee count. is
     ∙ means_the_same c.args.ty.now c.args.sight c.in_ok-bind_numbers.field-0 c.in_ok-type_sees_local.field-0 c.written_types_are_lowered.ensures c.in_ok-bind_numbers.ensures
     c.in_ok-type_sees_local.ensures c.if-branch.false callee count)

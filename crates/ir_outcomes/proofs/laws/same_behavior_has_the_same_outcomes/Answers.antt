@@ -1,4 +1,4 @@
-use Rattle.ir_outcomes.proofs.Outcomes.{network_outcome, package_outcome}
+use Rattle.ir_outcomes.proofs.Outcomes.{behaviors_outcome, network_outcome, package_outcome}
 use Rattle.ir_outcomes.proofs.laws.same_behavior_has_the_same_outcomes.Goals as goal
 
 pub returns-clause-network : goal.returns-clause-network
@@ -6,3 +6,6 @@ returns-clause-network c = network_outcome c.same_procs_come_to_the_same_events.
 
 pub returns-clause-packages : goal.returns-clause-packages
 returns-clause-packages c = package_outcome c.same_procs_come_to_the_same_events.ensures.event
+
+pub returns-clause-behaviors : goal.returns-clause-behaviors
+returns-clause-behaviors c = behaviors_outcome c.same_procs_come_to_the_same_events.ensures.event

@@ -1,0 +1,2 @@
+-- ends by what code has of them
+pub mod Shown

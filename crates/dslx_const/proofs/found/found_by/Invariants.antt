@@ -1,9 +1,0 @@
-use Rattle.std.proofs.Common.{◌≡◌}
-use Rattle.dslx_const_machine.specs.Steps.{begins}
-use Rattle.dslx_const_machine.proofs.Lemmas.{comes_to}
-use Rattle.dslx_const_tasks.specs.Plain.{plain_task, shown}
-use Rattle.dslx_const.proofs.found.found_by.Given as goal
-
--- what comes of the machine is what it began with
-abbrev pub invariant-steps : goal.invariant-steps
-invariant-steps l = comes_to (shown l.machine) ≡ comes_to (begins l.text l.fn.bound (plain_task l.fn.task))

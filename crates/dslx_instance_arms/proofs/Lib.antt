@@ -1,0 +1,2 @@
+-- two values, and what is made of both
+mod Both

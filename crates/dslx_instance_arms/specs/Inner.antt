@@ -1,0 +1,2 @@
+-- the bounds of loops
+pub mod Bounds

@@ -1,0 +1,2 @@
+-- what functions of one file show one another
+pub mod Inner

@@ -1,0 +1,203 @@
+//! The arms of a match.
+
+ghost use Rattle.std.specs.Prelude.{◌≡◌, ◌∷◌, ◌++◌, [], List, Some, IfOk, OnOk};
+ghost use Rattle.dslx_meaning.specs.Lists.{where_true};
+ghost use Rattle.dslx_tree.specs.declared.expr.Arm.{out-Arm};
+ghost use Rattle.dslx_lowering.specs.Functions.{CoreInstance};
+ghost use Rattle.dslx_instance_machine.specs.Arms.{alternatives_begin, arm_begins, arm_taken, arms_on, binding_begins};
+ghost use Rattle.dslx_instance_machine.specs.Bodies.{doing, with_last, with_made};
+ghost use Rattle.dslx_instance_machine.specs.Tasks.{LowersExpr, TakesArm};
+ghost use Rattle.dslx_instance_tasks.specs.Shown.{body_shown, match_shown, sight_of, task_shown};
+
+use dslx_core::Shape;
+use dslx_instance_places::sight_in;
+use dslx_instance_tasks::{ArmsTask, LowerTask, MatchWork, OpenBody};
+use dslx_lowered_calls::{arm_of, select_lowered};
+use dslx_lowering::{LoweredArm, LoweredExpr};
+use dslx_place_patterns::{BodyKnown, alternatives_there, bind_there, binds_nothing_new};
+use dslx_tree::{Arm, Module, Pattern};
+use std::alloc::{AllocError, Global};
+use xb_value::Seq;
+
+/// What was made last is matched by these arms.
+pub fn begin_arms<'a>(
+    body: &mut OpenBody<'a>,
+    alloc: Global,
+    text: &'a Module,
+    arms: &'a [Arm],
+) -> Result<bool, AllocError>
+    ensures { IfOk result (λ is. (table : List CoreInstance) → where_true is (Some (body_shown body.new)) ≡ with_last (body_shown body.old).made (λ e made. arms_on (sight_of text.now table) e [] arms.now (with_made made (body_shown body.old)))) }
+{
+    match body.made.take_off() {
+        Some(value) => next_arm(body, alloc, text, value, Vec::new(alloc), arms),
+        None => Ok(false),
+    }
+}
+
+/// Goes on with the arms that are left, behind these; whether there is the next, or the match.
+fn next_arm<'a>(
+    body: &mut OpenBody<'a>,
+    alloc: Global,
+    text: &'a Module,
+    value: LoweredExpr,
+    before: Vec<LoweredArm>,
+    arms: &'a [Arm],
+) -> Result<bool, AllocError>
+    ensures { IfOk result (λ is. (table : List CoreInstance) → where_true is (Some (body_shown body.new)) ≡ arms_on (sight_of text.now table) value before.items arms.now (body_shown body.old)) }
+{
+    match arms {
+        [] => {
+            let made = select_lowered(alloc, value, before)?;
+            body.give_if(made)
+        }
+        [first, rest @ ..] => begin_arm(
+            body,
+            alloc,
+            text,
+            MatchWork {
+                value,
+                before,
+                arm: first,
+                behind: rest,
+            },
+        ),
+    }
+}
+
+/// An arm whose patterns bind nothing may have several of them.
+fn begin_arm<'a>(
+    body: &mut OpenBody<'a>,
+    alloc: Global,
+    text: &'a Module,
+    work: MatchWork<'a>,
+) -> Result<bool, AllocError>
+    ensures { IfOk result (λ is. (table : List CoreInstance) → where_true is (Some (body_shown body.new)) ≡ arm_begins (sight_of text.now table) (match_shown work.entry) (body_shown body.old)) }
+{
+    let patterns = work.arm.patterns.as_slice();
+    if binds_nothing_new(text, patterns) {
+        begin_alternatives(body, alloc, text, work, patterns)
+    } else {
+        begin_binding(body, alloc, text, work, patterns)
+    }
+}
+
+fn begin_alternatives<'a>(
+    body: &mut OpenBody<'a>,
+    alloc: Global,
+    text: &'a Module,
+    work: MatchWork<'a>,
+    patterns: &'a [Pattern],
+) -> Result<bool, AllocError>
+    ensures { IfOk result (λ is. (table : List CoreInstance) → where_true is (Some (body_shown body.new)) ≡ alternatives_begin (sight_of text.now table) (match_shown work.entry) patterns.now (body_shown body.old)) }
+{
+    let sight = sight_in(text, body);
+    match alternatives_there(alloc, sight, body.count, patterns, &work.value.ty)? {
+        Some(shapes) => {
+            let arm = work.arm;
+            body.first_arms(alloc, ArmsTask::TakeArm(work, shapes))?;
+            body.first(LowerTask::Expr(&arm.value))?;
+            Ok(true)
+        }
+        None => Ok(false),
+    }
+}
+
+/// The one pattern of an arm may bind names.
+fn begin_binding<'a>(
+    body: &mut OpenBody<'a>,
+    alloc: Global,
+    text: &'a Module,
+    work: MatchWork<'a>,
+    patterns: &'a [Pattern],
+) -> Result<bool, AllocError>
+    ensures { IfOk result (λ is. (table : List CoreInstance) → where_true is (Some (body_shown body.new)) ≡ binding_begins (sight_of text.now table) (match_shown work.entry) patterns.now (body_shown body.old)) }
+{
+    match patterns {
+        [pattern] => begin_pattern(body, alloc, text, work, pattern),
+        _ => Ok(false),
+    }
+}
+
+/// The names are bound for the arm, and no longer.
+fn begin_pattern<'a>(
+    body: &mut OpenBody<'a>,
+    alloc: Global,
+    text: &'a Module,
+    work: MatchWork<'a>,
+    pattern: &'a Pattern,
+) -> Result<bool, AllocError>
+    ensures { IfOk result (λ is. (table : List CoreInstance) → where_true is (Some (body_shown body.new)) ≡ binding_begins (sight_of text.now table) (match_shown work.entry) (pattern.now ∷ []) (body_shown body.old)) }
+{
+    let back = body.restores_here();
+    let known = BodyKnown {
+        text,
+        numbers: body.given.as_slice(),
+    };
+    match bind_there(
+        alloc,
+        known,
+        &mut body.locals,
+        body.count,
+        pattern,
+        &work.value.ty,
+    )? {
+        Some(bound) => {
+            body.count = bound.count;
+            begin_bound(body, alloc, work, bound.shape, back)?;
+            Ok(true)
+        }
+        None => Ok(false),
+    }
+}
+
+/// The value of an arm of one shape is to be lowered, and then what it binds forgotten.
+fn begin_bound<'a>(
+    body: &mut OpenBody<'a>,
+    alloc: Global,
+    work: MatchWork<'a>,
+    shape: Shape,
+    back: LowerTask<'a>,
+) -> Result<(), AllocError>
+    ensures { OnOk result (body_shown body.new ≡ doing (LowersExpr (out-Arm work.entry.arm.now).value ∷ task_shown back.entry ∷ TakesArm (match_shown work.entry) (shape ∷ []) ∷ []) (body_shown body.old)) }
+{
+    let arm = work.arm;
+    let shapes = one_shape(alloc, shape)?;
+    body.first_arms(alloc, ArmsTask::TakeArm(work, shapes))?;
+    body.first(back)?;
+    body.first(LowerTask::Expr(&arm.value))
+}
+
+fn one_shape(alloc: Global, shape: Shape) -> Result<Seq<Shape>, AllocError>
+    ensures { IfOk result (λ shapes. shapes ≡ shape ∷ []) }
+{
+    let mut shapes = Vec::new(alloc);
+    shapes.push(shape)?;
+    Ok(Seq::from_vec(shapes))
+}
+
+/// What was made last is the value of an arm of these shapes; goes on with the next arm.
+pub fn take_arm<'a>(
+    body: &mut OpenBody<'a>,
+    alloc: Global,
+    text: &'a Module,
+    work: MatchWork<'a>,
+    shapes: Seq<Shape>,
+) -> Result<bool, AllocError>
+    ensures { IfOk result (λ is. (table : List CoreInstance) → where_true is (Some (body_shown body.new)) ≡ with_last (body_shown body.old).made (λ v made. arm_taken (sight_of text.now table) (match_shown work.entry) shapes v (with_made made (body_shown body.old)))) }
+{
+    match body.made.take_off() {
+        Some(value) => {
+            let before = put_behind(work.before, arm_of(shapes, value))?;
+            next_arm(body, alloc, text, work.value, before, work.behind)
+        }
+        None => Ok(false),
+    }
+}
+
+/// The arms, and one more behind them.
+fn put_behind(mut arms: Vec<LoweredArm>, arm: LoweredArm) -> Result<Vec<LoweredArm>, AllocError>
+    ensures { IfOk result (λ more. more.items ≡ arms.items ++ arm ∷ []) }
+{
+    arms.push(arm)?;
+    Ok(arms)
+}

@@ -1,0 +1,68 @@
+//! Values that are taken apart for the rest of a block.
+
+ghost use Rattle.std.specs.Prelude.{◌≡◌, List, Some, IfOk};
+ghost use Rattle.dslx_meaning.specs.Lists.{where_true};
+ghost use Rattle.dslx_lowering.specs.Functions.{CoreInstance};
+ghost use Rattle.dslx_instance_machine.specs.Bodies.{with_last, with_made};
+ghost use Rattle.dslx_instance_machine.specs.Steps.{value_bound};
+ghost use Rattle.dslx_instance_tasks.specs.Shown.{body_shown, sight_of};
+
+use dslx_instance_tasks::{BlockTask, LowerTask, OpenBody};
+use dslx_lowering::LoweredExpr;
+use dslx_place_patterns::{BodyKnown, bind_there};
+use dslx_tree::{Expr, Module, Pattern, Stmt};
+use std::alloc::{AllocError, Global};
+use xb_value::Boxed;
+
+/// What was made last is taken apart for the rest of a block; whether the pattern fits its type.
+pub fn bind_value<'a>(
+    body: &mut OpenBody<'a>,
+    alloc: Global,
+    text: &'a Module,
+    pattern: &'a Pattern,
+    rest: &'a [Stmt],
+    last: &'a Option<Boxed<Expr>>,
+) -> Result<bool, AllocError>
+    ensures { IfOk result (λ is. (table : List CoreInstance) → where_true is (Some (body_shown body.new)) ≡ with_last (body_shown body.old).made (λ e made. value_bound (sight_of text.now table) e pattern.now rest.now last.now (with_made made (body_shown body.old)))) }
+{
+    match body.made.take_off() {
+        Some(value) => bind_made(body, alloc, text, value, pattern, rest, last),
+        None => Ok(false),
+    }
+}
+
+/// The names are bound for the rest of the block, and no longer.
+fn bind_made<'a>(
+    body: &mut OpenBody<'a>,
+    alloc: Global,
+    text: &'a Module,
+    value: LoweredExpr,
+    pattern: &'a Pattern,
+    rest: &'a [Stmt],
+    last: &'a Option<Boxed<Expr>>,
+) -> Result<bool, AllocError>
+    ensures { IfOk result (λ is. (table : List CoreInstance) → where_true is (Some (body_shown body.new)) ≡ value_bound (sight_of text.now table) value pattern.now rest.now last.now (body_shown body.old)) }
+{
+    let back = body.restores_here();
+    let known = BodyKnown {
+        text,
+        numbers: body.given.as_slice(),
+    };
+    match bind_there(
+        alloc,
+        known,
+        &mut body.locals,
+        body.count,
+        pattern,
+        &value.ty,
+    )? {
+        Some(bound) => {
+            body.count = bound.count;
+            body.first(back)?;
+            body.first(LowerTask::Bind(Boxed::new(alloc, value)?, bound.shape))?;
+            body.first_block(alloc, BlockTask::Statements(rest, last))?;
+            Ok(true)
+        }
+        None => Ok(false),
+    }
+}

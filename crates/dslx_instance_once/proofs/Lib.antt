@@ -1,0 +1,4 @@
+-- one more instance in a table
+mod Tables
+-- each step of the machine
+mod Machines

@@ -1,0 +1,2 @@
+-- tables in which each instance stands once
+pub mod Once

@@ -1,0 +1,2 @@
+-- what is asked of the instances that are done
+pub mod Done

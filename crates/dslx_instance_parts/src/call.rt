@@ -1,0 +1,119 @@
+//! Calls, where the operands are lowered.
+
+ghost use Rattle.std.specs.Prelude.{◌≡◌, ◌∷◌, [], List, Some, IfOk};
+ghost use Rattle.dslx_meaning.specs.Callees.{kind_of_call};
+ghost use Rattle.dslx_meaning.specs.Items.{all_numbers, inferred_from, meanings_of};
+ghost use Rattle.dslx_meaning.specs.Lists.{and_then, where_true};
+ghost use Rattle.dslx_lowering.specs.Functions.{CoreInstance};
+ghost use Rattle.dslx_lowering.specs.Lowering.{types_of_lowered};
+ghost use Rattle.dslx_instance_machine.specs.Parts.{calls_by_kind};
+ghost use Rattle.dslx_instance_parts.specs.Inner.Calls.{function_called, the_instance};
+ghost use Rattle.dslx_instance_tasks.specs.Shown.{body_shown, sight_of};
+
+use dslx_instance_places::constants_in_body;
+use dslx_instance_tasks::{CallTask, OpenBody};
+use dslx_lowered_aggregates::types_of;
+use dslx_lowered_calls::builtin_lowered;
+use dslx_lowering::{Instantiated, LoweredExpr};
+use dslx_meaning::DslxValue;
+use dslx_names::{Callee, callee_of, find_function};
+use dslx_number_values::numbers_of;
+use dslx_tree::{Arg, Function, Module};
+use dslx_values::copy_name;
+use std::alloc::{AllocError, Global};
+use texts::Name;
+use xb_value::Seq;
+
+/// An instance of the text's function is to be called, or this is what a builtin becomes; whether there is such.
+#[tactic(auto, using(crate::proofs::Calls::calls_are))]
+pub(crate) fn begin_call<'a>(
+    body: &mut OpenBody<'a>,
+    alloc: Global,
+    text: &'a Module,
+    name: &'a Name,
+    numbers: &'a [Arg],
+    operands: Vec<LoweredExpr>,
+) -> Result<bool, AllocError>
+    ensures { IfOk result (λ is. (table : List CoreInstance) → where_true is (Some (body_shown body.new)) ≡ calls_by_kind (kind_of_call name.now) (sight_of text.now table) name.now numbers.now operands.items (body_shown body.old)) }
+{
+    match callee_of(name) {
+        Callee::Function => begin_function(body, alloc, text, name, numbers, operands),
+        callee => {
+            let made = builtin_lowered(alloc, callee, operands)?;
+            body.give_if(made)
+        }
+    }
+}
+
+/// The number arguments that are written are constants.
+fn begin_function<'a>(
+    body: &mut OpenBody<'a>,
+    alloc: Global,
+    text: &'a Module,
+    name: &'a Name,
+    numbers: &'a [Arg],
+    operands: Vec<LoweredExpr>,
+) -> Result<bool, AllocError>
+    ensures { IfOk result (λ is. (table : List CoreInstance) → where_true is (Some (body_shown body.new)) ≡ function_called (sight_of text.now table) name.now numbers.now operands.items (body_shown body.old)) }
+{
+    let given = constants_in_body(alloc, text, body, numbers)?;
+    match given {
+        Some(given) => match instance_called(alloc, text, name, given, operands.as_slice())? {
+            Some(instance) => {
+                body.first_call(alloc, CallTask::Call(instance, operands))?;
+                Ok(true)
+            }
+            None => Ok(false),
+        },
+        None => Ok(false),
+    }
+}
+
+/// The instance that a call with these number arguments and operands comes to.
+fn instance_called(
+    alloc: Global,
+    text: &Module,
+    name: &Name,
+    given: Vec<DslxValue>,
+    operands: &[LoweredExpr],
+) -> Result<Option<Instantiated>, AllocError>
+    ensures { IfOk result (λ i. i ≡ the_instance text.now name.now given.items operands.now) }
+{
+    match find_function(text.items.as_slice(), name) {
+        Some(function) => {
+            let numbers = numbers_called(alloc, text, function, given, operands)?;
+            instance_if(alloc, name, numbers)
+        }
+        None => Ok(None),
+    }
+}
+
+/// All number parameters of a function, by those that are given and what the types of the operands infer.
+fn numbers_called(
+    alloc: Global,
+    text: &Module,
+    function: &Function,
+    given: Vec<DslxValue>,
+    operands: &[LoweredExpr],
+) -> Result<Option<Seq<DslxValue>>, AllocError>
+    ensures { IfOk result (λ vs. vs ≡ all_numbers (meanings_of text.now) (inferred_from function.now.arguments (types_of_lowered operands.now)) [] function.now.parameters given.items) }
+{
+    let types = types_of(alloc, operands)?;
+    numbers_of(alloc, text, function, types.as_slice(), given)
+}
+
+fn instance_if(
+    alloc: Global,
+    name: &Name,
+    numbers: Option<Seq<DslxValue>>,
+) -> Result<Option<Instantiated>, AllocError>
+    ensures { IfOk result (λ i. i ≡ and_then numbers (λ numbers. Some (record { name = name.now; numbers = numbers }))) }
+{
+    match numbers {
+        Some(numbers) => Ok(Some(Instantiated {
+            name: copy_name(alloc, name)?,
+            numbers,
+        })),
+        None => Ok(None),
+    }
+}

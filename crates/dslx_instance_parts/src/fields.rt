@@ -1,0 +1,200 @@
+//! The fields of a struct value, in the order of its type.
+
+ghost use Rattle.std.specs.Prelude.{◌≡◌, ◌∷◌, ◌++◌, [], List, Some, IfOk};
+ghost use Rattle.dslx_meaning.specs.Lists.{and_then, where_true};
+ghost use Rattle.dslx_tree.specs.declared.expr.FieldValue.{out-FieldValue};
+ghost use Rattle.dslx_const_machine.specs.Layers.{field_among};
+ghost use Rattle.dslx_lowering.specs.Functions.{CoreInstance};
+ghost use Rattle.dslx_lowering.specs.Lowering.{field_lowered};
+ghost use Rattle.dslx_lowering.specs.Trees.{of_type};
+ghost use Rattle.dslx_instance_machine.specs.Bodies.{doing, with_last, with_made};
+ghost use Rattle.dslx_instance_machine.specs.Parts.{field_begins, field_value_begins, fields_on, others_taken};
+ghost use Rattle.dslx_instance_machine.specs.Tasks.{GathersFields};
+ghost use Rattle.dslx_instance_tasks.specs.Shown.{body_shown, others_shown, sight_of, struct_shown};
+
+use crate::order::put_behind;
+use dslx_instance_places::name_in_body;
+use dslx_instance_steps::bind_unnamed;
+use dslx_instance_tasks::{LowerTask, OpenBody, OtherFields, PartsTask, StructWork};
+use dslx_lowered_aggregates::{field_of_slot, struct_lowered};
+use dslx_lowering::LoweredExpr;
+use dslx_meaning::DslxType;
+use dslx_names::find_field;
+use dslx_tree::{FieldValue, Module};
+use dslx_types_alike::equal_type;
+use dslx_values::copy_type;
+use stacks::Stack;
+use std::alloc::{AllocError, Global};
+use texts::Name;
+
+/// Goes on with the fields that are left, behind these; whether there is the next, or the struct.
+pub(crate) fn next_field<'a>(
+    body: &mut OpenBody<'a>,
+    alloc: Global,
+    text: &'a Module,
+    work: StructWork<'a>,
+    before: Vec<LoweredExpr>,
+    mut names: Stack<Name>,
+    mut types: Stack<DslxType>,
+) -> Result<bool, AllocError>
+    ensures { IfOk result (λ is. (table : List CoreInstance) → where_true is (Some (body_shown body.new)) ≡ fields_on (sight_of text.now table) (struct_shown work.entry) before.items names types (body_shown body.old)) }
+{
+    match names.take_off() {
+        Some(name) => match types.take_off() {
+            Some(ty) => begin_field(body, alloc, text, work, before, name, ty, names, types),
+            None => Ok(false),
+        },
+        None => match types.take_off() {
+            Some(_) => Ok(false),
+            None => {
+                body.give(struct_lowered(alloc, before, work.ty)?)?;
+                Ok(true)
+            }
+        },
+    }
+}
+
+/// Lowers a field that is written; one that isn't is the bound value's.
+fn begin_field<'a>(
+    body: &mut OpenBody<'a>,
+    alloc: Global,
+    text: &'a Module,
+    work: StructWork<'a>,
+    before: Vec<LoweredExpr>,
+    name: Name,
+    ty: DslxType,
+    names: Stack<Name>,
+    types: Stack<DslxType>,
+) -> Result<bool, AllocError>
+    ensures { IfOk result (λ is. (table : List CoreInstance) → where_true is (Some (body_shown body.new)) ≡ field_begins (field_among name work.entry.written.now) name (others_shown work.entry.others) (sight_of text.now table) (doing (GathersFields (struct_shown work.entry) before.items ty names types ∷ []) (body_shown body.old))) }
+{
+    match find_field(work.written, &name) {
+        Some(value) => {
+            body.first_parts(
+                alloc,
+                PartsTask::GatherFields(work, before, ty, names, types),
+            )?;
+            begin_value(body, alloc, text, value)
+        }
+        None => {
+            let other = other_field(alloc, &work.others, &name)?;
+            body.first_parts(
+                alloc,
+                PartsTask::GatherFields(work, before, ty, names, types),
+            )?;
+            body.give_if(other)
+        }
+    }
+}
+
+/// The value of a field that is written; one that is given by its name alone is what that name stands for.
+fn begin_value<'a>(
+    body: &mut OpenBody<'a>,
+    alloc: Global,
+    text: &'a Module,
+    field: &'a FieldValue,
+) -> Result<bool, AllocError>
+    ensures { IfOk result (λ is. (table : List CoreInstance) → where_true is (Some (body_shown body.new)) ≡ field_value_begins (out-FieldValue field.now).name.name (out-FieldValue field.now).value (sight_of text.now table) (body_shown body.old)) }
+{
+    match &field.value {
+        Some(expr) => {
+            body.first(LowerTask::Expr(expr.get()))?;
+            Ok(true)
+        }
+        None => {
+            let value = name_in_body(alloc, text, body, &field.name.name)?;
+            body.give_if(value)
+        }
+    }
+}
+
+/// A field of the bound value.
+fn other_field(
+    alloc: Global,
+    others: &Option<OtherFields>,
+    name: &Name,
+) -> Result<Option<LoweredExpr>, AllocError>
+    ensures { IfOk result (λ e. e ≡ field_lowered (others_shown others.now) name.now) }
+{
+    match others {
+        Some(others) => field_of_slot(alloc, others.slot, &others.ty, name),
+        None => Ok(None),
+    }
+}
+
+/// Puts what was made last behind those before it, if it is of the field's type, and goes on with the next.
+pub fn take_field<'a>(
+    body: &mut OpenBody<'a>,
+    alloc: Global,
+    text: &'a Module,
+    work: StructWork<'a>,
+    before: Vec<LoweredExpr>,
+    ty: DslxType,
+    names: Stack<Name>,
+    types: Stack<DslxType>,
+) -> Result<bool, AllocError>
+    ensures { IfOk result (λ is. (table : List CoreInstance) → where_true is (Some (body_shown body.new)) ≡ with_last (body_shown body.old).made (λ e made. and_then (of_type ty (Some e)) (λ e. fields_on (sight_of text.now table) (struct_shown work.entry) (before.items ++ e ∷ []) names types (with_made made (body_shown body.old))))) }
+{
+    match body.made.take_off() {
+        Some(last) => {
+            if equal_type(&ty, &last.ty) {
+                next_field(
+                    body,
+                    alloc,
+                    text,
+                    work,
+                    put_behind(before, last)?,
+                    names,
+                    types,
+                )
+            } else {
+                Ok(false)
+            }
+        }
+        None => Ok(false),
+    }
+}
+
+/// What was made last is bound, for the fields that aren't written.
+pub fn take_others<'a>(
+    body: &mut OpenBody<'a>,
+    alloc: Global,
+    text: &'a Module,
+    ty: DslxType,
+    names: Stack<Name>,
+    types: Stack<DslxType>,
+    written: &'a [FieldValue],
+) -> Result<bool, AllocError>
+    ensures { IfOk result (λ is. (table : List CoreInstance) → where_true is (Some (body_shown body.new)) ≡ with_last (body_shown body.old).made (λ e made. others_taken (sight_of text.now table) e ty names types written.now (with_made made (body_shown body.old)))) }
+{
+    match body.made.take_off() {
+        Some(last) => bind_others(body, alloc, text, last, ty, names, types, written),
+        None => Ok(false),
+    }
+}
+
+/// This value is bound, for the fields that aren't written.
+fn bind_others<'a>(
+    body: &mut OpenBody<'a>,
+    alloc: Global,
+    text: &'a Module,
+    value: LoweredExpr,
+    ty: DslxType,
+    names: Stack<Name>,
+    types: Stack<DslxType>,
+    written: &'a [FieldValue],
+) -> Result<bool, AllocError>
+    ensures { IfOk result (λ is. (table : List CoreInstance) → where_true is (Some (body_shown body.new)) ≡ others_taken (sight_of text.now table) value ty names types written.now (body_shown body.old)) }
+{
+    let others = OtherFields {
+        slot: body.count,
+        ty: copy_type(alloc, &value.ty)?,
+    };
+    bind_unnamed(body, alloc, value)?;
+    let work = StructWork {
+        ty,
+        written,
+        others: Some(others),
+    };
+    next_field(body, alloc, text, work, Vec::new(alloc), names, types)
+}

@@ -1,0 +1,2 @@
+-- constants one after another
+mod Constants

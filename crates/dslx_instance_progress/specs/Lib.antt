@@ -1,0 +1,2 @@
+-- what no table has
+pub mod Missing

@@ -1,0 +1,4 @@
+-- what instances are known by
+pub mod Keys
+-- keys that pass the test of equality are one
+pub mod KeyLaws

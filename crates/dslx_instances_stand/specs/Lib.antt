@@ -1,0 +1,2 @@
+-- instances that a text reaches, and tables that have them
+pub mod Reached

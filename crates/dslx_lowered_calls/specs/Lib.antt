@@ -1,0 +1,4 @@
+-- what builtins become
+pub mod Builtins
+-- what functions of this crate promise to one another, and nobody else needs
+pub mod Inner

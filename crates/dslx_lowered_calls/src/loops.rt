@@ -1,0 +1,79 @@
+//! Loops.
+
+ghost use Rattle.std.specs.Prelude.{◌≡◌, IfOk};
+ghost use Rattle.dslx_core.specs.declared.expr.CoreExpr.{Loop as loop_core};
+ghost use Rattle.dslx_instance_machine.specs.Steps.{loop_made};
+ghost use Rattle.dslx_lowered_calls.specs.Inner.Turns.{turns_of as the_turns};
+
+use crate::turns::few_turns;
+use dslx_core::{CoreExpr, Shape};
+use dslx_lowering::LoweredExpr;
+use dslx_meaning::SignedWord;
+use dslx_types_alike::equal_type;
+use std::alloc::{AllocError, Global};
+use xb_bits::Bits;
+use xb_value::Boxed;
+
+/// A loop from one index to before another, if a turn gives what is accumulated its type again and there are fewer than 2^64 turns.
+#[tactic(auto, using(crate::proofs::LoopLemmas::loop_none, crate::proofs::LoopLemmas::loop_some))]
+pub fn loop_lowered(
+    alloc: Global,
+    start: LoweredExpr,
+    from: SignedWord,
+    to: SignedWord,
+    index: Shape,
+    accumulator: Shape,
+    body: LoweredExpr,
+) -> Result<Option<LoweredExpr>, AllocError>
+    ensures { IfOk result (λ e. e ≡ loop_made start from to index accumulator body) }
+{
+    match turns_of(&start, &from, &to, &body) {
+        Some(turns) => Ok(Some(LoweredExpr {
+            core: repeated(
+                alloc,
+                turns,
+                from.word,
+                index,
+                accumulator,
+                body.core,
+                start.core,
+            )?,
+            ty: start.ty,
+        })),
+        None => Ok(None),
+    }
+}
+
+/// How many turns there are, if a turn gives what is accumulated its type again and they are fewer than 2^64.
+#[tactic(auto, using(crate::proofs::LoopLemmas::turns_alike, crate::proofs::LoopLemmas::turns_unlike))]
+fn turns_of(
+    start: &LoweredExpr,
+    from: &SignedWord,
+    to: &SignedWord,
+    body: &LoweredExpr,
+) -> Option<u64>
+    ensures { result ≡ the_turns start.now from.now to.now body.now }
+{
+    if equal_type(&start.ty, &body.ty) {
+        few_turns(from, to)
+    } else {
+        None
+    }
+}
+
+/// So many turns with indices from a word on.
+fn repeated(
+    alloc: Global,
+    turns: u64,
+    from: Bits,
+    index: Shape,
+    accumulator: Shape,
+    body: CoreExpr,
+    start: CoreExpr,
+) -> Result<CoreExpr, AllocError>
+    ensures { IfOk result (λ e. e ≡ loop_core turns from index accumulator body start) }
+{
+    let body = Boxed::new(alloc, body)?;
+    let start = Boxed::new(alloc, start)?;
+    Ok(CoreExpr::Loop(turns, from, index, accumulator, body, start))
+}

@@ -1,0 +1,2 @@
+-- widths that words have, and what is made where they have so many bits
+mod Widths

@@ -1,0 +1,12 @@
+use dslx_core::Instance;
+use dslx_meaning::DslxValue;
+use texts::Name;
+use xb_value::Seq;
+
+/// An instance of a proc by its name and its number arguments.
+#[derive(Drop)]
+pub struct ProcInstance {
+    pub name: Name,
+    pub numbers: Seq<DslxValue>,
+    pub instance: Instance,
+}

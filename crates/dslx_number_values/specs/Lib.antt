@@ -1,0 +1,2 @@
+-- the arguments of an instance at their place
+pub mod Placed

@@ -1,0 +1,46 @@
+-- Tables to which an instance is added.
+use Rattle.std.proofs.Common.{◌≡◌, ℕ, Bool, true, false, List, [], ◌∷◌, Option, Some, None, refl, sym, subst, ap, ◌∙◌}
+use Rattle.dslx_tree.specs.declared.item.Module.{Module}
+use Rattle.dslx_meaning.specs.Items.{meanings_of}
+use Rattle.dslx_lowering.specs.Functions.{CoreInstance, Instantiated}
+use Rattle.dslx_instance_machine.specs.Machines.{machine_at, needing}
+use Rattle.dslx_instance_machine.specs.Reached.{IsTable}
+use Rattle.dslx_instance_machine.specs.Tasks.{InstanceMachine, OpenBody}
+use Rattle.dslx_instance_machine.proofs.Lemmas.{reached_by_steps, reached_instance, reached_longer, reached_table}
+use Rattle.dslx_instance_progress.proofs.Stops.{in_no_table}
+use Rattle.dslx_instance_run.specs.Runs.{MachineRuns, Ends, Lacks}
+use Rattle.dslx_instance_tasks.specs.Shown.{sight_of}
+use Rattle.dslx_param.specs.Made.{Adds, IsMade, IsNone, HasInstance}
+
+-- the machine ended: its table has the instance
+ended : (m : Module) (before : List CoreInstance) (limit : ℕ) (i : Instantiated) (end : InstanceMachine) → MachineRuns (machine_at (sight_of m before) limit (needing i)) end true
+    → IsTable m (meanings_of m) before → Adds m before limit i (Some end.sight.table)
+ended m before limit i end (Ends n steps done) is =
+    let reached = reached_by_steps (sight_of m before) (needing i) limit n end is steps in
+    let place = reached_instance (sight_of m before) i end reached done in
+    IsMade end.sight.table (record {
+      is_table = reached_table (sight_of m before) (needing i) end reached;
+      begins = reached_longer (sight_of m before) (needing i) end reached;
+      place = place.0;
+      has = place.1;
+    })
+
+-- it lacks a step: no table has it
+lacks : (m : Module) (before : List CoreInstance) (limit : ℕ) (i : Instantiated) (end : InstanceMachine) → MachineRuns (machine_at (sight_of m before) limit (needing i)) end false
+    → IsTable m (meanings_of m) before → Adds m before limit i None
+lacks m before limit i end (Lacks n machine steps last) is = IsNone (in_no_table (sight_of m before) is limit n i machine steps last)
+
+-- the same of a machine whose root needs the instance
+pub adds_made : (m : Module) (before : List CoreInstance) (limit : ℕ) (i : Instantiated) (root : OpenBody) (end : InstanceMachine) → root ≡ needing i
+    → MachineRuns (machine_at (sight_of m before) limit root) end true → IsTable m (meanings_of m) before → Adds m before limit i (Some end.sight.table)
+adds_made m before limit i root end is runs table =
+    ended m before limit i end (subst (λ (r : OpenBody). MachineRuns (machine_at (sight_of m before) limit r) end true) is runs) table
+
+pub adds_none : (m : Module) (before : List CoreInstance) (limit : ℕ) (i : Instantiated) (root : OpenBody) (end : InstanceMachine) → root ≡ needing i
+    → MachineRuns (machine_at (sight_of m before) limit root) end false → IsTable m (meanings_of m) before → Adds m before limit i None
+adds_none m before limit i root end is runs table =
+    lacks m before limit i end (subst (λ (r : OpenBody). MachineRuns (machine_at (sight_of m before) limit r) end false) is runs) table
+
+-- no instances are a table
+pub empty_is_table : (m : Module) → IsTable m (meanings_of m) []
+empty_is_table m = ([], refl)

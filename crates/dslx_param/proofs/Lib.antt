@@ -1,0 +1,4 @@
+-- tables to which an instance is added
+mod Adding
+-- expressions of a body
+mod Lowered

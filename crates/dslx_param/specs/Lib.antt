@@ -1,0 +1,4 @@
+-- tables to which an instance was added
+pub mod Made
+-- expressions of a body
+pub mod Works

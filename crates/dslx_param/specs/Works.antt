@@ -1,0 +1,37 @@
+-- Expressions of one body that are lowered one after another.
+use Rattle.std.specs.Prelude.{◌≡◌, ◌≤◌, ◌∷◌, [], ℕ, List, Option, None, Some, length, map, reverse}
+use Rattle.dslx_tree.specs.declared.expr.Expr.{Expr}
+use Rattle.dslx_tree.specs.declared.item.Module.{Module}
+use Rattle.dslx_meaning.specs.Items.{meanings_of}
+use Rattle.dslx_names.specs.Bound.{given}
+use Rattle.dslx_lowering.specs.CorePlaces.{CorePlace}
+use Rattle.dslx_lowering.specs.Functions.{CoreInstance, callee_in}
+use Rattle.dslx_lowering.specs.Lowering.{LoweredExpr}
+use Rattle.dslx_lowering.specs.Trees.{expression_lowered}
+use Rattle.dslx_instance_machine.specs.Reached.{GrownFrom, IsTable}
+use Rattle.dslx_instance_machine.specs.Machines.{last_made}
+use Rattle.dslx_instance_tasks.specs.declared.body.OpenBody.{OpenBody}
+use Rattle.dslx_param.specs.declared.work.BodyWork.{BodyWork}
+
+-- where calls come to the instances of a table
+abbrev pub work_place : Module → List CoreInstance → BodyWork → CorePlace
+work_place m table w = record {
+  known = record { items = meanings_of m; numbers = reverse (map given w.given.items); callee = callee_in m (meanings_of m) table };
+  locals = w.locals;
+  count = w.count;
+}
+
+-- what an expression becomes, with the instances that are made then: it becomes nothing by any table of at most so many instances,
+-- or this by each that begins with theirs, and what is bound stays as it is
+pub data LowersIn (m : Module) (limit : ℕ) (w : BodyWork) (e : Expr) : Option (LoweredExpr × BodyWork) → Type 0 where
+  IsNone : ((table : List CoreInstance) → IsTable m (meanings_of m) table → length table ≤ limit → expression_lowered e (work_place m table w) ≡ None) → LowersIn m limit w e None
+  IsLowered : (r : LoweredExpr) (after : BodyWork) → IsTable m (meanings_of m) after.table → GrownFrom after.table w.table
+      → map given after.given.items ≡ map given w.given.items → after.locals ≡ w.locals → after.count ≡ w.count
+      → ((table : List CoreInstance) → GrownFrom table after.table → expression_lowered e (work_place m table w) ≡ Some r) → LowersIn m limit w e (Some (r, after))
+
+-- ---- within the crate
+
+-- what was made last in a body, and what else is left of it
+abbrev pub taken_from : List CoreInstance → OpenBody → List LoweredExpr → Option (LoweredExpr × BodyWork)
+taken_from table root [] = None
+taken_from table root (e ∷ made) = Some (e, record { table = table; given = root.given; locals = root.locals; count = root.count })

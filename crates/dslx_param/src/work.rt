@@ -1,0 +1,85 @@
+//! Expressions of a body that isn't a function's, as those of `next`.
+
+ghost use Rattle.std.specs.Prelude.{◌≡◌, IfOk};
+ghost use Rattle.dslx_meaning.specs.Items.{meanings_of};
+ghost use Rattle.dslx_instance_machine.specs.Reached.{IsTable};
+ghost use Rattle.dslx_param.specs.Works.{LowersIn, taken_from};
+
+use dslx_instance_run::run;
+use dslx_instance_table::InstanceTable;
+use dslx_instance_tasks::{InstanceMachine, LowerTask, OpenBody};
+use dslx_locals::Locals;
+use dslx_lowering::LoweredExpr;
+use dslx_names::Binding;
+use dslx_tree::{Expr, Module};
+use stacks::Stack;
+use std::alloc::{AllocError, Global};
+
+/// Expressions of one body that are lowered one after another: the instances that are made, and what is bound.
+#[derive(Drop)]
+pub struct BodyWork<'a> {
+    pub table: InstanceTable,
+    /// The number parameters, in order.
+    pub given: Vec<Binding<'a>>,
+    pub locals: Locals,
+    pub count: u64,
+}
+
+/// What an expression becomes, with the instances that it needs; `None` where it becomes nothing by any table of at most so many
+/// instances.
+#[tactic(auto, using(crate::proofs::Lowered::lowers_made, crate::proofs::Lowered::lowers_none))]
+pub fn lower_in<'a>(
+    alloc: Global,
+    text: &'a Module,
+    limit: usize,
+    work: BodyWork<'a>,
+    expr: &'a Expr,
+) -> Result<Option<(LoweredExpr, BodyWork<'a>)>, AllocError>
+    ensures { IsTable text.now (meanings_of text.now) work.entry.table → IfOk result (λ o. LowersIn text.now limit work.entry expr.now o) }
+{
+    let mut todo = Stack::new(alloc);
+    todo.push(LowerTask::Expr(expr))?;
+    let mut machine = InstanceMachine {
+        text,
+        table: work.table,
+        limit,
+        root: OpenBody {
+            given: work.given,
+            todo,
+            made: Stack::new(alloc),
+            locals: work.locals,
+            count: work.count,
+        },
+        opened: Stack::new(alloc),
+    };
+    if run(&mut machine, alloc)? {
+        Ok(taken(machine.table, machine.root))
+    } else {
+        Ok(None)
+    }
+}
+
+/// What was made, and what is left as it was.
+fn taken<'a>(table: InstanceTable, root: OpenBody<'a>) -> Option<(LoweredExpr, BodyWork<'a>)>
+    ensures { result ≡ taken_from table root.entry root.entry.made }
+{
+    let OpenBody {
+        given,
+        mut made,
+        locals,
+        count,
+        ..
+    } = root;
+    match made.take_off() {
+        Some(expr) => Some((
+            expr,
+            BodyWork {
+                table,
+                given,
+                locals,
+                count,
+            },
+        )),
+        None => None,
+    }
+}

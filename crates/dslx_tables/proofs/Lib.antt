@@ -1,0 +1,12 @@
+-- types that are written by their width
+mod Widths
+-- values of their own types
+mod Own
+-- lists of instances
+mod Lists
+-- what is known of accepted texts
+mod Knowing
+-- instances by how long chains of items are
+mod Ordered
+-- lemmas for other crates
+pub mod Lemmas

@@ -1,0 +1,4 @@
+-- types whose words a channel holds
+mod Narrow
+-- ends of channels
+mod Ends
