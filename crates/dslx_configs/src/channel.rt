@@ -5,8 +5,8 @@ ghost use Rattle.dslx_meaning.specs.Lists.{where_true};
 ghost use Rattle.dslx_networks.specs.Configs.{channel_lowered, depth_lowered, made_lowered};
 ghost use Rattle.dslx_place_values.specs.Seen.{place_seen};
 
-use crate::plain::plain_type;
 use crate::word::word_there;
+use dslx_channel_types::plain_type;
 use dslx_core::MadeChannel;
 use dslx_place_values::{PlaceSight, size_there};
 use dslx_tree::{Arg, Channel, Making};

@@ -74,7 +74,7 @@ fn child_of(
     ensures { IfOk result (λ child. child ≡ with_both (instance_of_proc spawn.now.target.name numbers.now 0 procs.now) (numbers_of_ends (map held ends.now) spawn.now.ends)
         (λ k given. where_true (length given == length target.now.config.ends) (Some (record { instance = k; ends = given })))) }
 {
-    let instance = proc_instance_in(procs, &spawn.target.name, numbers);
+    let instance = instance_number(procs, &spawn.target.name, numbers);
     let ends = end_numbers(alloc, ends, spawn.ends.as_slice())?;
     match (instance, ends) {
         (Some(instance), Some(ends)) => if ends.len() == target.config.ends.len() {
@@ -87,7 +87,7 @@ fn child_of(
 }
 
 /// The number of the first instance of a name and number arguments. It looks at the instances up to that one.
-fn proc_instance_in(procs: &[ProcInstance], name: &Name, numbers: &[DslxValue]) -> Option<u64>
+pub fn instance_number(procs: &[ProcInstance], name: &Name, numbers: &[DslxValue]) -> Option<u64>
     ensures { result ≡ instance_of_proc name.now numbers.now 0 procs.now }
 {
     'procs: for i in 0..procs.len() {

@@ -10,12 +10,11 @@ mod named;
 mod number;
 mod opening;
 mod outer;
-mod plain;
 mod word;
 
+pub use child::instance_number;
 pub use config::config_there;
 pub use named::{find_proc, top_proc};
 pub use number::top_numbers;
 pub use opening::opening_there;
 pub use outer::outers_there;
-pub use plain::plain_type;

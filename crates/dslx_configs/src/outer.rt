@@ -8,8 +8,8 @@ ghost use Rattle.dslx_networks.specs.Making.{outer_lowered, outers_lowered};
 ghost use Rattle.dslx_place_values.specs.Seen.{place_seen};
 
 use crate::number::top_numbers;
-use crate::plain::plain_type;
 use crate::word::word_there;
+use dslx_channel_types::plain_type;
 use dslx_core::Outer;
 use dslx_locals::Locals;
 use dslx_number_values::bindings_of;

@@ -23,11 +23,9 @@ use Rattle.dslx_judged.specs.Closed.{ends_within}
 use Rattle.dslx_sound.proofs.Lemmas.{all_in, none_in}
 use Rattle.dslx_depends.proofs.Lemmas.{meant_parts}
 use Rattle.dslx_typed.specs.Complete.{IsComplete}
-use Rattle.dslx_typed.specs.Numbers.{AllOwn}
 use Rattle.dslx_typed.specs.WellTyped.{IsWellTyped}
-use Rattle.dslx_typed.proofs.Lemmas.{own_bound}
 use Rattle.dslx_complete.specs.Standing.{AreTyped}
-use Rattle.dslx_complete.proofs.Lemmas.{item_env, item_typed, none_own}
+use Rattle.dslx_complete.proofs.Lemmas.{item_env}
 use Rattle.dslx_lowers.specs.Beside.{NamesHaveWidths}
 use Rattle.dslx_lowers.specs.Nexts.{next_writes_widths}
 use Rattle.dslx_lowers.specs.Widths.{type_writes_widths}
@@ -38,9 +36,10 @@ use Rattle.dslx_tables.proofs.Lemmas.{one_writes_widths}
 use Rattle.dslx_accepted.proofs.Lemmas.{IsAccepted, one_of_these}
 use Rattle.dslx_fine_families.specs.EachPlaced.{EachPlaced}
 use Rattle.dslx_fine_families.specs.Plain.{ProcsBindNoConstant}
-use Rattle.dslx_fine_families.proofs.Acts.{IsChecked, parts_fine}
+use Rattle.dslx_fine_families.proofs.Acts.{parts_fine}
 use Rattle.dslx_fine_families.proofs.Reached.{K, Listed, Within, all, most, proc_there}
 use Rattle.dslx_fine_families.proofs.Spawns.{proc_named, spawn_there}
+use Rattle.dslx_fine_families.proofs.There.{IsThere, well}
 
 -- each word of a channel is a value, where nothing is wrong with ends
 abbrev pub WordsThere : Type 0
@@ -60,29 +59,21 @@ module _ (m : Module) (top : Option (List ℕ)) (s : IsAccepted m top) (procs : 
   abbrev known : Known
   known = K m top s
 
-  -- an instance of a proc of the text that is checked, and whose number parameters have values of their own types
-  pub record IsThere (p : Proc) (numbers : List DslxValue) : Type 0 where
-    pub checked : IsChecked m top s p numbers
-    pub own : AllOwn known.items.type_named numbers
-
-  pub well : (p : Proc) (numbers : List DslxValue) → IsThere p numbers → IsWellTyped (proc_sight known p numbers) (item_env known (numbers_bound [] p.parameters numbers))
-  well p numbers h = item_typed known complete typed p.name.name (numbers_bound [] p.parameters numbers) (own_bound known.items.type_named [] p.parameters numbers (none_own known) h.own)
-
-  pub fine_proc : (p : Proc) (numbers : List DslxValue) → IsThere p numbers → IsFineProc known p numbers
+  pub fine_proc : (p : Proc) (numbers : List DslxValue) → IsThere m top s p numbers → IsFineProc known p numbers
   fine_proc p numbers h =
       let parts = parts_fine m top s p numbers h.checked in
       let written = and_true (list_all (λ (e : End). type_writes_widths e.word) p.members) (next_writes_widths p) (one_writes_widths p.name.name (d.Proc p) m.items h.checked.named wide) in
       record {
         own = h.own;
         found = parts.acts;
-        words = words (proc_sight known p numbers) (item_env known (numbers_bound [] p.parameters numbers)) (well p numbers h) names [] p.members written.0 parts.members;
+        words = words (proc_sight known p numbers) (item_env known (numbers_bound [] p.parameters numbers)) (well m top s complete typed p numbers h) names [] p.members written.0 parts.members;
       }
 
   -- whatever such an instance places
   abbrev PlacesSuch : (Proc → List DslxValue → Type 0) → Placing → Type 0
-  PlacesSuch Q place = (path : List ℕ) (p : Proc) (numbers : List DslxValue) (ends : List Held) (number : ℕ) → IsThere p numbers → EachPlaced Q (place path p numbers ends number).procs
+  PlacesSuch Q place = (path : List ℕ) (p : Proc) (numbers : List DslxValue) (ends : List Held) (number : ℕ) → IsThere m top s p numbers → EachPlaced Q (place path p numbers ends number).procs
 
-  module _ (Q : Proc → List DslxValue → Type 0) (place : Placing) (such : PlacesSuch Q place) (p : Proc) (numbers : List DslxValue) (here : IsThere p numbers) (path : List ℕ) (held : List Held) where
+  module _ (Q : Proc → List DslxValue → Type 0) (place : Placing) (such : PlacesSuch Q place) (p : Proc) (numbers : List DslxValue) (here : IsThere m top s p numbers) (path : List ℕ) (held : List Held) where
     abbrev sight : Sight
     sight = proc_sight known p numbers
 
@@ -95,7 +86,7 @@ module _ (m : Module) (top : Option (List ℕ)) (s : IsAccepted m top) (procs : 
     one_spawned : (own : List ℕ) (made : Made) (sp : Spawn) (number : ℕ) → Within m (most m top s) (making_mentions (making.Spawn sp) bound) → (spawn_found sight made sp).faults ≡ [] → Listed m top s (spawn_found sight made sp).reached
         → EachPlaced Q (spawned m known.items place own env held sp number).procs
     one_spawned own made sp number within f r =
-        let t = spawn_there m top s procs complete typed p numbers (well p numbers here) made sp bound within f r in
+        let t = spawn_there m top s procs complete typed p numbers (well m top s complete typed p numbers here) made sp bound within f r in
         let named = proc_named m sp.target.name t.target t.is in
         let placed : spawned m known.items place own env held sp number ≡ place own t.target t.numbers (handed_over t.target.config.ends (channels_of_ends held sp.ends)) number =
         (λ i. spawned_at place own held sp number (t.is i) (and_then (t.is i) (λ q. spawn_numbers known.items env q sp.arguments))) ∙ ap (spawned_at place own held sp number (Some t.target)) t.given in
@@ -121,7 +112,7 @@ module _ (m : Module) (top : Option (List ℕ)) (s : IsAccepted m top) (procs : 
         (one_spawned (child_path path k) made sp number w.0 a.0 b.0) (children_such made ms (suc k) (number + length first.chans) w.1 a.1 b.1)
 
   -- by spawns of any number
-  pub all_placed : (Q : Proc → List DslxValue → Type 0) → ((p : Proc) (numbers : List DslxValue) → IsThere p numbers → Q p numbers) → (n : ℕ) → PlacesSuch Q (place_within m known.items n)
+  pub all_placed : (Q : Proc → List DslxValue → Type 0) → ((p : Proc) (numbers : List DslxValue) → IsThere m top s p numbers → Q p numbers) → (n : ℕ) → PlacesSuch Q (place_within m known.items n)
   all_placed Q each zero path p numbers ends number here = tt
   all_placed Q each (suc n) path p numbers ends number here =
       let sight = proc_sight known p numbers in

@@ -1,16 +1,18 @@
 -- what is reached where no proc is mentioned
-mod Reached
--- what instances of procs do
-mod Acts
+pub mod Reached
+-- what instances of procs break and reach, by parts
+pub mod Acts
 -- number parameters of procs
 mod Parameters
 -- spawns
-mod Spawns
+pub mod Spawns
+-- instances that are checked
+pub mod There
 -- families of procs
 mod Families
 -- the last proc of a text
 mod LastProc
 -- the top proc
-mod Tops
+pub mod Tops
 -- what the `next` of procs becomes
-mod Nexts
+pub mod Nexts

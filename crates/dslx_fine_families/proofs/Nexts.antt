@@ -1,5 +1,5 @@
 -- The `next` of an instance of a proc of a text without faults becomes steps, where its functions are at hand, and its `init` has a value.
-use Rattle.std.proofs.Common.{◌≡◌, ◌≤◌, ◌&&◌, ◌++◌, ℕ, length, Bool, true, false, List, [], ◌∷◌, map, Option, Some, arith, refl, sym, ap, subst, ◌∙◌}
+use Rattle.std.proofs.Common.{◌≡◌, ◌≤◌, ◌&&◌, ◌++◌, ℕ, length, Bool, true, false, List, [], ◌∷◌, map, Option, Some, arith, refl, sym, subst, ◌∙◌}
 use Rattle.std.specs.List.{list_all}
 use Rattle.dslx_tree.specs.declared.block.Block.{out-Block}
 use Rattle.dslx_tree.specs.declared.item.Definition.TheVariants as d
@@ -46,10 +46,9 @@ use Rattle.dslx_tables.specs.Tables.{FunctionsHaveTable}
 use Rattle.dslx_tables.specs.Widths.{text_writes_widths}
 use Rattle.dslx_tables.proofs.Lemmas.{one_writes_widths}
 use Rattle.dslx_fine_families.specs.EachPlaced.{NextBecomes}
-use Rattle.dslx_fine_families.specs.Plain.{ProcsBindNoConstant}
 use Rattle.dslx_fine_families.proofs.Acts.{parts_fine}
-use Rattle.dslx_fine_families.proofs.Families.{IsThere, WordsThere, well}
 use Rattle.dslx_fine_families.proofs.Reached.{K, Listed, Passing, all, most}
+use Rattle.dslx_fine_families.proofs.There.{IsThere, well}
 
 -- the laws of parts of `next`
 abbrev pub WordsHaveWidths : Type 0
@@ -65,8 +64,8 @@ NextsLowered = (here : Instance → Bool) (known : Known) (p : Proc) (numbers : 
     → IsWellTyped (proc_sight known p numbers) env → StandsBeside here (proc_sight known p numbers) (outer_place core) → MembersStand (members_sight known p numbers) (outer_place core) p.members
     → IsClean here (acts_found known p numbers).faults (acts_found known p numbers).reached → NextIsLowered known p numbers (next_lowered core p)
 
-module _ (m : Module) (top : Option (List ℕ)) (s : IsAccepted m top) (procs : ProcsBindNoConstant m) (complete : IsComplete (K m top s)) (typed : AreTyped (K m top s)) (names : NamesHaveWidths (K m top s))
-    (wide : text_writes_widths m ≡ true) (words : WordsThere) (widths : WordsHaveWidths) (members : MembersThere) (nexts : NextsLowered) (same : (K m top s).items ≡ meanings_of m) (f : FunctionsHaveTable m top) where
+module _ (m : Module) (top : Option (List ℕ)) (s : IsAccepted m top) (complete : IsComplete (K m top s)) (typed : AreTyped (K m top s)) (names : NamesHaveWidths (K m top s))
+    (wide : text_writes_widths m ≡ true) (widths : WordsHaveWidths) (members : MembersThere) (nexts : NextsLowered) (same : (K m top s).items ≡ meanings_of m) (f : FunctionsHaveTable m top) where
   abbrev known : Known
   known = K m top s
 
@@ -129,14 +128,14 @@ module _ (m : Module) (top : Option (List ℕ)) (s : IsAccepted m top) (procs : 
       let one = one_of_text (types_at sight) t g.0 alike ((type_stands p.next.ty).means sight env place t is).1 g.2.declared in
       record { value = g.2.value; is = g.2.is; of = subst (λ u. is_of u g.2.value ≡ true) (sym one) g.2.of }
 
-  pub next_becomes : (p : Proc) (numbers : List DslxValue) → IsThere m top s procs complete typed names wide words p numbers → NextBecomes m f.known.table p numbers
+  pub next_becomes : (p : Proc) (numbers : List DslxValue) → IsThere m top s p numbers → NextBecomes m f.known.table p numbers
   next_becomes p numbers there =
       let sight = proc_sight known p numbers in
       let bound = numbers_bound [] p.parameters numbers in
       let env = item_env known bound in
       let core : CoreKnown = record { items = known.items; numbers = bound; callee = callee_in known.whole known.items f.known.table } in
       let parts = parts_fine m top s p numbers there.checked in
-      let placed = well m top s procs complete typed names wide words p numbers there in
+      let placed = well m top s complete typed p numbers there in
       let written = and_true (list_all (λ (e : End). type_writes_widths e.word) p.members) (next_writes_widths p) (one_writes_widths p.name.name (d.Proc p) m.items there.checked.named wide) in
       let at : StandsBeside here sight (outer_place core) = record {
         items = refl;

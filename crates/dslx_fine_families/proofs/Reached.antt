@@ -40,6 +40,7 @@ Within m k ms = list_all (ends_within m k) (names_meant m ms) ≡ true
 pub record ProcWithin (m : Module) (k : ℕ) (p : Proc) : Type 0 where
   pub parameters : Within m k (parameters_mentions p.parameters [])
   pub members : Within m k (ends_mentions p.members (parameter_names p.parameters))
+  pub ends : Within m k (ends_mentions p.config.ends (parameter_names p.parameters))
   pub makings : Within m k (flat_map (λ (x : Making). making_mentions x (parameter_names p.parameters)) p.config.makings)
   pub init : Within m k (mentioned_in_block p.init (parameter_names p.parameters))
   pub state : Within m k (mentioned_in_type p.next.ty (parameter_names p.parameters))
@@ -62,7 +63,7 @@ proc_within m k p h =
     let e = meant_parts P m ((one ++ two) ++ three) four c.0 in
     let f = meant_parts P m (one ++ two) three e.0 in
     let g = meant_parts P m one two f.0 in
-    record { parameters = g.0; members = g.1; makings = e.1; init = c.1; state = b.1; next = a.1 }
+    record { parameters = g.0; members = g.1; ends = f.1; makings = e.1; init = c.1; state = b.1; next = a.1 }
 
 module _ (m : Module) (top : Option (List ℕ)) (s : IsAccepted m top) where
   abbrev pub K : Known

@@ -47,7 +47,7 @@ abbrev is_there : {A : Type 0} → Option A → Bool
 is_there None = false
 is_there (Some a) = true
 
-proc_is : (o : Option Definition) (p : Proc) → as_proc o ≡ Some p → o ≡ Some (d.Proc p)
+pub proc_is : (o : Option Definition) (p : Proc) → as_proc o ≡ Some p → o ≡ Some (d.Proc p)
 proc_is (Some (d.Proc q)) p e = ap (λ (o : Option Proc). as_definition o) e
   where
     as_definition : Option Proc → Option Definition
@@ -112,6 +112,7 @@ module _ (m : Module) (top : Option (List ℕ)) (s : IsAccepted m top) (procs : 
     pub given : spawn_numbers known.items env target sp.arguments ≡ Some numbers
     pub own : AllOwn known.items.type_named numbers
     pub among : test (record { name = target.name.name; numbers = numbers }) ≡ true
+    pub many : (length sp.ends == length target.config.ends) ≡ true
 
   module _ (p : Proc) (own : List DslxValue) (well : IsWellTyped (proc_sight known p own) (item_env known (numbers_bound [] p.parameters own))) where
     abbrev sight : Sight
@@ -132,9 +133,9 @@ module _ (m : Module) (top : Option (List ℕ)) (s : IsAccepted m top) (procs : 
     abbrev handed : Made → Spawn → Proc → List Fault
     handed made sp target = if (seen sp target).is_wrong then [] else handed_faults known target.name.name (seen sp target).bound made target.config.ends sp.ends
 
-    right : (made : Made) (sp : Spawn) (bound : List (List ℕ)) (target : Proc) → as_proc (item_named sp.target.name m.items) ≡ Some target → AreGiven sight env (map arg_pair sp.arguments) (map meant_arg sp.arguments)
+    right : (made : Made) (sp : Spawn) (bound : List (List ℕ)) (target : Proc) → as_proc (item_named sp.target.name m.items) ≡ Some target → (length sp.ends == length target.config.ends) ≡ true → AreGiven sight env (map arg_pair sp.arguments) (map meant_arg sp.arguments)
         → (right_spawn sight made sp target (cyclic sp target) (seen sp target)).faults ≡ [] → Listed m top s (right_spawn sight made sp target (cyclic sp target) (seen sp target)).reached → SpawnThere env sp
-    right made sp bound target is g f r =
+    right made sp bound target is many g f r =
         let n = seen sp target in
         let wrong = breaks_if n.is_wrong 10 sp.span in
         let a = none_in ((cyclic sp target ++ n.faults) ++ wrong) (handed made sp target) f in
@@ -153,6 +154,7 @@ module _ (m : Module) (top : Option (List ℕ)) (s : IsAccepted m top) (procs : 
           given = ap (λ os. and_then (all_some os) (all_numbers known.items [] [] target.parameters)) g.are ∙ ap (λ o. and_then o (all_numbers known.items [] [] target.parameters)) (all_are g.values) ∙ k.found;
           own = k.own;
           among = one.0;
+          many = many;
         }
 
     pub spawn_there : (made : Made) (sp : Spawn) (bound : List (List ℕ)) → Within m (most m top s) (making_mentions (making.Spawn sp) bound) → (spawn_found sight made sp).faults ≡ [] → Listed m top s (spawn_found sight made sp).reached
@@ -170,14 +172,17 @@ module _ (m : Module) (top : Option (List ℕ)) (s : IsAccepted m top) (procs : 
         let g = numbers_given sight env well (map arg_pair sp.arguments) (map meant_arg sp.arguments) (each_argument sp.arguments) a.0 (all_sound m top s (reached_of_all given) passing c.0) in
         by_proc (as_proc (item_named sp.target.name known.whole.items)) refl g b.1 c.1
       where
-        by_count : (target : Proc) → as_proc (item_named sp.target.name m.items) ≡ Some target → (t : Bool) → AreGiven sight env (map arg_pair sp.arguments) (map meant_arg sp.arguments)
+        enough : Proc → Bool
+        enough target = length sp.ends == length target.config.ends && not (nat_lt (length target.parameters) (length (gs sp)))
+
+        by_count : (target : Proc) → as_proc (item_named sp.target.name m.items) ≡ Some target → (t : Bool) → enough target ≡ t → AreGiven sight env (map arg_pair sp.arguments) (map meant_arg sp.arguments)
             → (if t then right_spawn sight made sp target (cyclic sp target) (seen sp target) else only_faults (cyclic sp target ++ breaks 10 sp.span ∷ [])).faults ≡ []
             → Listed m top s (if t then right_spawn sight made sp target (cyclic sp target) (seen sp target) else only_faults (cyclic sp target ++ breaks 10 sp.span ∷ [])).reached → SpawnThere env sp
-        by_count target is false g f r = some_fault (breaks 10 sp.span) [] (none_in (cyclic sp target) (breaks 10 sp.span ∷ []) f).1
-        by_count target is true g f r = right made sp bound target is g f r
+        by_count target is false q g f r = some_fault (breaks 10 sp.span) [] (none_in (cyclic sp target) (breaks 10 sp.span ∷ []) f).1
+        by_count target is true q g f r = right made sp bound target is (and_true (length sp.ends == length target.config.ends) (not (nat_lt (length target.parameters) (length (gs sp)))) q).0 g f r
 
         by_proc : (o : Option Proc) → as_proc (item_named sp.target.name known.whole.items) ≡ o → AreGiven sight env (map arg_pair sp.arguments) (map meant_arg sp.arguments) → (spawn_of sight made sp (gs sp) o).faults ≡ []
             → Listed m top s (spawn_of sight made sp (gs sp) o).reached → SpawnThere env sp
         by_proc None q g f r = some_fault (breaks 1 sp.target.span) [] f
         by_proc (Some target) q g f r =
-            by_count target ((λ t. as_proc (item_named sp.target.name (sym (whole_is m (length m.items)) t).items)) ∙ q) (length sp.ends == length target.config.ends && not (nat_lt (length target.parameters) (length (gs sp)))) g f r
+            by_count target ((λ t. as_proc (item_named sp.target.name (sym (whole_is m (length m.items)) t).items)) ∙ q) (enough target) refl g f r

@@ -5,6 +5,7 @@ mod body;
 mod machine;
 mod maker;
 mod task;
+mod work;
 
 pub use body::OpenBody;
 pub use machine::{InstanceMachine, OpenInstance};
@@ -13,3 +14,4 @@ pub use task::{
     ArmsTask, BlockTask, CallTask, LoopTask, LowerTask, MatchWork, OtherFields, PartsTask,
     StructWork,
 };
+pub use work::BodyWork;

@@ -25,7 +25,6 @@ use Rattle.dslx_rules.specs.ConstantRules.{is_zero}
 use Rattle.dslx_rules.specs.Paired.{paired_pattern}
 use Rattle.dslx_core.specs.declared.step.Step.{Step}
 use Rattle.dslx_core.specs.declared.step.Step.TheVariants as step
-use Rattle.dslx_core.specs.declared.expr.CoreExpr.{CoreExpr}
 use Rattle.dslx_core.specs.declared.expr.CoreExpr as core
 use Rattle.dslx_core.specs.declared.expr.Shape as shape
 use Rattle.dslx_lowering.specs.CorePlaces.{CoreKnown, CorePlace, with_local}
@@ -34,6 +33,9 @@ use Rattle.dslx_lowering.specs.Functions.{CoreInstance, callee_in, numbers_stand
 use Rattle.dslx_lowering.specs.Lowering.{LoweredExpr, lowered}
 use Rattle.dslx_lowering.specs.Patterns.{LoweredShape, LowersPattern, lowered_at_place, shaped}
 use Rattle.dslx_lowering.specs.Trees.{expression_lowered, lowered_sorts, lowering_steps, of_type, type_of_text_lowered}
+use Rattle.dslx_lowering.specs.declared.next.CoreMember as member_data
+use Rattle.dslx_lowering.specs.declared.next.LoweredNext as next_data
+use Rattle.dslx_lowering.specs.declared.next.LoweredSteps as steps_data
 
 -- a pattern
 abbrev pub pattern_of_text_lowered : Pattern → LowersPattern
@@ -58,9 +60,8 @@ abbrev pub can_travel : DslxType → Bool
 can_travel t = is_sized t && fold-Ty Bool widths_step (plain_type t)
 
 -- a member: its number, and the type of its words
-pub record CoreMember : Type 0 where
-  pub number : ℕ
-  pub word : DslxType
+abbrev pub CoreMember : Type 0
+CoreMember = member_data.CoreMember
 
 abbrev pub end_names : List End → List (List ℕ)
 end_names ends = map (λ (e : End). e.name.name) ends
@@ -74,10 +75,9 @@ member_in outer ends name =
 
 -- ---- steps
 
--- the steps, and the next state
-pub record LoweredSteps : Type 0 where
-  pub steps : List Step
-  pub next : LoweredExpr
+-- steps, and the state behind them
+abbrev pub LoweredSteps : Type 0
+LoweredSteps = steps_data.LoweredSteps
 
 abbrev pub LowersSteps : Type 0
 LowersSteps = CorePlace → Option LoweredSteps
@@ -133,11 +133,9 @@ statements_steps outer ends (s ∷ ss) last place = statement_steps outer ends (
 
 -- ---- an instance of a proc
 
--- its state's type, and what it does in an activation
-pub record LoweredNext : Type 0 where
-  pub state : DslxType
-  pub steps : List Step
-  pub next : CoreExpr
+-- the state's type, the steps of an activation, and the state behind them
+abbrev pub LoweredNext : Type 0
+LoweredNext = next_data.LoweredNext
 
 abbrev pub steps_from : CorePlace → Proc → DslxType → Option LoweredNext
 steps_from outer p t =

@@ -9,10 +9,12 @@ mod expr;
 mod expressions;
 mod instance;
 mod instances;
+mod next;
 mod steps;
 
 pub use expr::{BoundSlot, LoweredArm, LoweredExpr};
 pub use expressions::lowered_expressions_mean_the_same;
 pub use instance::{CoreCallee, CoreInstance, Instantiated, LoweredFunction};
 pub use instances::lowered_instances_mean_the_same;
+pub use next::{CoreMember, LoweredNext, LoweredSteps};
 pub use steps::lowered_steps_do_the_same;

@@ -96,6 +96,3 @@ fn join(
         },
     })
 }
-
-#[cfg(test)]
-mod tests;

@@ -1,5 +1,5 @@
 -- Tables to which an instance is added.
-use Rattle.std.proofs.Common.{◌≡◌, ℕ, Bool, true, false, List, [], ◌∷◌, Option, Some, None, refl, sym, subst, ap, ◌∙◌}
+use Rattle.std.proofs.Common.{◌≡◌, ℕ, Bool, true, false, List, [], map, Some, None, refl, subst}
 use Rattle.dslx_tree.specs.declared.item.Module.{Module}
 use Rattle.dslx_meaning.specs.Items.{meanings_of}
 use Rattle.dslx_lowering.specs.Functions.{CoreInstance, Instantiated}
@@ -9,8 +9,9 @@ use Rattle.dslx_instance_machine.specs.Tasks.{InstanceMachine, OpenBody}
 use Rattle.dslx_instance_machine.proofs.Lemmas.{reached_by_steps, reached_instance, reached_longer, reached_table}
 use Rattle.dslx_instance_progress.proofs.Stops.{in_no_table}
 use Rattle.dslx_instance_run.specs.Runs.{MachineRuns, Ends, Lacks}
-use Rattle.dslx_instance_tasks.specs.Shown.{sight_of}
-use Rattle.dslx_param.specs.Made.{Adds, IsMade, IsNone, HasInstance}
+use Rattle.dslx_instance_tasks.specs.Shown.{instance_shown, sight_of}
+use Rattle.dslx_instance_tasks.specs.declared.machine.OpenInstance as code
+use Rattle.dslx_param.specs.Made.{Adds, IsMade, IsNone}
 
 -- the machine ended: its table has the instance
 ended : (m : Module) (before : List CoreInstance) (limit : ℕ) (i : Instantiated) (end : InstanceMachine) → MachineRuns (machine_at (sight_of m before) limit (needing i)) end true
@@ -40,6 +41,13 @@ pub adds_none : (m : Module) (before : List CoreInstance) (limit : ℕ) (i : Ins
     → MachineRuns (machine_at (sight_of m before) limit root) end false → IsTable m (meanings_of m) before → Adds m before limit i None
 adds_none m before limit i root end is runs table =
     lacks m before limit i end (subst (λ (r : OpenBody). MachineRuns (machine_at (sight_of m before) limit r) end false) is runs) table
+
+-- nothing is open in the machine where it begins
+pub runs_from : (m : Module) (before : List CoreInstance) (limit : ℕ) (root : OpenBody) (opened : List code.OpenInstance) (end : InstanceMachine) (b ended : Bool) → opened ≡ [] → b ≡ ended
+    → MachineRuns (record { sight = sight_of m before; limit = limit; root = root; opened = map instance_shown opened }) end b → MachineRuns (machine_at (sight_of m before) limit root) end ended
+runs_from m before limit root opened end b ended none is runs =
+    subst (λ (l : List code.OpenInstance). MachineRuns (record { sight = sight_of m before; limit = limit; root = root; opened = map instance_shown l }) end ended) none
+    (subst (MachineRuns (record { sight = sight_of m before; limit = limit; root = root; opened = map instance_shown opened }) end) is runs)
 
 -- no instances are a table
 pub empty_is_table : (m : Module) → IsTable m (meanings_of m) []

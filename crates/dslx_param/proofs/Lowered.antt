@@ -1,12 +1,11 @@
 -- Expressions of a body that are lowered.
 use Rattle.std.proofs.lemmas.List.{reverse-reverse}
-use Rattle.std.proofs.Common.{◌≡◌, ℕ, Bool, true, false, List, [], ◌∷◌, length, map, reverse, Option, Some, None, refl, sym, subst, ap, ◌∙◌}
+use Rattle.std.proofs.Common.{◌≡◌, ℕ, true, false, List, [], ◌∷◌, map, reverse, Option, Some, None, refl, sym, subst, ap, ◌∙◌}
 use Rattle.dslx_tree.specs.declared.expr.Expr.{Expr}
 use Rattle.dslx_tree.specs.declared.item.Module.{Module}
 use Rattle.dslx_meaning.specs.Environment.{Given}
 use Rattle.dslx_meaning.specs.Items.{meanings_of}
 use Rattle.dslx_meaning.specs.Lists.{and_then}
-use Rattle.dslx_lowering.specs.CorePlaces.{BoundSlot, CorePlace}
 use Rattle.dslx_lowering.specs.Functions.{CoreInstance}
 use Rattle.dslx_lowering.specs.Lowering.{LoweredExpr}
 use Rattle.dslx_lowering.specs.Trees.{expression_lowered}
@@ -24,7 +23,7 @@ use Rattle.dslx_instance_tasks.specs.Shown.{machine_shown, sight_of}
 use Rattle.dslx_instance_tasks.specs.declared.machine.InstanceMachine as code
 use Rattle.dslx_names.specs.Bound.{given}
 use Rattle.dslx_param.specs.Works.{LowersIn, IsLowered, IsNone, taken_from}
-use Rattle.dslx_param.specs.declared.work.BodyWork.{BodyWork}
+use Rattle.dslx_instance_tasks.specs.declared.work.BodyWork.{BodyWork}
 
 -- where a root ends that lowers an expression alone: this was made, and what is bound stays
 pub record EndsWith (sight : InstanceSight) (e : Expr) (body : OpenBody) (m : InstanceMachine) : Type 0 where

@@ -1,25 +1,16 @@
 -- Expressions of one body that are lowered one after another.
-use Rattle.std.specs.Prelude.{◌≡◌, ◌≤◌, ◌∷◌, [], ℕ, List, Option, None, Some, length, map, reverse}
+use Rattle.std.specs.Prelude.{◌≡◌, ◌≤◌, ◌∷◌, [], ℕ, List, Option, None, Some, length, map}
 use Rattle.dslx_tree.specs.declared.expr.Expr.{Expr}
 use Rattle.dslx_tree.specs.declared.item.Module.{Module}
 use Rattle.dslx_meaning.specs.Items.{meanings_of}
 use Rattle.dslx_names.specs.Bound.{given}
-use Rattle.dslx_lowering.specs.CorePlaces.{CorePlace}
-use Rattle.dslx_lowering.specs.Functions.{CoreInstance, callee_in}
+use Rattle.dslx_lowering.specs.Functions.{CoreInstance}
 use Rattle.dslx_lowering.specs.Lowering.{LoweredExpr}
 use Rattle.dslx_lowering.specs.Trees.{expression_lowered}
 use Rattle.dslx_instance_machine.specs.Reached.{GrownFrom, IsTable}
-use Rattle.dslx_instance_machine.specs.Machines.{last_made}
 use Rattle.dslx_instance_tasks.specs.declared.body.OpenBody.{OpenBody}
-use Rattle.dslx_param.specs.declared.work.BodyWork.{BodyWork}
-
--- where calls come to the instances of a table
-abbrev pub work_place : Module → List CoreInstance → BodyWork → CorePlace
-work_place m table w = record {
-  known = record { items = meanings_of m; numbers = reverse (map given w.given.items); callee = callee_in m (meanings_of m) table };
-  locals = w.locals;
-  count = w.count;
-}
+use Rattle.dslx_instance_tasks.specs.Works.{work_place}
+use Rattle.dslx_instance_tasks.specs.declared.work.BodyWork.{BodyWork}
 
 -- what an expression becomes, with the instances that are made then: it becomes nothing by any table of at most so many instances,
 -- or this by each that begins with theirs, and what is bound stays as it is

@@ -9,4 +9,4 @@ mod made;
 mod work;
 
 pub use made::{add_instance, instance};
-pub use work::{BodyWork, lower_in};
+pub use work::lower_in;

@@ -7,23 +7,11 @@ ghost use Rattle.dslx_param.specs.Works.{LowersIn, taken_from};
 
 use dslx_instance_run::run;
 use dslx_instance_table::InstanceTable;
-use dslx_instance_tasks::{InstanceMachine, LowerTask, OpenBody};
-use dslx_locals::Locals;
+use dslx_instance_tasks::{BodyWork, InstanceMachine, LowerTask, OpenBody};
 use dslx_lowering::LoweredExpr;
-use dslx_names::Binding;
 use dslx_tree::{Expr, Module};
 use stacks::Stack;
 use std::alloc::{AllocError, Global};
-
-/// Expressions of one body that are lowered one after another: the instances that are made, and what is bound.
-#[derive(Drop)]
-pub struct BodyWork<'a> {
-    pub table: InstanceTable,
-    /// The number parameters, in order.
-    pub given: Vec<Binding<'a>>,
-    pub locals: Locals,
-    pub count: u64,
-}
 
 /// What an expression becomes, with the instances that it needs; `None` where it becomes nothing by any table of at most so many
 /// instances.

@@ -1,9 +1,9 @@
 -- types that are written by their width
 mod Widths
 -- values of their own types
-mod Own
+pub mod Own
 -- lists of instances
-mod Lists
+pub mod Lists
 -- what is known of accepted texts
 mod Knowing
 -- instances by how long chains of items are

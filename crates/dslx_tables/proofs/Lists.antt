@@ -1,4 +1,4 @@
--- Instances that pass a test, as a list of functions to become something.
+-- Instances that pass a test, as a list of what is to become something.
 use Rattle.std.proofs.Common.{◌≡◌, ◌≤◌, ◌&&◌, ◌||◌, ◌++◌, ◌+◌, ℕ, suc, inl, inr, length, Bool, true, false, if◌then◌else◌, List, [], ◌∷◌, arith, refl, sym, ap, subst, ◌∙◌}
 use mathlib.Core.Bool.{true≢false}
 use Rattle.std.proofs.lemmas.List.{append-nil, append_assoc}
@@ -12,12 +12,12 @@ use Rattle.dslx_judged.specs.Closed.{IsOneOf}
 use Rattle.dslx_lowering.specs.Functions.{Instantiated}
 use Rattle.dslx_lowers.specs.InstanceLists.{EachReachesThoseBefore, ReachesThese, is_among}
 
-abbrev pub as_function_instance : Instance → Instantiated
-as_function_instance i = record { name = i.name; numbers = i.numbers }
+abbrev pub as_named : Instance → Instantiated
+as_named i = record { name = i.name; numbers = i.numbers }
 
 abbrev pub chosen : (Instance → Bool) → List Instance → List Instantiated
 chosen p [] = []
-chosen p (i ∷ is) = if p i then as_function_instance i ∷ chosen p is else chosen p is
+chosen p (i ∷ is) = if p i then as_named i ∷ chosen p is else chosen p is
 
 -- ---- those that are among them
 
@@ -25,10 +25,10 @@ numbers_equal : (vs : List DslxValue) → pairwise equal_value vs vs ≡ true
 numbers_equal [] = refl
 numbers_equal (v ∷ vs) = λ i. value_equals_itself v i && numbers_equal vs i
 
-equal_itself : (i : Instance) → same_instance i i ≡ true
+pub equal_itself : (i : Instance) → same_instance i i ≡ true
 equal_itself i = λ k. (bytes_eq-Decides i.name i.name).1 refl k && numbers_equal i.numbers k
 
-or_second : (p q : Bool) → q ≡ true → (p || q) ≡ true
+pub or_second : (p q : Bool) → q ≡ true → (p || q) ≡ true
 or_second true q e = refl
 or_second false q e = e
 
@@ -36,7 +36,7 @@ pub chosen_among : (p : Instance → Bool) (i : Instance) (is : List Instance) �
 chosen_among p i [] h e = absurd h
 chosen_among p i (x ∷ xs) h e = by_kind (p x) refl h (λ more. chosen_among p i xs more e)
   where
-    by_kind : (b : Bool) → p x ≡ b → IsOneOf i (x ∷ xs) → (IsOneOf i xs → is_among (chosen p xs) i ≡ true) → is_among (if b then as_function_instance x ∷ chosen p xs else chosen p xs) i ≡ true
+    by_kind : (b : Bool) → p x ≡ b → IsOneOf i (x ∷ xs) → (IsOneOf i xs → is_among (chosen p xs) i ≡ true) → is_among (if b then as_named x ∷ chosen p xs else chosen p xs) i ≡ true
     by_kind true q (inl one) rest = ap (λ t. t || is_among (chosen p xs) i) (subst (λ z. same_instance i z ≡ true) one (equal_itself i))
     by_kind true q (inr more) rest = or_second (same_instance i x) (is_among (chosen p xs) i) (rest more)
     by_kind false q (inl one) rest = absurd (true≢false (sym e ∙ ap p one ∙ q))
@@ -70,15 +70,15 @@ behind_more known before more i r = record {
 }
 
 -- where each of the chosen reaches those before all of them
-pub each_chosen : (known : Known) (before : List Instantiated) (p : Instance → Bool) (is : List Instance) → ((i : Instance) → IsOneOf i is → p i ≡ true → ReachesThese known before (as_function_instance i))
+pub each_chosen : (known : Known) (before : List Instantiated) (p : Instance → Bool) (is : List Instance) → ((i : Instance) → IsOneOf i is → p i ≡ true → ReachesThese known before (as_named i))
     → EachReachesThoseBefore known before (chosen p is)
 each_chosen known before p [] h = tt
 each_chosen known before p (x ∷ xs) h =
-    let own = as_function_instance x in
-    by_kind (p x) refl (each_chosen known (before ++ own ∷ []) p xs (λ i one e. behind_more known before (own ∷ []) (as_function_instance i) (h i (inr one) e))) (each_chosen known before p xs (λ i one e. h i (inr one) e))
+    let own = as_named x in
+    by_kind (p x) refl (each_chosen known (before ++ own ∷ []) p xs (λ i one e. behind_more known before (own ∷ []) (as_named i) (h i (inr one) e))) (each_chosen known before p xs (λ i one e. h i (inr one) e))
   where
-    by_kind : (b : Bool) → p x ≡ b → EachReachesThoseBefore known (before ++ as_function_instance x ∷ []) (chosen p xs) → EachReachesThoseBefore known before (chosen p xs)
-        → EachReachesThoseBefore known before (if b then as_function_instance x ∷ chosen p xs else chosen p xs)
+    by_kind : (b : Bool) → p x ≡ b → EachReachesThoseBefore known (before ++ as_named x ∷ []) (chosen p xs) → EachReachesThoseBefore known before (chosen p xs)
+        → EachReachesThoseBefore known before (if b then as_named x ∷ chosen p xs else chosen p xs)
     by_kind true q behind rest = (h x (inl refl) q, behind)
     by_kind false q behind rest = rest
 
@@ -92,7 +92,7 @@ pub no_more : (p : Instance → Bool) (is : List Instance) → length (chosen p 
 no_more p [] = omega arith
 no_more p (x ∷ xs) = by_kind (p x) (no_more p xs)
   where
-    by_kind : (b : Bool) → length (chosen p xs) ≤ length xs → length (if b then as_function_instance x ∷ chosen p xs else chosen p xs) ≤ suc (length xs)
+    by_kind : (b : Bool) → length (chosen p xs) ≤ length xs → length (if b then as_named x ∷ chosen p xs else chosen p xs) ≤ suc (length xs)
     by_kind true n = omega (arith, n)
     by_kind false n = omega (arith, n)
 
@@ -107,7 +107,7 @@ both_chosen p q r h [] = omega arith
 both_chosen p q r h (x ∷ xs) = by_kind (p x) (q x) (r x) refl refl refl (both_chosen p q r h xs)
   where
     some : (Instance → Bool) → Bool → ℕ
-    some t b = length (if b then as_function_instance x ∷ chosen t xs else chosen t xs)
+    some t b = length (if b then as_named x ∷ chosen t xs else chosen t xs)
 
     by_kind : (a b c : Bool) → p x ≡ a → q x ≡ b → r x ≡ c → length (chosen p xs) + length (chosen q xs) ≤ length (chosen r xs) → some p a + some q b ≤ some r c
     by_kind true true c u v w n = absurd ((h x).apart u v)

@@ -21,7 +21,7 @@ use Rattle.dslx_accepted.proofs.Lemmas.{IsAccepted, all_empty, all_so, instance_
 use Rattle.dslx_lowering.specs.Functions.{Instantiated}
 use Rattle.dslx_lowers.specs.InstanceLists.{AreThere, EachReachesThoseBefore, ReachesThese, is_among}
 use Rattle.dslx_tables.specs.Widths.{text_writes_widths}
-use Rattle.dslx_tables.proofs.Lists.{AreApart, among_first, among_second, as_function_instance, both_chosen, chosen, chosen_among, each_behind, each_chosen, no_more}
+use Rattle.dslx_tables.proofs.Lists.{AreApart, among_first, among_second, as_named, both_chosen, chosen, chosen_among, each_behind, each_chosen, no_more}
 use Rattle.dslx_tables.proofs.Own.{all_own_pass, all_own_there, are_own}
 use Rattle.dslx_tables.proofs.Widths.{one_writes_widths}
 
@@ -87,7 +87,7 @@ module _ (m : Module) (top : Option (List ℕ)) (s : IsAccepted m top) where
       by_item (Some (d.Enum x)) q h = absurd (true≢false (sym h))
       by_item None q h = absurd (true≢false (sym h))
 
-  reaches : text_writes_widths m ≡ true → (k : ℕ) → suc k ≤ length m.items → (i : Instance) → IsOneOf i all → due k i ≡ true → ReachesThese K (in_order k) (as_function_instance i)
+  reaches : text_writes_widths m ≡ true → (k : ℕ) → suc k ≤ length m.items → (i : Instance) → IsOneOf i all → due k i ≡ true → ReachesThese K (in_order k) (as_named i)
   reaches w k l i one e =
       let a = and_true (is_next k i) (is_function i) e in
       let b = and_true (passes m (suc k) i.name) (not (passes m k i.name)) a.0 in

@@ -32,5 +32,5 @@ returns c m top free plain procs wide accepted functions p e =
     let Q = NextBecomes m functions.known.table in
     subst (λ (x : Meanings). EachPlaced Q (place_within m x (length m.items) p.name.name p (top_numbers x p) (outer_ends 0 p.config.ends) (length p.config.ends)).procs) meant
     (all_placed m top s procs complete typed names wide words.values Q
-    (next_becomes m top s procs complete typed names wide words.values words.widths c.members_stand.ensures c.next_is_lowered.ensures meant functions) (length m.items) p.name.name p numbers (outer_ends 0 p.config.ends) (length p.config.ends)
+    (next_becomes m top s complete typed names wide words.widths c.members_stand.ensures c.next_is_lowered.ensures meant functions) (length m.items) p.name.name p numbers (outer_ends 0 p.config.ends) (length p.config.ends)
     (record { checked = record { named = t.named; among = one_of_these (record { name = p.name.name; numbers = numbers }) (all m top s) t.among }; own = t.own }))

@@ -1,0 +1,2 @@
+-- widths of types without signs and names
+mod Alike

@@ -1,0 +1,2 @@
+-- types whose bits have widths of words
+pub mod Widths

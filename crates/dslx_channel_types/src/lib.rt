@@ -1,0 +1,10 @@
+//! Types of words that channels hold, and types without signs and names.
+//!
+//! Each call is its definition in `dslx_meaning` or `dslx_lowering`. No call recurses deeper than a type is nested.
+#![tactic(auto)]
+
+mod plain;
+mod travel;
+
+pub use plain::plain_type;
+pub use travel::can_travel;

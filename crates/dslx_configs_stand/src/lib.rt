@@ -1,0 +1,32 @@
+//! That the `config` of each proc of a text without faults becomes something, wherever what it spawns is at hand.
+#![tactic(auto)]
+
+ghost use Rattle.std.specs.Prelude.{◌≡◌, ℕ, List, [], Option, Some};
+ghost use Rattle.dslx_tree.specs.declared.item.Module.{Module};
+ghost use Rattle.dslx_tree.specs.declared.process.Proc.{Proc};
+ghost use Rattle.dslx_meaning.specs.Items.{meanings_of};
+ghost use Rattle.dslx_meaning.specs.Network.{top_proc};
+ghost use Rattle.dslx_meaning.specs.declared.value.DslxValue.{DslxValue};
+ghost use Rattle.dslx_rules.specs.ModuleRules.{faults_of};
+ghost use Rattle.dslx_laws.specs.Recursion.{HasNoCycle};
+ghost use Rattle.dslx_depends.specs.Settled.{BindsNoConstant};
+ghost use Rattle.dslx_fine_families.specs.Plain.{ProcsBindNoConstant};
+ghost use Rattle.dslx_configs_stand.specs.ReachedProcs.{IsReachedProc};
+ghost use Rattle.dslx_configs_stand.specs.Becoming.{ConfigBecomes, TopBecomes};
+
+/// Where no part of a text breaks a rule or passes a limit, each instance of a proc that is checked, and whose number arguments
+/// are of their own types, spawns such instances alone; and wherever all of these are at hand, its `config` becomes channels,
+/// children and members. The instance of the top proc is such a one, and the ends of its `config` become outer channels. No
+/// item may reach itself, no function bind the name of a constant and no proc by its number parameters, also where nothing
+/// calls or spawns it.
+pub fn accepted_configs_are_lowered()
+    ensures configs { (m : Module) (top : Option (List ℕ)) → HasNoCycle m → BindsNoConstant m → ProcsBindNoConstant m → faults_of m top ≡ []
+        → (p : Proc) (numbers : List DslxValue) → IsReachedProc m (meanings_of m) top p numbers → ConfigBecomes m (meanings_of m) top p numbers }
+    ensures tops { (m : Module) (top : Option (List ℕ)) → HasNoCycle m → BindsNoConstant m → ProcsBindNoConstant m → faults_of m top ≡ []
+        → (p : Proc) → top_proc m top ≡ Some p → TopBecomes m (meanings_of m) top p }
+{
+    dslx_judged::instances_reach_one_another();
+    dslx_known::all_items_are_known();
+    dslx_accepted::items_of_accepted_texts_are_fine();
+    dslx_written_types::written_types_are_lowered();
+}

@@ -1,0 +1,2 @@
+-- tables of procs, and designs
+pub mod Designs

@@ -1,0 +1,2 @@
+-- members by their numbers
+mod Numbered

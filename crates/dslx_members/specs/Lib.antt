@@ -1,0 +1,2 @@
+-- members with their numbers
+pub mod Members

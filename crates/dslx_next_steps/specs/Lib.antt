@@ -1,0 +1,2 @@
+-- what comes of statements, with the body behind them
+pub mod Passing

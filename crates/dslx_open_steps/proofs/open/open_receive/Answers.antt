@@ -1,0 +1,12 @@
+use Rattle.std.proofs.Common.{◌∙◌, List, None, sym}
+use Rattle.dslx_lowering.specs.Functions.{CoreInstance}
+use Rattle.dslx_lowering.specs.Steps.{member_in}
+use Rattle.dslx_open_steps.specs.Opened.{receiving}
+use Rattle.dslx_open_steps.specs.Works.{outer_at}
+use Rattle.dslx_open_steps.proofs.Sequels.{without_member}
+use Rattle.dslx_open_steps.proofs.open.open_receive.Goals as goal
+
+pub returns : goal.returns
+returns c =
+    without_member c.args.known c.args.work (λ (t : List CoreInstance). member_in (outer_at c.args.known c.args.work t) c.args.known.ends.now c.args.name.now) (λ m t. receiving m None)
+    c.requires.has_table (λ t. sym c.in-None.is ∙ c.in_ok-member.ensures t)

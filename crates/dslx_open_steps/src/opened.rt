@@ -1,0 +1,94 @@
+//! Steps that bind nothing yet.
+
+ghost use Rattle.std.specs.Prelude.{◌≡◌, Some, IfOk};
+ghost use Rattle.dslx_meaning.specs.Types.{plain_type as without_names, received as the_pair};
+ghost use Rattle.dslx_open_steps.specs.Opened.{computing, receiving, sending, with_shape as the_step_with};
+
+use dslx_channel_types::plain_type;
+use dslx_core::{CoreExpr, Receive, Send, Shape, Step};
+use dslx_lowering::{CoreMember, LoweredExpr};
+use dslx_meaning::DslxType;
+use std::alloc::{AllocError, Global};
+use xb_value::{Seq, Ty};
+
+/// A step that binds nothing yet, and the type of the value that it gives.
+#[derive(Drop)]
+pub struct OpenStep {
+    pub step: Step,
+    pub ty: DslxType,
+}
+
+/// The value of an expression.
+pub fn compute(value: LoweredExpr) -> OpenStep
+    ensures { Some result ≡ computing value }
+{
+    OpenStep {
+        step: Step::Bind(value.core, Shape::Wild),
+        ty: value.ty,
+    }
+}
+
+/// A token and a word of the member, or the value that the condition has beside it.
+pub fn receive(
+    alloc: Global,
+    member: CoreMember,
+    condition: Option<(CoreExpr, CoreExpr)>,
+) -> Result<OpenStep, AllocError>
+    ensures { IfOk result (λ step. Some step ≡ receiving member condition) }
+{
+    let number = member.number;
+    let (word, ty) = word_types(alloc, member.word)?;
+    Ok(OpenStep {
+        step: Step::Receive(Receive {
+            member: number,
+            word,
+            condition,
+            shape: Shape::Wild,
+        }),
+        ty,
+    })
+}
+
+/// The type of words without signs and names, and that of a token and a word.
+fn word_types(alloc: Global, word: DslxType) -> Result<(Ty, DslxType), AllocError>
+    ensures { IfOk result (λ types. types ≡ (without_names word, the_pair word)) }
+{
+    let plain = plain_type(alloc, &word)?;
+    Ok((plain, pair_of(alloc, word)?))
+}
+
+/// A token and a word.
+fn pair_of(alloc: Global, word: DslxType) -> Result<DslxType, AllocError>
+    ensures { IfOk result (λ t. t ≡ the_pair word) }
+{
+    let mut parts = Vec::new(alloc);
+    parts.push(DslxType::Token)?;
+    parts.push(word)?;
+    Ok(DslxType::Tuple(Seq::from_vec(parts)))
+}
+
+/// A token, where the word is sent.
+pub fn send(member: CoreMember, condition: Option<CoreExpr>, word: LoweredExpr) -> OpenStep
+    ensures { Some result ≡ sending member condition word }
+{
+    OpenStep {
+        step: Step::Send(Send {
+            member: member.number,
+            condition,
+            word: word.core,
+            shape: Shape::Wild,
+        }),
+        ty: DslxType::Token,
+    }
+}
+
+/// The step with what it binds.
+pub fn with_shape(step: Step, shape: Shape) -> Step
+    ensures { result ≡ the_step_with step shape }
+{
+    match step {
+        Step::Bind(value, _) => Step::Bind(value, shape),
+        Step::Receive(receive) => Step::Receive(Receive { shape, ..receive }),
+        Step::Send(send) => Step::Send(Send { shape, ..send }),
+    }
+}

@@ -1,0 +1,84 @@
+//! Expressions that are lowered one after another.
+
+ghost use Rattle.std.specs.Prelude.{IfOk};
+ghost use Rattle.dslx_lowering.specs.Trees.{expression_lowered, of_type as the_one_of_type};
+ghost use Rattle.dslx_open_steps.specs.Opened.{conditional};
+ghost use Rattle.dslx_open_steps.specs.Works.{HasTable, BodyMakes, place_at};
+
+use dslx_instance_tasks::BodyWork;
+use dslx_lowering::LoweredExpr;
+use dslx_meaning::DslxType;
+use dslx_param::lower_in;
+use dslx_tree::{End, Expr, Module};
+use dslx_types_alike::equal_type;
+use std::alloc::{AllocError, Global};
+
+/// What is known in all of a `next`: the text, how many instances of functions there may be, and the members.
+#[derive(Clone, Copy)]
+pub struct NextKnown<'a> {
+    pub text: &'a Module,
+    pub limit: usize,
+    pub ends: &'a [End],
+}
+
+/// A condition, and a value that goes with it.
+#[derive(Drop)]
+pub struct Conditional {
+    pub condition: LoweredExpr,
+    pub value: LoweredExpr,
+}
+
+/// An expression.
+pub fn lower<'a>(
+    alloc: Global,
+    known: NextKnown<'a>,
+    work: BodyWork<'a>,
+    expr: &'a Expr,
+) -> Result<Option<(LoweredExpr, BodyWork<'a>)>, AllocError>
+    requires has_table { HasTable known work }
+    ensures { IfOk result (λ o. BodyMakes known.entry work.entry (λ table. expression_lowered expr.now (place_at known.entry work.entry table)) o) }
+{
+    lower_in(alloc, known.text, known.limit, work, expr)
+}
+
+/// An expression of this type.
+pub fn lower_of_type<'a>(
+    alloc: Global,
+    known: NextKnown<'a>,
+    work: BodyWork<'a>,
+    expr: &'a Expr,
+    ty: &DslxType,
+) -> Result<Option<(LoweredExpr, BodyWork<'a>)>, AllocError>
+    requires has_table { HasTable known work }
+    ensures { IfOk result (λ o. BodyMakes known.entry work.entry (λ table. the_one_of_type ty.now (expression_lowered expr.now (place_at known.entry work.entry table))) o) }
+{
+    match lower(alloc, known, work, expr)? {
+        Some((value, work)) => if equal_type(ty, &value.ty) {
+            Ok(Some((value, work)))
+        } else {
+            Ok(None)
+        },
+        None => Ok(None),
+    }
+}
+
+/// A condition, and then a value of this type.
+pub fn lower_conditional<'a>(
+    alloc: Global,
+    known: NextKnown<'a>,
+    work: BodyWork<'a>,
+    condition: &'a Expr,
+    value: &'a Expr,
+    ty: &DslxType,
+) -> Result<Option<(Conditional, BodyWork<'a>)>, AllocError>
+    requires has_table { HasTable known work }
+    ensures { IfOk result (λ o. BodyMakes known.entry work.entry (λ table. conditional ty.now condition.now value.now (place_at known.entry work.entry table)) o) }
+{
+    match lower(alloc, known, work, condition)? {
+        Some((condition, work)) => match lower_of_type(alloc, known, work, value, ty)? {
+            Some((value, work)) => Ok(Some((Conditional { condition, value }, work))),
+            None => Ok(None),
+        },
+        None => Ok(None),
+    }
+}

@@ -1,0 +1,4 @@
+-- what an instance becomes, where parts of it are made
+pub mod Behind
+-- instances that are added to others
+pub mod Adding

@@ -1,0 +1,107 @@
+//! One instance of a proc.
+
+ghost use Rattle.std.specs.Prelude.{◌≡◌, IfOk, Some};
+ghost use Rattle.dslx_instance_machine.specs.Reached.{IsTable};
+ghost use Rattle.dslx_meaning.specs.Items.{meanings_of};
+ghost use Rattle.dslx_meaning.specs.Lists.{and_then, where_true};
+ghost use Rattle.dslx_meaning.specs.Activation.{opening_state};
+ghost use Rattle.dslx_networks.specs.Procs.{instance_of as the_instance, proc_lowered};
+ghost use Rattle.dslx_open_steps.specs.Comes.{Comes};
+ghost use Rattle.dslx_proc_instances.specs.Behind.{behind_config, behind_next};
+
+use dslx_channel_types::plain_type;
+use dslx_configs::{config_there, opening_there};
+use dslx_core::Instance;
+use dslx_instance_table::InstanceTable;
+use dslx_lowered_types::plain_value;
+use dslx_lowering::LoweredNext;
+use dslx_meaning::DslxValue;
+use dslx_networks::{LoweredConfig, ProcInstance};
+use dslx_next_steps::next_there;
+use dslx_number_values::bindings_of;
+use dslx_tree::{Module, Proc};
+use dslx_types_alike::is_of;
+use std::alloc::{AllocError, Global};
+
+/// What a proc with these number arguments becomes where these instances of procs are there to be spawned, with the instances of
+/// functions that it needs behind those that are made; `None` where it becomes nothing by any table of at most so many instances.
+pub fn proc_there<'a>(
+    alloc: Global,
+    text: &'a Module,
+    limit: usize,
+    table: InstanceTable,
+    procs: &[ProcInstance],
+    process: &'a Proc,
+    numbers: &[DslxValue],
+) -> Result<Option<(Instance, InstanceTable)>, AllocError>
+    requires is_table { IsTable text.now (meanings_of text.now) table }
+    ensures { IfOk result (λ o. Comes text.now limit table (λ functions. proc_lowered text.now (meanings_of text.now) functions procs.now process.now numbers.now) o) }
+{
+    let bound = bindings_of(alloc, process.parameters.as_slice(), numbers)?;
+    match next_there(alloc, text, limit, table, process, bound)? {
+        Some((next, table)) => match instance_with(alloc, text, procs, process, numbers, next)? {
+            Some(instance) => Ok(Some((instance, table))),
+            None => Ok(None),
+        },
+        None => Ok(None),
+    }
+}
+
+/// The whole of it, where its `next` becomes this.
+fn instance_with<'a>(
+    alloc: Global,
+    text: &'a Module,
+    procs: &[ProcInstance],
+    process: &'a Proc,
+    numbers: &[DslxValue],
+    next: LoweredNext,
+) -> Result<Option<Instance>, AllocError>
+    ensures { IfOk result (λ i. i ≡ behind_next text.now procs.now process.now numbers.now next) }
+{
+    match config_there(alloc, text, procs, process, numbers)? {
+        Some(config) => instance_opening(alloc, text, process, numbers, next, config),
+        None => Ok(None),
+    }
+}
+
+/// The same where its `config` becomes this.
+fn instance_opening<'a>(
+    alloc: Global,
+    text: &'a Module,
+    process: &'a Proc,
+    numbers: &[DslxValue],
+    next: LoweredNext,
+    config: LoweredConfig,
+) -> Result<Option<Instance>, AllocError>
+    ensures { IfOk result (λ i. i ≡ behind_config text.now process.now numbers.now next config) }
+{
+    match opening_there(alloc, text, process, numbers)? {
+        Some(opening) => if is_of(&next.state, &opening) {
+            Ok(Some(instance_of(alloc, process, next, config, &opening)?))
+        } else {
+            Ok(None)
+        },
+        None => Ok(None),
+    }
+}
+
+fn instance_of(
+    alloc: Global,
+    process: &Proc,
+    next: LoweredNext,
+    config: LoweredConfig,
+    opening: &DslxValue,
+) -> Result<Instance, AllocError>
+    ensures { IfOk result (λ i. i ≡ the_instance process.now next config opening.now) }
+{
+    Ok(Instance {
+        made: config.made,
+        children: config.children,
+        members: config.members,
+        ends: process.config.ends.len() as u64,
+        state: plain_type(alloc, &next.state)?,
+        opening: plain_value(alloc, opening)?,
+        steps: next.steps,
+        next: next.next,
+    })
+}

@@ -1,0 +1,96 @@
+//! The instances of a text's procs without number parameters, in the order of the text.
+
+ghost use Rattle.std.specs.Prelude.{IfOk};
+ghost use Rattle.dslx_instance_machine.specs.Reached.{IsTable};
+ghost use Rattle.dslx_meaning.specs.Items.{meanings_of};
+ghost use Rattle.dslx_proc_instances.specs.Adding.{KeepsTable};
+
+use dslx_core::Instance;
+use dslx_instance_table::InstanceTable;
+use dslx_lowering::Instantiated;
+use dslx_meaning::DslxValue;
+use dslx_networks::ProcInstance;
+use dslx_parser::read;
+use dslx_proc_instances::{MadeInstances, add_proc};
+use dslx_tree::{Definition, Item, Module, Proc};
+use std::alloc::{AllocError, Global};
+use std::test::Fail;
+use texts::Name;
+use xb_bits::Bits;
+use xb_value::Seq;
+
+/// More instances than any text here comes to.
+const LIMIT: usize = 1024;
+
+/// All instances of the text's procs: a proc with number parameters has one with a 3 for each of them. `None` where one of them becomes
+/// nothing.
+pub fn instances(alloc: Global, text: &str) -> Result<Option<MadeInstances>, Fail> {
+    if text.len() >= 4_294_967_296 {
+        return Err(Fail::from("long"));
+    }
+    let module = match read(alloc, text) {
+        Ok(module) => module,
+        Err(_) => return Err(Fail::from("no text")),
+    };
+    let none = MadeInstances {
+        functions: InstanceTable::new(alloc),
+        procs: Vec::new(alloc),
+    };
+    Ok(all_of(alloc, &module, none)?)
+}
+
+fn all_of(
+    alloc: Global,
+    module: &Module,
+    none: MadeInstances,
+) -> Result<Option<MadeInstances>, AllocError>
+    requires is_table { IsTable module.now (meanings_of module.now) none.functions }
+{
+    let mut made = none;
+    'items: for item in module.items.as_slice() {
+        match item_of(alloc, module, made, item)? {
+            Some(more) => made = more,
+            None => return Ok(None),
+        }
+    }
+    Ok(Some(made))
+}
+
+/// With the instance of an item that is a proc.
+fn item_of(
+    alloc: Global,
+    module: &Module,
+    made: MadeInstances,
+    item: &Item,
+) -> Result<Option<MadeInstances>, AllocError>
+    requires is_table { IsTable module.now (meanings_of module.now) made.functions }
+    ensures { IfOk result (KeepsTable module.now) }
+{
+    match &item.definition {
+        Definition::Proc(process) => {
+            let wanted = wanted(alloc, process)?;
+            add_proc(alloc, module, LIMIT, made, wanted)
+        }
+        _ => Ok(Some(made)),
+    }
+}
+
+/// The instance of a proc with a 3 for each of its number parameters.
+fn wanted(alloc: Global, process: &Proc) -> Result<Instantiated, AllocError> {
+    let mut numbers = Vec::new(alloc);
+    for _ in 0..process.parameters.len() {
+        numbers.push(DslxValue::Bits(false, Bits::new(32, 3)))?;
+    }
+    Ok(Instantiated {
+        name: Name::from_string(String::from_str(alloc, process.name.name.as_str())?),
+        numbers: Seq::from_vec(numbers),
+    })
+}
+
+/// The last instance.
+pub fn last_instance(procs: &[ProcInstance]) -> Result<&Instance, Fail> {
+    match procs {
+        [.., last] => Ok(&last.instance),
+        [] => Err(Fail::from("no proc")),
+    }
+}

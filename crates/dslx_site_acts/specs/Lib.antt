@@ -1,0 +1,2 @@
+-- what expressions do as statements, without references
+pub mod Acts
