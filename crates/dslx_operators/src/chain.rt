@@ -96,3 +96,6 @@ fn join(
         },
     })
 }
+
+#[cfg(test)]
+mod tests;

@@ -25,7 +25,7 @@ AddsMissing m limit before i None = IsNever m limit before.functions (λ functio
 AddsMissing m limit before i (Some after) = IsOneMore m before i after
 
 -- what comes of an instance that is asked for: it stays the one that is there, or is made behind the others, or it becomes nothing by
--- any table of at most so many instances of functions
+-- each table of at most so many instances of functions that begins with some table (`IsNever`)
 pub data AddsProc (m : Module) (limit : ℕ) (before : MadeInstances) (i : Instantiated) : Option MadeInstances → Type 0 where
   IsAmong : (k : ℕ) → number_in before i ≡ Some k → AddsProc m limit before i (Some before)
   IsAdded : (o : Option MadeInstances) → number_in before i ≡ None → AddsMissing m limit before i o → AddsProc m limit before i o

@@ -24,7 +24,8 @@ use dslx_types_alike::is_of;
 use std::alloc::{AllocError, Global};
 
 /// What a proc with these number arguments becomes where these instances of procs are there to be spawned, with the instances of
-/// functions that it needs behind those that are made; `None` where it becomes nothing by any table of at most so many instances.
+/// functions that it needs behind those that are made; of `None` the contract (`IsNever`) speaks from some
+/// table on, and says nothing where that one is longer than the limit.
 pub fn proc_there<'a>(
     alloc: Global,
     text: &'a Module,

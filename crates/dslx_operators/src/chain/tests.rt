@@ -1,0 +1,50 @@
+use super::*;
+use dslx_tree::Number;
+use std::test::Fail;
+
+/// The number, at its place in a text of digits and operators.
+fn number(value: u32) -> Operand {
+    let span = Span {
+        from: value,
+        to: value.saturating_add(1),
+    };
+    let number = Number {
+        ty: None,
+        is_negative: false,
+        value: u128::from(value),
+    };
+    Operand {
+        span,
+        expr: Expr {
+            span,
+            node: Node::Number(number),
+        },
+    }
+}
+
+/// The operator of the expression, if it has one.
+fn operator(expr: &Expr) -> Option<Binary> {
+    match &expr.node {
+        Node::Binary(operator, _, _) => Some(*operator),
+        _ => None,
+    }
+}
+
+#[test]
+fn product_below_sum(rt: HostRuntime) -> Result<(), Fail> {
+    let alloc = rt.alloc();
+    // 0 + 2 * 4, the last link first
+    let mut links = Vec::new(alloc);
+    links.push(Link {
+        operator: Binary::Mul,
+        operand: number(4),
+    })?;
+    links.push(Link {
+        operator: Binary::Add,
+        operand: number(2),
+    })?;
+    let whole = tree(alloc, number(0), links)?;
+    assert_eq!(rt; whole.span, Span { from: 0, to: 5 });
+    assert_eq!(rt; operator(&whole.expr), Some(Binary::Add));
+    Ok(())
+}
