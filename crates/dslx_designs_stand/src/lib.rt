@@ -1,15 +1,17 @@
 //! That each text without faults has a design: a checked text that is made of its instances and stands for it.
 #![tactic(auto)]
 
-ghost use Rattle.std.specs.Prelude.{◌≡◌, ℕ, List, [], Option, Some, true};
+ghost use Rattle.std.specs.Prelude.{◌≡◌, ◌≤◌, ℕ, List, [], Option, Some, length, true};
 ghost use Rattle.dslx_tree.specs.declared.item.Module.{Module};
 ghost use Rattle.dslx_tree.specs.declared.process.Proc.{Proc};
 ghost use Rattle.dslx_meaning.specs.Items.{meanings_of};
 ghost use Rattle.dslx_meaning.specs.Network.{top_proc};
 ghost use Rattle.dslx_meaning.specs.declared.value.DslxValue.{DslxValue};
-ghost use Rattle.dslx_rules.specs.ModuleRules.{faults_of};
+ghost use Rattle.dslx_rules.specs.ModuleRules.{faults_of, instances_of};
 ghost use Rattle.dslx_laws.specs.Recursion.{HasNoCycle};
 ghost use Rattle.dslx_depends.specs.Settled.{BindsNoConstant};
+ghost use Rattle.dslx_lowering.specs.Steps.{next_lowered, proc_known};
+ghost use Rattle.dslx_grown_tables.specs.Comes.{IsNever};
 ghost use Rattle.dslx_tables.specs.Tables.{FunctionsHaveTable};
 ghost use Rattle.dslx_tables.specs.Widths.{text_writes_widths};
 ghost use Rattle.dslx_fine_families.specs.EachPlaced.{NextBecomes};
@@ -32,6 +34,17 @@ pub fn reached_nexts_are_lowered()
     dslx_lowers::members_stand();
     dslx_lowers::next_is_lowered();
     dslx_words::words_of_ends_have_widths();
+}
+
+/// So none of these is given up where as many instances of functions are allowed as are checked: that it becomes nothing by any table
+/// of at most so many (`IsNever`) isn't so.
+pub fn reached_nexts_are_not_given_up()
+    ensures { (m : Module) (top : Option (List ℕ)) → HasNoCycle m → BindsNoConstant m → text_writes_widths m ≡ true → faults_of m top ≡ []
+        → (p : Proc) (numbers : List DslxValue) → IsReachedProc m (meanings_of m) top p numbers → (limit : ℕ) → length (instances_of m top) ≤ limit
+        → IsNever m limit (λ table. next_lowered (proc_known m (meanings_of m) table p numbers) p) → ⊥ }
+{
+    dslx_tables::accepted_functions_have_a_table();
+    reached_nexts_are_lowered();
 }
 
 /// And the procs have an order in which each spawns only those before it: those with shorter chains of items first. So they

@@ -6,9 +6,10 @@ ghost use Rattle.dslx_tree.specs.declared.expr.Arm.{out-Arm};
 ghost use Rattle.dslx_lowering.specs.Functions.{CoreInstance};
 ghost use Rattle.dslx_instance_machine.specs.Arms.{alternatives_begin, arm_begins, arm_taken, arms_on, binding_begins};
 ghost use Rattle.dslx_instance_machine.specs.Bodies.{doing, with_last, with_made};
-ghost use Rattle.dslx_instance_machine.specs.Tasks.{LowersExpr, TakesArm};
-ghost use Rattle.dslx_instance_tasks.specs.Shown.{body_shown, match_shown, sight_of, task_shown};
+ghost use Rattle.dslx_instance_machine.specs.Tasks.{LowersExpr, Restores, TakesArm};
+ghost use Rattle.dslx_instance_tasks.specs.Shown.{body_shown, match_shown, sight_of};
 
+use crate::held::{Mark, go_back, mark_of, take_boxed};
 use dslx_core::Shape;
 use dslx_instance_places::sight_in;
 use dslx_instance_tasks::{ArmsTask, LowerTask, MatchWork, OpenBody};
@@ -17,7 +18,7 @@ use dslx_lowering::{LoweredArm, LoweredExpr};
 use dslx_place_patterns::{BodyKnown, alternatives_there, bind_there, binds_nothing_new};
 use dslx_tree::{Arm, Module, Pattern};
 use std::alloc::{AllocError, Global};
-use xb_value::Seq;
+use xb_value::{Boxed, Seq};
 
 /// What was made last is matched by these arms.
 pub fn begin_arms<'a>(
@@ -28,7 +29,7 @@ pub fn begin_arms<'a>(
 ) -> Result<bool, AllocError>
     ensures { IfOk result (λ is. (table : List CoreInstance) → where_true is (Some (body_shown body.new)) ≡ with_last (body_shown body.old).made (λ e made. arms_on (sight_of text.now table) e [] arms.now (with_made made (body_shown body.old)))) }
 {
-    match body.made.take_off() {
+    match take_boxed(&mut body.made, alloc)? {
         Some(value) => next_arm(body, alloc, text, value, Vec::new(alloc), arms),
         None => Ok(false),
     }
@@ -39,7 +40,7 @@ fn next_arm<'a>(
     body: &mut OpenBody<'a>,
     alloc: Global,
     text: &'a Module,
-    value: LoweredExpr,
+    value: Boxed<LoweredExpr>,
     before: Vec<LoweredArm>,
     arms: &'a [Arm],
 ) -> Result<bool, AllocError>
@@ -47,20 +48,18 @@ fn next_arm<'a>(
 {
     match arms {
         [] => {
-            let made = select_lowered(alloc, value, before)?;
+            let made = select_lowered(alloc, value.into_inner(), before)?;
             body.give_if(made)
         }
-        [first, rest @ ..] => begin_arm(
-            body,
-            alloc,
-            text,
-            MatchWork {
-                value,
+        [first, rest @ ..] => {
+            let work = MatchWork {
+                value: value.into_inner(),
                 before,
                 arm: first,
                 behind: rest,
-            },
-        ),
+            };
+            begin_arm(body, alloc, text, Boxed::new(alloc, work)?)
+        }
     }
 }
 
@@ -69,11 +68,11 @@ fn begin_arm<'a>(
     body: &mut OpenBody<'a>,
     alloc: Global,
     text: &'a Module,
-    work: MatchWork<'a>,
+    work: Boxed<MatchWork<'a>>,
 ) -> Result<bool, AllocError>
     ensures { IfOk result (λ is. (table : List CoreInstance) → where_true is (Some (body_shown body.new)) ≡ arm_begins (sight_of text.now table) (match_shown work.entry) (body_shown body.old)) }
 {
-    let patterns = work.arm.patterns.as_slice();
+    let patterns = work.get().arm.patterns.as_slice();
     if binds_nothing_new(text, patterns) {
         begin_alternatives(body, alloc, text, work, patterns)
     } else {
@@ -85,16 +84,16 @@ fn begin_alternatives<'a>(
     body: &mut OpenBody<'a>,
     alloc: Global,
     text: &'a Module,
-    work: MatchWork<'a>,
+    work: Boxed<MatchWork<'a>>,
     patterns: &'a [Pattern],
 ) -> Result<bool, AllocError>
     ensures { IfOk result (λ is. (table : List CoreInstance) → where_true is (Some (body_shown body.new)) ≡ alternatives_begin (sight_of text.now table) (match_shown work.entry) patterns.now (body_shown body.old)) }
 {
     let sight = sight_in(text, body);
-    match alternatives_there(alloc, sight, body.count, patterns, &work.value.ty)? {
+    match alternatives_there(alloc, sight, body.count, patterns, &work.get().value.ty)? {
         Some(shapes) => {
-            let arm = work.arm;
-            body.first_arms(alloc, ArmsTask::TakeArm(work, shapes))?;
+            let arm = work.get().arm;
+            body.first_arms(alloc, ArmsTask::TakeArm(work.into_inner(), shapes))?;
             body.first(LowerTask::Expr(&arm.value))?;
             Ok(true)
         }
@@ -107,7 +106,7 @@ fn begin_binding<'a>(
     body: &mut OpenBody<'a>,
     alloc: Global,
     text: &'a Module,
-    work: MatchWork<'a>,
+    work: Boxed<MatchWork<'a>>,
     patterns: &'a [Pattern],
 ) -> Result<bool, AllocError>
     ensures { IfOk result (λ is. (table : List CoreInstance) → where_true is (Some (body_shown body.new)) ≡ binding_begins (sight_of text.now table) (match_shown work.entry) patterns.now (body_shown body.old)) }
@@ -123,12 +122,12 @@ fn begin_pattern<'a>(
     body: &mut OpenBody<'a>,
     alloc: Global,
     text: &'a Module,
-    work: MatchWork<'a>,
+    work: Boxed<MatchWork<'a>>,
     pattern: &'a Pattern,
 ) -> Result<bool, AllocError>
     ensures { IfOk result (λ is. (table : List CoreInstance) → where_true is (Some (body_shown body.new)) ≡ binding_begins (sight_of text.now table) (match_shown work.entry) (pattern.now ∷ []) (body_shown body.old)) }
 {
-    let back = body.restores_here();
+    let back = mark_of(body);
     let known = BodyKnown {
         text,
         numbers: body.given.as_slice(),
@@ -139,7 +138,7 @@ fn begin_pattern<'a>(
         &mut body.locals,
         body.count,
         pattern,
-        &work.value.ty,
+        &work.get().value.ty,
     )? {
         Some(bound) => {
             body.count = bound.count;
@@ -154,16 +153,16 @@ fn begin_pattern<'a>(
 fn begin_bound<'a>(
     body: &mut OpenBody<'a>,
     alloc: Global,
-    work: MatchWork<'a>,
+    work: Boxed<MatchWork<'a>>,
     shape: Shape,
-    back: LowerTask<'a>,
+    back: Mark,
 ) -> Result<(), AllocError>
-    ensures { OnOk result (body_shown body.new ≡ doing (LowersExpr (out-Arm work.entry.arm.now).value ∷ task_shown back.entry ∷ TakesArm (match_shown work.entry) (shape ∷ []) ∷ []) (body_shown body.old)) }
+    ensures { OnOk result (body_shown body.new ≡ doing (LowersExpr (out-Arm work.entry.arm.now).value ∷ Restores back.names back.count ∷ TakesArm (match_shown work.entry) (shape ∷ []) ∷ []) (body_shown body.old)) }
 {
-    let arm = work.arm;
+    let arm = work.get().arm;
     let shapes = one_shape(alloc, shape)?;
-    body.first_arms(alloc, ArmsTask::TakeArm(work, shapes))?;
-    body.first(back)?;
+    body.first_arms(alloc, ArmsTask::TakeArm(work.into_inner(), shapes))?;
+    go_back(body, back)?;
     body.first(LowerTask::Expr(&arm.value))
 }
 
@@ -185,10 +184,18 @@ pub fn take_arm<'a>(
 ) -> Result<bool, AllocError>
     ensures { IfOk result (λ is. (table : List CoreInstance) → where_true is (Some (body_shown body.new)) ≡ with_last (body_shown body.old).made (λ v made. arm_taken (sight_of text.now table) (match_shown work.entry) shapes v (with_made made (body_shown body.old)))) }
 {
-    match body.made.take_off() {
-        Some(value) => {
-            let before = put_behind(work.before, arm_of(shapes, value))?;
-            next_arm(body, alloc, text, work.value, before, work.behind)
+    let work = Boxed::new(alloc, work)?;
+    match take_boxed(&mut body.made, alloc)? {
+        Some(made) => {
+            let MatchWork {
+                value,
+                before,
+                behind,
+                ..
+            } = work.into_inner();
+            let value = Boxed::new(alloc, value)?;
+            let before = put_behind(before, arm_of(shapes, made.into_inner()))?;
+            next_arm(body, alloc, text, value, before, behind)
         }
         None => Ok(false),
     }

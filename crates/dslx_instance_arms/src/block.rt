@@ -1,12 +1,15 @@
 //! Values that are taken apart for the rest of a block.
 
-ghost use Rattle.std.specs.Prelude.{◌≡◌, List, Some, IfOk};
+ghost use Rattle.std.specs.Prelude.{◌≡◌, ◌∷◌, [], List, Some, IfOk, OnOk};
 ghost use Rattle.dslx_meaning.specs.Lists.{where_true};
 ghost use Rattle.dslx_lowering.specs.Functions.{CoreInstance};
-ghost use Rattle.dslx_instance_machine.specs.Bodies.{with_last, with_made};
+ghost use Rattle.dslx_instance_machine.specs.Bodies.{doing, with_last, with_made};
 ghost use Rattle.dslx_instance_machine.specs.Steps.{value_bound};
+ghost use Rattle.dslx_instance_machine.specs.Tasks.{MakesBind};
 ghost use Rattle.dslx_instance_tasks.specs.Shown.{body_shown, sight_of};
 
+use crate::held::{go_back, mark_of, take_boxed};
+use dslx_core::Shape;
 use dslx_instance_tasks::{BlockTask, LowerTask, OpenBody};
 use dslx_lowering::LoweredExpr;
 use dslx_place_patterns::{BodyKnown, bind_there};
@@ -25,7 +28,7 @@ pub fn bind_value<'a>(
 ) -> Result<bool, AllocError>
     ensures { IfOk result (λ is. (table : List CoreInstance) → where_true is (Some (body_shown body.new)) ≡ with_last (body_shown body.old).made (λ e made. value_bound (sight_of text.now table) e pattern.now rest.now last.now (with_made made (body_shown body.old)))) }
 {
-    match body.made.take_off() {
+    match take_boxed(&mut body.made, alloc)? {
         Some(value) => bind_made(body, alloc, text, value, pattern, rest, last),
         None => Ok(false),
     }
@@ -36,14 +39,14 @@ fn bind_made<'a>(
     body: &mut OpenBody<'a>,
     alloc: Global,
     text: &'a Module,
-    value: LoweredExpr,
+    value: Boxed<LoweredExpr>,
     pattern: &'a Pattern,
     rest: &'a [Stmt],
     last: &'a Option<Boxed<Expr>>,
 ) -> Result<bool, AllocError>
     ensures { IfOk result (λ is. (table : List CoreInstance) → where_true is (Some (body_shown body.new)) ≡ value_bound (sight_of text.now table) value pattern.now rest.now last.now (body_shown body.old)) }
 {
-    let back = body.restores_here();
+    let back = mark_of(body);
     let known = BodyKnown {
         text,
         numbers: body.given.as_slice(),
@@ -54,15 +57,26 @@ fn bind_made<'a>(
         &mut body.locals,
         body.count,
         pattern,
-        &value.ty,
+        &value.get().ty,
     )? {
         Some(bound) => {
             body.count = bound.count;
-            body.first(back)?;
-            body.first(LowerTask::Bind(Boxed::new(alloc, value)?, bound.shape))?;
+            go_back(body, back)?;
+            bind_later(body, value, bound.shape)?;
             body.first_block(alloc, BlockTask::Statements(rest, last))?;
             Ok(true)
         }
         None => Ok(false),
     }
+}
+
+/// This value is taken apart so for what is made last then.
+fn bind_later<'a>(
+    body: &mut OpenBody<'a>,
+    value: Boxed<LoweredExpr>,
+    shape: Shape,
+) -> Result<(), AllocError>
+    ensures { OnOk result (body_shown body.new ≡ doing (MakesBind value shape ∷ []) (body_shown body.old)) }
+{
+    body.first(LowerTask::Bind(value, shape))
 }

@@ -3,6 +3,7 @@
 
 mod arms;
 mod block;
+mod held;
 mod turns;
 
 pub use arms::{begin_arms, take_arm};

@@ -12,6 +12,7 @@ ghost use Rattle.dslx_instance_machine.specs.Tasks.{LowersBlock, MakesLoop};
 ghost use Rattle.dslx_instance_arms.specs.Inner.Bounds.{bounds_of};
 ghost use Rattle.dslx_instance_tasks.specs.Shown.{body_shown, sight_of};
 
+use crate::held::{go_back, mark_of, take_boxed};
 use dslx_core::Shape;
 use dslx_instance_places::constant_in_body;
 use dslx_instance_tasks::{BlockTask, LoopTask, OpenBody};
@@ -22,6 +23,7 @@ use dslx_place_patterns::{BodyKnown, turn_there};
 use dslx_tree::{Expr, For, Module};
 use dslx_values::bits_of;
 use std::alloc::{AllocError, Global};
+use xb_value::Boxed;
 
 /// What was made last is the first index of a loop, and what was made before is what it begins with.
 pub fn start_loop<'a>(
@@ -32,8 +34,8 @@ pub fn start_loop<'a>(
 ) -> Result<bool, AllocError>
     ensures { IfOk result (λ is. (table : List CoreInstance) → where_true is (Some (body_shown body.new)) ≡ with_last (body_shown body.old).made (λ index made. with_last made (λ start made. loop_begins turns.now start index (sight_of text.now table) (with_made made (body_shown body.old))))) }
 {
-    match body.made.take_off() {
-        Some(index) => match body.made.take_off() {
+    match take_boxed(&mut body.made, alloc)? {
+        Some(index) => match take_boxed(&mut body.made, alloc)? {
             Some(start) => begin_between(body, alloc, text, turns, start, index),
             None => Ok(false),
         },
@@ -47,8 +49,8 @@ fn begin_between<'a>(
     alloc: Global,
     text: &'a Module,
     turns: &'a For,
-    start: LoweredExpr,
-    index: LoweredExpr,
+    start: Boxed<LoweredExpr>,
+    index: Boxed<LoweredExpr>,
 ) -> Result<bool, AllocError>
     ensures { IfOk result (λ is. (table : List CoreInstance) → where_true is (Some (body_shown body.new)) ≡ loop_begins turns.now start index (sight_of text.now table) (body_shown body.old)) }
 {
@@ -96,14 +98,14 @@ fn begin_turns<'a>(
     alloc: Global,
     text: &'a Module,
     turns: &'a For,
-    start: LoweredExpr,
-    index: LoweredExpr,
+    start: Boxed<LoweredExpr>,
+    index: Boxed<LoweredExpr>,
     from: SignedWord,
     to: SignedWord,
 ) -> Result<bool, AllocError>
     ensures { IfOk result (λ is. (table : List CoreInstance) → where_true is (Some (body_shown body.new)) ≡ and_then (turn_shaped (place_in (sight_of text.now table) (body_shown body.old)) turns.now index.ty start.ty) (λ t. Some (bound_as t.1.place (doing (LowersBlock (out-For turns.now).body ∷ MakesLoop start from to t.0 t.1.shape ∷ restores (body_shown body.old) ∷ []) (body_shown body.old))))) }
 {
-    let back = body.restores_here();
+    let back = mark_of(body);
     let known = BodyKnown {
         text,
         numbers: body.given.as_slice(),
@@ -114,16 +116,15 @@ fn begin_turns<'a>(
         &mut body.locals,
         body.count,
         turns,
-        &index.ty,
-        &start.ty,
+        &index.get().ty,
+        &start.get().ty,
     )? {
         Some(bound) => {
             body.count = bound.count;
-            body.first(back)?;
-            body.first_loop(
-                alloc,
-                LoopTask::Make(start, from, to, bound.index, bound.accumulator),
-            )?;
+            go_back(body, back)?;
+            let start = start.into_inner();
+            let task = LoopTask::Make(start, from, to, bound.index, bound.accumulator);
+            body.first_loop(alloc, task)?;
             body.first_block(alloc, BlockTask::Block(&turns.body))?;
             Ok(true)
         }

@@ -9,6 +9,7 @@ ghost use Rattle.dslx_lowering.specs.Lowering as lowering;
 ghost use Rattle.dslx_lowered_calls.specs.Builtins.{builtin_of};
 ghost use Rattle.dslx_lowered_calls.specs.Inner.Parts.{is_of_elements as are_elements};
 
+use crate::held::{boxed_three, core_of, where_holds};
 use dslx_core::{CoreExpr, CoreUnary};
 use dslx_lowered_operators::{counted_lowered, reduced_lowered};
 use dslx_lowering::LoweredExpr;
@@ -16,7 +17,7 @@ use dslx_meaning::DslxType;
 use dslx_names::Callee;
 use dslx_types_alike::equal_type;
 use std::alloc::{AllocError, Global};
-use xb_value::{Boxed, Seq};
+use xb_value::Seq;
 
 /// What a builtin gives for these operands. Effects, and functions of the text, are none.
 #[tactic(auto, using(crate::proofs::BuiltinLemmas::join_is))]
@@ -101,14 +102,31 @@ fn update_lowered(
 ) -> Result<Option<LoweredExpr>, AllocError>
     ensures { IfOk result (λ e. e ≡ lowering.updated_lowered (Some array ∷ Some index ∷ Some new ∷ [])) }
 {
-    if is_of_elements(&array.ty, &new.ty) {
-        Ok(Some(LoweredExpr {
-            core: update(alloc, array.core, index.core, new.core)?,
-            ty: array.ty,
-        }))
-    } else {
-        Ok(None)
+    let fits = is_of_elements(&array.ty, &new.ty);
+    match where_holds(fits, (array, index, new)) {
+        Some((array, index, new)) => Ok(Some(with_update(
+            alloc,
+            array,
+            core_of(index),
+            core_of(new),
+        )?)),
+        None => Ok(None),
     }
+}
+
+fn with_update(
+    alloc: Global,
+    array: LoweredExpr,
+    index: CoreExpr,
+    new: CoreExpr,
+) -> Result<LoweredExpr, AllocError>
+    ensures { IfOk result (λ e. e ≡ record { core = update_core array.core index new; ty = array.ty }) }
+{
+    let (array, index, new, ty) = boxed_three(alloc, array.core, index, new, array.ty)?;
+    Ok(LoweredExpr {
+        core: CoreExpr::Update(array, index, new),
+        ty,
+    })
 }
 
 /// Whether a type is that of an array's elements.
@@ -119,20 +137,6 @@ fn is_of_elements(array: &DslxType, ty: &DslxType) -> bool
         DslxType::Array(part, _) => equal_type(part.get(), ty),
         _ => false,
     }
-}
-
-fn update(
-    alloc: Global,
-    array: CoreExpr,
-    index: CoreExpr,
-    new: CoreExpr,
-) -> Result<CoreExpr, AllocError>
-    ensures { IfOk result (λ e. e ≡ update_core array index new) }
-{
-    let array = Boxed::new(alloc, array)?;
-    let index = Boxed::new(alloc, index)?;
-    let new = Boxed::new(alloc, new)?;
-    Ok(CoreExpr::Update(array, index, new))
 }
 
 /// The one item, if it is one.

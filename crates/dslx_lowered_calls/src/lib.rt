@@ -5,6 +5,7 @@
 
 mod builtins;
 mod calls;
+mod held;
 mod loops;
 mod matches;
 mod turns;

@@ -5,6 +5,7 @@ ghost use Rattle.dslx_core.specs.declared.expr.CoreExpr.{Loop as loop_core};
 ghost use Rattle.dslx_instance_machine.specs.Steps.{loop_made};
 ghost use Rattle.dslx_lowered_calls.specs.Inner.Turns.{turns_of as the_turns};
 
+use crate::held::{boxed_two, core_of, with_both};
 use crate::turns::few_turns;
 use dslx_core::{CoreExpr, Shape};
 use dslx_lowering::LoweredExpr;
@@ -12,7 +13,6 @@ use dslx_meaning::SignedWord;
 use dslx_types_alike::equal_type;
 use std::alloc::{AllocError, Global};
 use xb_bits::Bits;
-use xb_value::Boxed;
 
 /// A loop from one index to before another, if a turn gives what is accumulated its type again and there are fewer than 2^64 turns.
 #[tactic(auto, using(crate::proofs::LoopLemmas::loop_none, crate::proofs::LoopLemmas::loop_some))]
@@ -27,19 +27,17 @@ pub fn loop_lowered(
 ) -> Result<Option<LoweredExpr>, AllocError>
     ensures { IfOk result (λ e. e ≡ loop_made start from to index accumulator body) }
 {
-    match turns_of(&start, &from, &to, &body) {
-        Some(turns) => Ok(Some(LoweredExpr {
-            core: repeated(
-                alloc,
-                turns,
-                from.word,
-                index,
-                accumulator,
-                body.core,
-                start.core,
-            )?,
-            ty: start.ty,
-        })),
+    let turns = turns_of(&start, &from, &to, &body);
+    match with_both(turns, (start, index, accumulator, body)) {
+        Some((turns, (start, index, accumulator, body))) => Ok(Some(repeated(
+            alloc,
+            turns,
+            from.word,
+            index,
+            accumulator,
+            core_of(body),
+            start,
+        )?)),
         None => Ok(None),
     }
 }
@@ -69,11 +67,15 @@ fn repeated(
     index: Shape,
     accumulator: Shape,
     body: CoreExpr,
-    start: CoreExpr,
-) -> Result<CoreExpr, AllocError>
-    ensures { IfOk result (λ e. e ≡ loop_core turns from index accumulator body start) }
+    start: LoweredExpr,
+) -> Result<LoweredExpr, AllocError>
+    ensures { IfOk result (λ e. e ≡ record { core = loop_core turns from index accumulator body start.core; ty = start.ty }) }
 {
-    let body = Boxed::new(alloc, body)?;
-    let start = Boxed::new(alloc, start)?;
-    Ok(CoreExpr::Loop(turns, from, index, accumulator, body, start))
+    let beside = (index, accumulator, start.ty);
+    let (body, start, beside) = boxed_two(alloc, body, start.core, beside)?;
+    let (index, accumulator, ty) = beside;
+    Ok(LoweredExpr {
+        core: CoreExpr::Loop(turns, from, index, accumulator, body, start),
+        ty,
+    })
 }

@@ -8,6 +8,7 @@ ghost use Rattle.dslx_lowering.specs.Patterns as patterns;
 ghost use Rattle.dslx_lowering.specs.Patterns.{LoweredArm as ArmPart, arms_of as the_match};
 ghost use Rattle.dslx_lowered_calls.specs.Inner.Parts.{type_of_all as the_type_of_all, type_of_first as the_type_of_first};
 
+use crate::held::core_of;
 use dslx_core::{Arm, CoreExpr, Shape};
 use dslx_lowering::{LoweredArm, LoweredExpr};
 use dslx_meaning::DslxType;
@@ -38,9 +39,10 @@ pub fn select_lowered(
 ) -> Result<Option<LoweredExpr>, AllocError>
     ensures { IfOk result (λ e. e ≡ the_match value arms.items) }
 {
+    let value = Boxed::new(alloc, value)?;
     match type_of_all(alloc, arms.as_slice())? {
         Some(ty) => Ok(Some(LoweredExpr {
-            core: select(alloc, value.core, arms)?,
+            core: select(alloc, core_of(value.into_inner()), arms)?,
             ty,
         })),
         None => Ok(None),

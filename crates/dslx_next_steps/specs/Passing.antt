@@ -4,6 +4,7 @@ use Rattle.dslx_tree.specs.declared.block.Block.{Block, out-Block}
 use Rattle.dslx_tree.specs.declared.block.Stmt.{Stmt, out-Stmt}
 use Rattle.dslx_tree.specs.declared.expr.Expr.{Expr}
 use Rattle.dslx_meaning.specs.Activation.{act_of}
+use Rattle.dslx_meaning.specs.Items.{meanings_of}
 use Rattle.dslx_meaning.specs.Lists.{and_then}
 use Rattle.dslx_core.specs.declared.expr.Shape.{Shape}
 use Rattle.dslx_core.specs.declared.step.Step.{Step}
@@ -13,9 +14,9 @@ use Rattle.dslx_lowering.specs.Functions.{CoreInstance}
 use Rattle.dslx_lowering.specs.Lowering.{LoweredExpr}
 use Rattle.dslx_lowering.specs.Patterns.{shaped}
 use Rattle.dslx_lowering.specs.Steps.{BindsAtPlace, LoweredSteps, LowersSteps, act_lowered, last_of_steps, statement_steps, statements_steps}
-use Rattle.dslx_instance_machine.specs.Reached.{GrownFrom}
+use Rattle.dslx_instance_machine.specs.Reached.{GrownFrom, IsTable}
 use Rattle.dslx_instance_tasks.specs.declared.work.BodyWork.{BodyWork}
-use Rattle.dslx_open_steps.specs.Comes.{TableGrows, IsNever}
+use Rattle.dslx_grown_tables.specs.Comes.{TableGrows, IsNever}
 use Rattle.dslx_open_steps.specs.Opened.{with_shape}
 use Rattle.dslx_open_steps.specs.declared.opened.OpenStep.{OpenStep}
 use Rattle.dslx_open_steps.specs.declared.work.NextKnown.{NextKnown}
@@ -60,14 +61,19 @@ statements_then outer k (s ∷ ss) rest place = statement_steps outer k.ends.now
 abbrev pub statements_at : NextKnown → BodyWork → List Stmt → Leads
 statements_at k w ss table rest = statements_then (outer_at k w table) k ss rest (place_at k w table)
 
--- the steps of statements go behind others, and the body behind them
+-- if there are steps, there are those behind them, with the same state
+abbrev pub HasState : Option LoweredSteps → Option LoweredSteps → Type 0
+HasState all behind = (r : LoweredSteps) → all ≡ Some r → (s : LoweredSteps) × (behind ≡ Some s) × (r.next ≡ s.next)
+
+-- the steps of statements go behind others, and the body behind them; by a table that doesn't begin with that one they may be others
 pub record IsPassed (k : NextKnown) (leads : Leads) (steps : List Step) (w : BodyWork) (new_steps : List Step) (after : BodyWork) : Type 0 where
   pub grows : TableGrows k.text.now w.table after.table
   pub numbers : map given after.given.items ≡ map given w.given.items
   pub passed : (t : List CoreInstance) → GrownFrom t after.table → (rest : LowersSteps) → behind_steps steps (leads t rest) ≡ behind_steps new_steps (rest (place_at k after t))
+  pub state : (t : List CoreInstance) → IsTable k.text.now (meanings_of k.text.now) t → (rest : LowersSteps) → HasState (leads t rest) (rest (place_at k after t))
 
 abbrev pub BodyPasses : NextKnown → Leads → List Step → BodyWork → List Step → Option BodyWork → Type 0
-BodyPasses k leads steps w new_steps None = (rest : List CoreInstance → LowersSteps) → IsNever k.text.now k.limit w.table (λ t. leads t (rest t))
+BodyPasses k leads steps w new_steps None = (rest : List CoreInstance → LowersSteps) → IsNever k.text.now k.limit (λ t. leads t (rest t))
 BodyPasses k leads steps w new_steps (Some after) = IsPassed k leads steps w new_steps after
 
 -- ---- bodies
@@ -79,3 +85,8 @@ last_at k w last table = last_of_steps last (place_at k w table)
 -- all steps, and the state behind them
 abbrev pub body_at : NextKnown → BodyWork → Block → List CoreInstance → Option LoweredSteps
 body_at k w b table = statements_steps (outer_at k w table) k.ends.now (out-Block b).statements (out-Block b).value (place_at k w table)
+
+-- the state behind it has the type of this one by each table by which there is one
+abbrev pub HasOneState : NextKnown → BodyWork → Block → Option (LoweredSteps × List CoreInstance) → Type 0
+HasOneState k w b None = Unit {0}
+HasOneState k w b (Some (s, after)) = (t : List CoreInstance) → IsTable k.text.now (meanings_of k.text.now) t → (r : LoweredSteps) → body_at k w b t ≡ Some r → r.next.ty ≡ s.next.ty

@@ -1,9 +1,9 @@
 //! The body of a `next`.
 
 ghost use Rattle.std.specs.Prelude.{IfOk};
-ghost use Rattle.dslx_open_steps.specs.Comes.{Comes};
+ghost use Rattle.dslx_grown_tables.specs.Comes.{Comes};
 ghost use Rattle.dslx_open_steps.specs.Works.{HasTable, BodyMakes};
-ghost use Rattle.dslx_next_steps.specs.Passing.{BodyPasses, body_at, last_at, statements_at};
+ghost use Rattle.dslx_next_steps.specs.Passing.{BodyPasses, HasOneState, body_at, last_at, statements_at};
 
 use crate::statement::pass_statement;
 use dslx_core::{CoreExpr, Step};
@@ -24,7 +24,8 @@ pub(crate) fn lower_body<'a>(
     body: &'a Block,
 ) -> Result<Option<(LoweredSteps, InstanceTable)>, AllocError>
     requires has_table { HasTable known work }
-    ensures { IfOk result (λ o. Comes known.entry.text.now known.entry.limit work.entry.table (body_at known.entry work.entry body.now) o) }
+    ensures comes { IfOk result (λ o. Comes known.entry.text.now known.entry.limit work.entry.table (body_at known.entry work.entry body.now) o) }
+    ensures one_state { IfOk result (λ o. HasOneState known.entry work.entry body.now o) }
 {
     let mut steps = Vec::new(alloc);
     let Some(work) = pass_statements(alloc, known, &mut steps, work, body.statements.as_slice())?

@@ -10,7 +10,7 @@ ghost use Rattle.dslx_meaning.specs.Items.{meanings_of};
 ghost use Rattle.dslx_meaning.specs.Lists.{and_then, where_true};
 ghost use Rattle.dslx_names.specs.Bound.{given};
 ghost use Rattle.dslx_place_patterns.specs.Behind.{body_place};
-ghost use Rattle.dslx_open_steps.specs.Comes.{Comes};
+ghost use Rattle.dslx_grown_tables.specs.Comes.{Comes};
 ghost use Rattle.dslx_open_steps.specs.Works.{numbers_known};
 
 use crate::body::lower_body;
@@ -32,8 +32,7 @@ use std::alloc::{AllocError, Global};
 use texts::Name;
 
 /// What the `next` of a proc becomes where these number parameters are bound, the last one last, with the instances of functions that
-/// it needs behind those that are made; of `None` the contract (`IsNever`) speaks
-/// from some table on, and says nothing where that one is longer than the limit.
+/// it needs behind those that are made; `None` where it becomes nothing by any table of at most `limit` instances.
 pub fn next_there<'a>(
     alloc: Global,
     text: &'a Module,

@@ -11,7 +11,7 @@ use Rattle.dslx_lowering.specs.Functions.{CoreInstance, callee_in, outer_place}
 use Rattle.dslx_instance_machine.specs.Reached.{IsTable}
 use Rattle.dslx_instance_tasks.specs.Works.{work_place}
 use Rattle.dslx_instance_tasks.specs.declared.work.BodyWork.{BodyWork}
-use Rattle.dslx_open_steps.specs.Comes.{IsAlways, IsNever}
+use Rattle.dslx_grown_tables.specs.Comes.{IsAlways, IsNever}
 use Rattle.dslx_open_steps.specs.Opened.{act_opened}
 use Rattle.dslx_open_steps.specs.declared.opened.OpenStep.{OpenStep}
 use Rattle.dslx_open_steps.specs.declared.work.NextKnown.{NextKnown}
@@ -43,7 +43,7 @@ pub record IsThere (before after : BodyWork) : Type 0 where
 
 -- nothing, or a value and the body behind it, where the same is bound
 abbrev pub BodyMakes : {A : Type 0} → NextKnown → BodyWork → (List CoreInstance → Option A) → Option (A × BodyWork) → Type 0
-BodyMakes k w meaning None = IsNever k.text.now k.limit w.table meaning
+BodyMakes k w meaning None = IsNever k.text.now k.limit meaning
 BodyMakes k w meaning (Some (a, after)) = IsAlways k.text.now w.table after.table meaning a × IsThere w after
 
 -- a step that binds nothing yet

@@ -20,6 +20,7 @@ use dslx_site_acts::{Act, act_of};
 use dslx_tree::Expr;
 use std::alloc::{AllocError, Global};
 use texts::Name;
+use xb_value::Boxed;
 
 /// What an expression becomes as a statement or as the whole value of a `let`: a step that binds nothing yet.
 pub fn open_step<'a>(
@@ -82,7 +83,7 @@ fn open_receive<'a>(
     ensures { IfOk result (λ o. BodyMakes known.entry work.entry (λ table. receive_opened (member_in (outer_at known.entry work.entry table) known.entry.ends.now name.now)) o) }
 {
     match member_at(alloc, known, &work, name)? {
-        Some(member) => Ok(Some((receive(alloc, member, None)?, work))),
+        Some(member) => Ok(Some((receive(alloc, member.into_inner(), None)?, work))),
         None => Ok(None),
     }
 }
@@ -101,11 +102,11 @@ fn open_receive_if<'a>(
     let Some(member) = member_at(alloc, known, &work, name)? else {
         return Ok(None);
     };
-    match lower_conditional(alloc, known, work, condition, other, &member.word)? {
+    match lower_conditional(alloc, known, work, condition, other, &member.get().word)? {
         Some((both, work)) => {
             let Conditional { condition, value } = both;
             let parts = (condition.core, value.core);
-            Ok(Some((receive(alloc, member, Some(parts))?, work)))
+            Ok(Some((receive(alloc, member.into_inner(), Some(parts))?, work)))
         }
         None => Ok(None),
     }
@@ -124,8 +125,8 @@ fn open_send<'a>(
     let Some(member) = member_at(alloc, known, &work, name)? else {
         return Ok(None);
     };
-    match lower_of_type(alloc, known, work, word, &member.word)? {
-        Some((word, work)) => Ok(Some((send(member, None, word), work))),
+    match lower_of_type(alloc, known, work, word, &member.get().word)? {
+        Some((word, work)) => Ok(Some((send(member.into_inner(), None, word), work))),
         None => Ok(None),
     }
 }
@@ -144,27 +145,30 @@ fn open_send_if<'a>(
     let Some(member) = member_at(alloc, known, &work, name)? else {
         return Ok(None);
     };
-    match lower_conditional(alloc, known, work, condition, word, &member.word)? {
+    match lower_conditional(alloc, known, work, condition, word, &member.get().word)? {
         Some((both, work)) => {
             let Conditional { condition, value } = both;
-            Ok(Some((send(member, Some(condition.core), value), work)))
+            Ok(Some((send(member.into_inner(), Some(condition.core), value), work)))
         }
         None => Ok(None),
     }
 }
 
-/// The member of this name.
+/// The member of this name, in a box: letting it go is one call.
 fn member_at<'b>(
     alloc: Global,
     known: NextKnown<'b>,
     work: &'b BodyWork<'b>,
     name: &Name,
-) -> Result<Option<CoreMember>, AllocError>
+) -> Result<Option<Boxed<CoreMember>>, AllocError>
     ensures { IfOk result (λ m. (table : List CoreInstance) → m ≡ member_in (outer_at known.entry work.now table) known.entry.ends.now name.now) }
 {
     let body = BodyKnown {
         text: known.text,
         numbers: work.given.as_slice(),
     };
-    member_there(alloc, body, known.ends, name)
+    match member_there(alloc, body, known.ends, name)? {
+        Some(member) => Ok(Some(Boxed::new(alloc, member)?)),
+        None => Ok(None),
+    }
 }

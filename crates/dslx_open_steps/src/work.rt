@@ -1,6 +1,7 @@
 //! Expressions that are lowered one after another.
 
-ghost use Rattle.std.specs.Prelude.{IfOk};
+ghost use Rattle.std.specs.Prelude.{◌≡◌, Some, IfOk};
+ghost use Rattle.dslx_meaning.specs.Lists.{where_true};
 ghost use Rattle.dslx_lowering.specs.Trees.{expression_lowered, of_type as the_one_of_type};
 ghost use Rattle.dslx_open_steps.specs.Opened.{conditional};
 ghost use Rattle.dslx_open_steps.specs.Works.{HasTable, BodyMakes, place_at};
@@ -12,6 +13,7 @@ use dslx_param::lower_in;
 use dslx_tree::{End, Expr, Module};
 use dslx_types_alike::equal_type;
 use std::alloc::{AllocError, Global};
+use xb_value::Boxed;
 
 /// What is known in all of a `next`: the text, how many instances of functions there may be, and the members.
 #[derive(Clone, Copy)]
@@ -53,13 +55,19 @@ pub fn lower_of_type<'a>(
     ensures { IfOk result (λ o. BodyMakes known.entry work.entry (λ table. the_one_of_type ty.now (expression_lowered expr.now (place_at known.entry work.entry table))) o) }
 {
     match lower(alloc, known, work, expr)? {
-        Some((value, work)) => if equal_type(ty, &value.ty) {
-            Ok(Some((value, work)))
-        } else {
-            Ok(None)
-        },
+        Some((value, work)) => {
+            let alike = equal_type(ty, &value.ty);
+            Ok(where_holds(alike, (value, work)))
+        }
         None => Ok(None),
     }
+}
+
+/// What is there where this holds. It is generic, so what it lets go costs the prover nothing.
+fn where_holds<T: Drop>(holds: bool, made: T) -> Option<T>
+    ensures { result ≡ where_true holds (Some made) }
+{
+    if holds { Some(made) } else { None }
 }
 
 /// A condition, and then a value of this type.
@@ -75,10 +83,16 @@ pub fn lower_conditional<'a>(
     ensures { IfOk result (λ o. BodyMakes known.entry work.entry (λ table. conditional ty.now condition.now value.now (place_at known.entry work.entry table)) o) }
 {
     match lower(alloc, known, work, condition)? {
-        Some((condition, work)) => match lower_of_type(alloc, known, work, value, ty)? {
-            Some((value, work)) => Ok(Some((Conditional { condition, value }, work))),
-            None => Ok(None),
-        },
+        Some((condition, work)) => {
+            let condition = Boxed::new(alloc, condition)?;
+            match lower_of_type(alloc, known, work, value, ty)? {
+                Some((value, work)) => {
+                    let condition = condition.into_inner();
+                    Ok(Some((Conditional { condition, value }, work)))
+                }
+                None => Ok(None),
+            }
+        }
         None => Ok(None),
     }
 }

@@ -29,6 +29,9 @@ links_of zero signs places es = []
 links_of (suc count) signs places es =
     links_of count (drop 1 signs) (drop 1 places) (drop 1 es) ++ record { operator = top_or Mul signs; operand = operand_of places es } ∷ []
 
+abbrev pub placed : Operand → Span × Expr
+placed o = (o.span, o.expr)
+
 -- operands with operators between them, of which so many stand behind the first
 abbrev pub chain : Parts → Parts
 chain s =

@@ -2,13 +2,16 @@
 
 ghost use Rattle.std.specs.Prelude.{◌≡◌, drop, reverse, IfOk, OnOk};
 ghost use Rattle.dslx_operators.specs.Levels.{tree_of};
-ghost use Rattle.dslx_operator_rules.specs.Operators.{chain, links_of};
+ghost use Rattle.dslx_operator_rules.specs.Operators.{chain, links_of, placed};
 
+use crate::boxes::pop_boxed;
 use dslx_atom_rules::pop_expr;
 use dslx_operators::{Link, Operand, tree};
 use dslx_parts::Parts;
-use dslx_tree::Binary;
+use dslx_tree::{Binary, Expr};
 use std::alloc::{AllocError, Global};
+use xb_span::Span;
+use xb_value::Boxed;
 
 /// Operands with operators between them.
 pub fn chain(parts: &mut Parts, alloc: Global) -> Result<(), AllocError>
@@ -17,19 +20,26 @@ pub fn chain(parts: &mut Parts, alloc: Global) -> Result<(), AllocError>
     let count = parts.counts.pop_or(0);
     let links = take_links(parts, alloc, count)?;
     let (span, expr) = pop_expr(parts);
-    let Operand { span, expr } = joined(alloc, Operand { span, expr }, links)?;
+    let (span, expr) = joined(alloc, span, expr, links)?;
     parts.places.push(span)?;
     parts.exprs.push(expr)
 }
 
-/// The tree of a chain, at once where it has no operator, as most have none.
-fn joined(alloc: Global, first: Operand, links: Vec<Link>) -> Result<Operand, AllocError>
-    ensures { IfOk result (λ operand. operand ≡ tree_of first (reverse links.items)) }
+/// The tree of a chain with its place, at once where it has no operator, as most have none.
+fn joined(
+    alloc: Global,
+    span: Span,
+    expr: Expr,
+    links: Vec<Link>,
+) -> Result<(Span, Expr), AllocError>
+    ensures { IfOk result (λ r. r ≡ placed (tree_of (record { span = span; expr = expr }) (reverse links.items))) }
 {
     if links.is_empty() {
-        Ok(first)
+        Ok((span, expr))
     } else {
-        tree(alloc, first, links)
+        let expr = Boxed::new(alloc, expr)?;
+        let Operand { span, expr } = tree(alloc, Operand { span, expr }, links)?;
+        Ok((span, expr.into_inner()))
     }
 }
 
@@ -46,7 +56,7 @@ fn take_links(parts: &mut Parts, alloc: Global, count: usize) -> Result<Vec<Link
     let mut links = Vec::new(alloc);
     'takes: for _ in 0..count {
         let operator = parts.operators.pop_or(Binary::Mul);
-        let (span, expr) = pop_expr(parts);
+        let (span, expr) = pop_boxed(parts, alloc)?;
         links.push(Link {
             operator,
             operand: Operand { span, expr },

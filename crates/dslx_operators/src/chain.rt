@@ -6,11 +6,12 @@ use std::alloc::{AllocError, Global};
 use xb_span::Span;
 use xb_value::Boxed;
 
-/// An operand, with the place of all its tokens: parentheses round it are no part of the expression.
+/// An operand, with the place of all its tokens: parentheses round it are no part of the expression. It is moved at each level of
+/// operators, so it stands in a box.
 #[derive(Drop)]
 pub struct Operand {
     pub span: Span,
-    pub expr: Expr,
+    pub expr: Boxed<Expr>,
 }
 
 /// A binary operator and the operand behind it.
@@ -86,14 +87,13 @@ fn join(
         from: left.span.from,
         to: right.span.to,
     };
-    let left = Boxed::new(alloc, left.expr)?;
-    let right = Boxed::new(alloc, right.expr)?;
+    let expr = Expr {
+        span,
+        node: Node::Binary(operator, left.expr, right.expr),
+    };
     Ok(Operand {
         span,
-        expr: Expr {
-            span,
-            node: Node::Binary(operator, left, right),
-        },
+        expr: Boxed::new(alloc, expr)?,
     })
 }
 

@@ -7,20 +7,19 @@ use Rattle.dslx_meaning.specs.Lists.{and_then}
 use Rattle.dslx_meaning.specs.Network.{as_proc}
 use Rattle.dslx_core.specs.declared.design.Instance.{Instance}
 use Rattle.dslx_lowering.specs.Functions.{CoreInstance, Instantiated}
-use Rattle.dslx_instance_machine.specs.Reached.{IsTable}
 use Rattle.dslx_networks.specs.Configs.{ProcInstance}
 use Rattle.dslx_networks.specs.Procs.{next_proc, proc_lowered}
-use Rattle.dslx_open_steps.specs.Comes.{Comes}
+use Rattle.dslx_grown_tables.specs.Comes.{Comes}
 use Rattle.dslx_proc_instances.specs.Adding.{AddsMissing, KeepsTable}
 use Rattle.dslx_proc_instances.specs.declared.adding.MadeInstances.{MadeInstances}
-use Rattle.dslx_open_steps.proofs.Coming.{comes_as, comes_at_once, nothing_comes, value_comes}
+use Rattle.dslx_grown_tables.proofs.Coming.{comes_as, never_as, never_at_once, never_then, value_comes}
 
 module _ (m : Module) (limit : ℕ) (table : List CoreInstance) (procs : List ProcInstance) (i : Instantiated) where
   abbrev pub next : List CoreInstance → Option ProcInstance
   next t = next_proc m (meanings_of m) t procs i
 
-  pub not_found : IsTable m (meanings_of m) table → None ≡ as_proc (item_named i.name m.items) → Comes m limit table next None
-  not_found is none = comes_at_once m limit table next is (λ t. ap (λ o. and_then o (λ p. and_then (proc_lowered m (meanings_of m) t procs p i.numbers) named)) (sym none))
+  pub not_found : None ≡ as_proc (item_named i.name m.items) → Comes m limit table next None
+  not_found none = never_at_once m limit next (λ t. ap (λ o. and_then o (λ p. and_then (proc_lowered m (meanings_of m) t procs p i.numbers) named)) (sym none))
     where
       named : Instance → Option ProcInstance
       named l = Some (record { name = i.name; numbers = i.numbers; instance = l })
@@ -39,9 +38,9 @@ module _ (m : Module) (limit : ℕ) (table : List CoreInstance) (procs : List Pr
         (value_comes m limit table after (λ t. proc_lowered m (meanings_of m) t procs p i.numbers) named l (record { name = i.name; numbers = i.numbers; instance = l }) comes refl)
 
     pub found_nothing : Comes m limit table (λ t. proc_lowered m (meanings_of m) t procs p i.numbers) None → Comes m limit table next None
-    found_nothing comes =
-        comes_as m limit table (λ t. and_then (proc_lowered m (meanings_of m) t procs p i.numbers) named) next None by_proc
-        (nothing_comes m limit table (λ t. proc_lowered m (meanings_of m) t procs p i.numbers) named comes)
+    found_nothing never =
+        never_as m limit (λ t. and_then (proc_lowered m (meanings_of m) t procs p i.numbers) named) next by_proc
+        (never_then m limit (λ t. proc_lowered m (meanings_of m) t procs p i.numbers) (λ l t. named l) never)
 
 pub keeps_table : (m : Module) (limit : ℕ) (before : MadeInstances) (i : Instantiated) (o : Option MadeInstances) → AddsMissing m limit before i o → KeepsTable m o
 keeps_table m limit before i None added = tt

@@ -6,7 +6,7 @@ use Rattle.dslx_lowering.specs.Functions.{Instantiated}
 use Rattle.dslx_instance_machine.specs.Reached.{IsTable}
 use Rattle.dslx_networks.specs.Configs.{ProcInstance, proc_instance_in}
 use Rattle.dslx_networks.specs.Procs.{next_proc}
-use Rattle.dslx_open_steps.specs.Comes.{IsAlways, IsNever}
+use Rattle.dslx_grown_tables.specs.Comes.{IsAlways, IsNever}
 use Rattle.dslx_proc_instances.specs.declared.adding.MadeInstances.{MadeInstances}
 
 -- the number of the instance of a name and number arguments
@@ -21,11 +21,11 @@ pub record IsOneMore (m : Module) (before : MadeInstances) (i : Instantiated) (a
 
 -- what comes of an instance that isn't there yet
 abbrev pub AddsMissing : Module → ℕ → MadeInstances → Instantiated → Option MadeInstances → Type 0
-AddsMissing m limit before i None = IsNever m limit before.functions (λ functions. next_proc m (meanings_of m) functions before.procs.items i)
+AddsMissing m limit before i None = IsNever m limit (λ functions. next_proc m (meanings_of m) functions before.procs.items i)
 AddsMissing m limit before i (Some after) = IsOneMore m before i after
 
 -- what comes of an instance that is asked for: it stays the one that is there, or is made behind the others, or it becomes nothing by
--- each table of at most so many instances of functions that begins with some table (`IsNever`)
+-- any table of at most so many instances of functions
 pub data AddsProc (m : Module) (limit : ℕ) (before : MadeInstances) (i : Instantiated) : Option MadeInstances → Type 0 where
   IsAmong : (k : ℕ) → number_in before i ≡ Some k → AddsProc m limit before i (Some before)
   IsAdded : (o : Option MadeInstances) → number_in before i ≡ None → AddsMissing m limit before i o → AddsProc m limit before i o

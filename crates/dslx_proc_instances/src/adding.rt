@@ -4,7 +4,7 @@ ghost use Rattle.std.specs.Prelude.{◌≡◌, ◌∷◌, ◌++◌, [], IfOk};
 ghost use Rattle.dslx_instance_machine.specs.Reached.{IsTable};
 ghost use Rattle.dslx_meaning.specs.Items.{meanings_of};
 ghost use Rattle.dslx_networks.specs.Procs.{next_proc};
-ghost use Rattle.dslx_open_steps.specs.Comes.{Comes};
+ghost use Rattle.dslx_grown_tables.specs.Comes.{Comes};
 ghost use Rattle.dslx_proc_instances.specs.Adding.{AddsMissing, AddsProc, KeepsTable};
 
 use crate::instance::proc_there;
@@ -23,8 +23,8 @@ pub struct MadeInstances {
     pub procs: Vec<ProcInstance>,
 }
 
-/// The instances with one of a proc, which is made where it isn't there yet; `None` as where a proc that it spawns isn't there. Of
-/// `None` the contract (`IsNever`) speaks from some table of functions on, and says nothing where that one is longer than the limit.
+/// The instances with one of a proc, which is made where it isn't there yet; `None` as where a proc that it spawns isn't there, or it
+/// becomes nothing by any table of at most `limit` instances of functions.
 ///
 /// It looks at all procs that are there, and takes the time of `instance` and of the constants for what is made.
 pub fn add_proc(

@@ -6,7 +6,7 @@ ghost use Rattle.dslx_meaning.specs.Items.{meanings_of};
 ghost use Rattle.dslx_meaning.specs.Lists.{and_then, where_true};
 ghost use Rattle.dslx_meaning.specs.Activation.{opening_state};
 ghost use Rattle.dslx_networks.specs.Procs.{instance_of as the_instance, proc_lowered};
-ghost use Rattle.dslx_open_steps.specs.Comes.{Comes};
+ghost use Rattle.dslx_grown_tables.specs.Comes.{Comes};
 ghost use Rattle.dslx_proc_instances.specs.Behind.{behind_config, behind_next};
 
 use dslx_channel_types::plain_type;
@@ -22,10 +22,10 @@ use dslx_number_values::bindings_of;
 use dslx_tree::{Module, Proc};
 use dslx_types_alike::is_of;
 use std::alloc::{AllocError, Global};
+use xb_value::Boxed;
 
 /// What a proc with these number arguments becomes where these instances of procs are there to be spawned, with the instances of
-/// functions that it needs behind those that are made; of `None` the contract (`IsNever`) speaks from some
-/// table on, and says nothing where that one is longer than the limit.
+/// functions that it needs behind those that are made; `None` where it becomes nothing by any table of at most `limit` of those.
 pub fn proc_there<'a>(
     alloc: Global,
     text: &'a Module,
@@ -40,10 +40,13 @@ pub fn proc_there<'a>(
 {
     let bound = bindings_of(alloc, process.parameters.as_slice(), numbers)?;
     match next_there(alloc, text, limit, table, process, bound)? {
-        Some((next, table)) => match instance_with(alloc, text, procs, process, numbers, next)? {
-            Some(instance) => Ok(Some((instance, table))),
-            None => Ok(None),
-        },
+        Some((next, table)) => {
+            let next = Boxed::new(alloc, next)?;
+            match instance_with(alloc, text, procs, process, numbers, next)? {
+                Some(instance) => Ok(Some((instance, table))),
+                None => Ok(None),
+            }
+        }
         None => Ok(None),
     }
 }
@@ -55,7 +58,7 @@ fn instance_with<'a>(
     procs: &[ProcInstance],
     process: &'a Proc,
     numbers: &[DslxValue],
-    next: LoweredNext,
+    next: Boxed<LoweredNext>,
 ) -> Result<Option<Instance>, AllocError>
     ensures { IfOk result (λ i. i ≡ behind_next text.now procs.now process.now numbers.now next) }
 {
@@ -71,13 +74,13 @@ fn instance_opening<'a>(
     text: &'a Module,
     process: &'a Proc,
     numbers: &[DslxValue],
-    next: LoweredNext,
+    next: Boxed<LoweredNext>,
     config: LoweredConfig,
 ) -> Result<Option<Instance>, AllocError>
     ensures { IfOk result (λ i. i ≡ behind_config text.now process.now numbers.now next config) }
 {
     match opening_there(alloc, text, process, numbers)? {
-        Some(opening) => if is_of(&next.state, &opening) {
+        Some(opening) => if is_of(&next.get().state, &opening) {
             Ok(Some(instance_of(alloc, process, next, config, &opening)?))
         } else {
             Ok(None)
@@ -89,20 +92,23 @@ fn instance_opening<'a>(
 fn instance_of(
     alloc: Global,
     process: &Proc,
-    next: LoweredNext,
+    next: Boxed<LoweredNext>,
     config: LoweredConfig,
     opening: &DslxValue,
 ) -> Result<Instance, AllocError>
     ensures { IfOk result (λ i. i ≡ the_instance process.now next config opening.now) }
 {
+    let state = plain_type(alloc, &next.get().state)?;
+    let opening = plain_value(alloc, opening)?;
+    let LoweredNext { steps, next, .. } = next.into_inner();
     Ok(Instance {
         made: config.made,
         children: config.children,
         members: config.members,
         ends: process.config.ends.len() as u64,
-        state: plain_type(alloc, &next.state)?,
-        opening: plain_value(alloc, opening)?,
-        steps: next.steps,
-        next: next.next,
+        state,
+        opening,
+        steps,
+        next,
     })
 }

@@ -3,7 +3,7 @@ use dslx_tree::Number;
 use std::test::Fail;
 
 /// The number, at its place in a text of digits and operators.
-fn number(value: u32) -> Operand {
+fn number(alloc: Global, value: u32) -> Result<Operand, AllocError> {
     let span = Span {
         from: value,
         to: value.saturating_add(1),
@@ -13,13 +13,14 @@ fn number(value: u32) -> Operand {
         is_negative: false,
         value: u128::from(value),
     };
-    Operand {
+    let expr = Expr {
         span,
-        expr: Expr {
-            span,
-            node: Node::Number(number),
-        },
-    }
+        node: Node::Number(number),
+    };
+    Ok(Operand {
+        span,
+        expr: Boxed::new(alloc, expr)?,
+    })
 }
 
 /// The operator of the expression, if it has one.
@@ -37,14 +38,14 @@ fn product_below_sum(rt: HostRuntime) -> Result<(), Fail> {
     let mut links = Vec::new(alloc);
     links.push(Link {
         operator: Binary::Mul,
-        operand: number(4),
+        operand: number(alloc, 4)?,
     })?;
     links.push(Link {
         operator: Binary::Add,
-        operand: number(2),
+        operand: number(alloc, 2)?,
     })?;
-    let whole = tree(alloc, number(0), links)?;
+    let whole = tree(alloc, number(alloc, 0)?, links)?;
     assert_eq!(rt; whole.span, Span { from: 0, to: 5 });
-    assert_eq!(rt; operator(&whole.expr), Some(Binary::Add));
+    assert_eq!(rt; operator(whole.expr.get()), Some(Binary::Add));
     Ok(())
 }

@@ -7,7 +7,7 @@ use Rattle.dslx_lowering.specs.Steps.{is_sized, next_lowered, steps_from}
 use Rattle.dslx_lowering.specs.Trees.{type_of_text_lowered}
 use Rattle.dslx_meaning.specs.Items.{meanings_of}
 use Rattle.dslx_meaning.specs.Lists.{and_then, where_true}
-use Rattle.dslx_open_steps.specs.Comes.{Comes}
+use Rattle.dslx_grown_tables.specs.Comes.{Comes}
 use Rattle.dslx_open_steps.specs.Works.{numbers_known}
 use Rattle.dslx_next_steps.proofs.Ends.{with_state, without_names, without_state}
 use Rattle.dslx_next_steps.proofs.next.next_there.Goals as goal
@@ -26,7 +26,7 @@ returns-in-Some c =
 
 pub returns-in-None : goal.returns-in-None
 returns-in-None c =
-    without_state c.args.text.now c.args.limit c.args.table c.args.numbers.items c.args.proc.now c.requires.is_table
+    without_state c.args.text.now c.args.limit c.args.table c.args.numbers.items c.args.proc.now
     (sym (c.in_ok-names_stand.ensures ∙ ap (λ (l : List Binding). numbers_stand (meanings_of c.args.text.now) (reverse (map given l)) && not ((meanings_of c.args.text.now).is_constant c.args.proc.now.next.state.name)) c.as_slice.ensures.value)
     ∙ c.if-not-branch.false)
     (λ t. sym c.in-None.is ∙ c.in_ok-state.ensures (callee_in c.args.text.now (meanings_of c.args.text.now) t)
@@ -34,6 +34,6 @@ returns-in-None c =
 
 pub returns-then-not-branch : goal.returns-then-not-branch
 returns-then-not-branch c =
-    without_names c.args.text.now c.args.limit c.args.table c.args.numbers.items c.args.proc.now c.requires.is_table
+    without_names c.args.text.now c.args.limit c.args.table c.args.numbers.items c.args.proc.now
     (sym (c.in_ok-names_stand.ensures ∙ ap (λ (l : List Binding). numbers_stand (meanings_of c.args.text.now) (reverse (map given l)) && not ((meanings_of c.args.text.now).is_constant c.args.proc.now.next.state.name)) c.as_slice.ensures.value)
     ∙ c.if-not-branch.true)

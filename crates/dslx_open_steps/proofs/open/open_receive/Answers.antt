@@ -9,4 +9,4 @@ use Rattle.dslx_open_steps.proofs.open.open_receive.Goals as goal
 pub returns : goal.returns
 returns c =
     without_member c.args.known c.args.work (λ (t : List CoreInstance). member_in (outer_at c.args.known c.args.work t) c.args.known.ends.now c.args.name.now) (λ m t. receiving m None)
-    c.requires.has_table (λ t. sym c.in-None.is ∙ c.in_ok-member.ensures t)
+    (λ t. sym c.in-None.is ∙ c.in_ok-member.ensures t)

@@ -9,5 +9,5 @@ pub returns : goal.returns
 returns c =
     IfOk-weaker c.lower_in.result (LowersIn c.args.known.text.now c.args.known.limit c.args.work c.args.expr.now)
     (BodyMakes c.args.known c.args.work (λ t. expression_lowered c.args.expr.now (place_at c.args.known c.args.work t)))
-    (λ o lowered. lowered_in c.args.known c.args.work c.args.expr.now o c.requires.has_table lowered)
+    (λ o lowered. lowered_in c.args.known c.args.work c.args.expr.now o lowered)
     (c.lower_in.ensures c.requires.has_table)

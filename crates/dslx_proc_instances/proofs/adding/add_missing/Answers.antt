@@ -2,12 +2,12 @@ use Rattle.std.proofs.Common.{List, subst}
 use Rattle.dslx_meaning.specs.Items.{meanings_of}
 use Rattle.dslx_networks.specs.Configs.{ProcInstance}
 use Rattle.dslx_networks.specs.Procs.{next_proc}
-use Rattle.dslx_open_steps.specs.Comes.{Comes, IsAlways, IsNever}
+use Rattle.dslx_grown_tables.specs.Comes.{Comes, IsAlways, IsNever}
 use Rattle.dslx_proc_instances.proofs.adding.add_missing.Goals as goal
 
 pub returns-in-None : goal.returns-in-None
 returns-in-None c =
-    subst (λ (l : List ProcInstance). IsNever c.args.text.now c.args.limit c.args.made.functions (λ t. next_proc c.args.text.now (meanings_of c.args.text.now) t l c.args.wanted)) c.as_slice.ensures.value
+    subst (λ (l : List ProcInstance). IsNever c.args.text.now c.args.limit (λ t. next_proc c.args.text.now (meanings_of c.args.text.now) t l c.args.wanted)) c.as_slice.ensures.value
     (subst (Comes c.args.text.now c.args.limit c.args.made.functions (λ t. next_proc c.args.text.now (meanings_of c.args.text.now) t c.as_slice.result.now c.args.wanted)) c.in-None.is c.in_ok-instance.ensures)
 
 pub returns-in_ok-push-in-Some : goal.returns-in_ok-push-in-Some

@@ -4,12 +4,12 @@ use Rattle.dslx_meaning.specs.Items.{item_named, meanings_of}
 use Rattle.dslx_meaning.specs.Network.{as_proc}
 use Rattle.dslx_meaning.specs.declared.value.DslxValue.{DslxValue}
 use Rattle.dslx_networks.specs.Procs.{proc_lowered}
-use Rattle.dslx_open_steps.specs.Comes.{Comes}
+use Rattle.dslx_grown_tables.specs.Comes.{Comes}
 use Rattle.dslx_proc_instances.proofs.Added.{found_comes, found_nothing, not_found}
 use Rattle.dslx_proc_instances.proofs.adding.next_instance.Goals as goal
 
 pub returns-in_default : goal.returns-in_default
-returns-in_default c = not_found c.args.text.now c.args.limit c.args.functions c.args.procs.now c.args.wanted c.requires.is_table
+returns-in_default c = not_found c.args.text.now c.args.limit c.args.functions c.args.procs.now c.args.wanted
     (c.in_default.ensures ∙ ap (λ (l : List Item). as_proc (item_named c.args.wanted.name l)) c.as_slice.ensures)
 
 pub returns-in-Some-2 : goal.returns-in-Some-2

@@ -1,9 +1,10 @@
 use Rattle.std.proofs.Common.{◌∙◌, [], List, ap, subst, sym}
 use Rattle.dslx_tree.specs.declared.item.Parameter.{Parameter}
 use Rattle.dslx_meaning.specs.Items.{numbers_bound}
-use Rattle.dslx_lowering.specs.Steps.{next_lowered}
-use Rattle.dslx_open_steps.specs.Comes.{Comes}
+use Rattle.dslx_lowering.specs.Steps.{LoweredNext, next_lowered}
+use Rattle.dslx_grown_tables.specs.Comes.{Comes}
 use Rattle.dslx_open_steps.specs.Works.{numbers_known}
+use Rattle.dslx_proc_instances.specs.Behind.{behind_next}
 use Rattle.dslx_proc_instances.proofs.Whole.{nothing_behind, nothing_of_next, whole_comes}
 use Rattle.dslx_proc_instances.proofs.instance.proc_there.Goals as goal
 
@@ -12,14 +13,14 @@ returns-in-Some-2 c =
     whole_comes c.args.text.now c.args.limit c.args.table c.args.procs.now c.args.process.now c.args.numbers.now c.in_ok-bound.bound.items
     (c.in_ok-bound.ensures ∙ ap (λ (l : List Parameter). numbers_bound [] l c.args.numbers.now) c.as_slice.ensures) c.in-Some.next c.in-Some.table c.in-Some-2.instance
     (subst (Comes c.args.text.now c.args.limit c.args.table (λ t. next_lowered (numbers_known c.args.text.now c.in_ok-bound.bound.items t) c.args.process.now)) c.in-Some.is c.in_ok-next.ensures)
-    (sym c.in-Some-2.is ∙ c.in_ok-instance-in-Some.ensures)
+    (sym c.in-Some-2.is ∙ c.in_ok-instance-in-Some.ensures ∙ ap (λ (n : LoweredNext). behind_next c.args.text.now c.args.procs.now c.args.process.now c.args.numbers.now n) c.in_ok-next-in-Some.ensures)
 
 pub returns-in-None-2 : goal.returns-in-None-2
 returns-in-None-2 c =
     nothing_behind c.args.text.now c.args.limit c.args.table c.args.procs.now c.args.process.now c.args.numbers.now c.in_ok-bound.bound.items
     (c.in_ok-bound.ensures ∙ ap (λ (l : List Parameter). numbers_bound [] l c.args.numbers.now) c.as_slice.ensures) c.in-Some.next c.in-Some.table
     (subst (Comes c.args.text.now c.args.limit c.args.table (λ t. next_lowered (numbers_known c.args.text.now c.in_ok-bound.bound.items t) c.args.process.now)) c.in-Some.is c.in_ok-next.ensures)
-    (sym c.in-None-2.is ∙ c.in_ok-instance-in-Some.ensures)
+    (sym c.in-None-2.is ∙ c.in_ok-instance-in-Some.ensures ∙ ap (λ (n : LoweredNext). behind_next c.args.text.now c.args.procs.now c.args.process.now c.args.numbers.now n) c.in_ok-next-in-Some.ensures)
 
 pub returns-in-None : goal.returns-in-None
 returns-in-None c =

@@ -10,18 +10,16 @@ pub record TableGrows (m : Module) (before after : List CoreInstance) : Type 0 w
   pub is_table : IsTable m (meanings_of m) after
   pub begins : GrownFrom after before
 
--- there is a table that begins with this one, and by each of at most so many instances that begins with that, there is nothing
-pub record IsNever {A : Type 0} (m : Module) (limit : ℕ) (before : List CoreInstance) (meaning : List CoreInstance → Option A) : Type 0 where
-  pub table : List CoreInstance
-  pub grows : TableGrows m before table
-  pub none : (t : List CoreInstance) → IsTable m (meanings_of m) t → GrownFrom t table → length t ≤ limit → meaning t ≡ None
+-- by no table of at most so many of a text's instances is there anything
+abbrev pub IsNever : {A : Type 0} → Module → ℕ → (List CoreInstance → Option A) → Type 0
+IsNever m limit meaning = (table : List CoreInstance) → IsTable m (meanings_of m) table → length table ≤ limit → meaning table ≡ None
 
 -- by each table that begins with the one behind there is this
 pub record IsAlways {A : Type 0} (m : Module) (before after : List CoreInstance) (meaning : List CoreInstance → Option A) (a : A) : Type 0 where
   pub grows : TableGrows m before after
-  pub some : (t : List CoreInstance) → GrownFrom t after → meaning t ≡ Some a
+  pub some : (table : List CoreInstance) → GrownFrom table after → meaning table ≡ Some a
 
 -- nothing, or a value and a table that is long enough for it
 abbrev pub Comes : {A : Type 0} → Module → ℕ → List CoreInstance → (List CoreInstance → Option A) → Option (A × List CoreInstance) → Type 0
-Comes m limit before meaning None = IsNever m limit before meaning
+Comes m limit before meaning None = IsNever m limit meaning
 Comes m limit before meaning (Some (a, after)) = IsAlways m before after meaning a

@@ -1,0 +1,2 @@
+-- what comes of work by tables of instances
+pub mod Comes
