@@ -32,7 +32,7 @@ use std::alloc::{AllocError, Global};
 use texts::Name;
 
 /// What the `next` of a proc becomes where these number parameters are bound, the last one last, with the instances of functions that
-/// it needs behind those that are made; `None` where it becomes nothing by any table of at most `limit` instances.
+/// it needs behind those that are made; `None` only where it becomes nothing by any table of at most `limit` instances.
 pub fn next_there<'a>(
     alloc: Global,
     text: &'a Module,

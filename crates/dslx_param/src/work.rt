@@ -13,7 +13,7 @@ use dslx_tree::{Expr, Module};
 use stacks::Stack;
 use std::alloc::{AllocError, Global};
 
-/// What an expression becomes, with the instances that it needs; `None` where it becomes nothing by any table of at most so many
+/// What an expression becomes, with the instances that it needs; `None` only where it becomes nothing by any table of at most so many
 /// instances.
 #[tactic(auto, using(crate::proofs::Lowered::lowers_made, crate::proofs::Lowered::lowers_none))]
 pub fn lower_in<'a>(

@@ -25,7 +25,7 @@ use std::alloc::{AllocError, Global};
 use xb_value::Boxed;
 
 /// What a proc with these number arguments becomes where these instances of procs are there to be spawned, with the instances of
-/// functions that it needs behind those that are made; `None` where it becomes nothing by any table of at most `limit` of those.
+/// functions that it needs behind those that are made; `None` only where it becomes nothing by any table of at most `limit` of those.
 pub fn proc_there<'a>(
     alloc: Global,
     text: &'a Module,
