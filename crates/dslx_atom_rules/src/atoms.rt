@@ -133,8 +133,8 @@ pub fn grouped(parts: &mut Parts) -> Result<(), AllocError>
 {
     let span = parts.take_marks(2);
     let (_, expr) = pop_expr(parts);
-    parts.places.push(span)?;
-    parts.exprs.push(expr)
+    parts.exprs.push(expr)?;
+    parts.places.push(span)
 }
 
 /// `( expr , exprs )`

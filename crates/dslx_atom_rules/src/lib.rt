@@ -10,5 +10,5 @@ mod calls;
 mod exprs;
 mod rule;
 
-pub use exprs::{pop_expr, push_expr};
+pub use exprs::{pop_boxed, pop_expr, push_expr};
 pub use rule::{ArgRule, AtomRule, reduce_arg, reduce_atom};

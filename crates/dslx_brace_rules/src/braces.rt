@@ -4,7 +4,7 @@ ghost use Rattle.std.specs.Prelude.{◌≡◌, None, drop, IfOk, OnOk};
 ghost use Rattle.dslx_parts.specs.Tops.{top_or};
 ghost use Rattle.dslx_brace_rules.specs.Braces.{arm, block_expr, for_expr, if_expr, loop_of, match_expr, without_loop};
 
-use dslx_atom_rules::{pop_expr, push_expr};
+use dslx_atom_rules::{pop_boxed, pop_expr, push_expr};
 use dslx_parts::{Parts, join, no_block, no_pattern, one_more};
 use dslx_tree::{Arm, For, Node, TypeExpr};
 use std::alloc::{AllocError, Global};
@@ -25,10 +25,8 @@ pub fn if_expr(parts: &mut Parts, alloc: Global) -> Result<(), AllocError>
     ensures { OnOk result (parts.new ≡ if_expr parts.old) }
 {
     let marks = parts.take_marks(2);
-    let (place, other) = pop_expr(parts);
-    let (_, condition) = pop_expr(parts);
-    let other = Boxed::new(alloc, other)?;
-    let condition = Boxed::new(alloc, condition)?;
+    let (place, other) = pop_boxed(parts, alloc)?;
+    let (_, condition) = pop_boxed(parts, alloc)?;
     let block = Boxed::new(alloc, parts.blocks.pop_or(no_block(alloc)))?;
     push_expr(parts, join(marks, place), Node::If(condition, block, other))
 }
@@ -38,9 +36,9 @@ pub fn arm(parts: &mut Parts) -> Result<(), AllocError>
     ensures { OnOk result (parts.new ≡ arm parts.old) }
 {
     parts.skip(1);
-    let (_, value) = pop_expr(parts);
     let count = one_more(parts.counts.pop_or(0))?;
     let patterns = parts.patterns.take_top(count)?;
+    let (_, value) = pop_expr(parts);
     parts.arms.push(Arm { patterns, value })
 }
 
@@ -49,10 +47,9 @@ pub fn match_expr(parts: &mut Parts, alloc: Global) -> Result<(), AllocError>
     ensures { OnOk result (parts.new ≡ match_expr parts.old) }
 {
     let span = parts.take_marks(3);
+    let (_, value) = pop_boxed(parts, alloc)?;
     let count = parts.counts.pop_or(0);
     let arms = parts.arms.take_top(count)?;
-    let (_, value) = pop_expr(parts);
-    let value = Boxed::new(alloc, value)?;
     push_expr(parts, span, Node::Match(value, arms))
 }
 

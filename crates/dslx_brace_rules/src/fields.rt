@@ -33,12 +33,12 @@ pub fn struct_expr(parts: &mut Parts, alloc: Global) -> Result<(), AllocError>
     ensures { OnOk result (parts.new ≡ struct_expr parts.old) }
 {
     let marks = parts.take_marks(2);
-    let count = parts.counts.pop_or(0);
-    let fields = parts.field_values.take_top(count)?;
     let others = match parts.values.pop_or(None) {
         Some(value) => Some(Boxed::new(alloc, value)?),
         None => None,
     };
+    let count = parts.counts.pop_or(0);
+    let fields = parts.field_values.take_top(count)?;
     let ident = parts.idents.pop_or(no_ident(alloc));
     let span = join(ident.span, marks);
     push_expr(parts, span, Node::Struct(ident, fields, others))

@@ -40,7 +40,7 @@ fn finished(last: OpenInstance) -> Option<CoreInstance>
             function: LoweredFunction {
                 arguments,
                 result: ty,
-                body: core,
+                body: core.into_inner(),
             },
         }),
         None => None,

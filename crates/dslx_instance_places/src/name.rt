@@ -20,13 +20,14 @@ use dslx_tree::{Module, Number};
 use dslx_values::copy_type;
 use std::alloc::{AllocError, Global};
 use texts::Name;
+use xb_value::Boxed;
 
 /// The value that a bound name stands for.
 pub fn slot_lowered(alloc: Global, local: &BoundSlot) -> Result<LoweredExpr, AllocError>
     ensures { IfOk result (λ e. Some e ≡ lowered (slot_of local.now.slot) local.now.ty) }
 {
     Ok(LoweredExpr {
-        core: CoreExpr::Slot(local.slot),
+        core: Boxed::new(alloc, CoreExpr::Slot(local.slot))?,
         ty: copy_type(alloc, &local.ty)?,
     })
 }

@@ -1,23 +1,20 @@
 //! Blocks, and values that are bound in them.
 
-ghost use Rattle.std.specs.Prelude.{◌≡◌, [], Some, IfOk, OnOk};
+ghost use Rattle.std.specs.Prelude.{◌≡◌, Some, IfOk, OnOk};
 ghost use Rattle.dslx_tree.specs.declared.block.Stmt.{out-Stmt};
 ghost use Rattle.dslx_meaning.specs.Lists.{where_true};
-ghost use Rattle.dslx_meaning.specs.Types.{unit_type};
-ghost use Rattle.dslx_core.specs.declared.expr.CoreExpr.{Tuple as tuple_of};
-ghost use Rattle.dslx_lowering.specs.Lowering.{lowered};
 ghost use Rattle.dslx_instance_machine.specs.Bodies.{gives, with_last, with_made};
 ghost use Rattle.dslx_instance_machine.specs.Steps.{bind_made, last_begins, statements_begin, stmt_begins};
 ghost use Rattle.dslx_instance_tasks.specs.Shown.{body_shown};
 
-use dslx_core::{CoreExpr, Shape};
+use dslx_core::Shape;
 use dslx_instance_tasks::{BlockTask, LowerTask, OpenBody};
 use dslx_lowered_control::bind_lowered;
+use dslx_lowered_types::unit_lowered;
 use dslx_lowering::LoweredExpr;
-use dslx_meaning::DslxType;
 use dslx_tree::{Expr, Stmt};
 use std::alloc::{AllocError, Global};
-use xb_value::{Boxed, Seq};
+use xb_value::Boxed;
 
 /// The statements of a block are to be lowered, and then what stands behind them.
 pub fn begin_statements<'a>(
@@ -43,7 +40,7 @@ fn begin_last<'a>(
 {
     match last {
         Some(expr) => body.first(LowerTask::Expr(expr.get())),
-        None => body.give(unit_lowered(alloc)),
+        None => body.give(unit_lowered(alloc)?),
     }
 }
 
@@ -64,16 +61,6 @@ fn begin_statement<'a>(
             BlockTask::BindValue(&binding.pattern, rest, last),
         ),
         Stmt::Bare(_) => body.first_block(alloc, BlockTask::Statements(rest, last)),
-    }
-}
-
-/// The value of a block without a last expression.
-fn unit_lowered(alloc: Global) -> LoweredExpr
-    ensures { Some result ≡ lowered (tuple_of []) unit_type }
-{
-    LoweredExpr {
-        core: CoreExpr::Tuple(Seq::new(alloc)),
-        ty: DslxType::Tuple(Seq::new(alloc)),
     }
 }
 

@@ -13,11 +13,11 @@ pub fn let_stmt(parts: &mut Parts, alloc: Global) -> Result<(), AllocError>
     ensures { OnOk result (parts.new ≡ let_stmt parts.old) }
 {
     let span = parts.take_marks(3);
-    let pattern = parts.patterns.pop_or(no_pattern());
     let ty = match parts.annotations.pop_or(None) {
         Some(ty) => Some(Boxed::new(alloc, ty)?),
         None => None,
     };
+    let pattern = parts.patterns.pop_or(no_pattern());
     let _place = parts.places.pop_or(NOWHERE);
     let value = parts.exprs.pop_or(no_expr());
     parts.statements.push(Stmt::Let(Let {
@@ -53,12 +53,12 @@ pub fn block(parts: &mut Parts, alloc: Global) -> Result<(), AllocError>
     ensures { OnOk result (parts.new ≡ block parts.old) }
 {
     let span = parts.take_marks(2);
-    let count = parts.counts.pop_or(0);
-    let statements = parts.statements.take_top(count)?;
     let value = match parts.values.pop_or(None) {
         Some(value) => Some(Boxed::new(alloc, value)?),
         None => None,
     };
+    let count = parts.counts.pop_or(0);
+    let statements = parts.statements.take_top(count)?;
     parts.blocks.push(Block {
         span,
         statements,

@@ -88,13 +88,15 @@ pub fn config(parts: &mut Parts) -> Result<(), AllocError>
     let names = parts.counts.pop_or(0);
     let makings = parts.counts.pop_or(0);
     let ends = parts.counts.pop_or(0);
-    let config = Config {
+    let result = parts.idents.take_top(names)?;
+    let ends = parts.ends.take_top(ends)?;
+    let makings = parts.makings.take_top(makings)?;
+    parts.configs.push(Config {
         span,
-        ends: parts.ends.take_top(ends)?,
-        makings: parts.makings.take_top(makings)?,
-        result: parts.idents.take_top(names)?,
-    };
-    parts.configs.push(config)
+        ends,
+        makings,
+        result,
+    })
 }
 
 /// `next ( name : type ) block`

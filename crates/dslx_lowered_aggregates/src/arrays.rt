@@ -50,7 +50,7 @@ pub(crate) fn written_array(
     ensures { IfOk result (λ e. Some e ≡ lowered (array_core (the_cores exprs.items)) (array_type ty size)) }
 {
     Ok(LoweredExpr {
-        core: CoreExpr::Array(cores_of(alloc, exprs)?),
+        core: Boxed::new(alloc, CoreExpr::Array(cores_of(alloc, exprs)?))?,
         ty: DslxType::Array(Boxed::new(alloc, ty)?, size),
     })
 }

@@ -25,7 +25,7 @@ pub fn field_lowered(
 {
     match field_place(alloc, &expr.ty, field)? {
         Some((place, ty)) => Ok(Some(LoweredExpr {
-            core: element(alloc, expr.core, place)?,
+            core: Boxed::new(alloc, CoreExpr::Element(expr.core, place))?,
             ty,
         })),
         None => Ok(None),
@@ -43,17 +43,18 @@ pub fn field_of_slot(
 {
     match field_place(alloc, ty, field)? {
         Some((place, ty)) => Ok(Some(LoweredExpr {
-            core: element(alloc, CoreExpr::Slot(slot), place)?,
+            core: element_of_slot(alloc, slot, place)?,
             ty,
         })),
         None => Ok(None),
     }
 }
 
-fn element(alloc: Global, tuple: CoreExpr, place: u64) -> Result<CoreExpr, AllocError>
-    ensures { IfOk result (λ e. e ≡ element_core tuple place) }
+fn element_of_slot(alloc: Global, slot: u64, place: u64) -> Result<Boxed<CoreExpr>, AllocError>
+    ensures { IfOk result (λ e. e ≡ element_core (slot_core slot) place) }
 {
-    Ok(CoreExpr::Element(Boxed::new(alloc, tuple)?, place))
+    let tuple = Boxed::new(alloc, CoreExpr::Slot(slot))?;
+    Boxed::new(alloc, CoreExpr::Element(tuple, place))
 }
 
 /// The place of the field of this name of a struct, and its type, copied.

@@ -90,10 +90,10 @@ fn filled_up(
     let shapes = bound_shapes(alloc, exprs.as_slice())?;
     let slots = filled_slots(alloc, count, size, exprs.as_slice())?;
     let body = LoweredExpr {
-        core: CoreExpr::Array(slots),
+        core: Boxed::new(alloc, CoreExpr::Array(slots))?,
         ty: DslxType::Array(Boxed::new(alloc, ty)?, size),
     };
-    let values = CoreExpr::Tuple(cores_of(alloc, exprs)?);
+    let values = Boxed::new(alloc, CoreExpr::Tuple(cores_of(alloc, exprs)?))?;
     bind_lowered(alloc, values, Shape::Tuple(shapes), body)
 }
 

@@ -16,7 +16,7 @@ pub fn cores_of(alloc: Global, exprs: Vec<LoweredExpr>) -> Result<Seq<CoreExpr>,
 {
     let mut cores = Vec::new(alloc);
     'exprs: for expr in exprs {
-        cores.push(expr.core)?;
+        cores.push(expr.core.into_inner())?;
     }
     Ok(Seq::from_vec(cores))
 }

@@ -10,6 +10,7 @@ use dslx_core::CoreExpr;
 use dslx_lowering::LoweredExpr;
 use dslx_meaning::DslxType;
 use std::alloc::{AllocError, Global};
+use xb_value::Boxed;
 
 /// A tuple of these parts.
 pub fn tuple_lowered(alloc: Global, exprs: Vec<LoweredExpr>) -> Result<LoweredExpr, AllocError>
@@ -28,7 +29,7 @@ pub fn struct_lowered(
     ensures { IfOk result (λ e. Some e ≡ lowered (tuple_core (the_cores exprs.items)) ty) }
 {
     Ok(LoweredExpr {
-        core: CoreExpr::Tuple(cores_of(alloc, exprs)?),
+        core: Boxed::new(alloc, CoreExpr::Tuple(cores_of(alloc, exprs)?))?,
         ty,
     })
 }

@@ -9,7 +9,7 @@ ghost use Rattle.dslx_lowering.specs.Lowering as lowering;
 ghost use Rattle.dslx_lowered_calls.specs.Builtins.{builtin_of};
 ghost use Rattle.dslx_lowered_calls.specs.Inner.Parts.{is_of_elements as are_elements};
 
-use crate::held::{boxed_three, core_of, where_holds};
+use crate::held::where_holds;
 use dslx_core::{CoreExpr, CoreUnary};
 use dslx_lowered_operators::{counted_lowered, reduced_lowered};
 use dslx_lowering::LoweredExpr;
@@ -17,7 +17,7 @@ use dslx_meaning::DslxType;
 use dslx_names::Callee;
 use dslx_types_alike::equal_type;
 use std::alloc::{AllocError, Global};
-use xb_value::Seq;
+use xb_value::{Boxed, Seq};
 
 /// What a builtin gives for these operands. Effects, and functions of the text, are none.
 #[tactic(auto, using(crate::proofs::BuiltinLemmas::join_is))]
@@ -29,7 +29,7 @@ pub fn builtin_lowered(
     ensures { IfOk result (λ e. e ≡ builtin_of (kind_of callee) exprs.items) }
 {
     match callee {
-        Callee::Join => Ok(Some(token(alloc))),
+        Callee::Join => Ok(Some(token(alloc)?)),
         Callee::CountLeading => counted(alloc, CoreUnary::Clz, exprs),
         Callee::CountTrailing => counted(alloc, CoreUnary::Ctz, exprs),
         Callee::Reverse => counted(alloc, CoreUnary::Rev, exprs),
@@ -42,13 +42,13 @@ pub fn builtin_lowered(
 }
 
 /// A token, which says nothing.
-fn token(alloc: Global) -> LoweredExpr
-    ensures { Some result ≡ lowering.lowered (tuple_core []) token_type }
+fn token(alloc: Global) -> Result<LoweredExpr, AllocError>
+    ensures { IfOk result (λ e. Some e ≡ lowering.lowered (tuple_core []) token_type) }
 {
-    LoweredExpr {
-        core: CoreExpr::Tuple(Seq::new(alloc)),
+    Ok(LoweredExpr {
+        core: Boxed::new(alloc, CoreExpr::Tuple(Seq::new(alloc)))?,
         ty: DslxType::Token,
-    }
+    })
 }
 
 /// An operation on one operand that gives a value of its type.
@@ -104,12 +104,7 @@ fn update_lowered(
 {
     let fits = is_of_elements(&array.ty, &new.ty);
     match where_holds(fits, (array, index, new)) {
-        Some((array, index, new)) => Ok(Some(with_update(
-            alloc,
-            array,
-            core_of(index),
-            core_of(new),
-        )?)),
+        Some((array, index, new)) => Ok(Some(with_update(alloc, array, index, new)?)),
         None => Ok(None),
     }
 }
@@ -117,15 +112,14 @@ fn update_lowered(
 fn with_update(
     alloc: Global,
     array: LoweredExpr,
-    index: CoreExpr,
-    new: CoreExpr,
+    index: LoweredExpr,
+    new: LoweredExpr,
 ) -> Result<LoweredExpr, AllocError>
-    ensures { IfOk result (λ e. e ≡ record { core = update_core array.core index new; ty = array.ty }) }
+    ensures { IfOk result (λ e. e ≡ record { core = update_core array.core index.core new.core; ty = array.ty }) }
 {
-    let (array, index, new, ty) = boxed_three(alloc, array.core, index, new, array.ty)?;
     Ok(LoweredExpr {
-        core: CoreExpr::Update(array, index, new),
-        ty,
+        core: Boxed::new(alloc, CoreExpr::Update(array.core, index.core, new.core))?,
+        ty: array.ty,
     })
 }
 

@@ -9,6 +9,7 @@ use dslx_lowered_aggregates::cores_of;
 use dslx_lowering::LoweredExpr;
 use dslx_meaning::DslxType;
 use std::alloc::{AllocError, Global};
+use xb_value::Boxed;
 
 /// A call of the instance of this number, which has a result of this type.
 pub fn call_lowered(
@@ -20,7 +21,7 @@ pub fn call_lowered(
     ensures { IfOk result (λ e. Some e ≡ lowered (call_core number (the_cores exprs.items)) ty) }
 {
     Ok(LoweredExpr {
-        core: CoreExpr::Call(number, cores_of(alloc, exprs)?),
+        core: Boxed::new(alloc, CoreExpr::Call(number, cores_of(alloc, exprs)?))?,
         ty,
     })
 }

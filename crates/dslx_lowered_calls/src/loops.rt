@@ -5,7 +5,7 @@ ghost use Rattle.dslx_core.specs.declared.expr.CoreExpr.{Loop as loop_core};
 ghost use Rattle.dslx_instance_machine.specs.Steps.{loop_made};
 ghost use Rattle.dslx_lowered_calls.specs.Inner.Turns.{turns_of as the_turns};
 
-use crate::held::{boxed_two, core_of, with_both};
+use crate::held::with_both;
 use crate::turns::few_turns;
 use dslx_core::{CoreExpr, Shape};
 use dslx_lowering::LoweredExpr;
@@ -13,6 +13,7 @@ use dslx_meaning::SignedWord;
 use dslx_types_alike::equal_type;
 use std::alloc::{AllocError, Global};
 use xb_bits::Bits;
+use xb_value::Boxed;
 
 /// A loop from one index to before another, if a turn gives what is accumulated its type again and there are fewer than 2^64 turns.
 #[tactic(auto, using(crate::proofs::LoopLemmas::loop_none, crate::proofs::LoopLemmas::loop_some))]
@@ -35,7 +36,7 @@ pub fn loop_lowered(
             from.word,
             index,
             accumulator,
-            core_of(body),
+            body.core,
             start,
         )?)),
         None => Ok(None),
@@ -66,16 +67,14 @@ fn repeated(
     from: Bits,
     index: Shape,
     accumulator: Shape,
-    body: CoreExpr,
+    body: Boxed<CoreExpr>,
     start: LoweredExpr,
 ) -> Result<LoweredExpr, AllocError>
     ensures { IfOk result (λ e. e ≡ record { core = loop_core turns from index accumulator body start.core; ty = start.ty }) }
 {
-    let beside = (index, accumulator, start.ty);
-    let (body, start, beside) = boxed_two(alloc, body, start.core, beside)?;
-    let (index, accumulator, ty) = beside;
+    let core = CoreExpr::Loop(turns, from, index, accumulator, body, start.core);
     Ok(LoweredExpr {
-        core: CoreExpr::Loop(turns, from, index, accumulator, body, start),
-        ty,
+        core: Boxed::new(alloc, core)?,
+        ty: start.ty,
     })
 }

@@ -8,7 +8,6 @@ ghost use Rattle.dslx_lowering.specs.Patterns as patterns;
 ghost use Rattle.dslx_lowering.specs.Patterns.{LoweredArm as ArmPart, arms_of as the_match};
 ghost use Rattle.dslx_lowered_calls.specs.Inner.Parts.{type_of_all as the_type_of_all, type_of_first as the_type_of_first};
 
-use crate::held::core_of;
 use dslx_core::{Arm, CoreExpr, Shape};
 use dslx_lowering::{LoweredArm, LoweredExpr};
 use dslx_meaning::DslxType;
@@ -24,7 +23,7 @@ pub fn arm_of(shapes: Seq<Shape>, value: LoweredExpr) -> LoweredArm
     LoweredArm {
         arm: Arm {
             shapes,
-            value: value.core,
+            value: value.core.into_inner(),
         },
         ty: value.ty,
     }
@@ -39,10 +38,9 @@ pub fn select_lowered(
 ) -> Result<Option<LoweredExpr>, AllocError>
     ensures { IfOk result (λ e. e ≡ the_match value arms.items) }
 {
-    let value = Boxed::new(alloc, value)?;
     match type_of_all(alloc, arms.as_slice())? {
         Some(ty) => Ok(Some(LoweredExpr {
-            core: select(alloc, core_of(value.into_inner()), arms)?,
+            core: select(alloc, value.core, arms)?,
             ty,
         })),
         None => Ok(None),
@@ -81,11 +79,15 @@ fn all_of_type(ty: &DslxType, arms: &[LoweredArm]) -> bool
     arms.iter().all(|arm| equal_type(ty, &arm.ty))
 }
 
-fn select(alloc: Global, value: CoreExpr, arms: Vec<LoweredArm>) -> Result<CoreExpr, AllocError>
+fn select(
+    alloc: Global,
+    value: Boxed<CoreExpr>,
+    arms: Vec<LoweredArm>,
+) -> Result<Boxed<CoreExpr>, AllocError>
     ensures { IfOk result (λ e. e ≡ select_core value (map (λ (a : ArmPart). a.arm) arms.items)) }
 {
-    let value = Boxed::new(alloc, value)?;
-    Ok(CoreExpr::Select(value, without_types(alloc, arms)?))
+    let arms = without_types(alloc, arms)?;
+    Boxed::new(alloc, CoreExpr::Select(value, arms))
 }
 
 fn without_types(alloc: Global, arms: Vec<LoweredArm>) -> Result<Seq<Arm>, AllocError>

@@ -1,7 +1,7 @@
 //! Choices, values that are bound, and parts of values.
 
 ghost use Rattle.std.specs.Prelude.{◌≡◌, Some, IfOk};
-ghost use Rattle.dslx_core.specs.declared.expr.CoreExpr.{Bind as bind_of, Choose as choice_of, Element as element_of, Index as index_of};
+ghost use Rattle.dslx_core.specs.declared.expr.CoreExpr.{Bind as bind_of, Choose as choice_of};
 ghost use Rattle.dslx_lowering.specs.Lowering as lowering;
 
 use dslx_core::{CoreExpr, Shape};
@@ -37,51 +37,24 @@ fn chosen(
     ensures { IfOk result (λ e. Some e ≡ lowering.lowered (choice_of condition.core yes.core no.core) yes.ty) }
 {
     Ok(LoweredExpr {
-        core: choice(alloc, condition.core, yes.core, no.core)?,
+        core: Boxed::new(alloc, CoreExpr::Choose(condition.core, yes.core, no.core))?,
         ty: yes.ty,
     })
-}
-
-fn choice(
-    alloc: Global,
-    condition: CoreExpr,
-    yes: CoreExpr,
-    no: CoreExpr,
-) -> Result<CoreExpr, AllocError>
-    ensures { IfOk result (λ e. e ≡ choice_of condition yes no) }
-{
-    let condition = Boxed::new(alloc, condition)?;
-    let yes = Boxed::new(alloc, yes)?;
-    let no = Boxed::new(alloc, no)?;
-    Ok(CoreExpr::Choose(condition, yes, no))
 }
 
 /// An expression over what a value binds that is taken apart so.
 pub fn bind_lowered(
     alloc: Global,
-    value: CoreExpr,
+    value: Boxed<CoreExpr>,
     shape: Shape,
     body: LoweredExpr,
 ) -> Result<LoweredExpr, AllocError>
     ensures { IfOk result (λ e. Some e ≡ lowering.lowered (bind_of value shape body.core) body.ty) }
 {
     Ok(LoweredExpr {
-        core: bind(alloc, value, shape, body.core)?,
+        core: Boxed::new(alloc, CoreExpr::Bind(value, shape, body.core))?,
         ty: body.ty,
     })
-}
-
-fn bind(
-    alloc: Global,
-    value: CoreExpr,
-    shape: Shape,
-    body: CoreExpr,
-) -> Result<CoreExpr, AllocError>
-    ensures { IfOk result (λ e. e ≡ bind_of value shape body) }
-{
-    let value = Boxed::new(alloc, value)?;
-    let body = Boxed::new(alloc, body)?;
-    Ok(CoreExpr::Bind(value, shape, body))
 }
 
 /// The part of a tuple of this number.
@@ -95,17 +68,11 @@ pub fn element_lowered(
 {
     match into_part(tuple.ty, place) {
         Some(ty) => Ok(Some(LoweredExpr {
-            core: element(alloc, tuple.core, place)?,
+            core: Boxed::new(alloc, CoreExpr::Element(tuple.core, place))?,
             ty,
         })),
         None => Ok(None),
     }
-}
-
-fn element(alloc: Global, tuple: CoreExpr, place: u64) -> Result<CoreExpr, AllocError>
-    ensures { IfOk result (λ e. e ≡ element_of tuple place) }
-{
-    Ok(CoreExpr::Element(Boxed::new(alloc, tuple)?, place))
 }
 
 /// The element of an array at an index.
@@ -119,17 +86,9 @@ pub fn index_lowered(
 {
     match into_element(array.ty) {
         Some(ty) => Ok(Some(LoweredExpr {
-            core: indexed(alloc, array.core, index.core)?,
+            core: Boxed::new(alloc, CoreExpr::Index(array.core, index.core))?,
             ty,
         })),
         None => Ok(None),
     }
-}
-
-fn indexed(alloc: Global, array: CoreExpr, index: CoreExpr) -> Result<CoreExpr, AllocError>
-    ensures { IfOk result (λ e. e ≡ index_of array index) }
-{
-    let array = Boxed::new(alloc, array)?;
-    let index = Boxed::new(alloc, index)?;
-    Ok(CoreExpr::Index(array, index))
 }

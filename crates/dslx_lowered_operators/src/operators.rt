@@ -1,7 +1,7 @@
 //! Operators, casts and parts of bits.
 
 ghost use Rattle.std.specs.Prelude.{◌≡◌, ◌+◌, Some, true, IfOk, nat_le};
-ghost use Rattle.dslx_core.specs.declared.expr.CoreExpr.{Binary as binary_of, Part as part_core, Slice as slice_core, Unary as unary_of};
+ghost use Rattle.dslx_core.specs.declared.expr.CoreExpr.{Binary as binary_of, Slice as slice_core, Unary as unary_of};
 ghost use Rattle.dslx_meaning.specs.Types.{bool_type as one_bit, unsigned as unsigned_bits};
 ghost use Rattle.dslx_lowering.specs.Lowering as lowering;
 ghost use Rattle.dslx_lowering.specs.Lowering.{fits_operands as are_operands, result_of_binary as the_result, binary_core as the_operator, sign_of as the_sign};
@@ -39,7 +39,7 @@ pub fn counted_lowered(
     ensures { IfOk result (λ e. Some e ≡ lowering.lowered (unary_of operator operand.core) operand.ty) }
 {
     Ok(LoweredExpr {
-        core: CoreExpr::Unary(operator, Boxed::new(alloc, operand.core)?),
+        core: Boxed::new(alloc, CoreExpr::Unary(operator, operand.core))?,
         ty: operand.ty,
     })
 }
@@ -53,7 +53,7 @@ pub fn reduced_lowered(
     ensures { IfOk result (λ e. Some e ≡ lowering.lowered (unary_of operator operand.core) one_bit) }
 {
     Ok(LoweredExpr {
-        core: CoreExpr::Unary(operator, Boxed::new(alloc, operand.core)?),
+        core: Boxed::new(alloc, CoreExpr::Unary(operator, operand.core))?,
         ty: bool_type(),
     })
 }
@@ -86,22 +86,9 @@ fn operation_of(
 {
     let operation = binary_core(operator, sign_of(&left.ty));
     Ok(LoweredExpr {
-        core: binary(alloc, operation, left.core, right.core)?,
+        core: Boxed::new(alloc, CoreExpr::Binary(operation, left.core, right.core))?,
         ty: result_of_binary(operator, left.ty, &right.ty),
     })
-}
-
-fn binary(
-    alloc: Global,
-    operation: CoreBinary,
-    left: CoreExpr,
-    right: CoreExpr,
-) -> Result<CoreExpr, AllocError>
-    ensures { IfOk result (λ e. e ≡ binary_of operation left right) }
-{
-    let left = Boxed::new(alloc, left)?;
-    let right = Boxed::new(alloc, right)?;
-    Ok(CoreExpr::Binary(operation, left, right))
 }
 
 /// Whether words side by side have at most 128 bits, and what is compared is of one type.
@@ -181,14 +168,11 @@ pub fn cast_lowered(
     ensures { IfOk result (λ e. e ≡ lowering.cast_lowered (Some operand) (Some ty)) }
 {
     match word_width(&ty) {
-        Some(width) => Ok(Some(LoweredExpr {
-            core: CoreExpr::Cast(
-                sign_of(&operand.ty),
-                width,
-                Boxed::new(alloc, operand.core)?,
-            ),
-            ty,
-        })),
+        Some(width) => {
+            let sign = sign_of(&operand.ty);
+            let core = Boxed::new(alloc, CoreExpr::Cast(sign, width, operand.core))?;
+            Ok(Some(LoweredExpr { core, ty }))
+        }
         None => Ok(None),
     }
 }
@@ -219,7 +203,7 @@ fn slice_of(
     ensures { IfOk result (λ e. Some e ≡ lowering.lowered (slice_core operand.core from width) (unsigned_bits width)) }
 {
     Ok(LoweredExpr {
-        core: CoreExpr::Slice(Boxed::new(alloc, operand.core)?, from, width),
+        core: Boxed::new(alloc, CoreExpr::Slice(operand.core, from, width))?,
         ty: unsigned(u128::from(width)),
     })
 }
@@ -236,23 +220,9 @@ pub fn part_lowered(
 {
     match word_width(ty) {
         Some(width) => Ok(Some(LoweredExpr {
-            core: part_of(alloc, operand.core, start.core, width)?,
+            core: Boxed::new(alloc, CoreExpr::Part(operand.core, start.core, width))?,
             ty: unsigned(u128::from(width)),
         })),
         None => Ok(None),
     }
-}
-
-/// So many bits, from a bit on that another operand gives.
-fn part_of(
-    alloc: Global,
-    operand: CoreExpr,
-    start: CoreExpr,
-    width: u8,
-) -> Result<CoreExpr, AllocError>
-    ensures { IfOk result (λ e. e ≡ part_core operand start width) }
-{
-    let operand = Boxed::new(alloc, operand)?;
-    let start = Boxed::new(alloc, start)?;
-    Ok(CoreExpr::Part(operand, start, width))
 }

@@ -1,15 +1,17 @@
 //! Values that are known.
 
-ghost use Rattle.std.specs.Prelude.{◌≡◌, map, Some, IfOk};
-ghost use Rattle.dslx_lowering.specs.Lowering.{literal as the_literal};
+ghost use Rattle.std.specs.Prelude.{◌≡◌, [], map, Some, IfOk};
+ghost use Rattle.dslx_core.specs.declared.expr.CoreExpr.{Tuple as tuple_of};
+ghost use Rattle.dslx_lowering.specs.Lowering.{literal as the_literal, lowered};
+ghost use Rattle.dslx_meaning.specs.Types.{unit_type};
 ghost use Rattle.dslx_meaning.specs.Values.{plain_value as the_plain_value};
 
 use dslx_core::CoreExpr;
 use dslx_lowering::LoweredExpr;
-use dslx_meaning::DslxValue;
+use dslx_meaning::{DslxType, DslxValue};
 use dslx_values::type_of_value;
 use std::alloc::{AllocError, Global};
-use xb_value::{Seq, Value};
+use xb_value::{Boxed, Seq, Value};
 
 /// A value without signs and names. It takes time and memory as the value is large.
 #[cycle(plain_value)]
@@ -43,7 +45,17 @@ pub fn literal(alloc: Global, value: &DslxValue) -> Result<LoweredExpr, AllocErr
     ensures { IfOk result (λ e. Some e ≡ the_literal value.now) }
 {
     Ok(LoweredExpr {
-        core: CoreExpr::Literal(plain_value(alloc, value)?),
+        core: Boxed::new(alloc, CoreExpr::Literal(plain_value(alloc, value)?))?,
         ty: type_of_value(alloc, value)?,
+    })
+}
+
+/// The value of a block without a last expression.
+pub fn unit_lowered(alloc: Global) -> Result<LoweredExpr, AllocError>
+    ensures { IfOk result (λ e. Some e ≡ lowered (tuple_of []) unit_type) }
+{
+    Ok(LoweredExpr {
+        core: Boxed::new(alloc, CoreExpr::Tuple(Seq::new(alloc)))?,
+        ty: DslxType::Tuple(Seq::new(alloc)),
     })
 }

@@ -1,11 +1,12 @@
 use dslx_core::{Arm, CoreExpr};
 use dslx_meaning::DslxType;
 use texts::Name;
+use xb_value::Boxed;
 
-/// A core expression, and the type of its values.
+/// A core expression, and the type of its values. It stands in a box, as which it becomes a part of another.
 #[derive(Drop)]
 pub struct LoweredExpr {
-    pub core: CoreExpr,
+    pub core: Boxed<CoreExpr>,
     pub ty: DslxType,
 }
 

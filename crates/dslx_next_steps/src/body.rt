@@ -6,11 +6,11 @@ ghost use Rattle.dslx_open_steps.specs.Works.{HasTable, BodyMakes};
 ghost use Rattle.dslx_next_steps.specs.Passing.{BodyPasses, HasOneState, body_at, last_at, statements_at};
 
 use crate::statement::pass_statement;
-use dslx_core::{CoreExpr, Step};
+use dslx_core::Step;
 use dslx_instance_table::InstanceTable;
 use dslx_instance_tasks::BodyWork;
+use dslx_lowered_types::unit_lowered;
 use dslx_lowering::{LoweredExpr, LoweredSteps};
-use dslx_meaning::DslxType;
 use dslx_open_steps::{NextKnown, lower};
 use dslx_tree::{Block, Expr, Stmt};
 use std::alloc::{AllocError, Global};
@@ -76,12 +76,6 @@ fn lower_last<'a>(
 {
     match last {
         Some(expr) => lower(alloc, known, work, expr.get()),
-        None => Ok(Some((
-            LoweredExpr {
-                core: CoreExpr::Tuple(Seq::new(alloc)),
-                ty: DslxType::Tuple(Seq::new(alloc)),
-            },
-            work,
-        ))),
+        None => Ok(Some((unit_lowered(alloc)?, work))),
     }
 }

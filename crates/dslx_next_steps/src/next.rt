@@ -116,7 +116,7 @@ fn next_from<'a>(
             let next = LoweredNext {
                 state,
                 steps: lowered.steps,
-                next: lowered.next.core,
+                next: lowered.next.core.into_inner(),
             };
             Ok(Some((next, table)))
         } else {

@@ -23,7 +23,7 @@ pub fn compute(value: LoweredExpr) -> OpenStep
     ensures { Some result ≡ computing value }
 {
     OpenStep {
-        step: Step::Bind(value.core, Shape::Wild),
+        step: Step::Bind(value.core.into_inner(), Shape::Wild),
         ty: value.ty,
     }
 }
@@ -75,7 +75,7 @@ pub fn send(member: CoreMember, condition: Option<CoreExpr>, word: LoweredExpr) 
         step: Step::Send(Send {
             member: member.number,
             condition,
-            word: word.core,
+            word: word.core.into_inner(),
             shape: Shape::Wild,
         }),
         ty: DslxType::Token,

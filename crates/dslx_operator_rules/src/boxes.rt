@@ -1,26 +1,14 @@
 //! Expressions that become parts of a bigger one.
 
 ghost use Rattle.std.specs.Prelude.{◌≡◌, drop, IfOk, OnOk};
-ghost use Rattle.dslx_atom_rules.specs.Exprs.{first_expr, first_place, second_expr, second_place};
+ghost use Rattle.dslx_atom_rules.specs.Exprs.{first_expr, second_expr, second_place};
 
-use dslx_atom_rules::pop_expr;
+use dslx_atom_rules::pop_boxed;
 use dslx_parts::Parts;
 use dslx_tree::Expr;
 use std::alloc::{AllocError, Global};
 use xb_span::Span;
 use xb_value::Boxed;
-
-/// Takes the expression on top, with its place.
-pub fn pop_boxed(parts: &mut Parts, alloc: Global) -> Result<(Span, Boxed<Expr>), AllocError>
-    ensures top { IfOk result (λ r. r ≡ (first_place parts.old, first_expr parts.old)) }
-    ensures rest { OnOk result (parts.new ≡ record parts.old {
-      places = drop 1 parts.old.places;
-      exprs = drop 1 parts.old.exprs;
-    }) }
-{
-    let (place, value) = pop_expr(parts);
-    Ok((place, Boxed::new(alloc, value)?))
-}
 
 /// Takes the two expressions on top, the lower one first, with its place.
 pub fn pop_pair(

@@ -4,8 +4,7 @@ ghost use Rattle.std.specs.Prelude.{◌≡◌, drop, reverse, IfOk, OnOk};
 ghost use Rattle.dslx_operators.specs.Levels.{tree_of};
 ghost use Rattle.dslx_operator_rules.specs.Operators.{chain, links_of, placed};
 
-use crate::boxes::pop_boxed;
-use dslx_atom_rules::pop_expr;
+use dslx_atom_rules::{pop_boxed, pop_expr};
 use dslx_operators::{Link, Operand, tree};
 use dslx_parts::Parts;
 use dslx_tree::{Binary, Expr};
@@ -21,8 +20,8 @@ pub fn chain(parts: &mut Parts, alloc: Global) -> Result<(), AllocError>
     let links = take_links(parts, alloc, count)?;
     let (span, expr) = pop_expr(parts);
     let (span, expr) = joined(alloc, span, expr, links)?;
-    parts.places.push(span)?;
-    parts.exprs.push(expr)
+    parts.exprs.push(expr)?;
+    parts.places.push(span)
 }
 
 /// The tree of a chain with its place, at once where it has no operator, as most have none.

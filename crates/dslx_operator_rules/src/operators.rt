@@ -3,8 +3,8 @@
 ghost use Rattle.std.specs.Prelude.{◌≡◌, OnOk};
 ghost use Rattle.dslx_operator_rules.specs.Operators.{cast_expr, element_expr, field_expr, index_expr, operator, part_expr, prefixed, slice_expr};
 
-use crate::boxes::{pop_boxed, pop_pair};
-use dslx_atom_rules::push_expr;
+use crate::boxes::pop_pair;
+use dslx_atom_rules::{pop_boxed, push_expr};
 use dslx_parts::{NO_DIGITS, Parts, join, no_ident, no_type};
 use dslx_tree::{Binary, Node, Prefix};
 use std::alloc::{AllocError, Global};

@@ -1,6 +1,6 @@
 //! Building the package.
 
-ghost use Rattle.std.specs.Prelude.{◌≡◌, ◌∷◌, List, drop, IfOk, OnOk};
+ghost use Rattle.std.specs.Prelude.{◌≡◌, ◌∷◌, List, drop, reverse, IfOk, OnOk};
 ghost use Rattle.grammar.specs.declared.bottom_up.Step.{Step};
 ghost use Rattle.dslx_token.specs.Lexeme.{Lexeme};
 ghost use Rattle.ir_builder.specs.Building.{built, placed_of};
@@ -8,12 +8,14 @@ ghost use Rattle.ir_builder.specs.Empty.{empty};
 
 use crate::lines::name_of;
 use crate::rule::rule_of;
+use crate::stack::Stack;
 use crate::state::{NOWHERE, State};
 use grammar::Step;
 use ir_token::Token;
 use ir_tree::Package;
 use ir_verify::Places;
 use std::alloc::{AllocError, Global};
+use xb_value::Seq;
 
 /// A package, and where its lines stand in the text.
 #[derive(Drop)]
@@ -28,7 +30,7 @@ pub fn build(alloc: Global, steps: &[Step], tokens: &[Token]) -> Result<Placed, 
 {
     let mut state = State::new(alloc);
     run(alloc, steps, tokens, &mut state)?;
-    placed_of(alloc, state)
+    placed_of(alloc, &mut state)
 }
 
 /// Goes through the steps.
@@ -107,21 +109,27 @@ impl<'a> State<'a> {
 }
 
 /// The package whose lines have been built.
-fn placed_of(alloc: Global, state: State) -> Result<Placed, AllocError>
-    ensures { IfOk result (λ placed. placed ≡ placed_of state.entry) }
+fn placed_of(alloc: Global, state: &mut State) -> Result<Placed, AllocError>
+    ensures { IfOk result (λ placed. placed ≡ placed_of state.old) }
 {
-    let mut state = state;
     let name = state.names.pop_or(Token::nothing());
     let line = state.heads.pop_or(NOWHERE);
     let tree = Package {
         name: name_of(alloc, &name)?,
-        channels: state.channels.into_items(),
-        procs: state.procs.into_items(),
+        channels: take_all(alloc, &mut state.channels),
+        procs: take_all(alloc, &mut state.procs),
     };
     let places = Places {
         name: line,
-        channels: state.channel_spans.into_items(),
-        procs: state.proc_places.into_items(),
+        channels: take_all(alloc, &mut state.channel_spans),
+        procs: take_all(alloc, &mut state.proc_places),
     };
     Ok(Placed { tree, places })
+}
+
+/// Takes all parts of a stack, the lowest first.
+fn take_all<T: Drop>(alloc: Global, stack: &mut Stack<T>) -> Seq<T>
+    ensures { result ≡ reverse stack.old }
+{
+    std::mem::replace(stack, Stack::new(alloc)).into_items()
 }

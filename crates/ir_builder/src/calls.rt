@@ -1,7 +1,8 @@
 //! What the rules of calls make.
 
-ghost use Rattle.std.specs.Prelude.{◌≡◌, drop, OnOk};
-ghost use Rattle.ir_builder.specs.Rules.{called, plain_call, slice_call, dynamic_call, extend_call, sel_call, index_call, indices_call, literal_call, site_channel, site_call};
+ghost use Rattle.std.specs.Prelude.{◌≡◌, drop, reverse, take, IfOk, OnOk};
+ghost use Rattle.ir_builder.specs.Inner.Tops.{top_or};
+ghost use Rattle.ir_builder.specs.Rules.{plain_call, slice_call, dynamic_call, extend_call, sel_call, index_call, indices_call, literal_call, site_channel, site_call};
 
 use crate::parts::numbered;
 use crate::state::{Call, State};
@@ -10,67 +11,89 @@ use ir_tree::{Attributes, Constant, Operand, Operands};
 use std::alloc::{AllocError, Global};
 
 impl State<'_> {
-    /// The operands on top, with these attributes.
-    fn called(&mut self, alloc: Global, attributes: Attributes) -> Result<(), AllocError>
-        ensures { OnOk result (self.new ≡ called attributes self.old) }
+    /// Takes the operands of the list on top.
+    fn take_operands(&mut self, alloc: Global) -> Result<Operands, AllocError>
+        ensures operands { IfOk result (λ r. r ≡ reverse (take (top_or 0 self.old.counts) self.old.operands)) }
+        ensures rest { OnOk result (self.new ≡ record self.old {
+          counts = drop 1 self.old.counts;
+          operands = drop (top_or 0 self.old.counts) self.old.operands;
+        }) }
     {
         let count = self.counts.pop_or(0);
         let list = self.operands.take_top(count)?;
-        let operands = Operands::from_slice(alloc, list.as_slice())?;
-        self.calls.push(Call {
-            operands,
-            attributes,
-        })
+        Operands::from_slice(alloc, list.as_slice())
     }
 
     pub fn plain_call(&mut self, alloc: Global) -> Result<(), AllocError>
         ensures { OnOk result (self.new ≡ plain_call self.old) }
     {
-        self.called(alloc, Attributes::None)
+        let operands = self.take_operands(alloc)?;
+        self.calls.push(Call {
+            operands,
+            attributes: Attributes::None,
+        })
     }
 
     /// `start=N, width=N`
     pub fn slice_call(&mut self, alloc: Global) -> Result<(), AllocError>
         ensures { OnOk result (self.new ≡ slice_call self.old) }
     {
+        let operands = self.take_operands(alloc)?;
         let width = self.numbers.pop_or(0);
         let start = self.numbers.pop_or(0);
-        self.called(alloc, Attributes::StartAndWidth(start, width))
+        self.calls.push(Call {
+            operands,
+            attributes: Attributes::StartAndWidth(start, width),
+        })
     }
 
     /// `width=N`
     pub fn dynamic_call(&mut self, alloc: Global) -> Result<(), AllocError>
         ensures { OnOk result (self.new ≡ dynamic_call self.old) }
     {
+        let operands = self.take_operands(alloc)?;
         let width = self.numbers.pop_or(0);
-        self.called(alloc, Attributes::Width(width))
+        self.calls.push(Call {
+            operands,
+            attributes: Attributes::Width(width),
+        })
     }
 
     /// `new_bit_count=N`
     pub fn extend_call(&mut self, alloc: Global) -> Result<(), AllocError>
         ensures { OnOk result (self.new ≡ extend_call self.old) }
     {
+        let operands = self.take_operands(alloc)?;
         let width = self.numbers.pop_or(0);
-        self.called(alloc, Attributes::NewBitCount(width))
+        self.calls.push(Call {
+            operands,
+            attributes: Attributes::NewBitCount(width),
+        })
     }
 
     /// `cases=[..], default=..`
     pub fn sel_call(&mut self, alloc: Global) -> Result<(), AllocError>
         ensures { OnOk result (self.new ≡ sel_call self.old) }
     {
-        let count = self.counts.pop_or(0);
-        let list = self.operands.take_top(count)?;
-        let cases = Operands::from_slice(alloc, list.as_slice())?;
+        let cases = self.take_operands(alloc)?;
+        let operands = self.take_operands(alloc)?;
         let default = self.options.pop_or(None);
-        self.called(alloc, Attributes::Cases(cases, default))
+        self.calls.push(Call {
+            operands,
+            attributes: Attributes::Cases(cases, default),
+        })
     }
 
     /// `index=N`
     pub fn index_call(&mut self, alloc: Global) -> Result<(), AllocError>
         ensures { OnOk result (self.new ≡ index_call self.old) }
     {
+        let operands = self.take_operands(alloc)?;
         let index = self.numbers.pop_or(0);
-        self.called(alloc, Attributes::Index(index))
+        self.calls.push(Call {
+            operands,
+            attributes: Attributes::Index(index),
+        })
     }
 
     /// `indices=[..]`
@@ -78,15 +101,23 @@ impl State<'_> {
         ensures { OnOk result (self.new ≡ indices_call self.old) }
     {
         let index = self.operands.pop_or(Operand::State);
-        self.called(alloc, Attributes::Indices(index))
+        let operands = self.take_operands(alloc)?;
+        self.calls.push(Call {
+            operands,
+            attributes: Attributes::Indices(index),
+        })
     }
 
     /// `value=V`
     pub fn literal_call(&mut self, alloc: Global) -> Result<(), AllocError>
         ensures { OnOk result (self.new ≡ literal_call self.old) }
     {
+        let operands = self.take_operands(alloc)?;
         let constant = self.constants.pop_or(Constant::Number(0));
-        self.called(alloc, Attributes::Value(constant))
+        self.calls.push(Call {
+            operands,
+            attributes: Attributes::Value(constant),
+        })
     }
 
     /// `channel=NAME,`
@@ -103,8 +134,12 @@ impl State<'_> {
     pub fn site_call(&mut self, alloc: Global) -> Result<(), AllocError>
         ensures { OnOk result (self.new ≡ site_call self.old) }
     {
+        let operands = self.take_operands(alloc)?;
         let channel = self.site_channels.pop_or(0);
         let predicate = self.options.pop_or(None);
-        self.called(alloc, Attributes::Channel(predicate, channel))
+        self.calls.push(Call {
+            operands,
+            attributes: Attributes::Channel(predicate, channel),
+        })
     }
 }

@@ -2,7 +2,7 @@
 
 ghost use Rattle.std.specs.Prelude.{◌≡◌, ◌∷◌, drop, IfOk, OnOk};
 ghost use Rattle.ir_builder.specs.Empty.{no_call};
-ghost use Rattle.ir_builder.specs.Rules.{channel_id, outer, inner, channel_of, op_or, node_added, node_made, node_of, head_of, next_of, proc_made, places_made, proc_of, package_line};
+ghost use Rattle.ir_builder.specs.Rules.{channel_id, outer, inner, channel_of, op_or, node_added, node_made, node_of, head_of, next_of, proc_made, places_made, proc_of, package_line, token_of};
 
 use crate::state::{Call, NOWHERE, State, join};
 use delay_model::Op;
@@ -149,10 +149,11 @@ impl<'a> State<'a> {
     {
         let close = self.tokens.pop_or(Token::nothing());
         let count = self.counts.pop_or(0);
-        let nodes = self.nodes.take_top(count)?;
         let spans = self.node_spans.take_top(count)?;
         self.places_of(spans, close.span().to)?;
-        let proc = self.proc_made(alloc, nodes)?;
+        let name = self.take_name(alloc)?;
+        let nodes = self.nodes.take_top(count)?;
+        let proc = self.proc_made(alloc, name, nodes);
         self.procs.push(proc)?;
         self.node_names.clear(alloc);
         Ok(())
@@ -175,24 +176,31 @@ impl<'a> State<'a> {
         self.proc_places.push(places)
     }
 
-    /// A proc of these nodes, by the parts on top, which it takes off.
-    fn proc_made(&mut self, alloc: Global, nodes: Seq<Node>) -> Result<Proc, AllocError>
-        ensures proc { IfOk result (λ proc. proc ≡ proc_made nodes self.old) }
-        ensures rest { OnOk result (self.new ≡ record self.old {
-          names = drop 1 self.old.names;
+    /// Takes the name on top.
+    fn take_name(&mut self, alloc: Global) -> Result<Name, AllocError>
+        ensures name { IfOk result (λ name. name ≡ (token_of self.old.names).bytes) }
+        ensures rest { OnOk result (self.new ≡ record self.old { names = drop 1 self.old.names }) }
+    {
+        let token = self.names.pop_or(Token::nothing());
+        name_of(alloc, &token)
+    }
+
+    /// A proc of this name and these nodes, by the parts on top, which it takes off.
+    fn proc_made(&mut self, alloc: Global, name: Name, nodes: Seq<Node>) -> Proc
+        ensures proc { result ≡ record (proc_made nodes self.old) { name = name } }
+        ensures rest { self.new ≡ record self.old {
           types = drop 1 self.old.types;
           constants = drop 1 self.old.constants;
           operands = drop 1 self.old.operands;
-        }) }
+        } }
     {
-        let token = self.names.pop_or(Token::nothing());
-        Ok(Proc {
-            name: name_of(alloc, &token)?,
+        Proc {
+            name,
             state: self.types.pop_or(IrType::Token(Seq::new(alloc))),
             init: self.constants.pop_or(Constant::Number(0)),
             nodes,
             next: self.operands.pop_or(Operand::State),
-        })
+        }
     }
 
     /// `package NAME`, of which the name stays.
