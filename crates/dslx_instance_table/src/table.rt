@@ -16,9 +16,15 @@ use texts::Name;
 use xb_value::Seq;
 
 /// The instances that are done, by name and number arguments. Contracts see them in the order in which they were done.
-#[derive(Drop)]
 pub struct InstanceTable {
     functions: IndexMap<InstanceKey, LoweredFunction>,
+}
+
+/// Written out, so that it is proved once and not wherever one is let go.
+impl Drop for InstanceTable {
+    fn drop(self) {
+        let InstanceTable { functions: _ } = self;
+    }
 }
 
 impl Model for InstanceTable {

@@ -9,9 +9,15 @@ use std::marker::Model;
 use texts::Name;
 
 /// The names that are bound at a place. Contracts see the list, the last name first.
-#[derive(Drop)]
 pub struct Locals {
     slots: Vec<BoundSlot>,
+}
+
+/// Written out, so that it is proved once and not wherever one is let go.
+impl Drop for Locals {
+    fn drop(self) {
+        let Locals { slots: _ } = self;
+    }
 }
 
 impl Model for Locals {

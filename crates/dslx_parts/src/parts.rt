@@ -12,7 +12,6 @@ use std::alloc::Global;
 use xb_span::Span;
 
 /// The parts that have been built and not been used, a stack for each sort.
-#[derive(Drop)]
 pub struct Parts {
     /// The places of tokens that say nothing but where they are.
     pub marks: Stack<Span>,
@@ -49,6 +48,42 @@ pub struct Parts {
     pub nexts: Stack<Next>,
     pub definitions: Stack<Definition>,
     pub items: Stack<Item>,
+}
+
+/// Written out, so that it is proved once and not wherever one is let go.
+impl Drop for Parts {
+    fn drop(self) {
+        let Parts {
+            marks: _,
+            idents: _,
+            numbers: _,
+            flags: _,
+            operators: _,
+            directions: _,
+            counts: _,
+            types: _,
+            annotations: _,
+            patterns: _,
+            places: _,
+            exprs: _,
+            values: _,
+            args: _,
+            depths: _,
+            arms: _,
+            field_values: _,
+            statements: _,
+            blocks: _,
+            fields: _,
+            parameters: _,
+            members: _,
+            ends: _,
+            makings: _,
+            configs: _,
+            nexts: _,
+            definitions: _,
+            items: _,
+        } = self;
+    }
 }
 
 /// A number, with the `-` before it where there is one.

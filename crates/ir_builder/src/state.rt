@@ -20,7 +20,6 @@ pub struct Call {
 }
 
 /// The parts that have been built and not been used, a stack for each sort.
-#[derive(Drop)]
 pub struct State<'a> {
     /// Tokens that no rule has taken.
     pub tokens: Stack<Token<'a>>,
@@ -52,6 +51,36 @@ pub struct State<'a> {
     pub nexts: Stack<Span>,
     pub procs: Stack<Proc>,
     pub proc_places: Stack<ProcPlaces>,
+}
+
+/// Written out, so that it is proved once and not wherever one is let go.
+impl<'a> Drop for State<'a> {
+    fn drop(self) {
+        let State {
+            tokens: _,
+            names: _,
+            numbers: _,
+            ids: _,
+            counts: _,
+            types: _,
+            constants: _,
+            ends: _,
+            operands: _,
+            options: _,
+            site_channels: _,
+            calls: _,
+            nodes: _,
+            node_spans: _,
+            node_names: _,
+            channels: _,
+            channel_spans: _,
+            channel_names: _,
+            heads: _,
+            nexts: _,
+            procs: _,
+            proc_places: _,
+        } = self;
+    }
 }
 
 pub const NOWHERE: Span = Span { from: 0, to: 0 };

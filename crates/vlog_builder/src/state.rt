@@ -18,7 +18,6 @@ use vlog_tree::{
 use xb_span::Span;
 
 /// The parts that have been built and not been used, a stack for each sort, and the finished parts of the module.
-#[derive(Drop)]
 pub struct State<'a> {
     /// The place of the last token.
     pub last: Span,
@@ -55,6 +54,44 @@ pub struct State<'a> {
     pub clocks: Items<Set>,
     pub clock_places: Items<Span>,
     pub literal_ends: Items<u32>,
+}
+
+/// Written out, so that it is proved once and not wherever one is let go.
+impl<'a> Drop for State<'a> {
+    fn drop(self) {
+        let State {
+            last: _,
+            starts: _,
+            idents: _,
+            literals: _,
+            numbers: _,
+            ranges: _,
+            directions: _,
+            storages: _,
+            orders: _,
+            binaries: _,
+            unaries: _,
+            counts: _,
+            atoms: _,
+            tails: _,
+            simples: _,
+            exprs: _,
+            sets: _,
+            set_places: _,
+            signals: _,
+            ports: _,
+            port_places: _,
+            declarations: _,
+            declaration_places: _,
+            assignments: _,
+            assignment_places: _,
+            resets: _,
+            reset_places: _,
+            clocks: _,
+            clock_places: _,
+            literal_ends: _,
+        } = self;
+    }
 }
 
 pub const NOWHERE: Span = Span { from: 0, to: 0 };
