@@ -105,7 +105,7 @@ fn open_receive_if<'a>(
     match lower_conditional(alloc, known, work, condition, other, &member.get().word)? {
         Some((both, work)) => {
             let Conditional { condition, value } = both;
-            let parts = (condition.core.into_inner(), value.core.into_inner());
+            let parts = (condition.core, value.core);
             Ok(Some((receive(alloc, member.into_inner(), Some(parts))?, work)))
         }
         None => Ok(None),
@@ -148,8 +148,7 @@ fn open_send_if<'a>(
     match lower_conditional(alloc, known, work, condition, word, &member.get().word)? {
         Some((both, work)) => {
             let Conditional { condition, value } = both;
-            let condition = condition.core.into_inner();
-            Ok(Some((send(member.into_inner(), Some(condition), value), work)))
+            Ok(Some((send(member.into_inner(), Some(condition.core), value), work)))
         }
         None => Ok(None),
     }

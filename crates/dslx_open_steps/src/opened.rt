@@ -9,7 +9,7 @@ use dslx_core::{CoreExpr, Receive, Send, Shape, Step};
 use dslx_lowering::{CoreMember, LoweredExpr};
 use dslx_meaning::DslxType;
 use std::alloc::{AllocError, Global};
-use xb_value::{Seq, Ty};
+use xb_value::{Boxed, Seq, Ty};
 
 /// A step that binds nothing yet, and the type of the value that it gives.
 #[derive(Drop)]
@@ -32,7 +32,7 @@ pub fn compute(value: LoweredExpr) -> OpenStep
 pub fn receive(
     alloc: Global,
     member: CoreMember,
-    condition: Option<(CoreExpr, CoreExpr)>,
+    condition: Option<(Boxed<CoreExpr>, Boxed<CoreExpr>)>,
 ) -> Result<OpenStep, AllocError>
     ensures { IfOk result (λ step. Some step ≡ receiving member condition) }
 {
@@ -42,7 +42,7 @@ pub fn receive(
         step: Step::Receive(Receive {
             member: number,
             word,
-            condition,
+            condition: unboxed_pair(condition),
             shape: Shape::Wild,
         }),
         ty,
@@ -68,17 +68,37 @@ fn pair_of(alloc: Global, word: DslxType) -> Result<DslxType, AllocError>
 }
 
 /// A token, where the word is sent.
-pub fn send(member: CoreMember, condition: Option<CoreExpr>, word: LoweredExpr) -> OpenStep
+pub fn send(member: CoreMember, condition: Option<Boxed<CoreExpr>>, word: LoweredExpr) -> OpenStep
     ensures { Some result ≡ sending member condition word }
 {
     OpenStep {
         step: Step::Send(Send {
             member: member.number,
-            condition,
+            condition: unboxed(condition),
             word: word.core.into_inner(),
             shape: Shape::Wild,
         }),
         ty: DslxType::Token,
+    }
+}
+
+/// What is in the box, if there is one.
+fn unboxed<T>(boxed: Option<Boxed<T>>) -> Option<T>
+    ensures { result ≡ boxed }
+{
+    match boxed {
+        Some(boxed) => Some(boxed.into_inner()),
+        None => None,
+    }
+}
+
+/// What is in both boxes, if there are such.
+fn unboxed_pair<T>(boxed: Option<(Boxed<T>, Boxed<T>)>) -> Option<(T, T)>
+    ensures { result ≡ boxed }
+{
+    match boxed {
+        Some((first, second)) => Some((first.into_inner(), second.into_inner())),
+        None => None,
     }
 }
 
