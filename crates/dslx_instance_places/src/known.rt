@@ -13,7 +13,7 @@ ghost use Rattle.dslx_instance_tasks.specs.Shown.{body_shown, sight_of};
 use crate::sight::sight_in;
 use dslx_instance_tasks::OpenBody;
 use dslx_meaning::{DslxType, DslxValue};
-use dslx_place_values::{bound_there, constant_there, type_there};
+use dslx_place_names::{bound_there, constant_there, type_there};
 use dslx_tree::{Arg, Expr, Module, TypeExpr};
 use std::alloc::{AllocError, Global};
 

@@ -1,7 +1,7 @@
 ghost use Rattle.std.specs.Prelude.{◌≡◌};
 
 use dslx_instance_tasks::OpenBody;
-use dslx_place_values::PlaceSight;
+use dslx_place_names::PlaceSight;
 use dslx_tree::Module;
 
 /// What is in sight where a body stands, whichever instances are done.

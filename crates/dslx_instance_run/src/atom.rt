@@ -10,9 +10,8 @@ ghost use Rattle.dslx_instance_machine.specs.Bodies.{gives, place_in};
 ghost use Rattle.dslx_instance_machine.specs.Steps.{number_at};
 ghost use Rattle.dslx_instance_tasks.specs.Shown.{body_shown, sight_of};
 
-use dslx_instance_places::{literal_if, name_in_body, number_in_body};
+use dslx_instance_parts::{literal_if, member_named, name_in_body, number_in_body};
 use dslx_instance_tasks::OpenBody;
-use dslx_place_names::member_named;
 use dslx_tree::{Module, Number};
 use dslx_values::bool_value;
 use std::alloc::{AllocError, Global};

@@ -9,10 +9,8 @@ ghost use Rattle.dslx_instance_machine.specs.Tasks.{LoopBegins, LowersArms, Lowe
 ghost use Rattle.dslx_instance_run.specs.Inner.Structs.{struct_named_begins};
 ghost use Rattle.dslx_instance_tasks.specs.Shown.{body_shown, last_shown, sight_of};
 
-use dslx_instance_parts::begin_struct;
-use dslx_instance_steps::{begin_choice, begin_loop, begin_match};
+use dslx_instance_parts::{begin_choice, begin_loop, begin_match, begin_struct, struct_named};
 use dslx_instance_tasks::{BlockTask, LastMaker, OpenBody};
-use dslx_place_names::struct_named;
 use dslx_tree::{Arm, Block, Expr, FieldValue, For, Module};
 use std::alloc::{AllocError, Global};
 use texts::Name;

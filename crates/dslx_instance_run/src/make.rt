@@ -10,10 +10,9 @@ ghost use Rattle.dslx_instance_machine.specs.Bodies.{place_in, with_made};
 ghost use Rattle.dslx_instance_machine.specs.Steps.{made_of_last, of_last, of_last_two};
 ghost use Rattle.dslx_instance_tasks.specs.Shown.{body_shown, last_shown, sight_of};
 
-use dslx_instance_places::{bound_in_body, type_in_body};
-use dslx_instance_steps::{
-    make_binary, make_cast, make_choice, make_element, make_indexed, make_part, make_prefix,
-    make_slice,
+use dslx_instance_parts::{
+    bound_in_body, make_binary, make_cast, make_choice, make_element, make_indexed, make_part,
+    make_prefix, make_slice, type_in_body,
 };
 use dslx_instance_tasks::{LastMaker, OpenBody};
 use dslx_lowered_aggregates::field_lowered;

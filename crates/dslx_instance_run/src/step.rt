@@ -10,8 +10,7 @@ use crate::make::make_last;
 use crate::node::begin_node;
 use dslx_instance_arms::{begin_arms, bind_value, make_loop, start_loop, take_arm};
 use dslx_instance_opening::{is_done, make_call};
-use dslx_instance_parts::{take_field, take_others, take_part};
-use dslx_instance_steps::{begin_statements, make_bind};
+use dslx_instance_parts::{begin_statements, make_bind, take_field, take_others, take_part};
 use dslx_instance_table::InstanceTable;
 use dslx_instance_tasks::{
     ArmsTask, BlockTask, CallTask, LoopTask, LowerTask, OpenBody, PartsTask,

@@ -8,11 +8,11 @@ ghost use Rattle.dslx_meaning.specs.Meaning.{value_of, written_type};
 ghost use Rattle.dslx_meaning.specs.Operators.{number_value};
 ghost use Rattle.dslx_inference.specs.Inferences.{inferred};
 
-use dslx_const::{const_eval, type_eval};
 use dslx_const_items::number_of;
 use dslx_inference::{Inference, inferred_for};
 use dslx_meaning::{Bare, DslxValue};
 use dslx_names::Scope;
+use dslx_place_values::{const_eval, type_eval};
 use dslx_tree::{Module, Parameter, TypeExpr};
 use std::alloc::{AllocError, Global};
 

@@ -3,10 +3,10 @@
 ghost use Rattle.std.specs.Prelude.{◌≡◌, IfOk};
 ghost use Rattle.dslx_meaning.specs.Items.{meanings_of};
 
-use dslx_const::{machine_in, run, type_found};
 use dslx_const_items::use_struct;
 use dslx_meaning::DslxType;
 use dslx_names::{Scope, find_constant};
+use dslx_place_values::{machine_in, run, type_found};
 use dslx_tree::Module;
 use std::alloc::{AllocError, Global};
 use texts::Name;

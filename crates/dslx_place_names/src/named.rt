@@ -4,10 +4,10 @@ ghost use Rattle.std.specs.Prelude.{◌≡◌, IfOk};
 ghost use Rattle.dslx_meaning.specs.Environment.{value_of_name};
 ghost use Rattle.dslx_meaning.specs.Items.{meanings_of};
 
-use dslx_const::{machine_in, run, value_found};
 use dslx_const_items::{use_member, use_name};
 use dslx_meaning::DslxValue;
 use dslx_names::Scope;
+use dslx_place_values::{machine_in, run, value_found};
 use dslx_tree::Module;
 use std::alloc::{AllocError, Global};
 use texts::Name;

@@ -9,7 +9,7 @@ use Rattle.dslx_lowering.specs.Patterns.{LoweredShape, shaped}
 use Rattle.dslx_lowering.specs.Steps.{pattern_of_text_lowered}
 use Rattle.dslx_instance_machine.specs.Arms.{shaped_at}
 use Rattle.dslx_instance_machine.specs.Callees.{CalleesByName, moved, with_callee}
-use Rattle.dslx_place_values.specs.Seen.{place_with}
+use Rattle.dslx_place_names.specs.Seen.{place_with}
 use Rattle.dslx_place_patterns.specs.Behind.{behind, fresh_place, outer_place, shaped_to}
 use Rattle.dslx_place_patterns.specs.declared.fresh.Fresh.{Fresh}
 use Rattle.dslx_place_patterns.specs.declared.fresh.Outer.{Outer}

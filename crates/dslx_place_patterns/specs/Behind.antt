@@ -7,7 +7,7 @@ use Rattle.dslx_core.specs.declared.expr.Shape.{Shape}
 use Rattle.dslx_lowering.specs.CorePlaces.{BoundSlot, CorePlace}
 use Rattle.dslx_lowering.specs.Patterns.{LoweredShape, LoweredShapes, shaped}
 use Rattle.dslx_instance_machine.specs.Callees.{CalleesByName}
-use Rattle.dslx_place_values.specs.Seen.{place_with}
+use Rattle.dslx_place_names.specs.Seen.{place_with}
 use Rattle.dslx_place_patterns.specs.declared.bind.BodyKnown.{BodyKnown}
 use Rattle.dslx_place_patterns.specs.declared.bind.BoundShape.{BoundShape}
 use Rattle.dslx_place_patterns.specs.declared.bind.BoundTurn.{BoundTurn}

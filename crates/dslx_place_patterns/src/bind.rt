@@ -11,7 +11,7 @@ use dslx_core::Shape;
 use dslx_locals::Locals;
 use dslx_meaning::DslxType;
 use dslx_names::Binding;
-use dslx_place_values::PlaceSight;
+use dslx_place_names::PlaceSight;
 use dslx_tree::{For, Module, Pattern};
 use std::alloc::{AllocError, Global};
 

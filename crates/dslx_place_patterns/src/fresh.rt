@@ -5,7 +5,7 @@ ghost use Rattle.std.specs.Prelude.{◌≡◌, ◌∷◌, [], suc, OnOk};
 use dslx_locals::Locals;
 use dslx_lowering::BoundSlot;
 use dslx_meaning::DslxType;
-use dslx_place_values::PlaceSight;
+use dslx_place_names::PlaceSight;
 use std::alloc::{AllocError, Global};
 use texts::Name;
 

@@ -4,12 +4,12 @@ ghost use Rattle.std.specs.Prelude.{◌≡◌, map, IfOk};
 ghost use Rattle.dslx_lowering.specs.Patterns.{alternatives_shaped};
 ghost use Rattle.dslx_lowering.specs.Steps.{pattern_of_text_lowered};
 ghost use Rattle.dslx_instance_machine.specs.Callees.{CalleesByName};
-ghost use Rattle.dslx_place_values.specs.Seen.{place_with};
+ghost use Rattle.dslx_place_names.specs.Seen.{place_with};
 
 use crate::there::shape_there;
 use dslx_core::Shape;
 use dslx_meaning::DslxType;
-use dslx_place_values::PlaceSight;
+use dslx_place_names::PlaceSight;
 use dslx_tree::Pattern;
 use std::alloc::{AllocError, Global};
 use xb_value::Seq;

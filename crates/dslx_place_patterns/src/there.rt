@@ -3,7 +3,7 @@
 ghost use Rattle.std.specs.Prelude.{◌≡◌, IfOk};
 ghost use Rattle.dslx_instance_machine.specs.Arms.{shaped_at};
 ghost use Rattle.dslx_instance_machine.specs.Callees.{CalleesByName};
-ghost use Rattle.dslx_place_values.specs.Seen.{place_with};
+ghost use Rattle.dslx_place_names.specs.Seen.{place_with};
 ghost use Rattle.dslx_place_patterns.specs.Behind.{shown_behind};
 
 use crate::fresh::{Fresh, Outer};
@@ -11,7 +11,7 @@ use crate::shape::pattern_shape;
 use dslx_core::Shape;
 use dslx_locals::Locals;
 use dslx_meaning::DslxType;
-use dslx_place_values::PlaceSight;
+use dslx_place_names::PlaceSight;
 use dslx_tree::Pattern;
 use std::alloc::{AllocError, Global};
 

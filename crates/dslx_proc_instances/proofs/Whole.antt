@@ -25,7 +25,7 @@ use Rattle.dslx_instance_machine.proofs.Steady.{type_anywhere}
 use Rattle.dslx_networks.specs.Configs.{LoweredConfig, ProcInstance, config_lowered}
 use Rattle.dslx_networks.specs.Procs.{instance_of, proc_lowered}
 use Rattle.dslx_grown_tables.specs.Comes.{Comes}
-use Rattle.dslx_open_steps.specs.Works.{numbers_known}
+use Rattle.dslx_next_steps.specs.Known.{numbers_known}
 use Rattle.dslx_grown_tables.proofs.Coming.{comes_as, never_as, never_behind, never_then, value_comes}
 use Rattle.dslx_proc_instances.specs.Behind.{behind_next}
 

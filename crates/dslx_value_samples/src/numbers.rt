@@ -1,10 +1,9 @@
 //! Numbers with a type, and values as numbers and conditions.
 
-use crate::shared::{bit_type, bits, is_bits};
-use dslx_meaning::{Bare, DslxValue, SignedWord};
+use crate::shared::{Kept, bit_type, held, is_bits};
+use dslx_meaning::Bare;
 use dslx_value_operators::{index_number, number_value, truth, turns};
 use dslx_values::bits_of;
-use std::process::Abort;
 
 #[test]
 fn numbers_lie_in_the_range_of_their_type(rt: HostRuntime) {
@@ -35,44 +34,45 @@ fn no_word_has_a_width_of_none_or_too_many(rt: HostRuntime) {
         is_negative: false,
         value: 0,
     };
-    assert!(rt; number_value(&bit_type(false, 0), zero).is_err());
-    assert!(rt; number_value(&bit_type(false, 129), zero).is_err());
-    assert!(rt; number_value(&bit_type(false, 128), zero).is_ok());
+    for (width, want) in [(0, false), (129, false), (128, true)] {
+        let got = number_value(&bit_type(false, width), zero).map(|value| value.map(Kept::new));
+        assert_eq!(rt; got.is_ok(), want, "a width of {width}");
+    }
 }
 
 #[test]
 fn values_as_numbers(rt: HostRuntime) {
-    assert_eq!(rt; index_number(&bits(&rt, false, 8, 200)), Some(200));
-    assert_eq!(rt; index_number(&bits(&rt, true, 8, 100)), Some(100));
-    assert_eq!(rt; index_number(&bits(&rt, true, 8, 200)), None);
-    assert_eq!(rt; truth(&bits(&rt, false, 1, 1)), Some(true));
-    assert_eq!(rt; truth(&bits(&rt, true, 1, 1)), None);
-    assert_eq!(rt; truth(&bits(&rt, false, 2, 1)), None);
-}
-
-fn turns_between<R: Abort>(rt: &R, from: DslxValue, to: DslxValue) -> Option<u128> {
-    match (bits_of(&from), bits_of(&to)) {
-        (Some(from), Some(to)) => turns(&from, &to),
-        _ => None,
+    for (signed, width, number, place, condition) in [
+        (false, 8, 200, Some(200), None),
+        (true, 8, 100, Some(100), None),
+        (true, 8, 200, None, None),
+        (false, 1, 1, Some(1), Some(true)),
+        (true, 1, 1, None, None),
+        (false, 2, 1, Some(1), None),
+    ] {
+        let value = held(&rt, signed, width, number);
+        assert_eq!(rt; index_number(value.get()), place, "{number} as a place");
+        assert_eq!(rt; truth(value.get()), condition, "{number} as a condition");
     }
 }
 
 #[test]
 fn loops_have_turns_where_their_bounds_rise(rt: HostRuntime) {
-    for (signed, from, to, want) in [
-        (false, 3, 5, 2),
-        (false, 5, 3, 0),
-        (false, 0, 255, 255),
-        (true, 0xfe, 3, 5),
-        (true, 0x80, 0x7f, 255),
-        (true, 3, 0xfe, 0),
-        (true, 0xf0, 0xff, 15),
+    for (signed, width, from, to, want) in [
+        (false, 8, 3, 5, Some(2)),
+        (false, 8, 5, 3, Some(0)),
+        (false, 8, 0, 255, Some(255)),
+        (true, 8, 0xfe, 3, Some(5)),
+        (true, 8, 0x80, 0x7f, Some(255)),
+        (true, 8, 3, 0xfe, Some(0)),
+        (true, 8, 0xf0, 0xff, Some(15)),
+        (false, 9, 1, 2, None),
     ] {
-        let got = turns_between(&rt, bits(&rt, signed, 8, from), bits(&rt, signed, 8, to));
-        assert_eq!(rt; got, Some(want), "from {from} to {to}");
+        let (from, to) = (held(&rt, signed, 8, from), held(&rt, signed, width, to));
+        let got = match (bits_of(from.get()), bits_of(to.get())) {
+            (Some(from), Some(to)) => turns(&from, &to),
+            _ => None,
+        };
+        assert_eq!(rt; got, want);
     }
-    assert_eq!(rt;
-        turns_between(&rt, bits(&rt, false, 8, 1), bits(&rt, false, 9, 2)),
-        None
-    );
 }

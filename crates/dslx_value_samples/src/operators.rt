@@ -1,6 +1,6 @@
 //! Binary and unary operators, casts, slices and builtins.
 
-use crate::shared::{bit_type, bits, is_bits};
+use crate::shared::{Kept, bit_type, bits, held, is_bits};
 use dslx_meaning::DslxValue;
 use dslx_tree::{Binary, Prefix};
 use dslx_value_operators::{
@@ -19,13 +19,25 @@ fn worked<R: Abort>(
     right: u128,
 ) -> Option<DslxValue> {
     let (left, right) = (
-        bits(rt, signed, width, left),
-        bits(rt, signed, width, right),
+        held(rt, signed, width, left),
+        held(rt, signed, width, right),
     );
-    match binary_value(op, &left, &right) {
-        Ok(value) => value,
-        Err(OddWidth) => None,
-    }
+    given(binary_value(op, left.get(), right.get()))
+}
+
+/// What is given, but for an odd width.
+fn given(answer: Result<Option<DslxValue>, OddWidth>) -> Option<DslxValue> {
+    answer.unwrap_or(None)
+}
+
+/// Nothing is given.
+fn is_none<R: Abort>(rt: &R, got: Option<DslxValue>, what: &str) {
+    assert!(rt; got.map(Kept::new).is_none(), "a value: {what}");
+}
+
+/// Nothing can be given, for its width.
+fn is_odd<R: Abort>(rt: &R, got: Result<Option<DslxValue>, OddWidth>) {
+    assert!(rt; got.map(|value| value.map(Kept::new)).is_err());
 }
 
 #[test]
@@ -48,8 +60,8 @@ fn arithmetic_wraps_and_division_by_zero_has_a_value(rt: HostRuntime) {
 
 #[test]
 fn signed_numbers_have_no_quotients(rt: HostRuntime) {
-    assert!(rt; worked(&rt, Binary::Div, true, 8, 6, 3).is_none());
-    assert!(rt; worked(&rt, Binary::Rem, true, 8, 6, 3).is_none());
+    is_none(&rt, worked(&rt, Binary::Div, true, 8, 6, 3), "a quotient");
+    is_none(&rt, worked(&rt, Binary::Rem, true, 8, 6, 3), "a remainder");
 }
 
 #[test]
@@ -63,12 +75,9 @@ fn shifts_past_the_width_leave_zeros_or_signs(rt: HostRuntime) {
         (Binary::Shr, true, 0x80, 8, 0xff),
         (Binary::Shr, true, 0x7f, 200, 0),
     ] {
-        let shifted = binary_value(
-            op,
-            &bits(&rt, signed, 8, left),
-            &bits(&rt, false, 9, amount),
-        );
-        is_bits(&rt, shifted.unwrap_or(None), signed, 8, want);
+        let (left, amount) = (held(&rt, signed, 8, left), held(&rt, false, 9, amount));
+        let shifted = given(binary_value(op, left.get(), amount.get()));
+        is_bits(&rt, shifted, signed, 8, want);
     }
 }
 
@@ -91,38 +100,25 @@ fn comparisons_go_by_the_sign(rt: HostRuntime) {
 
 #[test]
 fn operands_of_two_types_have_no_value(rt: HostRuntime) {
-    let (byte, nibble, signed) = (
-        bits(&rt, false, 8, 3),
-        bits(&rt, false, 4, 3),
-        bits(&rt, true, 8, 3),
-    );
-    assert!(rt;
-        binary_value(Binary::Add, &byte, &nibble)
-            .unwrap_or(None)
-            .is_none()
-    );
-    assert!(rt;
-        binary_value(Binary::Lt, &byte, &signed)
-            .unwrap_or(None)
-            .is_none()
-    );
-    assert!(rt;
-        binary_value(Binary::Both, &byte, &byte)
-            .unwrap_or(None)
-            .is_none()
-    );
+    let byte = held(&rt, false, 8, 3);
+    for (op, signed, width) in [
+        (Binary::Add, false, 4),
+        (Binary::Lt, true, 8),
+        (Binary::Both, false, 8),
+    ] {
+        let other = held(&rt, signed, width, 3);
+        let got = given(binary_value(op, byte.get(), other.get()));
+        is_none(&rt, got, "operands of two types");
+    }
 }
 
 #[test]
 fn words_stand_side_by_side(rt: HostRuntime) {
-    let joined = binary_value(
-        Binary::Concat,
-        &bits(&rt, false, 4, 0xa),
-        &bits(&rt, false, 8, 0x5c),
-    );
-    is_bits(&rt, joined.unwrap_or(None), false, 12, 0xa5c);
-    let (large, one) = (bits(&rt, false, 128, 0), bits(&rt, false, 1, 1));
-    assert!(rt; binary_value(Binary::Concat, &large, &one).is_err());
+    let (high, low) = (held(&rt, false, 4, 0xa), held(&rt, false, 8, 0x5c));
+    let joined = given(binary_value(Binary::Concat, high.get(), low.get()));
+    is_bits(&rt, joined, false, 12, 0xa5c);
+    let (large, one) = (held(&rt, false, 128, 0), held(&rt, false, 1, 1));
+    is_odd(&rt, binary_value(Binary::Concat, large.get(), one.get()));
 }
 
 #[test]
@@ -139,27 +135,14 @@ fn truths_are_joined(rt: HostRuntime) {
 
 #[test]
 fn prefixes(rt: HostRuntime) {
-    is_bits(
-        &rt,
-        prefix_value(Prefix::Minus, &bits(&rt, true, 8, 0x80)),
-        true,
-        8,
-        0x80,
-    );
-    is_bits(
-        &rt,
-        prefix_value(Prefix::Minus, &bits(&rt, false, 8, 1)),
-        false,
-        8,
-        0xff,
-    );
-    is_bits(
-        &rt,
-        prefix_value(Prefix::Not, &bits(&rt, false, 4, 0b0101)),
-        false,
-        4,
-        0b1010,
-    );
+    for (op, signed, width, number, want) in [
+        (Prefix::Minus, true, 8, 0x80, 0x80),
+        (Prefix::Minus, false, 8, 1, 0xff),
+        (Prefix::Not, false, 4, 0b0101, 0b1010),
+    ] {
+        let value = held(&rt, signed, width, number);
+        is_bits(&rt, prefix_value(op, value.get()), signed, width, want);
+    }
 }
 
 #[test]
@@ -170,26 +153,30 @@ fn casts_go_by_the_sign_of_the_source(rt: HostRuntime) {
         (false, 16, 0x1234, false, 8, 0x34),
         (true, 8, 0x7f, true, 9, 0x7f),
     ] {
-        let cast = cast_value(
-            &bit_type(signed, u128::from(width)),
-            &bits(&rt, from_signed, from, number),
-        );
-        is_bits(&rt, cast.unwrap_or(None), signed, width, want);
+        let value = held(&rt, from_signed, from, number);
+        let cast = cast_value(&bit_type(signed, u128::from(width)), value.get());
+        is_bits(&rt, given(cast), signed, width, want);
     }
-    assert!(rt; cast_value(&bit_type(false, 129), &bits(&rt, false, 8, 1)).is_err());
+    let byte = held(&rt, false, 8, 1);
+    is_odd(&rt, cast_value(&bit_type(false, 129), byte.get()));
 }
 
 #[test]
 fn slices(rt: HostRuntime) {
-    let word = bits(&rt, true, 8, 0xa7);
-    is_bits(&rt, slice_value(&word, 4, 8), false, 4, 0xa);
-    is_bits(&rt, slice_value(&word, 0, 3), false, 3, 7);
-    assert!(rt; slice_value(&word, 3, 3).is_none());
-    assert!(rt; slice_value(&word, 3, 9).is_none());
-    let part = part_value(&word, &bits(&rt, false, 4, 6), 4);
-    is_bits(&rt, part.unwrap_or(None), false, 4, 0b10);
-    let past = part_value(&word, &bits(&rt, false, 128, 1 << 100), 5);
-    is_bits(&rt, past.unwrap_or(None), false, 5, 0);
+    let word = held(&rt, true, 8, 0xa7);
+    is_bits(&rt, slice_value(word.get(), 4, 8), false, 4, 0xa);
+    is_bits(&rt, slice_value(word.get(), 0, 3), false, 3, 7);
+    is_none(&rt, slice_value(word.get(), 3, 3), "no bits");
+    is_none(&rt, slice_value(word.get(), 3, 9), "bits past the end");
+}
+
+#[test]
+fn parts_from_a_bit_on(rt: HostRuntime) {
+    let word = held(&rt, true, 8, 0xa7);
+    let part = part_value(word.get(), held(&rt, false, 4, 6).get(), 4);
+    is_bits(&rt, given(part), false, 4, 0b10);
+    let past = part_value(word.get(), held(&rt, false, 128, 1 << 100).get(), 5);
+    is_bits(&rt, given(past), false, 5, 0);
 }
 
 #[test]

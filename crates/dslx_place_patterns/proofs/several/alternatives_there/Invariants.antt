@@ -4,7 +4,7 @@ use Rattle.dslx_core.specs.declared.expr.Shape.{Shape}
 use Rattle.dslx_lowering.specs.Patterns.{alternatives_shaped}
 use Rattle.dslx_lowering.specs.Steps.{pattern_of_text_lowered}
 use Rattle.dslx_instance_machine.specs.Callees.{CalleesByName}
-use Rattle.dslx_place_values.specs.Seen.{place_with}
+use Rattle.dslx_place_names.specs.Seen.{place_with}
 use Rattle.dslx_place_patterns.proofs.several.alternatives_there.Given as goal
 
 -- those that are left complete the whole

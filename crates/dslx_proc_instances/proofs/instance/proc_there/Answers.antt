@@ -3,7 +3,7 @@ use Rattle.dslx_tree.specs.declared.item.Parameter.{Parameter}
 use Rattle.dslx_meaning.specs.Items.{numbers_bound}
 use Rattle.dslx_lowering.specs.Steps.{LoweredNext, next_lowered}
 use Rattle.dslx_grown_tables.specs.Comes.{Comes}
-use Rattle.dslx_open_steps.specs.Works.{numbers_known}
+use Rattle.dslx_next_steps.specs.Known.{numbers_known}
 use Rattle.dslx_proc_instances.specs.Behind.{behind_next}
 use Rattle.dslx_proc_instances.proofs.Whole.{nothing_behind, nothing_of_next, whole_comes}
 use Rattle.dslx_proc_instances.proofs.instance.proc_there.Goals as goal

@@ -1,0 +1,2 @@
+-- a place by what code has of it
+pub mod Seen
