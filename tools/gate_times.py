@@ -3,11 +3,12 @@
 
 usage: gate_times.py [--busy] [NAME..]
 
-It runs `rt ci --anew`, which proves and tries all from nothing, watches the prover's processes, and writes
-docs/GATE_TIMES.md: the seconds of processor time that each crate's proof, its tests and its must-fail edits took. With
-names it runs `rt ci --anew NAME..` (these crates and those below them) and writes anew the rows of the page that it
-measured. Beside other work the same proof takes up to half as much processor time again, so the machine should be idle;
-where it isn't, --busy marks the rows with a star. It ends with the status of `rt ci`.
+It runs `rt ci`, which proves and tries all from nothing (with `--anew`, where the kit keeps what earlier runs proved),
+watches the prover's processes, and writes docs/GATE_TIMES.md: the seconds of processor time that each crate's proof, its
+tests and its must-fail edits took. With names it runs `rt ci --anew NAME..` (these crates and those below them), where the
+kit takes names, and writes anew the rows of the page that it measured. Beside other work the same proof takes up to half as
+much processor time again, so the machine should be idle; where it isn't, --busy marks the rows with a star. It ends with
+the status of `rt ci`.
 """
 import collections
 import os
@@ -114,15 +115,21 @@ def page(clock, rows):
 
 
 def clock_of_page(text):
-    """The line of a page that says how long its run of all crates took."""
-    return next(line for line in text.splitlines() if ' by the clock' in line)
+    """The line of a page that says how long its run of all crates took; empty where there is none."""
+    return next((line for line in text.splitlines() if ' by the clock' in line), '')
+
+
+def gate():
+    """The words of a gate from nothing."""
+    told = subprocess.run(['rt', 'help'], capture_output=True, text=True)
+    return ['rt', 'ci'] + ['--anew'] * ('--anew' in told.stdout + told.stderr)
 
 
 def main():
     os.chdir(os.path.join(os.path.dirname(os.path.abspath(__file__)), '..'))
     mark = '*' if '--busy' in sys.argv[1:] else ''
     names = [word for word in sys.argv[1:] if word != '--busy']
-    status, clock, totals = watch(['rt', 'ci', '--anew', *names])
+    status, clock, totals = watch([*gate(), *names])
     rows = rows_of(totals, mark)
     line = '%d processors; the last run of all crates took %d minutes by the clock.' % (os.cpu_count(), clock / 60)
     if names:
@@ -133,4 +140,5 @@ def main():
     sys.exit(status)
 
 
-main()
+if __name__ == '__main__':
+    main()
