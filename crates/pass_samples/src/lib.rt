@@ -3,8 +3,7 @@
 
 #[cfg(test)]
 mod narrowing;
+#[cfg(test)]
 mod optimising;
+#[cfg(test)]
 mod sample;
-
-pub use optimising::package_text;
-pub use sample::{bits, node, package, plain};

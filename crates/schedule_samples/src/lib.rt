@@ -1,11 +1,9 @@
 //! Small procs as data, and tests of the scheduler and of its text on them.
 #![tactic(auto)]
 
+#[cfg(test)]
 mod sample;
+#[cfg(test)]
 mod small;
-
-pub use sample::{Parts, adders, ask, chain, package, scheduled, scheduled_text};
-pub use small::{Kind, Small, random_package};
-
 #[cfg(test)]
 mod tests;

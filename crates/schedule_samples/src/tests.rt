@@ -1,6 +1,7 @@
 //! Schedules worked by hand, and schedules against all that there are.
 
-use super::*;
+use crate::sample::{Parts, adders, ask, chain, package, scheduled, scheduled_text};
+use crate::small::random_package;
 use delay_model::{Binary, Compare, Op, Reduce, Shift, Unary};
 use ir_schedule::{Demands, NoSchedule};
 use ir_tree::{Ends, Operand};
