@@ -7,6 +7,3 @@ mod sample;
 
 pub use machine::{Asked, Machine, Ports};
 pub use sample::{Action, Begun, Next, Sample, SampleSite, word};
-
-#[cfg(test)]
-mod tests;

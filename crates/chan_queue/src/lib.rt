@@ -14,6 +14,3 @@ pub use item::{Item, Streams};
 pub use pass::{RecvPass, SendPass};
 pub use queue::{ChanQueue, make};
 pub use view::View;
-
-#[cfg(test)]
-mod tests;

@@ -10,6 +10,3 @@ mod role;
 
 pub use depth::{MOST, first_over};
 pub use role::Role;
-
-#[cfg(test)]
-mod tests;

@@ -96,6 +96,3 @@ fn join(
         expr: Boxed::new(alloc, expr)?,
     })
 }
-
-#[cfg(test)]
-mod tests;

@@ -20,6 +20,3 @@ mod word;
 pub use kinds::tokens;
 pub use laws::one_reading;
 pub use token::Token;
-
-#[cfg(test)]
-mod tests;

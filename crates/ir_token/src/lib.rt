@@ -18,6 +18,3 @@ mod token;
 pub use laws::one_list_of_tokens;
 pub use lexer::tokens;
 pub use token::Token;
-
-#[cfg(test)]
-mod tests;

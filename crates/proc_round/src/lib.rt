@@ -12,6 +12,3 @@ mod worker;
 pub use rounds::{put_back, round};
 pub use share::Share;
 pub use steps::Steps;
-
-#[cfg(test)]
-mod tests;

@@ -1,5 +1,4 @@
 pub mod Rights
 pub mod Ports
 pub mod Steps
-pub mod Idle
 pub mod Counts

@@ -2,5 +2,3 @@
 pub mod Ports
 -- a task, and where it stands in its run
 pub mod Moving
--- what the tests run
-pub mod Idle

@@ -8,6 +8,3 @@ mod task;
 pub use home::Home;
 pub use port::{Inlet, Outlet};
 pub use task::{Ended, Task};
-
-#[cfg(test)]
-mod tests;

@@ -10,6 +10,3 @@ mod queue;
 
 pub use hand::{Hand, Numbered};
 pub use queue::{TaskPass, TaskQueue, make};
-
-#[cfg(test)]
-mod tests;

@@ -10,6 +10,3 @@ mod walk;
 
 pub use groups::needing_themselves;
 pub use sorting::{Sorted, sort};
-
-#[cfg(test)]
-mod tests;

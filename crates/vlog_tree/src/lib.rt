@@ -17,6 +17,3 @@ pub use module::{Assignment, Declaration, Direction, Port, Set, Storage, VModule
 pub use row::{Drive, Outs, Row, Shown};
 pub use signal::{Role, Signal};
 pub use texts::Name;
-
-#[cfg(test)]
-mod tests;

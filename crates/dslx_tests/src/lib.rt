@@ -1,0 +1,9 @@
+//! Tests of what DSLX texts are read with, in a crate of their own so that they cost the crates below nothing.
+#![tactic(auto)]
+
+#[cfg(test)]
+mod nesting;
+#[cfg(test)]
+mod operators;
+#[cfg(test)]
+mod tokens;

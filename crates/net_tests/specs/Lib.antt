@@ -1,0 +1,2 @@
+-- a proc without sites
+pub mod Idle
