@@ -9,7 +9,7 @@ use crate::table::{Table2, Table3};
 use xb_bits::Bits;
 
 /// What a proc does at a site in an activation.
-#[derive(Clone, Copy, Debug, PartialEq, Eq)]
+#[derive(Clone, Copy, PartialEq, Eq)]
 pub enum SiteTurn {
     /// The site is off.
     Skip,
@@ -19,7 +19,7 @@ pub enum SiteTurn {
 }
 
 /// What happens at a site in a clock cycle.
-#[derive(Clone, Copy, Debug, PartialEq, Eq)]
+#[derive(Clone, Copy, PartialEq, Eq)]
 pub enum Step {
     /// Nothing: the site is off, or its word was sent in an earlier cycle.
     Pass,
@@ -36,7 +36,7 @@ pub enum Step {
 }
 
 /// How a site is handled to which an activation has come.
-#[derive(Clone, Copy, Debug, PartialEq, Eq)]
+#[derive(Clone, Copy, PartialEq, Eq)]
 pub enum Handling {
     /// The activation goes past it.
     Pass,
@@ -49,7 +49,7 @@ pub enum Handling {
 }
 
 /// The logic of a pipeline.
-#[derive(Clone, Copy, Debug, PartialEq, Eq)]
+#[derive(Clone, Copy, PartialEq, Eq)]
 pub struct Logic {
     /// A site that is off.
     pub off: Handling,

@@ -4,7 +4,7 @@ ghost use Rattle.std.specs.Prelude.{◌≡◌, Bool};
 ghost use Rattle.block_machine.specs.Logic.{at2, at3};
 
 /// A gate of two inputs: what it gives where neither is set, the second alone, the first alone, and both.
-#[derive(Clone, Copy, Debug, PartialEq, Eq)]
+#[derive(Clone, Copy, PartialEq, Eq)]
 pub struct Table2 {
     pub neither: bool,
     pub second: bool,
@@ -13,7 +13,7 @@ pub struct Table2 {
 }
 
 /// A gate of three inputs: its table where the first isn't set, and where it is.
-#[derive(Clone, Copy, Debug, PartialEq, Eq)]
+#[derive(Clone, Copy, PartialEq, Eq)]
 pub struct Table3 {
     pub unset: Table2,
     pub set: Table2,

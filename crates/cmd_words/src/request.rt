@@ -23,7 +23,7 @@ pub struct Run<N> {
 }
 
 /// How a run goes.
-#[derive(Clone, Copy, Debug, PartialEq, Eq)]
+#[derive(Clone, Copy, PartialEq, Eq)]
 pub struct How {
     /// How many activations each proc may make: 1 to 1,048,576.
     pub activations: u32,
@@ -64,7 +64,7 @@ pub struct Opt<N> {
 }
 
 /// What a pipeline must keep to.
-#[derive(Clone, Copy, Debug, PartialEq, Eq)]
+#[derive(Clone, Copy, PartialEq, Eq)]
 pub struct Timing {
     /// How many picoseconds a cycle has: 1 to 1,000,000.
     pub clock: u32,

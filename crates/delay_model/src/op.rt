@@ -1,5 +1,5 @@
 /// An operation. Those that take and give the same kinds of value stand together.
-#[derive(Clone, Copy, Debug, PartialEq, Eq)]
+#[derive(Clone, Copy, PartialEq, Eq)]
 pub enum Op {
     /// Two numbers of one width, and one of that width.
     Binary(Binary),
@@ -33,7 +33,7 @@ pub enum Op {
     Send,
 }
 
-#[derive(Clone, Copy, Debug, PartialEq, Eq)]
+#[derive(Clone, Copy, PartialEq, Eq)]
 pub enum Binary {
     Add,
     Sub,
@@ -45,7 +45,7 @@ pub enum Binary {
     Xor,
 }
 
-#[derive(Clone, Copy, Debug, PartialEq, Eq)]
+#[derive(Clone, Copy, PartialEq, Eq)]
 pub enum Unary {
     Not,
     Neg,
@@ -53,7 +53,7 @@ pub enum Unary {
 }
 
 /// Comparisons. `Slt` to `Sge` compare signed numbers.
-#[derive(Clone, Copy, Debug, PartialEq, Eq)]
+#[derive(Clone, Copy, PartialEq, Eq)]
 pub enum Compare {
     Eq,
     Ne,
@@ -67,21 +67,21 @@ pub enum Compare {
     Sge,
 }
 
-#[derive(Clone, Copy, Debug, PartialEq, Eq)]
+#[derive(Clone, Copy, PartialEq, Eq)]
 pub enum Shift {
     Shll,
     Shrl,
     Shra,
 }
 
-#[derive(Clone, Copy, Debug, PartialEq, Eq)]
+#[derive(Clone, Copy, PartialEq, Eq)]
 pub enum Reduce {
     And,
     Or,
     Xor,
 }
 
-#[derive(Clone, Copy, Debug, PartialEq, Eq)]
+#[derive(Clone, Copy, PartialEq, Eq)]
 pub enum Extend {
     Zero,
     Sign,

@@ -6,7 +6,7 @@ ghost use Rattle.delay_model.specs.Signatures.{count_of, attribute_kind_of, is_m
 use crate::op::Op;
 
 /// How many operands an operation takes.
-#[derive(Clone, Copy, Debug, PartialEq, Eq)]
+#[derive(Clone, Copy, PartialEq, Eq)]
 pub enum Count {
     Exactly(usize),
     AtLeast(usize),
@@ -25,7 +25,7 @@ impl Count {
 }
 
 /// Which attributes stand behind the operands of an operation, before its `id`.
-#[derive(Clone, Copy, Debug, PartialEq, Eq)]
+#[derive(Clone, Copy, PartialEq, Eq)]
 pub enum AttributeKind {
     None,
     /// `start=N, width=N`

@@ -7,7 +7,7 @@ ghost use Rattle.delay_model.specs.declared.op.Op.TheVariants as op;
 use crate::op::{Binary, Compare, Op, Unary};
 
 /// The width by which an operation is timed.
-#[derive(Clone, Copy, Debug, PartialEq, Eq)]
+#[derive(Clone, Copy, PartialEq, Eq)]
 pub enum TimedBy {
     /// The bits of its result.
     Result,

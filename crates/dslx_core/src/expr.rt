@@ -2,14 +2,14 @@ use xb_bits::Bits;
 use xb_value::{Boxed, Seq, Value};
 
 /// How bits are read.
-#[derive(Clone, Copy, Debug, PartialEq, Eq)]
+#[derive(Clone, Copy, PartialEq, Eq)]
 pub enum Sign {
     Unsigned,
     Signed,
 }
 
 /// An operation on one word.
-#[derive(Clone, Copy, Debug, PartialEq, Eq)]
+#[derive(Clone, Copy, PartialEq, Eq)]
 pub enum CoreUnary {
     Neg,
     Not,
@@ -22,7 +22,7 @@ pub enum CoreUnary {
 }
 
 /// An operation on two words. Comparisons and shifts to the right know how the left word is read.
-#[derive(Clone, Copy, Debug, PartialEq, Eq)]
+#[derive(Clone, Copy, PartialEq, Eq)]
 pub enum CoreBinary {
     Mul,
     Div,

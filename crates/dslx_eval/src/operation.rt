@@ -10,7 +10,7 @@ use std::alloc::{AllocError, Global};
 use xb_value::{Seq, Value};
 
 /// What is made of the values on the top of a stack.
-#[derive(Clone, Copy, Debug, PartialEq, Eq)]
+#[derive(Clone, Copy, PartialEq, Eq)]
 pub(crate) enum Operation {
     /// A tuple of so many.
     Tuple(usize),

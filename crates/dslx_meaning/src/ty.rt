@@ -18,7 +18,7 @@ pub enum DslxType {
 }
 
 /// The sign and the width of bits.
-#[derive(Clone, Copy, Debug, PartialEq, Eq)]
+#[derive(Clone, Copy, PartialEq, Eq)]
 pub struct BitKind {
     pub signed: bool,
     pub width: u128,

@@ -18,14 +18,14 @@ pub enum DslxValue {
 }
 
 /// Bits with their sign.
-#[derive(Clone, Copy, Debug, PartialEq, Eq)]
+#[derive(Clone, Copy, PartialEq, Eq)]
 pub struct SignedWord {
     pub signed: bool,
     pub word: Bits,
 }
 
 /// A number as a text writes it: whether `-` stands before it, and the value of its digits.
-#[derive(Clone, Copy, Debug, PartialEq, Eq)]
+#[derive(Clone, Copy, PartialEq, Eq)]
 pub struct Bare {
     pub is_negative: bool,
     pub value: u128,

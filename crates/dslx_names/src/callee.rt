@@ -5,7 +5,7 @@ ghost use Rattle.dslx_names.specs.Called.{kind_of};
 use texts::Name;
 
 /// What a called name stands for: an effect, a builtin, or a function of the text.
-#[derive(Clone, Copy, Debug, PartialEq, Eq)]
+#[derive(Clone, Copy, PartialEq, Eq)]
 pub enum Callee {
     Join,
     Receive,

@@ -7,7 +7,7 @@ use crate::state::State;
 use std::alloc::{AllocError, Global};
 
 /// What is done where a tree of a production is complete.
-#[derive(Clone, Copy, Debug, PartialEq, Eq)]
+#[derive(Clone, Copy, PartialEq, Eq)]
 pub enum Rule {
     /// Nothing: the parts stay.
     Keep,

@@ -2,7 +2,7 @@ use crate::proc::Direction;
 use crate::value::SourceType;
 
 /// An end of a channel, as effects see it.
-#[derive(Clone, Copy, Debug, PartialEq, Eq)]
+#[derive(Clone, Copy, PartialEq, Eq)]
 pub struct Port {
     pub direction: Direction,
     /// The type of the channel's words.

@@ -48,7 +48,7 @@ impl End {
 }
 
 /// What a proc does at an end of a channel.
-#[derive(Clone, Copy, Debug, PartialEq, Eq, Hash)]
+#[derive(Clone, Copy, PartialEq, Eq, Hash)]
 pub enum Direction {
     /// It receives: `chan<T> in`.
     In,

@@ -5,7 +5,7 @@ ghost use Rattle.dslx_narrow_tree.specs.Values.{word_of};
 use xb_bits::Bits;
 
 /// The type of an expression.
-#[derive(Clone, Copy, Debug, PartialEq, Eq)]
+#[derive(Clone, Copy, PartialEq, Eq)]
 pub enum SourceType {
     /// Unsigned bits of a width, `u1` to `u128`.
     Bits(u8),
@@ -33,7 +33,7 @@ impl SourceType {
 }
 
 /// The value of an expression.
-#[derive(Clone, Copy, Debug, PartialEq, Eq)]
+#[derive(Clone, Copy, PartialEq, Eq)]
 pub enum SourceValue {
     Bits(Bits),
     Unit,

@@ -1,5 +1,5 @@
 /// What a token does to the nesting of the tokens behind it.
-#[derive(Clone, Copy, Debug, PartialEq, Eq)]
+#[derive(Clone, Copy, PartialEq, Eq)]
 pub enum Role {
     /// It opens a bracket: `(`, and `{` where it isn't [`Role::OpenBody`].
     Open,

@@ -87,7 +87,7 @@ impl Drop for Parts {
 }
 
 /// A number, with the `-` before it where there is one.
-#[derive(Clone, Copy, Debug, PartialEq, Eq)]
+#[derive(Clone, Copy, PartialEq, Eq)]
 pub struct Digits {
     pub span: Span,
     pub is_negative: bool,

@@ -5,7 +5,7 @@ ghost use Rattle.dslx_tree.specs.Levels.{level_of};
 pub const LEVELS: u8 = 9;
 
 /// What stands before an operand.
-#[derive(Clone, Copy, Debug, PartialEq, Eq)]
+#[derive(Clone, Copy, PartialEq, Eq)]
 pub enum Prefix {
     /// `-`
     Minus,

@@ -28,7 +28,7 @@ pub struct End {
 }
 
 /// What a proc does at an end of a channel.
-#[derive(Clone, Copy, Debug, PartialEq, Eq)]
+#[derive(Clone, Copy, PartialEq, Eq)]
 pub enum Direction {
     /// It receives: `chan<T> in`.
     In,

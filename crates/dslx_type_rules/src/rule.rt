@@ -9,7 +9,7 @@ use dslx_parts::Parts;
 use std::alloc::{AllocError, Global};
 
 /// What rules of types do where their symbols are complete.
-#[derive(Clone, Copy, Debug, PartialEq, Eq)]
+#[derive(Clone, Copy, PartialEq, Eq)]
 pub enum TypeRule {
     Negative,
     Named,
@@ -21,7 +21,7 @@ pub enum TypeRule {
 }
 
 /// What rules of patterns do where their symbols are complete.
-#[derive(Clone, Copy, Debug, PartialEq, Eq)]
+#[derive(Clone, Copy, PartialEq, Eq)]
 pub enum PatternRule {
     Wild,
     Bool(bool),

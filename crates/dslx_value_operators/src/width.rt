@@ -4,7 +4,7 @@ ghost use Rattle.std.specs.Prelude.{◌≡◌, ◌≤◌, MatchOption, false};
 ghost use Rattle.dslx_value_operators.specs.Widths.{is_width};
 
 /// A word would have no bits, or more than 128, and no `Bits` holds it.
-#[derive(Clone, Copy, Debug, PartialEq, Eq, Drop)]
+#[derive(Clone, Copy, PartialEq, Eq, Drop)]
 pub struct OddWidth;
 
 /// The width as one of words, if a word may have it.

@@ -12,7 +12,7 @@ use crate::table::{Grammar, Symbol};
 use std::alloc::{AllocError, Global};
 
 /// A step of a builder that keeps what it has built on a stack.
-#[derive(Clone, Copy, Debug, PartialEq, Eq)]
+#[derive(Clone, Copy, PartialEq, Eq)]
 pub enum Step {
     /// The next token comes on the stack.
     Shift,
@@ -22,7 +22,7 @@ pub enum Step {
 }
 
 /// What is still to be done for the steps of a tree.
-#[derive(Clone, Copy, Debug, PartialEq, Eq)]
+#[derive(Clone, Copy, PartialEq, Eq)]
 enum Task {
     /// To go through the tree of a symbol.
     Visit(Symbol),

@@ -4,7 +4,7 @@ ghost use Rattle.std.specs.Prelude.{◌≡◌, ℕ, ◌<◌, ◌↔◌, length, 
 ghost use Rattle.std.specs.Int.{bit_at};
 
 /// A symbol of a grammar.
-#[derive(Clone, Copy, Debug, PartialEq, Eq)]
+#[derive(Clone, Copy, PartialEq, Eq)]
 pub enum Symbol {
     /// A kind of token.
     Terminal(u8),
@@ -13,7 +13,7 @@ pub enum Symbol {
 }
 
 /// One alternative of a nonterminal.
-#[derive(Clone, Copy, Debug, PartialEq, Eq)]
+#[derive(Clone, Copy, PartialEq, Eq)]
 pub struct Production {
     /// The nonterminal.
     pub head: u8,
@@ -36,7 +36,7 @@ impl Production {
 }
 
 /// Where the alternatives of a nonterminal stand among the productions.
-#[derive(Clone, Copy, Debug, PartialEq, Eq)]
+#[derive(Clone, Copy, PartialEq, Eq)]
 pub struct Span {
     /// The number of the first one.
     pub first: u16,
@@ -45,7 +45,7 @@ pub struct Span {
 }
 
 /// A context-free grammar. Its start symbol is the nonterminal 0.
-#[derive(Clone, Copy, Debug)]
+#[derive(Clone, Copy)]
 pub struct Grammar<'a> {
     /// The bodies of the productions, one behind the other.
     pub symbols: &'a [Symbol],

@@ -14,7 +14,7 @@ use std::alloc::{AllocError, Global};
 ///
 /// The first nonterminal of its body took the productions from behind it on, and each further one those
 /// from the end of the one before.
-#[derive(Clone, Copy, Debug, PartialEq, Eq)]
+#[derive(Clone, Copy, PartialEq, Eq)]
 pub struct Node {
     /// The place in the derivation behind the last production of this tree.
     pub end: usize,

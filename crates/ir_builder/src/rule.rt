@@ -8,7 +8,7 @@ use ir_tree::Ends;
 use std::alloc::{AllocError, Global};
 
 /// What is done where a tree of a production is complete.
-#[derive(Clone, Copy, Debug, PartialEq, Eq)]
+#[derive(Clone, Copy, PartialEq, Eq)]
 pub enum Rule {
     /// Nothing: the parts stay.
     Keep,

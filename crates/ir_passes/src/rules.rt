@@ -20,7 +20,7 @@ use pass_select::choice;
 use std::alloc::{AllocError, Global};
 
 /// The pass that tries all rules at each node, until none applies.
-#[derive(Clone, Copy, Debug)]
+#[derive(Clone, Copy)]
 pub struct AllRules;
 
 impl Rewrite for AllRules {

@@ -13,7 +13,7 @@ use std::alloc::Global;
 use xb_value::Seq;
 
 /// The first proc of a package that has no legal schedule, by its place, and the cause.
-#[derive(Clone, Copy, Debug, PartialEq, Eq)]
+#[derive(Clone, Copy, PartialEq, Eq)]
 pub struct Infeasible {
     pub proc: usize,
     pub cause: NoSchedule,

@@ -13,7 +13,7 @@ use std::alloc::{AllocError, Global};
 use xb_value::Seq;
 
 /// What a schedule must keep to.
-#[derive(Clone, Copy, Debug, PartialEq, Eq)]
+#[derive(Clone, Copy, PartialEq, Eq)]
 pub struct Demands {
     /// How many picoseconds a cycle has.
     pub clock: u32,
@@ -35,7 +35,7 @@ pub struct Schedule {
 }
 
 /// Why a proc has no legal schedule. Nodes are named by their places.
-#[derive(Clone, Copy, Debug, PartialEq, Eq)]
+#[derive(Clone, Copy, PartialEq, Eq)]
 pub enum NoSchedule {
     /// The first node that takes longer than the clock, and how long.
     TooSlow { node: usize, delay: u32 },

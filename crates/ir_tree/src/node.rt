@@ -4,7 +4,7 @@ use crate::operands::Operands;
 use delay_model::Op;
 
 /// What a node takes: the state with which the activation began, or the value of the node at a place in the proc's list.
-#[derive(Clone, Copy, Debug, Default, PartialEq, Eq)]
+#[derive(Clone, Copy, Default, PartialEq, Eq)]
 pub enum Operand {
     #[default]
     State,
@@ -38,7 +38,7 @@ pub struct Node {
 }
 
 /// What a node is to the outside.
-#[derive(Clone, Copy, Debug, PartialEq, Eq)]
+#[derive(Clone, Copy, PartialEq, Eq)]
 pub enum Role {
     /// Nothing.
     Pure,

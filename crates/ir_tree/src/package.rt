@@ -25,7 +25,7 @@ pub struct Channel {
 }
 
 /// Who is at the ends of a channel.
-#[derive(Clone, Copy, Debug, PartialEq, Eq)]
+#[derive(Clone, Copy, PartialEq, Eq)]
 pub enum Ends {
     /// The outside sends, a proc receives.
     Input,

@@ -24,7 +24,7 @@ pub struct ProcHead {
 }
 
 /// A place at which a proc receives from a channel or sends on it.
-#[derive(Clone, Copy, Debug, PartialEq, Eq, Hash)]
+#[derive(Clone, Copy, PartialEq, Eq, Hash)]
 pub struct Site {
     /// The channel's number.
     pub chan: u32,
@@ -42,7 +42,7 @@ pub struct Chan {
 }
 
 /// Who is at the ends of a channel.
-#[derive(Clone, Copy, Debug, PartialEq, Eq, Hash)]
+#[derive(Clone, Copy, PartialEq, Eq, Hash)]
 pub enum Kind {
     /// The outside sends, a proc receives.
     Input,

@@ -4,7 +4,7 @@ use net_core::Site;
 use xb_value::Seq;
 
 /// When a site is on, by the state's number.
-#[derive(Clone, Copy, Debug, PartialEq, Eq, Hash)]
+#[derive(Clone, Copy, PartialEq, Eq, Hash)]
 pub enum When {
     Always,
     Even,
@@ -12,14 +12,14 @@ pub enum When {
 }
 
 /// Where a number comes from: from the state, or from the last word received in the activation, 0 if there is none.
-#[derive(Clone, Copy, Debug, PartialEq, Eq, Hash)]
+#[derive(Clone, Copy, PartialEq, Eq, Hash)]
 pub enum Source {
     State,
     Last,
 }
 
 /// A site of a sample. A send carries 8 bits.
-#[derive(Clone, Copy, Debug, PartialEq, Eq, Hash)]
+#[derive(Clone, Copy, PartialEq, Eq, Hash)]
 pub struct Port {
     pub site: Site,
     pub when: When,
@@ -27,7 +27,7 @@ pub struct Port {
 }
 
 /// The next state: the same in 1 bit, the other one in 1 bit, or one more than a number in 8 bits.
-#[derive(Clone, Copy, Debug, PartialEq, Eq, Hash)]
+#[derive(Clone, Copy, PartialEq, Eq, Hash)]
 pub enum Step {
     Stay,
     Count(Source),

@@ -11,7 +11,7 @@ use ir_tree::{IrType, Node, Operand, Package, Proc};
 use std::alloc::{AllocError, Global};
 
 /// The pass: what is needed is kept, as it is.
-#[derive(Clone, Copy, Debug)]
+#[derive(Clone, Copy)]
 pub struct Dead;
 
 impl Rewrite for Dead {

@@ -15,7 +15,7 @@ use ir_tree::{Attributes, Constant, IrType, Node, Operand, Operands, Package, Pr
 use std::alloc::{AllocError, Global};
 
 /// The pass: a literal stands for an operation on literals.
-#[derive(Clone, Copy, Debug)]
+#[derive(Clone, Copy)]
 pub struct Fold;
 
 impl Rewrite for Fold {

@@ -9,7 +9,7 @@ use delay_model::{Binary, Compare, Extend, Op};
 use ir_tree::{Attributes, IrType, Node, Operand};
 
 /// What stands for a node that has a left side.
-#[derive(Clone, Copy, Debug, PartialEq, Eq)]
+#[derive(Clone, Copy, PartialEq, Eq)]
 pub enum RightSide {
     /// An operand.
     Operand(Operand),

@@ -9,7 +9,7 @@ use ir_rebuild::node_of;
 use ir_tree::{Attributes, IrType, Node, Operand};
 
 /// Bits of a number from a place on.
-#[derive(Clone, Copy, Debug, PartialEq, Eq)]
+#[derive(Clone, Copy, PartialEq, Eq)]
 pub struct Part {
     pub operand: Operand,
     pub start: u128,

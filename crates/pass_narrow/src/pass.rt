@@ -12,7 +12,7 @@ use ir_tree::{IrType, Node, Operand, Package, Proc};
 use std::alloc::{AllocError, Global};
 
 /// The pass: what narrows a node stands for it.
-#[derive(Clone, Copy, Debug)]
+#[derive(Clone, Copy)]
 pub struct Narrow;
 
 impl Rewrite for Narrow {

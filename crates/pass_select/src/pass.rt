@@ -10,7 +10,7 @@ use ir_tree::{IrType, Node, Operand, Package, Proc};
 use std::alloc::{AllocError, Global};
 
 /// The pass: what a select always chooses stands for it.
-#[derive(Clone, Copy, Debug)]
+#[derive(Clone, Copy)]
 pub struct Select;
 
 impl Rewrite for Select {

@@ -28,7 +28,7 @@ pub enum Simple {
 }
 
 /// A signal or a literal.
-#[derive(Clone, Copy, Debug, PartialEq, Eq)]
+#[derive(Clone, Copy, PartialEq, Eq)]
 pub enum Atom {
     Signal(Signal),
     Literal(Literal),
@@ -36,7 +36,7 @@ pub enum Atom {
 
 /// `N'dV`: the number `value` of `width` bits. One that is wider than 128 bits passes a limit, and its value counts for
 /// nothing.
-#[derive(Clone, Copy, Debug, PartialEq, Eq)]
+#[derive(Clone, Copy, PartialEq, Eq)]
 pub struct Literal {
     pub width: u64,
     pub value: u128,
@@ -45,7 +45,7 @@ pub struct Literal {
 }
 
 /// An operator between two atoms. All are unsigned.
-#[derive(Clone, Copy, Debug, PartialEq, Eq)]
+#[derive(Clone, Copy, PartialEq, Eq)]
 pub enum Binary {
     Add,
     Subtract,
@@ -63,7 +63,7 @@ pub enum Binary {
 }
 
 /// How two numbers are to stand to one another.
-#[derive(Clone, Copy, Debug, PartialEq, Eq)]
+#[derive(Clone, Copy, PartialEq, Eq)]
 pub enum Order {
     Less,
     LessOrEqual,
@@ -72,7 +72,7 @@ pub enum Order {
 }
 
 /// An operator before one atom.
-#[derive(Clone, Copy, Debug, PartialEq, Eq)]
+#[derive(Clone, Copy, PartialEq, Eq)]
 pub enum Unary {
     /// `-x`
     Negate,

@@ -29,7 +29,7 @@ pub struct Port {
 }
 
 /// Who drives a port.
-#[derive(Clone, Copy, Debug, PartialEq, Eq)]
+#[derive(Clone, Copy, PartialEq, Eq)]
 pub enum Direction {
     /// The outside.
     Input,
@@ -48,7 +48,7 @@ pub struct Declaration {
 }
 
 /// What a declared name is.
-#[derive(Clone, Copy, Debug, PartialEq, Eq)]
+#[derive(Clone, Copy, PartialEq, Eq)]
 pub enum Storage {
     Wire,
     Register,

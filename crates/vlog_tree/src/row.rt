@@ -26,7 +26,7 @@ pub struct Outs {
 }
 
 /// What a module drives at a channel in one cycle.
-#[derive(Clone, Copy, Debug, PartialEq, Eq)]
+#[derive(Clone, Copy, PartialEq, Eq)]
 pub enum Shown {
     Output { word: Bits, valid: bool },
     Input { ready: bool },

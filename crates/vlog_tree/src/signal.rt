@@ -6,11 +6,11 @@ use crate::module::{Declaration, Direction, Port, Storage, VModule};
 /// A port or a declaration of a module by its place: the ports in order, then the declarations.
 ///
 /// A number past both names nothing; a module with such a mention breaks the rule on undeclared names.
-#[derive(Clone, Copy, Debug, PartialEq, Eq)]
+#[derive(Clone, Copy, PartialEq, Eq)]
 pub struct Signal(pub u32);
 
 /// Who gives a signal its value.
-#[derive(Clone, Copy, Debug, PartialEq, Eq)]
+#[derive(Clone, Copy, PartialEq, Eq)]
 pub enum Role {
     /// The outside.
     Given,

@@ -6,7 +6,7 @@ pub trait Gate {
 }
 
 /// The gate that does nothing.
-#[derive(Clone, Copy, Debug, Default, PartialEq, Eq)]
+#[derive(Clone, Copy, Default, PartialEq, Eq)]
 pub struct OpenGate;
 
 impl Gate for OpenGate {

@@ -6,7 +6,7 @@ use crate::read_error::ReadError;
 use crate::span::{Rule, Span};
 
 /// What is wrong with a text that was read: a rule that a part breaks, or a quantity past its limit.
-#[derive(Clone, Copy, Debug, PartialEq, Eq)]
+#[derive(Clone, Copy, PartialEq, Eq)]
 pub enum Fault {
     /// A limit on the text as a whole. It is named before all that stands at a place.
     Whole(Limit),

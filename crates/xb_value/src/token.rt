@@ -1,5 +1,5 @@
 /// The brackets of tuples and of arrays.
-#[derive(Clone, Copy, Debug, PartialEq, Eq)]
+#[derive(Clone, Copy, PartialEq, Eq)]
 pub enum Bracket {
     Round,
     Square,
