@@ -1,16 +1,16 @@
 #!/usr/bin/env python3
 """Writes the tables of a grammar from its text, for a crate over the crate `grammar`.
 
-usage: grammar_tables.py GRAMMAR CRATE [--kinds WHOLE OWNER] [--check]
+usage: grammar_tables.py GRAMMAR CRATE[/MODULE] [--kinds WHOLE OWNER] [--check]
 
 GRAMMAR has a line `name = symbols | symbols | ..` for each nonterminal, the start first. An alternative with no
 symbols derives nothing, `#` starts a comment, and an indented line goes on with the one above it. A symbol with no
-line of its own is a kind of token. In CRATE, the folder of a crate, it writes src/generated/: `kind.rt`,
-`nonterminal.rt` and `production.rt`, which name the numbers, and `tables.rt`; and specs/Rules.antt, the rules by these
-names. With --check nothing is written, and the exit status says whether these files are what would be written.
+line of its own is a kind of token. In the module MODULE of CRATE, the folder of a crate (crates/NAME), it writes
+src/MODULE/generated/: `kind.rt`, `nonterminal.rt` and `production.rt`, which name the numbers, and `tables.rt`; and
+specs/MODULE/Rules.antt, the rules by these names. Without a module they stand in src/ and specs/ of the crate itself. With --check nothing is written, and the exit status says whether these files are what would be written.
 
 The kinds are numbered in the order of their names, with the mark at the end of each text, END, behind them. With
---kinds they are those of another grammar, WHOLE, in the crate OWNER, and `kind.rt` is not written. The nonterminals
+--kinds they are those of another grammar, WHOLE, in the module OWNER (CRATE/MODULE), and `kind.rt` is not written. The nonterminals
 and the productions are numbered in the order of the text. Conflicts are reported, and fail. Nothing but
 specs/Rules.antt rests on this script: the prover tests the tables and the names against the rules there.
 """
@@ -119,7 +119,7 @@ def tables(grammar, source, owner):
     kinds = set(grammar.kinds)
     bit = {name: i for i, name in enumerate(grammar.kinds)}
     heads = [head for head, _ in grammar.productions]
-    names = ['use super::nonterminal;', 'use %s::kind;' % owner] if owner else ['use super::{kind, nonterminal};']
+    names = ['use super::nonterminal;', 'use %s::kind;' % owner.replace('/', '::')] if owner else ['use super::{kind, nonterminal};']
     out = ['//! ' + first_line(source), '//!', '//! The tables of the grammar.', '', *names, 'use grammar::Symbol::{Nonterminal, Terminal};',
             'use grammar::{Production, Span, Symbol};', '',
            '/// The bodies of the productions, one behind the other.',
@@ -152,16 +152,18 @@ def tables(grammar, source, owner):
 
 
 def rules(grammar, names, source, crate, owner):
-    """The rules by their names, as a definition for the prover."""
-    declared = 'use Rattle.%s.specs.declared.generated.%s.TheConstants as %s'
+    """The rules by their names, as a definition for the prover; crate and owner are CRATE or CRATE/MODULE."""
+    def declared(home, name):
+        crate, _, module = home.partition('/')
+        path = '.'.join([crate, 'specs.declared', *([module] if module else []), 'generated', name])
+        return 'use Rattle.%s.TheConstants as %s' % (path, name)
+
     out = ['-- ' + first_line(source),
            '-- The rules of the grammar by their names.',
            'use Rattle.std.specs.Prelude.{ℕ, List, [], ◌∷◌}',
            'use Rattle.grammar.specs.Syntax.{NamedRule, named}',
            'use Rattle.grammar.specs.declared.table.Symbol.TheVariants.{Terminal, Nonterminal}',
-           declared % (owner or crate, 'kind', 'kind'),
-           declared % (crate, 'nonterminal', 'nonterminal'),
-           declared % (crate, 'production', 'production'), '']
+           declared(owner or crate, 'kind'), declared(crate, 'nonterminal'), declared(crate, 'production'), '']
     if not owner:
         out += ['-- the kinds of token by their names, in the order of these names, with the end mark behind them',
                 'unfoldable pub kinds : List ℕ',
@@ -183,13 +185,15 @@ def files(grammar, source, crate, owner):
     shown_rules = ['`%s = %s`' % (head, shown(body)) for head, body in grammar.productions]
     kinds = constants('The kinds of token', source, 'u8', [(name, None) for name in grammar.kinds])
     heads = [(name.upper(), None) for name in grammar.nonterminals]
-    generated = 'src/generated/'
+    module = crate.partition('/')[2]
+    generated = 'src/%s/generated/' % module if module else 'src/generated/'
+    named = 'specs/%s/Rules.antt' % module.capitalize() if module else 'specs/Rules.antt'
     return {
         **({} if owner else {generated + 'kind.rt': kinds}),
         generated + 'nonterminal.rt': constants('The nonterminals', source, 'u8', heads),
         generated + 'production.rt': constants('The productions', source, 'u16', list(zip(names, shown_rules))),
         generated + 'tables.rt': tables(grammar, source, owner),
-        'specs/Rules.antt': rules(grammar, names, source, crate, owner),
+        named: rules(grammar, names, source, crate, owner),
     }
 
 
@@ -202,12 +206,14 @@ def main():
         at = words.index('--kinds')
         kinds, owner = Grammar(read(words[at + 1])).kinds, words[at + 2]
         del words[at:at + 3]
-    source, folder = words
+    source, home = words
+    folder, module = home.split('/')[:2], home.split('/')[2:]
+    crate = '/'.join([folder[1], *module])
+    folder = os.path.join(*folder)
     grammar = Grammar(read(source), kinds)
     conflicts = grammar.conflicts()
     if conflicts:
         sys.exit('\n'.join(conflicts))
-    crate = os.path.basename(os.path.normpath(folder))
     for name, text in files(grammar, 'docs/' + os.path.basename(source), crate, owner).items():
         path = os.path.join(folder, name)
         if not check:

@@ -3,7 +3,7 @@
 
 usage: spec_run.py TABLE .. [--NAME ..]
 
-It reads the definitions of `dslx_meaning`, `dslx_rules`, `dslx_heights`, `dslx_lowering` and `dslx_networks` (and of the crates below them) as they stand, evaluates them at the
+It reads the definitions of `dslx_meaning`, `dslx_parser` (depths) and `dslx_core` (and of the crates below them) as they stand, evaluates them at the
 texts of each TABLE, and compares what they come to with what the table wants. It is a help while definitions are written;
 nothing rests on it. A NAME is an example that is tried alone.
 
@@ -799,7 +799,7 @@ def fault_text(f):
 def answer(module, wanted):
     kind, top = wanted.split()[0], NONE
     if kind in ('ok', 'rule', 'limit'):
-        f = lookup(load('dslx_rules.specs.ModuleRules'), 'first_fault')
+        f = lookup(load('dslx_meaning.specs.Rules.ModuleRules'), 'first_fault')
         return fault_text(apply(f, (module, top)))
     if kind == 'value':
         items = apply(lookup(load('dslx_meaning.specs.Items'), 'meanings_of'), (module,))
@@ -807,7 +807,7 @@ def answer(module, wanted):
         b = force(v.args[0]).args
         return 'value %s %d %d' % (str(force(b[0])).lower(), force(force(b[1])['width']), force(force(b[1])['value']))
     if kind == 'height':
-        return 'height %d' % force(apply(lookup(load('dslx_heights.specs.Heights'), 'height_of'), (module,)))
+        return 'height %d' % force(apply(lookup(load('dslx_parser.specs.Depths.Heights'), 'height_of'), (module,)))
     if kind == 'core':
         return core_text(module, wanted)
     if kind == 'steps':
@@ -856,10 +856,10 @@ def made_text(module, wanted):
     procs, _, functions = given.partition(' ')[2].partition(';')
     functions = instances_of(module, items, [i for i in functions.split(',') if i.strip()])
     named = [{'name': list(i.split()[0].encode()), 'numbers': numbers_of(i)} for i in procs.split(',')]
-    table = force(apply(lookup(load('dslx_networks.specs.Procs'), 'procs_from'), (module, items, functions, [], named)))
+    table = force(apply(lookup(load('dslx_core.specs.Networks.Procs'), 'procs_from'), (module, items, functions, [], named)))
     proc = force(apply(lookup(load('dslx_meaning.specs.Network'), 'as_proc'),
                        (apply(lookup(load('dslx_meaning.specs.Items'), 'item_named'), (named[-1]['name'], force(module)['items'])),))).args[0]
-    making = load('dslx_networks.specs.Making')
+    making = load('dslx_core.specs.Networks.Making')
     outer = force(apply(lookup(making, 'outers_lowered'), (items, proc)))
     if 'None' in (table.name, outer.name):
         return given + ' | none'
@@ -870,7 +870,7 @@ def made_text(module, wanted):
 def instances_of(module, items, words):
     """The instances of functions of these names and number arguments, or None."""
     instances = [{'name': list(i.split()[0].encode()), 'numbers': numbers_of(i)} for i in words]
-    table = force(apply(lookup(load('dslx_lowering.specs.Functions'), 'instances_from'), (module, items, [], instances)))
+    table = force(apply(lookup(load('dslx_core.specs.Lowering.Functions'), 'instances_from'), (module, items, [], instances)))
     return None if table.name == 'None' else table.args[0]
 
 
@@ -896,7 +896,7 @@ def steps_text(module, wanted):
     name = list(first.split()[0].encode())
     proc = [force(force(i)['definition']).args[0] for i in force(force(module)['items']) if force(force(i)['definition']).name == 'Proc']
     proc = [p for p in proc if deep(force(force(p)['name'])['name']) == name][0]
-    steps = load('dslx_lowering.specs.Steps')
+    steps = load('dslx_core.specs.Lowering.Steps')
     known = apply(lookup(steps, 'proc_known'), (module, items, table, proc, numbers_of(first)))
     got = force(apply(lookup(steps, 'next_lowered'), (known, proc)))
     if got.name == 'None':

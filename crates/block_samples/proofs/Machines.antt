@@ -5,12 +5,12 @@ use Rattle.std.specs.List.{list_any}
 use Rattle.std.proofs.lemmas.List.{length-map}
 use Rattle.xb_bits.specs.Word.{Word}
 use Rattle.net_core.specs.declared.net.Site.{Site}
-use Rattle.block_machine.specs.Pipeline.{Pipeline, first, count_before}
-use Rattle.block_machine.specs.Cycle as cycle
-use Rattle.block_machine.specs.Cycle.{Circuit, Registers, Deed, Takes, Gives, stopped, brought, walk_by, if_full, moves_through, held_after, full_after, kept_after, asked_by, asked_through}
-use Rattle.block_machine.specs.Circuits.{stage_by}
-use Rattle.block_machine.specs.Logic.{at2, takes_at}
-use Rattle.block_machine.specs.declared.table.Table2.{Table2}
+use Rattle.block_stage.specs.Machine.Pipeline.{Pipeline, first, count_before}
+use Rattle.block_stage.specs.Machine.Cycle as cycle
+use Rattle.block_stage.specs.Machine.Cycle.{Circuit, Registers, Deed, Takes, Gives, stopped, brought, walk_by, if_full, moves_through, held_after, full_after, kept_after, asked_by, asked_through}
+use Rattle.block_stage.specs.Machine.Circuits.{stage_by}
+use Rattle.block_stage.specs.Machine.Logic.{at2, takes_at}
+use Rattle.block_stage.specs.declared.machine.table.Table2.{Table2}
 use Rattle.block_samples.specs.declared.machine.Asked.{Asked}
 use Rattle.block_samples.specs.declared.machine.Walk.{Walk}
 use Rattle.block_samples.specs.declared.machine.Ports.{Ports}

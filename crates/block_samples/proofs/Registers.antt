@@ -3,7 +3,7 @@ use Rattle.std.proofs.Common.{◌≡◌, ℕ, ◌<◌, [], ◌∷◌, refl, sym,
 use Rattle.std.specs.Prelude.{◌==◌}
 use Rattle.xb_bits.specs.Word.{Word}
 use Rattle.xb_value.specs.declared.value.Value.TheViews.{outs-Bits}
-use Rattle.block_machine.specs.Cycle.{opened}
+use Rattle.block_stage.specs.Machine.Cycle.{opened}
 use Rattle.block_samples.specs.declared.sample.Begun.{Begun}
 use Rattle.block_samples.specs.declared.sample.Sample.{Sample}
 use Rattle.block_samples.specs.Samples.{bits_in, bits_of, pipeline_of, FitsMachine}

@@ -4,9 +4,9 @@ use Rattle.std.specs.Prelude.{map, slice_get}
 use Rattle.xb_bits.specs.Word.{Word}
 use Rattle.xb_value.specs.declared.value.Value.{Value}
 use Rattle.net_core.specs.Behavior.{chan_at}
-use Rattle.block_machine.specs.Cycle.{Circuit, stopped, follow, walk_by}
-use Rattle.block_machine.specs.declared.logic.Step.{Step}
-use Rattle.block_machine.specs.Logic.{turn_of}
+use Rattle.block_stage.specs.Machine.Cycle.{Circuit, stopped, follow, walk_by}
+use Rattle.block_stage.specs.declared.machine.logic.Step.{Step}
+use Rattle.block_stage.specs.Machine.Logic.{turn_of}
 use Rattle.block_samples.specs.declared.machine.Machine.{Machine}
 use Rattle.block_samples.specs.declared.machine.Ports.{Ports}
 use Rattle.block_samples.specs.declared.machine.Walk.{Walk}

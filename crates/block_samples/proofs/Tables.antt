@@ -8,7 +8,7 @@ use Rattle.std.proofs.lemmas.Grind.{get_or-set_at}
 use Rattle.std.proofs.lemmas.List.{get_or-set_other}
 use Rattle.xb_bits.specs.Word.{Word}
 use Rattle.net_core.specs.Behavior.{chan_at}
-use Rattle.block_machine.specs.Pipeline.{count_before}
+use Rattle.block_stage.specs.Machine.Pipeline.{count_before}
 use Rattle.block_samples.specs.declared.sample.SampleSite.{SampleSite}
 use Rattle.block_samples.specs.Samples.{site_of, chan_of, last_of, last_word}
 

@@ -8,9 +8,9 @@ use Rattle.net_core.specs.declared.event.Event.{Event}
 use Rattle.net_core.specs.declared.event.Event.TheVariants.{Recv, Send}
 use Rattle.net_core.specs.Behavior.{chan_at}
 use Rattle.net_core.specs.Cuts.{words_sent, count_received}
-use Rattle.block_machine.specs.Cycle as cycle
-use Rattle.block_machine.specs.Cycle.{Circuit, Takes, Gives, stopped, behind_deed, follow, walk_by, is_at, asked_by}
-use Rattle.block_machine.proofs.Lemmas.{words_sent-append, count_received-append}
+use Rattle.block_stage.specs.Machine.Cycle as cycle
+use Rattle.block_stage.specs.Machine.Cycle.{Circuit, Takes, Gives, stopped, behind_deed, follow, walk_by, is_at, asked_by}
+use Rattle.block_stage.proofs.Lemmas.Machine.{words_sent-append, count_received-append}
 use Rattle.block_samples.specs.declared.machine.Asked.{Asked}
 use Rattle.block_samples.specs.declared.machine.Walk.{Walk}
 use Rattle.block_samples.specs.declared.sample.Begun.{Begun}

@@ -7,11 +7,11 @@ use Rattle.xb_value.specs.declared.value.Value.{Value, out-Value}
 use Rattle.xb_value.specs.declared.value.Value.TheOpen.{Value-F}
 use Rattle.net_core.specs.declared.net.Site.{Site}
 use Rattle.net_core.specs.Behavior.{Behavior}
-use Rattle.block_machine.specs.declared.logic.SiteTurn.{SiteTurn}
-use Rattle.block_machine.specs.declared.logic.SiteTurn.TheVariants as site_turn
-use Rattle.block_machine.specs.Logic.{turn_of}
-use Rattle.block_machine.specs.Pipeline.{Pipeline}
-use Rattle.block_machine.specs.Cycle as cycle
+use Rattle.block_stage.specs.declared.machine.logic.SiteTurn.{SiteTurn}
+use Rattle.block_stage.specs.declared.machine.logic.SiteTurn.TheVariants as site_turn
+use Rattle.block_stage.specs.Machine.Logic.{turn_of}
+use Rattle.block_stage.specs.Machine.Pipeline.{Pipeline}
+use Rattle.block_stage.specs.Machine.Cycle as cycle
 use Rattle.block_samples.specs.declared.machine.Ports.{Ports}
 use Rattle.block_samples.specs.declared.sample.Action.{Action}
 use Rattle.block_samples.specs.declared.sample.Action.TheVariants.{Receive, SendState, SendWord, ReceiveIfOdd}

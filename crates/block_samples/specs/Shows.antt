@@ -5,16 +5,16 @@ use Rattle.xb_bits.specs.Word.{Word, word}
 use Rattle.net_core.specs.declared.net.Site.{Site}
 use Rattle.net_core.specs.declared.event.Event.{Event}
 use Rattle.net_core.specs.Cuts.{words_sent, count_received}
-use Rattle.block_machine.specs.declared.logic.Step.{Step}
-use Rattle.block_machine.specs.declared.logic.Step.TheVariants.{Pass, Recall, Take, Put, AwaitWord, AwaitRoom}
-use Rattle.block_machine.specs.Cycle as cycle
-use Rattle.block_machine.specs.Cycle.{Circuit, Registers, Deed, Takes, Gives, brought, is_at, asked_by}
+use Rattle.block_stage.specs.declared.machine.logic.Step.{Step}
+use Rattle.block_stage.specs.declared.machine.logic.Step.TheVariants.{Pass, Recall, Take, Put, AwaitWord, AwaitRoom}
+use Rattle.block_stage.specs.Machine.Cycle as cycle
+use Rattle.block_stage.specs.Machine.Cycle.{Circuit, Registers, Deed, Takes, Gives, brought, is_at, asked_by}
 use Rattle.block_samples.specs.declared.machine.Asked.{Asked}
 use Rattle.block_samples.specs.declared.machine.Walk.{Walk}
 use Rattle.block_samples.specs.declared.machine.Machine.{Machine}
 use Rattle.block_samples.specs.declared.sample.Begun.{Begun}
 use Rattle.block_samples.specs.declared.sample.Sample.{Sample}
-use Rattle.block_machine.specs.Logic.{turn_of}
+use Rattle.block_stage.specs.Machine.Logic.{turn_of}
 use Rattle.block_samples.specs.declared.machine.Ports.{Ports}
 use Rattle.block_samples.specs.Samples.{bits_of, last_word, turn_at, chan_of, ports_of}
 

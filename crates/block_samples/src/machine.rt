@@ -5,15 +5,15 @@ ghost use Rattle.net_core.specs.declared.net.Site.{Site};
 ghost use Rattle.net_core.specs.declared.event.Event.TheVariants.{Recv, Send};
 ghost use Rattle.net_core.specs.Behavior.{chan_at};
 ghost use Rattle.net_core.specs.declared.event.Event.{Event};
-ghost use Rattle.block_machine.specs.Cycle as cycle;
-ghost use Rattle.block_machine.specs.Cycle.{Registers, Takes, Gives, opened, brought, stopped, behind_deed, walk_by, moves_through, asked_through};
-ghost use Rattle.block_machine.specs.Circuits.{stage_by, moves_by, cycle_by, asks_by};
-ghost use Rattle.block_machine.specs.Logic.{circuit_of, at2};
+ghost use Rattle.block_stage.specs.Machine.Cycle as cycle;
+ghost use Rattle.block_stage.specs.Machine.Cycle.{Registers, Takes, Gives, opened, brought, stopped, behind_deed, walk_by, moves_through, asked_through};
+ghost use Rattle.block_stage.specs.Machine.Circuits.{stage_by, moves_by, cycle_by, asks_by};
+ghost use Rattle.block_stage.specs.Machine.Logic.{circuit_of, at2};
 ghost use Rattle.block_samples.specs.Samples.{bits_of, last_word, site_of, behavior_of, pipeline_of, ports_of, FitsMachine};
 ghost use Rattle.block_samples.specs.Shows.{no_word, no_begun, first_some, site_step, ShowsBegun, ShowsAsked, ShowsWalk, ShowsMachine, Keeps};
 
 use crate::sample::{Begun, Sample};
-use block_machine::{Logic, Step};
+use block_stage::machine::{Logic, Step};
 use xb_bits::Bits;
 
 /// What stands at the ports in a cycle, by channel.

@@ -1,10 +1,10 @@
 ghost use Rattle.std.specs.Prelude.{◌≡◌, slice_get, unwrap_or, length};
 ghost use Rattle.xb_bits.specs.Word.{Word};
-ghost use Rattle.block_machine.specs.Pipeline.{count_before};
+ghost use Rattle.block_stage.specs.Machine.Pipeline.{count_before};
 ghost use Rattle.block_samples.specs.Samples.{byte, more_than, turn_by, turn_at, next_by, stage_at, chan_of};
 ghost use Rattle.block_samples.specs.Shows.{got_behind};
 
-use block_machine::{SiteTurn, Step};
+use block_stage::machine::{SiteTurn, Step};
 use xb_bits::Bits;
 
 /// A word of 8 bits.

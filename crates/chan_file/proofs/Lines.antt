@@ -4,10 +4,10 @@ use Rattle.std.proofs.lemmas.Bool.Decides.{nat_tests}
 use Rattle.std.proofs.lemmas.Option.{slice_get_within}
 use Rattle.net_core.specs.WellFormed.{IsNet}
 use Rattle.xb_bits.specs.Word.{Word}
-use Rattle.lists.specs.Indexed.{indexed}
-use Rattle.lists.proofs.Lemmas.Indexed.{length-indexed}
-use Rattle.texts.specs.Lines.{lines_of, placed}
-use Rattle.texts.proofs.Lemmas.Lines.{EndWithin}
+use Rattle.base.specs.Lists.Indexed.{indexed}
+use Rattle.base.proofs.Lemmas.Lists.Indexed.{length-indexed}
+use Rattle.base.specs.Texts.Lines.{lines_of, placed}
+use Rattle.base.proofs.Lemmas.Texts.Lines.{EndWithin}
 use Rattle.net_core.specs.declared.net.Net.{Net}
 use Rattle.net_core.specs.declared.net.Chan.{Chan}
 use Rattle.chan_file.specs.declared.line.Said.TheVariants.{Nothing, Channel, Word as AWord, Fault}

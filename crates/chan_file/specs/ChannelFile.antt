@@ -4,8 +4,8 @@
 -- next such line, is one of its words. The first line at fault is named.
 use Rattle.std.specs.Prelude.{◌≡◌, ◌==◌, ◌&&◌, ℕ, suc, Bool, true, false, List, [], ◌∷◌, bytes_eq, slice_get, Option, Some, None, Result, Ok, Err, if◌then◌else◌}
 use Rattle.std.specs.List.{list_any}
-use Rattle.texts.specs.Lines.{lines_of, placed}
-use Rattle.lists.specs.Indexed.{indexed}
+use Rattle.base.specs.Texts.Lines.{lines_of, placed}
+use Rattle.base.specs.Lists.Indexed.{indexed}
 use Rattle.xb_bits.specs.Word.{Word}
 use Rattle.xb_value.specs.declared.token.Token.{Token}
 use Rattle.xb_value.specs.declared.ty.Ty.{Ty}

@@ -2,7 +2,7 @@
 use Rattle.std.specs.Prelude.{◌==◌, ◌&&◌, ◌||◌, ℕ, Bool, true, false, List, [], ◌∷◌, codes, take, drop, bytes_eq, if◌then◌else◌}
 use Rattle.std.specs.List.{list_all}
 use Rattle.std.specs.Str.{is_utf8}
-use Rattle.texts.specs.Words.{begins_word, is_word_byte}
+use Rattle.base.specs.Texts.Words.{begins_word, is_word_byte}
 
 -- an empty line, or a comment, which begins with `#`
 abbrev pub says_nothing : List ℕ → Bool

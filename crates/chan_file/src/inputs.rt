@@ -7,9 +7,9 @@ ghost use Rattle.chan_file.specs.ChannelFile.{Reads, IsRefusal};
 use crate::line::{Said, read_line};
 use crate::named::{Named, input_numbers};
 use crate::refusal::InputError;
+use base::texts::Lines;
 use net_core::{Inputs, Net};
 use std::alloc::{AllocError, Global};
-use texts::Lines;
 use xb_bits::Bits;
 use xb_value::Seq;
 

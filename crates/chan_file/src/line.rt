@@ -12,9 +12,9 @@ ghost use Rattle.net_core.specs.declared.net.Net.{Net};
 
 use crate::named::{Named, Numbers, number_of};
 use crate::refusal::Cause;
+use base::texts::{begins_word, is_utf8, is_word_byte};
 use net_core::Net;
 use std::alloc::{AllocError, Global};
-use texts::{begins_word, is_utf8, is_word_byte};
 use xb_bits::Bits;
 use xb_value::{Ty, ValueError, at, flat, read_value};
 

@@ -7,9 +7,9 @@ ghost use Rattle.net_core.specs.declared.outcome.Stream.{Stream};
 ghost use Rattle.xb_value.specs.Width.{width_of, HasWidths};
 ghost use Rattle.chan_file.specs.OutcomeText.{outcome_text, stream_head, stream_line, proc_line, lines_by, word_text, kind_text, counts_text, end_text, chan_name};
 
+use base::texts::push_decimal;
 use net_core::{Chan, Kind, Net, Outcome, ProcEnd, ProcHead, Stall, Stream};
 use std::alloc::{AllocError, Global};
-use texts::push_decimal;
 use xb_bits::Bits;
 use xb_value::{at, push_value, unflat};
 

@@ -6,3 +6,5 @@ pub mod Channel
 pub mod Steps
 -- the passes beside the queue
 pub mod Passes
+-- the streams of a network
+pub mod Streams

@@ -8,6 +8,7 @@
 mod item;
 mod pass;
 mod queue;
+pub mod streams;
 mod view;
 
 pub use item::{Item, Streams};

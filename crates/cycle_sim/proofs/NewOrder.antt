@@ -6,7 +6,7 @@ use Rattle.std.proofs.lemmas.List.Elements.{recursion_from_All}
 use Rattle.std.specs.Prelude.{slice_get, slice_set, filter_map, unwrap_or, option_map, replicate}
 use Rattle.std.specs.List.{AllByRecursion}
 use Rattle.std.proofs.lemmas.Option.{slice_get_within, slice_get-get_or, get_or_from_slice_get, slice_get-map}
-use Rattle.lists.proofs.Lemmas.Places.{slice_get-set, slice_get-set_other}
+use Rattle.base.proofs.Lemmas.Lists.Places.{slice_get-set, slice_get-set_other}
 use Rattle.topo_order.specs.Needs.{Needs, needs_of, IsOrderOf, AreClosed}
 use Rattle.topo_order.specs.Needs as graph
 use Rattle.vlog_tree.specs.declared.module.VModule.{VModule}

@@ -1,1 +1,2 @@
-pub mod Naming
+-- for other crates' proofs
+pub mod Lemmas

@@ -1,2 +1,4 @@
 -- a step of the machine in the code
 mod Taken
+-- lists
+pub mod OnLists

@@ -8,11 +8,11 @@ ghost use Rattle.dslx_const_machine.proofs.Lemmas.{comes_to};
 ghost use Rattle.dslx_const_tasks.specs.Plain.{plain_found, plain_task, shown};
 
 use crate::step::step;
+use base::stacks::Stack;
 use dslx_const_tasks::{Found, Machine, Task};
 use dslx_meaning::{DslxType, DslxValue};
 use dslx_names::Scope;
 use dslx_tree::Module;
-use stacks::Stack;
 use std::alloc::{AllocError, Global};
 
 /// The machine in a text where these names are bound, with nothing to do.

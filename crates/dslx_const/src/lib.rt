@@ -3,8 +3,10 @@
 //! A machine with stacks of its own finds them: neither calls, one in another, nor expressions take room of the processor's stack.
 #![tactic(auto)]
 
+pub mod calls;
 mod eval;
 mod found;
+pub mod lists;
 mod node;
 mod step;
 

@@ -8,14 +8,14 @@ ghost use Rattle.dslx_const_machine.specs.Tasks.{FindsFields};
 ghost use Rattle.dslx_const_machine.specs.Steps.{array_begins, node_begins};
 ghost use Rattle.dslx_const_tasks.specs.Plain.{shown};
 
-use dslx_const_items::{use_member, use_name, use_struct};
-use dslx_const_lists::{gather, gather_numbers};
+use crate::lists::{gather, gather_numbers};
+use base::texts::Name;
 use dslx_const_patterns::use_number;
+use dslx_const_tasks::items::{use_member, use_name, use_struct};
 use dslx_const_tasks::{ChoiceTask, ListMaker, ListTask, Machine, OneMaker, PairMaker, ValueTask};
 use dslx_tree::{Expr, FieldValue, Node, TypeExpr};
 use dslx_values::bool_value;
 use std::alloc::{AllocError, Global};
-use texts::Name;
 use xb_value::{Boxed, Seq};
 
 /// Puts what an expression needs first, or finds its value at once.

@@ -2,12 +2,12 @@ ghost use Rattle.std.specs.Prelude.{◌≡◌, OnOk};
 ghost use Rattle.dslx_const_machine.specs.Steps.{stepped};
 ghost use Rattle.dslx_const_tasks.specs.Plain.{shown, plain_task};
 
+use crate::calls::step_call;
+use crate::lists::step_list;
 use crate::node::begin_node;
-use dslx_const_blocks::step_value;
-use dslx_const_calls::step_call;
-use dslx_const_items::step_type;
-use dslx_const_lists::step_list;
+use dslx_const_patterns::blocks::step_value;
 use dslx_const_patterns::step_choice;
+use dslx_const_tasks::items::step_type;
 use dslx_const_tasks::{Machine, Task};
 use std::alloc::{AllocError, Global};
 

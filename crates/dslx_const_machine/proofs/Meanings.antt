@@ -13,8 +13,8 @@ use Rattle.dslx_tree.specs.declared.expr.For.{For, out-For}
 use Rattle.dslx_tree.specs.declared.expr.Number.{Number, out-Number}
 use Rattle.dslx_tree.specs.declared.pattern.Pattern.{Pattern, out-Pattern}
 use Rattle.dslx_tree.specs.declared.type_expr.TypeExpr.{TypeExpr, out-TypeExpr}
-use Rattle.dslx_tree_lemmas.proofs.Lemmas.Levels.{Carriers, Maps, BlockLevel, FieldValueLevel, NumberLevel, trees, map_stmt, map_node, map_shape, map_type_node, map_block, map_field, map_number}
-use Rattle.dslx_tree_lemmas.proofs.Lemmas.Folds.{Steps, folds, fold_stmt, fold_bind, fold_arm, fold_field, fold_loop, fold_number}
+use Rattle.dslx_tree.proofs.Lemmas.Folds.Levels.{Carriers, Maps, BlockLevel, FieldValueLevel, NumberLevel, trees, map_stmt, map_node, map_shape, map_type_node, map_block, map_field, map_number}
+use Rattle.dslx_tree.proofs.Lemmas.Folds.Folds.{Steps, folds, fold_stmt, fold_bind, fold_arm, fold_field, fold_loop, fold_number}
 use Rattle.dslx_meaning.specs.Activation.{NodeLayer, StmtLayer, node_of}
 use Rattle.dslx_meaning.specs.Environment.{Env}
 use Rattle.dslx_meaning.specs.Lists.{and_then, with_both}

@@ -12,13 +12,13 @@ ghost use Rattle.dslx_const_patterns.specs.Inner.Turns.{turns_begin};
 ghost use Rattle.dslx_const_tasks.specs.Plain.{shown, plain_choice_task};
 
 use crate::pattern::{compare, fit_all, fit_one};
-use dslx_const_items::is_constant;
+use base::stacks::Stack;
+use dslx_const_tasks::items::is_constant;
 use dslx_const_tasks::{ChoiceTask, Fitting, Machine, Sequel, Task, one_less};
 use dslx_meaning::{DslxValue, SignedWord};
 use dslx_tree::{Arm, Expr, For, Pattern, Shape};
-use dslx_value_operators::turns;
+use dslx_values::operators::turns;
 use dslx_values::{bits_of, copy_value};
-use stacks::Stack;
 use std::alloc::{AllocError, Global};
 use xb_bits::{Bits, add, zext};
 

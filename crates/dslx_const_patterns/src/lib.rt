@@ -1,6 +1,7 @@
 //! Steps for constant expressions: patterns, matches and loops.
 #![tactic(auto)]
 
+pub mod blocks;
 mod choice;
 mod pattern;
 

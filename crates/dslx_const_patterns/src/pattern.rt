@@ -8,14 +8,14 @@ ghost use Rattle.dslx_const_machine.specs.Steps.{stepped};
 ghost use Rattle.dslx_const_machine.specs.Tasks.{Compares, Forgets};
 ghost use Rattle.dslx_const_tasks.specs.Plain.{shown, plain_value_task, plain_waiting, plain_sequel};
 
-use dslx_const_items::{is_constant, use_constant, use_member};
+use base::texts::Name;
+use dslx_const_tasks::items::{is_constant, use_constant, use_member};
 use dslx_const_tasks::{ChoiceTask, Fitting, Machine, Sequel, ValueTask, Waiting, in_order};
 use dslx_meaning::{Bare, DslxValue};
 use dslx_names::{Binding, Scope};
 use dslx_tree::{Number, Pattern, Shape};
 use dslx_values::{bool_value, into_elements, same_value};
 use std::alloc::{AllocError, Global};
-use texts::Name;
 use xb_value::{Boxed, Seq};
 
 /// Finds a number, which has no value without a type.

@@ -5,7 +5,7 @@ use dslx_meaning::DslxValue;
 use dslx_names::Scope;
 use dslx_parser::read;
 use dslx_tree::{Definition, Expr, Module};
-use dslx_value_operators::truth;
+use dslx_values::operators::truth;
 use std::alloc::Global;
 use std::test::Fail;
 

@@ -1,2 +1,4 @@
 -- one less, where there is one
 mod Counts
+-- items
+pub mod OnItems

@@ -1,7 +1,7 @@
 -- What is to be done and where the machine stands, without references.
 use Rattle.std.specs.Prelude.{List, map}
 use Rattle.dslx_tree.specs.declared.pattern.Pattern.{Pattern}
-use Rattle.dslx_inference.specs.Inferences.{inferred}
+use Rattle.dslx_values.specs.Inference.Inferences.{inferred}
 use Rattle.dslx_const_tasks.specs.declared.machine.Machine.{Machine}
 use Rattle.dslx_const_tasks.specs.declared.task.Found.{Found}
 use Rattle.dslx_const_tasks.specs.declared.task.Found.TheVariants as found

@@ -2,6 +2,7 @@
 #![tactic(auto)]
 
 mod count;
+pub mod items;
 mod machine;
 mod order;
 mod task;

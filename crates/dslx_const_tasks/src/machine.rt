@@ -4,10 +4,10 @@ ghost use Rattle.dslx_const_machine.specs.Tasks.{Evaluates, FindsType, CountsBou
 ghost use Rattle.dslx_const_tasks.specs.Plain.{shown, plain_task, plain_value_task, plain_list_task, plain_choice_task, plain_type_task, plain_call_task};
 
 use crate::task::{CallTask, ChoiceTask, Found, ListTask, Task, TypeTask, ValueTask};
+use base::stacks::Stack;
 use dslx_meaning::{DslxType, DslxValue};
 use dslx_names::Scope;
 use dslx_tree::{Expr, Module, TypeExpr};
-use stacks::Stack;
 use std::alloc::{AllocError, Global};
 
 /// Where the machine stands.

@@ -1,7 +1,7 @@
 ghost use Rattle.std.specs.Prelude.{◌≡◌, IfOk};
 
+use base::stacks::Stack;
 use dslx_meaning::DslxValue;
-use stacks::Stack;
 use std::alloc::{AllocError, Global};
 use xb_value::Seq;
 

@@ -1,16 +1,16 @@
 ghost use Rattle.std.specs.Prelude.{◌≡◌, [], IfOk};
 ghost use Rattle.dslx_const_tasks.specs.Plain.{plain_task, plain_value_task, plain_list_task, plain_choice_task, plain_type_task, plain_call_task, plain_sequel};
 
-use dslx_inference::Inference;
+use base::stacks::Stack;
+use base::texts::Name;
 use dslx_meaning::{Bare, BitKind, DslxType, DslxValue, SignedWord};
 use dslx_names::Scope;
 use dslx_tree::{
     Arg, Arm, Binary, Block, Expr, Field, FieldValue, For, Function, Parameter, Pattern, Prefix,
     Stmt, Struct, TypeExpr,
 };
-use stacks::Stack;
+use dslx_values::inference::Inference;
 use std::alloc::{AllocError, Global};
-use texts::Name;
 use xb_bits::Bits;
 use xb_value::{Boxed, Seq};
 

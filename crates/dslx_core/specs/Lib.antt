@@ -4,3 +4,9 @@ pub mod CoreOf
 pub mod CoreValues
 -- what a checked text means
 pub mod Designs
+-- behaviors of procs
+pub mod Behaviors
+-- what becomes of expressions, statements and procs
+pub mod Lowering
+-- networks
+pub mod Networks

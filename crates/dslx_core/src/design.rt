@@ -1,7 +1,7 @@
 use crate::expr::CoreExpr;
 use crate::step::Step;
+use base::texts::Name;
 use net_core::Kind;
-use texts::Name;
 use xb_value::{Seq, Ty, Value};
 
 /// A checked text.

@@ -3,8 +3,13 @@
 //! Its values are plain: a struct is a tuple, an enum is bits, a token is `()`. `specs/` has its meaning.
 #![tactic(auto)]
 
+pub mod behaviors;
+pub mod constants;
 mod design;
 mod expr;
+pub mod lowering;
+pub mod networks;
+pub mod preserved;
 mod step;
 
 pub use design::{Child, Design, Function, Instance, MadeChannel, Outer};

@@ -1,2 +1,4 @@
 -- two values, and what is made of both
 mod Both
+-- how bodies are opened
+pub mod OnOpening

@@ -2,17 +2,17 @@
 
 ghost use Rattle.std.specs.Prelude.{◌≡◌, ◌∷◌, [], List, Some, IfOk, OnOk};
 ghost use Rattle.dslx_meaning.specs.Lists.{where_true};
-ghost use Rattle.dslx_lowering.specs.Functions.{CoreInstance};
-ghost use Rattle.dslx_instance_machine.specs.Bodies.{doing, with_last, with_made};
-ghost use Rattle.dslx_instance_machine.specs.Steps.{value_bound};
-ghost use Rattle.dslx_instance_machine.specs.Tasks.{MakesBind};
-ghost use Rattle.dslx_instance_tasks.specs.Shown.{body_shown, sight_of};
+ghost use Rattle.dslx_core.specs.Lowering.Functions.{CoreInstance};
+ghost use Rattle.dslx_machines.specs.Machine.Bodies.{doing, with_last, with_made};
+ghost use Rattle.dslx_machines.specs.Machine.Steps.{value_bound};
+ghost use Rattle.dslx_machines.specs.Machine.Tasks.{MakesBind};
+ghost use Rattle.dslx_instance.specs.Tasks.Shown.{body_shown, sight_of};
 
 use crate::held::{go_back, mark_of, take_boxed};
 use dslx_core::Shape;
-use dslx_instance_tasks::{BlockTask, LowerTask, OpenBody};
-use dslx_lowering::LoweredExpr;
-use dslx_place_patterns::{BodyKnown, bind_there};
+use dslx_core::lowering::LoweredExpr;
+use dslx_instance::tasks::{BlockTask, LowerTask, OpenBody};
+use dslx_scope_patterns::patterns::{BodyKnown, bind_there};
 use dslx_tree::{Expr, Module, Pattern, Stmt};
 use std::alloc::{AllocError, Global};
 use xb_value::Boxed;

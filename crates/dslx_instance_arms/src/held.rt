@@ -1,12 +1,12 @@
 //! What is held while a step is done: it is small, or in a box, so that letting it go is one call.
 
 ghost use Rattle.std.specs.Prelude.{◌≡◌, ◌∷◌, [], IfOk, OnOk, MatchOption};
-ghost use Rattle.dslx_instance_machine.specs.Bodies.{doing, restores};
-ghost use Rattle.dslx_instance_machine.specs.Tasks.{Restores};
-ghost use Rattle.dslx_instance_tasks.specs.Shown.{body_shown};
+ghost use Rattle.dslx_machines.specs.Machine.Bodies.{doing, restores};
+ghost use Rattle.dslx_machines.specs.Machine.Tasks.{Restores};
+ghost use Rattle.dslx_instance.specs.Tasks.Shown.{body_shown};
 
-use dslx_instance_tasks::{LowerTask, OpenBody};
-use stacks::Stack;
+use base::stacks::Stack;
+use dslx_instance::tasks::{LowerTask, OpenBody};
 use std::alloc::{AllocError, Global};
 use xb_value::Boxed;
 

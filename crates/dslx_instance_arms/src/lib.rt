@@ -4,6 +4,7 @@
 mod arms;
 mod block;
 mod held;
+pub mod opening;
 mod turns;
 
 pub use arms::{begin_arms, take_arm};

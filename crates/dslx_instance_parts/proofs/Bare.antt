@@ -6,8 +6,8 @@ use Rattle.dslx_tree.specs.declared.block.Stmt.TheFolds.{fold_out-Node, fold_out
 use Rattle.dslx_tree.specs.declared.expr.Expr.{Expr, out-Expr}
 use Rattle.dslx_tree.specs.declared.expr.Number.{Number, out-Number}
 use Rattle.dslx_tree.specs.declared.type_expr.TypeExpr.{TypeExpr}
-use Rattle.dslx_tree_lemmas.proofs.Lemmas.Levels.{Carriers, Maps, NumberLevel, trees, map_node, map_number}
-use Rattle.dslx_tree_lemmas.proofs.Lemmas.Folds.{Steps, folds, fold_number}
+use Rattle.dslx_tree.proofs.Lemmas.Folds.Levels.{Carriers, Maps, NumberLevel, trees, map_node, map_number}
+use Rattle.dslx_tree.proofs.Lemmas.Folds.Folds.{Steps, folds, fold_number}
 use Rattle.dslx_meaning.specs.Activation.{NodeLayer, node_of}
 use Rattle.dslx_meaning.specs.Meaning as m
 use Rattle.dslx_meaning.specs.Meaning.{Evaluates, Meant, PatternMeant, Typing, Going, ArmMeant, FieldMeant, meant, written_type}

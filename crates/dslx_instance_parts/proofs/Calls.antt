@@ -7,12 +7,12 @@ use Rattle.dslx_meaning.specs.Callees.{Calls}
 use Rattle.dslx_meaning.specs.Items.{all_numbers, as_function, inferred_from, item_named, meanings_of}
 use Rattle.dslx_meaning.specs.Lists.{all_some, and_then}
 use Rattle.dslx_meaning.specs.declared.value.DslxValue.{DslxValue}
-use Rattle.dslx_lowering.specs.Functions.{CoreInstance, Instantiated}
-use Rattle.dslx_lowering.specs.Lowering.{LoweredExpr, types_of_lowered}
-use Rattle.dslx_instance_machine.specs.Bodies.{place_in}
-use Rattle.dslx_instance_machine.specs.Parts.{calls_by_kind, calls_function, numbers_at}
-use Rattle.dslx_instance_machine.specs.Tasks.{OpenBody}
-use Rattle.dslx_instance_tasks.specs.Shown.{sight_of}
+use Rattle.dslx_core.specs.Lowering.Functions.{CoreInstance, Instantiated}
+use Rattle.dslx_core.specs.Lowering.Lowering.{LoweredExpr, types_of_lowered}
+use Rattle.dslx_machines.specs.Machine.Bodies.{place_in}
+use Rattle.dslx_machines.specs.Machine.Parts.{calls_by_kind, calls_function, numbers_at}
+use Rattle.dslx_machines.specs.Machine.Tasks.{OpenBody}
+use Rattle.dslx_instance.specs.Tasks.Shown.{sight_of}
 use Rattle.dslx_instance_parts.specs.Inner.Calls.{called, function_called, the_instance}
 
 with_numbers : (name : List ℕ) (es : List LoweredExpr) (body : OpenBody) (o : Option (List DslxValue))

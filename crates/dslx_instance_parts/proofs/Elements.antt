@@ -5,8 +5,8 @@ use Rattle.dslx_meaning.specs.Meaning.{meant}
 use Rattle.dslx_meaning.specs.declared.ty.DslxType.{DslxType}
 use Rattle.dslx_meaning.specs.declared.value.Bare.{Bare}
 use Rattle.dslx_const_machine.specs.Layers.{bare_of}
-use Rattle.dslx_instance_machine.specs.Parts.{part_begins, element_begins}
-use Rattle.dslx_instance_machine.specs.Tasks.{OpenBody, PartsMaker, MakesTuple, MakesArray, Fills, CallsWith}
+use Rattle.dslx_machines.specs.Machine.Parts.{part_begins, element_begins}
+use Rattle.dslx_machines.specs.Machine.Tasks.{OpenBody, PartsMaker, MakesTuple, MakesArray, Fills, CallsWith}
 use Rattle.dslx_instance_parts.specs.Inner.Elements.{begins_by, element_by, number_by}
 use Rattle.dslx_instance_parts.proofs.Bare.{bare_is}
 

@@ -2,17 +2,17 @@
 
 ghost use Rattle.std.specs.Prelude.{◌≡◌, List, [], Some, IfOk, not};
 ghost use Rattle.dslx_meaning.specs.Lists.{where_true};
-ghost use Rattle.dslx_lowering.specs.Functions.{CoreInstance};
-ghost use Rattle.dslx_lowering.specs.Trees.{type_of_text_lowered};
-ghost use Rattle.dslx_instance_machine.specs.Bodies.{place_in};
-ghost use Rattle.dslx_instance_machine.specs.Parts.{array_begins, gathers};
-ghost use Rattle.dslx_instance_machine.specs.Tasks.{MakesArray};
+ghost use Rattle.dslx_core.specs.Lowering.Functions.{CoreInstance};
+ghost use Rattle.dslx_core.specs.Lowering.Trees.{type_of_text_lowered};
+ghost use Rattle.dslx_machines.specs.Machine.Bodies.{place_in};
+ghost use Rattle.dslx_machines.specs.Machine.Parts.{array_begins, gathers};
+ghost use Rattle.dslx_machines.specs.Machine.Tasks.{MakesArray};
 ghost use Rattle.dslx_instance_parts.specs.Inner.Arrays.{fills_type};
-ghost use Rattle.dslx_instance_tasks.specs.Shown.{body_shown, sight_of};
+ghost use Rattle.dslx_instance.specs.Tasks.Shown.{body_shown, sight_of};
 
 use crate::order::gather;
-use dslx_instance_places::type_in_body;
-use dslx_instance_tasks::{OpenBody, PartsMaker};
+use dslx_instance::tasks::{OpenBody, PartsMaker};
+use dslx_instance_steps::places::type_in_body;
 use dslx_meaning::DslxType;
 use dslx_tree::{Expr, Module, TypeExpr};
 use std::alloc::{AllocError, Global};

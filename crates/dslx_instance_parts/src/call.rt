@@ -4,24 +4,24 @@ ghost use Rattle.std.specs.Prelude.{◌≡◌, ◌∷◌, [], List, Some, IfOk};
 ghost use Rattle.dslx_meaning.specs.Callees.{kind_of_call};
 ghost use Rattle.dslx_meaning.specs.Items.{all_numbers, inferred_from, meanings_of};
 ghost use Rattle.dslx_meaning.specs.Lists.{and_then, where_true};
-ghost use Rattle.dslx_lowering.specs.Functions.{CoreInstance};
-ghost use Rattle.dslx_lowering.specs.Lowering.{types_of_lowered};
-ghost use Rattle.dslx_instance_machine.specs.Parts.{calls_by_kind};
+ghost use Rattle.dslx_core.specs.Lowering.Functions.{CoreInstance};
+ghost use Rattle.dslx_core.specs.Lowering.Lowering.{types_of_lowered};
+ghost use Rattle.dslx_machines.specs.Machine.Parts.{calls_by_kind};
 ghost use Rattle.dslx_instance_parts.specs.Inner.Calls.{function_called, the_instance};
-ghost use Rattle.dslx_instance_tasks.specs.Shown.{body_shown, sight_of};
+ghost use Rattle.dslx_instance.specs.Tasks.Shown.{body_shown, sight_of};
 
-use dslx_instance_places::constants_in_body;
-use dslx_instance_tasks::{CallTask, OpenBody};
-use dslx_lowered_aggregates::types_of;
-use dslx_lowered_calls::builtin_lowered;
-use dslx_lowering::{Instantiated, LoweredExpr};
+use base::texts::Name;
+use dslx_core::lowering::{Instantiated, LoweredExpr};
+use dslx_core_calls::aggregates::types_of;
+use dslx_core_calls::calls::builtin_lowered;
+use dslx_instance::tasks::{CallTask, OpenBody};
+use dslx_instance_steps::places::constants_in_body;
 use dslx_meaning::DslxValue;
 use dslx_names::{Callee, callee_of, find_function};
-use dslx_number_values::numbers_of;
+use dslx_scope_patterns::numbers::numbers_of;
 use dslx_tree::{Arg, Function, Module};
 use dslx_values::copy_name;
 use std::alloc::{AllocError, Global};
-use texts::Name;
 use xb_value::Seq;
 
 /// An instance of the text's function is to be called, or this is what a builtin becomes; whether there is such.

@@ -4,28 +4,28 @@ ghost use Rattle.std.specs.Prelude.{◌≡◌, ◌∷◌, ◌++◌, [], List, So
 ghost use Rattle.dslx_meaning.specs.Lists.{and_then, where_true};
 ghost use Rattle.dslx_tree.specs.declared.expr.FieldValue.{out-FieldValue};
 ghost use Rattle.dslx_const_machine.specs.Layers.{field_among};
-ghost use Rattle.dslx_lowering.specs.Functions.{CoreInstance};
-ghost use Rattle.dslx_lowering.specs.Lowering.{field_lowered};
-ghost use Rattle.dslx_lowering.specs.Trees.{of_type};
-ghost use Rattle.dslx_instance_machine.specs.Bodies.{doing, with_last, with_made};
-ghost use Rattle.dslx_instance_machine.specs.Parts.{field_begins, field_value_begins, fields_on, others_taken};
-ghost use Rattle.dslx_instance_machine.specs.Tasks.{GathersFields};
-ghost use Rattle.dslx_instance_tasks.specs.Shown.{body_shown, others_shown, sight_of, struct_shown};
+ghost use Rattle.dslx_core.specs.Lowering.Functions.{CoreInstance};
+ghost use Rattle.dslx_core.specs.Lowering.Lowering.{field_lowered};
+ghost use Rattle.dslx_core.specs.Lowering.Trees.{of_type};
+ghost use Rattle.dslx_machines.specs.Machine.Bodies.{doing, with_last, with_made};
+ghost use Rattle.dslx_machines.specs.Machine.Parts.{field_begins, field_value_begins, fields_on, others_taken};
+ghost use Rattle.dslx_machines.specs.Machine.Tasks.{GathersFields};
+ghost use Rattle.dslx_instance.specs.Tasks.Shown.{body_shown, others_shown, sight_of, struct_shown};
 
 use crate::order::put_behind;
-use dslx_instance_places::name_in_body;
+use base::stacks::Stack;
+use base::texts::Name;
+use dslx_core::lowering::LoweredExpr;
+use dslx_core_calls::aggregates::{field_of_slot, struct_lowered};
+use dslx_core_exprs::alike::equal_type;
+use dslx_instance::tasks::{LowerTask, OpenBody, OtherFields, PartsTask, StructWork};
 use dslx_instance_steps::bind_unnamed;
-use dslx_instance_tasks::{LowerTask, OpenBody, OtherFields, PartsTask, StructWork};
-use dslx_lowered_aggregates::{field_of_slot, struct_lowered};
-use dslx_lowering::LoweredExpr;
+use dslx_instance_steps::places::name_in_body;
 use dslx_meaning::DslxType;
 use dslx_names::find_field;
 use dslx_tree::{FieldValue, Module};
-use dslx_types_alike::equal_type;
 use dslx_values::copy_type;
-use stacks::Stack;
 use std::alloc::{AllocError, Global};
-use texts::Name;
 
 /// Goes on with the fields that are left, behind these; whether there is the next, or the struct.
 pub(crate) fn next_field<'a>(

@@ -2,21 +2,21 @@
 
 ghost use Rattle.std.specs.Prelude.{◌≡◌, ◌∷◌, ◌++◌, [], List, Some, IfOk};
 ghost use Rattle.dslx_meaning.specs.Lists.{and_then, where_true};
-ghost use Rattle.dslx_lowering.specs.Functions.{CoreInstance};
-ghost use Rattle.dslx_lowering.specs.Lowering.{LoweredExpr};
-ghost use Rattle.dslx_instance_machine.specs.Bodies.{doing, with_last, with_made};
-ghost use Rattle.dslx_instance_machine.specs.Parts.{gathers, made_of_parts, part_begins, part_taken};
-ghost use Rattle.dslx_instance_machine.specs.Tasks.{Gathers};
-ghost use Rattle.dslx_instance_tasks.specs.Shown.{body_shown, parts_shown, parts_task_shown, sight_of};
+ghost use Rattle.dslx_core.specs.Lowering.Functions.{CoreInstance};
+ghost use Rattle.dslx_core.specs.Lowering.Lowering.{LoweredExpr};
+ghost use Rattle.dslx_machines.specs.Machine.Bodies.{doing, with_last, with_made};
+ghost use Rattle.dslx_machines.specs.Machine.Parts.{gathers, made_of_parts, part_begins, part_taken};
+ghost use Rattle.dslx_machines.specs.Machine.Tasks.{Gathers};
+ghost use Rattle.dslx_instance.specs.Tasks.Shown.{body_shown, parts_shown, parts_task_shown, sight_of};
 ghost use Rattle.dslx_instance_parts.specs.Inner.Elements.{begins_by, element_by, number_by};
 
 use crate::call::begin_call;
-use dslx_const_items::{bare_of, number_of};
-use dslx_instance_places::literal_if;
+use dslx_const_tasks::items::{bare_of, number_of};
+use dslx_core::lowering::LoweredExpr;
+use dslx_core_calls::aggregates::{elements_lowered, filled_lowered, tuple_lowered};
+use dslx_instance::tasks::{LowerTask, OpenBody, PartsMaker, PartsTask};
 use dslx_instance_steps::fits_part;
-use dslx_instance_tasks::{LowerTask, OpenBody, PartsMaker, PartsTask};
-use dslx_lowered_aggregates::{elements_lowered, filled_lowered, tuple_lowered};
-use dslx_lowering::LoweredExpr;
+use dslx_instance_steps::places::literal_if;
 use dslx_meaning::{Bare, DslxType};
 use dslx_tree::{Expr, Module};
 use std::alloc::{AllocError, Global};

@@ -5,20 +5,20 @@ ghost use Rattle.std.specs.List.{list_all};
 ghost use Rattle.std.specs.Option.{option_copied};
 ghost use Rattle.dslx_meaning.specs.Lists.{and_then, is_in, where_true};
 ghost use Rattle.dslx_meaning.specs.declared.ty.DslxType.{Struct as struct_of, out-DslxType};
-ghost use Rattle.dslx_lowering.specs.Functions.{CoreInstance};
-ghost use Rattle.dslx_instance_machine.specs.Parts.{fields_begin, names_of_fields, struct_begins};
-ghost use Rattle.dslx_instance_tasks.specs.Shown.{body_shown, sight_of};
+ghost use Rattle.dslx_core.specs.Lowering.Functions.{CoreInstance};
+ghost use Rattle.dslx_machines.specs.Machine.Parts.{fields_begin, names_of_fields, struct_begins};
+ghost use Rattle.dslx_instance.specs.Tasks.Shown.{body_shown, sight_of};
 ghost use Rattle.dslx_instance_parts.specs.Inner.Fields.{fields_by, others_needed};
 
 use crate::fields::next_field;
-use dslx_instance_tasks::{LowerTask, OpenBody, PartsTask, StructWork};
+use base::stacks::Stack;
+use base::texts::Name;
+use dslx_instance::tasks::{LowerTask, OpenBody, PartsTask, StructWork};
 use dslx_meaning::DslxType;
 use dslx_names::find_field;
 use dslx_tree::{Expr, FieldValue, Module};
 use dslx_values::{copy_names, copy_types};
-use stacks::Stack;
 use std::alloc::{AllocError, Global};
-use texts::Name;
 use xb_value::{Boxed, Seq};
 
 /// A value of a struct's type is to be made of these fields and those of another value; whether the type is a struct's.

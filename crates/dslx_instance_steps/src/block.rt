@@ -3,15 +3,15 @@
 ghost use Rattle.std.specs.Prelude.{◌≡◌, Some, IfOk, OnOk};
 ghost use Rattle.dslx_tree.specs.declared.block.Stmt.{out-Stmt};
 ghost use Rattle.dslx_meaning.specs.Lists.{where_true};
-ghost use Rattle.dslx_instance_machine.specs.Bodies.{gives, with_last, with_made};
-ghost use Rattle.dslx_instance_machine.specs.Steps.{bind_made, last_begins, statements_begin, stmt_begins};
-ghost use Rattle.dslx_instance_tasks.specs.Shown.{body_shown};
+ghost use Rattle.dslx_machines.specs.Machine.Bodies.{gives, with_last, with_made};
+ghost use Rattle.dslx_machines.specs.Machine.Steps.{bind_made, last_begins, statements_begin, stmt_begins};
+ghost use Rattle.dslx_instance.specs.Tasks.Shown.{body_shown};
 
 use dslx_core::Shape;
-use dslx_instance_tasks::{BlockTask, LowerTask, OpenBody};
-use dslx_lowered_control::bind_lowered;
-use dslx_lowered_types::unit_lowered;
-use dslx_lowering::LoweredExpr;
+use dslx_core::lowering::LoweredExpr;
+use dslx_core_exprs::control::bind_lowered;
+use dslx_core_exprs::types::unit_lowered;
+use dslx_instance::tasks::{BlockTask, LowerTask, OpenBody};
 use dslx_tree::{Expr, Stmt};
 use std::alloc::{AllocError, Global};
 use xb_value::Boxed;

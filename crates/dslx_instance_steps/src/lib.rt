@@ -4,6 +4,7 @@
 
 mod block;
 mod operation;
+pub mod places;
 mod several;
 
 pub use block::{begin_statements, make_bind};

@@ -2,17 +2,17 @@
 
 ghost use Rattle.std.specs.Prelude.{◌≡◌, ◌∷◌, Some, IfOk};
 ghost use Rattle.dslx_meaning.specs.Lists.{and_then, where_true};
-ghost use Rattle.dslx_lowering.specs.Lowering as lowering;
-ghost use Rattle.dslx_instance_machine.specs.Steps.{of_last, of_last_two, of_last_three};
+ghost use Rattle.dslx_core.specs.Lowering.Lowering as lowering;
+ghost use Rattle.dslx_machines.specs.Machine.Steps.{of_last, of_last_two, of_last_three};
 
-use dslx_lowered_control::{choice_lowered, element_lowered, index_lowered};
-use dslx_lowered_operators::{
+use base::stacks::Stack;
+use dslx_core::lowering::LoweredExpr;
+use dslx_core_exprs::control::{choice_lowered, element_lowered, index_lowered};
+use dslx_core_exprs::operators::{
     binary_lowered, cast_lowered, part_lowered, prefix_lowered, slice_lowered,
 };
-use dslx_lowering::LoweredExpr;
 use dslx_meaning::DslxType;
 use dslx_tree::{Binary, Prefix};
-use stacks::Stack;
 use std::alloc::{AllocError, Global};
 
 /// This is what was made last, if there is anything.

@@ -4,18 +4,18 @@ ghost use Rattle.std.specs.Prelude.{◌≡◌, ◌∷◌, [], Some, OnOk};
 ghost use Rattle.dslx_tree.specs.declared.expr.For.{out-For};
 ghost use Rattle.dslx_meaning.specs.Lists.{where_true};
 ghost use Rattle.dslx_core.specs.declared.expr.Shape.{Bound as bound_shape};
-ghost use Rattle.dslx_instance_machine.specs.Bodies.{doing, restores, unnamed};
-ghost use Rattle.dslx_instance_machine.specs.Parts.{part_taken};
-ghost use Rattle.dslx_instance_machine.specs.Tasks.{Gathers, LoopBegins, LowersArms, LowersBlock, LowersExpr, Makes, MakesBind, MakesChoice};
-ghost use Rattle.dslx_instance_tasks.specs.Shown.{body_shown, parts_shown};
+ghost use Rattle.dslx_machines.specs.Machine.Bodies.{doing, restores, unnamed};
+ghost use Rattle.dslx_machines.specs.Machine.Parts.{part_taken};
+ghost use Rattle.dslx_machines.specs.Machine.Tasks.{Gathers, LoopBegins, LowersArms, LowersBlock, LowersExpr, Makes, MakesBind, MakesChoice};
+ghost use Rattle.dslx_instance.specs.Tasks.Shown.{body_shown, parts_shown};
 
 use dslx_core::Shape;
-use dslx_instance_tasks::{
+use dslx_core::lowering::LoweredExpr;
+use dslx_core_exprs::alike::equal_type;
+use dslx_instance::tasks::{
     ArmsTask, BlockTask, LastMaker, LoopTask, LowerTask, OpenBody, PartsMaker, PartsTask,
 };
-use dslx_lowering::LoweredExpr;
 use dslx_tree::{Arm, Block, Expr, For};
-use dslx_types_alike::equal_type;
 use std::alloc::{AllocError, Global};
 use xb_value::Boxed;
 

@@ -20,3 +20,5 @@ pub mod Operators
 pub mod Types
 -- values: their types, equal ones, their flat words
 pub mod Values
+-- rules
+pub mod Rules

@@ -3,6 +3,7 @@
 //! These are definitions, in `specs/`. The code has the types and the values that they speak of.
 #![tactic(auto)]
 
+pub mod rules;
 mod ty;
 mod value;
 

@@ -1,4 +1,4 @@
-use texts::Name;
+use base::texts::Name;
 use xb_value::{Boxed, Seq};
 
 /// The type of an expression.

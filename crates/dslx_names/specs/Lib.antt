@@ -2,3 +2,5 @@
 pub mod Bound
 -- what called names stand for
 pub mod Called
+-- sends and receives
+pub mod Sites

@@ -2,7 +2,7 @@ ghost use Rattle.std.specs.Prelude.{◌≡◌};
 ghost use Rattle.dslx_meaning.specs.Callees.{kind_of_call};
 ghost use Rattle.dslx_names.specs.Called.{kind_of};
 
-use texts::Name;
+use base::texts::Name;
 
 /// What a called name stands for: an effect, a builtin, or a function of the text.
 #[derive(Clone, Copy, PartialEq, Eq)]

@@ -3,8 +3,8 @@ ghost use Rattle.std.specs.Option.{option_copied};
 ghost use Rattle.dslx_meaning.specs.Items.{name_of_definition, item_named, as_function, as_constant, as_struct, as_enum, member_named};
 ghost use Rattle.dslx_const_machine.specs.Layers.{field_among};
 
+use base::texts::Name;
 use dslx_tree::{Constant, Definition, Enum, FieldValue, Function, Item, Member, Struct};
-use texts::Name;
 
 /// The name that an item defines.
 fn name_of(definition: &Definition) -> &Name

@@ -4,6 +4,7 @@
 mod callee;
 mod items;
 mod scope;
+pub mod sites;
 
 pub use callee::{Callee, callee_of};
 pub use items::{

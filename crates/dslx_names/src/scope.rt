@@ -3,10 +3,10 @@ ghost use Rattle.std.specs.Option.{option_copied};
 ghost use Rattle.dslx_meaning.specs.Environment.{given_in};
 ghost use Rattle.dslx_names.specs.Bound.{given};
 
+use base::texts::Name;
 use dslx_meaning::DslxValue;
 use std::alloc::{AllocError, Global};
 use std::marker::Model;
-use texts::Name;
 
 /// A name with the value that it stands for.
 #[derive(Drop)]

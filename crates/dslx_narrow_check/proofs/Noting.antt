@@ -4,7 +4,7 @@ use Rattle.std.specs.Prelude.{slice_get, is_some, not, ◌&&◌, ◌||◌, if◌
 use Rattle.std.specs.Str.{bytes_eq}
 use Rattle.std.proofs.lemmas.Slice.Eq.{bytes_eq-Decides}
 use Rattle.xb_span.specs.declared.fault.Fault.{Fault}
-use Rattle.name_table.specs.Found.{or_else}
+use Rattle.base.specs.NameTable.Found.{or_else}
 use Rattle.dslx_narrow_tree.specs.Names.{is_named}
 use Rattle.dslx_narrow_tree.specs.Judging.{port_in, port_of}
 use Rattle.dslx_narrow_tree.specs.Checking.{name_of_end, again, last_proc, ends_fit, port_fits}

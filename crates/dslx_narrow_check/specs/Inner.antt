@@ -1,7 +1,7 @@
 -- Contracts of private parts.
 use Rattle.std.specs.Prelude.{ℕ, ◌≡◌, ◌++◌, List, Bool, Option, None}
-use Rattle.name_table.specs.Found.{found}
-use Rattle.name_table.specs.declared.table.Table.{Table}
+use Rattle.base.specs.NameTable.Found.{found}
+use Rattle.base.specs.declared.name_table.table.Table.{Table}
 use Rattle.xb_span.specs.declared.fault.Fault.{Fault}
 use Rattle.dslx_narrow_tree.specs.Judging.{Scope, port_in}
 use Rattle.dslx_narrow_tree.specs.declared.port.Port.{Port}

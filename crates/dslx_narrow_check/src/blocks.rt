@@ -6,9 +6,9 @@ ghost use Rattle.dslx_narrow_check.specs.Inner.{Walks};
 
 use crate::patterns::bind;
 use crate::size::block_size;
+use base::name_table::Table;
 use dslx_narrow_judge::{Sight, alone, note_value, note_where, whole};
 use dslx_narrow_tree::{Block, Expr, Pattern, SourceType, Stmt};
-use name_table::Table;
 use std::alloc::{AllocError, Global};
 use xb_span::{Fault, Limit, Span, What};
 

@@ -6,9 +6,9 @@ ghost use Rattle.dslx_narrow_judge.specs.Sights.{AreNames};
 ghost use Rattle.dslx_narrow_check.specs.Inner.{AreUses, ArePorts};
 
 use crate::patterns::declare;
+use base::name_table::Table;
 use dslx_narrow_judge::note_where;
 use dslx_narrow_tree::{Config, End, Ident, Port, TypeExpr};
-use name_table::Table;
 use std::alloc::{AllocError, Global};
 use xb_span::Fault;
 

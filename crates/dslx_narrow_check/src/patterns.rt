@@ -4,9 +4,9 @@ ghost use Rattle.dslx_narrow_tree.specs.Patterns.{declared_faults, binds, first_
 ghost use Rattle.dslx_narrow_judge.specs.Sights.{AreNames, AreLocals};
 ghost use Rattle.dslx_narrow_check.specs.Inner.{BindsNames};
 
+use base::name_table::Table;
 use dslx_narrow_judge::note_where;
 use dslx_narrow_tree::{Ident, Pattern, SourceType, is_reserved};
-use name_table::Table;
 use std::alloc::AllocError;
 use xb_span::{Fault, Span};
 

@@ -6,9 +6,9 @@ use crate::blocks::block;
 use crate::configs::{note_config, note_ends, ports};
 use crate::patterns::declare;
 use crate::size::count_sites;
+use base::name_table::Table;
 use dslx_narrow_judge::Sight;
 use dslx_narrow_tree::Proc;
-use name_table::Table;
 use std::alloc::{AllocError, Global};
 use xb_span::{Fault, Limit, What};
 

@@ -4,9 +4,9 @@ ghost use Rattle.dslx_narrow_tree.specs.Checking.{faults_of, first_fault, procs_
 ghost use Rattle.dslx_narrow_judge.specs.Sights.{AreNames};
 
 use crate::procs::note_proc;
+use base::name_table::Table;
 use dslx_narrow_judge::note_where;
 use dslx_narrow_tree::{Module, Proc};
-use name_table::Table;
 use std::alloc::{AllocError, Global};
 use xb_span::{Fault, Limit, Span, What, first_of};
 use xb_value::at;

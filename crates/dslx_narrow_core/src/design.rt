@@ -1,6 +1,6 @@
+use base::texts::Name;
 use dslx_narrow_tree::{SourceType, SourceValue};
 use net_core::Chan;
-use texts::Name;
 use xb_bits::Bits;
 use xb_value::{Boxed, Seq};
 

@@ -6,10 +6,10 @@ ghost use Rattle.dslx_narrow_core.specs.Networks.{network_of_core, IsSound, IsRe
 
 use crate::design::{Core, Step};
 use crate::evaluate::plain_state;
+use base::texts::Name;
 use dslx_narrow_tree::SourceType;
 use net_core::{Chan, Net, ProcHead, Site};
 use std::alloc::{AllocError, Global};
-use texts::Name;
 use xb_span::{Limit, ReadError, What};
 use xb_value::{Seq, Ty};
 

@@ -3,7 +3,7 @@
 use Rattle.std.specs.Prelude.{ℕ, List, [], ◌∷◌}
 use Rattle.grammar.specs.Syntax.{NamedRule, named}
 use Rattle.grammar.specs.declared.table.Symbol.TheVariants.{Terminal, Nonterminal}
-use Rattle.dslx_grammar.specs.declared.generated.kind.TheConstants as kind
+use Rattle.dslx_token.specs.declared.rules.generated.kind.TheConstants as kind
 use Rattle.dslx_narrow_grammar.specs.declared.generated.nonterminal.TheConstants as nonterminal
 use Rattle.dslx_narrow_grammar.specs.declared.generated.production.TheConstants as production
 

@@ -8,11 +8,11 @@ ghost use Rattle.grammar.specs.Steps.{steps_of};
 ghost use Rattle.grammar.specs.Syntax.{syntax_of};
 ghost use Rattle.grammar.specs.Tree.{Forest, IsParseTree};
 ghost use Rattle.grammar.specs.declared.parser.ParseError.TheVariants.{OutOfMemory};
-ghost use Rattle.lists.specs.Fault.{IsFirstFault};
+ghost use Rattle.base.specs.Lists.Fault.{IsFirstFault};
 ghost use Rattle.dslx_narrow_grammar.specs.Narrow.{narrow};
 
 use crate::generated::tables;
-use dslx_grammar::kind::END;
+use dslx_token::rules::kind::END;
 use grammar::{Grammar, ParseError, Step};
 use std::alloc::{AllocError, Global};
 

@@ -1,7 +1,7 @@
 -- What the checker's tables show.
 use Rattle.std.specs.Prelude.{ℕ, ◌≡◌, ◌++◌, List, Option, Bool, is_some}
-use Rattle.name_table.specs.Found.{found}
-use Rattle.name_table.specs.declared.table.Table.{Table}
+use Rattle.base.specs.NameTable.Found.{found}
+use Rattle.base.specs.declared.name_table.table.Table.{Table}
 use Rattle.xb_span.specs.declared.fault.Fault.{Fault}
 use Rattle.dslx_narrow_tree.specs.Names.{is_named}
 use Rattle.dslx_narrow_tree.specs.Judging.{Scope, Local, Judged, SeenExpr, bound_in, port_in, faults_alone, type_alone}

@@ -3,8 +3,8 @@ ghost use Rattle.std.specs.Option.{option_copied};
 ghost use Rattle.dslx_narrow_tree.specs.Judging.{Scope, bound_in, port_at, port_named, is_unused, is_free, goes};
 ghost use Rattle.dslx_narrow_judge.specs.Sights.{ShowsScope};
 
+use base::name_table::Table;
 use dslx_narrow_tree::{Direction, Ident, Port, SourceType};
-use name_table::Table;
 
 /// What is in sight: bound names with their types, the ends that a proc has, and which of them have a site.
 #[derive(Drop)]

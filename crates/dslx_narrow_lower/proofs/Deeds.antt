@@ -1,7 +1,7 @@
 -- What calls do, by their arguments.
 use Rattle.std.proofs.Common.{◌≡◌, ℕ, zero, suc, ◌+◌, ◌<◌, ◌≤◌, Bool, true, false, List, [], ◌∷◌, length, drop, get_or, Option, Some, None, refl, sym, ap, ◌∙◌, subst, arith}
 use Rattle.std.specs.Prelude.{if◌then◌else◌, unwrap_or}
-use Rattle.name_table.specs.Found.{or_else}
+use Rattle.base.specs.NameTable.Found.{or_else}
 use Rattle.dslx_narrow_tree.specs.Activation.{call_doing, name_step, receive_at, send_at}
 use Rattle.dslx_narrow_tree.specs.declared.callee.Callee.TheVariants.{Recv, Send}
 use Rattle.dslx_narrow_tree.specs.declared.expr.Expr.{Expr, out-Expr}

@@ -1,7 +1,7 @@
 -- Contracts of private parts.
 use Rattle.std.specs.Prelude.{ℕ, ◌≡◌, ◌++◌, List, length, map, unwrap_or}
-use Rattle.name_table.specs.Found.{found}
-use Rattle.name_table.specs.declared.table.Table.{Table}
+use Rattle.base.specs.NameTable.Found.{found}
+use Rattle.base.specs.declared.name_table.table.Table.{Table}
 use Rattle.dslx_narrow_tree.specs.Activation.{Doing, Values, Receives, Sends, doing_of}
 use Rattle.dslx_narrow_tree.specs.Checking.{name_of_end}
 use Rattle.dslx_narrow_tree.specs.Network.{place_named, channel_of}

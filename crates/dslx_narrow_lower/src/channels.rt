@@ -5,8 +5,8 @@ ghost use Rattle.dslx_narrow_tree.specs.declared.proc.End.{End};
 ghost use Rattle.dslx_narrow_tree.specs.declared.proc.Proc.{Proc};
 ghost use Rattle.dslx_narrow_lower.specs.Inner.{ArePlaces, KnowsChannels};
 
+use base::name_table::Table;
 use dslx_narrow_tree::{End, Ident, Proc};
-use name_table::Table;
 use std::alloc::{AllocError, Global};
 use xb_value::at;
 

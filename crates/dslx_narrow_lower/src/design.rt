@@ -10,11 +10,11 @@ use crate::channels::Channels;
 use crate::expr::last_core;
 use crate::slots::Slots;
 use crate::steps::steps_of;
+use base::texts::Name;
 use dslx_narrow_core::{Core, opening};
 use dslx_narrow_tree::{Direction, End, Proc, SourceValue, TypeExpr};
 use net_core::{Chan, Kind};
 use std::alloc::{AllocError, Global};
-use texts::Name;
 use xb_value::{Seq, Ty};
 
 /// The checked design of a proc.

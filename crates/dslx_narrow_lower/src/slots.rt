@@ -2,7 +2,7 @@ ghost use Rattle.std.specs.Prelude.{◌≡◌, ◌∷◌, [], List, ℕ, OnOk};
 ghost use Rattle.dslx_narrow_lower.specs.Lowering.{slot_of};
 ghost use Rattle.dslx_narrow_lower.specs.Inner.{IsSlots};
 
-use name_table::Table;
+use base::name_table::Table;
 use std::alloc::{AllocError, Global};
 
 /// The numbers of what names are bound to.

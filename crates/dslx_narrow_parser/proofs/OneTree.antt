@@ -16,8 +16,8 @@ use Rattle.dslx_narrow_parser.specs.Building.{built, module_of}
 use Rattle.dslx_narrow_parser.specs.Empty.{empty}
 use Rattle.dslx_narrow_parser.specs.Reads.{IsFault, IsReading, IsRefusal, IsSyntaxFault, IsTooDeep, IsShallow, Reads, kinds_of, misplaced, roles_of, too_deep, whole}
 use Rattle.xb_span.specs.declared.limit.Limit.{Limit}
-use Rattle.dslx_nesting.specs.Nesting.{first_past}
-use Rattle.lists.proofs.Lemmas.Faults.{IsFirstFault-unique}
+use Rattle.xb_span.specs.Nesting.Nesting.{first_past}
+use Rattle.base.proofs.Lemmas.Lists.Faults.{IsFirstFault-unique}
 use Rattle.xb_span.specs.declared.limit.What.TheVariants.{Nesting}
 
 -- what the laws of grammars say

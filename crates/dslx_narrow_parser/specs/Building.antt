@@ -3,7 +3,7 @@ use Rattle.std.specs.Prelude.{◌==◌, ◌||◌, ◌≤◌, ℕ, Bool, max, min
 use Rattle.std.proofs.Common.{arith}
 use Rattle.grammar.specs.declared.bottom_up.Step.{Step}
 use Rattle.grammar.specs.declared.bottom_up.Step.TheVariants.{Shift, Reduce}
-use Rattle.dslx_grammar.specs.declared.generated.kind.TheConstants.{BOTHNAME, FUNNAME, IN, NAME, NUMBER, OUT, STRUCTNAME, TYPENAME, UNSIGNED}
+use Rattle.dslx_token.specs.declared.rules.generated.kind.TheConstants.{BOTHNAME, FUNNAME, IN, NAME, NUMBER, OUT, STRUCTNAME, TYPENAME, UNSIGNED}
 use Rattle.xb_span.specs.declared.span.Span.{Span}
 use Rattle.dslx_narrow_tree.specs.declared.proc.Direction.TheVariants as directions
 use Rattle.dslx_narrow_tree.specs.declared.proc.Module.{Module}

@@ -3,9 +3,9 @@ use Rattle.std.specs.Prelude.{◌≡◌, ◌<◌, ◌≤◌, ℕ, List, map, Non
 use Rattle.grammar.specs.Derivation.{IsSentence}
 use Rattle.grammar.specs.Steps.{steps_of}
 use Rattle.grammar.specs.Tree.{Forest, IsParseTree}
-use Rattle.lists.specs.Fault.{IsFirstFault}
-use Rattle.dslx_nesting.specs.Nesting.{first_past}
-use Rattle.dslx_nesting.specs.declared.role.Role.{Role}
+use Rattle.base.specs.Lists.Fault.{IsFirstFault}
+use Rattle.xb_span.specs.Nesting.Nesting.{first_past}
+use Rattle.xb_span.specs.declared.nesting.role.Role.{Role}
 use Rattle.dslx_narrow_grammar.specs.Narrow.{narrow}
 use Rattle.dslx_narrow_tree.specs.declared.proc.Module.{Module}
 use Rattle.dslx_token.specs.Lexeme.{Lexeme}

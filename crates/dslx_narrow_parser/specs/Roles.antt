@@ -1,8 +1,8 @@
 -- What a token of the narrowed language does to the nesting of those behind it.
 use Rattle.std.specs.Prelude.{◌==◌, ◌||◌, ℕ, if◌then◌else◌}
-use Rattle.dslx_grammar.specs.declared.generated.kind.TheConstants.{COMMA, FIELDS, LBRACE, LPAREN, PLUS, PROC, RBRACE, RPAREN, SEMI}
-use Rattle.dslx_nesting.specs.declared.role.Role.{Role}
-use Rattle.dslx_nesting.specs.declared.role.Role.TheVariants.{Open, Close, Mark, Stop, Item, Plain}
+use Rattle.dslx_token.specs.declared.rules.generated.kind.TheConstants.{COMMA, FIELDS, LBRACE, LPAREN, PLUS, PROC, RBRACE, RPAREN, SEMI}
+use Rattle.xb_span.specs.declared.nesting.role.Role.{Role}
+use Rattle.xb_span.specs.declared.nesting.role.Role.TheVariants.{Open, Close, Mark, Stop, Item, Plain}
 
 abbrev pub role_of : ℕ → Role
 role_of kind =

@@ -3,8 +3,8 @@
 ghost use Rattle.std.specs.Prelude.{◌≡◌, ◌≤◌, ◌<◌, ℕ, None, Some, length, map, slice_get, IfErr, IfOk, IfSome, MatchResult};
 ghost use Rattle.grammar.specs.Answer.{EndsWith};
 ghost use Rattle.grammar.specs.Derivation.{IsDerivation, IsSentence};
-ghost use Rattle.lists.specs.Fault.{IsFirstFault};
-ghost use Rattle.dslx_nesting.specs.Nesting.{first_past};
+ghost use Rattle.base.specs.Lists.Fault.{IsFirstFault};
+ghost use Rattle.xb_span.specs.Nesting.Nesting.{first_past};
 ghost use Rattle.dslx_narrow_grammar.specs.Narrow.{narrow};
 ghost use Rattle.dslx_narrow_tree.specs.declared.proc.Module.{Module};
 ghost use Rattle.dslx_narrow_parser.specs.Reads.{IsRefusal, IsShallow, Reads, kinds_of, roles_of};
@@ -12,12 +12,14 @@ ghost use Rattle.dslx_narrow_parser.specs.Roles.{role_of};
 ghost use Rattle.xb_span.specs.declared.read_error.ReadError.TheVariants.{OutOfMemory};
 
 use crate::builder::build;
-use dslx_grammar::kind::{COMMA, END, FIELDS, LBRACE, LPAREN, PLUS, PROC, RBRACE, RPAREN, SEMI};
 use dslx_narrow_tree::Module;
-use dslx_nesting::{Role, first_over};
 use dslx_token::Token;
+use dslx_token::rules::kind::{
+    COMMA, END, FIELDS, LBRACE, LPAREN, PLUS, PROC, RBRACE, RPAREN, SEMI,
+};
 use grammar::ParseError;
 use std::alloc::{AllocError, Global};
+use xb_span::nesting::{Role, first_over};
 use xb_span::{Limit, ReadError, What};
 
 /// The tree of the tokens of a text, which end with the mark at its end.

@@ -4,13 +4,13 @@ ghost use Rattle.std.specs.Prelude.{◌≡◌, ◌≤◌, OnOk};
 ghost use Rattle.dslx_narrow_parser.specs.Building.{shifted, shifted_name, shifted_number, shifted_width, width_from};
 
 use crate::state::State;
-use dslx_grammar::kind::{
-    BOTHNAME, FUNNAME, IN, NAME, NUMBER, OUT, STRUCTNAME, TYPENAME, UNSIGNED,
-};
+use base::texts::Name;
 use dslx_narrow_tree::{Direction, Ident, Width};
 use dslx_token::Token;
+use dslx_token::rules::kind::{
+    BOTHNAME, FUNNAME, IN, NAME, NUMBER, OUT, STRUCTNAME, TYPENAME, UNSIGNED,
+};
 use std::alloc::{AllocError, Global};
-use texts::Name;
 use xb_span::Span;
 
 impl State {

@@ -1,4 +1,4 @@
-use texts::Name;
+use base::texts::Name;
 use xb_span::Span;
 
 /// A name where the text has it.

@@ -2,15 +2,15 @@
 use Rattle.std.proofs.Common.{◌≡◌, ℕ, Bool, true, false, List, [], map, Some, None, refl, subst}
 use Rattle.dslx_tree.specs.declared.item.Module.{Module}
 use Rattle.dslx_meaning.specs.Items.{meanings_of}
-use Rattle.dslx_lowering.specs.Functions.{CoreInstance, Instantiated}
-use Rattle.dslx_instance_machine.specs.Machines.{machine_at, needing}
-use Rattle.dslx_instance_machine.specs.Reached.{IsTable}
-use Rattle.dslx_instance_machine.specs.Tasks.{InstanceMachine, OpenBody}
-use Rattle.dslx_instance_machine.proofs.Lemmas.{reached_by_steps, reached_instance, reached_longer, reached_table}
-use Rattle.dslx_instance_progress.proofs.Stops.{in_no_table}
-use Rattle.dslx_instance_run.specs.Runs.{MachineRuns, Ends, Lacks}
-use Rattle.dslx_instance_tasks.specs.Shown.{instance_shown, sight_of}
-use Rattle.dslx_instance_tasks.specs.declared.machine.OpenInstance as code
+use Rattle.dslx_core.specs.Lowering.Functions.{CoreInstance, Instantiated}
+use Rattle.dslx_machines.specs.Machine.Machines.{machine_at, needing}
+use Rattle.dslx_machines.specs.Machine.Reached.{IsTable}
+use Rattle.dslx_machines.specs.Machine.Tasks.{InstanceMachine, OpenBody}
+use Rattle.dslx_machines.proofs.Lemmas.Machine.{reached_by_steps, reached_instance, reached_longer, reached_table}
+use Rattle.dslx_machines.proofs.Lemmas.Progress.Stops.{in_no_table}
+use Rattle.dslx_param.specs.Run.Runs.{MachineRuns, Ends, Lacks}
+use Rattle.dslx_instance.specs.Tasks.Shown.{instance_shown, sight_of}
+use Rattle.dslx_instance.specs.declared.tasks.machine.OpenInstance as code
 use Rattle.dslx_param.specs.Made.{Adds, IsMade, IsNone}
 
 -- the machine ended: its table has the instance

@@ -2,3 +2,5 @@
 mod Adding
 -- expressions of a body
 mod Lowered
+-- the whole run
+pub mod OnRun

@@ -6,24 +6,24 @@ use Rattle.dslx_tree.specs.declared.item.Module.{Module}
 use Rattle.dslx_meaning.specs.Environment.{Given}
 use Rattle.dslx_meaning.specs.Items.{meanings_of}
 use Rattle.dslx_meaning.specs.Lists.{and_then}
-use Rattle.dslx_lowering.specs.Functions.{CoreInstance}
-use Rattle.dslx_lowering.specs.Lowering.{LoweredExpr}
-use Rattle.dslx_lowering.specs.Trees.{expression_lowered}
-use Rattle.dslx_instance_machine.specs.Bodies.{place_in}
-use Rattle.dslx_instance_machine.specs.Machines.{last_made, machine_at}
-use Rattle.dslx_instance_machine.specs.Reached.{GrownFrom, HasEnded, IsTable, at_table, lowering_alone}
-use Rattle.dslx_instance_machine.specs.Tasks.{InstanceMachine, InstanceSight, LowersExpr, OpenBody}
-use Rattle.dslx_instance_machine.proofs.Instances.{MachineStands, begins_itself}
-use Rattle.dslx_instance_machine.proofs.Lemmas.{reached_by_steps, reached_expression, reached_longer, reached_table}
-use Rattle.dslx_instance_machine.proofs.Places.{Spot, does_all, end_of, having, makes, spot_of}
-use Rattle.dslx_typed.proofs.Lemmas.{none_some, same_some}
-use Rattle.dslx_instance_progress.proofs.Stops.{lowered_by_no_table}
-use Rattle.dslx_instance_run.specs.Runs.{MachineRuns, Ends, Lacks}
-use Rattle.dslx_instance_tasks.specs.Shown.{machine_shown, sight_of}
-use Rattle.dslx_instance_tasks.specs.declared.machine.InstanceMachine as code
+use Rattle.dslx_core.specs.Lowering.Functions.{CoreInstance}
+use Rattle.dslx_core.specs.Lowering.Lowering.{LoweredExpr}
+use Rattle.dslx_core.specs.Lowering.Trees.{expression_lowered}
+use Rattle.dslx_machines.specs.Machine.Bodies.{place_in}
+use Rattle.dslx_machines.specs.Machine.Machines.{last_made, machine_at}
+use Rattle.dslx_machines.specs.Machine.Reached.{GrownFrom, HasEnded, IsTable, at_table, lowering_alone}
+use Rattle.dslx_machines.specs.Machine.Tasks.{InstanceMachine, InstanceSight, LowersExpr, OpenBody}
+use Rattle.dslx_machines.proofs.Lemmas.Machine.Instances.{MachineStands, begins_itself}
+use Rattle.dslx_machines.proofs.Lemmas.Machine.{reached_by_steps, reached_expression, reached_longer, reached_table}
+use Rattle.dslx_machines.proofs.Lemmas.Machine.Places.{Spot, does_all, end_of, having, makes, spot_of}
+use Rattle.dslx_typing.proofs.Lemmas.Typed.{none_some, same_some}
+use Rattle.dslx_machines.proofs.Lemmas.Progress.Stops.{lowered_by_no_table}
+use Rattle.dslx_param.specs.Run.Runs.{MachineRuns, Ends, Lacks}
+use Rattle.dslx_instance.specs.Tasks.Shown.{machine_shown, sight_of}
+use Rattle.dslx_instance.specs.declared.tasks.machine.InstanceMachine as code
 use Rattle.dslx_names.specs.Bound.{given}
 use Rattle.dslx_param.specs.Works.{LowersIn, IsLowered, IsNone, taken_from}
-use Rattle.dslx_instance_tasks.specs.declared.work.BodyWork.{BodyWork}
+use Rattle.dslx_instance.specs.declared.tasks.work.BodyWork.{BodyWork}
 
 -- where a root ends that lowers an expression alone: this was made, and what is bound stays
 pub record EndsWith (sight : InstanceSight) (e : Expr) (body : OpenBody) (m : InstanceMachine) : Type 0 where

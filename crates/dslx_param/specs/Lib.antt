@@ -2,3 +2,5 @@
 pub mod Made
 -- expressions of a body
 pub mod Works
+-- the whole run
+pub mod Run

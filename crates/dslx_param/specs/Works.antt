@@ -4,13 +4,13 @@ use Rattle.dslx_tree.specs.declared.expr.Expr.{Expr}
 use Rattle.dslx_tree.specs.declared.item.Module.{Module}
 use Rattle.dslx_meaning.specs.Items.{meanings_of}
 use Rattle.dslx_names.specs.Bound.{given}
-use Rattle.dslx_lowering.specs.Functions.{CoreInstance}
-use Rattle.dslx_lowering.specs.Lowering.{LoweredExpr}
-use Rattle.dslx_lowering.specs.Trees.{expression_lowered}
-use Rattle.dslx_instance_machine.specs.Reached.{GrownFrom, IsTable}
-use Rattle.dslx_instance_tasks.specs.declared.body.OpenBody.{OpenBody}
-use Rattle.dslx_instance_tasks.specs.Works.{work_place}
-use Rattle.dslx_instance_tasks.specs.declared.work.BodyWork.{BodyWork}
+use Rattle.dslx_core.specs.Lowering.Functions.{CoreInstance}
+use Rattle.dslx_core.specs.Lowering.Lowering.{LoweredExpr}
+use Rattle.dslx_core.specs.Lowering.Trees.{expression_lowered}
+use Rattle.dslx_machines.specs.Machine.Reached.{GrownFrom, IsTable}
+use Rattle.dslx_instance.specs.declared.tasks.body.OpenBody.{OpenBody}
+use Rattle.dslx_instance.specs.Tasks.Works.{work_place}
+use Rattle.dslx_instance.specs.declared.tasks.work.BodyWork.{BodyWork}
 
 -- what an expression becomes, with the instances that are made then: it becomes nothing by any table of at most so many instances,
 -- or this by each that begins with theirs, and what is bound stays as it is

@@ -6,6 +6,7 @@
 #![tactic(auto)]
 
 mod made;
+pub mod run;
 mod work;
 
 pub use made::{add_instance, instance};

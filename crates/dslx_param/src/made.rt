@@ -1,17 +1,17 @@
 ghost use Rattle.std.specs.Prelude.{◌≡◌, ◌∷◌, [], IfOk};
 ghost use Rattle.dslx_meaning.specs.Items.{meanings_of};
-ghost use Rattle.dslx_instance_machine.specs.Machines.{needing};
-ghost use Rattle.dslx_instance_machine.specs.Reached.{IsTable};
-ghost use Rattle.dslx_instance_tasks.specs.Shown.{body_shown};
+ghost use Rattle.dslx_machines.specs.Machine.Machines.{needing};
+ghost use Rattle.dslx_machines.specs.Machine.Reached.{IsTable};
+ghost use Rattle.dslx_instance.specs.Tasks.Shown.{body_shown};
 ghost use Rattle.dslx_param.specs.Made.{Adds};
 
-use dslx_instance_run::run;
-use dslx_instance_table::InstanceTable;
-use dslx_instance_tasks::{CallTask, InstanceMachine, LowerTask, OpenBody};
-use dslx_locals::Locals;
-use dslx_lowering::Instantiated;
+use crate::run::run;
+use base::stacks::Stack;
+use dslx_core::lowering::Instantiated;
+use dslx_instance::table::InstanceTable;
+use dslx_instance::tasks::{CallTask, InstanceMachine, LowerTask, OpenBody};
+use dslx_scope::locals::Locals;
 use dslx_tree::Module;
-use stacks::Stack;
 use std::alloc::{AllocError, Global};
 
 /// The instances that one of a function needs, and that one; `None` where no table of at most so many instances has it.

@@ -2,15 +2,15 @@
 
 ghost use Rattle.std.specs.Prelude.{◌≡◌, IfOk};
 ghost use Rattle.dslx_meaning.specs.Items.{meanings_of};
-ghost use Rattle.dslx_instance_machine.specs.Reached.{IsTable};
+ghost use Rattle.dslx_machines.specs.Machine.Reached.{IsTable};
 ghost use Rattle.dslx_param.specs.Works.{LowersIn, taken_from};
 
-use dslx_instance_run::run;
-use dslx_instance_table::InstanceTable;
-use dslx_instance_tasks::{BodyWork, InstanceMachine, LowerTask, OpenBody};
-use dslx_lowering::LoweredExpr;
+use crate::run::run;
+use base::stacks::Stack;
+use dslx_core::lowering::LoweredExpr;
+use dslx_instance::table::InstanceTable;
+use dslx_instance::tasks::{BodyWork, InstanceMachine, LowerTask, OpenBody};
 use dslx_tree::{Expr, Module};
-use stacks::Stack;
 use std::alloc::{AllocError, Global};
 
 /// What an expression becomes, with the instances that it needs; `None` only where it becomes nothing by any table of at most so many

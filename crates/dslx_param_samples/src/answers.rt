@@ -1,14 +1,14 @@
 //! What instances of texts' functions come to.
 
-use dslx_eval::value_of;
-use dslx_instance_table::InstanceTable;
-use dslx_lowering::Instantiated;
+use base::texts::Name;
+use dslx_core::lowering::Instantiated;
+use dslx_instance::table::InstanceTable;
+use dslx_interp::eval::value_of;
 use dslx_param::instance;
 use dslx_parser::read;
 use dslx_tree::{Definition, Module};
 use std::alloc::{AllocError, Global};
 use std::test::Fail;
-use texts::Name;
 use xb_bits::Bits;
 use xb_value::{Seq, Value};
 

@@ -3,8 +3,8 @@ use Rattle.std.proofs.Common.{◌≡◌, ◌∙◌, ℕ, List, ap, sym, subst}
 use Rattle.std.specs.Prelude.{Result, Ok, Err, Some, slice_get}
 use Rattle.grammar.specs.Derivation.{IsSentence}
 use Rattle.grammar.specs.Tree.{productions_of}
-use Rattle.lists.proofs.Lemmas.Faults.{IsFirstFault-unique}
-use Rattle.dslx_grammar.specs.Dslx.{dslx}
+use Rattle.base.proofs.Lemmas.Lists.Faults.{IsFirstFault-unique}
+use Rattle.dslx_token.specs.Rules.Dslx.{dslx}
 use Rattle.dslx_token.specs.Lexeme.{Lexeme}
 use Rattle.dslx_token.specs.Tokens.{IsFirstOdd, Tokens}
 use Rattle.dslx_tree.specs.declared.item.Module.{Module}

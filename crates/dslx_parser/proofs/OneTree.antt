@@ -7,19 +7,19 @@ use Rattle.grammar.specs.Steps.{steps_of}
 use Rattle.grammar.specs.declared.bottom_up.Step.{Step}
 use Rattle.grammar.specs.Syntax.{Rule}
 use Rattle.grammar.specs.Tree.{Forest, Grows, IsParseTree, leaves_of, productions_of}
-use Rattle.dslx_grammar.specs.Dslx.{dslx}
+use Rattle.dslx_token.specs.Rules.Dslx.{dslx}
 use Rattle.dslx_tree.specs.declared.item.Module.{Module}
 use Rattle.dslx_token.specs.Lexeme.{Lexeme}
 use Rattle.xb_span.specs.declared.read_error.ReadError.{ReadError}
 use Rattle.xb_span.specs.declared.read_error.ReadError.TheVariants.{Syntax, Broken, Over, OutOfMemory}
-use Rattle.dslx_builder.specs.Building.{built, module_of}
-use Rattle.dslx_syntax.specs.Trees.{IsTextOf}
-use Rattle.dslx_parts.specs.Empty.{empty}
+use Rattle.dslx_parser.specs.Builder.Building.{built, module_of}
+use Rattle.dslx_parser.specs.Syntax.Trees.{IsTextOf}
+use Rattle.dslx_actions.specs.Empty.{empty}
 use Rattle.dslx_parser.specs.Reads.{HasDeep, deep_in_text, deep_before_fault, FaultsAt, IsRefusal, HasFaultAt, HasTooDeep, NestsWithin, Reads, before, kinds_of}
-use Rattle.dslx_roles.specs.Roles.{roles_of}
-use Rattle.dslx_nesting.specs.Nesting.{first_past}
+use Rattle.dslx_token.specs.Roles.Roles.{roles_of}
+use Rattle.xb_span.specs.Nesting.Nesting.{first_past}
 use Rattle.xb_span.specs.declared.limit.What.TheVariants.{Nesting}
-use Rattle.lists.proofs.Lemmas.Faults.{IsFirstFault-unique}
+use Rattle.base.proofs.Lemmas.Lists.Faults.{IsFirstFault-unique}
 
 -- what the laws of grammars say
 pub record TheLaws : Type 0 where

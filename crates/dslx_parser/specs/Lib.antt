@@ -1,2 +1,10 @@
 -- which tokens read as which tree, and how others are refused
 pub mod Reads
+-- the builder
+pub mod Builder
+-- the depth of trees
+pub mod Depths
+-- the spans of trees
+pub mod Spans
+-- what each rule makes
+pub mod Syntax

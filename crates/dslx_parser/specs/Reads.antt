@@ -1,10 +1,10 @@
 -- Which tokens read as which tree, and how the others are refused.
 use Rattle.std.specs.Prelude.{◌≡◌, ◌⊎◌, ℕ, List, map, take, None, Some, Result, Ok, Err, slice_get}
 use Rattle.grammar.specs.Derivation.{IsBeginning, IsDerivation, IsSentence}
-use Rattle.lists.specs.Fault.{IsFirstFault}
-use Rattle.dslx_nesting.specs.Nesting.{first_past}
-use Rattle.dslx_grammar.specs.Dslx.{dslx}
-use Rattle.dslx_roles.specs.Roles.{roles_of}
+use Rattle.base.specs.Lists.Fault.{IsFirstFault}
+use Rattle.xb_span.specs.Nesting.Nesting.{first_past}
+use Rattle.dslx_token.specs.Rules.Dslx.{dslx}
+use Rattle.dslx_token.specs.Roles.Roles.{roles_of}
 use Rattle.dslx_tree.specs.declared.item.Module.{Module}
 use Rattle.dslx_token.specs.Lexeme.{Lexeme}
 use Rattle.dslx_token.specs.Refusal as token_refusal
@@ -13,7 +13,7 @@ use Rattle.xb_span.specs.declared.limit.Limit.{Limit}
 use Rattle.xb_span.specs.declared.limit.What.TheVariants.{Nesting}
 use Rattle.xb_span.specs.declared.read_error.ReadError.{ReadError}
 use Rattle.xb_span.specs.declared.read_error.ReadError.TheVariants.{Syntax, Broken, Over, OutOfMemory}
-use Rattle.dslx_syntax.specs.Trees.{IsTextOf}
+use Rattle.dslx_parser.specs.Syntax.Trees.{IsTextOf}
 
 abbrev pub kinds_of : List Lexeme → List ℕ
 kinds_of ls = map (λ l. l.kind) ls

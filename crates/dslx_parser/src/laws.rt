@@ -11,8 +11,8 @@ pub fn one_reading()
     ensures of_tokens { (ls : List Lexeme) (a b : Result Module ReadError) → TokensGive ls a → TokensGive ls b → a ≡ b }
     ensures of_texts { (text : List ℕ) (a b : Result Module ReadError) → TextGives text a → TextGives text b → a ≡ b }
 {
-    dslx_grammar::one_derivation();
-    dslx_built::built_is_made();
+    dslx_token::rules::one_derivation();
+    crate::built::built_is_made();
     grammar::one_tree();
     dslx_token::one_reading();
 }

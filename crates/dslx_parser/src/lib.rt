@@ -4,8 +4,13 @@
 //! limit; [`read`] cuts a text into its tokens before.
 #![tactic(auto)]
 
+pub mod builder;
+pub mod built;
+pub mod depths;
 mod laws;
 mod reader;
+pub mod spans;
+pub mod syntax;
 mod text;
 
 pub use laws::one_reading;

@@ -3,22 +3,22 @@
 ghost use Rattle.std.specs.Prelude.{◌≡◌, ◌<◌, None, Some, length, slice_get, take, IfErr, IfOk, IfSome, MatchResult};
 ghost use Rattle.grammar.specs.Answer.{EndsWith};
 ghost use Rattle.grammar.specs.Derivation.{IsBeginning, IsDerivation, IsSentence};
-ghost use Rattle.lists.specs.Fault.{IsFirstFault};
-ghost use Rattle.dslx_nesting.specs.Nesting.{first_past};
-ghost use Rattle.dslx_grammar.specs.Dslx.{dslx};
-ghost use Rattle.dslx_roles.specs.Roles.{roles_of};
+ghost use Rattle.base.specs.Lists.Fault.{IsFirstFault};
+ghost use Rattle.xb_span.specs.Nesting.Nesting.{first_past};
+ghost use Rattle.dslx_token.specs.Rules.Dslx.{dslx};
+ghost use Rattle.dslx_token.specs.Roles.Roles.{roles_of};
 ghost use Rattle.dslx_tree.specs.declared.item.Module.{Module};
 ghost use Rattle.dslx_parser.specs.Reads.{IsRefusal, NestsWithin, Reads, kinds_of};
 ghost use Rattle.xb_span.specs.declared.read_error.ReadError.TheVariants.{OutOfMemory};
 
-use dslx_builder::build;
-use dslx_grammar::kind::END;
-use dslx_nesting::first_over;
-use dslx_roles::roles;
+use crate::builder::build;
 use dslx_token::Token;
+use dslx_token::roles::roles;
+use dslx_token::rules::kind::END;
 use dslx_tree::Module;
 use grammar::ParseError;
 use std::alloc::{AllocError, Global};
+use xb_span::nesting::first_over;
 use xb_span::{Limit, ReadError, What};
 
 /// The tree of the tokens of a text, which end with the mark at its end.
@@ -39,8 +39,8 @@ pub fn parse(alloc: Global, tokens: &[Token]) -> Result<Module, ReadError>
     // A refusal names the first token with which no text goes on, or a limit that an earlier one passes.
     ensures refused { IfErr result (λ e. IsRefusal tokens.now e) }
 {
-    dslx_grammar::one_derivation();
-    dslx_built::built_is_made();
+    dslx_token::rules::one_derivation();
+    crate::built::built_is_made();
     grammar::one_tree();
     read_tokens(alloc, tokens)
 }
@@ -64,7 +64,7 @@ fn judged(alloc: Global, tokens: &[Token], kinds: &[u8]) -> Result<Module, ReadE
     ensures within { IfOk result (λ _. NestsWithin tokens.now) }
     ensures refused { IfErr result (λ e. IsRefusal tokens.now e) }
 {
-    match dslx_grammar::parse(alloc, kinds) {
+    match dslx_token::rules::parse(alloc, kinds) {
         Ok(productions) => sentence(alloc, tokens, kinds, &productions),
         Err(ParseError::OutOfMemory) => Err(ReadError::OutOfMemory),
         Err(ParseError::Fault(fault)) => Err(refusal(
@@ -129,9 +129,9 @@ fn tree(
     requires derived { IsDerivation dslx productions.now kinds.now }
     ensures { IfOk result (λ m. Reads tokens.now m) }
 {
-    dslx_built::built_is_made();
+    crate::built::built_is_made();
     grammar::one_tree();
-    let steps = dslx_grammar::steps(alloc, productions)?;
+    let steps = dslx_token::rules::steps(alloc, productions)?;
     build(alloc, &steps, tokens)
 }
 
@@ -142,7 +142,7 @@ fn nests_within(tokens: &[Token], kinds: &[u8], productions: &[u16])
     requires none { None ≡ first_past (roles_of productions.now kinds.now) }
     ensures { NestsWithin tokens.now }
 {
-    dslx_grammar::one_derivation();
+    dslx_token::rules::one_derivation();
 }
 
 /// The refusal of tokens that are derived, with one that is nested too deep.
@@ -235,7 +235,7 @@ fn nests_within_before(
     requires none { None ≡ first_past (roles_of productions.now front.now) }
     ensures { NestsWithin tokens.now }
 {
-    dslx_grammar::one_beginning();
+    dslx_token::rules::one_beginning();
 }
 
 /// The refusal of tokens with one before the fault that is nested too deep.

@@ -1,7 +1,7 @@
 //! What an instance of a proc does in an activation, worked step by step by the meaning of steps.
 
 use dslx_core::{CoreExpr, Function, Instance, Receive, Send, Shape, Step};
-use dslx_eval::value_of;
+use dslx_interp::eval::value_of;
 use std::alloc::{AllocError, Global};
 use std::test::Fail;
 use xb_bits::Bits;

@@ -2,7 +2,7 @@
 
 use crate::activation::activation;
 use crate::made::{instances, last_instance};
-use dslx_proc_instances::MadeInstances;
+use dslx_elab::MadeInstances;
 use std::alloc::Global;
 use std::test::Fail;
 

@@ -1,21 +1,21 @@
 //! The instances of a text's procs without number parameters, in the order of the text.
 
 ghost use Rattle.std.specs.Prelude.{IfOk};
-ghost use Rattle.dslx_instance_machine.specs.Reached.{IsTable};
+ghost use Rattle.dslx_machines.specs.Machine.Reached.{IsTable};
 ghost use Rattle.dslx_meaning.specs.Items.{meanings_of};
-ghost use Rattle.dslx_proc_instances.specs.Adding.{KeepsTable};
+ghost use Rattle.dslx_elab.specs.Adding.{KeepsTable};
 
+use base::texts::Name;
 use dslx_core::Instance;
-use dslx_instance_table::InstanceTable;
-use dslx_lowering::Instantiated;
+use dslx_core::lowering::Instantiated;
+use dslx_core::networks::ProcInstance;
+use dslx_elab::{MadeInstances, add_proc};
+use dslx_instance::table::InstanceTable;
 use dslx_meaning::DslxValue;
-use dslx_networks::ProcInstance;
 use dslx_parser::read;
-use dslx_proc_instances::{MadeInstances, add_proc};
 use dslx_tree::{Definition, Item, Module, Proc};
 use std::alloc::{AllocError, Global};
 use std::test::Fail;
-use texts::Name;
 use xb_bits::Bits;
 use xb_value::Seq;
 

@@ -1,10 +1,10 @@
 //! What instances of procs make and spawn.
 
 use crate::made::{instances, last_instance};
+use base::texts::push_decimal;
 use dslx_core::{Child, Instance, MadeChannel};
 use std::alloc::{AllocError, Global};
 use std::test::Fail;
-use texts::push_decimal;
 
 /// Behind each text: the name and the depth of each channel that the last proc makes, the number of the instance that it spawns with the
 /// ends that it gives, the ends of its members, and how many ends it is given. A number parameter is 3.

@@ -1,6 +1,6 @@
-use dslx_nesting::{Role, first_over};
 use std::alloc::Global;
 use std::test::Fail;
+use xb_span::nesting::{Role, first_over};
 
 /// The place of the first token past the limit, of so many tokens of one role, with others before and behind them.
 fn place_of(alloc: Global, before: Role, count: usize, role: Role) -> Result<Option<usize>, Fail> {

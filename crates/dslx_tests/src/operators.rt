@@ -1,4 +1,4 @@
-use dslx_operators::{Link, Operand, tree};
+use dslx_tree::operators::{Link, Operand, tree};
 use dslx_tree::{Binary, Expr, Node, Number};
 use std::alloc::{AllocError, Global};
 use std::test::Fail;

@@ -1,6 +1,6 @@
 //! A text whose tokens were worked by hand, and texts that are refused.
 
-use dslx_grammar::kind::{
+use dslx_token::rules::kind::{
     ARGS, END, FN, FUNNAME, LPAREN, NAME, NUMBER, PATH, TYPE, TYPENAME, UNSIGNED,
 };
 use dslx_token::tokens;
@@ -26,7 +26,7 @@ fn numbers_and_widths_are_read(rt: HostRuntime) -> Result<(), Fail> {
     let found = tokens(rt.alloc(), " s128 0b1_01")?;
     assert_eq!(rt; found.len(), 3);
     let (width, number) = (&found[0], &found[1]);
-    assert!(rt; width.kind() == dslx_grammar::kind::SIGNED);
+    assert!(rt; width.kind() == dslx_token::rules::kind::SIGNED);
     assert!(rt; number.kind() == NUMBER);
     assert_eq!(rt; width.width(), 128);
     assert_eq!(rt; number.value(), 5);

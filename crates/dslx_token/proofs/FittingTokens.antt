@@ -9,8 +9,8 @@ use Rattle.std.proofs.lemmas.Slice.Eq.{bytes_eq-Decides}
 use Rattle.std.proofs.lemmas.Bool.Decides.{nat_tests}
 use Rattle.std.proofs.lemmas.Str.{IsAscii-append}
 use Rattle.std.proofs.lemmas.Str.Ascii.{IsAscii-cons}
-use Rattle.dslx_grammar.specs.declared.generated.kind.TheConstants.{END, NAME, NUMBER, SIGNED, STRING, UNSIGNED}
-use Rattle.texts.specs.Words.{begins_word, is_word_byte}
+use Rattle.dslx_token.specs.declared.rules.generated.kind.TheConstants.{END, NAME, NUMBER, SIGNED, STRING, UNSIGNED}
+use Rattle.base.specs.Texts.Words.{begins_word, is_word_byte}
 use Rattle.dslx_token.specs.Characters.{is_binary_digit}
 use Rattle.dslx_token.specs.Kinds.{Fits, plain_kind, word_kind}
 use Rattle.dslx_token.specs.Lexical.{has_prefix, is_binary, is_decimal, is_grouped, is_hexadecimal, is_mark, is_number, is_sized, is_width, number_value, IsToken}

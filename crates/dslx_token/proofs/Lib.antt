@@ -6,3 +6,5 @@ mod NameSets
 mod OneReading
 mod TokenBytes
 mod TokensSoFar
+-- brackets
+pub mod OnRoles

@@ -12,7 +12,7 @@ use Rattle.std.specs.List.{list_all, list_any, prefix_len, starts_with}
 use Rattle.std.specs.Bool.{nat_eq}
 use Rattle.std.specs.Option.{SomeIff, is_some}
 use Rattle.std.specs.Char.{is_ascii_alphabetic, is_ascii_digit, is_ascii_hexdigit}
-use Rattle.texts.specs.Words.{begins_word, is_word_byte, is_word}
+use Rattle.base.specs.Texts.Words.{begins_word, is_word_byte, is_word}
 use Rattle.dslx_token.specs.Characters.{is_binary_digit}
 use Rattle.dslx_token.specs.Inner.Fronts.{goes_on_decimal, goes_on_hexadecimal, goes_on_binary, HasPrefix, IsFrontLen, IsTokenLen, HasNoFront, first_front}
 use Rattle.dslx_token.specs.Lexical.{is_decimal, is_hexadecimal, is_binary, is_number, number_value, is_mark, IsToken}

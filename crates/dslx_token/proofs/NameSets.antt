@@ -2,7 +2,7 @@
 use Rattle.std.proofs.Common.{◌≡◌, ◌<◌, ◌≤◌, ◌+◌, ℕ, suc, Bool, true, false, ◌||◌, ◌&&◌, cond, List, ◌∷◌, drop, length, get_or, refl, ap, sym, ◌∙◌, add-one, bytes_eq}
 use Rattle.std.proofs.Math.Seq.{drop-cons}
 use Rattle.std.proofs.Math.ListN.{drop_of_length-le}
-use Rattle.dslx_grammar.specs.declared.generated.kind.TheConstants.{END}
+use Rattle.dslx_token.specs.declared.rules.generated.kind.TheConstants.{END}
 use Rattle.dslx_token.specs.Kinds.{declares}
 use Rattle.dslx_token.specs.Lexeme.{Lexeme}
 

@@ -5,7 +5,7 @@ use Rattle.std.specs.Prelude.{Result, Ok, Err, IfErr, IfOk, IsErrAnd, MatchResul
 use Rattle.xb_span.specs.declared.read_error.ReadError.{ReadError}
 use Rattle.xb_span.specs.declared.read_error.ReadError.TheVariants.{Syntax, Broken, Over, OutOfMemory}
 use Rattle.dslx_token.specs.Refusal.{IsRefusal}
-use Rattle.dslx_grammar.specs.declared.generated.kind.TheConstants.{END}
+use Rattle.dslx_token.specs.declared.rules.generated.kind.TheConstants.{END}
 use Rattle.std.specs.HashSet.{HashSet}
 use denote.Ref.{Bor}
 use Rattle.dslx_token.specs.Inner.Names.{AreDeclared, has_name, kind_by}

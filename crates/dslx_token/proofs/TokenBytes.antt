@@ -6,7 +6,7 @@ use Rattle.std.proofs.lemmas.Slice.Eq.{bytes_eq-Decides}
 use Rattle.std.specs.Prelude.{codes, bytes_eq, slice_index, not, if◌then◌else◌}
 use Rattle.std.specs.List.{list_all, list_any}
 use Rattle.std.specs.Char.{is_ascii_digit, is_ascii_hexdigit}
-use Rattle.texts.specs.Words.{begins_word, is_word_byte, is_word}
+use Rattle.base.specs.Texts.Words.{begins_word, is_word_byte, is_word}
 use Rattle.dslx_token.specs.Characters.{is_binary_digit}
 use Rattle.dslx_token.specs.Lexical.{is_grouped, has_prefix, is_decimal, is_hexadecimal, is_binary, is_number, is_mark, IsString, IsToken}
 use Rattle.dslx_token.specs.Spelling.{Spelling, marks, kind_among}

@@ -3,8 +3,8 @@
 use Rattle.std.specs.Prelude.{◌==◌, ◌&&◌, ◌||◌, ◌<◌, ◌^◌, ◌≡◌, ℕ, Bool, true, false, if◌then◌else◌, List, [], ◌∷◌, bytes_eq, drop}
 use Rattle.std.specs.Str.{IsAscii}
 use Rattle.std.specs.Char.{is_ascii_digit}
-use Rattle.dslx_grammar.specs.declared.generated.kind.TheConstants.{ARGS, ARROW, AS, BOTHNAME, DOT, END, FIELDS, FN, FUNNAME, LBRACE, LT, NAME, NUMBER, PATH, PROC, SIGNED, STRING, STRUCT, STRUCTNAME, TYPE, TYPENAME, UNSIGNED}
-use Rattle.texts.specs.Words.{begins_word}
+use Rattle.dslx_token.specs.declared.rules.generated.kind.TheConstants.{ARGS, ARROW, AS, BOTHNAME, DOT, END, FIELDS, FN, FUNNAME, LBRACE, LT, NAME, NUMBER, PATH, PROC, SIGNED, STRING, STRUCT, STRUCTNAME, TYPE, TYPENAME, UNSIGNED}
+use Rattle.base.specs.Texts.Words.{begins_word}
 use Rattle.dslx_token.specs.Lexeme.{Lexeme}
 use Rattle.dslx_token.specs.Lexical.{is_sized, is_width, number_value}
 use Rattle.dslx_token.specs.Spelling.{keywords, marks, kind_among}

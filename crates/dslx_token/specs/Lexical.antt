@@ -3,7 +3,7 @@ use Rattle.std.specs.Prelude.{◌≡◌, ◌==◌, ◌&&◌, ◌||◌, ℕ, Bool
 use Rattle.std.specs.List.{list_all, list_any}
 use Rattle.std.specs.Char.{is_ascii_digit, is_ascii_hexdigit}
 use Rattle.std.specs.Str.Parse.{digits_value}
-use Rattle.texts.specs.Words.{is_word}
+use Rattle.base.specs.Texts.Words.{is_word}
 use Rattle.dslx_token.specs.Characters.{is_binary_digit}
 use Rattle.dslx_token.specs.Spelling.{marks}
 

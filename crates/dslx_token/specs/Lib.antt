@@ -16,3 +16,7 @@ pub mod Spelling
 pub mod Tokens
 -- contracts of this crate's private functions
 pub mod Inner
+-- brackets
+pub mod Roles
+-- rules
+pub mod Rules

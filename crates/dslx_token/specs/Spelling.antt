@@ -1,6 +1,6 @@
 -- The words and marks that have a kind of their own.
 use Rattle.std.specs.Prelude.{ℕ, List, [], ◌∷◌, codes, bytes_eq, if◌then◌else◌}
-use Rattle.dslx_grammar.specs.declared.generated.kind.TheConstants.{AMP, ANDAND, ARROW, AS, ASSIGN, BANG, BOOL, CARET, CHAN, COLON, COMMA, CONCAT, CONFIG, CONST, DARROW, DOT, DOTS, ELSE, ENUM, EQ, FALSE, FN, FOR, GE, GT, IF, IN, INIT, LBRACE, LBRACKET, LE, LET, LPAREN, LT, MATCH, MINUS, NE, NEXT, OROR, OUT, PATH, PERCENT, PIPE, PLUS, PLUSCOLON, PROC, PUB, RBRACE, RBRACKET, REST, RPAREN, SEMI, SHL, SHR, SLASH, SPAWN, STAR, STRUCT, TRUE, TYPE, WIDE, WILD}
+use Rattle.dslx_token.specs.declared.rules.generated.kind.TheConstants.{AMP, ANDAND, ARROW, AS, ASSIGN, BANG, BOOL, CARET, CHAN, COLON, COMMA, CONCAT, CONFIG, CONST, DARROW, DOT, DOTS, ELSE, ENUM, EQ, FALSE, FN, FOR, GE, GT, IF, IN, INIT, LBRACE, LBRACKET, LE, LET, LPAREN, LT, MATCH, MINUS, NE, NEXT, OROR, OUT, PATH, PERCENT, PIPE, PLUS, PLUSCOLON, PROC, PUB, RBRACE, RBRACKET, REST, RPAREN, SEMI, SHL, SHR, SLASH, SPAWN, STAR, STRUCT, TRUE, TYPE, WIDE, WILD}
 
 -- how a token is spelled, and its kind
 abbrev pub Spelling : Type 0

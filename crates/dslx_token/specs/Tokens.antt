@@ -1,7 +1,7 @@
 -- The tokens of a DSLX text: the longest ones, each with its kind and its place.
 use Rattle.std.specs.Prelude.{◌≡◌, ◌≢◌, ◌+◌, ◌-◌, ◌<◌, ◌^◌, ℕ, true, false, List, [], ◌∷◌, ◌++◌, length, slice_index}
 use Rattle.std.specs.Char.{is_ascii_alphabetic}
-use Rattle.dslx_grammar.specs.declared.generated.kind.TheConstants.{END}
+use Rattle.dslx_token.specs.declared.rules.generated.kind.TheConstants.{END}
 use Rattle.dslx_token.specs.Blank.{after_blank}
 use Rattle.dslx_token.specs.Kinds.{name_kind, plain_kind, settled}
 use Rattle.dslx_token.specs.Lexeme.{Lexeme}

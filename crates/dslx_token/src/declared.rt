@@ -4,11 +4,11 @@ ghost use Rattle.std.specs.Prelude.{◌≡◌, ◌||◌, ℕ, List, bytes_eq, If
 ghost use Rattle.dslx_token.specs.Inner.Names.{AreDeclared, IsNoted, has_name, kind_by};
 ghost use Rattle.dslx_token.specs.Kinds.{heads_callable, heads_struct, heads_type, kind_behind};
 
-use crate::token::Token;
-use dslx_grammar::kind::{
+use crate::rules::kind::{
     ARGS, ARROW, AS, BOTHNAME, DOT, END, FIELDS, FN, FUNNAME, LBRACE, LT, NAME, PATH, PROC, STRUCT,
     STRUCTNAME, TYPE, TYPENAME,
 };
+use crate::token::Token;
 use std::alloc::{AllocError, Global};
 use std::collections::HashSet;
 

@@ -11,8 +11,8 @@ ghost use Rattle.xb_span.specs.declared.read_error.ReadError.TheVariants.{OutOfM
 
 use crate::declared::Declared;
 use crate::lexer::plain_tokens;
+use crate::rules::kind::END;
 use crate::token::Token;
-use dslx_grammar::kind::END;
 use std::alloc::{AllocError, Global};
 use xb_span::ReadError;
 

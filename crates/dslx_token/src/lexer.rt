@@ -12,8 +12,8 @@ use crate::number::{number_len, number_value};
 use crate::spelling::first_mark;
 use crate::token::Token;
 use crate::word::word_len;
+use base::texts::begins_word;
 use std::alloc::Global;
-use texts::begins_word;
 use xb_span::ReadError;
 
 /// The tokens of a text, each with the kind that it has by itself, and the mark at the text's end.

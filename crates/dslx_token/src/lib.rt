@@ -1,7 +1,7 @@
 //! The tokens of a DSLX text.
 //!
 //! [`tokens`] cuts a text into its longest tokens. Each [`Token`] has its place, its bytes and a kind of
-//! `dslx_grammar::kind`, which for a name says what the text declares under it.
+//! `crate::rules::kind`, which for a name says what the text declares under it.
 //!
 //! Cost: linear in the text's length.
 #![tactic(auto)]
@@ -13,6 +13,8 @@ mod kinds;
 mod laws;
 mod lexer;
 mod number;
+pub mod roles;
+pub mod rules;
 mod spelling;
 mod token;
 mod word;

@@ -4,7 +4,7 @@ ghost use Rattle.std.specs.Prelude.{◌≡◌, map};
 ghost use Rattle.dslx_token.specs.Inner.Fronts.{first_front, spelling_of};
 ghost use Rattle.dslx_token.specs.Spelling.{keywords, kind_among, marks};
 
-use dslx_grammar::kind::{
+use crate::rules::kind::{
     AMP, ANDAND, ARROW, AS, ASSIGN, BANG, BOOL, CARET, CHAN, COLON, COMMA, CONCAT, CONFIG, CONST,
     DARROW, DOT, DOTS, ELSE, END, ENUM, EQ, FALSE, FN, FOR, GE, GT, IF, IN, INIT, LBRACE, LBRACKET,
     LE, LET, LPAREN, LT, MATCH, MINUS, NAME, NE, NEXT, OROR, OUT, PATH, PERCENT, PIPE, PLUS,

@@ -6,8 +6,8 @@ ghost use Rattle.dslx_token.specs.Lexical.{is_width, number_value, width_of};
 ghost use Rattle.dslx_token.specs.Tokens.{lexeme_at};
 
 use crate::number::{grouped_value, number_value};
+use crate::rules::kind::{NUMBER, SIGNED, UNSIGNED};
 use crate::word::plain_kind;
-use dslx_grammar::kind::{NUMBER, SIGNED, UNSIGNED};
 use std::marker::Model;
 use xb_span::Span;
 
@@ -57,7 +57,7 @@ impl<'a> Token<'a> {
         self.kind = kind;
     }
 
-    /// Its kind, one of `dslx_grammar::kind`.
+    /// Its kind, one of `crate::rules::kind`.
     pub fn kind(&self) -> u8
         ensures kind { result ≡ self.now.kind }
         ensures fits { Fits self.now.kind self.now.bytes }

@@ -4,14 +4,14 @@ ghost use Rattle.std.specs.Prelude.{◌≡◌, ◌&&◌, nat_le, true};
 ghost use Rattle.std.specs.Char.{is_ascii_digit};
 ghost use Rattle.std.specs.List.{list_all, prefix_len};
 ghost use Rattle.std.specs.Str.Parse.{digits_value};
-ghost use Rattle.texts.specs.Words.{is_word_byte};
+ghost use Rattle.base.specs.Texts.Words.{is_word_byte};
 ghost use Rattle.dslx_token.specs.Kinds.{plain_kind, word_kind};
 ghost use Rattle.dslx_token.specs.Lexical.{is_sized, is_width};
 
 use crate::number::grouped_value;
+use crate::rules::kind::{END, NUMBER, SIGNED, STRING, UNSIGNED};
 use crate::spelling::{keyword_kind, mark_kind};
-use dslx_grammar::kind::{END, NUMBER, SIGNED, STRING, UNSIGNED};
-use texts::{begins_word, is_word_byte};
+use base::texts::{begins_word, is_word_byte};
 
 /// How many bytes from the front on are letters, digits or `_`.
 pub fn word_len(text: &[u8]) -> usize

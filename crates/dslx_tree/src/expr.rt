@@ -3,7 +3,7 @@ use crate::ident::Ident;
 use crate::operator::{Binary, Prefix};
 use crate::pattern::Pattern;
 use crate::type_expr::TypeExpr;
-use texts::Name;
+use base::texts::Name;
 use xb_span::Span;
 use xb_value::{Boxed, Seq};
 

@@ -6,10 +6,13 @@
 #![tactic(auto)]
 
 mod block;
+pub mod chains;
 mod expr;
+pub mod folds;
 mod ident;
 mod item;
 mod operator;
+pub mod operators;
 mod pattern;
 mod process;
 mod type_expr;

@@ -1,6 +1,6 @@
 use crate::expr::Number;
 use crate::ident::Ident;
-use texts::Name;
+use base::texts::Name;
 use xb_span::Span;
 use xb_value::Seq;
 

@@ -1,5 +1,5 @@
 use crate::expr::Expr;
-use texts::Name;
+use base::texts::Name;
 use xb_span::Span;
 use xb_value::{Boxed, Seq};
 

@@ -2,7 +2,7 @@
 
 use crate::shared::{Kept, bits, bytes, elements, held, is_bits, is_value};
 use dslx_meaning::DslxValue;
-use dslx_value_operators::{element_value, index_value, updated};
+use dslx_values::operators::{element_value, index_value, updated};
 use dslx_values::{filled, same_value};
 use std::test::Fail;
 use xb_value::Seq;

@@ -2,8 +2,8 @@
 
 use crate::shared::{Kept, bit_type, held, is_bits};
 use dslx_meaning::Bare;
-use dslx_value_operators::{index_number, number_value, truth, turns};
 use dslx_values::bits_of;
+use dslx_values::operators::{index_number, number_value, truth, turns};
 
 #[test]
 fn numbers_lie_in_the_range_of_their_type(rt: HostRuntime) {

@@ -3,7 +3,7 @@
 use crate::shared::{Kept, bit_type, bits, held, is_bits};
 use dslx_meaning::DslxValue;
 use dslx_tree::{Binary, Prefix};
-use dslx_value_operators::{
+use dslx_values::operators::{
     OddWidth, all_ones, binary_value, cast_value, count_leading, count_trailing, parity,
     part_value, prefix_value, reversed, slice_value, some_one,
 };

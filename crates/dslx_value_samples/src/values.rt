@@ -1,12 +1,12 @@
 //! Values and types themselves.
 
 use crate::shared::{Kept, bit_type, bits, bytes, held, is_bits};
+use base::texts::Name;
 use dslx_meaning::{DslxType, DslxValue};
 use dslx_values::{copy_value, enum_member, field_of, same_type, same_value, type_of_value};
 use std::alloc::{AllocError, Global};
 use std::process::Abort;
 use std::test::Fail;
-use texts::Name;
 use xb_value::{Boxed, Seq};
 
 fn name(alloc: Global, text: &str) -> Result<Name, AllocError> {

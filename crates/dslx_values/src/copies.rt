@@ -2,9 +2,9 @@
 
 ghost use Rattle.std.specs.Prelude.{◌≡◌, IfOk};
 
+use base::texts::Name;
 use dslx_meaning::{DslxType, DslxValue};
 use std::alloc::{AllocError, Global};
-use texts::Name;
 use xb_value::{Boxed, Seq};
 
 /// A copy of a name.

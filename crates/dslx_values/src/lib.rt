@@ -5,6 +5,8 @@
 
 mod copies;
 mod fill;
+pub mod inference;
+pub mod operators;
 mod parts;
 mod same;
 mod types;

@@ -8,9 +8,9 @@ ghost use Rattle.dslx_meaning.specs.Meaning.{field_of as the_field};
 ghost use Rattle.dslx_meaning.specs.Items.{enum_member as the_member};
 
 use crate::copies::copy_value;
+use base::texts::Name;
 use dslx_meaning::{DslxValue, SignedWord};
 use std::alloc::{AllocError, Global};
-use texts::Name;
 use xb_bits::Bits;
 use xb_value::Seq;
 

@@ -9,7 +9,7 @@ use Rattle.grammar.specs.declared.table.Symbol.TheVariants.{Terminal, Nontermina
 use Rattle.grammar.specs.declared.table.Grammar.{Grammar}
 use Rattle.grammar.specs.Syntax.{rules_of, syntax_of}
 use Rattle.grammar.specs.Derivation.{IsRule, Derives, ReadsTo, start_of, IsDerivation, IsSentence, BeginsWith}
-use Rattle.lists.specs.Fault.{Begins, IsFirstFault}
+use Rattle.base.specs.Lists.Fault.{Begins, IsFirstFault}
 use Rattle.grammar.specs.Inner.Reading.{IsLeft, ReadsOne, ReadsNone}
 use Rattle.grammar.specs.Derivation.Derives.{done}
 use Rattle.grammar.specs.Derivation.ReadsTo.{stop, read}

@@ -4,7 +4,7 @@ ghost use Rattle.std.specs.Prelude.{◌≡◌, ℕ, ◌<◌, List, [], ◌∷◌
 ghost use Rattle.std.specs.Bool.{OnTrue, OnFalse};
 ghost use Rattle.grammar.specs.Syntax.{rules_of, syntax_of};
 ghost use Rattle.grammar.specs.Derivation.{IsDerivation, IsSentence, IsBeginning, BeginsWith};
-ghost use Rattle.lists.specs.Fault.{IsFirstFault};
+ghost use Rattle.base.specs.Lists.Fault.{IsFirstFault};
 ghost use Rattle.grammar.specs.Inner.Reading.{IsLeft, ReadsOne, ReadsNone};
 ghost use Rattle.grammar.specs.Ll1.{IsLl1};
 ghost use Rattle.grammar.specs.Answer.{IfFault, EndsWith, error_text};

@@ -1,7 +1,7 @@
 //! The grammar of DSLX: derivations of constants, functions, procs and operators, and places of faults.
 
-use dslx_grammar::kind::*;
-use dslx_grammar::{parse, parse_tree, production};
+use dslx_token::rules::kind::*;
+use dslx_token::rules::{parse, parse_tree, production};
 use grammar::ParseError;
 use std::alloc::Global;
 use std::test::Fail;

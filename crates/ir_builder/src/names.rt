@@ -1,7 +1,7 @@
 ghost use Rattle.std.specs.Prelude.{◌≡◌, ◌∷◌, [], OnOk};
 ghost use Rattle.ir_builder.specs.Named.{place_in};
 
-use name_table::Table;
+use base::name_table::Table;
 use std::alloc::{AllocError, Global};
 use std::marker::Model;
 
@@ -14,7 +14,7 @@ pub struct Names<'a> {
 
 impl<'a> Model for Names<'a> {
     ghost use Rattle.std.specs.Prelude.{◌≡◌, ℕ, List, map, reverse};
-    ghost use Rattle.name_table.specs.Found.{found};
+    ghost use Rattle.base.specs.NameTable.Found.{found};
     ghost use Rattle.ir_builder.specs.Named.{place_in};
 
     ghost Value = { List (List ℕ) };

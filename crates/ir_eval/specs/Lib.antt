@@ -4,3 +4,5 @@ pub mod IrBodies
 pub mod Bodies
 -- what functions of this crate promise to one another, and nobody else needs
 pub mod Inner
+-- the same meaning, the same outcomes
+pub mod Outcomes

@@ -1,7 +1,7 @@
 ghost use Rattle.std.specs.Prelude.{◌≡◌, slice_get, Some};
 ghost use Rattle.net_core.specs.Behavior.{KeepsTypes};
 ghost use Rattle.ir_verify.specs.Verified.{IsVerified};
-ghost use Rattle.ir_typed.proofs.Lemmas.{keeps_types};
+ghost use Rattle.ir_verify.proofs.Lemmas.Typed.{keeps_types};
 
 use crate::walk::Walk;
 use ir_tree::{Package, Proc};

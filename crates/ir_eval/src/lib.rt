@@ -7,6 +7,7 @@
 mod bodies;
 mod body;
 mod operation;
+pub mod outcomes;
 mod scope;
 mod walk;
 mod width;

@@ -8,7 +8,7 @@ use Rattle.ir_tree.specs.declared.package.Proc.{Proc}
 use Rattle.ir_rebuild.specs.Built.{numbered}
 use Rattle.ir_rebuild.specs.Moves.{moved, moved_node}
 use Rattle.ir_rebuild.specs.Walks.{NodeRelation, RebuildsTo, none_read, dropped, copied, rewritten, Becomes, EachBecomes}
-use Rattle.ir_normal.specs.Normal.{AreNeeded, AreNormal, IsNormalProc}
+use Rattle.ir_rebuild.specs.Normal.Normal.{AreNeeded, AreNormal, IsNormalProc}
 use Rattle.pass_dead.specs.Stays.{Stays}
 use Rattle.pass_fold.specs.Settled.{IsFolded, literal_node}
 use Rattle.ir_passes.specs.Simplifies.{Simplifies}

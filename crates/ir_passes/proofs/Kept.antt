@@ -15,7 +15,7 @@ use Rattle.ir_rebuild.specs.Moves.{moved, moved_node}
 use Rattle.ir_rebuild.specs.Built.{numbered}
 use Rattle.ir_rebuild.specs.Walks.{RebuildsTo, none_read, dropped, copied, rewritten}
 use Rattle.ir_rebuild.proofs.Lemmas.{there_more, at_place, before_more, last_there, moved_two, moved_longer}
-use Rattle.ir_normal.proofs.Lemmas.{AreOrdered}
+use Rattle.ir_rebuild.proofs.Lemmas.Normal.{AreOrdered}
 use Rattle.pass_dead.specs.Stays.{Stays}
 
 -- a node that was kept stands at a place of the new list, over what stands for its operands

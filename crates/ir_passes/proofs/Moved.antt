@@ -16,17 +16,17 @@ use Rattle.ir_tree.specs.declared.package.Proc.{Proc}
 use Rattle.ir_tree.specs.NodeValues.{role_by, role_at}
 use Rattle.ir_verify.specs.Fitting.{type_in, type_or, types_behind}
 use Rattle.ir_verify.specs.Lines.{is_there}
-use Rattle.ir_types.specs.Types.{bits_width}
+use Rattle.ir_tree.specs.NodeTypes.Types.{bits_width}
 use Rattle.ir_rebuild.specs.Operands.{operands_in, attribute_operands, optional_operand, node_of}
 use Rattle.ir_rebuild.specs.Moves.{moved, moved_attributes, moved_node}
 use Rattle.ir_rebuild.specs.Kept.{is_kept, is_site}
 use Rattle.ir_rebuild.specs.Built.{is_plain_op, numbered}
 use Rattle.ir_rebuild.specs.Walks.{Becomes}
 use Rattle.ir_rebuild.proofs.Lemmas.{all_parts, all_weaker, there_more, map_moved, attributes_map}
-use Rattle.ir_normal.specs.Origins.{made_by, origin}
-use Rattle.ir_normal.specs.LeftSides.{left_side, first_bit}
-use Rattle.ir_normal.specs.Normal.{IsReached, by_next, as_site, by_node, AreNeeded, is_literal_node, names_literal, all_literals, same_operand, are_one, chooses_one, IsNormalNode, AreNormal, IsNormalProc}
-use Rattle.ir_normal.proofs.Lemmas.{renumbered}
+use Rattle.ir_rebuild.specs.Normal.Origins.{made_by, origin}
+use Rattle.ir_rebuild.specs.Normal.LeftSides.{left_side, first_bit}
+use Rattle.ir_rebuild.specs.Normal.Normal.{IsReached, by_next, as_site, by_node, AreNeeded, is_literal_node, names_literal, all_literals, same_operand, are_one, chooses_one, IsNormalNode, AreNormal, IsNormalProc}
+use Rattle.ir_rebuild.proofs.Lemmas.Normal.{renumbered}
 use Rattle.pass_dead.specs.Stays.{Stays}
 use Rattle.ir_passes.proofs.Kept.{IsImage, AreKeptAs, kept_as}
 

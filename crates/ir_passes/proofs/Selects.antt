@@ -18,19 +18,19 @@ use Rattle.ir_tree.specs.declared.node.Attributes.{Attributes}
 use Rattle.ir_tree.specs.declared.node.Attributes.TheVariants as attributes
 use Rattle.ir_tree.specs.Types.{ty_of, bounded}
 use Rattle.ir_tree.specs.Operations.{chosen}
-use Rattle.ir_types.specs.Types.{marks_of, is_bits_where}
-use Rattle.ir_types.specs.Constants.{constant_fits, number_fits}
+use Rattle.ir_tree.specs.NodeTypes.Types.{marks_of, is_bits_where}
+use Rattle.ir_tree.specs.NodeTypes.Constants.{constant_fits, number_fits}
 use Rattle.ir_verify.specs.Fitting.{type_in, type_or, types_behind, types_fit, sel_fits, is_sel, cases_count, defaults}
 use Rattle.ir_verify.specs.Lines.{is_there, are_there, is_literal_of}
-use Rattle.ir_types.proofs.Lemmas.IrTypes.{ty_of-Bits}
-use Rattle.ir_types.proofs.Lemmas.ConstantCases.{fits-Bits}
-use Rattle.ir_typed.proofs.Tests.{bits_is}
+use Rattle.ir_tree.proofs.Lemmas.NodeTypes.IrTypes.{ty_of-Bits}
+use Rattle.ir_tree.proofs.Lemmas.NodeTypes.ConstantCases.{fits-Bits}
+use Rattle.ir_verify.proofs.Lemmas.Typed.Tests.{bits_is}
 use Rattle.ir_rebuild.specs.Operands.{node_of, optional_operand}
 use Rattle.ir_rebuild.specs.Built.{IsPlaced, AreBuilt, is_plain_op}
 use Rattle.ir_rebuild.proofs.Lemmas.{node_there}
-use Rattle.ir_normal.specs.LeftSides.{is_literal_op}
-use Rattle.ir_normal.specs.Normal.{is_literal_node, names_literal, all_literals, same_operand, are_one, is_cases, chooses_one}
-use Rattle.ir_normal.proofs.Lemmas.{op_is_literal, constant_there}
+use Rattle.ir_rebuild.specs.Normal.LeftSides.{is_literal_op}
+use Rattle.ir_rebuild.specs.Normal.Normal.{is_literal_node, names_literal, all_literals, same_operand, are_one, is_cases, chooses_one}
+use Rattle.ir_rebuild.proofs.Lemmas.Normal.{op_is_literal, constant_there}
 use Rattle.ir_passes.specs.Undecided.{IsUndecided}
 use Rattle.pass_select.specs.Choices.{number_there, literal_of, literal_at, number_in, literal_number, is_default, one_of, choice_by, choice_among, choice_in, choice_of}
 

@@ -17,16 +17,16 @@ use Rattle.ir_tree.specs.declared.node.Operand.{Operand}
 use Rattle.ir_tree.specs.declared.node.Node.{Node}
 use Rattle.ir_tree.specs.declared.node.Attributes.{Attributes}
 use Rattle.ir_tree.specs.declared.node.Attributes.TheVariants as attributes
-use Rattle.ir_types.specs.Types.{bits_width, width_there}
+use Rattle.ir_tree.specs.NodeTypes.Types.{bits_width, width_there}
 use Rattle.ir_verify.specs.Fitting.{type_in, type_or, types_behind, types_fit, predicate_fits, first_is_token, site_fits, is_literal}
 use Rattle.ir_verify.specs.Lines.{is_there}
 use Rattle.ir_rebuild.specs.Operands.{operands_in, attribute_operands, node_of}
 use Rattle.ir_rebuild.specs.Built.{AreBuilt, IsPlaced, is_plain_op, numbered}
 use Rattle.ir_rebuild.proofs.Lemmas.{all_there, last_there}
-use Rattle.ir_normal.specs.Origins.{made_by}
-use Rattle.ir_normal.specs.LeftSides.{is_literal_op as is_normal_literal_op, is_extension, width_if, extended_in, is_some, has_left_side}
-use Rattle.ir_normal.specs.Normal.{is_literal_node, names_literal, all_literals, is_cases, chooses_one, IsNormalNode, AreNormal}
-use Rattle.ir_normal.proofs.Lemmas.{AreOrdered, normal_more, literals_more, chooses_more}
+use Rattle.ir_rebuild.specs.Normal.Origins.{made_by}
+use Rattle.ir_rebuild.specs.Normal.LeftSides.{is_literal_op as is_normal_literal_op, is_extension, width_if, extended_in, is_some, has_left_side}
+use Rattle.ir_rebuild.specs.Normal.Normal.{is_literal_node, names_literal, all_literals, is_cases, chooses_one, IsNormalNode, AreNormal}
+use Rattle.ir_rebuild.proofs.Lemmas.Normal.{AreOrdered, normal_more, literals_more, chooses_more}
 use Rattle.pass_fold.specs.Folds.{is_literal_op, is_literal as is_literal_operand, are_folded, is_foldable, is_foldable_by}
 use Rattle.pass_fold.specs.Settled.{IsAppended, IsFolded, literal_node}
 use Rattle.pass_fold.specs.Folds as folds

@@ -16,10 +16,10 @@ use Rattle.ir_rebuild.specs.Built.{AreBuilt, is_plain_op, numbered}
 use Rattle.ir_rebuild.specs.Fixed.{is_receive_op, is_receive, is_one_receive, is_part_of_receive, is_fixed}
 use Rattle.ir_rebuild.specs.Walks.{RebuildsTo, none_read, dropped, copied, rewritten}
 use Rattle.ir_rebuild.proofs.Lemmas.{before_more, last_there}
-use Rattle.ir_normal.specs.Origins.{made_by}
-use Rattle.ir_normal.specs.LeftSides.{is_literal_op, is_tuple_op, is_made}
-use Rattle.ir_normal.specs.Normal.{is_literal_node, IsNormalNode, AreNormal}
-use Rattle.ir_normal.proofs.Lemmas.{normal_more}
+use Rattle.ir_rebuild.specs.Normal.Origins.{made_by}
+use Rattle.ir_rebuild.specs.Normal.LeftSides.{is_literal_op, is_tuple_op, is_made}
+use Rattle.ir_rebuild.specs.Normal.Normal.{is_literal_node, IsNormalNode, AreNormal}
+use Rattle.ir_rebuild.proofs.Lemmas.Normal.{normal_more}
 use Rattle.ir_passes.specs.Simplifies.{Simplifies}
 
 both : (a b : Bool) → a && b ≡ true → (a ≡ true) × (b ≡ true)

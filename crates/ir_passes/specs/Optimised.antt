@@ -4,7 +4,7 @@ use Rattle.ir_tree.specs.declared.package.Package.{Package}
 use Rattle.ir_tree.specs.declared.package.Proc.{Proc}
 use Rattle.ir_tree.specs.SameBehavior.{SameBehavior}
 use Rattle.ir_verify.specs.Verified.{IsVerified}
-use Rattle.ir_normal.specs.Normal.{IsNormal}
+use Rattle.ir_rebuild.specs.Normal.Normal.{IsNormal}
 
 -- each proc has at most four times as many nodes
 pub record IsBounded (old new : Package) : Type 0 where

@@ -2,7 +2,7 @@
 use Rattle.std.specs.Prelude.{◌≡◌, true, false, List}
 use Rattle.ir_tree.specs.declared.node.Node.{Node}
 use Rattle.ir_rebuild.specs.Operands.{operands_in}
-use Rattle.ir_normal.specs.Normal.{is_cases, all_literals, chooses_one}
+use Rattle.ir_rebuild.specs.Normal.Normal.{is_cases, all_literals, chooses_one}
 
 -- it is no select of one operand, nor one among literals
 pub record IsUndecided (nodes : List Node) (n : Node) : Type 0 where

@@ -4,8 +4,8 @@ ghost use Rattle.ir_passes.specs.Optimised.{IsOptimised};
 
 use crate::rules::AllRules;
 use ir_rebuild::rebuild;
-use ir_same::same_behavior_is_an_equivalence;
 use ir_tree::Package;
+use ir_verify::same::same_behavior_is_an_equivalence;
 use std::alloc::{AllocError, Global};
 
 /// The package in its normal form: it means the same, and no proc has more than four times its nodes.

@@ -7,7 +7,7 @@ ghost use Rattle.ir_rebuild.specs.Built.{AreBuilt, IsPlaced, Rewrites, is_plain_
 ghost use Rattle.pass_narrow.specs.Narrowing.{Narrows};
 ghost use Rattle.pass_narrow.specs.KeepsNormal.{IsNarrowInside};
 ghost use Rattle.pass_narrow.specs.declared.stand_in.StandIn.TheVariants.{Extended};
-ghost use Rattle.ir_normal.specs.Normal.{AreNormal};
+ghost use Rattle.ir_rebuild.specs.Normal.Normal.{AreNormal};
 ghost use Rattle.ir_passes.specs.Simplifies.{Simplifies};
 ghost use Rattle.ir_passes.specs.Undecided.{IsUndecided};
 

@@ -7,7 +7,7 @@ use Rattle.std.proofs.lemmas.Bool.Decides.{nat_tests}
 use Rattle.std.proofs.lemmas.List.{get_or_append_left, get_or-append_right}
 use Rattle.std.proofs.lemmas.List.Folds.{list_all-append}
 use Rattle.std.proofs.lemmas.Option.{slice_get_within}
-use Rattle.lists.proofs.Lemmas.Places.{slice_get-append_left, slice_get-append_right}
+use Rattle.base.proofs.Lemmas.Lists.Places.{slice_get-append_left, slice_get-append_right}
 use Rattle.xb_value.specs.declared.value.Value.{Value}
 use Rattle.ir_tree.specs.declared.ir_type.IrType.{IrType, Token}
 use Rattle.ir_tree.specs.declared.node.Operand.{Operand}
@@ -18,7 +18,7 @@ use Rattle.ir_tree.specs.declared.node.Attributes.TheVariants as attributes
 use Rattle.ir_tree.specs.Constants.{no_value}
 use Rattle.ir_tree.specs.NodeValues.{operand_value, pure_value}
 use Rattle.ir_verify.specs.Fitting.{type_in, type_or, types_behind, node_fits}
-use Rattle.ir_types.specs.Types.{marks_of}
+use Rattle.ir_tree.specs.NodeTypes.Types.{marks_of}
 use Rattle.ir_verify.specs.Lines.{is_there, are_there, is_there_if, attributes_there}
 use Rattle.ir_rebuild.specs.Operands.{optional_operand, attribute_operands, operands_in}
 use Rattle.ir_rebuild.specs.Built.{IsPlaced, AreBuilt, AreValues, StandsFor, Rewrites, is_plain_op, numbered}

@@ -19,10 +19,10 @@ use Rattle.ir_tree.specs.Activations.{sites_of, turns_from, words_from, site_wor
 use Rattle.ir_tree.specs.SameBehavior.{SameActivations}
 use Rattle.ir_verify.specs.Checks.{Check}
 use Rattle.ir_verify.specs.Fitting.{type_in, types_behind}
-use Rattle.ir_types.specs.Types.{same_type, marks_of}
+use Rattle.ir_tree.specs.NodeTypes.Types.{same_type, marks_of}
 use Rattle.ir_verify.specs.Lines.{Seen, is_there, is_proc_named, is_state, is_value_of, head_checks, next_checks}
 use Rattle.ir_verify.specs.Verified.{nowhere, nodes_checks, seen_after, at_start, count_check}
-use Rattle.ir_typed.specs.Typed.{none_broken}
+use Rattle.ir_verify.specs.Typed.Typed.{none_broken}
 use Rattle.std.specs.List.{list_all}
 use Rattle.ir_rebuild.specs.Operands.{operands_in}
 use Rattle.ir_rebuild.specs.Moves.{moved, moved_node}

@@ -1,4 +1,6 @@
 -- What passes know: nodes that are appended, operands that are answered, and the values of operands.
+-- the normal form
+pub mod Normal
 use Rattle.std.proofs.Common.{◌≡◌, ℕ, zero, suc, ◌<◌, ◌≤◌, List, [], ◌∷◌, ◌++◌, map, length, get_or, Bool, true, Some, refl, sym, subst, arith}
 use Rattle.std.specs.Prelude.{slice_get}
 use Rattle.std.specs.List.{list_all}

@@ -19,7 +19,7 @@ use Rattle.ir_verify.specs.Checks.{Check, note, noted}
 use Rattle.ir_verify.specs.Fitting.{Types, types_behind, node_fits, types_fit, predicate_fits, first_is_token, site_fits}
 use Rattle.ir_verify.specs.Lines.{Seen, see, see_op, is_after_all, is_id_after, is_named, are_there, attributes_there, is_chained, is_chained_role, see_role, is_at_end, is_typed, own_levels, type_limits, node_checks}
 use Rattle.ir_verify.specs.Verified.{nowhere, nodes_checks, seen_after}
-use Rattle.ir_typed.specs.Typed.{none_broken}
+use Rattle.ir_verify.specs.Typed.Typed.{none_broken}
 use Rattle.ir_rebuild.specs.Built.{IsPlaced, is_plain_op}
 use Rattle.ir_rebuild.proofs.Moving.{both, and_both}
 

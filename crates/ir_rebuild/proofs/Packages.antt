@@ -15,9 +15,9 @@ use Rattle.ir_verify.specs.Lines.{Seen, package_checks, head_checks, next_checks
 use Rattle.xb_span.specs.declared.fault.Fault.TheVariants.{Passed}
 use Rattle.xb_span.specs.declared.limit.What.TheVariants as what
 use Rattle.ir_verify.specs.Verified.{IsVerified, first_fault, nowhere, nowhere_proc, nowhere_at_all, channels_checks, procs_checks, proc_checks, seen_after, at_start, nothing_seen, checks_of, nodes_checks, count_check}
-use Rattle.ir_typed.specs.Typed.{none_broken}
-use Rattle.ir_typed.proofs.Checked.{none_noted}
-use Rattle.ir_typed.proofs.Lemmas.{verified_proc}
+use Rattle.ir_verify.specs.Typed.Typed.{none_broken}
+use Rattle.ir_verify.proofs.Lemmas.Typed.Checked.{none_noted}
+use Rattle.ir_verify.proofs.Lemmas.Typed.{verified_proc}
 use Rattle.ir_rebuild.specs.Inner.Rebuilt.{IsCheckedBehind, IsCheckedProc, IsRebuilt}
 use Rattle.ir_rebuild.proofs.Moving.{both, and_both}
 use Rattle.ir_rebuild.proofs.Finishing.{take_one, all_taken}

@@ -4,7 +4,7 @@ use Rattle.std.specs.Prelude.{slice_get, not, ◌||◌}
 use Rattle.std.specs.List.{list_all}
 use Rattle.std.proofs.lemmas.List.{append-nil, append_assoc}
 use Rattle.std.proofs.lemmas.Option.{slice_get-get_or}
-use Rattle.lists.proofs.Lemmas.Places.{slice_get-append_right}
+use Rattle.base.proofs.Lemmas.Lists.Places.{slice_get-append_right}
 use Rattle.xb_bits.specs.Word.{Word}
 use Rattle.xb_value.specs.declared.value.Value.{Value}
 use Rattle.xb_value.specs.Typing.{IsOfType}
@@ -26,8 +26,8 @@ use Rattle.ir_tree.specs.Activations.{sites_by, sites_of}
 use Rattle.ir_verify.specs.Fitting.{type_or}
 use Rattle.ir_verify.specs.Lines.{Seen, see, is_there, is_id_after, own_levels, type_limits, head_checks}
 use Rattle.ir_verify.specs.Verified.{nowhere, nodes_checks, seen_after, at_start}
-use Rattle.ir_typed.specs.Typed.{none_broken}
-use Rattle.ir_typed.proofs.Scopes.{IsOperand}
+use Rattle.ir_verify.specs.Typed.Typed.{none_broken}
+use Rattle.ir_verify.proofs.Lemmas.Typed.Scopes.{IsOperand}
 use Rattle.ir_rebuild.specs.Operands.{operands_in, node_of}
 use Rattle.ir_rebuild.specs.Moves.{moved, moved_attributes, moved_node}
 use Rattle.ir_rebuild.specs.Kept.{is_kept, is_site, AreKept}

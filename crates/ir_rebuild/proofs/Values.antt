@@ -15,9 +15,9 @@ use Rattle.ir_tree.specs.NodeValues.{role_of, Setting, is_on, pure_value, no_wor
 use Rattle.ir_verify.specs.Fitting.{types_behind}
 use Rattle.ir_verify.specs.Lines.{Seen, see, is_there, node_checks}
 use Rattle.ir_verify.specs.Verified.{nowhere, nodes_checks}
-use Rattle.ir_typed.specs.Typed.{AreChannels}
-use Rattle.ir_typed.proofs.Scopes.{IsOperand, IsTyped, AreTyped, none_typed, more_typed, operands_typed}
-use Rattle.ir_typed.proofs.Nodes.{no_fault, node_typed}
+use Rattle.ir_verify.specs.Typed.Typed.{AreChannels}
+use Rattle.ir_verify.proofs.Lemmas.Typed.Scopes.{IsOperand, IsTyped, AreTyped, none_typed, more_typed, operands_typed}
+use Rattle.ir_verify.proofs.Lemmas.Typed.Nodes.{no_fault, node_typed}
 use Rattle.ir_rebuild.specs.Operands.{operands_in}
 use Rattle.ir_rebuild.specs.Built.{AreValues, is_plain_op}
 use Rattle.ir_rebuild.proofs.Walking.{Walk, Words, word_at, step_by, step, walk, start}

@@ -12,3 +12,5 @@ pub mod Fixed
 pub mod Walks
 -- what functions of this crate promise to one another, and nobody else needs
 pub mod Inner
+-- the normal form
+pub mod Normal

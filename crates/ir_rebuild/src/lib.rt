@@ -8,6 +8,7 @@ mod copies;
 mod keep;
 mod moves;
 mod nodes;
+pub mod normal;
 mod pass;
 mod proc;
 

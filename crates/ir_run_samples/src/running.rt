@@ -1,13 +1,13 @@
 //! Runs of packages whose outcomes were worked by hand.
 
-use cmd_ir::run_package;
-use cmd_words::{How, Run, Source};
+use cmd_line::{How, Run, Source};
 use std::alloc::Global;
 use std::process::Abort;
 use std::sync::Wait;
 use std::test::Fail;
 use std::thread::Threads;
 use xb_io::{MemFile, MemFiles, OpenGate};
+use xls_cmd::ir::run_package;
 
 /// What a run of this package shows, in which each proc makes at most so many activations.
 fn shown<R: Threads + Wait + Sync>(

@@ -1,7 +1,7 @@
 //! Texts and what is answered for them.
 
-use ir_parser::read_ir;
-use ir_text::print_ir;
+use ir_text::parser::read_ir;
+use ir_text::printer::print_ir;
 use std::alloc::Global;
 use std::test::Fail;
 use xb_span::ReadError;

@@ -2,7 +2,7 @@
 
 ghost use Rattle.std.specs.Prelude.{◌<◌, ◌^◌, length};
 
-use ir_grammar::kind::{
+use ir_token::rules::kind::{
     ASSIGN, COLON, COMMA, END, ID, LARGE, LBRACE, LPAREN, NAME, OPID, OWN, PLAIN, RPAREN, SITE,
     SMALL, ST, TOKEN,
 };

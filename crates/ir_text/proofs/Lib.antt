@@ -1,0 +1,4 @@
+-- the parser
+pub mod OnParser
+-- what is printed reads back
+pub mod OnRoundTrip

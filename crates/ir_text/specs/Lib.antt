@@ -1,4 +1,6 @@
--- the texts of numbers, types, constants and operands
-pub mod Parts
--- the text of each line
-pub mod Lines
+-- the parser
+pub mod Parser
+-- the printer
+pub mod Printer
+-- what is printed reads back
+pub mod RoundTrip

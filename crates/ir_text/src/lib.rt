@@ -1,10 +1,6 @@
-//! Packages as texts.
-//!
-//! `print_ir` takes time and memory as the text is long, besides a look-up for each operand.
+//! IR texts: their printer, their reader, and that what is printed reads back.
 #![tactic(auto)]
 
-mod line;
-mod package;
-mod part;
-
-pub use package::print_ir;
+pub mod parser;
+pub mod printer;
+pub mod round_trip;

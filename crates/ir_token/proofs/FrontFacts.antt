@@ -7,8 +7,8 @@ use Rattle.std.specs.Str.{IsAscii}
 use Rattle.std.proofs.lemmas.Str.Ascii.{IsAscii-nil, IsAscii-cons}
 use Rattle.std.proofs.lemmas.Bool.{and_parts}
 use Rattle.std.proofs.lemmas.Bool.Decides.{nat_tests}
-use Rattle.texts.specs.Words.{begins_word}
-use Rattle.ir_grammar.specs.declared.generated.kind.TheConstants.{END}
+use Rattle.base.specs.Texts.Words.{begins_word}
+use Rattle.ir_token.specs.declared.rules.generated.kind.TheConstants.{END}
 use Rattle.ir_token.specs.Fronts.{word_goes_on, name_len, begins_hexadecimal, digits_len, value_of_number, mark_kind, number_front, token_front}
 use Rattle.ir_token.specs.Inner.Entries.{HasFront}
 

@@ -3,8 +3,8 @@ use Rattle.std.specs.Prelude.{ℕ, suc, ◌+◌, ◌^◌, ◌==◌, ◌&&◌, �
 use Rattle.std.specs.List.{prefix_len}
 use Rattle.std.specs.Char.{is_ascii_digit, is_ascii_hexdigit}
 use Rattle.std.specs.Str.Parse.{digits_value}
-use Rattle.texts.specs.Words.{begins_word, is_word_byte}
-use Rattle.ir_grammar.specs.declared.generated.kind.TheConstants.{ASSIGN, COLON, COMMA, END, LBRACE, LBRACKET, LPAREN, RBRACE, RBRACKET, RPAREN}
+use Rattle.base.specs.Texts.Words.{begins_word, is_word_byte}
+use Rattle.ir_token.specs.declared.rules.generated.kind.TheConstants.{ASSIGN, COLON, COMMA, END, LBRACE, LBRACKET, LPAREN, RBRACE, RBRACKET, RPAREN}
 
 -- a word goes on with letters, digits, `_` and `.`, and with a `/` that begins no comment: that has another `/` behind it
 abbrev pub word_goes_on : ℕ → ℕ → Bool

@@ -3,7 +3,7 @@ use Rattle.std.specs.Prelude.{ℕ, ◌+◌, ◌^◌, ◌==◌, ◌&&◌, ◌||�
 use Rattle.std.specs.List.{list_all, prefix_len}
 use Rattle.std.specs.Char.{is_ascii_digit}
 use Rattle.std.specs.Str.Parse.{digits_value}
-use Rattle.texts.specs.Words.{begins_word}
+use Rattle.base.specs.Texts.Words.{begins_word}
 use Rattle.dslx_token.specs.Lexeme.{Lexeme}
 use Rattle.dslx_token.specs.Spelling.{Spelling, kind_among}
 use Rattle.delay_model.specs.declared.op.Op.{Op}
@@ -11,7 +11,7 @@ use Rattle.delay_model.specs.declared.signature.AttributeKind.{AttributeKind}
 use Rattle.delay_model.specs.declared.signature.AttributeKind.TheVariants as attributes
 use Rattle.delay_model.specs.Names.{op_named}
 use Rattle.delay_model.specs.Signatures.{attribute_kind_of}
-use Rattle.ir_grammar.specs.declared.generated.kind.TheConstants.{ARRAYAT, ASSIGN, BITS, CASES, CHAN, CHANNEL, COUNT, DEFAULT, DEPTH, DYNAMIC, END, EXTEND, ID, INDEX, INDICES, INIT, INNER, INPUT, KIND, LARGE, LBRACE, LITERAL, NAME, NEXT, OPID, OUTPUT, OWN, PACKAGE, PLAIN, PREDICATE, PROC, RPAREN, SEL, SITE, SLICE, SMALL, ST, START, TOKEN, TUPLEINDEX, VALUE, WIDTH}
+use Rattle.ir_token.specs.declared.rules.generated.kind.TheConstants.{ARRAYAT, ASSIGN, BITS, CASES, CHAN, CHANNEL, COUNT, DEFAULT, DEPTH, DYNAMIC, END, EXTEND, ID, INDEX, INDICES, INIT, INNER, INPUT, KIND, LARGE, LBRACE, LITERAL, NAME, NEXT, OPID, OUTPUT, OWN, PACKAGE, PLAIN, PREDICATE, PROC, RPAREN, SEL, SITE, SLICE, SMALL, ST, START, TOKEN, TUPLEINDEX, VALUE, WIDTH}
 use Rattle.ir_token.specs.Fronts.{value_of_number, mark_kind}
 
 -- the words that have a kind of their own. None of them is reserved

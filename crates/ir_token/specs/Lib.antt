@@ -8,3 +8,5 @@ pub mod Said
 pub mod Tokens
 -- contracts of this crate's private functions
 pub mod Inner
+-- rules
+pub mod Rules

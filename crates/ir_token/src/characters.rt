@@ -4,7 +4,7 @@ ghost use Rattle.std.specs.Prelude.{◌≡◌, slice_index};
 ghost use Rattle.dslx_token.specs.Characters.{is_white};
 ghost use Rattle.ir_token.specs.Fronts.{mark_kind};
 
-use ir_grammar::kind::{
+use crate::rules::kind::{
     ASSIGN, COLON, COMMA, END, LBRACE, LBRACKET, LPAREN, RBRACE, RBRACKET, RPAREN,
 };
 

@@ -6,8 +6,8 @@ ghost use Rattle.ir_token.specs.Fronts.{word_goes_on, name_len, number_front, to
 
 use crate::characters::{byte_at, mark_kind};
 use crate::number::{digits_len, value_of_number};
-use ir_grammar::kind::END;
-use texts::{begins_word, is_word_byte};
+use crate::rules::kind::END;
+use base::texts::{begins_word, is_word_byte};
 
 fn word_goes_on(byte: u8, behind: u8) -> bool
     ensures { result ≡ word_goes_on byte behind }

@@ -11,13 +11,13 @@ ghost use Rattle.ir_token.specs.Kinds.{ir_words, is_no_dot, op_part, id_part, is
 
 use crate::characters::mark_kind;
 use crate::number::value_of_number;
-use delay_model::{AttributeKind, Op};
-use ir_grammar::kind::{
+use crate::rules::kind::{
     ARRAYAT, BITS, CASES, CHAN, CHANNEL, COUNT, DEFAULT, DEPTH, DYNAMIC, END, EXTEND, ID, INDEX,
     INDICES, INIT, INNER, INPUT, KIND, LARGE, LITERAL, NAME, NEXT, OPID, OUTPUT, PACKAGE, PLAIN,
     PREDICATE, PROC, SEL, SITE, SLICE, SMALL, ST, START, TOKEN, TUPLEINDEX, VALUE, WIDTH,
 };
-use texts::begins_word;
+use base::texts::begins_word;
+use delay_model::{AttributeKind, Op};
 
 const WORDS: [(&[u8], u8); 24] = [
     (b"package", PACKAGE),
@@ -111,7 +111,7 @@ fn are_digits(bytes: &[u8]) -> bool
 fn is_small(digits: &[u8]) -> bool
     ensures { result ≡ nat_lt (digits_value 10 digits.now) (2 ^ 32) }
 {
-    match texts::number(10, digits) {
+    match base::texts::number(10, digits) {
         Some(number) => number < 1 << 32,
         None => false,
     }

@@ -9,8 +9,8 @@ ghost use Rattle.ir_token.specs.Tokens.{IsCutInto, AreIrTokens, IsCutOffAt, IsTo
 use crate::blank::skip_blank;
 use crate::front::token_len;
 use crate::kind::{class_of, id_part, op_named, op_part};
+use crate::rules::kind::{ASSIGN, END, ID, LARGE, LBRACE, NAME, OPID, OWN, RPAREN, SMALL};
 use crate::token::Token;
-use ir_grammar::kind::{ASSIGN, END, ID, LARGE, LBRACE, NAME, OPID, OWN, RPAREN, SMALL};
 use std::alloc::Global;
 use xb_span::ReadError;
 

@@ -1,7 +1,7 @@
 //! The tokens of an IR text.
 //!
 //! [`tokens`] cuts a text into words, numbers and marks. Each [`Token`] has its place, its bytes and a kind of
-//! `ir_grammar::kind`, which for a node's operation and its id depends on the node that they stand in.
+//! `crate::rules::kind`, which for a node's operation and its id depends on the node that they stand in.
 //!
 //! Cost: linear in the text's length.
 #![tactic(auto)]
@@ -13,6 +13,7 @@ mod kind;
 mod laws;
 mod lexer;
 mod number;
+pub mod rules;
 mod token;
 
 pub use laws::one_list_of_tokens;

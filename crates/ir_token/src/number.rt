@@ -46,8 +46,8 @@ pub fn value_of_number(number: &[u8]) -> Option<u128>
     ensures { MatchOption result (2 ^ 128 ≤ value_of_number number.now) (λ n. n ≡ value_of_number number.now) }
 {
     if begins_hexadecimal(number) {
-        texts::number(16, &number[2..])
+        base::texts::number(16, &number[2..])
     } else {
-        texts::number(10, number)
+        base::texts::number(10, number)
     }
 }

@@ -57,7 +57,7 @@ impl<'a> Token<'a> {
         self.kind = kind;
     }
 
-    /// Its kind, one of `ir_grammar::kind`.
+    /// Its kind, one of `crate::rules::kind`.
     pub fn kind(&self) -> u8
         ensures { result ≡ self.now.kind }
     {
@@ -103,7 +103,7 @@ impl<'a> Token<'a> {
     pub fn id(&self) -> u32
         ensures { result ≡ id_said self.now.bytes }
     {
-        at_most_u32(texts::number(10, id_part(self.bytes)).unwrap_or(u128::MAX))
+        at_most_u32(base::texts::number(10, id_part(self.bytes)).unwrap_or(u128::MAX))
     }
 
     /// The operation of an `OP.ID`.

@@ -1,1 +1,5 @@
 pub mod EachRead
+-- types and constants of nodes
+pub mod OnNodeTypes
+-- for other crates' proofs
+pub mod Lemmas

@@ -12,3 +12,5 @@ pub mod Activations
 pub mod Networks
 -- packages and networks that mean the same
 pub mod SameBehavior
+-- types and constants of nodes
+pub mod NodeTypes

@@ -9,6 +9,7 @@ mod constant;
 mod ir_type;
 mod network;
 mod node;
+pub mod node_types;
 mod operands;
 mod package;
 

@@ -8,9 +8,9 @@ use Rattle.xb_span.specs.declared.limit.What.{What}
 use Rattle.ir_verify.specs.Checks.{Check, note, noted, limit_at, bounded}
 use Rattle.xb_span.specs.declared.limit.What.TheVariants as what
 use Rattle.ir_tree.specs.declared.ir_type.IrType.{IrType, Tuple}
-use Rattle.ir_types.specs.Types.{joined_lists, widths_in}
-use Rattle.ir_types.specs.Types as types
-use Rattle.ir_types.proofs.Lemmas.IrTypes.{fold-Tuple}
+use Rattle.ir_tree.specs.NodeTypes.Types.{joined_lists, widths_in}
+use Rattle.ir_tree.specs.NodeTypes.Types as types
+use Rattle.ir_tree.proofs.Lemmas.NodeTypes.IrTypes.{fold-Tuple}
 
 pub noted-append : (xs ys : List Check) (held : Option Fault) → noted held (xs ++ ys) ≡ noted (noted held xs) ys
 noted-append [] ys held = refl

@@ -12,7 +12,7 @@ use Rattle.ir_tree.specs.declared.node.Attributes.TheVariants as attributes
 use Rattle.ir_tree.specs.declared.node.Node.{Node}
 use Rattle.ir_tree.specs.declared.package.Channel.{Channel}
 use Rattle.ir_tree.specs.NodeValues.{channel_type}
-use Rattle.ir_types.specs.Types.{is_token, is_bits, is_bits_of, is_bits_where, bits_width, same_type, each_same, is_array_of, is_array_sized, is_tuple_where}
+use Rattle.ir_tree.specs.NodeTypes.Types.{is_token, is_bits, is_bits_of, is_bits_where, bits_width, same_type, each_same, is_array_of, is_array_sized, is_tuple_where}
 
 -- what decides the types of operands: the state's, the nodes before, and what one that isn't there is taken for
 pub record Types : Type 0 where

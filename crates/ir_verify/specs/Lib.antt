@@ -8,3 +8,7 @@ pub mod Lines
 pub mod Verified
 -- what functions of this crate promise to one another, and nobody else needs
 pub mod Inner
+-- packages that mean the same
+pub mod Same
+-- what has a type has a value of it
+pub mod Typed

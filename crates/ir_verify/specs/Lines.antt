@@ -2,7 +2,7 @@
 use Rattle.std.specs.Prelude.{ℕ, ◌-◌, ◌==◌, nat_lt, nat_eq, Bool, true, false, ◌&&◌, ◌||◌, not, List, [], ◌∷◌, ◌++◌, length, map, slice_get, slice_index, slice_set, Option, Some, None}
 use Rattle.std.specs.List.{list_all, list_any}
 use Rattle.std.specs.Str.{bytes_eq}
-use Rattle.texts.specs.Words.{begins_word, is_word_byte}
+use Rattle.base.specs.Texts.Words.{begins_word, is_word_byte}
 use Rattle.xb_span.specs.declared.span.Span.{Span}
 use Rattle.xb_span.specs.declared.limit.What.TheVariants as what
 use Rattle.xb_value.specs.Width.{width_of, leaf_count}
@@ -24,9 +24,9 @@ use Rattle.ir_tree.specs.declared.package.Proc.{Proc}
 use Rattle.ir_tree.specs.Types.{ty_of}
 use Rattle.ir_tree.specs.NodeValues.{role_of}
 use Rattle.ir_verify.specs.Checks.{Check, rule_at, limit_at, bounded}
-use Rattle.ir_types.specs.Constants.{constant_fits}
+use Rattle.ir_tree.specs.NodeTypes.Constants.{constant_fits}
 use Rattle.ir_verify.specs.Fitting.{type_in, types_behind, node_fits}
-use Rattle.ir_types.specs.Types.{marks_of, levels_of, widths_in, same_type}
+use Rattle.ir_tree.specs.NodeTypes.Types.{marks_of, levels_of, widths_in, same_type}
 
 -- ---- what lines share
 

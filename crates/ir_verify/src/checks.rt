@@ -3,7 +3,7 @@
 ghost use Rattle.std.specs.Prelude.{◌≡◌, ◌∷◌, [], List};
 ghost use Rattle.ir_verify.specs.Checks.{note, noted, rule_at, limit_at};
 
-use ir_types::bounded;
+use ir_tree::node_types::bounded;
 use xb_span::{Fault, Limit, Rule, Span, What};
 
 /// Of the fault that was found before, if any, and this one, if it is there, the one that is named.

@@ -4,16 +4,16 @@ ghost use Rattle.std.specs.Prelude.{◌≡◌, ◌&&◌, ◌+◌, length, map, n
 ghost use Rattle.std.specs.Option.{option_copied};
 ghost use Rattle.std.specs.List.{list_all};
 ghost use Rattle.ir_tree.specs.NodeValues.{channel_type};
-ghost use Rattle.ir_types.specs.Types.{is_token, is_bits, is_bits_of, is_bits_where, is_tuple_where, bits_width, same_type, each_same, is_array_of};
+ghost use Rattle.ir_tree.specs.NodeTypes.Types.{is_token, is_bits, is_bits_of, is_bits_where, is_tuple_where, bits_width, same_type, each_same, is_array_of};
 ghost use Rattle.ir_verify.specs.Inner.Scopes.{types_of};
 ghost use Rattle.ir_verify.specs.Fitting.{type_in, all_bits_of, all_bits, compare_fits, shift_fits, concat_fits, elements_fit, parts_fit, plain_fits, slice_fits, dynamic_fits, extend_fits, cases_count, is_like, sel_fits, part_is, tuple_index_fits, update_fits, index_fits, predicate_fits, is_pair_of, sends_type, first_is_token, rest_of, site_fits, types_fit, node_fits};
 
 use delay_model::Op;
-use ir_tree::{Attributes, Channel, IrType, Node, Operand};
-use ir_types::{
+use ir_tree::node_types::{
     bits_in, bits_width, is_array_of, is_array_sized, is_bits, is_bits_of, is_token, parts_of,
     same_type,
 };
+use ir_tree::{Attributes, Channel, IrType, Node, Operand};
 
 /// What decides the types of operands.
 #[derive(Clone, Copy)]

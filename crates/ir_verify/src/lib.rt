@@ -8,6 +8,8 @@ mod fitting;
 mod lines;
 mod names;
 mod places;
+pub mod same;
+pub mod typed;
 mod verified;
 
 pub use places::{Places, ProcPlaces};

@@ -4,7 +4,7 @@ ghost use Rattle.std.specs.Prelude.{◌≡◌, [], ℕ, List, length, not, slice
 ghost use Rattle.ir_tree.specs.declared.ir_type.IrType.{Token};
 ghost use Rattle.std.specs.Option.{option_copied};
 ghost use Rattle.ir_verify.specs.Checks.{noted, limit_at};
-ghost use Rattle.ir_types.specs.Types.{widths_in};
+ghost use Rattle.ir_tree.specs.NodeTypes.Types.{widths_in};
 ghost use Rattle.ir_verify.specs.Inner.Scopes.{seen_by};
 ghost use Rattle.ir_verify.specs.Lines.{is_plain, is_among, type_limits, is_value_of, is_some_proc, package_checks, is_named_well, is_some_depth, depth_in, is_channel_typed, is_state, is_after_all, is_id_after, is_there, are_there, is_there_if, attributes_there, is_named, is_operand, are_only, is_first_part, is_token_of, is_start, follows, role_there, token_is, first_token_is, is_chained_role, is_chained, may_receive, may_send, is_free, is_at_end, is_literal_of, is_typed, own_levels, channel_checks, head_checks, node_checks, next_checks};
 
@@ -12,8 +12,10 @@ use crate::checks::{note_limit, note_rule};
 use crate::fitting::{Scope, node_fits};
 use crate::names::is_name;
 use delay_model::Op;
+use ir_tree::node_types::{
+    bounded, constant_fits, leaves_of, levels_of, marks_of, same_type, width_of,
+};
 use ir_tree::{Attributes, Channel, Constant, Ends, IrType, Node, Operand, Proc, Role};
-use ir_types::{bounded, constant_fits, leaves_of, levels_of, marks_of, same_type, width_of};
 use xb_span::{Fault, Span, What};
 
 /// What the nodes before leave: whether one of them is an `after_all`, the last site, and the ends of channels with a site.

@@ -3,9 +3,9 @@
 ghost use Rattle.std.specs.Prelude.{◌≡◌, slice_index};
 ghost use Rattle.ir_verify.specs.Lines.{name_goes_on, all_go_on, is_name};
 
+use base::texts::{begins_word, is_word_byte};
 use std::alloc::{AllocError, Global};
 use std::collections::BTreeMap;
-use texts::{begins_word, is_word_byte};
 
 /// Whether a text can have this name: a letter or `_`, then letters, digits, `_`, `.`, and `/` without another one behind it.
 pub fn is_name(name: &str) -> bool

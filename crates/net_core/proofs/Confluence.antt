@@ -5,9 +5,9 @@ use Rattle.std.specs.Prelude.{slice_get}
 use Rattle.std.proofs.lemmas.Bool.Decides.{nat_tests}
 use Rattle.net_core.specs.declared.event.Event.{Event}
 use Rattle.net_core.specs.Cuts.{Proc, Run, Cut, IsWithin, empty_cut, reach, round, rounds, most_events, final_cut}
-use Rattle.lists.specs.Front.{IsFront}
+use Rattle.base.specs.Lists.Front.{IsFront}
 use Rattle.net_core.specs.Machine.{position_in, next_of, goes_by, goes, with_event, stepped_by, stepped, after_steps}
-use Rattle.lists.proofs.Lemmas.Fronts.{IsFront-refl, IsFront-trans, IsFront-append, IsFront-antisym}
+use Rattle.base.proofs.Lemmas.Lists.Fronts.{IsFront-refl, IsFront-trans, IsFront-append, IsFront-antisym}
 use Rattle.net_core.proofs.Reach.{reach_grows}
 use Rattle.net_core.proofs.Rounds.{final_stays}
 use Rattle.net_core.proofs.Steps.{goes_extends, stays_whole, reach_none}

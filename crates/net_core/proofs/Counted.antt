@@ -13,12 +13,12 @@ use Rattle.net_core.specs.declared.event.Event.TheVariants.{Recv, Send, End}
 use Rattle.net_core.specs.Behavior.{Behavior, chan_at}
 use Rattle.net_core.specs.Trace.{Histories}
 use Rattle.net_core.specs.Cuts.{Proc, Run, Cut, IsWithin, sites_of, sites_at, words_sent, count_received, words_at, received_at, room_by, room_at, fits_after, longest_fit, trace_of, reach, round, final_cut}
-use Rattle.lists.specs.Front.{IsFront}
+use Rattle.base.specs.Lists.Front.{IsFront}
 use mathlib.Core.Path.{fun_ext}
 use Rattle.net_core.specs.Machine.{Position, opened, moved, left_after, goes}
 use Rattle.net_core.proofs.Steps.{reach_is, reach_none}
 use Rattle.net_core.proofs.Confluence.{stuck_is_final}
-use Rattle.lists.proofs.Lemmas.Fronts.{IsFront-refl, rest_of}
+use Rattle.base.proofs.Lemmas.Lists.Fronts.{IsFront-refl, rest_of}
 use Rattle.net_core.proofs.Traces.{IsLonger}
 use Rattle.net_core.proofs.Resume.{trace_from, trace_opened, has_word, is_left, goes_on, front_goes, left_grows, moved_grows}
 use Rattle.net_core.proofs.Reach.{longest_fit-front, longest_fit_resumes, longest_fit_step, words_at_grow}

@@ -12,10 +12,10 @@ use Rattle.net_core.specs.declared.outcome.Stall.{Stall}
 use Rattle.net_core.specs.Behavior.{chan_at}
 use Rattle.net_core.specs.Trace.{Histories, trace}
 use Rattle.net_core.specs.Cuts.{Proc, Run, Cut, count_received, words_at, room_at, reach}
-use Rattle.lists.specs.Front.{IsFront}
+use Rattle.base.specs.Lists.Front.{IsFront}
 use Rattle.net_core.specs.Machine.{Position, opened, moved, left_after, position_after, position_in, next_of, finds_word}
 use Rattle.net_core.specs.Outcomes.{state_after, count_ends, with_one_more, next_in, stall_for, stall_by, stall_in}
-use Rattle.lists.proofs.Lemmas.Fronts.{IsFront-trans, IsFront-append}
+use Rattle.base.proofs.Lemmas.Lists.Fronts.{IsFront-trans, IsFront-append}
 use Rattle.net_core.proofs.Traces.{IsLonger, trace_grows}
 use Rattle.net_core.proofs.Resume.{trace_from, trace_opened, trace_resumes, ends_done, position_grows, words_after}
 use Rattle.net_core.proofs.Reach.{longest_fit-front}

@@ -10,10 +10,10 @@ use Rattle.net_core.specs.declared.event.Event.TheVariants.{Recv, Send, End}
 use Rattle.net_core.specs.declared.outcome.Stall.{Stall}
 use Rattle.net_core.specs.Behavior.{chan_at}
 use Rattle.net_core.specs.Cuts.{Proc, Run, Cut, sites_of, sites_at, words_sent, count_received, words_at, room_at, fits_after, longest_fit, trace_of, round, final_cut}
-use Rattle.lists.specs.Front.{IsFront}
+use Rattle.base.specs.Lists.Front.{IsFront}
 use Rattle.net_core.specs.Machine.{opened, position_in, next_of, finds_word, goes_by, goes}
 use Rattle.net_core.specs.Outcomes.{count_ends, stall_for, stall_in}
-use Rattle.lists.proofs.Lemmas.Fronts.{IsFront-refl, IsFront-trans, IsFront-length}
+use Rattle.base.proofs.Lemmas.Lists.Fronts.{IsFront-refl, IsFront-trans, IsFront-length}
 use Rattle.net_core.proofs.Reach.{longest_fit_step}
 use Rattle.net_core.proofs.Resume.{trace_from}
 use Rattle.net_core.proofs.Rounds.{final_stays}

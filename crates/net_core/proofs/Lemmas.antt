@@ -11,7 +11,7 @@ use Rattle.net_core.specs.declared.outcome.Stall.{Stall}
 use Rattle.net_core.specs.Behavior.{Behavior, IsOpen, KeepsTypes, next_event}
 use Rattle.net_core.specs.Trace.{Histories, trace}
 use Rattle.net_core.specs.Cuts.{Proc, Run, Cut, IsWithin, empty_cut, sites_at, words_sent, count_received, words_at, room_at, trace_of, round, unbounded_round, final_cut, unbounded_cut}
-use Rattle.lists.specs.Front.{IsFront}
+use Rattle.base.specs.Lists.Front.{IsFront}
 use Rattle.net_core.specs.Machine.{opened, position_after, position_in, next_of, finds_word, goes_by, goes, after_steps}
 use Rattle.net_core.specs.Outcomes.{count_ends, stall_for, stall_in, end_of, outcome_of}
 use Rattle.net_core.specs.declared.net.Net.{Net}
@@ -19,7 +19,7 @@ use Rattle.net_core.specs.WellFormed.{IsNet, IsInputs, IsOutcome, AreBehaviorsOf
 use Rattle.net_core.specs.Shows.{Shows}
 use Rattle.net_core.specs.Counted.{IsCounted}
 use Rattle.net_core.specs.Nexts.{EventFits, WaitsForAWord}
-use Rattle.lists.proofs.Lemmas.Fronts.{IsFront-refl}
+use Rattle.base.proofs.Lemmas.Lists.Fronts.{IsFront-refl}
 use Rattle.net_core.proofs.Traces.{trace_grows, longer_trace}
 use Rattle.net_core.proofs.Resume.{trace_opened, position_grows}
 use Rattle.net_core.proofs.Receives.{received_within, stops_at, goes_further}

@@ -7,10 +7,10 @@ use Rattle.net_core.specs.declared.event.Event.{Event}
 use Rattle.net_core.specs.Behavior.{Behavior, IsInDirection, TurnFits, IsOpen, KeepsTypes, next_event}
 use Rattle.net_core.specs.Trace.{Histories}
 use Rattle.net_core.specs.Cuts.{Proc}
-use Rattle.lists.specs.Front.{IsFront}
+use Rattle.base.specs.Lists.Front.{IsFront}
 use Rattle.net_core.specs.Machine.{opened, next_of, position_after}
 use Rattle.net_core.specs.Nexts.{EventFits}
-use Rattle.lists.proofs.Lemmas.Fronts.{IsFront-append}
+use Rattle.base.proofs.Lemmas.Lists.Fronts.{IsFront-append}
 use Rattle.net_core.proofs.Resume.{trace_from, trace_resumes, front_goes, words_after}
 use Rattle.net_core.proofs.Openings.{EventAt, receives_at, sends_at, ends_with, next_at}
 

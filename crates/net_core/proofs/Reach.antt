@@ -13,8 +13,8 @@ use Rattle.net_core.specs.declared.event.Event.TheVariants.{Recv, Send, End}
 use Rattle.net_core.specs.Behavior.{chan_at}
 use Rattle.net_core.specs.Trace.{Histories}
 use Rattle.net_core.specs.Cuts.{Proc, Run, Cut, IsWithin, sites_at, sender, receiver, words_sent, count_received, words_by, words_at, received_at, room_by, room_at, fits_after, longest_fit, trace_of, reach}
-use Rattle.lists.specs.Front.{IsFront}
-use Rattle.lists.proofs.Lemmas.Fronts.{IsFront-refl}
+use Rattle.base.specs.Lists.Front.{IsFront}
+use Rattle.base.proofs.Lemmas.Lists.Fronts.{IsFront-refl}
 use Rattle.net_core.proofs.Traces.{IsLonger, trace_grows}
 
 -- what is sent and received grows with the events

@@ -8,10 +8,10 @@ use Rattle.net_core.specs.declared.event.Event.TheVariants.{Recv, Send, End}
 use Rattle.net_core.specs.Behavior.{Behavior, chan_at}
 use Rattle.net_core.specs.Trace.{Histories, trace}
 use Rattle.net_core.specs.Cuts.{Proc, count_received}
-use Rattle.lists.specs.Front.{IsFront}
+use Rattle.base.specs.Lists.Front.{IsFront}
 use Rattle.net_core.specs.Machine.{Position, opened, moved, left_after, position_after, next_of, finds_word}
 use Rattle.net_core.specs.Nexts.{WaitsForAWord}
-use Rattle.lists.proofs.Lemmas.Fronts.{IsFront-refl, IsFront-append_both}
+use Rattle.base.proofs.Lemmas.Lists.Fronts.{IsFront-refl, IsFront-append_both}
 use Rattle.net_core.proofs.Resume.{trace_from, trace_opened, has_word, is_left, goes_on, front_goes, words_after, trace_resumes, words_after-drop}
 use Rattle.net_core.proofs.Steps.{found_by_count}
 use Rattle.net_core.proofs.Confluence.{eqb-same}

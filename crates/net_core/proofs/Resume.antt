@@ -12,7 +12,7 @@ use Rattle.net_core.specs.declared.event.Event.TheVariants.{Recv, Send, End}
 use Rattle.net_core.specs.Behavior.{Behavior, Turn, Skip, Receive, Give, chan_at, event_from, next_event}
 use Rattle.net_core.specs.Trace.{Histories, without_first, events_from, trace}
 use Rattle.net_core.specs.Cuts.{count_received, Proc}
-use Rattle.lists.specs.Front.{IsFront}
+use Rattle.base.specs.Lists.Front.{IsFront}
 use Rattle.net_core.specs.Machine.{Position, opened, moved, left_after, position_after, next_of}
 use Rattle.net_core.proofs.Traces.{IsLonger, longer_without, at_turn, on_word, at_site}
 

@@ -12,7 +12,7 @@ use Rattle.net_core.specs.declared.event.Event.{Event}
 use Rattle.net_core.specs.Behavior.{Behavior, Turn, Skip, Receive, Give}
 use Rattle.net_core.specs.Trace.{Histories, without_first, events_from, trace}
 use Rattle.net_core.specs.Cuts.{Proc, Run, Cut, IsWithin, trace_of, reach, round, unbounded_round, rounds, most_events, final_cut, unbounded_cut, sites_at, room_at, words_at}
-use Rattle.lists.proofs.Lemmas.Fronts.{IsFront-length, IsFront-same}
+use Rattle.base.proofs.Lemmas.Lists.Fronts.{IsFront-length, IsFront-same}
 use Rattle.net_core.proofs.Traces.{at_turn, on_word, at_site}
 use Rattle.net_core.proofs.Reach.{reach_grows, trace_of_reach_grows, longest_fit-front}
 

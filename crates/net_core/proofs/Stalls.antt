@@ -15,12 +15,12 @@ use Rattle.net_core.specs.Behavior.{Behavior, chan_at}
 use Rattle.net_core.specs.Cuts.{Proc, Run, Cut, words_at}
 use Rattle.net_core.specs.Machine.{opened, position_in, next_of}
 use Rattle.net_core.specs.Outcomes.{stream_of, state_after, stall_for, stall_in, end_of}
-use Rattle.lists.specs.Front.{IsFront}
-use Rattle.lists.specs.Indexed.{indexed}
+use Rattle.base.specs.Lists.Front.{IsFront}
+use Rattle.base.specs.Lists.Indexed.{indexed}
 use Rattle.net_core.specs.Shows.{Shows, progress_of, channel_of, IsBehaviorOf}
 use Rattle.net_core.specs.Inner.Making.{end_with, stream_in}
-use Rattle.lists.proofs.Lemmas.Indexed.{indexed_get}
-use Rattle.lists.proofs.Lemmas.Places.{same_by_get}
+use Rattle.base.proofs.Lemmas.Lists.Indexed.{indexed_get}
+use Rattle.base.proofs.Lemmas.Lists.Places.{same_by_get}
 use Rattle.std.proofs.lemmas.Option.{get_or_from_slice_get}
 use Rattle.std.proofs.lemmas.Option.{slice_get-map}
 use Rattle.net_core.proofs.Shown.{chan_at-there}

@@ -16,10 +16,10 @@ use Rattle.net_core.specs.Behavior.{Behavior, IsOpen}
 use Rattle.net_core.specs.Cuts.{Proc, empty_cut, place_of, sends_on, receives_on, sender, receiver, words_sent, count_received, words_by, words_at, received_at}
 use Rattle.net_core.specs.Machine.{opened, position_after, position_in}
 use Rattle.net_core.specs.WellFormed.{IsNet, IsSiteOf, IsInputs, AreWordsOf, IsBehaviorFor, AreBehaviorsOf, EachKeepsTypes, procs_of, run_of, IsRun}
-use Rattle.lists.specs.Indexed.{indexed}
+use Rattle.base.specs.Lists.Indexed.{indexed}
 use Rattle.net_core.specs.Shows.{Shows, progress_at, progress_of, channel_of}
 use Rattle.net_core.specs.Inner.Making.{opened_progress, filled_channel}
-use Rattle.lists.proofs.Lemmas.Indexed.{indexed_get}
+use Rattle.base.proofs.Lemmas.Lists.Indexed.{indexed_get}
 use Rattle.net_core.proofs.Openings.{open_first}
 use Rattle.net_core.proofs.Confluence.{eqb-same}
 use Rattle.net_core.proofs.Flows.{eqb-itself}

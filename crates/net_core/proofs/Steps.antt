@@ -10,9 +10,9 @@ use Rattle.net_core.specs.declared.event.Event.TheVariants.{Recv, Send, End}
 use Rattle.net_core.specs.Behavior.{Behavior, chan_at}
 use Rattle.net_core.specs.Trace.{Histories}
 use Rattle.net_core.specs.Cuts.{Proc, Run, Cut, IsWithin, sites_of, count_received, words_at, room_at, fits_after, longest_fit, trace_of, reach}
-use Rattle.lists.specs.Front.{IsFront}
+use Rattle.base.specs.Lists.Front.{IsFront}
 use Rattle.net_core.specs.Machine.{Position, opened, moved, left_after, position_after, position_in, next_of, finds_word, goes_by}
-use Rattle.lists.proofs.Lemmas.Fronts.{IsFront-trans, IsFront-append_both}
+use Rattle.base.proofs.Lemmas.Lists.Fronts.{IsFront-trans, IsFront-append_both}
 use Rattle.net_core.proofs.Resume.{trace_from, trace_opened, has_word, is_left, goes_on, ends_done, ends_waiting, trace_resumes, words_after, words_after-drop, position_grows}
 use Rattle.net_core.proofs.Reach.{longest_fit-front, longest_fit_resumes, longest_fit_step, words_at_grow}
 

@@ -7,7 +7,7 @@ use Rattle.net_core.specs.declared.event.Event.{Event}
 use Rattle.net_core.specs.declared.event.Event.TheVariants.{Recv, Send}
 use Rattle.net_core.specs.Behavior.{Behavior, Turn, Skip, Receive, Give}
 use Rattle.net_core.specs.Trace.{Histories, without_first, events_from, trace}
-use Rattle.lists.specs.Front.{IsFront}
+use Rattle.base.specs.Lists.Front.{IsFront}
 
 -- every channel has at least these words
 abbrev pub IsLonger : Histories → Histories → Type 0

@@ -3,8 +3,8 @@ use Rattle.std.proofs.Common.{◌≡◌, ℕ, zero, suc, ◌<◌, ◌^◌, List,
 use Rattle.std.specs.Prelude.{slice_get, option_map, nat_lt, ◌⊎◌}
 use Rattle.std.proofs.lemmas.List.{length-map}
 use Rattle.std.proofs.lemmas.Option.{slice_get_within}
-use Rattle.lists.specs.Front.{IsFront}
-use Rattle.lists.proofs.Lemmas.Indexed.{indexed_get, length-indexed}
+use Rattle.base.specs.Lists.Front.{IsFront}
+use Rattle.base.proofs.Lemmas.Lists.Indexed.{indexed_get, length-indexed}
 use Rattle.xb_bits.specs.Word.{Word}
 use Rattle.xb_value.specs.declared.ty.Ty.{Ty}
 use Rattle.xb_value.specs.declared.value.Value.{Value}

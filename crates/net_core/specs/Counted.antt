@@ -3,7 +3,7 @@ use Rattle.std.specs.Prelude.{◌≡◌, ◌<◌, ◌≤◌, ℕ, true, length, 
 use Rattle.net_core.specs.declared.net.Chan.{Chan}
 use Rattle.net_core.specs.declared.net.Kind.TheVariants.{Inner}
 use Rattle.net_core.specs.Cuts.{Run, Cut, sites_at, words_sent, count_received, words_at, room_at, trace_of, final_cut}
-use Rattle.lists.specs.Front.{IsFront}
+use Rattle.base.specs.Lists.Front.{IsFront}
 
 pub record IsCounted (run : Run) (cut : Cut) : Type 0 where
   -- each proc has made a front of its trace over the words of the final cut

@@ -12,7 +12,7 @@
 --   round 3: the same. c has sent 0 and 1, d has sent 1, all was received, and both are done.
 use Rattle.std.specs.Prelude.{ℕ, zero, suc, ◌+◌, ◌*◌, Bool, true, ◌&&◌, not, List, [], ◌∷◌, ◌++◌, length, get_or, slice_get, nat_lt, if◌then◌else◌, ◌==◌, sum_by, Option, Some, None}
 use Rattle.std.specs.List.{list_any}
-use Rattle.lists.specs.Front.{IsFront}
+use Rattle.base.specs.Lists.Front.{IsFront}
 use Rattle.xb_bits.specs.Word.{Word}
 use Rattle.xb_value.specs.declared.value.Value.{Value}
 use Rattle.net_core.specs.declared.net.Site.{Site}

@@ -1,7 +1,7 @@
 -- What a cut leaves: the stream of each channel, and where each proc stands. All of it is read off the events that the
 -- procs have made, and off their traces.
 use Rattle.std.specs.Prelude.{ℕ, suc, true, false, List, [], ◌∷◌, ◌++◌, length, take, map, slice_get, Option, Some, None}
-use Rattle.lists.specs.Indexed.{indexed}
+use Rattle.base.specs.Lists.Indexed.{indexed}
 use Rattle.xb_bits.specs.Word.{word}
 use Rattle.xb_value.specs.declared.value.Value.{Value}
 use Rattle.net_core.specs.declared.net.Chan.{Chan}

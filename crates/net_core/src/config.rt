@@ -1,5 +1,5 @@
 ghost use Rattle.std.specs.Prelude.{◌≡◌, map, length, IfOk};
-ghost use Rattle.lists.specs.Indexed.{indexed};
+ghost use Rattle.base.specs.Lists.Indexed.{indexed};
 ghost use Rattle.net_core.specs.Inner.Making.{opened_progress, filled_channel, end_with, stream_in};
 
 use crate::body::Body;
@@ -90,7 +90,7 @@ impl Config {
     ghost use Rattle.net_core.specs.declared.progress.Progress.{Progress};
     ghost use Rattle.net_core.specs.Inner.Making.{has_word, has_room, SiteData, IsSiteData};
     ghost use Rattle.net_core.specs.Inner.Making.{IsReceiveMade, IsSendMade, IsEndMade, TriesReceive, TriesSend, IsStandingFor, CanMake, TriesEvent};
-    ghost use Rattle.lists.specs.Indexed.{indexed};
+    ghost use Rattle.base.specs.Lists.Indexed.{indexed};
     ghost use Rattle.net_core.specs.Outcomes.{outcome_of, stall_in, behaviors_of};
     ghost use Rattle.net_core.specs.Behavior.{Behavior};
     ghost use Rattle.net_core.specs.Cuts.{Run, Cut, empty_cut};

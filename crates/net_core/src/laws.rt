@@ -10,7 +10,7 @@ ghost use Rattle.net_core.specs.declared.outcome.Stall.{Stall};
 ghost use Rattle.net_core.specs.Behavior.{Behavior, IsOpen, KeepsTypes, next_event};
 ghost use Rattle.net_core.specs.Trace.{Histories, trace};
 ghost use Rattle.net_core.specs.Cuts.{Proc, Run, Cut, IsWithin, empty_cut, sites_at, words_sent, count_received, words_at, room_at};
-ghost use Rattle.lists.specs.Front.{IsFront};
+ghost use Rattle.base.specs.Lists.Front.{IsFront};
 ghost use Rattle.net_core.specs.Cuts.{round, unbounded_round, final_cut, unbounded_cut};
 ghost use Rattle.net_core.specs.Machine.{goes, opened, next_of, finds_word, position_after, after_steps};
 ghost use Rattle.net_core.specs.Outcomes.{count_ends, stall_in, outcome_of};

@@ -10,9 +10,9 @@ mod net;
 mod outcome;
 mod progress;
 
+pub use base::texts::Name;
 pub use body::Body;
 pub use config::Config;
 pub use event::Event;
 pub use net::{Chan, Inputs, Kind, Net, ProcHead, Site};
 pub use outcome::{Outcome, ProcEnd, Stall, Stream};
-pub use texts::Name;

@@ -1,4 +1,4 @@
-use texts::Name;
+use base::texts::Name;
 use xb_bits::Bits;
 use xb_value::{Seq, Ty, Value};
 

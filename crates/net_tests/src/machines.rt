@@ -1,6 +1,6 @@
-use block_fifo::RowFifo;
-use block_machine::{Handling, Logic, Table2, Table3, pipeline_logic};
 use block_samples::{Action, Asked, Machine, Next, Ports, Sample, SampleSite, word};
+use block_stage::fifo::RowFifo;
+use block_stage::machine::{Handling, Logic, Table2, Table3, pipeline_logic};
 use xb_bits::Bits;
 
 /// What stands at the ports of channels 0 and 1.

@@ -1,14 +1,14 @@
 ghost use Rattle.std.specs.Prelude.{◌≡◌, ◌<◌, ◌≤◌, ◌+◌, IfOk, Some};
 ghost use Rattle.task_queue.specs.Passes.{IsTaskPass, knows};
-ghost use Rattle.proc_round.specs.Shares.{AreAll, HoldsNone};
+ghost use Rattle.task_queue.specs.Round.Shares.{AreAll, HoldsNone};
 
-use proc_round::{Share, Steps, round};
 use std::alloc::{AllocError, Global};
 use std::sync::Wait;
 use std::sync::atomic::{AtomicBool, Ordering};
 use std::test::Fail;
 use std::thread;
 use std::thread::Threads;
+use task_queue::round::{Share, Steps, round};
 use task_queue::{Numbered, TaskPass, TaskQueue, make};
 use xb_io::{Gate, OpenGate};
 

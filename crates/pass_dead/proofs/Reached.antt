@@ -8,7 +8,7 @@ use Rattle.ir_tree.specs.declared.package.Proc.{Proc}
 use Rattle.ir_tree.specs.NodeValues.{role_of}
 use Rattle.ir_rebuild.specs.Operands.{operands_in}
 use Rattle.ir_rebuild.specs.Kept.{is_site}
-use Rattle.ir_normal.specs.Normal.{IsReached, by_next, as_site, by_node, AreNeeded}
+use Rattle.ir_rebuild.specs.Normal.Normal.{IsReached, by_next, as_site, by_node, AreNeeded}
 use Rattle.pass_dead.specs.Inner.Marks.{marked, marked_all, visited_if, visited}
 
 -- among these operands one names the node of a place

@@ -4,7 +4,7 @@ ghost use Rattle.std.specs.Prelude.{◌≡◌, ◌++◌, ◌<◌, true, false, l
 ghost use Rattle.ir_tree.specs.NodeValues.{role_of};
 ghost use Rattle.ir_rebuild.specs.Operands.{operands_in, attribute_operands, optional_operand};
 ghost use Rattle.ir_rebuild.specs.Kept.{is_site, AreKept, StandBefore};
-ghost use Rattle.ir_normal.specs.Normal.{AreNeeded};
+ghost use Rattle.ir_rebuild.specs.Normal.Normal.{AreNeeded};
 ghost use Rattle.pass_dead.specs.Inner.Marks.{marked, marked_all, visited};
 
 use ir_tree::{Attributes, Node, Operand, Proc, Role};

@@ -2,7 +2,7 @@ ghost use Rattle.std.specs.Prelude.{◌≡◌, IfOk};
 ghost use Rattle.ir_tree.specs.SameBehavior.{SameBehavior};
 ghost use Rattle.ir_verify.specs.Verified.{IsVerified};
 ghost use Rattle.ir_rebuild.specs.Walks.{EachBecomes};
-ghost use Rattle.ir_normal.specs.Normal.{AreNeeded};
+ghost use Rattle.ir_rebuild.specs.Normal.Normal.{AreNeeded};
 ghost use Rattle.pass_dead.specs.Stays.{Stays};
 
 use crate::marks::needed;
@@ -15,7 +15,7 @@ use std::alloc::{AllocError, Global};
 pub struct Dead;
 
 impl Rewrite for Dead {
-    ghost use Rattle.ir_normal.specs.Normal.{AreNeeded};
+    ghost use Rattle.ir_rebuild.specs.Normal.Normal.{AreNeeded};
     ghost use Rattle.pass_dead.specs.Stays.{Stays};
 
     ghost marks = { AreNeeded };

@@ -6,7 +6,7 @@ use Rattle.ir_tree.specs.declared.constant.Constant.{Constant}
 use Rattle.ir_tree.specs.declared.node.Operand.{Operand}
 use Rattle.ir_tree.specs.declared.node.Operand.TheVariants as operand
 use Rattle.ir_tree.specs.declared.node.Node.{Node}
-use Rattle.ir_types.specs.Types.{marks_of}
+use Rattle.ir_tree.specs.NodeTypes.Types.{marks_of}
 use Rattle.ir_verify.specs.Lines.{is_literal_of}
 use Rattle.ir_rebuild.specs.Built.{IsPlaced, AreBuilt, Rewrites, is_plain_op, numbered}
 use Rattle.ir_rebuild.proofs.Lemmas.{appended, values_before}

@@ -21,17 +21,17 @@ use Rattle.ir_tree.specs.declared.node.Role.TheVariants as role
 use Rattle.ir_tree.specs.Constants.{no_value}
 use Rattle.ir_tree.specs.Types.{ty_of}
 use Rattle.ir_tree.specs.NodeValues.{Setting, pure_value, role_of, role_by, role_value}
-use Rattle.ir_types.specs.Types.{marks_of}
+use Rattle.ir_tree.specs.NodeTypes.Types.{marks_of}
 use Rattle.ir_verify.specs.Fitting.{Types, type_in, type_or, types_behind, types_fit, node_fits}
 use Rattle.ir_verify.specs.Lines.{is_literal_of}
-use Rattle.ir_typed.proofs.Tests.{limited}
-use Rattle.ir_typed.proofs.Scopes.{IsTyped, AreTyped, none_typed, token_value, operands_typed}
-use Rattle.ir_typed.proofs.Nodes.{HasChannel, HasNoFault, node_typed}
+use Rattle.ir_verify.proofs.Lemmas.Typed.Tests.{limited}
+use Rattle.ir_verify.proofs.Lemmas.Typed.Scopes.{IsTyped, AreTyped, none_typed, token_value, operands_typed}
+use Rattle.ir_verify.proofs.Lemmas.Typed.Nodes.{HasChannel, HasNoFault, node_typed}
 use Rattle.ir_rebuild.specs.Operands.{node_of, attribute_operands}
 use Rattle.ir_rebuild.specs.Moves.{moved, moved_attributes, moved_node}
 use Rattle.ir_rebuild.specs.Built.{IsPlaced, AreBuilt, is_plain_op}
 use Rattle.ir_rebuild.proofs.Lemmas.{fits_moved}
-use Rattle.ir_normal.proofs.Lemmas.{op_is_literal, constant_there}
+use Rattle.ir_rebuild.proofs.Lemmas.Normal.{op_is_literal, constant_there}
 use Rattle.pass_fold.specs.Folds.{is_literal_op, is_literal_node, is_literal, is_foldable, is_foldable_by, value_by as literal_by, value_at_op, value_in, value_there, literal_value, places_from, places_to, shown_attributes, index_values, shown_values, folded_value}
 use Rattle.pass_fold.proofs.Values.{same_op, folded_all}
 

@@ -18,8 +18,8 @@ use Rattle.ir_tree.specs.Operations.{plain_value, on_word, on_words, on_tuple, o
 use Rattle.ir_tree.specs.NodeValues.{operand_value, pure_value}
 use Rattle.ir_verify.specs.Fitting.{types_behind, types_fit}
 use Rattle.ir_rebuild.specs.Built.{AreBuilt, AreValues, is_plain_op}
-use Rattle.ir_normal.specs.LeftSides as normal
-use Rattle.ir_normal.proofs.Lemmas.{op_is_literal, constant_there}
+use Rattle.ir_rebuild.specs.Normal.LeftSides as normal
+use Rattle.ir_rebuild.proofs.Lemmas.Normal.{op_is_literal, constant_there}
 use Rattle.pass_fold.specs.Folds.{is_literal_op, is_literal_node, is_literal, are_folded, is_foldable, is_foldable_by, value_by, value_at_op, value_in, value_there, literal_value, places_from, places_to, folded_value}
 
 both : (a b : Bool) → a && b ≡ true → (a ≡ true) × (b ≡ true)

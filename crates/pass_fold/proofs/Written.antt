@@ -17,8 +17,8 @@ use Rattle.ir_tree.specs.declared.constant.Constant.{Constant, out-Constant, Num
 use Rattle.ir_tree.specs.declared.constant.Constant.TheOpen.{Constant-F}
 use Rattle.ir_tree.specs.declared.constant.Constant.TheViews.{outs-Number, outs-Tuple, outs-Array}
 use Rattle.ir_tree.specs.Constants.{bits_where, each_read, number_read, tuple_read, array_read, read_step, constant_value}
-use Rattle.ir_types.specs.Constants.{number_fits, each_fits, tuple_fits, array_fits, constant_fits}
-use Rattle.ir_types.proofs.Lemmas.ConstantCases.{fits-Bits, fits-Tuple, fits-Array}
+use Rattle.ir_tree.specs.NodeTypes.Constants.{number_fits, each_fits, tuple_fits, array_fits, constant_fits}
+use Rattle.ir_tree.proofs.Lemmas.NodeTypes.ConstantCases.{fits-Bits, fits-Tuple, fits-Array}
 use Rattle.pass_fold.specs.Constants.{constant_step, constant_of}
 
 both : (a b : Bool) → a && b ≡ true → (a ≡ true) × (b ≡ true)

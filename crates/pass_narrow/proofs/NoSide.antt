@@ -23,14 +23,14 @@ use Rattle.ir_tree.specs.declared.node.Operand.TheVariants as operand
 use Rattle.ir_tree.specs.declared.node.Node.{Node}
 use Rattle.ir_tree.specs.declared.node.Attributes.{Attributes}
 use Rattle.ir_tree.specs.declared.node.Attributes.TheVariants as attributes
-use Rattle.ir_types.specs.Types.{bits_width, width_there, is_tuple_where, passes, parts_there, each_same, same_type}
+use Rattle.ir_tree.specs.NodeTypes.Types.{bits_width, width_there, is_tuple_where, passes, parts_there, each_same, same_type}
 use Rattle.ir_verify.specs.Fitting.{Types, type_in, type_or, types_behind, part_is, types_fit, plain_fits, slice_fits, dynamic_fits, extend_fits, sel_fits, tuple_index_fits, index_fits, predicate_fits, first_is_token, site_fits, is_bit_slice, is_dynamic_bit_slice, is_extend, is_sel, is_tuple_index, is_literal}
-use Rattle.ir_typed.proofs.Checked.{both_true}
-use Rattle.ir_typed.proofs.Tests.{types_same, tuple_is}
+use Rattle.ir_verify.proofs.Lemmas.Typed.Checked.{both_true}
+use Rattle.ir_verify.proofs.Lemmas.Typed.Tests.{types_same, tuple_is}
 use Rattle.ir_rebuild.specs.Built.{IsPlaced, AreBuilt, is_plain_op}
-use Rattle.ir_normal.specs.Origins.{Origin, made_by, origin}
-use Rattle.ir_normal.specs.LeftSides as left
-use Rattle.ir_normal.specs.LeftSides.{is_extension, width_if, extended_in, extended_from, is_made, is_slice_op, is_tuple_op, lie_in_one, has_left_side}
+use Rattle.ir_rebuild.specs.Normal.Origins.{Origin, made_by, origin}
+use Rattle.ir_rebuild.specs.Normal.LeftSides as left
+use Rattle.ir_rebuild.specs.Normal.LeftSides.{is_extension, width_if, extended_in, extended_from, is_made, is_slice_op, is_tuple_op, lie_in_one, has_left_side}
 use Rattle.pass_narrow.specs.declared.operands.Part.{Part}
 use Rattle.pass_narrow.specs.Inner.Views.{width_at, width_in, same_kind, extension_in, extension_at, extended, slice_in, slice_at, sliced, part_inside, part_from, part_of, parts_in, parts_at, element_of, element_in, element_at as tuple_at}
 use Rattle.pass_narrow.specs.declared.left_side.RightSide.TheVariants as right

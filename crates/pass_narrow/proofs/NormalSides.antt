@@ -15,18 +15,18 @@ use Rattle.ir_tree.specs.declared.node.Operand.TheVariants as operand
 use Rattle.ir_tree.specs.declared.node.Node.{Node}
 use Rattle.ir_tree.specs.declared.node.Attributes.{Attributes}
 use Rattle.ir_tree.specs.declared.node.Attributes.TheVariants as attributes
-use Rattle.ir_types.specs.Types.{bits_width}
+use Rattle.ir_tree.specs.NodeTypes.Types.{bits_width}
 use Rattle.ir_verify.specs.Fitting.{type_in, types_behind}
 use Rattle.ir_verify.specs.Lines.{is_there}
-use Rattle.ir_typed.proofs.Checked.{and_true}
+use Rattle.ir_verify.proofs.Lemmas.Typed.Checked.{and_true}
 use Rattle.ir_rebuild.specs.Operands.{operands_in}
 use Rattle.ir_rebuild.specs.Built.{IsPlaced, AreBuilt, Extends, is_plain_op, numbered}
 use Rattle.ir_rebuild.proofs.Lemmas.{node_there, before_more, last_there}
-use Rattle.ir_normal.specs.Origins.{Origin, origin}
-use Rattle.ir_normal.specs.LeftSides as left
-use Rattle.ir_normal.specs.LeftSides.{has_left_side}
-use Rattle.ir_normal.specs.Normal.{is_literal_node, names_literal, all_literals, IsNormalNode, AreNormal}
-use Rattle.ir_normal.proofs.Lemmas.{normal_more}
+use Rattle.ir_rebuild.specs.Normal.Origins.{Origin, origin}
+use Rattle.ir_rebuild.specs.Normal.LeftSides as left
+use Rattle.ir_rebuild.specs.Normal.LeftSides.{has_left_side}
+use Rattle.ir_rebuild.specs.Normal.Normal.{is_literal_node, names_literal, all_literals, IsNormalNode, AreNormal}
+use Rattle.ir_rebuild.proofs.Lemmas.Normal.{normal_more}
 use Rattle.pass_narrow.specs.declared.left_side.RightSide.{RightSide}
 use Rattle.pass_narrow.specs.declared.left_side.RightSide.TheVariants as right
 use Rattle.pass_narrow.specs.declared.stand_in.StandIn.{StandIn}

@@ -11,7 +11,7 @@ use Rattle.ir_tree.specs.declared.ir_type.IrType.{IrType}
 use Rattle.ir_tree.specs.declared.node.Operand.{Operand}
 use Rattle.ir_tree.specs.declared.node.Operand.TheVariants as operand
 use Rattle.ir_tree.specs.declared.node.Node.{Node}
-use Rattle.ir_types.specs.Types.{bits_width}
+use Rattle.ir_tree.specs.NodeTypes.Types.{bits_width}
 use Rattle.ir_rebuild.specs.Built.{AreBuilt, AreValues, IsPlaced, StandsFor, Extends, is_plain_op, numbered}
 use Rattle.pass_narrow.specs.declared.left_side.RightSide.{RightSide}
 use Rattle.pass_narrow.specs.declared.left_side.RightSide.TheVariants as right

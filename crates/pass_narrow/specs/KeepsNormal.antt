@@ -3,8 +3,8 @@ use Rattle.std.specs.Prelude.{◌≡◌, true, false, List}
 use Rattle.delay_model.specs.declared.op.Extend.TheVariants as extend
 use Rattle.ir_tree.specs.declared.ir_type.IrType.{IrType}
 use Rattle.ir_tree.specs.declared.node.Node.{Node}
-use Rattle.ir_normal.specs.LeftSides.{is_extension, has_left_side}
-use Rattle.ir_normal.specs.Normal.{is_cases, AreNormal}
+use Rattle.ir_rebuild.specs.Normal.LeftSides.{is_extension, has_left_side}
+use Rattle.ir_rebuild.specs.Normal.Normal.{is_cases, AreNormal}
 use Rattle.pass_narrow.specs.declared.stand_in.StandIn.{StandIn}
 use Rattle.pass_narrow.specs.declared.stand_in.StandIn.TheVariants as stand_in
 

@@ -9,7 +9,7 @@ ghost use Rattle.pass_narrow.specs.Numbers.{number};
 ghost use Rattle.pass_narrow.specs.Narrowing.{IsStandIn, Narrows};
 ghost use Rattle.pass_narrow.specs.Nodes.{zero_node, extension_node};
 ghost use Rattle.pass_narrow.specs.Inner.Meant.{GivesNumber, IsRightSide, IsOperation, IsComparison, IsSliceOf, SaysOfSlice, IsInnermost, IsWhole, HasLonger, inner_part, depth};
-ghost use Rattle.ir_normal.specs.Normal.{AreNormal};
+ghost use Rattle.ir_rebuild.specs.Normal.Normal.{AreNormal};
 ghost use Rattle.pass_narrow.specs.KeepsNormal.{HasNoLeftSide, KeepsNormal};
 ghost use Rattle.pass_narrow.specs.Inner.RightSides.{slice_of};
 ghost use Rattle.pass_narrow.specs.Inner.Bare.{IsBare, AreBare, IsLonger, IsNormalSide, row_test};

@@ -3,7 +3,7 @@
 use crate::sample::{node, package};
 use delay_model::{Binary, Compare, Extend, Op, Unary};
 use ir_rebuild::append;
-use ir_text::print_ir;
+use ir_text::printer::print_ir;
 use ir_tree::{Attributes, IrType, Node, Operand, Operands, Package};
 use ir_verify::verify;
 use std::alloc::{AllocError, Global};

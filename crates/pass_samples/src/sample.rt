@@ -73,7 +73,7 @@ fn name(alloc: Global, text: &str) -> Result<Name, AllocError> {
 mod tests {
     use super::{node, package, plain};
     use delay_model::{Binary, Op, Unary};
-    use ir_text::print_ir;
+    use ir_text::printer::print_ir;
     use ir_tree::{Attributes, Constant, IrType, Node, Operand, Operands, Package};
     use ir_verify::verify;
     use std::alloc::{AllocError, Global};

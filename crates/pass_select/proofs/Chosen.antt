@@ -26,15 +26,15 @@ use Rattle.ir_tree.specs.Types.{ty_of, bounded}
 use Rattle.ir_tree.specs.Constants.{no_value, bits_where, number_value, number_read, read_step, constant_value}
 use Rattle.ir_tree.specs.Operations.{chosen, on_word, on_open_word}
 use Rattle.ir_tree.specs.NodeValues.{operand_value, optional_value, pure_value}
-use Rattle.ir_types.specs.Types.{is_bits_where, same_type}
+use Rattle.ir_tree.specs.NodeTypes.Types.{is_bits_where, same_type}
 use Rattle.ir_verify.specs.Fitting.{type_in, type_or, types_behind, types_fit, sel_fits, is_sel, is_like, cases_count, defaults}
 use Rattle.ir_verify.specs.Lines.{is_there, is_there_if, are_there, attributes_there}
-use Rattle.ir_types.proofs.Lemmas.IrTypes.{ty_of-Bits}
-use Rattle.ir_typed.proofs.Tests.{bits_is, same_is}
-use Rattle.ir_typed.proofs.Scopes.{HasWord, word_there}
+use Rattle.ir_tree.proofs.Lemmas.NodeTypes.IrTypes.{ty_of-Bits}
+use Rattle.ir_verify.proofs.Lemmas.Typed.Tests.{bits_is, same_is}
+use Rattle.ir_verify.proofs.Lemmas.Typed.Scopes.{HasWord, word_there}
 use Rattle.ir_rebuild.specs.Built.{IsPlaced, AreBuilt, AreValues, StandsFor, Rewrites, is_plain_op}
 use Rattle.ir_rebuild.proofs.Lemmas.{answered, node_there, has_type}
-use Rattle.ir_normal.specs.Normal.{same_operand}
+use Rattle.ir_rebuild.specs.Normal.Normal.{same_operand}
 use Rattle.pass_select.specs.Choices.{number_there, literal_of, literal_at, number_in, literal_number, is_default, one_of, choice_by, choice_among, choice_in, choice_of}
 
 both : (a b : Bool) → a && b ≡ true → (a ≡ true) × (b ≡ true)

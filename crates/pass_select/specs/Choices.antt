@@ -11,7 +11,7 @@ use Rattle.ir_tree.specs.declared.node.Attributes.{Attributes}
 use Rattle.ir_tree.specs.declared.node.Attributes.TheVariants as attributes
 use Rattle.ir_tree.specs.Operations.{chosen}
 use Rattle.ir_rebuild.specs.Operands.{node_of}
-use Rattle.ir_normal.specs.Normal.{same_operand}
+use Rattle.ir_rebuild.specs.Normal.Normal.{same_operand}
 
 abbrev pub number_there : Constant-F Constant → Option ℕ
 number_there (Constant-F.Number n) = Some n

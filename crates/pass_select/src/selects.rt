@@ -4,7 +4,7 @@ ghost use Rattle.std.specs.Prelude.{◌≡◌};
 ghost use Rattle.std.specs.List.{list_all};
 ghost use Rattle.ir_tree.specs.Operations.{chosen};
 ghost use Rattle.pass_select.specs.Choices.{literal_number, literal_at, literal_of, one_of, choice_of, choice_among, is_default};
-ghost use Rattle.ir_normal.specs.Normal.{same_operand};
+ghost use Rattle.ir_rebuild.specs.Normal.Normal.{same_operand};
 
 use delay_model::Op;
 use ir_rebuild::node_of;

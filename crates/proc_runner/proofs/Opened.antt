@@ -13,7 +13,7 @@ use Rattle.net_core.specs.declared.net.Chan.{Chan}
 use Rattle.net_core.specs.declared.net.Kind.{Kind}
 use Rattle.net_core.specs.declared.net.Kind.TheVariants.{Input, Output, Inner}
 use Rattle.net_core.specs.Cuts.{Run}
-use Rattle.net_streams.specs.Streams.{stream_in}
+use Rattle.chan_queue.specs.Streams.Streams.{stream_in}
 use Rattle.proc_task.specs.Ports.{OutRight, InRight}
 use Rattle.proc_runner.specs.declared.lines.Line.{Line}
 use Rattle.proc_runner.specs.Inner.Opened.{IsLine, HasSend, HasRecv, AreOpened}

@@ -3,8 +3,8 @@ use Rattle.std.proofs.Common.{◌≡◌, ℕ, zero, suc, ◌+◌, ◌<◌, ◌^�
 use Rattle.std.specs.Prelude.{slice_get, option_map}
 use Rattle.std.proofs.lemmas.List.{length-map}
 use Rattle.std.proofs.lemmas.Option.{slice_get-map, slice_get_within, get_or_from_slice_get}
-use Rattle.lists.specs.Indexed.{indexed}
-use Rattle.lists.proofs.Lemmas.Indexed.{indexed_get, indexed_more, length-indexed}
+use Rattle.base.specs.Lists.Indexed.{indexed}
+use Rattle.base.proofs.Lemmas.Lists.Indexed.{indexed_get, indexed_more, length-indexed}
 use Rattle.xb_bits.specs.Word.{Word}
 use Rattle.xb_value.specs.Typing.{IsOfType}
 use Rattle.chan_queue.specs.declared.pass.SendPass.{SendPass}
@@ -17,10 +17,10 @@ use Rattle.net_core.specs.Behavior.{Behavior}
 use Rattle.net_core.specs.Cuts.{Proc, place_of, sender, receiver}
 use Rattle.net_core.specs.WellFormed.{IsNet, IsInputs, AreBehaviorsOf, EachKeepsTypes, procs_of, run_of}
 use Rattle.net_core.proofs.Lemmas.{zipped, run_fits, opening_typed, final_typed, behaviors_zipped}
-use Rattle.net_streams.specs.Moves.{IsTyped}
-use Rattle.proc_outcome.specs.Tasks.{IsRunOf}
-use Rattle.proc_outcome.specs.Places.{head_sends, head_receives}
-use Rattle.proc_outcome.proofs.Lemmas.{sender_is, receiver_is}
+use Rattle.chan_queue.specs.Streams.Moves.{IsTyped}
+use Rattle.proc_task.specs.Outcome.Tasks.{IsRunOf}
+use Rattle.proc_task.specs.Outcome.Places.{head_sends, head_receives}
+use Rattle.proc_task.proofs.Lemmas.Outcome.{sender_is, receiver_is}
 use Rattle.proc_runner.specs.Inner.Opened.{AreOpened}
 use Rattle.proc_runner.specs.Inner.Started.{AreHeads, AreLeft}
 

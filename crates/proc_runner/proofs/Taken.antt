@@ -10,12 +10,12 @@ use Rattle.net_core.specs.declared.net.ProcHead.{ProcHead}
 use Rattle.net_core.specs.declared.net.Site.{Site}
 use Rattle.net_core.specs.declared.net.Kind.TheVariants.{Input, Output}
 use Rattle.net_core.specs.Cuts.{Run, sender, receiver, sends_on, receives_on}
-use Rattle.net_streams.specs.Moves.{IsTyped}
+use Rattle.chan_queue.specs.Streams.Moves.{IsTyped}
 use Rattle.proc_task.specs.declared.port.Outlet.{Outlet}
 use Rattle.proc_task.specs.declared.port.Inlet.{Inlet}
 use Rattle.proc_task.specs.Ports.{IsOutlet, IsInlet, OutRight, InRight}
 use Rattle.proc_task.specs.Moving.{IsNewTask}
-use Rattle.proc_outcome.proofs.Lemmas.{place_passes, sends_site, receives_site}
+use Rattle.proc_task.proofs.Lemmas.Outcome.{place_passes, sends_site, receives_site}
 use Rattle.proc_runner.specs.Inner.Ended.{AreOutletsOf, AreInletsOf, HasPlaces, AreSitePlaces}
 use Rattle.proc_runner.specs.Inner.Started.{IsHead, AreLeft}
 

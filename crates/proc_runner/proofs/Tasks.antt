@@ -3,16 +3,16 @@ use Rattle.std.proofs.Common.{◌≡◌, ℕ, List, length, refl, sym, ap, ◌�
 use Rattle.std.specs.Prelude.{Option}
 use Rattle.chan_queue.specs.declared.queue.ChanQueue.{ChanQueue}
 use Rattle.net_core.specs.Cuts.{Run}
-use Rattle.net_streams.specs.Moves.{IsTyped}
+use Rattle.chan_queue.specs.Streams.Moves.{IsTyped}
 use Rattle.task_queue.specs.Tasks.{sum_below}
 use Rattle.task_queue.specs.Passes.{knows}
 use Rattle.task_queue.specs.declared.hand.Hand.{Hand}
 use Rattle.task_queue.specs.declared.queue.TaskQueue.{TaskQueue}
 use Rattle.proc_task.specs.declared.task.Task.{Task}
 use Rattle.proc_task.specs.Moving.{IsTask}
-use Rattle.proc_round.specs.declared.share.Share.{Share}
-use Rattle.proc_round.specs.Shares.{IsShareOf, AreAll}
-use Rattle.proc_outcome.specs.Tasks.{AreTasksOf}
+use Rattle.task_queue.specs.declared.round.share.Share.{Share}
+use Rattle.task_queue.specs.Round.Shares.{IsShareOf, AreAll}
+use Rattle.proc_task.specs.Outcome.Tasks.{AreTasksOf}
 
 module _ {S H : Type 0} (run : H → Run) (lines : H → List (Option (ChanQueue S))) where
   abbrev pub number_of : Task S H → ℕ

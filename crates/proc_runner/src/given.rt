@@ -48,7 +48,7 @@ pub(crate) struct Given<'a, B> {
 impl<'a, B: Body> Streams for &'a Given<'a, B> {
     ghost use Rattle.std.specs.Prelude.{map};
     ghost use Rattle.net_core.specs.WellFormed.{run_of};
-    ghost use Rattle.net_streams.specs.Streams.{stream_in};
+    ghost use Rattle.chan_queue.specs.Streams.Streams.{stream_in};
 
     ghost stream = { λ given c. stream_in (run_of given.now.net.now (map B.behavior given.now.bodies.now) given.now.inputs.now.words given.now.n given.now.depths.now) c };
 }

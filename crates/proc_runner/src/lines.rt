@@ -1,6 +1,6 @@
 ghost use Rattle.std.specs.Prelude.{◌≡◌, ◌<◌, ◌^◌, ◌++◌, ◌∷◌, [], ℕ, IfOk, OnOk, length, get_or};
 ghost use Rattle.net_core.specs.Cuts.{Run};
-ghost use Rattle.net_streams.specs.Streams.{stream_in};
+ghost use Rattle.chan_queue.specs.Streams.Streams.{stream_in};
 ghost use Rattle.proc_runner.specs.Inner.Opened.{IsLine, AreOpened};
 
 use chan_queue::{ChanQueue, RecvPass, SendPass, Streams, make};

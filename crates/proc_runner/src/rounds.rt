@@ -1,19 +1,19 @@
 ghost use Rattle.std.specs.Prelude.{◌≡◌, ◌≤◌, IfOk, length, Some};
 ghost use Rattle.net_core.specs.Cuts.{final_cut};
 ghost use Rattle.net_core.specs.Outcomes.{outcome_of};
-ghost use Rattle.net_streams.specs.Moves.{IsTyped};
+ghost use Rattle.chan_queue.specs.Streams.Moves.{IsTyped};
 ghost use Rattle.task_queue.specs.Passes.{IsTaskPass, knows};
-ghost use Rattle.proc_round.specs.Shares.{HoldsNone};
-ghost use Rattle.proc_outcome.specs.Tasks.{IsRunOf};
+ghost use Rattle.task_queue.specs.Round.Shares.{HoldsNone};
+ghost use Rattle.proc_task.specs.Outcome.Tasks.{IsRunOf};
 
 use chan_queue::Streams;
 use net_core::{Inputs, Net, Outcome};
-use proc_outcome::outcome;
-use proc_round::{put_back, round};
+use proc_task::outcome::outcome;
 use proc_task::{Home, Task};
 use std::alloc::{AllocError, Global};
 use std::sync::Wait;
 use std::thread::Threads;
+use task_queue::round::{put_back, round};
 use task_queue::{TaskPass, TaskQueue};
 use xb_io::Gate;
 

@@ -1,18 +1,18 @@
 ghost use Rattle.std.specs.Prelude.{◌≡◌, ◌<◌, ◌+◌, ◌^◌, IfOk, Some, length};
-ghost use Rattle.lists.specs.Indexed.{indexed};
+ghost use Rattle.base.specs.Lists.Indexed.{indexed};
 ghost use Rattle.net_core.specs.declared.net.Chan.{Chan};
 ghost use Rattle.net_core.specs.Cuts.{place_of};
-ghost use Rattle.net_streams.specs.Moves.{IsTyped};
+ghost use Rattle.chan_queue.specs.Streams.Moves.{IsTyped};
 ghost use Rattle.task_queue.specs.Passes.{IsTaskPass, knows};
 ghost use Rattle.proc_task.specs.Moving.{IsTask};
-ghost use Rattle.proc_round.specs.Shares.{HoldsNone};
-ghost use Rattle.proc_outcome.specs.Places.{head_sends, head_receives};
+ghost use Rattle.task_queue.specs.Round.Shares.{HoldsNone};
+ghost use Rattle.proc_task.specs.Outcome.Places.{head_sends, head_receives};
 ghost use Rattle.proc_runner.specs.Inner.Started.{AreHeads, IsHead, AreLeft};
 
 use crate::ports::{inlets, outlets, places};
 use chan_queue::{RecvPass, SendPass, Streams};
 use net_core::{Net, ProcHead};
-use proc_outcome::{receiver, sender};
+use proc_task::outcome::{receiver, sender};
 use proc_task::{Home, Task};
 use std::alloc::{AllocError, Global};
 use std::sync::Wait;

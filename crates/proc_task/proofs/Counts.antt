@@ -6,7 +6,7 @@ use Rattle.std.proofs.lemmas.Bool.Decides.{nat_tests}
 use Rattle.chan_queue.specs.declared.queue.ChanQueue.{ChanQueue}
 use Rattle.net_core.specs.declared.net.Site.{Site}
 use Rattle.net_core.specs.Cuts.{Proc, Run}
-use Rattle.net_streams.specs.Moves.{sent_first, received_first}
+use Rattle.chan_queue.specs.Streams.Moves.{sent_first, received_first}
 use Rattle.proc_task.specs.declared.port.Outlet.{Outlet}
 use Rattle.proc_task.specs.declared.port.Inlet.{Inlet}
 use Rattle.proc_task.specs.declared.task.Task.{Task}

@@ -2,7 +2,7 @@
 use Rattle.std.proofs.Common.{◌≡◌, ◌≢◌, ℕ, zero, suc, ◌<◌, List, [], ◌∷◌, length, Option, Some, get_or, sym, ap, ◌∙◌, subst, arith, inl, inr}
 use Rattle.std.specs.Prelude.{slice_get, slice_set, option_map, ◌⊎◌}
 use Rattle.std.proofs.lemmas.Bool.{cases_eq}
-use Rattle.lists.proofs.Lemmas.Places.{read_is, slice_get-set, slice_get-set_other}
+use Rattle.base.proofs.Lemmas.Lists.Places.{read_is, slice_get-set, slice_get-set_other}
 use Rattle.chan_queue.specs.declared.queue.ChanQueue.{ChanQueue}
 use Rattle.net_core.specs.declared.net.Site.{Site}
 use Rattle.net_core.specs.Cuts.{Run}

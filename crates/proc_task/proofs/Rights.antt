@@ -10,7 +10,7 @@ use Rattle.chan_queue.specs.declared.pass.RecvPass.{RecvPass}
 use Rattle.chan_queue.specs.declared.queue.ChanQueue.{ChanQueue}
 use Rattle.net_core.specs.declared.net.Kind.{Kind}
 use Rattle.net_core.specs.Cuts.{Run, words_at, final_cut}
-use Rattle.net_streams.specs.Streams.{stream_in}
+use Rattle.chan_queue.specs.Streams.Streams.{stream_in}
 use Rattle.std.specs.Prelude.{MatchOption, MatchBool, MatchResult, Result, Ok, Err, is_ok, Bool, true, false}
 use Rattle.proc_task.specs.declared.port.Outlet.{Outlet}
 use Rattle.proc_task.specs.declared.port.Inlet.{Inlet}

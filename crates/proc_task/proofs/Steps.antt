@@ -5,8 +5,8 @@ use Rattle.std.proofs.lemmas.Bool.Decides.{nat_tests}
 use Rattle.std.proofs.lemmas.Nat.{mul-le}
 use Rattle.std.proofs.lemmas.List.{append-nil, length-take-le}
 use Rattle.std.proofs.lemmas.Option.{slice_get_within}
-use Rattle.lists.specs.Front.{IsFront}
-use Rattle.lists.proofs.Lemmas.Places.{slice_get-set}
+use Rattle.base.specs.Lists.Front.{IsFront}
+use Rattle.base.proofs.Lemmas.Lists.Places.{slice_get-set}
 use Rattle.xb_bits.specs.Word.{Word}
 use Rattle.xb_value.specs.declared.value.Value.{Value}
 use Rattle.xb_value.specs.Typing.{IsOfType}
@@ -25,9 +25,9 @@ use Rattle.net_core.specs.Nexts.{EventFits}
 use Rattle.net_core.specs.Cuts.{Proc, Run, words_sent, count_received, words_at, received_at, final_cut}
 use Rattle.net_core.specs.Machine.{Position, next_of}
 use Rattle.net_core.proofs.Lemmas.{next_keeps_types}
-use Rattle.net_streams.specs.Streams.{IsSiteOn}
-use Rattle.net_streams.specs.Moves.{IsStanding, GoesOn, first_events, sent_first, received_first}
-use Rattle.net_streams.proofs.Lemmas.{chan_there, begins, before, ends_next, sends_go, receives_go, sends_within, receives_within, input_words}
+use Rattle.chan_queue.specs.Streams.Streams.{IsSiteOn}
+use Rattle.chan_queue.specs.Streams.Moves.{IsStanding, GoesOn, first_events, sent_first, received_first}
+use Rattle.chan_queue.proofs.Lemmas.Streams.{chan_there, begins, before, ends_next, sends_go, receives_go, sends_within, receives_within, input_words}
 use Rattle.proc_task.specs.declared.port.Outlet.{Outlet}
 use Rattle.proc_task.specs.declared.port.Inlet.{Inlet}
 use Rattle.proc_task.specs.declared.task.Task.{Task}

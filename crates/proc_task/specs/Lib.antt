@@ -2,3 +2,5 @@
 pub mod Ports
 -- a task, and where it stands in its run
 pub mod Moving
+-- what the tasks of a run have come to
+pub mod Outcome

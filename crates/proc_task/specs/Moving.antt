@@ -10,7 +10,7 @@ use Rattle.net_core.specs.declared.event.Event.{Event}
 use Rattle.net_core.specs.declared.event.Event.TheVariants.{Recv, Send, End}
 use Rattle.net_core.specs.Cuts.{Proc, Run}
 use Rattle.net_core.specs.Machine.{Position, next_of}
-use Rattle.net_streams.specs.Moves.{IsTyped, IsStanding, sent_first, received_first}
+use Rattle.chan_queue.specs.Streams.Moves.{IsTyped, IsStanding, sent_first, received_first}
 use Rattle.proc_task.specs.declared.port.Outlet.{Outlet}
 use Rattle.proc_task.specs.declared.port.Inlet.{Inlet}
 use Rattle.proc_task.specs.declared.task.Task.{Task}

@@ -9,7 +9,7 @@ use Rattle.net_core.specs.declared.net.Chan.{Chan}
 use Rattle.net_core.specs.declared.net.Kind.{Kind}
 use Rattle.net_core.specs.declared.net.Kind.TheVariants.{Input, Output, Inner}
 use Rattle.net_core.specs.Cuts.{Run, words_at, received_at, final_cut}
-use Rattle.net_streams.specs.Streams.{stream_in}
+use Rattle.chan_queue.specs.Streams.Streams.{stream_in}
 use Rattle.proc_task.specs.declared.port.Outlet.{Outlet}
 use Rattle.proc_task.specs.declared.port.Inlet.{Inlet}
 

@@ -2,6 +2,7 @@
 #![tactic(auto)]
 
 mod home;
+pub mod outcome;
 mod port;
 mod task;
 

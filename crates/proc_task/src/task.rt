@@ -3,17 +3,17 @@ ghost use Rattle.net_core.specs.declared.event.Event.TheVariants as event;
 ghost use Rattle.net_core.specs.Behavior.{chan_at};
 ghost use Rattle.net_core.specs.Cuts.{Proc};
 ghost use Rattle.net_core.specs.Outcomes.{stall_for};
-ghost use Rattle.net_streams.specs.Moves.{sent_first, received_first};
+ghost use Rattle.chan_queue.specs.Streams.Moves.{sent_first, received_first};
 ghost use Rattle.proc_task.specs.Moving.{IsTask, IsNewTask, IsBefore, IsHeldAt, Waits, IsSameTask, IsSameButOutlet, IsSameButInlet, IsSameButPorts, MeetAt, HasMetAt, IsAtSiteIn, HasSiteOn, end_at, position_of};
 
 use crate::home::Home;
 use crate::port::{Inlet, Outlet, inlet_on, meet, outlet_on};
 use chan_queue::Streams;
 use net_core::{Event, ProcEnd, Site, Stall};
-use proc_round::Steps;
 use std::alloc::{AllocError, Global};
 use std::sync::Wait;
 use task_queue::Numbered;
+use task_queue::round::Steps;
 use xb_bits::Bits;
 use xb_value::Value;
 

@@ -3,13 +3,13 @@
 ghost use Rattle.ir_verify.specs.Verified.{IsVerified};
 
 use delay_model::{Binary, Op};
-use ir_schedule::{Demands, Infeasible, Schedule, schedule_package};
 use ir_tree::{
     Attributes, Channel, Constant, Ends, IrType, Node, Operand, Operands, Package, Proc,
 };
 use ir_verify::verify;
 use net_core::Name;
-use schedule_text::{infeasible_text, schedule_text};
+use pipe_schedule::text::{infeasible_text, schedule_text};
+use pipe_schedule::{Demands, Infeasible, Schedule, schedule_package};
 use std::alloc::{AllocError, Global};
 use xb_value::Seq;
 

@@ -3,8 +3,8 @@
 use crate::sample::{Parts, adders, ask, chain, package, scheduled, scheduled_text};
 use crate::small::random_package;
 use delay_model::{Binary, Compare, Op, Reduce, Shift, Unary};
-use ir_schedule::{Demands, NoSchedule};
 use ir_tree::{Ends, Operand};
+use pipe_schedule::{Demands, NoSchedule};
 use std::test::Fail;
 
 fn demands(clock: u32, stages: u32, interval: u32) -> Demands {

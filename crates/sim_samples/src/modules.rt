@@ -1,12 +1,12 @@
 //! Modules from their texts to their cycles, and how texts are refused.
 
-use cmd_sim::sim_design;
-use cmd_words::Sim;
+use cmd_line::Sim;
 use std::alloc::Global;
 use std::test::Fail;
-use vlog_reader::read_v;
+use vlog_text::reader::read_v;
 use xb_io::{MemFile, MemFiles};
 use xb_span::{ReadError, Rule, Span};
+use xls_cmd::sim::sim_design;
 
 const COUNTER: &str = "module T ( input wire clk, input wire rst, output wire [7:0] b_data,
   output wire b_vld, input wire b_rdy );

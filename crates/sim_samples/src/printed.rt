@@ -2,8 +2,8 @@
 
 use std::alloc::Global;
 use std::test::Fail;
-use vlog_reader::read_v;
-use vlog_text::print_v;
+use vlog_text::printer::print_v;
+use vlog_text::reader::read_v;
 
 /// The text of the module that a short text says.
 fn printed(alloc: Global, text: &str) -> Result<String, Fail> {

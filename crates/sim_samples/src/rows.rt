@@ -1,11 +1,11 @@
 //! Row files that were read by hand.
 
+use base::texts::Name;
 use chan_file::Cause;
-use row_file::{Repeated, RowError, read_rows};
+use cycle_file::rows::{Repeated, RowError, read_rows};
 use sqlite_items::Items;
 use std::alloc::{AllocError, Global};
 use std::test::Fail;
-use texts::Name;
 use vlog_tree::{Direction, Drive, Port, VModule};
 use xb_bits::Bits;
 use xb_span::{Limit, What};

@@ -2,7 +2,7 @@
 
 use std::alloc::Global;
 use std::test::Fail;
-use vlog_grammar::kind::{
+use vlog_token::rules::kind::{
     AMP, ASHR, ASSIGN, CLK, EQUALS, LBRACKET, LE, LITERAL, LT, NAME, NE, NUMBER, SHL, SIGNED, ZERO,
 };
 use vlog_token::{Token, tokens};

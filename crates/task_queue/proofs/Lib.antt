@@ -1,1 +1,3 @@
 pub mod Keeps
+-- a round of workers over a queue of tasks
+pub mod OnRound

@@ -2,3 +2,5 @@
 pub mod Tasks
 -- the passes beside the queue
 pub mod Passes
+-- a round of workers over a queue of tasks
+pub mod Round

@@ -7,6 +7,7 @@
 
 mod hand;
 mod queue;
+pub mod round;
 
 pub use hand::{Hand, Numbered};
 pub use queue::{TaskPass, TaskQueue, make};

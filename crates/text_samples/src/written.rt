@@ -1,7 +1,7 @@
 //! Printed numbers and names.
 
+use base::texts::{Name, push_decimal, push_hex};
 use std::test::Fail;
-use texts::{Name, push_decimal, push_hex};
 
 #[test]
 fn numbers_are_printed(rt: HostRuntime) -> Result<(), Fail> {

@@ -4,7 +4,7 @@ use Rattle.std.proofs.lemmas.Bool.{cases_eq}
 use Rattle.std.specs.Prelude.{slice_get, slice_set, unwrap_or, replicate}
 use Rattle.std.proofs.lemmas.Option.{slice_get_within}
 use Rattle.std.proofs.lemmas.List.{length-replicate}
-use Rattle.lists.proofs.Lemmas.Places.{slice_get-set_other}
+use Rattle.base.proofs.Lemmas.Lists.Places.{slice_get-set_other}
 use Rattle.topo_order.specs.declared.walk.Mark.{Mark}
 use Rattle.topo_order.specs.declared.walk.Mark.TheVariants.{New, Open, Done}
 use Rattle.topo_order.specs.Needs.{needs_of, Needs, Reaches, itself, by_way}

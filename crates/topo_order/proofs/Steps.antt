@@ -3,7 +3,7 @@ use Rattle.std.proofs.Common.{◌≡◌, ◌≢◌, ℕ, zero, suc, ◌+◌, ◌
 use Rattle.std.proofs.lemmas.Bool.{cases_eq}
 use Rattle.std.specs.Prelude.{slice_get, slice_set, unwrap_or}
 use Rattle.std.proofs.lemmas.Option.{slice_get_within, slice_get_past, slice_get-get_or}
-use Rattle.lists.proofs.Lemmas.Places.{slice_get-set_other, slice_get-append_left}
+use Rattle.base.proofs.Lemmas.Lists.Places.{slice_get-set_other, slice_get-append_left}
 use Rattle.topo_order.specs.declared.walk.Mark.{Mark}
 use Rattle.topo_order.specs.declared.walk.Mark.TheVariants.{New, Open, Done}
 use Rattle.topo_order.specs.Needs.{needs_of, Needs, Reaches, itself, by_way}

@@ -6,7 +6,7 @@ use Rattle.grammar.specs.declared.bottom_up.Step.{Step}
 use Rattle.grammar.specs.declared.bottom_up.Step.TheVariants.{Shift, Reduce}
 use Rattle.dslx_token.specs.Lexeme.{Lexeme}
 use Rattle.vlog_tree.specs.declared.module.VModule.{VModule}
-use Rattle.vlog_verify.specs.declared.places.Places.{Places}
+use Rattle.vlog_tree.specs.declared.verifier.places.Places.{Places}
 use Rattle.vlog_builder.specs.Building.{built, design_by, parsed_of, places_by, reduced, rule_of, shifted}
 use Rattle.vlog_builder.specs.Empty.{no_ident}
 use Rattle.vlog_builder.specs.Inner.Tops.{top_or}

@@ -4,7 +4,7 @@ use Rattle.std.specs.Prelude.{if◌then◌else◌, is_some, min}
 use Rattle.std.specs.Str.{bytes_eq}
 use Rattle.std.proofs.lemmas.Bool.Decides.{nat_tests}
 use Rattle.std.proofs.lemmas.Slice.Eq.{bytes_eq-Decides}
-use Rattle.name_table.specs.Found.{or_else}
+use Rattle.base.specs.NameTable.Found.{or_else}
 use Rattle.vlog_builder.specs.Parts.{place_from, undeclared}
 
 same_number : (x y : ℕ) → (x == y) ≡ (y == x)

@@ -2,11 +2,11 @@
 use Rattle.std.specs.Prelude.{◌==◌, ◌||◌, ℕ, Bool, min, if◌then◌else◌, List, [], ◌∷◌, ◌++◌, slice_index_or}
 use Rattle.grammar.specs.declared.bottom_up.Step.{Step}
 use Rattle.grammar.specs.declared.bottom_up.Step.TheVariants.{Shift, Reduce}
-use Rattle.vlog_grammar.specs.declared.generated.kind.TheConstants.{ASSIGN, CLK, LITERAL, NAME, NUMBER, RST, ZERO}
+use Rattle.vlog_token.specs.declared.rules.generated.kind.TheConstants.{ASSIGN, CLK, LITERAL, NAME, NUMBER, RST, ZERO}
 use Rattle.dslx_token.specs.Lexeme.{Lexeme}
 use Rattle.vlog_token.specs.Fronts.{width_said}
 use Rattle.vlog_tree.specs.declared.module.VModule.{VModule}
-use Rattle.vlog_verify.specs.declared.places.Places.{Places}
+use Rattle.vlog_tree.specs.declared.verifier.places.Places.{Places}
 use Rattle.vlog_builder.specs.declared.parsed.Parsed.{Parsed}
 use Rattle.vlog_builder.specs.declared.rule.Rule.{Rule}
 use Rattle.vlog_builder.specs.declared.rule.Rule.TheVariants.{Keep, RangeOf, NoRange, PortOf, DirectionOf, DeclarationOf, StorageOf, AssignmentOf, SkipIdent, ResetsOf, ClocksOf, SetOf, NameAtom, LiteralAtom, NameExpr, LiteralExpr, SimpleExpr, SignedExpr, NameSimple, LiteralSimple, UnaryOf, ConcatOf, More, Start, BinaryTail, NoTail, ChoiceTail, SliceTail, OrderTail, ShiftTail, UnaryIs, BinaryIs, OrderedBinary, OrderIs}

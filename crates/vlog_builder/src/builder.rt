@@ -10,13 +10,13 @@ use crate::ident::Ident;
 use crate::parsed::Parsed;
 use crate::rule::rule_of;
 use crate::state::State;
+use base::texts::Name;
 use grammar::Step;
 use sqlite_items::Items;
 use std::alloc::{AllocError, Global};
-use texts::Name;
 use vlog_token::Token;
 use vlog_tree::VModule;
-use vlog_verify::Places;
+use vlog_tree::verifier::Places;
 
 /// The module that the steps make of the tokens.
 pub fn build<'a>(alloc: Global, steps: &[Step], tokens: &[Token<'a>]) -> Result<Parsed, AllocError>

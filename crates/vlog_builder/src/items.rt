@@ -6,9 +6,9 @@ ghost use Rattle.vlog_builder.specs.Parts.{range_width};
 
 use crate::ident::Ident;
 use crate::state::{State, no_atom, no_expr};
+use base::texts::Name;
 use sqlite_items::Items;
 use std::alloc::{AllocError, Global};
-use texts::Name;
 use vlog_tree::{Assignment, Declaration, Direction, Port, Set, Storage};
 
 impl<'a> State<'a> {

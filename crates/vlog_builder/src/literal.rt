@@ -12,7 +12,7 @@ use vlog_tree::Literal;
 pub fn short(digits: &[u8]) -> u64
     ensures { result ≡ min (digits_value 10 digits.now) most }
 {
-    match texts::number(10, digits) {
+    match base::texts::number(10, digits) {
         Some(number) => number.min(0xffff_ffff_ffff_ffff) as u64,
         None => 0xffff_ffff_ffff_ffff,
     }
@@ -23,7 +23,7 @@ fn fitting(width: u32, digits: &[u8]) -> u128
     requires { width ≤ 128 }
     ensures { result ≡ (if nat_lt (digits_value 10 digits.now) (2 ^ width) then digits_value 10 digits.now else 0) }
 {
-    match texts::number(10, digits) {
+    match base::texts::number(10, digits) {
         Some(value) => if width == 128 || value < 1 << width {
             value
         } else {

@@ -1,5 +1,5 @@
 use vlog_tree::VModule;
-use vlog_verify::Places;
+use vlog_tree::verifier::Places;
 
 /// A module that was read, and where its parts stand in its text.
 #[derive(Drop)]

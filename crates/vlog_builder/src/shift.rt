@@ -8,8 +8,8 @@ use crate::ident::Ident;
 use crate::literal::{literal, short};
 use crate::state::State;
 use std::alloc::AllocError;
-use vlog_grammar::kind::{ASSIGN, CLK, LITERAL, NAME, NUMBER, RST, ZERO};
 use vlog_token::Token;
+use vlog_token::rules::kind::{ASSIGN, CLK, LITERAL, NAME, NUMBER, RST, ZERO};
 
 impl<'a> State<'a> {
     /// Adds a token.

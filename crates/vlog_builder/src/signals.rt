@@ -1,5 +1,5 @@
 ghost use Rattle.std.specs.Prelude.{◌≡◌, [], ◌∷◌, ◌++◌, ℕ, List, Some, None, bytes_eq, if◌then◌else◌, OnOk, OnErr, length, min};
-ghost use Rattle.name_table.specs.Found.{or_else};
+ghost use Rattle.base.specs.NameTable.Found.{or_else};
 ghost use Rattle.vlog_builder.specs.Inner.Tabled.{placed};
 ghost use Rattle.vlog_builder.specs.Parts.{signal_of, undeclared};
 

@@ -4,9 +4,9 @@ ghost use Rattle.vlog_tree.specs.Rows.{IsRowOf, AreDrivesOf};
 ghost use Rattle.vlog_tree.specs.Signals.{channels_at};
 ghost use Rattle.vlog_tree.specs.declared.module.Port.{Port as P};
 
+use base::texts::Name;
 use sqlite_items::Items;
 use std::alloc::{AllocError, Global};
-use texts::Name;
 use vlog_tree::{
     Assignment, Atom, Binary, Declaration, Direction, Expr, Literal, Port, Set, Signal, Simple,
     Storage, Unary, VModule,

@@ -3,8 +3,8 @@
 use super::*;
 use sqlite_items::Items;
 use std::test::Fail;
+use vlog_tree::verifier::{Places, check, verify};
 use vlog_tree::{Assignment, Atom, Expr, Literal, Signal, Simple, Unary};
-use vlog_verify::{Places, check, verify};
 use xb_span::{Limit, ReadError, Rule, Span, What};
 
 fn broken(rule: u16) -> Result<(), ReadError> {

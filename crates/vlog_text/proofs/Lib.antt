@@ -1,2 +1,8 @@
--- lists that are printed with commas
-pub mod Listing
+-- the parser
+pub mod OnParser
+-- the printer
+pub mod OnPrinter
+-- the reader
+pub mod OnReader
+-- what is printed reads back
+pub mod OnRoundTrip

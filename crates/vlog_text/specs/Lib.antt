@@ -1,4 +1,8 @@
--- the texts of names, literals and expressions
-pub mod Parts
--- the text of a module
-pub mod ModuleText
+-- the parser
+pub mod Parser
+-- the printer
+pub mod Printer
+-- the reader
+pub mod Reader
+-- what is printed reads back
+pub mod RoundTrip

@@ -1,11 +1,7 @@
-//! The texts of modules of the Verilog subset.
-//!
-//! A text is printed for any reader of Verilog: spaces round operators, a line for each declaration, assignment and set.
-//! It takes time and memory linear in the text.
+//! Verilog texts: their printer, their reader, and that what is printed reads back.
 #![tactic(auto)]
 
-mod atom;
-mod expression;
-mod module;
-
-pub use module::print_v;
+pub mod parser;
+pub mod printer;
+pub mod reader;
+pub mod round_trip;

@@ -5,8 +5,8 @@ use Rattle.std.specs.List.{prefix_len}
 use Rattle.std.specs.Char.{is_ascii_digit, digit_value}
 use Rattle.std.specs.Str.Parse.{AllDigits}
 use Rattle.std.proofs.lemmas.Bool.Decides.{nat_tests}
-use Rattle.texts.specs.Words.{begins_word, is_word_byte}
-use Rattle.vlog_grammar.specs.declared.generated.kind.TheConstants.{END}
+use Rattle.base.specs.Texts.Words.{begins_word, is_word_byte}
+use Rattle.vlog_token.specs.declared.rules.generated.kind.TheConstants.{END}
 use Rattle.vlog_token.specs.Fronts.{digit_run, begins_literal, is_in_range, number_len, mark_len, is_triple, single_kind, double_kind, word_run, signed_len, front_len}
 use Rattle.vlog_token.specs.Inner.Entries.{HasTokenOf}
 

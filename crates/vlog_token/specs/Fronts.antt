@@ -3,8 +3,8 @@ use Rattle.std.specs.Prelude.{ℕ, ◌+◌, ◌^◌, ◌==◌, ◌&&◌, ◌||�
 use Rattle.std.specs.List.{prefix_len}
 use Rattle.std.specs.Char.{is_ascii_digit}
 use Rattle.std.specs.Str.Parse.{digits_value}
-use Rattle.texts.specs.Words.{begins_word, is_word_byte}
-use Rattle.vlog_grammar.specs.declared.generated.kind.TheConstants.{AMP, ASHR, AT, CARET, COLON, COMMA, END, EQ, EQUALS, GE, GT, LBRACE, LBRACKET, LE, LPAREN, LT, MINUS, NE, PERCENT, PIPE, PLUS, QUESTION, RBRACE, RBRACKET, RPAREN, SEMI, SHL, SHR, SLASH, STAR, TILDE}
+use Rattle.base.specs.Texts.Words.{begins_word, is_word_byte}
+use Rattle.vlog_token.specs.declared.rules.generated.kind.TheConstants.{AMP, ASHR, AT, CARET, COLON, COMMA, END, EQ, EQUALS, GE, GT, LBRACE, LBRACKET, LE, LPAREN, LT, MINUS, NE, PERCENT, PIPE, PLUS, QUESTION, RBRACE, RBRACKET, RPAREN, SEMI, SHL, SHR, SLASH, STAR, TILDE}
 
 -- ---- numbers and literals
 

@@ -1,9 +1,9 @@
 -- The kind of a token, which its own text says.
 use Rattle.std.specs.Prelude.{ℕ, ◌==◌, if◌then◌else◌, List, [], ◌∷◌, codes, length, slice_index}
 use Rattle.std.specs.Char.{is_ascii_digit}
-use Rattle.texts.specs.Words.{begins_word}
+use Rattle.base.specs.Texts.Words.{begins_word}
 use Rattle.dslx_token.specs.Spelling.{Spelling, kind_among}
-use Rattle.vlog_grammar.specs.declared.generated.kind.TheConstants.{ALWAYS, ASHR, ASSIGN, BEGIN, CLK, ELSE, END, ENDBLOCK, ENDMODULE, IF, INPUT, LITERAL, MODULE, NAME, NUMBER, OUTPUT, POSEDGE, REG, RST, SIGNED, WIRE, ZERO}
+use Rattle.vlog_token.specs.declared.rules.generated.kind.TheConstants.{ALWAYS, ASHR, ASSIGN, BEGIN, CLK, ELSE, END, ENDBLOCK, ENDMODULE, IF, INPUT, LITERAL, MODULE, NAME, NUMBER, OUTPUT, POSEDGE, REG, RST, SIGNED, WIRE, ZERO}
 use Rattle.vlog_token.specs.Fronts.{begins_literal, double_kind, single_kind, width_said}
 
 -- the reserved words, and the two names that have a kind of their own

@@ -6,3 +6,5 @@ pub mod Kinds
 pub mod Tokens
 -- contracts of this crate's private functions
 pub mod Inner
+-- rules
+pub mod Rules

@@ -4,7 +4,7 @@ ghost use Rattle.std.specs.Prelude.{◌≡◌, slice_index};
 ghost use Rattle.dslx_token.specs.Characters.{is_white};
 ghost use Rattle.vlog_token.specs.Fronts.{single_kind, double_kind, is_triple};
 
-use vlog_grammar::kind::{
+use crate::rules::kind::{
     AMP, AT, CARET, COLON, COMMA, END, EQ, EQUALS, GE, GT, LBRACE, LBRACKET, LE, LPAREN, LT, MINUS,
     NE, PERCENT, PIPE, PLUS, QUESTION, RBRACE, RBRACKET, RPAREN, SEMI, SHL, SHR, SLASH, STAR,
     TILDE,

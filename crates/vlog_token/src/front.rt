@@ -7,9 +7,9 @@ ghost use Rattle.vlog_token.specs.Fronts.{digit_run, front_digits, value_digits,
 
 use crate::characters::{byte_at, double_kind, is_triple, single_kind};
 use crate::power::is_below;
+use crate::rules::kind::END;
+use base::texts::{begins_word, is_word_byte};
 use std::alloc::{AllocError, Global};
-use texts::{begins_word, is_word_byte};
-use vlog_grammar::kind::END;
 
 /// How far the digits at the front of a text go.
 pub fn digit_run(text: &[u8]) -> usize
@@ -55,7 +55,7 @@ fn is_in_range(alloc: Global, text: &[u8]) -> Result<bool, AllocError>
     ensures { IfOk result (λ fits. fits ≡ is_in_range text.now) }
 {
     let width = front_digits(text);
-    if texts::number(10, width) == Some(0) {
+    if base::texts::number(10, width) == Some(0) {
         return Ok(false);
     }
     is_below(alloc, value_digits(text), width)

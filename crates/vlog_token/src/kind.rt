@@ -7,11 +7,11 @@ ghost use Rattle.vlog_token.specs.Kinds.{verilog_words, digits_kind, mark_kind, 
 
 use crate::characters::{byte_at, double_kind, single_kind};
 use crate::front::{begins_literal, front_digits};
-use texts::begins_word;
-use vlog_grammar::kind::{
+use crate::rules::kind::{
     ALWAYS, ASHR, ASSIGN, BEGIN, CLK, ELSE, END, ENDBLOCK, ENDMODULE, IF, INPUT, LITERAL, MODULE,
     NAME, NUMBER, OUTPUT, POSEDGE, REG, RST, SIGNED, WIRE, ZERO,
 };
+use base::texts::begins_word;
 
 const WORDS: [(&[u8], u8); 15] = [
     (b"assign", ASSIGN),
@@ -55,7 +55,7 @@ fn digits_kind(bytes: &[u8]) -> u8
 {
     if begins_literal(bytes) {
         LITERAL
-    } else if texts::number(10, front_digits(bytes)) == Some(0) {
+    } else if base::texts::number(10, front_digits(bytes)) == Some(0) {
         ZERO
     } else {
         NUMBER

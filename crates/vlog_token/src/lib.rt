@@ -1,7 +1,7 @@
 //! The tokens of a text of the Verilog subset.
 //!
 //! [`tokens`] cuts a text into words, numbers, literals and marks. Each [`Token`] has its place, its bytes and a kind of
-//! `vlog_grammar::kind`, which its own text says.
+//! `crate::rules::kind`, which its own text says.
 //!
 //! Cost: linear in the text's length, but for a literal of more than 38 digits whose width is near what it needs: that costs
 //! the square of its length.
@@ -14,6 +14,7 @@ mod kind;
 mod laws;
 mod lexer;
 mod power;
+pub mod rules;
 mod token;
 
 pub use laws::one_list_of_tokens;

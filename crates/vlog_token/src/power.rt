@@ -3,15 +3,15 @@
 ghost use Rattle.std.specs.Prelude.{◌≡◌, ◌≤◌, ◌<◌, ◌*◌, ◌^◌, ◌/◌, length, nat_lt, IfOk};
 ghost use Rattle.std.specs.Str.Parse.{digits_value, AllDigits};
 
+use base::texts::digit_value;
 use std::alloc::{AllocError, Global};
-use texts::digit_value;
 
 /// Whether the decimal number is below 2 to the power of the other one.
 pub fn is_below(alloc: Global, digits: &[u8], power: &[u8]) -> Result<bool, AllocError>
     requires { AllDigits 10 digits.now }
     ensures { IfOk result (λ below. below ≡ nat_lt (digits_value 10 digits.now) (2 ^ digits_value 10 power.now)) }
 {
-    match texts::number(10, power) {
+    match base::texts::number(10, power) {
         Some(power) => is_below_power(alloc, digits, power),
         None => Ok(true),
     }
@@ -36,7 +36,7 @@ fn is_below_small(digits: &[u8], power: u32) -> bool
     requires { power ≤ 128 }
     ensures { result ≡ nat_lt (digits_value 10 digits.now) (2 ^ power) }
 {
-    match texts::number(10, digits) {
+    match base::texts::number(10, digits) {
         Some(value) => power == 128 || value < 1 << power,
         None => false,
     }

@@ -41,7 +41,7 @@ impl<'a> Token<'a> {
         }
     }
 
-    /// Its kind, one of `vlog_grammar::kind`.
+    /// Its kind, one of `crate::rules::kind`.
     pub fn kind(&self) -> u8
         ensures { result ≡ self.now.kind }
     {

@@ -1,1 +1,3 @@
 pub mod Lemmas
+-- the verifier
+pub mod OnVerifier

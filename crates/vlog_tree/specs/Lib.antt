@@ -14,3 +14,5 @@ pub mod Settled
 pub mod WellFormed
 -- what a module does over rows
 pub mod Rows
+-- the verifier
+pub mod Verifier

@@ -11,9 +11,10 @@ mod module;
 mod reads;
 mod row;
 mod signal;
+pub mod verifier;
 
+pub use base::texts::Name;
 pub use expression::{Atom, Binary, Expr, Literal, Order, Simple, Unary};
 pub use module::{Assignment, Declaration, Direction, Port, Set, Storage, VModule};
 pub use row::{Drive, Outs, Row, Shown};
 pub use signal::{Role, Signal};
-pub use texts::Name;

@@ -2,8 +2,8 @@ ghost use Rattle.std.specs.Prelude.{◌≤◌};
 
 use crate::expression::{Atom, Expr};
 use crate::signal::Signal;
+use base::texts::Name;
 use sqlite_items::Items;
-use texts::Name;
 
 /// A module: its ports, its wires and registers, what drives each wire, and what each register takes next.
 #[derive(Drop)]

@@ -1,5 +1,5 @@
 use crate::list;
-use cmd_words::read_words;
+use cmd_line::read_words;
 use std::test::Fail;
 
 #[test]

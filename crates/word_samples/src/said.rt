@@ -1,5 +1,5 @@
 use crate::list;
-use cmd_words::{Request, Source, read_words};
+use cmd_line::{Request, Source, read_words};
 use std::test::Fail;
 
 #[test]

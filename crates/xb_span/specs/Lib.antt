@@ -8,3 +8,5 @@ pub mod LimitText
 pub mod PieceText
 -- the line of each refusal
 pub mod RefusalText
+-- how deep a text is nested
+pub mod Nesting

@@ -6,6 +6,7 @@
 mod fault;
 pub mod laws;
 mod limit;
+pub mod nesting;
 mod piece;
 mod read_error;
 mod span;

@@ -2,7 +2,7 @@
 use Rattle.std.proofs.Common.{◌≡◌, ℕ, ◌+◌, ◌<◌, ◌≤◌, List, [], ◌∷◌, ◌++◌, length, length-append, take, drop, get_or, map, append_assoc, append-nil, true, false, IsTrue, Option, Some, None, refl, sym, ap, subst, ◌∙◌, arith}
 use Rattle.std.proofs.lemmas.List.{take_more, length-take-le, take-append-drop}
 use Rattle.std.proofs.Math.Seq.{take-length}
-use Rattle.lists.specs.Fault.{Begins, IsFirstFault}
+use Rattle.base.specs.Lists.Fault.{Begins, IsFirstFault}
 use Rattle.xb_value.specs.declared.token.Bracket.{Bracket}
 use Rattle.xb_value.specs.declared.token.Token.{Token}
 use Rattle.xb_value.specs.declared.token.Token.TheVariants.{Number, Close}

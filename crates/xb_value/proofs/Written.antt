@@ -15,8 +15,8 @@ use Rattle.xb_value.specs.Form.{Form, Items, number, empty, group, last, next, f
 use Rattle.xb_value.specs.Reads.{Reads}
 use Rattle.xb_value.specs.Shape.{unplaced, shape_of, all_of}
 use Rattle.xb_value.specs.Text.{listed, text_step, text_of}
-use Rattle.texts.specs.Hexadecimal.{hex_digits}
-use Rattle.texts.proofs.Lemmas.Hexadecimal.{digits_value-of_width, hex_digits-all, length-hex_digits}
+use Rattle.base.specs.Texts.Hexadecimal.{hex_digits}
+use Rattle.base.proofs.Lemmas.Texts.Hexadecimal.{digits_value-of_width, hex_digits-all, length-hex_digits}
 use Rattle.xb_value.specs.Typing.{IsOfType, fits, each_passes}
 use Rattle.xb_value.proofs.Lemmas.Types.{EachHas, ty_induction}
 use Rattle.xb_value.proofs.Lemmas.Typing.{bits_of_type, tuple_of_type, array_of_type}

@@ -1,6 +1,6 @@
 -- Why a text is not read as a value of a type.
 use Rattle.std.specs.Prelude.{ℕ, List}
-use Rattle.lists.specs.Fault.{IsFirstFault}
+use Rattle.base.specs.Lists.Fault.{IsFirstFault}
 use Rattle.xb_value.specs.declared.reader.ValueError.{ValueError}
 use Rattle.xb_value.specs.declared.reader.ValueError.TheVariants.{Syntax, Shape, OutOfMemory}
 use Rattle.xb_value.specs.declared.ty.Ty.{Ty}

@@ -1,6 +1,6 @@
 -- The text of a value.
 use Rattle.std.specs.Prelude.{ℕ, ◌+◌, ◌/◌, List, [], ◌∷◌, ◌++◌, codes}
-use Rattle.texts.specs.Hexadecimal.{hex_digits}
+use Rattle.base.specs.Texts.Hexadecimal.{hex_digits}
 use Rattle.xb_value.specs.declared.value.Value.{Value, fold-Value}
 use Rattle.xb_value.specs.declared.value.Value.TheOpen.{Value-F}
 

@@ -3,13 +3,13 @@
 ghost use Rattle.std.specs.Prelude.{◌≡◌, ◌<◌, ◌≤◌, ◌+◌, ◌++◌, ◌∷◌, [], OnOk, IfOk, map, string_bytes, codes, ◌*◌, ◌/◌, ◌%◌, ◌^◌};
 ghost use Rattle.xb_value.specs.Reads.{Reads};
 ghost use Rattle.xb_value.specs.Typing.{IsOfType};
-ghost use Rattle.texts.specs.Hexadecimal.{hex_digits};
+ghost use Rattle.base.specs.Texts.Hexadecimal.{hex_digits};
 ghost use Rattle.xb_value.specs.declared.ty.Ty.{Ty};
 ghost use Rattle.xb_value.specs.Text.{text_of, listed};
 
 use crate::value::Value;
+use base::texts::push_hex;
 use std::alloc::{AllocError, Global};
-use texts::push_hex;
 
 /// The text of a value: `0x` and lower-case digits for bits, as many as the width needs, `(0x01, 0x02)` for a tuple and
 /// `[0x01, 0x02]` for an array. It takes time and memory as the text is long.

@@ -3,28 +3,28 @@ use Rattle.std.proofs.Common.{◌≡◌, ◌⊎◌, inl, inr, ◌++◌, ℕ, tru
 use Rattle.std.specs.Prelude.{IfSome}
 use Rattle.std.proofs.lemmas.List.{append-nil}
 use Rattle.xb_io.specs.Contents.{Contents}
-use Rattle.cmd_answer.specs.Answered.{Answers, wrote, refused, no_memory, unread, unwritten}
-use Rattle.cmd_answer.specs.declared.refusal.Refusal.{Refusal}
-use Rattle.cmd_answer.specs.Done.{IsDone, GivesDue}
-use Rattle.cmd_answer.specs.Events.{FileEvents, SinkEvents}
-use Rattle.cmd_answer.specs.Fault.{Fault}
-use Rattle.cmd_answer.specs.Step.{IsOne, DueBy}
-use Rattle.cmd_words.specs.CommandLine.{said_by}
-use Rattle.cmd_words.specs.declared.request.Request.{Request}
-use Rattle.cmd_words.specs.declared.request.Request.TheVariants.{Check, Run, Sim, Schedule, Opt}
-use Rattle.cmd_words.specs.declared.request.Source.{Source}
-use Rattle.cmd_words.specs.declared.request.Source.TheVariants.{Dslx, Ir}
-use Rattle.cmd_design.specs.Commands as design
-use Rattle.cmd_ir.specs.Commands as ir
-use Rattle.cmd_schedule.specs.Commands as schedules
-use Rattle.cmd_opt.specs.Commands as optimising
-use Rattle.cmd_opt.specs.Agrees.{AreAlike, Agrees}
-use Rattle.cmd_sim.specs.Simulation as simulation
-use Rattle.cmd_words.specs.declared.request.Check.{Check as SaidCheck}
-use Rattle.cmd_words.specs.declared.request.Run.{Run as SaidRun}
-use Rattle.cmd_words.specs.declared.request.Schedule.{Schedule as SaidSchedule}
-use Rattle.cmd_words.specs.declared.request.Opt.{Opt as SaidOpt}
-use Rattle.cmd_words.specs.declared.request.Sim.{Sim as SaidSim}
+use Rattle.xls_cmd.specs.Shared.Answered.{Answers, wrote, refused, no_memory, unread, unwritten}
+use Rattle.xls_cmd.specs.declared.shared.refusal.Refusal.{Refusal}
+use Rattle.xls_cmd.specs.Shared.Done.{IsDone, GivesDue}
+use Rattle.xls_cmd.specs.Shared.Events.{FileEvents, SinkEvents}
+use Rattle.xls_cmd.specs.Shared.Fault.{Fault}
+use Rattle.xls_cmd.specs.Shared.Step.{IsOne, DueBy}
+use Rattle.cmd_line.specs.CommandLine.{said_by}
+use Rattle.cmd_line.specs.declared.request.Request.{Request}
+use Rattle.cmd_line.specs.declared.request.Request.TheVariants.{Check, Run, Sim, Schedule, Opt}
+use Rattle.cmd_line.specs.declared.request.Source.{Source}
+use Rattle.cmd_line.specs.declared.request.Source.TheVariants.{Dslx, Ir}
+use Rattle.xls_cmd.specs.Design.Commands as design
+use Rattle.xls_cmd.specs.Ir.Commands as ir
+use Rattle.xls_cmd.specs.Schedule.Commands as schedules
+use Rattle.xls_cmd.specs.Opt.Commands as optimising
+use Rattle.xls_cmd.specs.Opt.Agrees.{AreAlike, Agrees}
+use Rattle.xls_cmd.specs.Sim.Simulation as simulation
+use Rattle.cmd_line.specs.declared.request.Check.{Check as SaidCheck}
+use Rattle.cmd_line.specs.declared.request.Run.{Run as SaidRun}
+use Rattle.cmd_line.specs.declared.request.Schedule.{Schedule as SaidSchedule}
+use Rattle.cmd_line.specs.declared.request.Opt.{Opt as SaidOpt}
+use Rattle.cmd_line.specs.declared.request.Sim.{Sim as SaidSim}
 use Rattle.xls_cmd.specs.Answer.{by_workers, due, due_for, due_of, due_of_opt, due_of_opt_by, due_of_run, due_of_schedule, due_of_schedule_by, files_of, files_of_opt, files_of_opt_by, files_of_schedule, files_of_schedule_by, is_exact, is_exact_by, is_exact_for, named_files, named_for, run_by, status_for}
 
 -- each command gives one thing

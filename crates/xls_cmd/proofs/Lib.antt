@@ -1,1 +1,15 @@
 mod Answering
+-- `check` and `run` of designs
+pub mod OnDesign
+-- `run` of IR packages
+pub mod OnIr
+-- `opt`
+pub mod OnOpt
+-- `schedule`
+pub mod OnSchedule
+-- what all commands share
+pub mod OnShared
+-- `sim`
+pub mod OnSim
+-- for other crates' proofs
+pub mod Lemmas

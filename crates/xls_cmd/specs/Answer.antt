@@ -1,22 +1,22 @@
 -- What the program answers to words, by what the files hold.
 use Rattle.std.specs.Prelude.{◌≡◌, ℕ, Bool, true, false, List, [], Option, Some, None, Result, Ok, Err}
 use Rattle.xb_io.specs.Contents.{Contents}
-use Rattle.cmd_answer.specs.Fault.{Fault, status_of}
-use Rattle.cmd_answer.specs.Step.{DueBy, Step}
-use Rattle.cmd_answer.specs.declared.fault.Fault.TheVariants.{Usage}
-use Rattle.cmd_words.specs.CommandLine.{said_by}
-use Rattle.cmd_words.specs.declared.request.Request.{Request}
-use Rattle.cmd_words.specs.declared.request.Request.TheVariants as request
-use Rattle.cmd_words.specs.declared.request.Run.{Run}
-use Rattle.cmd_words.specs.declared.request.Schedule.{Schedule}
-use Rattle.cmd_words.specs.declared.request.Opt.{Opt}
-use Rattle.cmd_words.specs.declared.request.Source.{Source}
-use Rattle.cmd_words.specs.declared.request.Source.TheVariants.{Dslx, Ir}
-use Rattle.cmd_design.specs.Commands as design
-use Rattle.cmd_ir.specs.Commands as ir
-use Rattle.cmd_sim.specs.Simulation as simulation
-use Rattle.cmd_schedule.specs.Commands as schedules
-use Rattle.cmd_opt.specs.Commands as optimising
+use Rattle.xls_cmd.specs.Shared.Fault.{Fault, status_of}
+use Rattle.xls_cmd.specs.Shared.Step.{DueBy, Step}
+use Rattle.xls_cmd.specs.declared.shared.fault.Fault.TheVariants.{Usage}
+use Rattle.cmd_line.specs.CommandLine.{said_by}
+use Rattle.cmd_line.specs.declared.request.Request.{Request}
+use Rattle.cmd_line.specs.declared.request.Request.TheVariants as request
+use Rattle.cmd_line.specs.declared.request.Run.{Run}
+use Rattle.cmd_line.specs.declared.request.Schedule.{Schedule}
+use Rattle.cmd_line.specs.declared.request.Opt.{Opt}
+use Rattle.cmd_line.specs.declared.request.Source.{Source}
+use Rattle.cmd_line.specs.declared.request.Source.TheVariants.{Dslx, Ir}
+use Rattle.xls_cmd.specs.Design.Commands as design
+use Rattle.xls_cmd.specs.Ir.Commands as ir
+use Rattle.xls_cmd.specs.Sim.Simulation as simulation
+use Rattle.xls_cmd.specs.Schedule.Commands as schedules
+use Rattle.xls_cmd.specs.Opt.Commands as optimising
 
 -- what a run gives, by what its file is written in
 abbrev pub run_by : Source → Contents → Run (List ℕ) → Step (List ℕ)

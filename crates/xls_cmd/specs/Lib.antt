@@ -1,2 +1,14 @@
 -- what the program answers to words, by what the files hold
 pub mod Answer
+-- `check` and `run` of designs
+pub mod Design
+-- `run` of IR packages
+pub mod Ir
+-- `opt`
+pub mod Opt
+-- `schedule`
+pub mod Schedule
+-- what all commands share
+pub mod Shared
+-- `sim`
+pub mod Sim

@@ -1,11 +1,11 @@
 //! Laws of what the program answers, each the contract of a function that calls the laws of the commands.
 ghost use Rattle.std.specs.Prelude.{◌≡◌, ℕ, List, Result, Some, true};
-ghost use Rattle.cmd_answer.specs.Fault.{Fault};
-ghost use Rattle.cmd_words.specs.declared.request.Run.{Run};
-ghost use Rattle.cmd_words.specs.declared.request.Source.{Source};
+ghost use Rattle.xls_cmd.specs.Shared.Fault.{Fault};
+ghost use Rattle.cmd_line.specs.declared.request.Run.{Run};
+ghost use Rattle.cmd_line.specs.declared.request.Source.{Source};
 ghost use Rattle.xb_io.specs.Contents.{Contents};
-ghost use Rattle.cmd_answer.specs.Step.{IsOne};
-ghost use Rattle.cmd_opt.specs.Agrees.{Agrees};
+ghost use Rattle.xls_cmd.specs.Shared.Step.{IsOne};
+ghost use Rattle.xls_cmd.specs.Opt.Agrees.{Agrees};
 ghost use Rattle.xls_cmd.specs.Answer.{by_workers, due, is_exact, run_by};
 
 /// The words and the files determine what is due, but for the text of an optimised package.
@@ -13,11 +13,11 @@ pub fn one_answer()
     ensures one { (words : List (List ℕ)) (holds : Contents) → is_exact words ≡ true → IsOne (due words (Some holds)) }
     ensures agrees { (words : List (List ℕ)) (holds : Contents) → Agrees (due words (Some holds)) }
 {
-    cmd_design::laws::one_answer();
-    cmd_ir::laws::one_answer();
-    cmd_sim::laws::one_answer();
-    cmd_schedule::laws::one_answer();
-    cmd_opt::laws::answers_agree();
+    crate::design::laws::one_answer();
+    crate::ir::laws::one_answer();
+    crate::sim::laws::one_answer();
+    crate::schedule::laws::one_answer();
+    crate::opt::laws::answers_agree();
 }
 
 /// What a run gives is the same by any number of workers.

@@ -4,7 +4,13 @@
 //! there is none is put ([`cmd_answer`]). What is due for which words stands in `specs/Answer`.
 #![tactic(auto)]
 
+pub mod design;
+pub mod ir;
 pub mod laws;
+pub mod opt;
+pub mod schedule;
+pub mod shared;
+pub mod sim;
 mod top;
 
 pub use top::xls_main;

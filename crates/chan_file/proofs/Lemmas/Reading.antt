@@ -4,8 +4,8 @@ use Rattle.std.specs.Prelude.{slice_get, bytes_eq, option_map}
 use Rattle.std.proofs.lemmas.Bool.{and_parts}
 use Rattle.std.proofs.lemmas.Bool.Decides.{nat_tests}
 use Rattle.std.proofs.lemmas.Option.{get_or_from_slice_get}
-use Rattle.lists.specs.Indexed.{indexed}
-use Rattle.lists.proofs.Lemmas.Indexed.{indexed_get, length-indexed}
+use Rattle.base.specs.Lists.Indexed.{indexed}
+use Rattle.base.proofs.Lemmas.Lists.Indexed.{indexed_get, length-indexed}
 use Rattle.net_core.specs.declared.net.Kind.{Kind}
 use Rattle.net_core.specs.declared.net.Kind.TheVariants as kind
 use Rattle.net_core.specs.Behavior.{IsWordOf}

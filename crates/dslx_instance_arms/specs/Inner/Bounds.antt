@@ -4,7 +4,7 @@ use Rattle.dslx_tree.specs.declared.expr.For.{For, out-For}
 use Rattle.dslx_meaning.specs.Lists.{and_then, with_both}
 use Rattle.dslx_meaning.specs.Values.{bits_of}
 use Rattle.dslx_meaning.specs.declared.value.SignedWord.{SignedWord}
-use Rattle.dslx_lowering.specs.CorePlaces.{CorePlace, constant_at}
+use Rattle.dslx_core.specs.Lowering.CorePlaces.{CorePlace, constant_at}
 
 -- both, if they are bits
 abbrev pub bounds_of : CorePlace → For → Option (SignedWord × SignedWord)

@@ -5,11 +5,11 @@ use Rattle.dslx_tree.specs.declared.item.Module.{Module}
 use Rattle.dslx_meaning.specs.Items.{all_numbers, as_function, inferred_from, item_named, meanings_of}
 use Rattle.dslx_meaning.specs.Lists.{all_some, and_then}
 use Rattle.dslx_meaning.specs.declared.value.DslxValue.{DslxValue}
-use Rattle.dslx_lowering.specs.Functions.{Instantiated}
-use Rattle.dslx_lowering.specs.Lowering.{LoweredExpr, types_of_lowered}
-use Rattle.dslx_instance_machine.specs.Bodies.{doing, place_in}
-use Rattle.dslx_instance_machine.specs.Parts.{numbers_at}
-use Rattle.dslx_instance_machine.specs.Tasks.{CallsInstance, InstanceSight, OpenBody}
+use Rattle.dslx_core.specs.Lowering.Functions.{Instantiated}
+use Rattle.dslx_core.specs.Lowering.Lowering.{LoweredExpr, types_of_lowered}
+use Rattle.dslx_machines.specs.Machine.Bodies.{doing, place_in}
+use Rattle.dslx_machines.specs.Machine.Parts.{numbers_at}
+use Rattle.dslx_machines.specs.Machine.Tasks.{CallsInstance, InstanceSight, OpenBody}
 
 -- the instance that a call with these number arguments and operands comes to
 abbrev pub the_instance : Module → List ℕ → List DslxValue → List LoweredExpr → Option Instantiated

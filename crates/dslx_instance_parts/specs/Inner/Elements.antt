@@ -4,9 +4,9 @@ use Rattle.dslx_tree.specs.declared.expr.Expr.{Expr}
 use Rattle.dslx_meaning.specs.declared.ty.DslxType.{DslxType}
 use Rattle.dslx_meaning.specs.declared.value.Bare.{Bare}
 use Rattle.dslx_const_machine.specs.Layers.{bare_of}
-use Rattle.dslx_lowering.specs.Lowering.{LoweredExpr, number_lowered}
-use Rattle.dslx_instance_machine.specs.Bodies.{doing, gives}
-use Rattle.dslx_instance_machine.specs.Tasks.{PartsMaker, Fills, LowersExpr, OpenBody}
+use Rattle.dslx_core.specs.Lowering.Lowering.{LoweredExpr, number_lowered}
+use Rattle.dslx_machines.specs.Machine.Bodies.{doing, gives}
+use Rattle.dslx_machines.specs.Machine.Tasks.{PartsMaker, Fills, LowersExpr, OpenBody}
 
 abbrev pub number_by : DslxType → Option Bare → Option (Option LoweredExpr)
 number_by t None = None

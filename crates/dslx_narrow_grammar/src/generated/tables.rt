@@ -3,7 +3,7 @@
 //! The tables of the grammar.
 
 use super::nonterminal;
-use dslx_grammar::kind;
+use dslx_token::rules::kind;
 use grammar::Symbol::{Nonterminal, Terminal};
 use grammar::{Production, Span, Symbol};
 

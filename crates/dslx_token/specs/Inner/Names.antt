@@ -2,7 +2,7 @@
 use Rattle.std.specs.Prelude.{◌≡◌, ◌&&◌, ◌||◌, ℕ, Bool, List, bytes_eq}
 use Rattle.std.specs.HashSet.{HashSet, contains_by}
 use denote.Ref.{Bor}
-use Rattle.dslx_grammar.specs.declared.generated.kind.TheConstants.{END}
+use Rattle.dslx_token.specs.declared.rules.generated.kind.TheConstants.{END}
 use Rattle.dslx_token.specs.Kinds.{declares, kind_declared}
 use Rattle.dslx_token.specs.Lexeme.{Lexeme}
 

@@ -6,8 +6,8 @@ use Rattle.delay_model.specs.declared.op.Extend.TheVariants as extend
 use Rattle.ir_tree.specs.declared.ir_type.IrType.{IrType}
 use Rattle.ir_tree.specs.declared.node.Operand.{Operand}
 use Rattle.ir_tree.specs.declared.node.Node.{Node}
-use Rattle.ir_normal.specs.LeftSides.{has_left_side}
-use Rattle.ir_normal.specs.Normal.{names_literal, AreNormal}
+use Rattle.ir_rebuild.specs.Normal.LeftSides.{has_left_side}
+use Rattle.ir_rebuild.specs.Normal.Normal.{names_literal, AreNormal}
 use Rattle.pass_narrow.specs.declared.left_side.RightSide.{RightSide}
 use Rattle.pass_narrow.specs.declared.left_side.RightSide.TheVariants as right
 use Rattle.pass_narrow.specs.Nodes.{extension_node}

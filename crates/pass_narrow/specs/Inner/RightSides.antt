@@ -13,7 +13,7 @@ use Rattle.ir_tree.specs.declared.node.Operand.{Operand}
 use Rattle.ir_tree.specs.declared.node.Node.{Node}
 use Rattle.ir_tree.specs.declared.node.Attributes.{Attributes}
 use Rattle.ir_tree.specs.declared.node.Attributes.TheVariants as attributes
-use Rattle.ir_types.specs.Types.{bits_width}
+use Rattle.ir_tree.specs.NodeTypes.Types.{bits_width}
 use Rattle.pass_narrow.specs.declared.operands.Part.{Part}
 use Rattle.pass_narrow.specs.declared.left_side.RightSide.{RightSide}
 use Rattle.pass_narrow.specs.declared.left_side.RightSide.TheVariants as right

@@ -1,7 +1,7 @@
 use super::package_text;
-use ir_parser::read_ir;
 use ir_passes::optimise;
-use ir_text::print_ir;
+use ir_text::parser::read_ir;
+use ir_text::printer::print_ir;
 use std::alloc::Global;
 use std::process::Abort;
 use std::test::Fail;

@@ -2,7 +2,7 @@
 use Rattle.std.proofs.Common.{◌≡◌, ◌≢◌, ℕ, zero, suc, ◌<◌, List, [], ◌∷◌, ◌++◌, length, refl, sym, ap, ◌∙◌, length-set, ◌⊎◌, inl, inr, subst, arith}
 use Rattle.std.proofs.lemmas.Bool.{cases_eq}
 use Rattle.std.specs.Prelude.{slice_get, slice_set, unwrap_or, flat_map, Option, Some, None}
-use Rattle.lists.proofs.Lemmas.Places.{slice_get-set_other}
+use Rattle.base.proofs.Lemmas.Lists.Places.{slice_get-set_other}
 use Rattle.xb_bits.specs.Word.{Word, word}
 use Rattle.vlog_tree.specs.declared.signal.Signal.{Signal}
 use Rattle.vlog_tree.specs.declared.expression.Atom.{Atom}

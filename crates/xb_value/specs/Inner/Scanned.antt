@@ -1,6 +1,6 @@
 -- What the reader of a text answers.
 use Rattle.std.specs.Prelude.{ℕ, List}
-use Rattle.lists.specs.Fault.{IsFirstFault}
+use Rattle.base.specs.Lists.Fault.{IsFirstFault}
 use Rattle.xb_value.specs.declared.scan.Scanned.{Scanned}
 use Rattle.xb_value.specs.declared.scan.Scanned.TheVariants.{Tokens, Fault}
 use Rattle.xb_value.specs.Form.{Spells, IsValueText}

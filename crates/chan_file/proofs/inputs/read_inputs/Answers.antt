@@ -1,7 +1,7 @@
 use Rattle.std.proofs.Common.{◌≡◌, ◌<◌, ◌∷◌, ◌++◌, [], length, set, replicate, ap, sym, subst, ◌∙◌, arith, Ok}
 use Rattle.std.proofs.lemmas.List.{get_or_read}
-use Rattle.texts.specs.Lines.{lines_of, placed}
-use Rattle.texts.proofs.Lemmas.Lines.{lines-within}
+use Rattle.base.specs.Texts.Lines.{lines_of, placed}
+use Rattle.base.proofs.Lemmas.Texts.Lines.{lines-within}
 use Rattle.chan_file.specs.ChannelFile.{SaysLine, Reads}
 use Rattle.chan_file.specs.Inner.Named.{HasNamed}
 use Rattle.chan_file.proofs.Lemmas.Reading.{inputs_fit}

@@ -1,5 +1,5 @@
 use Rattle.std.proofs.Common.{length}
-use Rattle.texts.specs.Lines.{lines_of, placed}
+use Rattle.base.specs.Texts.Lines.{lines_of, placed}
 use Rattle.chan_file.proofs.Lines.{IsSoFar}
 use Rattle.chan_file.proofs.inputs.read_inputs.Given as goal
 

@@ -1,4 +1,4 @@
-use Rattle.delay_model.proofs.Naming.{named_by_name}
+use Rattle.delay_model.proofs.Lemmas.Naming.{named_by_name}
 use Rattle.delay_model.proofs.laws.named_by_name.Goals as goal
 
 pub returns : goal.returns

@@ -3,9 +3,9 @@ use Rattle.std.proofs.lemmas.Result.{IfOk-weaker}
 use Rattle.dslx_tree.specs.declared.expr.For.{out-For}
 use Rattle.dslx_meaning.specs.Lists.{and_then}
 use Rattle.dslx_meaning.specs.Values.{bits_of}
-use Rattle.dslx_lowering.specs.CorePlaces.{constant_at}
-use Rattle.dslx_instance_machine.specs.Bodies.{place_in}
-use Rattle.dslx_instance_tasks.specs.Shown.{body_shown, sight_of}
+use Rattle.dslx_core.specs.Lowering.CorePlaces.{constant_at}
+use Rattle.dslx_machines.specs.Machine.Bodies.{place_in}
+use Rattle.dslx_instance.specs.Tasks.Shown.{body_shown, sight_of}
 use Rattle.dslx_instance_arms.proofs.Both.{both_missing, both_there}
 use Rattle.dslx_instance_arms.proofs.turns.begin_between.Goals as goal
 

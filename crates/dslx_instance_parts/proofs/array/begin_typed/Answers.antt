@@ -1,6 +1,6 @@
 use Rattle.std.proofs.Common.{◌≡◌, ◌∙◌, List, ap}
 use Rattle.std.proofs.lemmas.Result.{IfOk-weaker}
-use Rattle.dslx_instance_tasks.specs.Shown.{body_shown, sight_of}
+use Rattle.dslx_instance.specs.Tasks.Shown.{body_shown, sight_of}
 use Rattle.dslx_instance_parts.specs.Inner.Arrays.{fills_type}
 use Rattle.dslx_instance_parts.proofs.array.begin_typed.Goals as goal
 

@@ -1,11 +1,11 @@
 use Rattle.std.proofs.Common.{◌≡◌, ◌∙◌, List, [], ap}
 use Rattle.std.proofs.lemmas.Result.{IfOk-weaker}
 use Rattle.dslx_core.specs.declared.expr.CoreExpr as core
-use Rattle.dslx_lowering.specs.Lowering.{LoweredExpr, lowered}
+use Rattle.dslx_core.specs.Lowering.Lowering.{LoweredExpr, lowered}
 use Rattle.dslx_meaning.specs.declared.ty.DslxType.{DslxType}
-use Rattle.dslx_instance_machine.specs.Parts.{fields_on}
-use Rattle.dslx_instance_machine.specs.Tasks.{OpenBody, StructWork}
-use Rattle.dslx_instance_tasks.specs.Shown.{body_shown, sight_of}
+use Rattle.dslx_machines.specs.Machine.Parts.{fields_on}
+use Rattle.dslx_machines.specs.Machine.Tasks.{OpenBody, StructWork}
+use Rattle.dslx_instance.specs.Tasks.Shown.{body_shown, sight_of}
 use Rattle.dslx_instance_parts.proofs.fields.bind_others.Goals as goal
 
 pub returns : goal.returns

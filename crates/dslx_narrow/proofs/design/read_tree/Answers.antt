@@ -1,6 +1,6 @@
 use Rattle.std.proofs.Common.{sym, subst}
 use Rattle.grammar.specs.Answer.{EndsWith}
-use Rattle.dslx_grammar.specs.declared.generated.kind.TheConstants.{END}
+use Rattle.dslx_token.specs.declared.rules.generated.kind.TheConstants.{END}
 use Rattle.dslx_token.specs.Tokens.{Tokens}
 use Rattle.dslx_narrow_parser.specs.Reads.{kinds_of}
 use Rattle.dslx_narrow.specs.Inner.{IsUnread}

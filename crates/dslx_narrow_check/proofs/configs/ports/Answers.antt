@@ -1,7 +1,7 @@
 use Rattle.std.proofs.Common.{◌≡◌, ◌∷◌, ◌+◌, Some, None, drop, sym, ap, ◌∙◌, arith}
 use Rattle.std.specs.Prelude.{if◌then◌else◌}
 use Rattle.std.specs.Str.{bytes_eq}
-use Rattle.name_table.specs.Found.{found, or_else}
+use Rattle.base.specs.NameTable.Found.{found, or_else}
 use Rattle.dslx_narrow_tree.specs.Judging.{port_in, port_of}
 use Rattle.dslx_narrow_check.proofs.Noting.{at_item, or_else_more}
 use Rattle.dslx_narrow_check.proofs.configs.ports.Goals as goal

@@ -1,5 +1,5 @@
 use Rattle.std.proofs.Common.{◌≡◌, ℕ, List, drop}
-use Rattle.name_table.specs.Found.{found, or_else}
+use Rattle.base.specs.NameTable.Found.{found, or_else}
 use Rattle.dslx_narrow_tree.specs.Judging.{port_in}
 use Rattle.dslx_narrow_check.proofs.configs.ports.Given as goal
 

@@ -1,7 +1,7 @@
 use Rattle.std.proofs.Common.{◌≡◌, ◌∷◌, ◌+◌, Some, map, drop, sym, ap, ◌∙◌, arith}
 use Rattle.std.specs.Prelude.{is_some, not, if◌then◌else◌}
 use Rattle.std.specs.Str.{bytes_eq}
-use Rattle.name_table.specs.Found.{found}
+use Rattle.base.specs.NameTable.Found.{found}
 use Rattle.dslx_narrow_tree.specs.Checking.{used_in, name_of_ident}
 use Rattle.dslx_narrow_check.proofs.Noting.{at_item, uses_more}
 use Rattle.dslx_narrow_check.proofs.configs.uses.Goals as goal

@@ -1,5 +1,5 @@
 use Rattle.std.proofs.Common.{◌≡◌, ℕ, List, map, drop, None}
-use Rattle.name_table.specs.Found.{found}
+use Rattle.base.specs.NameTable.Found.{found}
 use Rattle.dslx_narrow_tree.specs.Checking.{used_in, name_of_ident}
 use Rattle.dslx_narrow_check.proofs.configs.uses.Given as goal
 

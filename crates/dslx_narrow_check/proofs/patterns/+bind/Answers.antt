@@ -1,7 +1,7 @@
 use Rattle.std.proofs.Common.{◌≡◌, ◌∷◌, ◌++◌, Some, true, sym, ap, ◌∙◌, subst}
 use Rattle.std.specs.Prelude.{if◌then◌else◌}
 use Rattle.std.specs.Str.{bytes_eq}
-use Rattle.name_table.specs.Found.{found}
+use Rattle.base.specs.NameTable.Found.{found}
 use Rattle.dslx_narrow_tree.specs.Patterns.{Bound, binds, bind_pair, second_type, pair_faults, declared_faults}
 use Rattle.dslx_narrow_tree.specs.declared.pattern.Pattern.{Pair}
 use Rattle.dslx_narrow_check.specs.Inner.{BindsNames}

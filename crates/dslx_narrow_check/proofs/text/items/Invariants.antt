@@ -1,6 +1,6 @@
 use Rattle.std.proofs.Common.{◌≡◌, ℕ, List, map, drop}
 use Rattle.std.specs.Prelude.{is_some, ◌||◌}
-use Rattle.name_table.specs.Found.{found}
+use Rattle.base.specs.NameTable.Found.{found}
 use Rattle.dslx_narrow_tree.specs.Names.{is_named}
 use Rattle.dslx_narrow_tree.specs.Checking.{name_of_proc}
 use Rattle.dslx_narrow_check.proofs.text.items.Given as goal

@@ -1,7 +1,7 @@
 use Rattle.std.proofs.Common.{◌≡◌, ◌∷◌, ◌++◌, ◌+◌, Some, drop, true, sym, ap, ◌∙◌, arith}
 use Rattle.std.specs.Prelude.{if◌then◌else◌}
 use Rattle.std.specs.Str.{bytes_eq}
-use Rattle.name_table.specs.Found.{found}
+use Rattle.base.specs.NameTable.Found.{found}
 use Rattle.dslx_narrow_tree.specs.Checking.{proc_faults, procs_faults}
 use Rattle.dslx_narrow_check.proofs.Noting.{at_item, pushed, named_more}
 use Rattle.dslx_narrow_check.proofs.text.note_procs.Goals as goal

@@ -1,7 +1,7 @@
 use Rattle.std.proofs.Common.{◌≡◌, ◌∷◌, ◌+◌, Some, None, map, drop, sym, ap, ◌∙◌, arith}
 use Rattle.std.specs.Prelude.{if◌then◌else◌, unwrap_or}
 use Rattle.std.specs.Str.{bytes_eq}
-use Rattle.name_table.specs.Found.{found, or_else}
+use Rattle.base.specs.NameTable.Found.{found, or_else}
 use Rattle.dslx_narrow_tree.specs.Checking.{name_of_end}
 use Rattle.dslx_narrow_tree.specs.Network.{place_named}
 use Rattle.dslx_narrow_lower.proofs.Deeds.{at_item, place_more}

@@ -1,6 +1,6 @@
 use Rattle.std.proofs.Common.{◌≡◌, ◌+◌, ℕ, List, map, drop}
 use Rattle.std.specs.Prelude.{unwrap_or}
-use Rattle.name_table.specs.Found.{found}
+use Rattle.base.specs.NameTable.Found.{found}
 use Rattle.dslx_narrow_tree.specs.Checking.{name_of_end}
 use Rattle.dslx_narrow_tree.specs.Network.{place_named}
 use Rattle.dslx_narrow_lower.proofs.channels.places.Given as goal

@@ -1,6 +1,6 @@
 use Rattle.std.proofs.Common.{◌∙◌, sym, subst}
 use Rattle.grammar.specs.Derivation.{IsSentence}
-use Rattle.lists.specs.Fault.{IsFirstFault}
+use Rattle.base.specs.Lists.Fault.{IsFirstFault}
 use Rattle.dslx_narrow_grammar.specs.Narrow.{narrow}
 use Rattle.dslx_narrow_parser.proofs.OneTree.{deep_before}
 use Rattle.dslx_narrow_parser.proofs.reader.refusal.Goals as goal

@@ -1,7 +1,7 @@
 use Rattle.std.proofs.Common.{refl, subst, ap, arith, length}
 use Rattle.std.specs.Prelude.{slice_get}
 use Rattle.grammar.specs.Derivation.{IsSentence}
-use Rattle.lists.specs.Fault.{IsFirstFault}
+use Rattle.base.specs.Lists.Fault.{IsFirstFault}
 use Rattle.dslx_narrow_grammar.specs.Narrow.{narrow}
 use Rattle.dslx_narrow_parser.proofs.OneTree.{fault_at, kinds_length}
 use Rattle.dslx_narrow_parser.proofs.reader.syntax_fault.Goals as goal

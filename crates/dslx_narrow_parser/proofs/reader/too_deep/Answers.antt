@@ -1,6 +1,6 @@
 use Rattle.std.proofs.Common.{◌∙◌, ◌≡◌, subst}
 use Rattle.std.specs.Prelude.{IfOk}
-use Rattle.dslx_nesting.specs.Nesting.{first_past}
+use Rattle.xb_span.specs.Nesting.Nesting.{first_past}
 use Rattle.dslx_narrow_parser.proofs.reader.too_deep.Goals as goal
 
 pub returns : goal.returns

@@ -1,4 +1,4 @@
-use Rattle.dslx_instance_tasks.specs.Shown.{body_shown, machine_shown}
+use Rattle.dslx_instance.specs.Tasks.Shown.{body_shown, machine_shown}
 use Rattle.dslx_param.proofs.Adding.{adds_made, runs_from}
 use Rattle.std.proofs.Common.{true}
 use Rattle.dslx_param.proofs.made.add_instance.Goals as goal

@@ -1,6 +1,6 @@
 use Rattle.std.proofs.Common.{sym, subst}
 use Rattle.grammar.specs.Answer.{EndsWith}
-use Rattle.dslx_grammar.specs.declared.generated.kind.TheConstants.{END}
+use Rattle.dslx_token.specs.declared.rules.generated.kind.TheConstants.{END}
 use Rattle.dslx_parser.proofs.reader.judged.Goals as goal
 
 pub parse-requires : goal.parse-requires

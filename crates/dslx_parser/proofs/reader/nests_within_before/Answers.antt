@@ -1,7 +1,7 @@
 use Rattle.std.proofs.Common.{◌∙◌, ap, subst, take}
 use Rattle.grammar.specs.Derivation.{IsBeginning, IsSentence}
-use Rattle.lists.specs.Fault.{IsFirstFault}
-use Rattle.dslx_grammar.specs.Dslx.{dslx}
+use Rattle.base.specs.Lists.Fault.{IsFirstFault}
+use Rattle.dslx_token.specs.Rules.Dslx.{dslx}
 use Rattle.dslx_parser.proofs.OneTree.{fault_within}
 use Rattle.dslx_parser.proofs.reader.nests_within_before.Goals as goal
 

@@ -1,8 +1,8 @@
 use Rattle.std.proofs.Common.{refl, subst, ap, arith, length}
 use Rattle.std.specs.Prelude.{slice_get}
 use Rattle.grammar.specs.Derivation.{IsSentence}
-use Rattle.lists.specs.Fault.{IsFirstFault}
-use Rattle.dslx_grammar.specs.Dslx.{dslx}
+use Rattle.base.specs.Lists.Fault.{IsFirstFault}
+use Rattle.dslx_token.specs.Rules.Dslx.{dslx}
 use Rattle.dslx_parser.proofs.OneTree.{fault_at, kinds_length}
 use Rattle.dslx_parser.proofs.reader.syntax_fault.Goals as goal
 

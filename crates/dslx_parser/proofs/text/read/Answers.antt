@@ -1,6 +1,6 @@
 use Rattle.std.proofs.Common.{◌∙◌, inl, subst, sym}
 use Rattle.grammar.specs.Answer.{EndsWith}
-use Rattle.dslx_grammar.specs.declared.generated.kind.TheConstants.{END}
+use Rattle.dslx_token.specs.declared.rules.generated.kind.TheConstants.{END}
 use Rattle.dslx_token.specs.Tokens.{Tokens}
 use Rattle.dslx_parser.specs.Reads.{kinds_of}
 use Rattle.dslx_parser.proofs.Texts.{text_lacks, text_only, text_reads, text_refused}

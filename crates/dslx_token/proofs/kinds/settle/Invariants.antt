@@ -1,5 +1,5 @@
 use Rattle.std.proofs.Common.{◌≡◌, ◌++◌, drop, take}
-use Rattle.dslx_grammar.specs.declared.generated.kind.TheConstants.{END}
+use Rattle.dslx_token.specs.declared.rules.generated.kind.TheConstants.{END}
 use Rattle.dslx_token.specs.Inner.Names.{kind_by}
 use Rattle.dslx_token.specs.Kinds.{settled}
 use Rattle.dslx_token.proofs.kinds.settle.Given as goal

@@ -1,7 +1,7 @@
 use Rattle.std.proofs.Common.{ap, ◌∙◌, sym, take, drop, length, ◌-◌}
 use Rattle.std.proofs.lemmas.Bool.{both_ways}
 use Rattle.std.proofs.lemmas.List.{take_rest}
-use Rattle.texts.specs.Words.{begins_word}
+use Rattle.base.specs.Texts.Words.{begins_word}
 use Rattle.dslx_token.proofs.LongestTokens.{string_front, no_string}
 use Rattle.dslx_token.proofs.lexer.string_len.Goals as goal
 use Rattle.dslx_token.proofs.lexer.string_len.Goals.{else-begins_word-via-then-begins_word+else-byte_at-eq34, else-begins_word-via-else-begins_word}

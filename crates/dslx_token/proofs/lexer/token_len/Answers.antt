@@ -1,7 +1,7 @@
 use Rattle.std.proofs.Common.{ap, ◌∙◌, sym, ◌≡◌, true}
 use Rattle.std.specs.Prelude.{slice_index}
 use Rattle.std.specs.Char.{is_ascii_digit}
-use Rattle.texts.specs.Words.{begins_word}
+use Rattle.base.specs.Texts.Words.{begins_word}
 use Rattle.dslx_token.proofs.LongestTokens.{word_front, front_stands, found_stands, mark_stands, word_no_digit, quote_no_digit}
 use Rattle.dslx_token.proofs.lexer.token_len.Goals as goal
 

@@ -1,6 +1,6 @@
 use Rattle.std.proofs.Common.{◌≡◌, ◌+◌, sum, map, drop}
 use Rattle.ir_tree.specs.declared.node.Operand.{Operand}
-use Rattle.ir_types.specs.Types.{bits_width}
+use Rattle.ir_tree.specs.NodeTypes.Types.{bits_width}
 use Rattle.ir_verify.specs.Fitting.{type_in}
 use Rattle.ir_verify.specs.Inner.Scopes.{types_of}
 use Rattle.ir_verify.proofs.fitting.make_width.Given as goal

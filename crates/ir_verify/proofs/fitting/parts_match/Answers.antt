@@ -1,9 +1,9 @@
 use Rattle.std.proofs.Common.{map, sym, arith}
 use Rattle.std.proofs.lemmas.List.{length-map}
-use Rattle.ir_types.specs.Types.{same_type}
+use Rattle.ir_tree.specs.NodeTypes.Types.{same_type}
 use Rattle.ir_verify.specs.Fitting.{type_in}
 use Rattle.ir_verify.specs.Inner.Scopes.{types_of}
-use Rattle.ir_types.proofs.Lemmas.SameTypes.{each_same-lengths}
+use Rattle.ir_tree.proofs.Lemmas.NodeTypes.SameTypes.{each_same-lengths}
 use Rattle.ir_verify.proofs.fitting.parts_match.Goals as goal
 
 pub returns-then-parts-operands : goal.returns-then-parts-operands

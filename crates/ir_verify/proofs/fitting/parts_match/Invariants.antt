@@ -1,5 +1,5 @@
 use Rattle.std.proofs.Common.{◌≡◌, length, drop, map}
-use Rattle.ir_types.specs.Types.{same_type, each_same}
+use Rattle.ir_tree.specs.NodeTypes.Types.{same_type, each_same}
 use Rattle.ir_verify.specs.Fitting.{type_in}
 use Rattle.ir_verify.specs.Inner.Scopes.{types_of}
 use Rattle.ir_verify.proofs.fitting.parts_match.Given as goal

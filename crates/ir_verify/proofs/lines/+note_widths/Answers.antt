@@ -1,7 +1,7 @@
 use Rattle.std.proofs.Common.{ℕ, ◌<◌, ◌≤◌, length, map, ap, sym, ◌∙◌, arith}
 use Rattle.xb_span.specs.declared.limit.What.TheVariants as what
 use Rattle.ir_verify.specs.Checks.{noted, limit_at}
-use Rattle.ir_types.specs.Types.{widths_in}
+use Rattle.ir_tree.specs.NodeTypes.Types.{widths_in}
 use Rattle.ir_verify.proofs.Noted.{widths_step, widths_end, widths_noted, widths_in-Tuple}
 use Rattle.ir_verify.proofs.lines.+note_widths.Goals as goal
 

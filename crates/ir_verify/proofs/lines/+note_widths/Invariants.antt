@@ -1,7 +1,7 @@
 use Rattle.std.proofs.Common.{◌≡◌, ℕ, drop, map}
 use Rattle.xb_span.specs.declared.limit.What.TheVariants as what
 use Rattle.ir_verify.specs.Checks.{noted, limit_at}
-use Rattle.ir_types.specs.Types.{widths_in, joined_lists}
+use Rattle.ir_tree.specs.NodeTypes.Types.{widths_in, joined_lists}
 use Rattle.ir_verify.proofs.lines.+note_widths.Given as goal
 
 abbrev pub invariant-parts : goal.invariant-parts

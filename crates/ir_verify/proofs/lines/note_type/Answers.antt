@@ -3,7 +3,7 @@ use Rattle.xb_span.specs.declared.limit.What.TheVariants as what
 use Rattle.xb_value.specs.Width.{leaf_count}
 use Rattle.ir_tree.specs.Types.{ty_of}
 use Rattle.ir_verify.specs.Checks.{noted, limit_at, bounded}
-use Rattle.ir_types.specs.Types.{widths_in, levels_of}
+use Rattle.ir_tree.specs.NodeTypes.Types.{widths_in, levels_of}
 use Rattle.ir_verify.proofs.Noted.{noted-append, limit_bounded}
 use Rattle.ir_verify.proofs.lines.note_type.Goals as goal
 

@@ -2,7 +2,7 @@ use Rattle.std.proofs.Common.{◌∙◌, ap, sym, List, ◌++◌, ◌∷◌, [],
 use Rattle.std.proofs.lemmas.List.{length_push}
 use Rattle.net_core.specs.declared.outcome.ProcEnd.{ProcEnd}
 use Rattle.net_core.specs.Inner.Making.{end_with}
-use Rattle.lists.proofs.Lemmas.Indexed.{indexed_push}
+use Rattle.base.proofs.Lemmas.Lists.Indexed.{indexed_push}
 use Rattle.net_core.proofs.config.ends.Goals as goal
 
 pub loop-progress-preserved : goal.loop-progress-preserved

@@ -2,9 +2,9 @@ use Rattle.std.proofs.Common.{◌<◌, ◌∙◌, ap, sym, ◌++◌, ◌∷◌, 
 use Rattle.std.proofs.lemmas.List.{get_or_read}
 use Rattle.xb_bits.specs.Word.{Word}
 use Rattle.net_core.specs.declared.channel.Channel.{Channel}
-use Rattle.lists.specs.Indexed.{indexed}
+use Rattle.base.specs.Lists.Indexed.{indexed}
 use Rattle.net_core.specs.Inner.Making.{filled_channel}
-use Rattle.lists.proofs.Lemmas.Indexed.{indexed_more}
+use Rattle.base.proofs.Lemmas.Lists.Indexed.{indexed_more}
 use Rattle.net_core.proofs.config.filled.Goals as goal
 
 pub loop-c-preserved : goal.loop-c-preserved

@@ -1,4 +1,4 @@
-use Rattle.ir_normal.specs.Normal.{AreNeeded}
+use Rattle.ir_rebuild.specs.Normal.Normal.{AreNeeded}
 use Rattle.pass_dead.proofs.MarkSteps.{AreVisited}
 use Rattle.pass_dead.proofs.marks.needed.Given as goal
 

@@ -2,7 +2,7 @@ use Rattle.std.proofs.Common.{IfOk, max, sym, subst}
 use Rattle.std.specs.Prelude.{nat_lt}
 use Rattle.ir_tree.specs.declared.node.Node.{Node}
 use Rattle.pass_narrow.specs.Narrowing.{Narrows}
-use Rattle.ir_normal.specs.Normal.{AreNormal}
+use Rattle.ir_rebuild.specs.Normal.Normal.{AreNormal}
 use Rattle.pass_narrow.specs.KeepsNormal.{KeepsNormal}
 use Rattle.pass_narrow.specs.Inner.Meant.{IsRightSide, IsOperation, IsComparison}
 use Rattle.pass_narrow.specs.Inner.Bare.{AreBare, IsNormalSide, row_test}

@@ -1,6 +1,6 @@
 use Rattle.std.proofs.Common.{◌≡◌, ℕ}
 use Rattle.net_core.specs.Cuts.{Run}
-use Rattle.net_streams.specs.Streams.{stream_in}
+use Rattle.chan_queue.specs.Streams.Streams.{stream_in}
 use Rattle.proc_runner.specs.Inner.Opened.{AreOpened}
 use Rattle.proc_runner.proofs.lines.open.Given as goal
 

@@ -1,6 +1,6 @@
 use Rattle.std.proofs.Common.{◌≡◌, Some, length}
 use Rattle.task_queue.specs.Passes.{IsTaskPass, knows}
-use Rattle.proc_round.specs.Shares.{HoldsNone}
+use Rattle.task_queue.specs.Round.Shares.{HoldsNone}
 use Rattle.proc_runner.proofs.rounds.run_to_end.Given as goal
 
 abbrev pub invariant-loop : goal.invariant-loop

@@ -1,7 +1,7 @@
 use Rattle.std.proofs.Common.{◌<◌, ◌++◌, ◌∷◌, [], ℕ, List, length, ap, ◌∙◌, arith}
 use Rattle.net_core.specs.declared.net.ProcHead.{ProcHead}
 use Rattle.net_core.specs.Cuts.{place_of}
-use Rattle.proc_outcome.specs.Places.{head_receives}
+use Rattle.proc_task.specs.Outcome.Places.{head_receives}
 use Rattle.proc_runner.proofs.Runs.{place_more}
 use Rattle.proc_runner.proofs.start.receivers.Goals as goal
 

@@ -1,8 +1,8 @@
 use Rattle.std.proofs.Common.{◌≡◌, take}
-use Rattle.lists.specs.Indexed.{indexed}
+use Rattle.base.specs.Lists.Indexed.{indexed}
 use Rattle.net_core.specs.declared.net.Chan.{Chan}
 use Rattle.net_core.specs.Cuts.{place_of}
-use Rattle.proc_outcome.specs.Places.{head_sends}
+use Rattle.proc_task.specs.Outcome.Places.{head_sends}
 use Rattle.proc_runner.proofs.start.senders.Given as goal
 
 abbrev pub invariant-loop-c : goal.invariant-loop-c

@@ -1,5 +1,5 @@
 use Rattle.std.proofs.Common.{◌≡◌, get_or, Some, None, option_map, refl, sym, ap, ap₂, subst, ◌∙◌, arith}
-use Rattle.lists.specs.Fault.{IsFirstFault}
+use Rattle.base.specs.Lists.Fault.{IsFirstFault}
 use Rattle.xb_value.specs.Form.{IsValueText, Spells}
 use Rattle.xb_value.specs.Inner.Scanner.{class_of, step, ended}
 use Rattle.xb_value.specs.Inner.ScannerState.{state_of, Stepped}

@@ -1,6 +1,6 @@
 use Rattle.std.proofs.Common.{map, string_bytes}
-use Rattle.cmd_answer.specs.Events.{file_events}
-use Rattle.cmd_words.specs.Named.{named}
+use Rattle.xls_cmd.specs.Shared.Events.{file_events}
+use Rattle.cmd_line.specs.Named.{named}
 use Rattle.xls_cmd.proofs.Answering.{done_by_command}
 use Rattle.xls_cmd.proofs.top.execute.Goals as goal
 

@@ -1,7 +1,7 @@
 use Rattle.std.proofs.Common.{[]}
-use Rattle.cmd_answer.specs.Events.{file_events}
-use Rattle.cmd_words.specs.Named.{named_run}
-use Rattle.cmd_words.specs.declared.request.Source.TheVariants.{Dslx, Ir}
+use Rattle.xls_cmd.specs.Shared.Events.{file_events}
+use Rattle.cmd_line.specs.Named.{named_run}
+use Rattle.cmd_line.specs.declared.request.Source.TheVariants.{Dslx, Ir}
 use Rattle.xls_cmd.proofs.Answering.{done_by_source}
 use Rattle.xls_cmd.proofs.top.run.Goals as goal
 

@@ -1,9 +1,9 @@
 use Rattle.std.proofs.Common.{[], Err, refl, sym}
-use Rattle.cmd_answer.specs.Events.{file_events}
-use Rattle.cmd_answer.specs.declared.refusal.Refusal.TheVariants.{Fault}
-use Rattle.cmd_answer.specs.declared.fault.Fault.TheVariants.{Usage}
-use Rattle.cmd_words.specs.Named.{named_schedule}
-use Rattle.cmd_words.specs.declared.request.Source.TheVariants.{Dslx, Ir}
+use Rattle.xls_cmd.specs.Shared.Events.{file_events}
+use Rattle.xls_cmd.specs.declared.shared.refusal.Refusal.TheVariants.{Fault}
+use Rattle.xls_cmd.specs.declared.shared.fault.Fault.TheVariants.{Usage}
+use Rattle.cmd_line.specs.Named.{named_schedule}
+use Rattle.cmd_line.specs.declared.request.Source.TheVariants.{Dslx, Ir}
 use Rattle.xls_cmd.proofs.Answering.{schedule_by_source, nothing_asked}
 use Rattle.xls_cmd.proofs.top.schedule.Goals as goal
 

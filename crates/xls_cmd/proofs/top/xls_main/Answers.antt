@@ -1,7 +1,7 @@
 use Rattle.std.proofs.Common.{map, string_bytes}
 use Rattle.xb_io.specs.Counts.{HasRisen}
-use Rattle.cmd_answer.specs.Events.{file_events, sink_events}
-use Rattle.cmd_answer.proofs.Lemmas.{answered}
+use Rattle.xls_cmd.specs.Shared.Events.{file_events, sink_events}
+use Rattle.xls_cmd.proofs.Lemmas.Shared.{answered}
 use Rattle.xls_cmd.specs.Answer.{due, named_files}
 use Rattle.xls_cmd.proofs.Answering.{completely}
 use Rattle.xls_cmd.proofs.top.xls_main.Goals as goal

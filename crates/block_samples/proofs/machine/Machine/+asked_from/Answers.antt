@@ -1,7 +1,7 @@
 use Rattle.std.proofs.Common.{arith}
 use Rattle.std.specs.Prelude.{map}
-use Rattle.block_machine.specs.Circuits.{stage_by}
-use Rattle.block_machine.specs.Logic.{circuit_of}
+use Rattle.block_stage.specs.Machine.Circuits.{stage_by}
+use Rattle.block_stage.specs.Machine.Logic.{circuit_of}
 use Rattle.block_samples.specs.Samples.{site_of, pipeline_of, ports_of}
 use Rattle.block_samples.proofs.Machines.{more_asked, none_asked}
 use Rattle.block_samples.proofs.machine.Machine.+asked_from.Goals as goal

@@ -1,6 +1,6 @@
 use Rattle.std.proofs.Common.{◌∙◌, ◌+◌, sym, arith, refl}
-use Rattle.block_machine.specs.Circuits.{stage_by}
-use Rattle.block_machine.specs.Logic.{circuit_of}
+use Rattle.block_stage.specs.Machine.Circuits.{stage_by}
+use Rattle.block_stage.specs.Machine.Logic.{circuit_of}
 use Rattle.block_samples.specs.Samples.{pipeline_of, ports_of}
 use Rattle.block_samples.proofs.Machines.{moves_more}
 use Rattle.block_samples.proofs.machine.Machine.+moves_before.Goals as goal

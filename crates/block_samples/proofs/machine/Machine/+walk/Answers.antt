@@ -1,6 +1,6 @@
 use Rattle.std.proofs.Common.{◌++◌, ◌∷◌, [], ◌∙◌, ap, sym, arith}
-use Rattle.block_machine.specs.declared.logic.Step.TheVariants.{Pass, Recall, Take, Put, AwaitWord, AwaitRoom}
-use Rattle.block_machine.specs.Logic.{circuit_of}
+use Rattle.block_stage.specs.declared.machine.logic.Step.TheVariants.{Pass, Recall, Take, Put, AwaitWord, AwaitRoom}
+use Rattle.block_stage.specs.Machine.Logic.{circuit_of}
 use Rattle.block_samples.specs.Samples.{site_of}
 use Rattle.std.specs.Prelude.{map}
 use Rattle.block_samples.specs.Shows.{got_behind}

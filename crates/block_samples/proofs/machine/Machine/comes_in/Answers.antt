@@ -1,6 +1,6 @@
 use Rattle.std.proofs.Common.{◌∙◌, sym, subst, arith}
-use Rattle.block_machine.specs.Circuits.{stage_by, moves_by}
-use Rattle.block_machine.specs.Logic.{circuit_of}
+use Rattle.block_stage.specs.Machine.Circuits.{stage_by, moves_by}
+use Rattle.block_stage.specs.Machine.Logic.{circuit_of}
 use Rattle.block_samples.specs.Samples.{pipeline_of, ports_of}
 use Rattle.block_samples.specs.Shows.{ShowsBegun}
 use Rattle.block_samples.proofs.Machines.{held_stays, held_comes}

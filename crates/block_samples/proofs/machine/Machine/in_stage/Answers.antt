@@ -1,7 +1,7 @@
 use Rattle.std.proofs.Common.{◌+◌, ◌-◌, ◌∙◌, ap, sym, arith, length, refl, []}
 use Rattle.std.specs.Prelude.{map, slice_get}
-use Rattle.block_machine.specs.Cycle.{brought}
-use Rattle.block_machine.specs.Logic.{circuit_of}
+use Rattle.block_stage.specs.Machine.Cycle.{brought}
+use Rattle.block_stage.specs.Machine.Logic.{circuit_of}
 use Rattle.block_samples.specs.Samples.{site_of, stage_at}
 use Rattle.block_samples.proofs.Tables.{count_within}
 use Rattle.block_samples.proofs.Machines.{stage_walks, stage_idle}

@@ -1,7 +1,7 @@
 use Rattle.std.proofs.Common.{◌≡◌, ◌∙◌, ◌-◌, suc, ap, arith}
-use Rattle.block_machine.specs.Cycle.{moves_through}
-use Rattle.block_machine.specs.Circuits.{stage_by}
-use Rattle.block_machine.specs.Logic.{circuit_of}
+use Rattle.block_stage.specs.Machine.Cycle.{moves_through}
+use Rattle.block_stage.specs.Machine.Circuits.{stage_by}
+use Rattle.block_stage.specs.Machine.Logic.{circuit_of}
 use Rattle.block_samples.specs.Samples.{pipeline_of, ports_of}
 use Rattle.block_samples.proofs.machine.Machine.moves.Goals as goal
 

@@ -1,6 +1,6 @@
 use Rattle.std.proofs.Common.{◌≡◌, ℕ, ◌<◌, length, Bool, false, arith}
-use Rattle.block_machine.specs.Circuits.{cycle_by}
-use Rattle.block_machine.specs.Logic.{circuit_of}
+use Rattle.block_stage.specs.Machine.Circuits.{cycle_by}
+use Rattle.block_stage.specs.Machine.Logic.{circuit_of}
 use Rattle.block_samples.specs.Samples.{pipeline_of, ports_of}
 use Rattle.block_samples.proofs.Tables.{four}
 use Rattle.block_samples.proofs.machine.Machine.next_done.Goals as goal

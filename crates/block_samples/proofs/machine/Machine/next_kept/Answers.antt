@@ -1,7 +1,7 @@
 use Rattle.std.proofs.Common.{◌≡◌, ℕ, ◌<◌, length, arith}
 use Rattle.xb_bits.specs.Word.{Word}
-use Rattle.block_machine.specs.Circuits.{cycle_by}
-use Rattle.block_machine.specs.Logic.{circuit_of}
+use Rattle.block_stage.specs.Machine.Circuits.{cycle_by}
+use Rattle.block_stage.specs.Machine.Logic.{circuit_of}
 use Rattle.block_samples.specs.Samples.{pipeline_of, ports_of}
 use Rattle.block_samples.specs.Shows.{no_word}
 use Rattle.block_samples.proofs.Tables.{four}

@@ -1,7 +1,7 @@
 use Rattle.std.proofs.Common.{◌∙◌, ap, arith, get_or, None}
 use Rattle.std.specs.Prelude.{slice_get}
-use Rattle.block_machine.specs.Circuits.{stage_by}
-use Rattle.block_machine.specs.Logic.{circuit_of}
+use Rattle.block_stage.specs.Machine.Circuits.{stage_by}
+use Rattle.block_stage.specs.Machine.Logic.{circuit_of}
 use Rattle.block_samples.specs.Samples.{pipeline_of, ports_of, stage_at}
 use Rattle.block_samples.specs.Shows.{taken_at}
 use Rattle.block_samples.proofs.Tables.{chan_is}

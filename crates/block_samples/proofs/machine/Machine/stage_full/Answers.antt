@@ -1,6 +1,6 @@
 use Rattle.std.proofs.Common.{◌∙◌, sym, refl, arith}
-use Rattle.block_machine.specs.Circuits.{moves_by}
-use Rattle.block_machine.specs.Logic.{circuit_of}
+use Rattle.block_stage.specs.Machine.Circuits.{moves_by}
+use Rattle.block_stage.specs.Machine.Logic.{circuit_of}
 use Rattle.block_samples.specs.Samples.{pipeline_of, ports_of}
 use Rattle.block_samples.proofs.Machines.{full_past}
 use Rattle.block_samples.proofs.machine.Machine.stage_full.Goals as goal

@@ -1,6 +1,6 @@
 use Rattle.std.proofs.Common.{◌≡◌, ◌≤◌, ◌-◌, length}
 use Rattle.std.specs.Prelude.{slice_get}
-use Rattle.block_machine.specs.Pipeline.{count_before}
+use Rattle.block_stage.specs.Machine.Pipeline.{count_before}
 use Rattle.block_samples.specs.Samples.{stage_at}
 use Rattle.block_samples.proofs.sample.Sample.first.Given as goal
 

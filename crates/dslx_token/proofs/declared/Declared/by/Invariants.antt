@@ -1,5 +1,5 @@
 use Rattle.std.proofs.Common.{◌≡◌, ◌||◌, ℕ, List, drop}
-use Rattle.dslx_grammar.specs.declared.generated.kind.TheConstants.{END}
+use Rattle.dslx_token.specs.declared.rules.generated.kind.TheConstants.{END}
 use Rattle.dslx_token.specs.Inner.Names.{has_name}
 use Rattle.dslx_token.specs.Kinds.{declares, heads_callable, heads_struct, heads_type}
 use Rattle.dslx_token.proofs.declared.Declared.by.Given as goal

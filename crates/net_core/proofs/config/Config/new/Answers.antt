@@ -2,7 +2,7 @@ use Rattle.std.proofs.Common.{◌<◌, ◌^◌, List, ap, ◌∙◌, refl, map, 
 use Rattle.xb_bits.specs.Word.{Word}
 use Rattle.net_core.specs.declared.net.ProcHead.{ProcHead}
 use Rattle.net_core.specs.declared.net.Chan.{Chan}
-use Rattle.lists.specs.Indexed.{indexed}
+use Rattle.base.specs.Lists.Indexed.{indexed}
 use Rattle.net_core.specs.Inner.Making.{opened_progress, filled_channel}
 use Rattle.net_core.proofs.Starts.{start_shows}
 use Rattle.net_core.proofs.config.Config.new.Goals as goal

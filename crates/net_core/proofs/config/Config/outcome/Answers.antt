@@ -3,9 +3,9 @@ use Rattle.net_core.specs.declared.outcome.Outcome.{Outcome}
 use Rattle.net_core.specs.declared.outcome.Stream.{Stream}
 use Rattle.net_core.specs.declared.outcome.ProcEnd.{ProcEnd}
 use Rattle.net_core.specs.Outcomes.{stall_in, stream_of}
-use Rattle.lists.specs.Indexed.{indexed}
+use Rattle.base.specs.Lists.Indexed.{indexed}
 use Rattle.net_core.specs.Shows.{progress_of}
-use Rattle.lists.proofs.Lemmas.Indexed.{length-indexed}
+use Rattle.base.proofs.Lemmas.Lists.Indexed.{length-indexed}
 use Rattle.net_core.proofs.Stalls.{procs_are, streams_are, ends_are}
 use Rattle.net_core.proofs.config.Config.outcome.Goals as goal
 

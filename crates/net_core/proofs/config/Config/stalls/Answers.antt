@@ -2,8 +2,8 @@ use Rattle.std.proofs.Common.{◌<◌, ◌≤◌, ◌∙◌, ap, sym, List, ◌+
 use Rattle.std.proofs.lemmas.List.{take_all}
 use Rattle.net_core.specs.declared.outcome.Stall.{Stall}
 use Rattle.net_core.specs.Outcomes.{stall_in}
-use Rattle.lists.specs.Indexed.{indexed}
-use Rattle.lists.proofs.Lemmas.Indexed.{indexed_more}
+use Rattle.base.specs.Lists.Indexed.{indexed}
+use Rattle.base.proofs.Lemmas.Lists.Indexed.{indexed_more}
 use Rattle.std.proofs.lemmas.Option.{get_or_from_slice_get}
 use Rattle.net_core.proofs.Bodies.{behavior_there, count_behaviors}
 use Rattle.net_core.proofs.config.Config.stalls.Goals as goal

@@ -2,7 +2,7 @@ use Rattle.std.proofs.Common.{◌≡◌, take}
 use Rattle.net_core.specs.Cuts.{Run, Cut}
 use Rattle.net_core.specs.Shows.{Shows}
 use Rattle.net_core.specs.Outcomes.{stall_in, behaviors_of}
-use Rattle.lists.specs.Indexed.{indexed}
+use Rattle.base.specs.Lists.Indexed.{indexed}
 use Rattle.std.proofs.Common.{map}
 use Rattle.net_core.proofs.config.Config.stalls.Given as goal
 

@@ -1,5 +1,5 @@
 use Rattle.std.proofs.Common.{sym}
-use Rattle.net_streams.proofs.Lemmas.{chan_there}
+use Rattle.chan_queue.proofs.Lemmas.Streams.{chan_there}
 use Rattle.proc_task.proofs.Ports.{site_read}
 use Rattle.proc_task.proofs.task.Task.chan_at.Goals as goal
 

@@ -1,5 +1,5 @@
 use Rattle.std.proofs.Common.{refl, ap, subst}
-use Rattle.lists.proofs.Lemmas.Places.{slice_get-set, slice_get-set_other}
+use Rattle.base.proofs.Lemmas.Lists.Places.{slice_get-set, slice_get-set_other}
 use Rattle.std.specs.Vec.{with_item}
 use Rattle.proc_task.specs.Ports.{AreEnds}
 use Rattle.proc_task.proofs.Ports.{found}

@@ -1,0 +1,6 @@
+-- lists
+pub mod Lists
+-- tables of names
+pub mod NameTable
+-- texts
+pub mod Texts

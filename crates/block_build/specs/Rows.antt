@@ -1,0 +1,109 @@
+-- What a block does in the clock cycles since reset.
+use Rattle.std.specs.Prelude.{ℕ, false, not, Bool, List, [], ◌∷◌, map, slice_get, get_or, ◌==◌, Option, Some, None}
+use Rattle.xb_bits.specs.Word.{Word}
+use Rattle.net_core.specs.declared.net.Chan.{Chan}
+use Rattle.net_core.specs.declared.net.Kind.{Kind}
+use Rattle.net_core.specs.declared.net.Kind.TheVariants.{Input, Output, Inner}
+use Rattle.net_core.specs.declared.event.Event.{Event}
+use Rattle.net_core.specs.Cuts.{words_sent, count_received, sites_at, sender}
+use Rattle.block_stage.specs.Machine.Pipeline.{Pipeline}
+use Rattle.block_stage.specs.Machine.Cycle.{Ports, asked_in}
+use Rattle.block_stage.specs.Machine.Since.{Since, at_reset, one_more}
+use Rattle.block_stage.specs.Fifo.Fifo.{next_word, has_room, after_cycle}
+use Rattle.block_build.specs.Block.{Block, run_of, receiver_of}
+
+-- a proc's pipeline, with its registers and what has gone through its ports since reset
+pub record Machine : Type 0 where
+  pub pipeline : Pipeline
+  pub since : Since
+
+-- the machines by the numbers of their procs, and the words in the FIFO of each inner channel
+pub record State : Type 0 where
+  pub machines : List Machine
+  pub queues : ℕ → List Word
+
+abbrev pub reset_machine : Pipeline → Machine
+reset_machine q = record { pipeline = q; since = at_reset q }
+
+abbrev pub reset_state : Block → State
+reset_state block = record { machines = map reset_machine block.pipelines; queues = λ c. [] }
+
+-- what a pipeline finds at a channel, by the channel's kind: at an input and an output what stands at the block's own
+-- ports, at an inner channel what its FIFO shows
+abbrev pub offer_by : Kind → Option Word → List Word → Option Word
+offer_by Input outside queue = outside
+offer_by Output outside queue = None
+offer_by Inner outside queue = next_word queue
+
+abbrev pub room_by : Kind → ℕ → Bool → List Word → Bool
+room_by Input depth outside queue = false
+room_by Output depth outside queue = outside
+room_by Inner depth outside queue = has_room depth queue
+
+abbrev pub offer_at : Option Chan → Option Word → List Word → Option Word
+offer_at None outside queue = None
+offer_at (Some chan) outside queue = offer_by chan.kind outside queue
+
+abbrev pub room_at : Option Chan → ℕ → Bool → List Word → Bool
+room_at None depth outside queue = false
+room_at (Some chan) depth outside queue = room_by chan.kind depth outside queue
+
+abbrev pub depth_of : Block → ℕ → ℕ
+depth_of block c = get_or block.depths c 0
+
+-- in a cycle with this at the block's own ports
+abbrev pub ports_in : Block → State → Ports → Ports
+ports_in block state row = record {
+  offer = λ c. offer_at (slice_get block.chans c) (row.offer c) (state.queues c);
+  room = λ c. room_at (slice_get block.chans c) (depth_of block c) (row.room c) (state.queues c);
+}
+
+abbrev pub asks : Option Machine → Ports → List Event
+asks None ports = []
+asks (Some machine) ports = asked_in machine.pipeline machine.since.contents ports
+
+abbrev pub asked_at : State → Ports → ℕ → List Event
+asked_at state ports p = asks (slice_get state.machines p) ports
+
+-- the proc that sends on a channel
+abbrev pub sender_of : Block → ℕ → ℕ
+sender_of block c = sender (run_of block [] 0) c
+
+-- whether a FIFO's reader asks for a word, and what its writer offers
+abbrev pub is_asked : Block → State → Ports → ℕ → Bool
+is_asked block state ports c =
+    not (count_received (sites_at (run_of block [] 0) (receiver_of block c)) c (asked_at state ports (receiver_of block c)) == 0)
+
+abbrev pub offered : Block → State → Ports → ℕ → Option Word
+offered block state ports c = next_word (words_sent (sites_at (run_of block [] 0) (sender_of block c)) c (asked_at state ports (sender_of block c)))
+
+abbrev pub machine_after : Ports → Machine → Machine
+machine_after ports machine = record { pipeline = machine.pipeline; since = one_more machine.pipeline machine.since ports }
+
+-- all by what stood before the cycle
+abbrev pub one_row : Block → State → Ports → State
+one_row block state row =
+    let ports = ports_in block state row in
+    record {
+      machines = map (machine_after ports) state.machines;
+      queues = λ c. after_cycle (depth_of block c) (state.queues c) (is_asked block state ports c) (offered block state ports c);
+    }
+
+abbrev pub after_rows : Block → State → List Ports → State
+after_rows block state [] = state
+after_rows block state (row ∷ more) = after_rows block (one_row block state row) more
+
+-- the words that went through the block's own ports since reset: those received from an input, those sent on an output
+abbrev pub received_of : Option Machine → ℕ → List Word
+received_of None c = []
+received_of (Some machine) c = machine.since.received c
+
+abbrev pub sent_of : Option Machine → ℕ → List Word
+sent_of None c = []
+sent_of (Some machine) c = machine.since.sent c
+
+abbrev pub moved_in : Block → State → ℕ → List Word
+moved_in block state c = received_of (slice_get state.machines (receiver_of block c)) c
+
+abbrev pub moved_out : Block → State → ℕ → List Word
+moved_out block state c = sent_of (slice_get state.machines (sender_of block c)) c

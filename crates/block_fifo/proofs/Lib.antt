@@ -1,5 +1,0 @@
-pub mod Lists
-pub mod Rows
-pub mod Rings
-pub mod Lemmas
-pub mod Slots

@@ -1,5 +1,0 @@
-use Rattle.block_fifo.proofs.Lists.{given_words_were_put_before}
-use Rattle.block_fifo.proofs.laws.given_words_were_put_before.Goals as goal
-
-pub returns : goal.returns
-returns c = given_words_were_put_before

@@ -1,7 +1,0 @@
-//! FIFOs of hardware: what one holds, gives and takes in a clock cycle, and two layouts of its registers.
-#![tactic(auto)]
-
-pub mod laws;
-mod row;
-
-pub use row::RowFifo;

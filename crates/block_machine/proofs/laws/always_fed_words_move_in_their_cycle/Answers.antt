@@ -1,5 +1,0 @@
-use Rattle.block_machine.proofs.Exact.{always_fed_words_move_in_their_cycle}
-use Rattle.block_machine.proofs.laws.always_fed_words_move_in_their_cycle.Goals as goal
-
-pub returns : goal.returns
-returns c = always_fed_words_move_in_their_cycle

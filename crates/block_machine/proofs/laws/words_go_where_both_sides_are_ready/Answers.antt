@@ -1,8 +1,0 @@
-use Rattle.block_machine.proofs.Handshakes.{sent_words_go_where_there_is_room, received_words_go_where_they_are_asked}
-use Rattle.block_machine.proofs.laws.words_go_where_both_sides_are_ready.Goals as goal
-
-pub returns-clause-sent : goal.returns-clause-sent
-returns-clause-sent c = sent_words_go_where_there_is_room
-
-pub returns-clause-received : goal.returns-clause-received
-returns-clause-received c = received_words_go_where_they_are_asked

@@ -1,0 +1,4 @@
+-- FIFOs
+pub mod Fifo
+-- the machine
+pub mod Machine

@@ -1,0 +1,81 @@
+-- A pipeline whose registers have this circuit between them: what it does in the cycles since reset, and the laws that it
+-- keeps where the circuit is right.
+use Rattle.std.specs.Prelude.{◌≡◌, ◌≤◌, ◌<◌, ℕ, suc, ◌-◌, false, Bool, List, [], ◌∷◌, ◌++◌, length, if◌then◌else◌, ◌==◌, option_to_list, Some}
+use Rattle.xb_bits.specs.Word.{Word}
+use Rattle.base.specs.Lists.Front.{IsFront}
+use Rattle.net_core.specs.declared.event.Event.{Event}
+use Rattle.net_core.specs.Trace.{trace}
+use Rattle.net_core.specs.Cuts.{words_sent, count_received}
+use Rattle.block_stage.specs.Machine.Pipeline.{Pipeline, IsPipeline, first}
+use Rattle.block_stage.specs.Machine.Cycle.{Ports, Registers, Circuit, Walk, Deed, brought, walk_by, if_full, moves_through, contents_after, deeds_through, asked_by, asked_through}
+use Rattle.block_stage.specs.Machine.Since.{Since, took, gave, at_reset}
+use Rattle.block_stage.specs.Machine.Steady.{AreFed, SendsOnce}
+
+abbrev pub stage_by : Circuit → Pipeline → Registers → Ports → ℕ → Walk
+stage_by x q c ports j =
+    if_full (c.full j) (first q j)
+    (walk_by x q.proc.behavior c.done c.kept ports (brought c j).state (brought c j).got (first q j) (first q (suc j) - first q j))
+
+abbrev pub moves_by : Circuit → Pipeline → Registers → Ports → ℕ → Bool
+moves_by x q c ports j = moves_through x c.full (stage_by x q c ports) (q.stages - suc j) j
+
+abbrev pub cycle_by : Circuit → Pipeline → Registers → Ports → Registers
+cycle_by x q c ports = contents_after x q c ports (stage_by x q c ports) (moves_by x q c ports)
+
+abbrev pub deeds_by : Circuit → Pipeline → Registers → Ports → List Deed
+deeds_by x q c ports = deeds_through (stage_by x q c ports) 0 q.stages
+
+abbrev pub asks_by : Circuit → Pipeline → Registers → Ports → List Event
+asks_by x q c ports = asked_through (stage_by x q c ports) 0 q.stages
+
+abbrev pub one_by : Circuit → Pipeline → Since → Ports → Since
+one_by x q since ports = record {
+  contents = cycle_by x q since.contents ports;
+  received = λ c. since.received c ++ took q.proc.behavior.sites c (deeds_by x q since.contents ports);
+  sent = λ c. since.sent c ++ gave q.proc.behavior.sites c (deeds_by x q since.contents ports);
+}
+
+abbrev pub cycles_by : Circuit → Pipeline → Since → List Ports → Since
+cycles_by x q since [] = since
+cycles_by x q since (ports ∷ more) = cycles_by x q (one_by x q since ports) more
+
+-- whatever proc and legal stages, and whatever stands at the ports in each cycle since reset
+pub record IsLawful (x : Circuit) : Type 0 where
+  -- what was sent on a channel is a front of what the proc's trace sends there over the words received
+  pub sent_words_are_a_front : (q : Pipeline) → IsPipeline q → (cycles : List Ports) (n chan : ℕ) → length cycles ≤ n →
+      let since = cycles_by x q (at_reset q) cycles in
+      IsFront (since.sent chan) (words_sent q.proc.behavior.sites chan (trace q.proc.behavior n q.proc.opening since.received))
+  -- that trace receives exactly the words received
+  pub received_words_are_the_traces : (q : Pipeline) → IsPipeline q → (cycles : List Ports) (n chan : ℕ) → length cycles ≤ n →
+      let since = cycles_by x q (at_reset q) cycles in
+      count_received q.proc.behavior.sites chan (trace q.proc.behavior n q.proc.opening since.received) ≡ length (since.received chan)
+  -- what waits in a stage is the first that the stage asks in the next cycle
+  pub what_waits_stands : (q : Pipeline) → IsPipeline q → (cycles : List Ports) (ports next : Ports) (j : ℕ) (event : Event) → j < q.stages →
+      let now = (cycles_by x q (at_reset q) cycles).contents in
+      (stage_by x q now ports j).waits ≡ Some event →
+      (others : List Event) × (asked_by (stage_by x q (cycle_by x q now ports) next j) ≡ event ∷ others)
+  -- a word that is offered and not taken stands offered in the next cycle
+  pub untaken_words_stand : (q : Pipeline) → IsPipeline q → (cycles : List Ports) (ports next : Ports) (chan : ℕ) (w : Word) →
+      let now = (cycles_by x q (at_reset q) cycles).contents in
+      words_sent q.proc.behavior.sites chan (asks_by x q now ports) ≡ w ∷ [] →
+      ports.room chan ≡ false →
+      words_sent q.proc.behavior.sites chan (asks_by x q (cycle_by x q now ports) next) ≡ w ∷ []
+  -- on each end of a channel at most one site is asked in a cycle
+  pub one_site_is_asked_to_send : (q : Pipeline) → IsPipeline q → (cycles : List Ports) (ports : Ports) (chan : ℕ) →
+      length (words_sent q.proc.behavior.sites chan (asks_by x q (cycles_by x q (at_reset q) cycles).contents ports)) ≤ 1
+  pub one_site_is_asked_to_receive : (q : Pipeline) → IsPipeline q → (cycles : List Ports) (ports : Ports) (chan : ℕ) →
+      count_received q.proc.behavior.sites chan (asks_by x q (cycles_by x q (at_reset q) cycles).contents ports) ≤ 1
+  -- a word goes through a port in a cycle where both sides are ready
+  pub sent_words_go_where_there_is_room : (q : Pipeline) → IsPipeline q → (cycles : List Ports) (ports : Ports) (chan : ℕ) →
+      let now = (cycles_by x q (at_reset q) cycles).contents in
+      gave q.proc.behavior.sites chan (deeds_by x q now ports)
+      ≡ (if ports.room chan then words_sent q.proc.behavior.sites chan (asks_by x q now ports) else [])
+  pub received_words_go_where_they_are_asked : (q : Pipeline) → IsPipeline q → (cycles : List Ports) (ports : Ports) (chan : ℕ) →
+      let now = (cycles_by x q (at_reset q) cycles).contents in
+      took q.proc.behavior.sites chan (deeds_by x q now ports)
+      ≡ (if count_received q.proc.behavior.sites chan (asks_by x q now ports) == 0 then [] else option_to_list (ports.offer chan))
+  -- one that keeps the turn in stage 0, is always fed and whose words are always taken, sends word i in cycle i + s, s the
+  -- stage of its sending site
+  pub always_fed_words_move_in_their_cycle : (q : Pipeline) → IsPipeline q → q.last ≡ 0 → (chan place : ℕ) → SendsOnce q chan place →
+      (cycles : List Ports) → AreFed cycles →
+      length ((cycles_by x q (at_reset q) cycles).sent chan) ≡ length cycles - q.stage place

@@ -1,3 +1,0 @@
-pub mod Lemmas
-mod Loaded
-mod Putting

@@ -1,7 +1,0 @@
-use Rattle.std.proofs.Common.{◌∷◌, [], sym, subst}
-use Rattle.net_core.specs.WellFormed.{AreBehaviorsOf}
-use Rattle.dslx_narrow_core.specs.Evaluation.{behavior_of_core}
-use Rattle.cmd_design.proofs.run.ran.Goals as goal
-
-pub run_text-requires-clause-bodies : goal.run_text-requires-clause-bodies
-run_text-requires-clause-bodies g c κs within = subst (λ core. AreBehaviorsOf c.args.design.now.net (behavior_of_core core ∷ [])) (sym c.new-body.ensures) c.requires.design.behaviors

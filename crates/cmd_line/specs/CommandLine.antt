@@ -1,0 +1,180 @@
+-- The command line as `clap` reads it, and what words say by the matches that `clap` states.
+use Rattle.std.specs.Prelude.{ℕ, true, List, [], ◌∷◌, Option, Some, None, codes, pos, if◌then◌else◌, option_map, option_and_then}
+use Rattle.std.specs.Str.{bytes_eq}
+use Rattle.std.specs.Str.Parse.{digits_value, without_leading_plus}
+use Rattle.clap.specs.Words.{App, Kinds, Row, Rule, Text, first_of, fault_of, new_app, new_rule, subcommand_of, with_rule, with_subcommand}
+use Rattle.clap.specs.ValueTests.{is_unsigned_in}
+use Rattle.clap.specs.declared.builder.value_parser.ValueParser.TheVariants as vp
+use Rattle.cmd_line.specs.declared.request.Request.{Request}
+use Rattle.cmd_line.specs.declared.request.Request.TheVariants as request
+use Rattle.cmd_line.specs.declared.request.Check.{Check}
+use Rattle.cmd_line.specs.declared.request.How.{How}
+use Rattle.cmd_line.specs.declared.request.Run.{Run}
+use Rattle.cmd_line.specs.declared.request.Sim.{Sim}
+use Rattle.cmd_line.specs.declared.request.Schedule.{Schedule}
+use Rattle.cmd_line.specs.declared.request.Opt.{Opt}
+use Rattle.cmd_line.specs.declared.request.Source.{Source}
+use Rattle.cmd_line.specs.declared.request.Source.TheVariants.{Dslx, Ir}
+use Rattle.cmd_line.specs.declared.request.Timing.{Timing}
+
+-- ---- the command line
+
+-- the name of a file, which stands at its place
+abbrev pub file : Text → Rule
+file id = record (new_rule id) { required = true }
+
+-- `--activations N`
+abbrev pub activations : Rule
+activations = record (new_rule (codes "activations")) {
+  long = Some (codes "activations");
+  required = true;
+  parser = Some (vp.Signed (pos 1) (pos 1048576));
+}
+
+-- `check FILE`
+abbrev pub check : App
+check = with_rule (new_app (codes "check")) (file (codes "design"))
+
+-- an option that need not stand, with a value behind it
+abbrev pub option : Text → Rule
+option name = record (new_rule name) { long = Some name }
+
+-- `--workers W`
+abbrev pub workers : Rule
+workers = record (option (codes "workers")) { parser = Some (vp.Signed (pos 1) (pos 16)) }
+
+-- `--depth D`
+abbrev pub depth : Rule
+depth = record (option (codes "depth")) { parser = Some (vp.Signed (pos 1) (pos 4096)) }
+
+-- `--from F`
+abbrev pub from : Rule
+from = option (codes "from")
+
+-- what each run has
+abbrev pub plain_run : App
+plain_run = with_rule (with_rule (with_rule (new_app (codes "run")) (file (codes "design"))) (file (codes "inputs"))) activations
+
+-- `run FILE INPUTS --activations N [--workers W] [--depth D] [--from F]`
+abbrev pub run : App
+run = with_rule (with_rule (with_rule plain_run workers) depth) from
+
+-- `sim FILE ROWS`
+abbrev pub sim : App
+sim = with_rule (with_rule (new_app (codes "sim")) (file (codes "design"))) (file (codes "rows"))
+
+-- `--clock PS`
+abbrev pub clock : Rule
+clock = record (new_rule (codes "clock")) {
+  long = Some (codes "clock");
+  required = true;
+  parser = Some (vp.Signed (pos 1) (pos 1000000));
+}
+
+-- `--stages N`
+abbrev pub stages : Rule
+stages = record (option (codes "stages")) { parser = Some (vp.Signed (pos 1) (pos 64)) }
+
+-- `--ii N`
+abbrev pub interval : Rule
+interval = record (option (codes "ii")) { parser = Some (vp.Signed (pos 1) (pos 64)) }
+
+-- the file, the clock and the stages
+abbrev pub plain_schedule : App
+plain_schedule = with_rule (with_rule (with_rule (new_app (codes "schedule")) (file (codes "design"))) clock) stages
+
+-- `schedule FILE --clock PS [--stages N] [--ii N] [--from F]`
+abbrev pub schedule : App
+schedule = with_rule (with_rule plain_schedule interval) from
+
+-- `opt FILE [--from F]`
+abbrev pub opt : App
+opt = with_rule (with_rule (new_app (codes "opt")) (file (codes "design"))) from
+
+-- the words begin with no program's name
+abbrev pub bare : App → App
+bare app = record app { top = record app.top { no_binary_name = true } }
+
+unfoldable pub xls : App
+xls = with_subcommand (with_subcommand (with_subcommand (with_subcommand (with_subcommand (bare (new_app (codes "xls"))) check.top) run.top) sim.top) schedule.top) opt.top
+
+-- ---- what words say
+
+-- a number from `least` to `most` in decimal digits, perhaps behind a plus
+abbrev pub number_in : ℕ → ℕ → Text → Option ℕ
+number_in least most text = if is_unsigned_in least most text then Some (digits_value 10 (without_leading_plus text)) else None
+
+abbrev pub said_by_check : List Row → Option (Check Text)
+said_by_check rows = option_map (λ design. record { design = design }) (first_of (codes "design") rows)
+
+-- the number of workers: 1 where no word says it
+abbrev pub workers_in : Option Text → Option ℕ
+workers_in None = Some 1
+workers_in (Some text) = number_in 1 16 text
+
+-- the depth of inner channels, which need not be said
+abbrev pub depth_in : Option Text → Option (Option ℕ)
+depth_in None = Some None
+depth_in (Some text) = option_map Some (number_in 1 4096 text)
+
+-- what the design is written in: DSLX where no word says it
+abbrev pub source_in : Option Text → Option Source
+source_in None = Some Dslx
+source_in (Some text) =
+    if bytes_eq text (codes "dslx") then Some Dslx
+    else if bytes_eq text (codes "ir") then Some Ir
+    else None
+
+abbrev pub said_of_how : List Row → Option How
+said_of_how rows =
+    option_and_then (λ n. option_and_then (λ w. option_and_then (λ d. option_map (λ f. record { activations = n; workers = w; depth = d; source = f })
+    (source_in (first_of (codes "from") rows))) (depth_in (first_of (codes "depth") rows))) (workers_in (first_of (codes "workers") rows)))
+    (option_and_then (number_in 1 1048576) (first_of (codes "activations") rows))
+
+abbrev pub said_by_run : List Row → Option (Run Text)
+said_by_run rows =
+    option_and_then (λ design. option_and_then (λ inputs. option_map (λ how. record { design = design; inputs = inputs; how = how })
+    (said_of_how rows)) (first_of (codes "inputs") rows)) (first_of (codes "design") rows)
+
+abbrev pub said_by_sim : List Row → Option (Sim Text)
+said_by_sim rows =
+    option_and_then (λ design. option_map (λ inputs. record { design = design; rows = inputs }) (first_of (codes "rows") rows)) (first_of (codes "design") rows)
+
+-- how many stages or cycles there may be: 64 where no word says it
+abbrev pub most_in : Option Text → Option ℕ
+most_in None = Some 64
+most_in (Some text) = number_in 1 64 text
+
+abbrev pub said_of_timing : List Row → Option Timing
+said_of_timing rows =
+    option_and_then (λ c. option_and_then (λ s. option_map (λ i. record { clock = c; stages = s; interval = i })
+    (most_in (first_of (codes "ii") rows))) (most_in (first_of (codes "stages") rows)))
+    (option_and_then (number_in 1 1000000) (first_of (codes "clock") rows))
+
+abbrev pub said_by_schedule : List Row → Option (Schedule Text)
+said_by_schedule rows =
+    option_and_then (λ design. option_and_then (λ timing. option_map (λ source. record { design = design; timing = timing; source = source })
+    (source_in (first_of (codes "from") rows))) (said_of_timing rows)) (first_of (codes "design") rows)
+
+abbrev pub said_by_opt : List Row → Option (Opt Text)
+said_by_opt rows =
+    option_and_then (λ design. option_map (λ source. record { design = design; source = source }) (source_in (first_of (codes "from") rows))) (first_of (codes "design") rows)
+
+-- what the matches of a subcommand say
+abbrev pub said_by_subcommand : Text × List Row → Option (Request Text)
+said_by_subcommand found =
+    if bytes_eq found.0 (codes "check") then option_map request.Check (said_by_check found.1)
+    else if bytes_eq found.0 (codes "run") then option_map request.Run (said_by_run found.1)
+    else if bytes_eq found.0 (codes "sim") then option_map request.Sim (said_by_sim found.1)
+    else if bytes_eq found.0 (codes "schedule") then option_map request.Schedule (said_by_schedule found.1)
+    else if bytes_eq found.0 (codes "opt") then option_map request.Opt (said_by_opt found.1)
+    else None
+
+-- where `clap` finds no fault in the words, what the matches of their subcommand say
+abbrev pub said_where : Kinds → Option (Text × List Row) → Option (Request Text)
+said_where [] found = option_and_then said_by_subcommand found
+said_where (fault ∷ faults) found = None
+
+-- what the words say; None where they say nothing
+unfoldable pub said_by : List Text → Option (Request Text)
+said_by words = said_where (fault_of xls words) (subcommand_of xls words)

@@ -1,0 +1,32 @@
+-- What is said, without where the names of files lie in memory.
+use Rattle.std.specs.Prelude.{ℕ, List}
+use Rattle.std.specs.Borrow.{Bor}
+use Rattle.cmd_line.specs.declared.request.Request.{Request}
+use Rattle.cmd_line.specs.declared.request.Request.TheVariants as request
+use Rattle.cmd_line.specs.declared.request.Check.{Check}
+use Rattle.cmd_line.specs.declared.request.Run.{Run}
+use Rattle.cmd_line.specs.declared.request.Sim.{Sim}
+use Rattle.cmd_line.specs.declared.request.Schedule.{Schedule}
+use Rattle.cmd_line.specs.declared.request.Opt.{Opt}
+
+abbrev pub named_check : Check (Bor (List ℕ)) → Check (List ℕ)
+named_check said = record { design = said.design.now }
+
+abbrev pub named_run : Run (Bor (List ℕ)) → Run (List ℕ)
+named_run said = record { design = said.design.now; inputs = said.inputs.now; how = said.how }
+
+abbrev pub named_sim : Sim (Bor (List ℕ)) → Sim (List ℕ)
+named_sim said = record { design = said.design.now; rows = said.rows.now }
+
+abbrev pub named_schedule : Schedule (Bor (List ℕ)) → Schedule (List ℕ)
+named_schedule said = record { design = said.design.now; timing = said.timing; source = said.source }
+
+abbrev pub named_opt : Opt (Bor (List ℕ)) → Opt (List ℕ)
+named_opt said = record { design = said.design.now; source = said.source }
+
+abbrev pub named : Request (Bor (List ℕ)) → Request (List ℕ)
+named (request.Check said) = request.Check (named_check said)
+named (request.Run said) = request.Run (named_run said)
+named (request.Sim said) = request.Sim (named_sim said)
+named (request.Schedule said) = request.Schedule (named_schedule said)
+named (request.Opt said) = request.Opt (named_opt said)

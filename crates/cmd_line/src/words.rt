@@ -1,0 +1,217 @@
+ghost use Rattle.std.specs.Prelude.{◌≡◌, ◌≤◌, IfOk, IfSome, Option, map, option_map, option_and_then, string_bytes};
+ghost use Rattle.clap.specs.Words.{first_of, found_of, rows_of, subcommand_rows_of};
+ghost use Rattle.cmd_line.specs.CommandLine.{depth_in, most_in, said_by, said_by_check, said_by_opt, said_by_run, said_by_schedule, said_by_sim, said_by_subcommand, said_of_how, said_of_timing, source_in, workers_in};
+ghost use Rattle.cmd_line.specs.Named.{named, named_check, named_opt, named_run, named_schedule, named_sim};
+ghost use Rattle.cmd_line.specs.Bounds.{IsInBounds, IsWorkerCount};
+
+use crate::command::command;
+use crate::number::read_number;
+use crate::request::{Check, How, Opt, Request, Run, Schedule, Sim, Source, Timing};
+use clap::ArgMatches;
+use clap::error::ErrorKind;
+use std::alloc::{AllocError, Global};
+
+/// What the words say; `None` where they say nothing.
+pub fn read_words<'a>(
+    alloc: Global,
+    words: &'a [String],
+) -> Result<Option<Request<&'a str>>, AllocError>
+    ensures said { IfOk result (λ said. option_map named said ≡ said_by (map string_bytes words.entry.now)) }
+    ensures bounds { IfOk result (λ said. IfSome said IsInBounds) }
+{
+    match command(alloc)?.try_get_matches_from(words) {
+        Ok(matches) => Ok(request(&matches)),
+        Err(error) => match error.kind() {
+            ErrorKind::OutOfMemory => Err(AllocError),
+            _ => Ok(None),
+        },
+    }
+}
+
+fn request<'a>(matches: &ArgMatches<'a>) -> Option<Request<&'a str>>
+    ensures said { option_map named result ≡ option_and_then said_by_subcommand (subcommand_rows_of matches.now) }
+    ensures bounds { IfSome result IsInBounds }
+{
+    match matches.subcommand() {
+        Some(("check", matches)) => Some(Request::Check(check(matches)?)),
+        Some(("run", matches)) => Some(Request::Run(run(matches)?)),
+        Some(("sim", matches)) => Some(Request::Sim(sim(matches)?)),
+        Some(("schedule", matches)) => Some(Request::Schedule(schedule(matches)?)),
+        Some(("opt", matches)) => Some(Request::Opt(opt(matches)?)),
+        _ => None,
+    }
+}
+
+fn check<'a>(matches: &ArgMatches<'a>) -> Option<Check<&'a str>>
+    ensures { option_map named_check result ≡ said_by_check (rows_of (found_of matches.now)) }
+{
+    match text(matches, "design") {
+        Some(design) => Some(Check { design }),
+        None => None,
+    }
+}
+
+fn run<'a>(matches: &ArgMatches<'a>) -> Option<Run<&'a str>>
+    ensures said { option_map named_run result ≡ said_by_run (rows_of (found_of matches.now)) }
+    ensures bounds { IfSome result (λ said. IsWorkerCount said.how.workers) }
+{
+    let Some(design) = text(matches, "design") else {
+        return None;
+    };
+    let Some(inputs) = text(matches, "inputs") else {
+        return None;
+    };
+    match how(matches) {
+        Some(how) => Some(Run {
+            design,
+            inputs,
+            how,
+        }),
+        None => None,
+    }
+}
+
+fn how(matches: &ArgMatches<'_>) -> Option<How>
+    ensures said { result ≡ said_of_how (rows_of (found_of matches.now)) }
+    ensures bounds { IfSome result (λ how. IsWorkerCount how.workers) }
+{
+    let Some(number) = text(matches, "activations") else {
+        return None;
+    };
+    let Some(activations) = read_number(number, 1, 1_048_576) else {
+        return None;
+    };
+    let Some(workers) = workers(text(matches, "workers")) else {
+        return None;
+    };
+    let Some(depth) = depth(text(matches, "depth")) else {
+        return None;
+    };
+    match source(text(matches, "from")) {
+        Some(source) => Some(How {
+            activations,
+            workers,
+            depth,
+            source,
+        }),
+        None => None,
+    }
+}
+
+fn workers(text: Option<&str>) -> Option<u32>
+    ensures said { result ≡ workers_in (option_map (λ word. word.now) text.entry) }
+    ensures bounds { IfSome result IsWorkerCount }
+{
+    match text {
+        Some(number) => read_number(number, 1, 16),
+        None => Some(1),
+    }
+}
+
+fn depth(text: Option<&str>) -> Option<Option<u32>>
+    ensures { result ≡ depth_in (option_map (λ word. word.now) text.entry) }
+{
+    match text {
+        Some(number) => match read_number(number, 1, 4_096) {
+            Some(depth) => Some(Some(depth)),
+            None => None,
+        },
+        None => Some(None),
+    }
+}
+
+fn source(text: Option<&str>) -> Option<Source>
+    ensures { result ≡ source_in (option_map (λ word. word.now) text.entry) }
+{
+    match text {
+        Some("dslx") => Some(Source::Dslx),
+        Some("ir") => Some(Source::Ir),
+        Some(_) => None,
+        None => Some(Source::Dslx),
+    }
+}
+
+fn sim<'a>(matches: &ArgMatches<'a>) -> Option<Sim<&'a str>>
+    ensures { option_map named_sim result ≡ said_by_sim (rows_of (found_of matches.now)) }
+{
+    let Some(design) = text(matches, "design") else {
+        return None;
+    };
+    match text(matches, "rows") {
+        Some(rows) => Some(Sim { design, rows }),
+        None => None,
+    }
+}
+
+fn schedule<'a>(matches: &ArgMatches<'a>) -> Option<Schedule<&'a str>>
+    ensures said { option_map named_schedule result ≡ said_by_schedule (rows_of (found_of matches.now)) }
+    ensures bounds { IfSome result (λ said. 1 ≤ said.timing.stages) }
+{
+    let Some(design) = text(matches, "design") else {
+        return None;
+    };
+    let Some(timing) = timing(matches) else {
+        return None;
+    };
+    match source(text(matches, "from")) {
+        Some(source) => Some(Schedule {
+            design,
+            timing,
+            source,
+        }),
+        None => None,
+    }
+}
+
+fn opt<'a>(matches: &ArgMatches<'a>) -> Option<Opt<&'a str>>
+    ensures { option_map named_opt result ≡ said_by_opt (rows_of (found_of matches.now)) }
+{
+    let Some(design) = text(matches, "design") else {
+        return None;
+    };
+    match source(text(matches, "from")) {
+        Some(source) => Some(Opt { design, source }),
+        None => None,
+    }
+}
+
+fn timing(matches: &ArgMatches<'_>) -> Option<Timing>
+    ensures said { result ≡ said_of_timing (rows_of (found_of matches.now)) }
+    ensures bounds { IfSome result (λ timing. 1 ≤ timing.stages) }
+{
+    let Some(number) = text(matches, "clock") else {
+        return None;
+    };
+    let Some(clock) = read_number(number, 1, 1_000_000) else {
+        return None;
+    };
+    let Some(stages) = most(text(matches, "stages")) else {
+        return None;
+    };
+    match most(text(matches, "ii")) {
+        Some(interval) => Some(Timing {
+            clock,
+            stages,
+            interval,
+        }),
+        None => None,
+    }
+}
+
+/// How many stages or cycles there may be: 64 where no word says it.
+fn most(text: Option<&str>) -> Option<u32>
+    ensures said { result ≡ most_in (option_map (λ word. word.now) text.entry) }
+    ensures bounds { IfSome result (λ n. 1 ≤ n) }
+{
+    match text {
+        Some(number) => read_number(number, 1, 64),
+        None => Some(64),
+    }
+}
+
+/// The text that was given for an argument.
+fn text<'a>(matches: &ArgMatches<'a>, id: &str) -> Option<&'a str>
+    ensures { option_map (λ text. text.now) result ≡ first_of id.now (rows_of (found_of matches.now)) }
+{
+    matches.get_str(id)
+}

@@ -1,5 +1,0 @@
-use Rattle.cmd_opt.specs.Commands.{optimised}
-use Rattle.cmd_opt.proofs.optimising.optimised.Goals as goal
-
-pub returns : goal.returns
-returns c = optimised c.in_ok-new.new c.in_ok-text.text.items c.in_ok-new.ensures c.in_ok-text.ensures.text c.in_ok-text.ensures.again

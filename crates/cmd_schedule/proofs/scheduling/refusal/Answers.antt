@@ -1,4 +1,0 @@
-use Rattle.cmd_schedule.proofs.scheduling.refusal.Goals as goal
-
-pub line-requires-clause-found : goal.line-requires-clause-found
-line-requires-clause-found c = c.in_default.not-OutOfMemory

@@ -1,0 +1,4 @@
+-- the text of cycles
+pub mod OnCycles
+-- row files
+pub mod OnRows

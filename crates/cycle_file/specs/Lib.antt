@@ -1,0 +1,4 @@
+-- the text of cycles
+pub mod Cycles
+-- row files
+pub mod Rows

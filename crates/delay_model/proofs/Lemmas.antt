@@ -1,0 +1,2 @@
+-- For other crates' proofs; nothing else of this folder is.
+pub mod Naming

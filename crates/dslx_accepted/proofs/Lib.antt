@@ -1,6 +1,0 @@
--- instances that pass the test of equality
-mod OneInstance
--- items and instances without faults
-mod Sound
--- lemmas for other crates
-pub mod Lemmas

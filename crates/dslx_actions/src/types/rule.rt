@@ -1,0 +1,81 @@
+ghost use Rattle.std.specs.Prelude.{◌≡◌, OnOk};
+ghost use Rattle.dslx_actions.specs.Types.Rules.{reduced_pattern, reduced_type};
+
+use crate::Parts;
+use crate::types::patterns::{
+    bool_pattern, member_pattern, name_pattern, tuple_pattern, typed_pattern, wild_pattern,
+};
+use crate::types::types::{array_type, named_type, negative, tuple_type, wide_type};
+use std::alloc::{AllocError, Global};
+
+/// What rules of types do where their symbols are complete.
+#[derive(Clone, Copy, PartialEq, Eq)]
+pub enum TypeRule {
+    Negative,
+    Named,
+    Wide,
+    Tuple,
+    Array,
+    /// The size of an array behind the name of its elements' type.
+    NamedArray,
+}
+
+/// What rules of patterns do where their symbols are complete.
+#[derive(Clone, Copy, PartialEq, Eq)]
+pub enum PatternRule {
+    Wild,
+    Bool(bool),
+    Typed,
+    /// The number behind the name of its type.
+    NamedTyped,
+    Name,
+    Member,
+    Tuple,
+    /// A name, and no type behind it.
+    NameAlone,
+    /// A name, and a type behind it.
+    NameAnnotated,
+}
+
+/// Does what is done where a tree of a rule of types is complete.
+pub fn reduce_type(parts: &mut Parts, alloc: Global, rule: TypeRule) -> Result<(), AllocError>
+    ensures { OnOk result (parts.new ≡ reduced_type rule parts.old) }
+{
+    match rule {
+        TypeRule::Negative => negative(parts),
+        TypeRule::Named => named_type(parts, alloc),
+        TypeRule::Wide => wide_type(parts, alloc),
+        TypeRule::Tuple => tuple_type(parts),
+        TypeRule::Array => array_type(parts, alloc),
+        TypeRule::NamedArray => {
+            named_type(parts, alloc)?;
+            array_type(parts, alloc)
+        }
+    }
+}
+
+/// Does what is done where a tree of a rule of patterns is complete.
+pub fn reduce_pattern(parts: &mut Parts, alloc: Global, rule: PatternRule) -> Result<(), AllocError>
+    ensures { OnOk result (parts.new ≡ reduced_pattern rule parts.old) }
+{
+    match rule {
+        PatternRule::Wild => wild_pattern(parts),
+        PatternRule::Bool(value) => bool_pattern(parts, value),
+        PatternRule::Typed => typed_pattern(parts, alloc),
+        PatternRule::NamedTyped => {
+            named_type(parts, alloc)?;
+            typed_pattern(parts, alloc)
+        }
+        PatternRule::Name => name_pattern(parts, alloc),
+        PatternRule::Member => member_pattern(parts, alloc),
+        PatternRule::Tuple => tuple_pattern(parts),
+        PatternRule::NameAlone => {
+            name_pattern(parts, alloc)?;
+            parts.no_annotation()
+        }
+        PatternRule::NameAnnotated => {
+            name_pattern(parts, alloc)?;
+            parts.annotation()
+        }
+    }
+}

@@ -1,8 +1,0 @@
-use Rattle.dslx_built.proofs.Whole.{text_is_made, text_is_built}
-use Rattle.dslx_built.proofs.built_is_made.Goals as goal
-
-pub returns-clause-made : goal.returns-clause-made
-returns-clause-made c = text_is_made c.all_rules_make.ensures
-
-pub returns-clause-built : goal.returns-clause-built
-returns-clause-built c = text_is_built c.all_rules_make.ensures

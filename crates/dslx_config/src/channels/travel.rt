@@ -1,0 +1,52 @@
+//! Types whose words channels hold.
+
+ghost use Rattle.std.specs.Prelude.{◌≡◌, ◌&&◌, map, nat_le};
+ghost use Rattle.std.specs.List.{list_all};
+ghost use Rattle.dslx_config.specs.Channels.Widths.{has_word_widths};
+ghost use Rattle.dslx_core.specs.Lowering.Steps.{can_travel as travels};
+
+use dslx_core_exprs::alike::is_sized;
+use dslx_meaning::DslxType;
+
+/// Whether a channel holds words of the type: each array in it has an element, and its bits are 1 to 128 wide. A test takes time as
+/// the type is large.
+#[tactic(auto, using(crate::proofs::OnChannels::Alike::travels_by_widths))]
+pub fn can_travel(ty: &DslxType) -> bool
+    ensures { result ≡ travels ty.now }
+{
+    is_sized(ty) && has_widths(ty)
+}
+
+/// Whether all bits in the type are 1 to 128 wide.
+#[cycle(has_widths)]
+fn has_widths(ty: &DslxType) -> bool
+    ensures { result ≡ has_word_widths ty.now }
+{
+    match ty {
+        DslxType::Bits(_, width) => is_width(*width),
+        DslxType::Tuple(parts) => have_widths(parts.as_slice()),
+        DslxType::Array(part, _) => has_widths(part.get()),
+        DslxType::Struct(_, _, parts) => have_widths(parts.as_slice()),
+        DslxType::Enum(_, _, width) => is_width(*width),
+        DslxType::Token => true,
+    }
+}
+
+/// The same of each type.
+#[cycle(has_widths)]
+fn have_widths(types: &[DslxType]) -> bool
+    ensures { result ≡ list_all (λ b. b) (map has_word_widths types.now) }
+{
+    'types: for ty in types {
+        if !has_widths(ty) {
+            return false;
+        }
+    }
+    true
+}
+
+fn is_width(width: u128) -> bool
+    ensures { result ≡ (nat_le 1 width && nat_le width 128) }
+{
+    1 <= width && width <= 128
+}

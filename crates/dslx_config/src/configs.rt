@@ -1,0 +1,18 @@
+//! What becomes of a proc without what its `next` does: what its `config` makes and starts, the outer channels of the top, and the
+//! state in which it opens.
+mod channel;
+mod child;
+mod config;
+mod end;
+mod named;
+mod number;
+mod opening;
+mod outer;
+mod word;
+
+pub use child::instance_number;
+pub use config::config_there;
+pub use named::{find_proc, top_proc};
+pub use number::top_numbers;
+pub use opening::opening_there;
+pub use outer::outers_there;

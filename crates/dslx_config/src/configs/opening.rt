@@ -1,0 +1,24 @@
+//! The state in which a proc opens.
+
+ghost use Rattle.std.specs.Prelude.{◌≡◌, IfOk};
+ghost use Rattle.dslx_meaning.specs.Activation.{opening_state};
+ghost use Rattle.dslx_meaning.specs.Items.{meanings_of};
+
+use dslx_const::block_eval;
+use dslx_meaning::DslxValue;
+use dslx_scope_patterns::numbers::scope_of;
+use dslx_tree::{Module, Proc};
+use std::alloc::{AllocError, Global};
+
+/// The value of `init` in an instance of a proc with these number arguments; `None` where it has none.
+pub fn opening_there<'a>(
+    alloc: Global,
+    text: &'a Module,
+    process: &'a Proc,
+    numbers: &[DslxValue],
+) -> Result<Option<DslxValue>, AllocError>
+    ensures { IfOk result (λ v. v ≡ opening_state (meanings_of text.now) process.now numbers.now) }
+{
+    let bound = scope_of(alloc, process.parameters.as_slice(), numbers)?;
+    block_eval(alloc, text, bound, &process.init)
+}

@@ -1,0 +1,6 @@
+//! What a proc's `config` becomes: its channels, its members, and the procs that it spawns.
+#![tactic(auto)]
+
+pub mod channels;
+pub mod configs;
+pub mod members;

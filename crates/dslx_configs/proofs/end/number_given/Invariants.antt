@@ -1,7 +1,0 @@
-use Rattle.std.proofs.Common.{◌≡◌, ◌++◌, drop, map}
-use Rattle.dslx_meaning.specs.Network.{outer_ends}
-use Rattle.dslx_configs.specs.Shown.{held}
-use Rattle.dslx_configs.proofs.end.number_given.Given as goal
-
-abbrev pub invariant-given : goal.invariant-given
-invariant-given l = map held l.ends.items ++ outer_ends l.i (drop l.i l.given) ≡ map held l.fn.ends.items ++ outer_ends 0 l.given

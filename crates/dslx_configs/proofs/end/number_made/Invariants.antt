@@ -1,7 +1,0 @@
-use Rattle.std.proofs.Common.{◌≡◌, ◌++◌, drop, map}
-use Rattle.dslx_meaning.specs.Network.{made_ends}
-use Rattle.dslx_configs.specs.Shown.{held}
-use Rattle.dslx_configs.proofs.end.number_made.Given as goal
-
-abbrev pub invariant-makings : goal.invariant-makings
-invariant-makings l = map held l.ends.items ++ made_ends l.number (drop l.making-index l.makings) ≡ map held l.fn.ends.items ++ made_ends l.first l.makings

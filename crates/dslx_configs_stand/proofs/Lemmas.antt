@@ -1,3 +1,0 @@
--- Instances of procs that are reached in a text without faults, as lemmas. This module is for other crates' proofs; nothing else of
--- this folder is.
-pub use Rattle.dslx_configs_stand.proofs.There.{accepted, is_there}

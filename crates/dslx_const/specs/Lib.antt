@@ -1,0 +1,4 @@
+-- calls
+pub mod Calls
+-- lists
+pub mod Lists

@@ -1,0 +1,326 @@
+//! Calls of functions: number parameters, operands, and bodies.
+
+ghost use Rattle.dslx_meaning.specs.Inference.{inferred_for as number_for};
+ghost use Rattle.dslx_meaning.specs.Values.{type_of_value as the_type};
+ghost use Rattle.std.specs.Prelude.{◌≡◌, ◌∷◌, ◌==◌, [], Some, OnOk, IfOk, map, length, nat_lt};
+ghost use Rattle.dslx_const_machine.specs.Items.{uses_function, at_function, call_fails, body_begins, operands_on, call_begins, default_begins, parameter_begins, parameters_on, parameter_given};
+ghost use Rattle.dslx_const_machine.specs.States.{back_at};
+ghost use Rattle.dslx_const_machine.specs.Steps.{stepped};
+ghost use Rattle.dslx_const_machine.specs.Tasks.{GivesParameter, GivesOperands, FindsParameters};
+ghost use Rattle.dslx_values.specs.Inference.Inferences.{inferred};
+ghost use Rattle.dslx_const.specs.Calls.Inner.Inferred.{inferred_past};
+ghost use Rattle.dslx_const_tasks.specs.Plain.{shown, plain_call_task, plain_call};
+
+use base::texts::Name;
+use dslx_const_tasks::{Call, CallTask, Machine, ValueTask, in_order, one_left};
+use dslx_meaning::{Bare, DslxType, DslxValue};
+use dslx_names::{Binding, Scope, find_function};
+use dslx_tree::{Field, Function, Parameter};
+use dslx_values::inference::{Inference, inferred_for, inferred_from};
+use dslx_values::type_of_value;
+use std::alloc::{AllocError, Global};
+use xb_value::Seq;
+
+/// Does a task of a call.
+pub fn step_call<'a>(
+    machine: &mut Machine<'a>,
+    alloc: Global,
+    task: CallTask<'a>,
+) -> Result<(), AllocError>
+    ensures { OnOk result (shown machine.new ≡ stepped (plain_call_task task.entry) (shown machine.old)) }
+{
+    match task {
+        CallTask::FindParameters(call, parameters) => find_parameters(
+            machine, alloc, call, parameters,
+        ),
+        CallTask::GiveParameter(call, parameter, rest) => {
+            give_parameter(machine, alloc, call, parameter, rest)
+        }
+        CallTask::GiveOperands(call, arguments) => give_operands(machine, alloc, call, arguments),
+        CallTask::Return(bound, left) => {
+            go_back(machine, bound, left);
+            Ok(())
+        }
+    }
+}
+
+/// Calls a function of the text.
+pub fn use_function<'a>(
+    machine: &mut Machine<'a>,
+    alloc: Global,
+    name: &Name,
+    numbers: Vec<DslxValue>,
+    operands: Vec<DslxValue>,
+) -> Result<(), AllocError>
+    ensures { OnOk result (shown machine.new ≡ uses_function name.now numbers.items operands.items (shown machine.old)) }
+{
+    match one_left(machine.left) {
+        Some(left) => match find_function(machine.text.items.as_slice(), name) {
+            Some(function) => begin_call(machine, alloc, left, function, numbers, operands),
+            None => machine.give(None),
+        },
+        None => machine.give(None),
+    }
+}
+
+/// Puts aside what is bound where the call stands, and goes on with the number parameters.
+fn begin_call<'a>(
+    machine: &mut Machine<'a>,
+    alloc: Global,
+    left: u64,
+    function: &'a Function,
+    numbers: Vec<DslxValue>,
+    operands: Vec<DslxValue>,
+) -> Result<(), AllocError>
+    ensures { OnOk result (shown machine.new ≡ at_function left (Some function.now) numbers.items operands.items (shown machine.old)) }
+{
+    let inferred = infer(alloc, function, numbers.len(), operands.as_slice())?;
+    let given = in_order(alloc, Seq::from_vec(numbers))?;
+    let operands = in_order(alloc, Seq::from_vec(operands))?;
+    let call = Call {
+        function,
+        given,
+        inferred,
+        operands,
+        bound: std::mem::replace(&mut machine.bound, Scope::new(alloc)),
+        left: machine.left,
+    };
+    machine.left = left;
+    machine.first_call(
+        alloc,
+        CallTask::FindParameters(call, function.parameters.as_slice()),
+    )
+}
+
+/// Goes on with the first parameter that is left, which may be given.
+fn find_parameters<'a>(
+    machine: &mut Machine<'a>,
+    alloc: Global,
+    mut call: Call<'a>,
+    parameters: &'a [Parameter],
+) -> Result<(), AllocError>
+    ensures { OnOk result (shown machine.new ≡ stepped (FindsParameters (plain_call call.entry) parameters.now) (shown machine.old)) }
+{
+    match call.given.take_off() {
+        Some(value) => match parameters {
+            [] => fail_call(machine, call),
+            [first, rest @ ..] => bind_parameter(machine, alloc, call, first, rest, value),
+        },
+        None => find_missing(machine, alloc, call, parameters),
+    }
+}
+
+/// Binds a parameter, and goes on with those behind it.
+fn bind_parameter<'a>(
+    machine: &mut Machine<'a>,
+    alloc: Global,
+    call: Call<'a>,
+    parameter: &'a Parameter,
+    rest: &'a [Parameter],
+    value: DslxValue,
+) -> Result<(), AllocError>
+    ensures { OnOk result (shown machine.new ≡ parameter_given (Some value) (plain_call call.entry) parameter.now rest.now (shown machine.old)) }
+{
+    machine.bound.bind(Binding {
+        name: &parameter.name.name,
+        value,
+    })?;
+    machine.first_call(alloc, CallTask::FindParameters(call, rest))
+}
+
+/// Goes on with the first parameter that isn't given, or with the operands.
+fn find_missing<'a>(
+    machine: &mut Machine<'a>,
+    alloc: Global,
+    call: Call<'a>,
+    parameters: &'a [Parameter],
+) -> Result<(), AllocError>
+    ensures { OnOk result (shown machine.new ≡ parameters_on [] (plain_call call.entry) parameters.now (shown machine.old)) }
+{
+    match parameters {
+        [] => begin_operands(machine, alloc, call),
+        [first, rest @ ..] => begin_parameter(machine, alloc, call, first, rest),
+    }
+}
+
+/// Finds a parameter: the number that the operands infer, or else its default.
+fn begin_parameter<'a>(
+    machine: &mut Machine<'a>,
+    alloc: Global,
+    call: Call<'a>,
+    parameter: &'a Parameter,
+    rest: &'a [Parameter],
+) -> Result<(), AllocError>
+    ensures { OnOk result (shown machine.new ≡ parameter_begins (number_for parameter.now.name.name (plain_call call.entry).inferred) (plain_call call.entry) parameter.now rest.now (shown machine.old)) }
+{
+    match inferred_for(&parameter.name.name, call.inferred.as_slice()) {
+        Some(number) => {
+            machine.first_call(alloc, CallTask::GiveParameter(call, parameter, rest))?;
+            machine.type_then_value(
+                alloc,
+                &parameter.ty,
+                ValueTask::Number(Bare {
+                    is_negative: false,
+                    value: number,
+                }),
+            )
+        }
+        None => begin_default(machine, alloc, call, parameter, rest),
+    }
+}
+
+fn begin_default<'a>(
+    machine: &mut Machine<'a>,
+    alloc: Global,
+    call: Call<'a>,
+    parameter: &'a Parameter,
+    rest: &'a [Parameter],
+) -> Result<(), AllocError>
+    ensures { OnOk result (shown machine.new ≡ default_begins parameter.now.default (plain_call call.entry) parameter.now rest.now (shown machine.old)) }
+{
+    match &parameter.default {
+        Some(expr) => machine.eval_then_call(
+            alloc,
+            expr,
+            CallTask::GiveParameter(call, parameter, rest),
+        ),
+        None => fail_call(machine, call),
+    }
+}
+
+fn give_parameter<'a>(
+    machine: &mut Machine<'a>,
+    alloc: Global,
+    call: Call<'a>,
+    parameter: &'a Parameter,
+    rest: &'a [Parameter],
+) -> Result<(), AllocError>
+    ensures { OnOk result (shown machine.new ≡ stepped (GivesParameter (plain_call call.entry) parameter.now rest.now) (shown machine.old)) }
+{
+    match machine.take_value() {
+        Some(value) => bind_parameter(machine, alloc, call, parameter, rest, value),
+        None => fail_call(machine, call),
+    }
+}
+
+/// Goes on with the operands, if the function takes so many.
+fn begin_operands<'a>(
+    machine: &mut Machine<'a>,
+    alloc: Global,
+    call: Call<'a>,
+) -> Result<(), AllocError>
+    ensures { OnOk result (shown machine.new ≡ call_begins (plain_call call.entry) (shown machine.old)) }
+{
+    if has_operands(&call) {
+        let arguments = call.function.arguments.as_slice();
+        machine.first_call(alloc, CallTask::GiveOperands(call, arguments))
+    } else {
+        fail_call(machine, call)
+    }
+}
+
+fn give_operands<'a>(
+    machine: &mut Machine<'a>,
+    alloc: Global,
+    mut call: Call<'a>,
+    arguments: &'a [Field],
+) -> Result<(), AllocError>
+    ensures { OnOk result (shown machine.new ≡ stepped (GivesOperands (plain_call call.entry) arguments.now) (shown machine.old)) }
+{
+    match call.operands.take_off() {
+        Some(value) => match arguments {
+            [] => begin_body(machine, alloc, call),
+            [first, rest @ ..] => bind_operand(machine, alloc, call, first, rest, value),
+        },
+        None => begin_body(machine, alloc, call),
+    }
+}
+
+/// Binds an argument to an operand, and goes on with those behind it.
+fn bind_operand<'a>(
+    machine: &mut Machine<'a>,
+    alloc: Global,
+    call: Call<'a>,
+    argument: &'a Field,
+    rest: &'a [Field],
+    value: DslxValue,
+) -> Result<(), AllocError>
+    ensures { OnOk result (shown machine.new ≡ operands_on (value ∷ call.entry.operands) (plain_call call.entry) (argument.now ∷ rest.now) (shown machine.old)) }
+{
+    machine.bound.bind(Binding {
+        name: &argument.name.name,
+        value,
+    })?;
+    machine.first_call(alloc, CallTask::GiveOperands(call, rest))
+}
+
+/// Goes on with the body, and then back to where the call stands.
+fn begin_body<'a>(
+    machine: &mut Machine<'a>,
+    alloc: Global,
+    call: Call<'a>,
+) -> Result<(), AllocError>
+    ensures { OnOk result (shown machine.new ≡ body_begins (plain_call call.entry) (shown machine.old)) }
+{
+    let body = &call.function.body;
+    machine.first_call(alloc, CallTask::Return(call.bound, call.left))?;
+    machine.first_value(alloc, ValueTask::Block(body))
+}
+
+/// The call comes to nothing.
+fn fail_call<'a>(machine: &mut Machine<'a>, call: Call<'a>) -> Result<(), AllocError>
+    ensures { OnOk result (shown machine.new ≡ call_fails (plain_call call.entry) (shown machine.old)) }
+{
+    go_back(machine, call.bound, call.left);
+    machine.give(None)
+}
+
+/// Back to what is bound elsewhere, and how long a chain of uses may be there.
+fn go_back<'a>(machine: &mut Machine<'a>, bound: Scope<'a>, left: u64)
+    ensures { shown machine.new ≡ back_at bound.entry left (shown machine.old) }
+{
+    let _inner = std::mem::replace(&mut machine.bound, bound);
+    machine.left = left;
+}
+
+/// What operands infer, where not all number parameters are given.
+fn infer<'a>(
+    alloc: Global,
+    function: &'a Function,
+    given: usize,
+    operands: &[DslxValue],
+) -> Result<Vec<Inference<'a>>, AllocError>
+    ensures { IfOk result (λ found. map inferred found.items ≡ inferred_past given function.now operands.now) }
+{
+    if is_short(function, given) {
+        let types = types_of(alloc, operands)?;
+        inferred_from(alloc, function.arguments.as_slice(), types.as_slice())
+    } else {
+        Ok(Vec::new(alloc))
+    }
+}
+
+/// Whether a call has an operand for each argument.
+fn has_operands(call: &Call) -> bool
+    ensures { result ≡ (length call.now.operands == length call.now.function.now.arguments) }
+{
+    call.operands.len() == call.function.arguments.len()
+}
+
+/// Whether a function has more number parameters than are given.
+fn is_short(function: &Function, given: usize) -> bool
+    ensures { result ≡ nat_lt given (length function.now.parameters) }
+{
+    given < function.parameters.len()
+}
+
+/// The types of values.
+fn types_of(alloc: Global, values: &[DslxValue]) -> Result<Vec<DslxType>, AllocError>
+    ensures { IfOk result (λ types. types.items ≡ map the_type values.now) }
+{
+    let mut types = Vec::new(alloc);
+    'values: for value in values {
+        types.push(type_of_value(alloc, value)?)?;
+    }
+    Ok(types)
+}

@@ -1,9 +1,0 @@
-//! Steps for constant expressions: several values one after another, as elements, fields and operands.
-#![tactic(auto)]
-
-mod call;
-mod field;
-mod list;
-
-pub use call::gather_numbers;
-pub use list::{gather, step_list};

@@ -1,0 +1,8 @@
+//! Steps for constant expressions: names and the items that they stand for, types, sizes and bounds.
+mod ty;
+mod uses;
+mod words;
+
+pub use ty::{bare_of, step_type};
+pub use uses::{is_constant, use_constant, use_member, use_name, use_struct};
+pub use words::{binary, cast, number_of, part};

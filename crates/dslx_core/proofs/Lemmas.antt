@@ -1,0 +1,5 @@
+-- For other crates' proofs; nothing else of this folder is.
+-- what becomes of expressions, statements and procs
+pub mod Lowering
+-- networks
+pub mod Networks

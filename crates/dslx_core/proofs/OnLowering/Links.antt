@@ -1,0 +1,303 @@
+-- The parts of a tree beside what they become and what they mean: each is the tree whose meaning it is.
+use Rattle.std.proofs.Common.{◌≡◌, Option, ap, ◌∙◌}
+use Rattle.dslx_tree.specs.declared.block.Stmt.{Stmt}
+use Rattle.dslx_tree.specs.declared.expr.Node.{Node}
+use Rattle.dslx_tree.specs.declared.pattern.Shape.{Shape}
+use Rattle.dslx_tree.specs.declared.type_expr.TypeNode.{TypeNode}
+use Rattle.dslx_tree.specs.declared.block.Block.{Block}
+use Rattle.dslx_tree.specs.declared.block.Let.{Let}
+use Rattle.dslx_tree.specs.declared.expr.Arg.{Arg}
+use Rattle.dslx_tree.specs.declared.expr.Arm.{Arm}
+use Rattle.dslx_tree.specs.declared.expr.Expr.{Expr}
+use Rattle.dslx_tree.specs.declared.expr.FieldValue.{FieldValue}
+use Rattle.dslx_tree.specs.declared.expr.For.{For}
+use Rattle.dslx_tree.specs.declared.expr.Number.{Number}
+use Rattle.dslx_tree.specs.declared.pattern.Pattern.{Pattern}
+use Rattle.dslx_tree.specs.declared.type_expr.TypeExpr.{TypeExpr}
+use Rattle.dslx_tree.proofs.Lemmas.Folds.Levels.{Carriers, trees, Maps, composed, StmtLevel, NodeLevel, ShapeLevel, TypeNodeLevel, BlockLevel, LetLevel, ArgLevel, ArmLevel, ExprLevel, FieldValueLevel, ForLevel, NumberLevel, PatternLevel, TypeExprLevel, map_stmt, map_node, map_shape, map_type_node, map_block, map_bind, map_arg, map_arm, map_expr, map_field, map_loop, map_number, map_pattern, map_type_expr, map_stmt-twice, map_node-twice, map_shape-twice, map_type_node-twice, map_block-twice, map_bind-twice, map_arg-twice, map_arm-twice, map_expr-twice, map_field-twice, map_loop-twice, map_number-twice, map_pattern-twice, map_type_expr-twice}
+use Rattle.dslx_tree.proofs.Lemmas.Folds.Folds.{Steps, folds, fold_stmt, fold_node, fold_shape, fold_type_node, fold_block, fold_bind, fold_arg, fold_arm, fold_expr, fold_field, fold_loop, fold_number, fold_pattern, fold_type_expr, fold_stmt-roll, fold_node-roll, fold_shape-roll, fold_type_node-roll, fold_block-roll, fold_bind-roll, fold_arg-roll, fold_arm-roll, fold_expr-roll, fold_field-roll, fold_loop-roll, fold_number-roll, fold_pattern-roll, fold_type_expr-roll}
+use Rattle.dslx_tree.proofs.Lemmas.Folds.Related.{Relations, both, firsts, seconds}
+use Rattle.dslx_meaning.specs.Meaning as m
+use Rattle.dslx_meaning.specs.Meaning.{ArmMeant, Evaluates, FieldMeant, Going, Meant, PatternMeant, Typing}
+use Rattle.dslx_meaning.specs.Rules.Paired.{with_stmt, with_node, with_shape, with_type_node, with_block, with_bind, with_arg, with_arm, with_expr, with_field, with_loop, with_number, with_pattern, with_type_expr}
+use Rattle.dslx_meaning.specs.declared.value.DslxValue.{DslxValue}
+use Rattle.dslx_core.specs.Lowering.CorePlaces.{CorePlace}
+use Rattle.dslx_core.specs.Lowering.Patterns.{Lowers, LowersArm, LowersPattern}
+use Rattle.dslx_core.specs.Lowering.Trees.{LowersField, LowersType, lowered_sorts, lowering_steps}
+
+-- ---- the two folds
+
+-- trees with what they become
+abbrev pub become : Carriers
+become = record {
+  stmt = Stmt × (Lowers → Lowers);
+  node = Node × Lowers;
+  shape = Shape × LowersPattern;
+  type_node = TypeNode × LowersType;
+  block = Block × Lowers;
+  bind = Let × (Lowers → Lowers);
+  arg = Arg × Expr;
+  arm = Arm × LowersArm;
+  expr = Expr × Lowers;
+  field = FieldValue × LowersField;
+  loop = For × Lowers;
+  number = Number × (CorePlace → Option DslxValue);
+  pattern = Pattern × LowersPattern;
+  type_expr = TypeExpr × LowersType;
+}
+
+abbrev pub becoming : Steps become
+becoming = record {
+  stmt = with_stmt lowered_sorts lowering_steps;
+  node = with_node lowered_sorts lowering_steps;
+  shape = with_shape lowered_sorts lowering_steps;
+  type_node = with_type_node lowered_sorts lowering_steps;
+  block = with_block lowered_sorts lowering_steps;
+  bind = with_bind lowered_sorts lowering_steps;
+  arg = with_arg lowered_sorts lowering_steps;
+  arm = with_arm lowered_sorts lowering_steps;
+  expr = with_expr lowered_sorts lowering_steps;
+  field = with_field lowered_sorts lowering_steps;
+  loop = with_loop lowered_sorts lowering_steps;
+  number = with_number lowered_sorts lowering_steps;
+  pattern = with_pattern lowered_sorts lowering_steps;
+  type_expr = with_type_expr lowered_sorts lowering_steps;
+}
+
+-- what they mean
+abbrev pub meanings : Carriers
+meanings = record {
+  stmt = Going;
+  node = Meant;
+  shape = PatternMeant;
+  type_node = Typing;
+  block = Evaluates;
+  bind = Going;
+  arg = Meant;
+  arm = ArmMeant;
+  expr = Meant;
+  field = FieldMeant;
+  loop = Evaluates;
+  number = Meant;
+  pattern = PatternMeant;
+  type_expr = Typing;
+}
+
+abbrev pub meaning : Steps meanings
+meaning = record {
+  stmt = m.stmt_meant;
+  node = m.node_meant;
+  shape = m.shape_meant;
+  type_node = m.type_meant;
+  block = m.block_meant;
+  bind = m.let_meant;
+  arg = m.arg_meant;
+  arm = m.arm_meant;
+  expr = m.expr_meant;
+  field = m.field_meant;
+  loop = m.for_meant;
+  number = m.number_node;
+  pattern = m.pattern_meant;
+  type_expr = m.type_expr_meant;
+}
+
+abbrev tree_of : Maps become trees
+tree_of = record {
+  stmt = λ p. p.0;
+  node = λ p. p.0;
+  shape = λ p. p.0;
+  type_node = λ p. p.0;
+  block = λ p. p.0;
+  bind = λ p. p.0;
+  arg = λ p. p.0;
+  arm = λ p. p.0;
+  expr = λ p. p.0;
+  field = λ p. p.0;
+  loop = λ p. p.0;
+  number = λ p. p.0;
+  pattern = λ p. p.0;
+  type_expr = λ p. p.0;
+}
+
+-- ---- claims of parts, beside the fact that the one is the meaning of the other's tree
+
+-- what is to hold of each sort
+pub record Claims : Type 1 where
+  pub stmt : (Lowers → Lowers) → Going → Type 0
+  pub node : Lowers → Meant → Type 0
+  pub shape : LowersPattern → PatternMeant → Type 0
+  pub type_node : LowersType → Typing → Type 0
+  pub block : Lowers → Evaluates → Type 0
+  pub bind : (Lowers → Lowers) → Going → Type 0
+  pub arg : Expr → Meant → Type 0
+  pub arm : LowersArm → ArmMeant → Type 0
+  pub expr : Lowers → Meant → Type 0
+  pub field : LowersField → FieldMeant → Type 0
+  pub loop : Lowers → Evaluates → Type 0
+  pub number : (CorePlace → Option DslxValue) → Meant → Type 0
+  pub pattern : LowersPattern → PatternMeant → Type 0
+  pub type_expr : LowersType → Typing → Type 0
+
+abbrev pub claimed : Claims → Relations become meanings
+claimed c = record {
+  stmt = λ p x. (fold_stmt meanings meaning p.0 ≡ x) × c.stmt p.1 x;
+  node = λ p x. (fold_node meanings meaning p.0 ≡ x) × c.node p.1 x;
+  shape = λ p x. (fold_shape meanings meaning p.0 ≡ x) × c.shape p.1 x;
+  type_node = λ p x. (fold_type_node meanings meaning p.0 ≡ x) × c.type_node p.1 x;
+  block = λ p x. (fold_block meanings meaning p.0 ≡ x) × c.block p.1 x;
+  bind = λ p x. (fold_bind meanings meaning p.0 ≡ x) × c.bind p.1 x;
+  arg = λ p x. (fold_arg meanings meaning p.0 ≡ x) × c.arg p.1 x;
+  arm = λ p x. (fold_arm meanings meaning p.0 ≡ x) × c.arm p.1 x;
+  expr = λ p x. (fold_expr meanings meaning p.0 ≡ x) × c.expr p.1 x;
+  field = λ p x. (fold_field meanings meaning p.0 ≡ x) × c.field p.1 x;
+  loop = λ p x. (fold_loop meanings meaning p.0 ≡ x) × c.loop p.1 x;
+  number = λ p x. (fold_number meanings meaning p.0 ≡ x) × c.number p.1 x;
+  pattern = λ p x. (fold_pattern meanings meaning p.0 ≡ x) × c.pattern p.1 x;
+  type_expr = λ p x. (fold_type_expr meanings meaning p.0 ≡ x) × c.type_expr p.1 x;
+}
+
+module _ (c : Claims) where
+  -- a part is what its tree means
+  linked : composed (both become meanings (claimed c)) become meanings (composed become trees meanings (folds meanings meaning) tree_of) (firsts become meanings (claimed c)) ≡ seconds become meanings (claimed c)
+  linked = λ i. record {
+    stmt = λ p. p.2.0 i;
+    node = λ p. p.2.0 i;
+    shape = λ p. p.2.0 i;
+    type_node = λ p. p.2.0 i;
+    block = λ p. p.2.0 i;
+    bind = λ p. p.2.0 i;
+    arg = λ p. p.2.0 i;
+    arm = λ p. p.2.0 i;
+    expr = λ p. p.2.0 i;
+    field = λ p. p.2.0 i;
+    loop = λ p. p.2.0 i;
+    number = λ p. p.2.0 i;
+    pattern = λ p. p.2.0 i;
+    type_expr = λ p. p.2.0 i;
+  }
+
+  pub link_stmt : (x : StmtLevel (both become meanings (claimed c))) → fold_stmt meanings meaning (becoming.stmt (map_stmt (both become meanings (claimed c)) become (firsts become meanings (claimed c)) x)).0
+      ≡ meaning.stmt (map_stmt (both become meanings (claimed c)) meanings (seconds become meanings (claimed c)) x)
+  link_stmt x =
+      fold_stmt-roll meanings meaning (map_stmt become trees tree_of (map_stmt (both become meanings (claimed c)) become (firsts become meanings (claimed c)) x))
+      ∙ ap meaning.stmt
+      (map_stmt-twice become trees meanings (folds meanings meaning) tree_of (map_stmt (both become meanings (claimed c)) become (firsts become meanings (claimed c)) x)
+      ∙ map_stmt-twice (both become meanings (claimed c)) become meanings (composed become trees meanings (folds meanings meaning) tree_of) (firsts become meanings (claimed c)) x
+      ∙ (λ i. map_stmt (both become meanings (claimed c)) meanings (linked i) x))
+
+  pub link_node : (x : NodeLevel (both become meanings (claimed c))) → fold_node meanings meaning (becoming.node (map_node (both become meanings (claimed c)) become (firsts become meanings (claimed c)) x)).0
+      ≡ meaning.node (map_node (both become meanings (claimed c)) meanings (seconds become meanings (claimed c)) x)
+  link_node x =
+      fold_node-roll meanings meaning (map_node become trees tree_of (map_node (both become meanings (claimed c)) become (firsts become meanings (claimed c)) x))
+      ∙ ap meaning.node
+      (map_node-twice become trees meanings (folds meanings meaning) tree_of (map_node (both become meanings (claimed c)) become (firsts become meanings (claimed c)) x)
+      ∙ map_node-twice (both become meanings (claimed c)) become meanings (composed become trees meanings (folds meanings meaning) tree_of) (firsts become meanings (claimed c)) x
+      ∙ (λ i. map_node (both become meanings (claimed c)) meanings (linked i) x))
+
+  pub link_shape : (x : ShapeLevel (both become meanings (claimed c))) → fold_shape meanings meaning (becoming.shape (map_shape (both become meanings (claimed c)) become (firsts become meanings (claimed c)) x)).0
+      ≡ meaning.shape (map_shape (both become meanings (claimed c)) meanings (seconds become meanings (claimed c)) x)
+  link_shape x =
+      fold_shape-roll meanings meaning (map_shape become trees tree_of (map_shape (both become meanings (claimed c)) become (firsts become meanings (claimed c)) x))
+      ∙ ap meaning.shape
+      (map_shape-twice become trees meanings (folds meanings meaning) tree_of (map_shape (both become meanings (claimed c)) become (firsts become meanings (claimed c)) x)
+      ∙ map_shape-twice (both become meanings (claimed c)) become meanings (composed become trees meanings (folds meanings meaning) tree_of) (firsts become meanings (claimed c)) x
+      ∙ (λ i. map_shape (both become meanings (claimed c)) meanings (linked i) x))
+
+  pub link_type_node : (x : TypeNodeLevel (both become meanings (claimed c))) → fold_type_node meanings meaning (becoming.type_node (map_type_node (both become meanings (claimed c)) become (firsts become meanings (claimed c)) x)).0
+      ≡ meaning.type_node (map_type_node (both become meanings (claimed c)) meanings (seconds become meanings (claimed c)) x)
+  link_type_node x =
+      fold_type_node-roll meanings meaning (map_type_node become trees tree_of (map_type_node (both become meanings (claimed c)) become (firsts become meanings (claimed c)) x))
+      ∙ ap meaning.type_node
+      (map_type_node-twice become trees meanings (folds meanings meaning) tree_of (map_type_node (both become meanings (claimed c)) become (firsts become meanings (claimed c)) x)
+      ∙ map_type_node-twice (both become meanings (claimed c)) become meanings (composed become trees meanings (folds meanings meaning) tree_of) (firsts become meanings (claimed c)) x
+      ∙ (λ i. map_type_node (both become meanings (claimed c)) meanings (linked i) x))
+
+  pub link_block : (x : BlockLevel (both become meanings (claimed c))) → fold_block meanings meaning (becoming.block (map_block (both become meanings (claimed c)) become (firsts become meanings (claimed c)) x)).0
+      ≡ meaning.block (map_block (both become meanings (claimed c)) meanings (seconds become meanings (claimed c)) x)
+  link_block x =
+      fold_block-roll meanings meaning (map_block become trees tree_of (map_block (both become meanings (claimed c)) become (firsts become meanings (claimed c)) x))
+      ∙ ap meaning.block
+      (map_block-twice become trees meanings (folds meanings meaning) tree_of (map_block (both become meanings (claimed c)) become (firsts become meanings (claimed c)) x)
+      ∙ map_block-twice (both become meanings (claimed c)) become meanings (composed become trees meanings (folds meanings meaning) tree_of) (firsts become meanings (claimed c)) x
+      ∙ (λ i. map_block (both become meanings (claimed c)) meanings (linked i) x))
+
+  pub link_bind : (x : LetLevel (both become meanings (claimed c))) → fold_bind meanings meaning (becoming.bind (map_bind (both become meanings (claimed c)) become (firsts become meanings (claimed c)) x)).0
+      ≡ meaning.bind (map_bind (both become meanings (claimed c)) meanings (seconds become meanings (claimed c)) x)
+  link_bind x =
+      fold_bind-roll meanings meaning (map_bind become trees tree_of (map_bind (both become meanings (claimed c)) become (firsts become meanings (claimed c)) x))
+      ∙ ap meaning.bind
+      (map_bind-twice become trees meanings (folds meanings meaning) tree_of (map_bind (both become meanings (claimed c)) become (firsts become meanings (claimed c)) x)
+      ∙ map_bind-twice (both become meanings (claimed c)) become meanings (composed become trees meanings (folds meanings meaning) tree_of) (firsts become meanings (claimed c)) x
+      ∙ (λ i. map_bind (both become meanings (claimed c)) meanings (linked i) x))
+
+  pub link_arg : (x : ArgLevel (both become meanings (claimed c))) → fold_arg meanings meaning (becoming.arg (map_arg (both become meanings (claimed c)) become (firsts become meanings (claimed c)) x)).0
+      ≡ meaning.arg (map_arg (both become meanings (claimed c)) meanings (seconds become meanings (claimed c)) x)
+  link_arg x =
+      fold_arg-roll meanings meaning (map_arg become trees tree_of (map_arg (both become meanings (claimed c)) become (firsts become meanings (claimed c)) x))
+      ∙ ap meaning.arg
+      (map_arg-twice become trees meanings (folds meanings meaning) tree_of (map_arg (both become meanings (claimed c)) become (firsts become meanings (claimed c)) x)
+      ∙ map_arg-twice (both become meanings (claimed c)) become meanings (composed become trees meanings (folds meanings meaning) tree_of) (firsts become meanings (claimed c)) x
+      ∙ (λ i. map_arg (both become meanings (claimed c)) meanings (linked i) x))
+
+  pub link_arm : (x : ArmLevel (both become meanings (claimed c))) → fold_arm meanings meaning (becoming.arm (map_arm (both become meanings (claimed c)) become (firsts become meanings (claimed c)) x)).0
+      ≡ meaning.arm (map_arm (both become meanings (claimed c)) meanings (seconds become meanings (claimed c)) x)
+  link_arm x =
+      fold_arm-roll meanings meaning (map_arm become trees tree_of (map_arm (both become meanings (claimed c)) become (firsts become meanings (claimed c)) x))
+      ∙ ap meaning.arm
+      (map_arm-twice become trees meanings (folds meanings meaning) tree_of (map_arm (both become meanings (claimed c)) become (firsts become meanings (claimed c)) x)
+      ∙ map_arm-twice (both become meanings (claimed c)) become meanings (composed become trees meanings (folds meanings meaning) tree_of) (firsts become meanings (claimed c)) x
+      ∙ (λ i. map_arm (both become meanings (claimed c)) meanings (linked i) x))
+
+  pub link_expr : (x : ExprLevel (both become meanings (claimed c))) → fold_expr meanings meaning (becoming.expr (map_expr (both become meanings (claimed c)) become (firsts become meanings (claimed c)) x)).0
+      ≡ meaning.expr (map_expr (both become meanings (claimed c)) meanings (seconds become meanings (claimed c)) x)
+  link_expr x =
+      fold_expr-roll meanings meaning (map_expr become trees tree_of (map_expr (both become meanings (claimed c)) become (firsts become meanings (claimed c)) x))
+      ∙ ap meaning.expr
+      (map_expr-twice become trees meanings (folds meanings meaning) tree_of (map_expr (both become meanings (claimed c)) become (firsts become meanings (claimed c)) x)
+      ∙ map_expr-twice (both become meanings (claimed c)) become meanings (composed become trees meanings (folds meanings meaning) tree_of) (firsts become meanings (claimed c)) x
+      ∙ (λ i. map_expr (both become meanings (claimed c)) meanings (linked i) x))
+
+  pub link_field : (x : FieldValueLevel (both become meanings (claimed c))) → fold_field meanings meaning (becoming.field (map_field (both become meanings (claimed c)) become (firsts become meanings (claimed c)) x)).0
+      ≡ meaning.field (map_field (both become meanings (claimed c)) meanings (seconds become meanings (claimed c)) x)
+  link_field x =
+      fold_field-roll meanings meaning (map_field become trees tree_of (map_field (both become meanings (claimed c)) become (firsts become meanings (claimed c)) x))
+      ∙ ap meaning.field
+      (map_field-twice become trees meanings (folds meanings meaning) tree_of (map_field (both become meanings (claimed c)) become (firsts become meanings (claimed c)) x)
+      ∙ map_field-twice (both become meanings (claimed c)) become meanings (composed become trees meanings (folds meanings meaning) tree_of) (firsts become meanings (claimed c)) x
+      ∙ (λ i. map_field (both become meanings (claimed c)) meanings (linked i) x))
+
+  pub link_loop : (x : ForLevel (both become meanings (claimed c))) → fold_loop meanings meaning (becoming.loop (map_loop (both become meanings (claimed c)) become (firsts become meanings (claimed c)) x)).0
+      ≡ meaning.loop (map_loop (both become meanings (claimed c)) meanings (seconds become meanings (claimed c)) x)
+  link_loop x =
+      fold_loop-roll meanings meaning (map_loop become trees tree_of (map_loop (both become meanings (claimed c)) become (firsts become meanings (claimed c)) x))
+      ∙ ap meaning.loop
+      (map_loop-twice become trees meanings (folds meanings meaning) tree_of (map_loop (both become meanings (claimed c)) become (firsts become meanings (claimed c)) x)
+      ∙ map_loop-twice (both become meanings (claimed c)) become meanings (composed become trees meanings (folds meanings meaning) tree_of) (firsts become meanings (claimed c)) x
+      ∙ (λ i. map_loop (both become meanings (claimed c)) meanings (linked i) x))
+
+  pub link_number : (x : NumberLevel (both become meanings (claimed c))) → fold_number meanings meaning (becoming.number (map_number (both become meanings (claimed c)) become (firsts become meanings (claimed c)) x)).0
+      ≡ meaning.number (map_number (both become meanings (claimed c)) meanings (seconds become meanings (claimed c)) x)
+  link_number x =
+      fold_number-roll meanings meaning (map_number become trees tree_of (map_number (both become meanings (claimed c)) become (firsts become meanings (claimed c)) x))
+      ∙ ap meaning.number
+      (map_number-twice become trees meanings (folds meanings meaning) tree_of (map_number (both become meanings (claimed c)) become (firsts become meanings (claimed c)) x)
+      ∙ map_number-twice (both become meanings (claimed c)) become meanings (composed become trees meanings (folds meanings meaning) tree_of) (firsts become meanings (claimed c)) x
+      ∙ (λ i. map_number (both become meanings (claimed c)) meanings (linked i) x))
+
+  pub link_pattern : (x : PatternLevel (both become meanings (claimed c))) → fold_pattern meanings meaning (becoming.pattern (map_pattern (both become meanings (claimed c)) become (firsts become meanings (claimed c)) x)).0
+      ≡ meaning.pattern (map_pattern (both become meanings (claimed c)) meanings (seconds become meanings (claimed c)) x)
+  link_pattern x =
+      fold_pattern-roll meanings meaning (map_pattern become trees tree_of (map_pattern (both become meanings (claimed c)) become (firsts become meanings (claimed c)) x))
+      ∙ ap meaning.pattern
+      (map_pattern-twice become trees meanings (folds meanings meaning) tree_of (map_pattern (both become meanings (claimed c)) become (firsts become meanings (claimed c)) x)
+      ∙ map_pattern-twice (both become meanings (claimed c)) become meanings (composed become trees meanings (folds meanings meaning) tree_of) (firsts become meanings (claimed c)) x
+      ∙ (λ i. map_pattern (both become meanings (claimed c)) meanings (linked i) x))
+
+  pub link_type_expr : (x : TypeExprLevel (both become meanings (claimed c))) → fold_type_expr meanings meaning (becoming.type_expr (map_type_expr (both become meanings (claimed c)) become (firsts become meanings (claimed c)) x)).0
+      ≡ meaning.type_expr (map_type_expr (both become meanings (claimed c)) meanings (seconds become meanings (claimed c)) x)
+  link_type_expr x =
+      fold_type_expr-roll meanings meaning (map_type_expr become trees tree_of (map_type_expr (both become meanings (claimed c)) become (firsts become meanings (claimed c)) x))
+      ∙ ap meaning.type_expr
+      (map_type_expr-twice become trees meanings (folds meanings meaning) tree_of (map_type_expr (both become meanings (claimed c)) become (firsts become meanings (claimed c)) x)
+      ∙ map_type_expr-twice (both become meanings (claimed c)) become meanings (composed become trees meanings (folds meanings meaning) tree_of) (firsts become meanings (claimed c)) x
+      ∙ (λ i. map_type_expr (both become meanings (claimed c)) meanings (linked i) x))

@@ -1,0 +1,101 @@
+-- Which functions the instances of a text's functions become, and which of them a call comes to.
+use Rattle.std.specs.Prelude.{ℕ, suc, List, [], ◌∷◌, ◌++◌, ◌&&◌, map, Bool, not, Option, Some, None, length, if◌then◌else◌}
+use Rattle.std.specs.Str.{bytes_eq}
+use Rattle.std.specs.List.{list_all}
+use Rattle.dslx_tree.specs.declared.item.Module.{Module}
+use Rattle.dslx_tree.specs.declared.item.Function.{Function}
+use Rattle.dslx_tree.specs.declared.item.Field.{Field}
+use Rattle.dslx_meaning.specs.Lists.{all_some, and_then, pairwise, where_true}
+use Rattle.dslx_meaning.specs.Values.{type_of_value}
+use Rattle.dslx_meaning.specs.Environment.{Meanings, Given}
+use Rattle.dslx_meaning.specs.Items.{all_numbers, as_function, inferred_from, item_named, numbers_bound}
+use Rattle.dslx_meaning.specs.declared.ty.DslxType.{DslxType}
+use Rattle.dslx_meaning.specs.declared.value.DslxValue.{DslxValue}
+use Rattle.dslx_typing.specs.Typed.Kinds.{is_of}
+use Rattle.dslx_core.specs.declared.design.Function as core
+use Rattle.dslx_core.specs.Lowering.CorePlaces.{CoreCallee, CoreKnown, CorePlace, with_local}
+use Rattle.dslx_core.specs.Lowering.EqualTypes.{equal_type}
+use Rattle.dslx_meaning.specs.Rules.EqualValues.{equal_value}
+use Rattle.dslx_core.specs.Lowering.Trees.{block_of_text_lowered, type_of_text_lowered}
+use Rattle.dslx_core.specs.declared.lowering.instance.Instantiated as instantiated_data
+use Rattle.dslx_core.specs.declared.lowering.instance.CoreInstance as instance_data
+use Rattle.dslx_core.specs.declared.lowering.instance.LoweredFunction as function_data
+
+-- ---- one instance
+
+-- the types of its arguments and of its result, and its body over the arguments
+abbrev pub LoweredFunction : Type 0
+LoweredFunction = function_data.LoweredFunction
+
+-- where nothing is bound but number parameters
+abbrev pub outer_place : CoreKnown → CorePlace
+outer_place known = record { known = known; locals = []; count = 0 }
+
+-- the arguments in order, none of which has a constant's name
+abbrev pub arguments_placed : List Field → List DslxType → CorePlace → Option CorePlace
+arguments_placed [] [] place = Some place
+arguments_placed (f ∷ fs) (t ∷ ts) place = if place.known.items.is_constant f.name.name then None else arguments_placed fs ts (with_local f.name.name t place)
+arguments_placed [] (t ∷ ts) place = None
+arguments_placed (f ∷ fs) [] place = None
+
+-- number parameters have no constant's name, and values of their own types
+abbrev pub numbers_stand : Meanings → List Given → Bool
+numbers_stand items numbers = list_all (λ (g : Given). not (items.is_constant g.name) && is_of (type_of_value g.value) g.value) numbers
+
+abbrev pub argument_types : CoreKnown → List Field → Option (List DslxType)
+argument_types known fields = all_some (map (λ (f : Field). type_of_text_lowered f.ty (outer_place known)) fields)
+
+abbrev pub body_lowered : CoreKnown → Function → List DslxType → Option LoweredFunction
+body_lowered known f ts =
+    and_then (arguments_placed f.arguments ts (outer_place known)) (λ place.
+    and_then (block_of_text_lowered f.body place) (λ e. Some (record { arguments = ts; result = e.ty; body = e.core })))
+
+-- a function, where its number parameters are bound
+abbrev pub instance_lowered : CoreKnown → Function → Option LoweredFunction
+instance_lowered known f = where_true (numbers_stand known.items known.numbers) (and_then (argument_types known f.arguments) (body_lowered known f))
+
+-- ---- all instances
+
+-- an instance by its name and its number arguments
+abbrev pub CoreInstance : Type 0
+CoreInstance = instance_data.CoreInstance
+
+abbrev pub is_instance : List ℕ → List DslxValue → CoreInstance → Bool
+is_instance name numbers i = bytes_eq name i.name && pairwise equal_value numbers i.numbers
+
+-- the first instance of a name and number arguments, with its number
+abbrev pub instance_in : List ℕ → List DslxValue → ℕ → List CoreInstance → Option (ℕ × CoreInstance)
+instance_in name numbers n [] = None
+instance_in name numbers n (i ∷ is) = if is_instance name numbers i then Some (n, i) else instance_in name numbers (suc n) is
+
+-- for operands of the types of its arguments
+abbrev pub callee_of : List DslxType → ℕ × CoreInstance → Option CoreCallee
+callee_of types p = where_true (pairwise equal_type p.1.function.arguments types) (Some (record { number = p.0; result = p.1.function.result }))
+
+-- what a call comes to among these instances
+abbrev pub callee_in : Module → Meanings → List CoreInstance → List ℕ → List DslxValue → List DslxType → Option CoreCallee
+callee_in m items instances name given types =
+    and_then (as_function (item_named name m.items)) (λ f.
+    and_then (all_numbers items (inferred_from f.arguments types) [] f.parameters given) (λ numbers.
+    and_then (instance_in name numbers 0 instances) (callee_of types)))
+
+abbrev pub instance_known : Module → Meanings → List CoreInstance → Function → List DslxValue → CoreKnown
+instance_known m items instances f numbers = record { items = items; numbers = numbers_bound [] f.parameters numbers; callee = callee_in m items instances }
+
+-- a name and its number arguments
+abbrev pub Instantiated : Type 0
+Instantiated = instantiated_data.Instantiated
+
+abbrev pub next_instance : Module → Meanings → List CoreInstance → Instantiated → Option CoreInstance
+next_instance m items before i =
+    and_then (as_function (item_named i.name m.items)) (λ f.
+    and_then (instance_lowered (instance_known m items before f i.numbers) f) (λ l. Some (record { name = i.name; numbers = i.numbers; function = l })))
+
+-- instances in order, each of which calls those before it
+abbrev pub instances_from : Module → Meanings → List CoreInstance → List Instantiated → Option (List CoreInstance)
+instances_from m items before [] = Some before
+instances_from m items before (i ∷ is) = and_then (next_instance m items before i) (λ c. instances_from m items (before ++ c ∷ []) is)
+
+-- what they are in a checked text
+abbrev pub core_function : CoreInstance → core.Function
+core_function i = record { arity = length i.function.arguments; body = i.function.body }

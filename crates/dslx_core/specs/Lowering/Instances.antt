@@ -1,0 +1,32 @@
+-- What it means that instances of functions stand for those of a text.
+use Rattle.std.specs.Prelude.{◌≡◌, ℕ, List, map, true, Some, slice_get}
+use Rattle.dslx_tree.specs.declared.item.Module.{Module}
+use Rattle.dslx_tree.specs.declared.item.Function.{Function}
+use Rattle.dslx_meaning.specs.Values.{plain_value}
+use Rattle.dslx_meaning.specs.Environment.{Meanings}
+use Rattle.dslx_meaning.specs.Items.{as_function, function_value, item_named}
+use Rattle.dslx_meaning.specs.declared.value.DslxValue.{DslxValue}
+use Rattle.dslx_typing.specs.Typed.Kinds.{each_of, is_of}
+use Rattle.dslx_core.specs.CoreValues.{Functions}
+use Rattle.dslx_core.specs.Designs.{functions_from, no_function}
+use Rattle.dslx_core.specs.Lowering.Correspondence.{IsOwn}
+use Rattle.dslx_core.specs.Lowering.Functions.{CoreInstance, core_function}
+
+-- constants and members that have a value are of its type
+pub record ItemsAreOwn (items : Meanings) : Type 0 where
+  pub constants : (name : List ℕ) (v : DslxValue) → items.constant name ≡ Some v → IsOwn v
+  pub members : (name member : List ℕ) (v : DslxValue) → items.member name member ≡ Some v → IsOwn v
+
+-- for operands of the types of its arguments for which the text's function has a value, that value is of the type of the
+-- result, and the function of this number has it
+abbrev pub InstanceStandsFor : Module → Meanings → Functions → ℕ → CoreInstance → Type 0
+InstanceStandsFor m items functions k i = (f : Function) (operands : List DslxValue) (v : DslxValue) → as_function (item_named i.name m.items) ≡ Some f
+    → each_of (map is_of i.function.arguments) operands ≡ true → function_value items f i.numbers operands ≡ Some v
+    → (is_of i.function.result v ≡ true) × (functions k (map plain_value operands) ≡ Some (plain_value v))
+
+abbrev pub functions_of_instances : List CoreInstance → Functions
+functions_of_instances instances = functions_from 0 (map core_function instances) no_function
+
+-- each of them does
+abbrev pub InstancesStand : Module → Meanings → List CoreInstance → Type 0
+InstancesStand m items instances = (k : ℕ) (i : CoreInstance) → slice_get instances k ≡ Some i → InstanceStandsFor m items (functions_of_instances instances) k i

@@ -1,0 +1,25 @@
+ghost use Rattle.std.specs.Prelude.{◌≡◌, [], List, Some};
+ghost use Rattle.dslx_tree.specs.declared.item.Module.{Module};
+ghost use Rattle.dslx_tree.specs.declared.process.Proc.{Proc};
+ghost use Rattle.dslx_meaning.specs.Activation.{state_type_of};
+ghost use Rattle.dslx_meaning.specs.Environment.{Meanings};
+ghost use Rattle.dslx_meaning.specs.Items.{meanings_over};
+ghost use Rattle.dslx_meaning.specs.declared.value.DslxValue.{DslxValue};
+ghost use Rattle.dslx_core.specs.Lowering.Activities.{NextStands};
+ghost use Rattle.dslx_core.specs.Lowering.Functions.{CoreInstance, Instantiated, instances_from};
+ghost use Rattle.dslx_core.specs.Lowering.Instances.{ItemsAreOwn, functions_of_instances};
+ghost use Rattle.dslx_core.specs.Lowering.Steps.{LoweredNext, next_lowered, proc_known};
+
+/// An activation of an instance of a proc, from each state of its type and over each list of words: what it does at a site
+/// the steps that its `next` becomes do too, and where it ends in a state they do just that and end in this state, without
+/// signs and names. That type is the one that the text's state has.
+pub fn lowered_steps_do_the_same()
+    ensures activations { (m : Module) (items : Meanings) → meanings_over m items ≡ items → ItemsAreOwn items
+        → (is : List Instantiated) (instances : List CoreInstance) → instances_from m items [] is ≡ Some instances
+        → (p : Proc) (numbers : List DslxValue) (l : LoweredNext) → next_lowered (proc_known m items instances p numbers) p ≡ Some l
+        → NextStands (proc_known m items instances p numbers) (functions_of_instances instances) p numbers l }
+    ensures state { (m : Module) (items : Meanings) → meanings_over m items ≡ items → ItemsAreOwn items
+        → (is : List Instantiated) (instances : List CoreInstance) → instances_from m items [] is ≡ Some instances
+        → (p : Proc) (numbers : List DslxValue) (l : LoweredNext) → next_lowered (proc_known m items instances p numbers) p ≡ Some l
+        → state_type_of items p numbers ≡ Some l.state }
+{}

@@ -1,0 +1,8 @@
+//! Which instances of a checked text the instances of a text's procs become, and that the two have one network.
+mod config;
+mod instance;
+mod network;
+
+pub use config::LoweredConfig;
+pub use instance::ProcInstance;
+pub use network::lowered_networks_are_the_same;

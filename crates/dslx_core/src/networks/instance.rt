@@ -1,0 +1,12 @@
+use crate::Instance;
+use base::texts::Name;
+use dslx_meaning::DslxValue;
+use xb_value::Seq;
+
+/// An instance of a proc by its name and its number arguments.
+#[derive(Drop)]
+pub struct ProcInstance {
+    pub name: Name,
+    pub numbers: Seq<DslxValue>,
+    pub instance: Instance,
+}

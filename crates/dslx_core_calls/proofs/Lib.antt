@@ -1,0 +1,4 @@
+-- tuples, arrays and structs
+pub mod OnAggregates
+-- calls
+pub mod OnCalls

@@ -1,0 +1,4 @@
+-- tuples, arrays and structs
+pub mod Aggregates
+-- calls
+pub mod Calls

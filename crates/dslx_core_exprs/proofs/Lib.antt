@@ -1,0 +1,4 @@
+-- control
+pub mod OnControl
+-- operators
+pub mod OnOperators

@@ -1,0 +1,8 @@
+//! What is asked of the types of what is lowered, and what known values become.
+//!
+//! Each call is its definition in `dslx_lowering`.
+mod literals;
+mod types;
+
+pub use literals::{literal, plain_value, unit_lowered};
+pub use types::{bool_type, into_element, into_part, sign_of, unsigned, width_of_type, word_width};

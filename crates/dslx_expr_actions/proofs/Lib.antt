@@ -1,0 +1,2 @@
+-- operators
+pub mod OnOperators

@@ -1,0 +1,32 @@
+-- What the rules of atoms and of arguments do where their symbols are complete.
+use Rattle.dslx_actions.specs.declared.parts.Parts.{Parts}
+use Rattle.dslx_actions.specs.Types.Types.{named_type}
+use Rattle.dslx_expr_actions.specs.declared.atoms.rule.ArgRule.{ArgRule}
+use Rattle.dslx_expr_actions.specs.declared.atoms.rule.ArgRule.TheVariants as arg
+use Rattle.dslx_expr_actions.specs.declared.atoms.rule.AtomRule.{AtomRule}
+use Rattle.dslx_expr_actions.specs.declared.atoms.rule.AtomRule.TheVariants as atom
+use Rattle.dslx_expr_actions.specs.Atoms.Atoms as atoms
+use Rattle.dslx_expr_actions.specs.Atoms.Calls as calls
+
+abbrev pub reduced_atom : AtomRule → Parts → Parts
+reduced_atom atom.BareNumber s = atoms.bare_number s
+reduced_atom atom.TypedNumber s = atoms.typed_number s
+reduced_atom (atom.Bool value) s = atoms.bool_expr value s
+reduced_atom atom.LastElement s = atoms.last_element s
+reduced_atom atom.Repeated s = atoms.repeated s
+reduced_atom atom.Array s = atoms.array_expr s
+reduced_atom atom.TypedArray s = atoms.typed_array s
+reduced_atom atom.Name s = atoms.name_expr s
+reduced_atom atom.Member s = atoms.member_expr s
+reduced_atom atom.Call s = calls.call_expr s
+reduced_atom atom.CallWithArgs s = calls.call_with_args s
+reduced_atom atom.Unit s = atoms.unit_expr s
+reduced_atom atom.Grouped s = atoms.grouped s
+reduced_atom atom.Tuple s = atoms.tuple_expr s
+
+abbrev pub reduced_arg : ArgRule → Parts → Parts
+reduced_arg arg.Number s = calls.bare_arg (atoms.bare_number s)
+reduced_arg arg.Typed s = calls.bare_arg (atoms.typed_number s)
+reduced_arg arg.NamedTyped s = calls.bare_arg (atoms.typed_number (named_type s))
+reduced_arg arg.Name s = calls.bare_arg (atoms.name_expr s)
+reduced_arg arg.Braced s = calls.braced_arg s

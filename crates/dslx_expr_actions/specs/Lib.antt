@@ -1,0 +1,6 @@
+-- atoms
+pub mod Atoms
+-- expressions in braces
+pub mod Braces
+-- operators
+pub mod Operators

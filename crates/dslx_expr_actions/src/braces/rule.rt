@@ -1,0 +1,42 @@
+ghost use Rattle.std.specs.Prelude.{◌≡◌, OnOk};
+ghost use Rattle.dslx_expr_actions.specs.Braces.Rules.{reduced_brace};
+
+use crate::braces::braces::{arm, block_expr, for_expr, if_expr, match_expr};
+use crate::braces::fields::{field_name, field_value, struct_expr};
+use dslx_actions::Parts;
+use std::alloc::{AllocError, Global};
+
+/// What rules of expressions with braces do where their symbols are complete.
+#[derive(Clone, Copy)]
+pub enum BraceRule {
+    Block,
+    FieldValue,
+    FieldName,
+    /// What gives the other fields of a struct value.
+    Others,
+    Struct,
+    If,
+    Arm,
+    Match,
+    For,
+}
+
+/// Does what is done where a tree of such a rule is complete.
+pub fn reduce_brace(parts: &mut Parts, alloc: Global, rule: BraceRule) -> Result<(), AllocError>
+    ensures { OnOk result (parts.new ≡ reduced_brace rule parts.old) }
+{
+    match rule {
+        BraceRule::Block => block_expr(parts, alloc),
+        BraceRule::FieldValue => field_value(parts, alloc),
+        BraceRule::FieldName => field_name(parts, alloc),
+        BraceRule::Others => {
+            parts.given(1)?;
+            parts.start()
+        }
+        BraceRule::Struct => struct_expr(parts, alloc),
+        BraceRule::If => if_expr(parts, alloc),
+        BraceRule::Arm => arm(parts),
+        BraceRule::Match => match_expr(parts, alloc),
+        BraceRule::For => for_expr(parts, alloc),
+    }
+}

@@ -1,7 +1,0 @@
-use Rattle.std.proofs.Common.{◌≡◌, ℕ, List, subst}
-use Rattle.grammar.specs.Derivation.{IsBeginning}
-use Rattle.dslx_grammar.proofs.laws.one_beginning.Goals as goal
-
-pub returns : goal.returns
-returns c =
-    subst (λ y. (ps qs ts : List ℕ) → IsBeginning y ps ts → IsBeginning y qs ts → ps ≡ qs) c.grammar.ensures.syntax c.one_beginning.ensures

@@ -1,8 +1,0 @@
--- The grammar of DSLX: the rules of docs/dslx.grammar, and the end mark.
-use Rattle.std.specs.Prelude.{map}
-use Rattle.grammar.specs.Syntax.{Syntax}
-use Rattle.dslx_grammar.specs.declared.generated.kind.TheConstants.{END}
-use Rattle.dslx_grammar.specs.Rules.{named_rules}
-
-unfoldable pub dslx : Syntax
-dslx = record { rules = map (λ r. r.rule) named_rules; end = END }

@@ -1,6 +1,0 @@
--- What is inferred, without references.
-use Rattle.dslx_meaning.specs.Inference.{Inferred}
-use Rattle.dslx_inference.specs.declared.inference.Inference.{Inference}
-
-abbrev pub inferred : Inference → Inferred
-inferred x = record { name = x.name.now; number = x.number }

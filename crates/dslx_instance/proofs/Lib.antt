@@ -1,0 +1,2 @@
+-- the table
+pub mod OnTable

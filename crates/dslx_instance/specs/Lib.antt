@@ -1,0 +1,4 @@
+-- the table
+pub mod Table
+-- tasks
+pub mod Tasks

@@ -1,0 +1,13 @@
+use crate::table::InstanceTable;
+use dslx_names::Binding;
+use dslx_scope::locals::Locals;
+
+/// Expressions of one body that are lowered one after another: the instances that are made, and what is bound.
+#[derive(Drop)]
+pub struct BodyWork<'a> {
+    pub table: InstanceTable,
+    /// The number parameters, in order.
+    pub given: Vec<Binding<'a>>,
+    pub locals: Locals,
+    pub count: u64,
+}

@@ -1,7 +1,0 @@
-use Rattle.dslx_instance_tasks.specs.Shown.{machine_shown}
-use Rattle.dslx_instance_run.proofs.Further.{Reaches}
-use Rattle.dslx_instance_run.proofs.whole.run.Given as goal
-
--- it stands where some steps lead
-abbrev pub invariant-steps : goal.invariant-steps
-invariant-steps l = Reaches (machine_shown l.fn.machine) (machine_shown l.machine)

@@ -1,0 +1,2 @@
+-- what is looked up in a body
+pub mod OnPlaces

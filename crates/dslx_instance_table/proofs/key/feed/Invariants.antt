@@ -1,8 +1,0 @@
-use Rattle.std.proofs.Common.{◌≡◌, drop}
-use Rattle.std.specs.List.{fold, flat_map}
-use Rattle.std.specs.Hash.{u128}
-use Rattle.dslx_instance_table.specs.Keys.{word_in}
-use Rattle.dslx_instance_table.proofs.key.feed.Given as goal
-
-abbrev pub invariant-numbers : goal.invariant-numbers
-invariant-numbers g l = fold g.H.Hasher.write l.state (flat_map (λ v. u128 (word_in v)) (drop l.number-index l.numbers)) ≡ fold g.H.Hasher.write l.initial.state (flat_map (λ v. u128 (word_in v)) l.numbers)

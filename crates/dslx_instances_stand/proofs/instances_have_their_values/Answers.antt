@@ -1,7 +1,0 @@
-use Rattle.dslx_meaning.specs.Items.{meanings_of}
-use Rattle.dslx_instances_stand.proofs.instances_have_their_values.Goals as goal
-
-pub returns : goal.returns
-returns c m top free plain accepted table is =
-    let own = c.items_are_own.ensures m free plain (c.items_of_accepted_texts_are_fine.ensures.fine m top free plain accepted) in
-    c.lowered_instances_mean_the_same.ensures m (meanings_of m) (c.recursion_ends.ensures.settled m free) own is.0 table is.1

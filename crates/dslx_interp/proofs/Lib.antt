@@ -1,0 +1,4 @@
+-- the machine that evaluates
+pub mod OnEval
+-- operations on words and values
+pub mod OnOperate

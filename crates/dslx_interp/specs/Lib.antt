@@ -1,0 +1,2 @@
+-- the machine that evaluates
+pub mod Eval

@@ -1,0 +1,11 @@
+//! What the operations of a checked text give for words and values, computed, and its values compared and taken apart.
+mod shapes;
+mod values;
+mod words;
+
+pub use shapes::{alike, take_apart, take_first};
+pub use values::{
+    binary_value, cast_value, condition, element, indexed, part_value, slice_value, unary_value,
+    updated, value_at, word_of,
+};
+pub use words::{binary, cast, unary};

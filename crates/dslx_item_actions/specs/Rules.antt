@@ -1,0 +1,36 @@
+-- What the rules of statements, blocks, items and procs do where their symbols are complete.
+use Rattle.dslx_actions.specs.declared.parts.Parts.{Parts}
+use Rattle.dslx_item_actions.specs.declared.rule.ItemRule.{ItemRule}
+use Rattle.dslx_item_actions.specs.declared.rule.ItemRule.TheVariants as item
+use Rattle.dslx_item_actions.specs.declared.rule.ProcRule.{ProcRule}
+use Rattle.dslx_item_actions.specs.declared.rule.ProcRule.TheVariants as part
+use Rattle.dslx_item_actions.specs.Blocks as blocks
+use Rattle.dslx_item_actions.specs.Items as items
+use Rattle.dslx_item_actions.specs.Procs as procs
+
+abbrev pub reduced_item : ItemRule → Parts → Parts
+reduced_item item.Let s = blocks.let_stmt s
+reduced_item item.Bare s = blocks.bare_stmt s
+reduced_item item.LastValue s = blocks.last_value s
+reduced_item item.Block s = blocks.block s
+reduced_item item.Parameter s = items.parameter s
+reduced_item item.Field s = items.field s
+reduced_item item.Member s = items.member s
+reduced_item item.Function s = items.function s
+reduced_item item.Constant s = items.constant s
+reduced_item item.Alias s = items.alias s
+reduced_item item.Struct s = items.structure s
+reduced_item item.Enum s = items.enumeration s
+reduced_item item.Private s = items.private_item s
+reduced_item item.Public s = items.public_item s
+
+abbrev pub reduced_proc : ProcRule → Parts → Parts
+reduced_proc (part.Direction way) s = procs.direction way s
+reduced_proc (part.End count) s = procs.end_named count s
+reduced_proc part.Depth s = procs.depth s
+reduced_proc part.NoDepth s = procs.no_depth s
+reduced_proc part.Channel s = procs.channel s
+reduced_proc part.Spawn s = procs.spawn s
+reduced_proc part.Config s = procs.config s
+reduced_proc part.Next s = procs.next s
+reduced_proc part.Proc s = procs.proc s

@@ -1,0 +1,136 @@
+//! What the rules of procs make.
+
+ghost use Rattle.std.specs.Prelude.{◌≡◌, OnOk};
+ghost use Rattle.dslx_item_actions.specs.Procs.{channel, config, depth, direction, end_named, next, no_depth, proc, spawn};
+
+use dslx_actions::{Parts, join, no_arg, no_block, no_config, no_ident, no_next, no_type};
+use dslx_tree::{Channel, Config, Definition, Direction, End, Making, Next, Proc, Spawn};
+use std::alloc::{AllocError, Global};
+
+/// `in` or `out`
+pub fn direction(parts: &mut Parts, way: Direction) -> Result<(), AllocError>
+    ensures { OnOk result (parts.new ≡ direction way parts.old) }
+{
+    parts.skip(1);
+    parts.directions.push(way)
+}
+
+/// `name : end`, with so many tokens of its own
+pub fn end_named(parts: &mut Parts, alloc: Global, count: usize) -> Result<(), AllocError>
+    ensures { OnOk result (parts.new ≡ end_named count parts.old) }
+{
+    parts.skip(count);
+    let end = End {
+        name: parts.idents.pop_or(no_ident(alloc)),
+        word: parts.types.pop_or(no_type()),
+        direction: parts.directions.pop_or(Direction::In),
+    };
+    parts.ends.push(end)
+}
+
+/// `, arg` behind a type
+pub fn depth(parts: &mut Parts) -> Result<(), AllocError>
+    ensures { OnOk result (parts.new ≡ depth parts.old) }
+{
+    parts.skip(1);
+    let arg = parts.args.pop_or(no_arg());
+    parts.depths.push(Some(arg))
+}
+
+/// A depth is left out.
+pub fn no_depth(parts: &mut Parts) -> Result<(), AllocError>
+    ensures { OnOk result (parts.new ≡ no_depth parts.old) }
+{
+    parts.depths.push(None)
+}
+
+/// `let ( name , name ) = channel ;`
+pub fn channel(parts: &mut Parts, alloc: Global) -> Result<(), AllocError>
+    ensures { OnOk result (parts.new ≡ channel parts.old) }
+{
+    let span = parts.take_marks(6);
+    let name = parts.idents.pop_or(no_ident(alloc));
+    let receiver = parts.idents.pop_or(no_ident(alloc));
+    let channel = Channel {
+        span,
+        sender: parts.idents.pop_or(no_ident(alloc)),
+        receiver,
+        word: parts.types.pop_or(no_type()),
+        depth: parts.depths.pop_or(None),
+        name,
+    };
+    parts.makings.push(Making::Channel(channel))
+}
+
+/// `spawn name args ( names ) ;`
+pub fn spawn(parts: &mut Parts, alloc: Global) -> Result<(), AllocError>
+    ensures { OnOk result (parts.new ≡ spawn parts.old) }
+{
+    let span = parts.take_marks(4);
+    let names = parts.counts.pop_or(0);
+    let args = parts.counts.pop_or(0);
+    let ends = parts.idents.take_top(names)?;
+    let arguments = parts.args.take_top(args)?;
+    let spawn = Spawn {
+        span,
+        target: parts.idents.pop_or(no_ident(alloc)),
+        arguments,
+        ends,
+    };
+    parts.makings.push(Making::Spawn(spawn))
+}
+
+/// `config ( ends ) { makings ( names ) }`
+pub fn config(parts: &mut Parts) -> Result<(), AllocError>
+    ensures { OnOk result (parts.new ≡ config parts.old) }
+{
+    let span = parts.take_marks(5);
+    let names = parts.counts.pop_or(0);
+    let makings = parts.counts.pop_or(0);
+    let ends = parts.counts.pop_or(0);
+    let result = parts.idents.take_top(names)?;
+    let ends = parts.ends.take_top(ends)?;
+    let makings = parts.makings.take_top(makings)?;
+    parts.configs.push(Config {
+        span,
+        ends,
+        makings,
+        result,
+    })
+}
+
+/// `next ( name : type ) block`
+pub fn next(parts: &mut Parts, alloc: Global) -> Result<(), AllocError>
+    ensures { OnOk result (parts.new ≡ next parts.old) }
+{
+    let marks = parts.take_marks(4);
+    let body = parts.blocks.pop_or(no_block(alloc));
+    let next = Next {
+        span: join(marks, body.span),
+        state: parts.idents.pop_or(no_ident(alloc)),
+        ty: parts.types.pop_or(no_type()),
+        body,
+    };
+    parts.nexts.push(next)
+}
+
+/// `proc name parameters { members config init next }`, the last three in any order
+pub fn proc(parts: &mut Parts, alloc: Global) -> Result<(), AllocError>
+    ensures { OnOk result (parts.new ≡ proc parts.old) }
+{
+    let span = parts.take_marks(3);
+    let members = parts.counts.pop_or(0);
+    let parameters = parts.counts.pop_or(0);
+    let members = parts.ends.take_top(members)?;
+    let parameters = parts.parameters.take_top(parameters)?;
+    let proc = Proc {
+        span,
+        name: parts.idents.pop_or(no_ident(alloc)),
+        parameters,
+        members,
+        config: parts.configs.pop_or(no_config(alloc)),
+        init: parts.blocks.pop_or(no_block(alloc)),
+        next: parts.nexts.pop_or(no_next(alloc)),
+    };
+    parts.definitions.push(Definition::Proc(proc))
+}

@@ -1,7 +1,0 @@
--- What is true of all values, types and tests, as lemmas, and that values depend on what is mentioned. This module is for other
--- crates' proofs; nothing else of this folder is.
-pub use Rattle.dslx_laws.proofs.Typed.{and_true, unbroken, both_unbroken, AreBits, is_bits_value, is_unsigned_value, is_bits_type, some_typed, binary_typed, prefix_typed, cast_typed}
-pub use Rattle.dslx_laws.proofs.Free.{value_depends, written_type_depends, pattern_depends, bound_alike}
-pub use Rattle.dslx_laws.proofs.Agreeing.{NamesAgree, Extend, FitAlike, unchanged}
-pub use Rattle.dslx_laws.proofs.Endings.{Agreeing, AllGiven, call_one, given_agree, given_here, given_more, numbers_one}
-pub use Rattle.dslx_laws.proofs.OneValue.{one_value_by_test, value_equals_itself}

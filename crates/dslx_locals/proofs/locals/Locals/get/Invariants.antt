@@ -1,6 +1,0 @@
-use Rattle.std.proofs.Common.{◌≡◌, drop}
-use Rattle.dslx_lowering.specs.CorePlaces.{local_in}
-use Rattle.dslx_locals.proofs.locals.Locals.get.Given as goal
-
-abbrev pub invariant-names : goal.invariant-names
-invariant-names l = local_in l.name (drop l.i l.self) ≡ local_in l.name l.self

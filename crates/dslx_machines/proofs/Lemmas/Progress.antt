@@ -1,0 +1,2 @@
+-- a machine that lacks a step
+pub mod Stops

@@ -1,0 +1,18 @@
+-- Places that differ in what calls come to.
+use Rattle.std.specs.Prelude.{ℕ, List, Option, Some}
+use Rattle.dslx_meaning.specs.Lists.{and_then}
+use Rattle.dslx_meaning.specs.declared.ty.DslxType.{DslxType}
+use Rattle.dslx_meaning.specs.declared.value.DslxValue.{DslxValue}
+use Rattle.dslx_core.specs.Lowering.CorePlaces.{CoreCallee, CorePlace}
+use Rattle.dslx_core.specs.Lowering.Patterns.{LoweredShape}
+
+-- what calls come to
+abbrev pub CalleesByName : Type 0
+CalleesByName = List ℕ → List DslxValue → List DslxType → Option CoreCallee
+
+abbrev pub with_callee : CalleesByName → CorePlace → CorePlace
+with_callee c place = record { known = record { items = place.known.items; numbers = place.known.numbers; callee = c }; locals = place.locals; count = place.count }
+
+-- the same shape, behind which calls come to this
+abbrev pub moved : CalleesByName → Option LoweredShape → Option LoweredShape
+moved c o = and_then o (λ s. Some (record { shape = s.shape; place = with_callee c s.place }))

@@ -1,0 +1,223 @@
+-- The rules of numbers, arrays, tuples and structs, and of what takes them apart.
+use Rattle.std.specs.Prelude.{ℕ, zero, suc, List, [], ◌∷◌, ◌++◌, ◌==◌, ◌||◌, nat_lt, map, Bool, true, false, not, Option, Some, None, length, slice_get, if◌then◌else◌}
+use Rattle.std.specs.List.{list_any}
+use Rattle.xb_span.specs.declared.span.Span.{Span}
+use Rattle.xb_span.specs.declared.fault.Fault.{Fault}
+use Rattle.dslx_tree.specs.declared.ident.Ident.{Ident}
+use Rattle.dslx_tree.specs.declared.item.Struct.{Struct}
+use Rattle.dslx_meaning.specs.Lists.{all_some, and_then, beside, is_in}
+use Rattle.dslx_meaning.specs.Types.{same_type}
+use Rattle.dslx_meaning.specs.Operators.{number_value}
+use Rattle.dslx_meaning.specs.Items.{item_named, name_of_field, as_struct}
+use Rattle.dslx_meaning.specs.declared.ty.DslxType.{DslxType, out-DslxType}
+use Rattle.dslx_meaning.specs.declared.ty.DslxType as ty
+use Rattle.dslx_meaning.specs.declared.ty.DslxType.TheOpen.{DslxType-F}
+use Rattle.dslx_meaning.specs.Rules.Mentions.{is_cyclic}
+use Rattle.dslx_meaning.specs.Rules.Judging.{Sight, Judgement, ExprPair, breaks, breaks_if, settled, span_of, bare_of, alone, within, no_token, faults_of_all, reached_of_all, size_of_all, types_of, plus_size, one_and}
+use Rattle.dslx_meaning.specs.Rules.Judgings.{FieldSeen}
+use Rattle.dslx_meaning.specs.Rules.ConstantRules.{bare_judged, is_empty, is_unsigned}
+use Rattle.dslx_meaning.specs.Rules.NameRules.{name_judged}
+use Rattle.dslx_meaning.specs.Rules.PatternRules.{is_there}
+use Rattle.dslx_meaning.specs.Rules.OperatorRules.{unless_type}
+use Rattle.dslx_meaning.specs.Rules.TypeRules.{unit_faults}
+use Rattle.dslx_meaning.specs.declared.value.Bare.{Bare}
+
+-- ---- numbers
+
+-- rule 6: the number doesn't lie in the range of the type, or the type isn't bits
+abbrev pub range_faults : Span → Option DslxType → Bare → List Fault
+range_faults span None number = []
+range_faults span (Some t) number = breaks_if (not (is_there (number_value t number))) 6 span
+
+-- rule 7: without a type a number stands in few places, which judge it themselves
+abbrev pub number_judged : Span → Option Judgement → Bare → Judgement
+number_judged span None number = settled span None (breaks 7 span ∷ []) [] (Some 1)
+number_judged span (Some t) number = settled span t.ty (t.faults ++ range_faults span t.ty number) t.reached (Some 1)
+
+-- ---- arrays
+
+abbrev pub array_parts : DslxType-F DslxType → Option (DslxType × ℕ)
+array_parts (DslxType-F.Array t n) = Some (t, n)
+array_parts _ = None
+
+abbrev pub array_in : DslxType → Option (DslxType × ℕ)
+array_in t = array_parts (out-DslxType t)
+
+-- rule 9: a value that has a type hasn't the one that is wanted, where that is known
+abbrev pub wanted_faults : Span → Option DslxType → Option DslxType → List Fault
+wanted_faults span (Some wanted) (Some t) = breaks_if (not (same_type wanted t)) 9 span
+wanted_faults span _ _ = []
+
+-- an element of an array literal that has a type, which may be a number without one
+abbrev pub element_in : Sight → Option DslxType → ExprPair → Judgement
+element_in sight wanted e = by_bare (bare_of e)
+  where
+    by_bare : Option Bare → Judgement
+    by_bare None = let j = alone sight e in record j { faults = j.faults ++ wanted_faults (span_of e) wanted j.ty }
+    by_bare (Some number) = record bare_judged { ty = wanted; faults = range_faults (span_of e) wanted number }
+
+-- rule 21: more elements than the size, or fewer without three dots, which repeat the last one
+abbrev pub count_wrong : Bool → ℕ → ℕ → Bool
+count_wrong true n zero = true
+count_wrong true n (suc count) = nat_lt n (suc count)
+count_wrong false n count = not (n == count)
+
+abbrev pub array_faults : Span → Option DslxType → Option (DslxType × ℕ) → ℕ → Bool → List Fault
+array_faults span None parts count dots = []
+array_faults span (Some t) None count dots = breaks 9 span ∷ []
+array_faults span (Some t) (Some parts) count dots = breaks_if (count_wrong dots parts.1 count) 21 span
+
+abbrev pub element_type : Option (DslxType × ℕ) → Option DslxType
+element_type None = None
+element_type (Some parts) = Some parts.0
+
+-- the type, where each element has one
+abbrev pub when_all : List (Option DslxType) → Option DslxType → Option DslxType
+when_all types t = and_then (all_some types) (λ ts. t)
+
+abbrev pub typed_array : Span → Sight → Judgement → List ExprPair → Bool → Judgement
+typed_array span sight t es dots =
+    let parts = and_then t.ty array_in in
+    let js = map (element_in sight (element_type parts)) es in
+    settled span (when_all (types_of js) t.ty) (t.faults ++ faults_of_all js ++ array_faults span t.ty parts (length es) dots)
+    (t.reached ++ reached_of_all js) (one_and (size_of_all js))
+
+-- rule 31: an element is ()
+abbrev pub element_alone : Sight → ExprPair → Judgement
+element_alone sight e = let j = alone sight e in record j { faults = j.faults ++ unit_faults (span_of e) j.ty }
+
+-- without a type the first element decides
+abbrev pub like_first : Option DslxType → List ExprPair → List (Option DslxType) → List Fault
+like_first first [] types = []
+like_first first (e ∷ es) [] = []
+like_first first (e ∷ es) (t ∷ ts) = wanted_faults (span_of e) first t ++ like_first first es ts
+
+abbrev pub first_type_of : List (Option DslxType) → Option DslxType
+first_type_of [] = None
+first_type_of (t ∷ ts) = t
+
+abbrev pub untyped_array : Span → Sight → List ExprPair → Bool → Judgement
+untyped_array span sight es dots =
+    let js = map (element_alone sight) es in
+    let first = first_type_of (types_of js) in
+    settled span (when_all (types_of js) (and_then first (λ t. Some (ty.Array t (length es)))))
+    (faults_of_all js ++ like_first first es (types_of js) ++ breaks_if (dots || is_empty es) 21 span) (reached_of_all js) (one_and (size_of_all js))
+
+abbrev pub array_judged : Span → Sight → Option Judgement → List ExprPair → Bool → Judgement
+array_judged span sight None es dots = untyped_array span sight es dots
+array_judged span sight (Some t) es dots = typed_array span sight t es dots
+
+-- rule 19: not an array, or not an unsigned index
+abbrev pub is_array : DslxType → Bool
+is_array t = is_there (array_in t)
+
+abbrev pub index_judged : Span → Sight → ExprPair → ExprPair → Judgement
+index_judged span sight e i =
+    let whole = alone sight e in
+    let place = alone sight i in
+    settled span (and_then place.ty (λ k. element_type (and_then whole.ty array_in)))
+    (whole.faults ++ place.faults ++ unless_type is_array 19 span whole.ty ++ unless_type is_unsigned 19 span place.ty)
+    (whole.reached ++ place.reached) (one_and (plus_size whole.size place.size))
+
+-- ---- tuples
+
+abbrev pub tuple_judged : Span → Sight → List ExprPair → Judgement
+tuple_judged span sight es =
+    let js = map (element_alone sight) es in
+    settled span (and_then (all_some (types_of js)) (λ ts. Some (ty.Tuple ts))) (faults_of_all js) (reached_of_all js) (one_and (size_of_all js))
+
+abbrev pub tuple_parts : DslxType-F DslxType → List DslxType
+tuple_parts (DslxType-F.Tuple ts) = ts
+tuple_parts _ = []
+
+abbrev pub part_type : DslxType → ℕ → Option DslxType
+part_type t k = slice_get (tuple_parts (out-DslxType t)) k
+
+abbrev pub is_some_tuple : DslxType-F DslxType → Bool
+is_some_tuple (DslxType-F.Tuple ts) = true
+is_some_tuple _ = false
+
+-- a receive's pair may stand here, but no token
+abbrev pub pair_alone : Sight → ExprPair → Judgement
+pair_alone sight e = let j = within sight e in if_pair j j.ty
+  where
+    if_pair : Judgement → Option DslxType → Judgement
+    if_pair j None = j
+    if_pair j (Some t) = if is_some_tuple (out-DslxType t) then j else no_token (span_of e) j
+
+-- rule 19: no such part
+abbrev pub tuple_element_judged : Span → Sight → ExprPair → ℕ → Judgement
+tuple_element_judged span sight e k =
+    let whole = pair_alone sight e in
+    settled span (and_then whole.ty (λ t. part_type t k)) (whole.faults ++ unless_type (λ t. is_there (part_type t k)) 19 span whole.ty)
+    whole.reached (one_and whole.size)
+
+-- ---- structs
+
+abbrev pub struct_field_type : DslxType-F DslxType → List ℕ → Option DslxType
+struct_field_type (DslxType-F.Struct name fields ts) field = beside field fields ts
+struct_field_type _ field = None
+
+abbrev pub field_type : Option DslxType → List ℕ → Option DslxType
+field_type None field = None
+field_type (Some t) field = struct_field_type (out-DslxType t) field
+
+-- a field of a struct value: given by its name alone it has the value of that name
+abbrev pub field_judged : Sight → Option DslxType → FieldSeen → Judgement
+field_judged sight struct f = by_value f.value
+  where
+    wanted : Option DslxType
+    wanted = field_type struct f.name.name
+
+    by_value : Option ExprPair → Judgement
+    by_value None = let j = no_token f.name.span (name_judged f.name.span sight f.name.name) in record j { faults = j.faults ++ wanted_faults f.name.span wanted j.ty }
+    by_value (Some e) = let j = alone sight e in record j { faults = j.faults ++ wanted_faults (span_of e) wanted j.ty }
+
+-- rule 1: a field that the struct hasn't
+abbrev pub unknown_fields : List (List ℕ) → List FieldSeen → List Fault
+unknown_fields declared [] = []
+unknown_fields declared (f ∷ fs) = breaks_if (not (is_in f.name.name declared)) 1 f.name.span ++ unknown_fields declared fs
+
+abbrev pub written_fields : List FieldSeen → List (List ℕ)
+written_fields fs = map (λ (f : FieldSeen). f.name.name) fs
+
+-- rule 22: a field twice, or one that lacks where nothing gives the others
+abbrev pub has_twice : List (List ℕ) → Bool
+has_twice [] = false
+has_twice (n ∷ ns) = is_in n ns || has_twice ns
+
+abbrev pub lacks_one : List (List ℕ) → List (List ℕ) → Bool → Bool
+lacks_one declared written true = false
+lacks_one declared written false = list_any (λ name. not (is_in name written)) declared
+
+-- what gives the other fields is of the struct
+abbrev pub others_judged : Sight → Option DslxType → Option ExprPair → Judgement
+others_judged sight struct None = record { ty = struct; faults = []; reached = []; size = Some 0 }
+others_judged sight struct (Some e) = let j = alone sight e in record j { faults = j.faults ++ wanted_faults (span_of e) struct j.ty }
+
+abbrev pub struct_with : Span → Sight → Ident → List FieldSeen → Option ExprPair → Option DslxType → Struct → Judgement
+struct_with span sight name fields others struct declared =
+    let js = map (field_judged sight struct) fields in
+    let rest = others_judged sight struct others in
+    let names = map name_of_field declared.fields in
+    settled span (when_all (rest.ty ∷ types_of js) struct)
+    (breaks_if (is_cyclic sight.known.whole sight.home name.name) 3 name.span ++ faults_of_all js ++ rest.faults ++ unknown_fields names fields
+    ++ breaks_if (has_twice (written_fields fields) || lacks_one names (written_fields fields) (is_there others)) 22 span)
+    (reached_of_all js ++ rest.reached) (one_and (plus_size (size_of_all js) rest.size))
+
+abbrev pub struct_if : Span → Sight → Ident → List FieldSeen → Option ExprPair → Option Struct → Judgement
+struct_if span sight name fields others None =
+    let js = map (field_judged sight None) fields in
+    let rest = others_judged sight None others in
+    settled span None (breaks 1 name.span ∷ faults_of_all js ++ rest.faults) (reached_of_all js ++ rest.reached) (one_and (plus_size (size_of_all js) rest.size))
+struct_if span sight name fields others (Some declared) = struct_with span sight name fields others (sight.known.items.struct_named name.name) declared
+
+abbrev pub struct_judged : Span → Sight → Ident → List FieldSeen → Option ExprPair → Judgement
+struct_judged span sight name fields others = struct_if span sight name fields others (as_struct (item_named name.name sight.known.whole.items))
+
+-- rule 19: no such field
+abbrev pub field_part_judged : Span → Sight → ExprPair → Ident → Judgement
+field_part_judged span sight e name =
+    let whole = alone sight e in
+    settled span (field_type whole.ty name.name) (whole.faults ++ unless_type (λ t. is_there (field_type (Some t) name.name)) 19 span whole.ty)
+    whole.reached (one_and whole.size)

@@ -1,0 +1,429 @@
+-- The rules of calls: of functions, builtins and effects.
+use Rattle.std.specs.Prelude.{ℕ, List, [], ◌∷◌, ◌++◌, ◌==◌, ◌&&◌, ◌||◌, nat_lt, map, Bool, true, false, not, Option, Some, None, length, if◌then◌else◌}
+use Rattle.std.specs.Str.{bytes_eq}
+use Rattle.std.specs.List.{list_all}
+use Rattle.xb_span.specs.declared.span.Span.{Span}
+use Rattle.xb_span.specs.declared.fault.Fault.{Fault}
+use Rattle.dslx_tree.specs.declared.ident.Ident.{Ident}
+use Rattle.dslx_tree.specs.declared.block.Stmt.TheOpen.{Node-F, TypeNode-F}
+use Rattle.dslx_tree.specs.declared.expr.Expr.{Expr, out-Expr}
+use Rattle.dslx_tree.specs.declared.type_expr.TypeExpr.{TypeExpr, fold-TypeExpr}
+use Rattle.dslx_tree.specs.declared.item.Function.{Function}
+use Rattle.dslx_tree.specs.declared.item.Parameter.{Parameter}
+use Rattle.dslx_tree.specs.declared.item.Field.{Field}
+use Rattle.dslx_tree.specs.declared.process.Direction.{Direction}
+use Rattle.dslx_tree.specs.declared.process.Direction.TheVariants.{In, Out}
+use Rattle.dslx_meaning.specs.Lists.{and_then, with_both, is_in}
+use Rattle.dslx_meaning.specs.Callees.{CallKind, Joins, Receives, ReceivesIf, Sends, SendsIf, CountsLeading, CountsTrailing, Reverses, Updates, Calls}
+use Rattle.dslx_meaning.specs.Types.{same_type, bool_type, unit_type, is_unit, is_token_type, holds_token, received}
+use Rattle.dslx_meaning.specs.Values.{type_of_value}
+use Rattle.dslx_meaning.specs.Operators.{number_value}
+use Rattle.dslx_meaning.specs.Environment.{Given}
+use Rattle.dslx_meaning.specs.Inference.{Inferred, inferred_in, Naming, Nil}
+use Rattle.dslx_meaning.specs.Items.{item_named, as_function, with_number}
+use Rattle.dslx_meaning.specs.declared.ty.DslxType.{DslxType}
+use Rattle.dslx_meaning.specs.declared.ty.DslxType as ty
+use Rattle.dslx_meaning.specs.declared.value.DslxValue.{DslxValue}
+use Rattle.dslx_meaning.specs.Rules.Mentions.{is_cyclic}
+use Rattle.dslx_meaning.specs.Rules.Judging.{Known, Instance, Outlet, Sight, Judgement, ExprPair, breaks, breaks_if, settled, has_broken, span_of, name_of_expr, within, alone, all_alone, faults_of_all, reached_of_all, size_of_all, types_of, plus_size, one_and, typed_in}
+use Rattle.dslx_meaning.specs.Rules.Judgings.{ArgPair}
+use Rattle.dslx_meaning.specs.Rules.ConstantRules.{ConstantSeen, constant_of, is_unsigned, bare_judged}
+use Rattle.dslx_meaning.specs.Rules.OperatorRules.{unless_type, is_bits, is_bool}
+use Rattle.dslx_meaning.specs.Rules.AggregateRules.{wanted_faults, is_array, array_in, element_type, when_all}
+
+-- ---- number parameters
+
+-- which names a written type may infer
+abbrev pub NameList : Type 0
+NameList = List (List ℕ)
+
+abbrev pub name_listed : Naming → NameList
+name_listed None = []
+name_listed (Some name) = name ∷ []
+
+abbrev pub all_listed : List NameList → NameList
+all_listed [] = []
+all_listed (ns ∷ nss) = ns ++ all_listed nss
+
+abbrev pub inferable_node : TypeNode-F Nil Naming Nil NameList Nil Nil Nil Nil Naming Nil Nil Nil Nil NameList → NameList
+inferable_node (TypeNode-F.Bits s w) = []
+inferable_node (TypeNode-F.Wide s e) = name_listed e
+inferable_node TypeNode-F.TypeNode::Bool = []
+inferable_node (TypeNode-F.TypeNode::Name name) = []
+inferable_node (TypeNode-F.TypeNode::Tuple nss) = all_listed nss
+inferable_node (TypeNode-F.TypeNode::Array ns e) = ns ++ name_listed e
+
+abbrev pub naming_of : Node-F Nil Naming Nil NameList Nil Nil Nil Nil Naming Nil Nil Nil Nil NameList → Naming
+naming_of (Node-F.Node::Name name) = Some name
+naming_of _ = None
+
+abbrev pub inferable_in : TypeExpr → NameList
+inferable_in = fold-TypeExpr Nil Naming Nil NameList Nil Nil Nil Nil Naming Nil Nil Nil Nil NameList
+    (λ s. tt) naming_of (λ p. tt) inferable_node (λ b. tt) (λ l. tt) (λ a. tt) (λ a. tt) (λ e. e.node) (λ f. tt) (λ f. tt) (λ n. tt) (λ p. tt) (λ t. t.node)
+
+-- what operands of these types infer, and what one without a type might have inferred
+abbrev pub inferred_by : List Field → List (Option DslxType) → List Inferred
+inferred_by [] ts = []
+inferred_by (f ∷ fs) [] = []
+inferred_by (f ∷ fs) (None ∷ ts) = inferred_by fs ts
+inferred_by (f ∷ fs) (Some t ∷ ts) = inferred_in f.ty t ++ inferred_by fs ts
+
+abbrev pub maybe_inferred : List Field → List (Option DslxType) → List (List ℕ)
+maybe_inferred [] ts = []
+maybe_inferred (f ∷ fs) [] = []
+maybe_inferred (f ∷ fs) (None ∷ ts) = inferable_in f.ty ++ maybe_inferred fs ts
+maybe_inferred (f ∷ fs) (Some t ∷ ts) = maybe_inferred fs ts
+
+-- all numbers that are inferred for a name
+abbrev pub numbers_for : List ℕ → List Inferred → List ℕ
+numbers_for name [] = []
+numbers_for name (i ∷ is) = if bytes_eq name i.name then i.number ∷ numbers_for name is else numbers_for name is
+
+-- a number argument that is written
+pub record GivenNumber : Type 0 where
+  pub span : Span
+  pub seen : ConstantSeen
+
+-- the value of a parameter: known, unknown, or wrong, which rule 10 refuses
+pub data Resolved : Type 0 where
+  Number : DslxValue → Resolved
+  Unknown : Resolved
+  Wrong : Resolved
+
+abbrev pub resolved_value : Option DslxValue → Resolved
+resolved_value None = Unknown
+resolved_value (Some v) = Number v
+
+-- a number that is inferred lies in the parameter's type
+abbrev pub in_type : Option DslxType → ℕ → Resolved
+in_type None n = Unknown
+in_type (Some t) n = or_wrong (number_value t (record { is_negative = false; value = n }))
+  where
+    or_wrong : Option DslxValue → Resolved
+    or_wrong None = Wrong
+    or_wrong (Some v) = Number v
+
+abbrev pub of_type : Option DslxType → Option DslxValue → Option DslxValue
+of_type t v = with_both t v (λ t v. if same_type t (type_of_value v) then Some v else None)
+
+-- the type that is declared for a parameter, an argument or an end, where () is none
+abbrev pub declared_type : Known → List ℕ → List Given → TypeExpr → Option DslxType
+declared_type known home so_far t = and_then (known.type_in home so_far t) (λ t. if is_unit t then None else Some t)
+
+-- a parameter that isn't given, with what its default breaks and reaches where that is used
+pub record NotGiven : Type 0 where
+  pub value : Resolved
+  pub faults : List Fault
+  pub reached : List Instance
+
+abbrev pub without_default : Resolved → NotGiven
+without_default r = record { value = r; faults = []; reached = [] }
+
+abbrev pub default_value : Known → List ℕ → List Given → List (List ℕ) → Option DslxType → Option Expr → NotGiven
+default_value known home so_far unknown t None = without_default Wrong
+default_value known home so_far unknown t (Some e) =
+    let default = known.default_in home so_far unknown e in
+    record {
+      value = resolved_value (of_type t default.value);
+      faults = default.judgement.faults ++ wanted_faults (out-Expr e).span t default.judgement.ty;
+      reached = default.judgement.reached;
+    }
+
+-- inferred, if that is one number, or else the default
+abbrev pub not_given : Known → List ℕ → List Given → List (List ℕ) → Parameter → Option DslxType → Bool → List ℕ → NotGiven
+not_given known home so_far unknown p t maybe [] = if maybe then without_default Unknown else default_value known home so_far unknown t p.default
+not_given known home so_far unknown p t maybe (n ∷ ns) = without_default (if list_all (λ k. k == n) ns then in_type t n else Wrong)
+
+-- the number parameters of a call or a spawn: the values where all are known, what is bound as far as it is known, whether
+-- rule 10 is broken, and what the parameters break and reach by what is given, by defaults and by types
+pub record NumbersSeen : Type 0 where
+  pub values : Option (List DslxValue)
+  pub bound : List Given
+  pub is_wrong : Bool
+  pub faults : List Fault
+  pub reached : List Instance
+
+abbrev pub bound_by_number : List Given → Parameter → Resolved → List Given
+bound_by_number so_far p (Number v) = with_number so_far p v
+bound_by_number so_far p Unknown = so_far
+bound_by_number so_far p Wrong = so_far
+
+abbrev pub unknown_behind : List (List ℕ) → Parameter → Resolved → List (List ℕ)
+unknown_behind unknown p (Number v) = unknown
+unknown_behind unknown p Unknown = p.name.name ∷ unknown
+unknown_behind unknown p Wrong = p.name.name ∷ unknown
+
+abbrev pub value_before : Resolved → Option (List DslxValue) → Option (List DslxValue)
+value_before (Number v) (Some vs) = Some (v ∷ vs)
+value_before _ _ = None
+
+abbrev pub is_wrong_number : Resolved → Bool
+is_wrong_number Wrong = true
+is_wrong_number _ = false
+
+abbrev pub number_before : Resolved → List Fault → List Instance → NumbersSeen → NumbersSeen
+number_before r faults reached rest = record {
+  values = value_before r rest.values;
+  bound = rest.bound;
+  is_wrong = is_wrong_number r || rest.is_wrong;
+  faults = faults ++ rest.faults;
+  reached = reached ++ rest.reached;
+}
+
+-- what the type of a parameter comes to that has no value: the call reaches no instance then, in which it would be found
+abbrev pub type_without_value : Known → List ℕ → List Given → List (List ℕ) → Parameter → Resolved → Judgement
+type_without_value known home so_far unknown p Unknown = known.type_seen_in home so_far unknown p.ty
+type_without_value known home so_far unknown p (Number v) = bare_judged
+type_without_value known home so_far unknown p Wrong = bare_judged
+
+-- from the parameters before that are bound, and those of which no value is known
+abbrev pub numbers_seen : Known → List ℕ → List Inferred → List (List ℕ) → List Given → List (List ℕ) → List Parameter → List GivenNumber → NumbersSeen
+numbers_seen known home inferred maybe so_far unknown [] [] = record { values = Some []; bound = so_far; is_wrong = false; faults = []; reached = [] }
+numbers_seen known home inferred maybe so_far unknown [] (g ∷ gs) = record { values = None; bound = so_far; is_wrong = true; faults = []; reached = [] }
+numbers_seen known home inferred maybe so_far unknown (p ∷ ps) (g ∷ gs) =
+    let t = declared_type known home so_far p.ty in
+    let r = resolved_value (of_type t g.seen.value) in
+    let written = type_without_value known home so_far unknown p r in
+    number_before r (written.faults ++ wanted_faults g.span t g.seen.judgement.ty) written.reached
+    (numbers_seen known home inferred maybe (bound_by_number so_far p r) (unknown_behind unknown p r) ps gs)
+numbers_seen known home inferred maybe so_far unknown (p ∷ ps) [] =
+    let r = not_given known home so_far unknown p (declared_type known home so_far p.ty) (is_in p.name.name maybe) (numbers_for p.name.name inferred) in
+    let written = type_without_value known home so_far unknown p r.value in
+    number_before r.value (written.faults ++ r.faults) (written.reached ++ r.reached)
+    (numbers_seen known home inferred maybe (bound_by_number so_far p r.value) (unknown_behind unknown p r.value) ps [])
+
+abbrev pub given_numbers : Sight → List ArgPair → List GivenNumber
+given_numbers sight as' = map (λ (a : ArgPair). record { span = span_of a.1; seen = constant_of sight a.1 }) as'
+
+abbrev pub given_judgements : List GivenNumber → List Judgement
+given_judgements gs = map (λ (g : GivenNumber). g.seen.judgement) gs
+
+-- ---- calls of functions
+
+-- rule 9 at the operands
+abbrev pub operand_faults : Known → List ℕ → List Given → List Field → List ExprPair → List Judgement → List Fault
+operand_faults known home bound (f ∷ fs) (e ∷ es) (j ∷ js) =
+    wanted_faults (span_of e) (declared_type known home bound f.ty) j.ty ++ operand_faults known home bound fs es js
+operand_faults known home bound _ _ _ = []
+
+abbrev pub result_type : Known → List ℕ → List Given → Option TypeExpr → Option DslxType
+result_type known home bound None = Some unit_type
+result_type known home bound (Some t) = known.type_in home bound t
+
+-- the type of what a call gives: where all number parameters are known, and each operand has a type
+abbrev pub call_type : Known → Function → NumbersSeen → List Judgement → Option DslxType
+call_type known f numbers js = and_then numbers.values (λ vs. when_all (types_of js) (result_type known f.name.name numbers.bound f.result))
+
+-- a call that breaks rule 3 or 10 reaches no instance
+abbrev pub reached_by : Bool → List ℕ → Option (List DslxValue) → List Instance
+reached_by true name numbers = []
+reached_by false name None = []
+reached_by false name (Some vs) = record { name = name; numbers = vs } ∷ []
+
+abbrev pub callee_size : Known → List ℕ → Option (List DslxValue) → Option ℕ
+callee_size known name None = None
+callee_size known name (Some vs) = known.body_size (record { name = name; numbers = vs })
+
+abbrev pub call_parts_faults : List GivenNumber → List Judgement → List Fault
+call_parts_faults given js = faults_of_all (given_judgements given) ++ faults_of_all js
+
+abbrev pub call_parts_reached : List GivenNumber → List Judgement → List Instance
+call_parts_reached given js = reached_of_all (given_judgements given) ++ reached_of_all js
+
+-- rule 10: another number of arguments
+abbrev pub wrong_call : Span → List GivenNumber → List Judgement → List Fault → Judgement
+wrong_call span given js more =
+    settled span None (call_parts_faults given js ++ breaks 10 span ∷ more) (call_parts_reached given js) None
+
+abbrev pub right_call : Span → Sight → Function → List GivenNumber → List ExprPair → List Judgement → List Fault → NumbersSeen → Judgement
+right_call span sight f given es js cyclic numbers =
+    settled span (call_type sight.known f numbers js)
+    (call_parts_faults given js ++ cyclic ++ numbers.faults ++ breaks_if numbers.is_wrong 10 span
+    ++ (if numbers.is_wrong then [] else operand_faults sight.known f.name.name numbers.bound f.arguments es js))
+    (call_parts_reached given js ++ numbers.reached ++ reached_by (has_broken cyclic || numbers.is_wrong) f.name.name numbers.values)
+    (one_and (plus_size (size_of_all js) (callee_size sight.known f.name.name numbers.values)))
+
+abbrev pub has_right_count : Function → List GivenNumber → List ExprPair → Bool
+has_right_count f given es = length es == length f.arguments && not (nat_lt (length f.parameters) (length given))
+
+abbrev pub function_call : Span → Sight → Ident → List GivenNumber → List ExprPair → List Judgement → Option Function → Judgement
+function_call span sight name given es js None = settled span None (call_parts_faults given js ++ breaks 1 name.span ∷ []) (call_parts_reached given js) None
+function_call span sight name given es js (Some f) =
+    let cyclic = breaks_if (is_cyclic sight.known.whole sight.home name.name) 3 span in
+    if has_right_count f given es then
+    right_call span sight f given es js cyclic
+    (numbers_seen sight.known f.name.name (inferred_by f.arguments (types_of js)) (maybe_inferred f.arguments (types_of js)) [] [] f.parameters given)
+    else wrong_call span given js cyclic
+
+-- ---- builtins
+
+abbrev pub counting : Span → List ExprPair → List Judgement → Option DslxType → Judgement
+counting span (e ∷ []) (j ∷ []) result = settled span (and_then j.ty (λ t. result)) (j.faults ++ unless_type is_bits 27 (span_of e) j.ty) j.reached (one_and j.size)
+counting span es js result = wrong_call span [] js []
+
+abbrev pub first_operand_type : List Judgement → Option DslxType
+first_operand_type [] = None
+first_operand_type (j ∷ js) = j.ty
+
+-- a value of another type than the array's elements
+abbrev pub update_faults : Span → Option DslxType → Option DslxType → List Fault
+update_faults span (Some t) (Some u) = breaks_if (not (same_type t u)) 27 span
+update_faults span _ _ = []
+
+abbrev pub updating : Span → List ExprPair → List Judgement → Judgement
+updating span (e ∷ i ∷ v ∷ []) (a ∷ k ∷ w ∷ []) =
+    settled span (and_then k.ty (λ t. and_then w.ty (λ u. a.ty)))
+    (a.faults ++ k.faults ++ w.faults ++ unless_type is_array 27 (span_of e) a.ty ++ unless_type is_unsigned 27 (span_of i) k.ty
+    ++ update_faults (span_of v) (element_type (and_then a.ty array_in)) w.ty)
+    (a.reached ++ k.reached ++ w.reached) (one_and (plus_size a.size (plus_size k.size w.size)))
+updating span es js = wrong_call span [] js []
+
+-- ---- tokens and effects
+
+-- a receive's pair doesn't stand where a token may
+abbrev pub held_faults : Span → Option DslxType → List Fault
+held_faults span None = []
+held_faults span (Some t) = breaks_if (holds_token t && not (is_token_type t)) 28 span
+
+-- where a token has to stand
+abbrev pub token_faults : Span → Option DslxType → List Fault
+token_faults span None = []
+token_faults span (Some t) = held_faults span (Some t) ++ breaks_if (not (holds_token t)) 9 span
+
+abbrev pub token_judged : Sight → ExprPair → Judgement
+token_judged sight e = let j = within sight e in record j { faults = j.faults ++ token_faults (span_of e) j.ty }
+
+abbrev pub held_judged : Sight → ExprPair → Judgement
+held_judged sight e = let j = within sight e in record j { faults = j.faults ++ held_faults (span_of e) j.ty }
+
+abbrev pub joining : Span → Sight → List ExprPair → Judgement
+joining span sight es =
+    let js = map (token_judged sight) es in
+    settled span (when_all (types_of js) (Some ty.Token)) (faults_of_all js) (reached_of_all js) (one_and (size_of_all js))
+
+abbrev pub outlet_in : List ℕ → List Outlet → Option Outlet
+outlet_in name [] = None
+outlet_in name (o ∷ os) = if bytes_eq name o.name then Some o else outlet_in name os
+
+-- the end that a name stands for: a member's, unless a bound name hides it
+abbrev pub outlet_if : Option (Option DslxType) → Option Outlet → Option Outlet
+outlet_if None outlet = outlet
+outlet_if (Some ty) outlet = None
+
+abbrev pub outlet_at : Sight → List ℕ → Option Outlet
+outlet_at sight name = outlet_if (typed_in name sight.locals) (outlet_in name sight.members)
+
+-- an effect's channel: the end, if it is one, and its name
+pub record ChannelSeen : Type 0 where
+  pub judgement : Judgement
+  pub outlet : Option Outlet
+  pub name : Option (List ℕ)
+
+abbrev pub named_channel : Span → List ℕ → Option Outlet → Judgement
+named_channel span name None = record { ty = None; faults = breaks 1 span ∷ []; reached = []; size = Some 1 }
+named_channel span name (Some outlet) = record { ty = None; faults = []; reached = []; size = Some 1 }
+
+abbrev pub channel_named : Sight → ExprPair → Option (List ℕ) → ChannelSeen
+channel_named sight e None = record { judgement = alone sight e; outlet = None; name = None }
+channel_named sight e (Some name) = record { judgement = named_channel (span_of e) name (outlet_at sight name); outlet = outlet_at sight name; name = Some name }
+
+abbrev pub channel_seen : Sight → ExprPair → ChannelSeen
+channel_seen sight e = channel_named sight e (name_of_expr e)
+
+abbrev pub same_direction : Direction → Direction → Bool
+same_direction In In = true
+same_direction Out Out = true
+same_direction In Out = false
+same_direction Out In = false
+
+abbrev pub goes_there : Direction → Option Outlet → Bool
+goes_there direction None = false
+goes_there direction (Some o) = same_direction direction o.direction
+
+abbrev pub has_site : Sight → Option (List ℕ) → Bool
+has_site sight None = false
+has_site sight (Some name) = is_in name sight.used
+
+-- rule 29: no member, of the other direction, or with a site before
+abbrev pub site_faults : Span → Sight → Direction → ChannelSeen → List Fault
+site_faults span sight direction c = breaks_if (not (goes_there direction c.outlet) || has_site sight c.name) 29 span
+
+abbrev pub word_of : ChannelSeen → Option DslxType
+word_of c = and_then c.outlet (λ (o : Outlet). o.word)
+
+-- an effect of these arguments: a token, a channel, and others, with their faults
+abbrev pub effect_with : Span → Sight → Direction → Judgement → ChannelSeen → List Judgement → List Fault → Option DslxType → Judgement
+effect_with span sight direction t c others more given =
+    settled span (and_then t.ty (λ u. when_all (types_of others) given))
+    (t.faults ++ c.judgement.faults ++ faults_of_all others ++ more ++ site_faults span sight direction c)
+    (t.reached ++ c.judgement.reached ++ reached_of_all others)
+    (one_and (plus_size t.size (plus_size c.judgement.size (size_of_all others))))
+
+-- another number of arguments than the effect's
+abbrev pub wrong_effect : Span → Sight → List ExprPair → Judgement
+wrong_effect span sight [] = wrong_call span [] [] []
+wrong_effect span sight (t ∷ []) = wrong_call span [] (held_judged sight t ∷ []) []
+wrong_effect span sight (t ∷ c ∷ es) = wrong_call span [] (held_judged sight t ∷ (channel_seen sight c).judgement ∷ all_alone sight es) []
+
+abbrev pub receiving : Span → Sight → List ExprPair → Judgement
+receiving span sight (t ∷ c ∷ []) =
+    let channel = channel_seen sight c in
+    effect_with span sight In (token_judged sight t) channel [] [] (and_then (word_of channel) (λ w. Some (received w)))
+receiving span sight es = wrong_effect span sight es
+
+abbrev pub receiving_if : Span → Sight → List ExprPair → Judgement
+receiving_if span sight (t ∷ c ∷ p ∷ e ∷ []) =
+    let channel = channel_seen sight c in
+    let condition = alone sight p in
+    let default = alone sight e in
+    effect_with span sight In (token_judged sight t) channel (condition ∷ default ∷ [])
+    (unless_type is_bool 15 (span_of p) condition.ty ++ wanted_faults (span_of e) (word_of channel) default.ty)
+    (and_then (word_of channel) (λ w. Some (received w)))
+receiving_if span sight es = wrong_effect span sight es
+
+abbrev pub sending : Span → Sight → List ExprPair → Judgement
+sending span sight (t ∷ c ∷ e ∷ []) =
+    let channel = channel_seen sight c in
+    let word = alone sight e in
+    effect_with span sight Out (token_judged sight t) channel (word ∷ []) (wanted_faults (span_of e) (word_of channel) word.ty)
+    (and_then (word_of channel) (λ w. Some ty.Token))
+sending span sight es = wrong_effect span sight es
+
+abbrev pub sending_if : Span → Sight → List ExprPair → Judgement
+sending_if span sight (t ∷ c ∷ p ∷ e ∷ []) =
+    let channel = channel_seen sight c in
+    let condition = alone sight p in
+    let word = alone sight e in
+    effect_with span sight Out (token_judged sight t) channel (condition ∷ word ∷ [])
+    (unless_type is_bool 15 (span_of p) condition.ty ++ wanted_faults (span_of e) (word_of channel) word.ty)
+    (and_then (word_of channel) (λ w. Some ty.Token))
+sending_if span sight es = wrong_effect span sight es
+
+-- rule 28: an effect stands at the top of `next` alone
+abbrev pub only_on_top : Bool → Span → Judgement → Judgement
+only_on_top true span j = j
+only_on_top false span j = record { ty = None; faults = j.faults ++ breaks 28 span ∷ []; reached = j.reached; size = j.size }
+
+-- ---- any call
+
+-- rule 10: a builtin has no number arguments
+abbrev pub without_numbers : Span → Sight → List ArgPair → List ExprPair → Judgement → Judgement
+without_numbers span sight [] es j = j
+without_numbers span sight (n ∷ ns) es j = wrong_call span (given_numbers sight (n ∷ ns)) (all_alone sight es) []
+
+abbrev pub builtin_judged : CallKind → Span → List ExprPair → Sight → Judgement
+builtin_judged Joins span es sight = joining span sight es
+builtin_judged CountsLeading span es sight = let js = all_alone sight es in counting span es js (first_operand_type js)
+builtin_judged CountsTrailing span es sight = let js = all_alone sight es in counting span es js (first_operand_type js)
+builtin_judged Reverses span es sight = let js = all_alone sight es in counting span es js (first_operand_type js)
+builtin_judged Updates span es sight = updating span es (all_alone sight es)
+builtin_judged _ span es sight = counting span es (all_alone sight es) (Some bool_type)
+
+abbrev pub call_judged : CallKind → Span → Ident → List ArgPair → List ExprPair → Bool → Sight → Judgement
+call_judged Receives span name numbers es on_top sight = only_on_top on_top span (receiving span sight es)
+call_judged ReceivesIf span name numbers es on_top sight = only_on_top on_top span (receiving_if span sight es)
+call_judged Sends span name numbers es on_top sight = only_on_top on_top span (sending span sight es)
+call_judged SendsIf span name numbers es on_top sight = only_on_top on_top span (sending_if span sight es)
+call_judged Calls span name numbers es on_top sight =
+    function_call span sight name (given_numbers sight numbers) es (all_alone sight es) (as_function (item_named name.name sight.known.whole.items))
+call_judged kind span name numbers es on_top sight = without_numbers span sight numbers es (builtin_judged kind span es sight)

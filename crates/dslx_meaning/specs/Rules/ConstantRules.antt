@@ -1,0 +1,130 @@
+-- Expressions that must be constant: those of `const`, widths, sizes, depths, bounds, number arguments, defaults and enum
+-- members.
+use Rattle.std.specs.Prelude.{ℕ, zero, suc, List, [], ◌∷◌, ◌++◌, ◌&&◌, map, Bool, true, false, not, Option, Some, None, if◌then◌else◌}
+use Rattle.std.specs.List.{list_any, list_all}
+use Rattle.xb_span.specs.declared.span.Span.{Span}
+use Rattle.xb_span.specs.declared.fault.Fault.{Fault}
+use Rattle.xb_span.specs.declared.limit.What.TheVariants as what
+use Rattle.dslx_meaning.specs.Lists.{is_in, and_then}
+use Rattle.dslx_meaning.specs.Types.{bits_in}
+use Rattle.dslx_meaning.specs.Values.{unsigned_of}
+use Rattle.dslx_meaning.specs.Meaning.{value_of, some_count}
+use Rattle.dslx_meaning.specs.declared.ty.DslxType.{DslxType}
+use Rattle.dslx_meaning.specs.declared.value.DslxValue.{DslxValue}
+use Rattle.dslx_meaning.specs.Rules.Mentions.{free_names}
+use Rattle.dslx_meaning.specs.Rules.Judging.{Known, Typed, Sight, Judgement, ExprPair, breaks_if, has_broken, passes_count, span_of, bare_of, alone, constant_env}
+use Rattle.dslx_meaning.specs.declared.ty.BitKind.{BitKind}
+use Rattle.dslx_meaning.specs.declared.value.Bare.{Bare}
+
+-- the most nodes that a body or a constant has
+abbrev pub most_nodes : ℕ
+most_nodes = 65536
+
+-- it reaches nothing that breaks a rule
+abbrev pub reaches_no_broken : Known → Judgement → Bool
+reaches_no_broken known j = not (has_broken j.faults) && list_all known.is_unbroken j.reached
+
+abbrev pub over_size : ℕ → Option ℕ → List Fault
+over_size end None = []
+over_size end (Some n) = passes_count what.Size most_nodes end n
+
+-- the limit on the size of a body or a constant that ends there: where a broken rule is reached there is no size
+abbrev pub size_faults : Known → ℕ → Judgement → List Fault
+size_faults known end j = if reaches_no_broken known j then over_size end j.size else []
+
+abbrev pub with_size_limit : Known → ℕ → Judgement → Judgement
+with_size_limit known end j = record j { faults = j.faults ++ size_faults known end j }
+
+abbrev pub is_empty : {A : Type 0} → List A → Bool
+is_empty [] = true
+is_empty (a ∷ as') = false
+
+-- nothing that it reaches breaks a rule or passes a limit
+abbrev pub is_sound_here : Known → Judgement → Bool
+is_sound_here known j = is_empty j.faults && list_all known.is_sound j.reached
+
+-- some name that is free in it is bound around it
+abbrev pub names_a_local : Sight → ExprPair → Bool
+names_a_local sight e = list_any (λ name. is_in name (map (λ (l : Typed). l.name) sight.locals)) (free_names e.0)
+
+-- a constant: its judgement, and its value if it has one. A number without a type has a value only by its place
+pub record ConstantSeen : Type 0 where
+  pub judgement : Judgement
+  pub bare : Option Bare
+  pub value : Option DslxValue
+
+abbrev pub constant_judged : Sight → ExprPair → Judgement
+constant_judged sight e =
+    let inner = alone sight e in
+    with_size_limit sight.known (span_of e).to (record inner { faults = inner.faults ++ breaks_if (names_a_local sight e) 5 (span_of e) })
+
+-- what has no type has no value either: it names something that has none
+abbrev pub value_if_typed : Option DslxType → Option DslxValue → Option DslxValue
+value_if_typed None v = None
+value_if_typed (Some t) v = v
+
+abbrev pub constant_of : Sight → ExprPair → ConstantSeen
+constant_of sight e =
+    let j = constant_judged sight e in
+    record { judgement = j; bare = None; value = if is_sound_here sight.known j then value_if_typed j.ty (value_of e.0 (constant_env sight)) else None }
+
+abbrev pub bare_judged : Judgement
+bare_judged = record { ty = None; faults = []; reached = []; size = Some 1 }
+
+-- where a number may stand without a type
+abbrev pub constant_or_bare : Sight → ExprPair → ConstantSeen
+constant_or_bare sight e = by_bare (bare_of e)
+  where
+    by_bare : Option Bare → ConstantSeen
+    by_bare None = constant_of sight e
+    by_bare (Some number) = record { judgement = bare_judged; bare = Some number; value = None }
+
+-- ---- widths, sizes and depths
+
+-- a width, a size or a depth: its judgement, and the number that it is
+pub record CountSeen : Type 0 where
+  pub judgement : Judgement
+  pub count : Option ℕ
+
+abbrev pub is_unsigned_kind : Option BitKind → Bool
+is_unsigned_kind None = false
+is_unsigned_kind (Some kind) = not kind.signed
+
+abbrev pub is_unsigned : DslxType → Bool
+is_unsigned t = is_unsigned_kind (bits_in t)
+
+abbrev pub is_zero : ℕ → Bool
+is_zero zero = true
+is_zero (suc n) = false
+
+-- rule 4: it is not unsigned, or it is 0
+abbrev pub count_type_faults : Span → Option DslxType → List Fault
+count_type_faults span None = []
+count_type_faults span (Some t) = breaks_if (not (is_unsigned t)) 4 span
+
+abbrev pub count_faults : Span → Option ℕ → List Fault
+count_faults span None = []
+count_faults span (Some n) = breaks_if (is_zero n) 4 span
+
+abbrev pub number_of_value : Option DslxValue → Option ℕ
+number_of_value v = and_then (and_then v unsigned_of) (λ w. Some w.value)
+
+abbrev pub count_with : Span → ConstantSeen → Option ℕ → CountSeen
+count_with span c n = record {
+  judgement = record c.judgement { faults = c.judgement.faults ++ count_type_faults span c.judgement.ty ++ count_faults span n };
+  count = and_then n some_count;
+}
+
+-- a negative number is no count, and so it is judged as 0 is
+abbrev pub bare_count : Bare → ℕ
+bare_count number = if number.is_negative then 0 else number.value
+
+abbrev pub count_number : ConstantSeen → Option ℕ
+count_number c = by_bare c.bare
+  where
+    by_bare : Option Bare → Option ℕ
+    by_bare None = number_of_value c.value
+    by_bare (Some number) = Some (bare_count number)
+
+abbrev pub count_of : Sight → ExprPair → CountSeen
+count_of sight e = let c = constant_or_bare sight e in count_with (span_of e) c (count_number c)

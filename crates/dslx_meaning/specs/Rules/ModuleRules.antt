@@ -1,0 +1,219 @@
+-- All rules that the parts of a module break and all limits that they pass, and the one fault that is named.
+use Rattle.std.specs.Prelude.{ℕ, zero, suc, List, [], ◌∷◌, ◌++◌, ◌&&◌, nat_lt, map, flat_map, Bool, false, not, Option, Some, None, length, if◌then◌else◌}
+use Rattle.std.specs.List.{list_any, list_all}
+use Rattle.xb_span.specs.declared.span.Span.{Span}
+use Rattle.xb_span.specs.declared.fault.Fault.{Fault}
+use Rattle.xb_span.specs.declared.fault.Fault.TheVariants.{Whole}
+use Rattle.xb_span.specs.declared.limit.What.TheVariants as what
+use Rattle.xb_span.specs.Fault.{first_of}
+use Rattle.dslx_tree.specs.declared.ident.Ident.{Ident}
+use Rattle.dslx_tree.specs.declared.expr.Expr.{Expr}
+use Rattle.dslx_tree.specs.declared.item.Module.{Module}
+use Rattle.dslx_tree.specs.declared.item.Item.{Item}
+use Rattle.dslx_tree.specs.declared.item.Definition.{Definition}
+use Rattle.dslx_tree.specs.declared.item.Definition.TheVariants as d
+use Rattle.dslx_tree.specs.declared.item.Function.{Function}
+use Rattle.dslx_tree.specs.declared.item.Parameter.{Parameter}
+use Rattle.dslx_tree.specs.declared.process.Proc.{Proc}
+use Rattle.dslx_meaning.specs.Lists.{and_then}
+use Rattle.dslx_meaning.specs.Environment.{Given}
+use Rattle.dslx_meaning.specs.Items.{item_named, as_function, as_constant, as_struct, as_enum, is_constant_item, nothing_known, call_of, member_named}
+use Rattle.dslx_meaning.specs.Network.{top_proc}
+use Rattle.dslx_meaning.specs.declared.ty.DslxType.{DslxType}
+use Rattle.dslx_meaning.specs.declared.value.DslxValue.{DslxValue}
+use Rattle.dslx_meaning.specs.Rules.Judging.{Known, Instance, same_instance, DefaultSeen, breaks, has_broken}
+use Rattle.dslx_meaning.specs.Rules.ConstantRules.{constant_of, is_empty, bare_judged}
+use Rattle.dslx_meaning.specs.Rules.NameRules.{listed_name}
+use Rattle.dslx_meaning.specs.Rules.PatternRules.{is_there}
+use Rattle.dslx_meaning.specs.Rules.CallRules.{NumbersSeen, numbers_seen}
+use Rattle.dslx_meaning.specs.Rules.NodeRules.{expr_pair}
+use Rattle.dslx_meaning.specs.Rules.ItemRules.{Found, nothing_found, and_found, only_faults, all_found, item_sight, judged_type, judged_inner, function_seen, constant_seen, alias_seen, struct_seen, enum_seen, enum_member_value}
+use Rattle.dslx_meaning.specs.Rules.ProcRules.{proc_seen}
+
+-- ---- what is known of items, from what is known of those that they mention
+
+abbrev pub found_of_item : Known → List DslxValue → Option Definition → Found
+found_of_item known numbers (Some (d.Function f)) = (function_seen known f numbers).found
+found_of_item known numbers (Some (d.Proc p)) = proc_seen known p numbers
+found_of_item known numbers _ = nothing_found
+
+-- what an instance's text breaks and reaches
+abbrev pub found_of_instance : Known → Instance → Found
+found_of_instance known i = found_of_item known i.numbers (item_named i.name known.whole.items)
+
+abbrev pub type_known : Known → Option Definition → Option DslxType
+type_known known (Some (d.Alias a)) = (alias_seen known a).ty
+type_known known (Some (d.Struct s)) = (struct_seen known s).ty
+type_known known (Some (d.Enum e)) = (enum_seen known e).ty
+type_known known _ = None
+
+abbrev pub sound_instance : Known → Instance → Bool
+sound_instance known i = let found = found_of_instance known i in is_empty found.faults && list_all known.is_sound found.reached
+
+abbrev pub unbroken_instance : Known → Instance → Bool
+unbroken_instance known i = let found = found_of_instance known i in not (has_broken found.faults) && list_all known.is_unbroken found.reached
+
+abbrev pub size_known : Known → List DslxValue → Option Function → Option ℕ
+size_known known numbers None = None
+size_known known numbers (Some f) = (function_seen known f numbers).body.size
+
+abbrev pub default_known : Known → List ℕ → List Given → List (List ℕ) → Expr → DefaultSeen
+default_known known home numbers unknown e =
+    let c = constant_of (record (item_sight known home numbers) { unknown = unknown }) (expr_pair e) in
+    record { judgement = c.judgement; value = c.value }
+
+-- nothing is known
+abbrev pub known_nothing : Module → Known
+known_nothing m = record {
+  whole = m;
+  items = record nothing_known { is_constant = λ name. is_constant_item (item_named name m.items) };
+  is_sound = λ i. false;
+  is_unbroken = λ i. false;
+  body_size = λ i. None;
+  type_in = λ home numbers t. None;
+  type_seen_in = λ home numbers unknown t. bare_judged;
+  default_in = λ home numbers unknown e. record { judgement = bare_judged; value = None };
+}
+
+abbrev pub known_over : Known → Known
+known_over known = record {
+  whole = known.whole;
+  items = record {
+    type_named = λ name. type_known known (item_named name known.whole.items);
+    struct_named = λ name. and_then (as_struct (item_named name known.whole.items)) (λ s. (struct_seen known s).ty);
+    is_constant = λ name. is_constant_item (item_named name known.whole.items);
+    constant = λ name. and_then (as_constant (item_named name known.whole.items)) (λ c. (constant_seen known c).value);
+    member = λ name a. and_then (as_enum (item_named name known.whole.items)) (λ e. enum_member_value known e a (member_named a e.members));
+    call = λ name numbers operands. and_then (as_function (item_named name known.whole.items)) (λ f. call_of known.items f numbers operands);
+  };
+  is_sound = sound_instance known;
+  is_unbroken = unbroken_instance known;
+  body_size = λ i. size_known known i.numbers (as_function (item_named i.name known.whole.items));
+  type_in = λ home numbers t. (judged_type (item_sight known home numbers) t).ty;
+  type_seen_in = λ home numbers unknown t. judged_inner (record (item_sight known home numbers) { unknown = unknown }) t;
+  default_in = default_known known;
+}
+
+-- what is known to a use that stands at the head of a chain of at most so many items, each of which mentions the next. No
+-- chain without a cycle is longer than the list of items, and rule 3 refuses cycles
+abbrev pub known_within : Module → ℕ → Known
+known_within m zero = known_nothing m
+known_within m (suc n) = known_over (known_within m n)
+
+abbrev pub known_of : Module → Known
+known_of m = known_within m (length m.items)
+
+-- ---- instances
+
+abbrev pub is_reached : Instance → List Instance → Bool
+is_reached i is = list_any (same_instance i) is
+
+-- the list with those that it lacks behind it, in their order
+abbrev pub add_new : List Instance → List Instance → List Instance
+add_new found [] = found
+add_new found (i ∷ is) = add_new (if is_reached i found then found else found ++ i ∷ []) is
+
+abbrev pub reached_next : Known → List Instance → List Instance
+reached_next known found = add_new found (flat_map (λ i. (found_of_instance known i).reached) found)
+
+-- all that these reach by at most so many calls and spawns
+abbrev pub reached_within : Known → ℕ → List Instance → List Instance
+reached_within known zero found = found
+reached_within known (suc n) found = reached_within known n (reached_next known found)
+
+-- ---- the items of a module
+
+-- what is checked of an item whether something reaches it or not. A function or a proc with number parameters is checked
+-- in its instances alone
+abbrev pub item_found : Known → Definition → Found
+item_found known (d.Function f) = nothing_found
+item_found known (d.Proc p) = nothing_found
+item_found known (d.Constant c) = (constant_seen known c).found
+item_found known (d.Alias a) = (alias_seen known a).found
+item_found known (d.Struct s) = (struct_seen known s).found
+item_found known (d.Enum e) = (enum_seen known e).found
+
+abbrev pub own_instance : Definition → List Instance
+own_instance (d.Function f) = if is_empty f.parameters then record { name = f.name.name; numbers = [] } ∷ [] else []
+own_instance (d.Proc p) = if is_empty p.parameters then record { name = p.name.name; numbers = [] } ∷ [] else []
+own_instance _ = []
+
+abbrev pub items_found : Known → List Item → Found
+items_found known is = all_found (map (λ (i : Item). item_found known i.definition) is)
+
+abbrev pub own_instances : List Item → List Instance
+own_instances is = flat_map (λ (i : Item). own_instance i.definition) is
+
+abbrev pub ident_of : Definition → Ident
+ident_of (d.Function f) = f.name
+ident_of (d.Proc p) = p.name
+ident_of (d.Constant c) = c.name
+ident_of (d.Alias a) = a.name
+ident_of (d.Struct s) = s.name
+ident_of (d.Enum e) = e.name
+
+-- rule 2 in the list of items
+abbrev pub item_names : List (List ℕ) → List Item → List Fault
+item_names before [] = []
+item_names before (i ∷ is) = listed_name before (ident_of i.definition) ++ item_names ((ident_of i.definition).name ∷ before) is
+
+-- ---- the top
+
+abbrev pub nowhere : Span
+nowhere = record { from = 0; to = 0 }
+
+abbrev pub not_a_proc : Option Definition → List Fault
+not_a_proc None = breaks 32 nowhere ∷ []
+not_a_proc (Some definition) = breaks 32 (ident_of definition).span ∷ []
+
+abbrev pub lacks_default : Parameter → Bool
+lacks_default p = not (is_there p.default)
+
+-- rule 32: no proc of the text, or one with a parameter that has no default
+abbrev pub top_faults : Module → Option (List ℕ) → Option Proc → List Fault
+top_faults m None None = breaks 32 nowhere ∷ []
+top_faults m (Some name) None = not_a_proc (item_named name m.items)
+top_faults m top (Some p) = if list_any lacks_default p.parameters then breaks 32 p.name.span ∷ [] else []
+
+-- its defaults give its instance
+abbrev pub top_found : Known → Option Proc → Found
+top_found known None = nothing_found
+top_found known (Some p) = with_numbers (numbers_seen known p.name.name [] [] [] [] p.parameters [])
+  where
+    instance_if : Option (List DslxValue) → List Instance
+    instance_if None = []
+    instance_if (Some vs) = record { name = p.name.name; numbers = vs } ∷ []
+
+    with_numbers : NumbersSeen → Found
+    with_numbers n = record { faults = n.faults; reached = n.reached ++ instance_if n.values }
+
+-- ---- all faults
+
+-- what is found outside all instances
+abbrev pub outside_instances : Module → Option (List ℕ) → Found
+outside_instances m top =
+    let known = known_of m in
+    and_found (only_faults (item_names [] m.items ++ top_faults m top (top_proc m top)))
+    (and_found (items_found known m.items) (top_found known (top_proc m top)))
+
+-- the instances that are checked: functions and procs without number parameters, the top's, and all that is reached
+abbrev pub instances_of : Module → Option (List ℕ) → List Instance
+instances_of m top =
+    reached_within (known_of m) (length m.items) (add_new (add_new [] (own_instances m.items)) (outside_instances m top).reached)
+
+-- a module has at most 4,096 instances
+abbrev pub instance_limit : List Instance → List Fault
+instance_limit is = if nat_lt 4096 (length is) then Whole (record { what = what.Instances; found = 4097; most = 4096 }) ∷ [] else []
+
+abbrev pub instances_faults : Known → List Instance → List Fault
+instances_faults known is = flat_map (λ i. (found_of_instance known i).faults) is
+
+-- all rules that the parts of a module break, and all limits that they pass
+abbrev pub faults_of : Module → Option (List ℕ) → List Fault
+faults_of m top =
+    let instances = instances_of m top in
+    instance_limit instances ++ (outside_instances m top).faults ++ instances_faults (known_of m) instances
+
+-- the fault that is named, if there is one
+abbrev pub first_fault : Module → Option (List ℕ) → Option Fault
+first_fault m top = first_of (faults_of m top)

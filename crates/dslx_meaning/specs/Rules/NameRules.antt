@@ -1,0 +1,63 @@
+-- The rules of names: where they are used, and where they are declared.
+use Rattle.std.specs.Prelude.{ℕ, List, [], ◌∷◌, ◌++◌, ◌||◌, map, Bool, true, false, not, Option, Some, None, option_map, if◌then◌else◌}
+use Rattle.xb_span.specs.declared.span.Span.{Span}
+use Rattle.xb_span.specs.declared.fault.Fault.{Fault}
+use Rattle.dslx_tree.specs.declared.ident.Ident.{Ident}
+use Rattle.dslx_tree.specs.declared.item.Enum.{Enum}
+use Rattle.dslx_tree.specs.declared.item.Member.{Member}
+use Rattle.dslx_meaning.specs.Lists.{is_in}
+use Rattle.dslx_meaning.specs.Callees.{is_own_name}
+use Rattle.dslx_meaning.specs.Values.{type_of_value}
+use Rattle.dslx_meaning.specs.Environment.{given_in}
+use Rattle.dslx_meaning.specs.Items.{item_named, as_enum}
+use Rattle.dslx_meaning.specs.declared.ty.DslxType.{DslxType}
+use Rattle.dslx_meaning.specs.declared.value.DslxValue.{DslxValue}
+use Rattle.dslx_meaning.specs.Rules.Mentions.{is_cyclic}
+use Rattle.dslx_meaning.specs.Rules.Judging.{Sight, Judgement, breaks, breaks_if, settled, typed_in, is_item}
+
+-- ---- uses
+
+-- a constant of the text, or nothing that has a value
+abbrev pub item_value : Span → Sight → List ℕ → Bool → Judgement
+item_value span sight name false = settled span None (breaks 1 span ∷ []) [] (Some 1)
+item_value span sight name true =
+    settled span (option_map type_of_value (sight.known.items.constant name)) (breaks_if (is_cyclic sight.known.whole sight.home name) 3 span) [] (Some 1)
+
+-- a number parameter has no type where no value of it is known
+abbrev pub number_or_item : Span → Sight → List ℕ → Option DslxValue → Judgement
+number_or_item span sight name None =
+    if is_in name sight.unknown then settled span None [] [] (Some 1)
+    else item_value span sight name (sight.known.items.is_constant name)
+number_or_item span sight name (Some v) = settled span (Some (type_of_value v)) [] [] (Some 1)
+
+abbrev pub local_or_other : Span → Sight → List ℕ → Option (Option DslxType) → Judgement
+local_or_other span sight name None = number_or_item span sight name (given_in name sight.numbers)
+local_or_other span sight name (Some ty) = settled span ty [] [] (Some 1)
+
+-- a name as a value: a bound name, a number parameter or a constant. Rule 1 refuses all else, rule 3 a constant that reaches
+-- the item in whose text it is named
+abbrev pub name_judged : Span → Sight → List ℕ → Judgement
+name_judged span sight name = local_or_other span sight name (typed_in name sight.locals)
+
+abbrev pub has_member : Enum → List ℕ → Bool
+has_member e name = is_in name (map (λ (m : Member). m.name.name) e.members)
+
+abbrev pub member_of : Span → Sight → Ident → Ident → Option Enum → Judgement
+member_of span sight e a None = settled span None (breaks 1 e.span ∷ []) [] (Some 1)
+member_of span sight e a (Some declared) =
+    settled span (sight.known.items.type_named e.name)
+    (breaks_if (is_cyclic sight.known.whole sight.home e.name) 3 e.span ++ breaks_if (not (has_member declared a.name)) 1 a.span) [] (Some 1)
+
+-- `E::A`
+abbrev pub member_judged : Span → Sight → Ident → Ident → Judgement
+member_judged span sight e a = member_of span sight e a (as_enum (item_named e.name sight.known.whole.items))
+
+-- ---- declarations
+
+-- rule 2: a builtin's or an effect's name, or one that its list has before
+abbrev pub listed_name : List (List ℕ) → Ident → List Fault
+listed_name before ident = breaks_if (is_own_name ident.name || is_in ident.name before) 2 ident.span
+
+-- the same of a local binding, which has no item's name either
+abbrev pub local_name : Sight → List (List ℕ) → Ident → List Fault
+local_name sight before ident = breaks_if (is_own_name ident.name || is_item sight ident.name || is_in ident.name before) 2 ident.span

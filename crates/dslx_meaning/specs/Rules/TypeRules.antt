@@ -1,0 +1,61 @@
+-- The rules of written types.
+use Rattle.std.specs.Prelude.{ℕ, List, [], ◌∷◌, ◌++◌, map, Bool, true, false, Option, Some, None}
+use Rattle.xb_span.specs.declared.span.Span.{Span}
+use Rattle.xb_span.specs.declared.fault.Fault.{Fault}
+use Rattle.dslx_tree.specs.declared.block.Stmt.TheOpen.{TypeNode-F}
+use Rattle.dslx_tree.specs.declared.type_expr.TypeExpr.{out-TypeExpr}
+use Rattle.dslx_meaning.specs.Lists.{all_some, and_then, with_both}
+use Rattle.dslx_meaning.specs.Types.{is_unit}
+use Rattle.dslx_meaning.specs.Items.{item_named}
+use Rattle.dslx_meaning.specs.declared.ty.DslxType.{DslxType}
+use Rattle.dslx_meaning.specs.declared.ty.DslxType as ty
+use Rattle.dslx_meaning.specs.Rules.Mentions.{is_of_use, AsType, is_cyclic}
+use Rattle.dslx_meaning.specs.Rules.Judging.{Sight, Judgement, breaks, breaks_if, settled, faults_of_all, reached_of_all, types_of}
+use Rattle.dslx_meaning.specs.Rules.ConstantRules.{CountSeen, count_of}
+use Rattle.dslx_meaning.specs.Rules.Judgings.{TypePair, TypeNodeLayer}
+
+-- rule 31: () stands inside another type
+abbrev pub unit_faults : Span → Option DslxType → List Fault
+unit_faults span None = []
+unit_faults span (Some t) = breaks_if (is_unit t) 31 span
+
+abbrev pub span_of_type : TypePair → Span
+span_of_type t = (out-TypeExpr t.0).span
+
+-- a type inside another, or where () may not stand
+abbrev pub inner_type : Sight → TypePair → Judgement
+inner_type sight t =
+    let j = t.1 sight in
+    record j { faults = j.faults ++ unit_faults (span_of_type t) j.ty }
+
+abbrev pub inner_types : Sight → List TypePair → List Judgement
+inner_types sight ts = map (inner_type sight) ts
+
+-- a type that has no parts
+abbrev pub whole_type : Span → DslxType → Judgement
+whole_type span t = settled span (Some t) [] [] (Some 0)
+
+abbrev pub counted_type : Span → Option DslxType → List Fault → CountSeen → Judgement
+counted_type span t faults n = settled span t (faults ++ n.judgement.faults) n.judgement.reached (Some 0)
+
+-- rule 1: no item, or none that names a type; rule 3: it reaches the item in whose text it stands
+abbrev pub named_type : Span → Sight → List ℕ → Bool → Judgement
+named_type span sight name false = settled span None (breaks 1 span ∷ []) [] (Some 0)
+named_type span sight name true =
+    settled span (sight.known.items.type_named name) (breaks_if (is_cyclic sight.known.whole sight.home name) 3 span) [] (Some 0)
+
+abbrev pub joined_reached : Judgement → CountSeen → Judgement → Judgement
+joined_reached a n j = record j { reached = a.reached ++ n.judgement.reached }
+
+abbrev pub array_of : Span → Judgement → CountSeen → Judgement
+array_of span t n = joined_reached t n (counted_type span (with_both t.ty n.count (λ t n. Some (ty.Array t n))) t.faults n)
+
+abbrev pub type_judged : TypeNodeLayer → Span → Sight → Judgement
+type_judged (TypeNode-F.Bits s w) span sight = whole_type span (ty.Bits s w)
+type_judged (TypeNode-F.Wide s e) span sight = let n = count_of sight e in counted_type span (and_then n.count (λ w. Some (ty.Bits s w))) [] n
+type_judged TypeNode-F.TypeNode::Bool span sight = whole_type span (ty.Bits false 1)
+type_judged (TypeNode-F.TypeNode::Name name) span sight = named_type span sight name (is_of_use AsType (item_named name sight.known.whole.items))
+type_judged (TypeNode-F.TypeNode::Tuple ts) span sight =
+    let js = inner_types sight ts in
+    settled span (and_then (all_some (types_of js)) (λ ts. Some (ty.Tuple ts))) (faults_of_all js) (reached_of_all js) (Some 0)
+type_judged (TypeNode-F.TypeNode::Array t e) span sight = array_of span (inner_type sight t) (count_of sight e)

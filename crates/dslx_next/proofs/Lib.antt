@@ -1,0 +1,4 @@
+-- how bodies are opened
+pub mod OnOpening
+-- steps
+pub mod OnSteps

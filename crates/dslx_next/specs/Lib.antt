@@ -1,0 +1,4 @@
+-- how bodies are opened
+pub mod Opening
+-- steps
+pub mod Steps

@@ -1,9 +1,0 @@
-//! What the `next` of a proc becomes: a step for each statement, and then the next state, with the instances of functions that they
-//! need.
-#![tactic(auto)]
-
-mod body;
-mod next;
-mod statement;
-
-pub use next::next_there;

@@ -1,5 +1,0 @@
-use Rattle.std.proofs.Common.{length}
-use Rattle.dslx_operators.proofs.chain.+merge.Given as goal
-
-abbrev pub decreases-merge : goal.decreases-merge
-decreases-merge l = length l.links.items

@@ -1,8 +1,0 @@
-use Rattle.std.proofs.Common.{◌≡◌, reverse}
-use Rattle.dslx_operators.specs.Levels.{merged_to}
-use Rattle.dslx_operators.proofs.chain.tree.Given as goal
-
-abbrev pub invariant-loop-level : goal.invariant-loop-level
-invariant-loop-level l =
-    let all = merged_to l.level l.initial.chain.first (reverse l.initial.chain.links.items) in
-    (l.chain.first ≡ all.first) × (reverse l.chain.links.items ≡ all.links)

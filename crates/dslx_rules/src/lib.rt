@@ -1,4 +1,0 @@
-//! Which rules the parts of a DSLX text break, which limits they pass, and which fault is named.
-//!
-//! These are definitions, in `specs/`.
-#![tactic(auto)]

@@ -1,0 +1,4 @@
+-- free names
+pub mod FreeNames
+-- written types
+pub mod WrittenTypes

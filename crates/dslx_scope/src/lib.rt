@@ -1,0 +1,6 @@
+//! What is in scope at a place of a body: its locals, free names, and written types.
+#![tactic(auto)]
+
+pub mod free_names;
+pub mod locals;
+pub mod written_types;

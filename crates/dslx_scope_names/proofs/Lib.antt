@@ -1,0 +1,4 @@
+-- names
+pub mod OnNames
+-- constants
+pub mod OnValues

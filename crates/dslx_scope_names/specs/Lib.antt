@@ -1,0 +1,4 @@
+-- names
+pub mod Names
+-- constants
+pub mod Values

@@ -1,0 +1,5 @@
+//! Names and constants at a place of a body.
+#![tactic(auto)]
+
+pub mod names;
+pub mod values;

@@ -1,0 +1,3 @@
+-- For other crates' proofs; nothing else of this folder is.
+-- parametric values
+pub mod Numbers

@@ -1,0 +1,2 @@
+-- number parameters, one after the other
+pub mod InOrder

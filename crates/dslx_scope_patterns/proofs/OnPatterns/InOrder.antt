@@ -1,0 +1,23 @@
+-- Parts, alternatives and names, one after another.
+use Rattle.std.proofs.Common.{◌≡◌, ℕ, suc, List, [], ◌∷◌, ◌++◌, Option, Some, None, length, refl, ap}
+use Rattle.std.specs.Prelude.{◌≢◌}
+use Rattle.dslx_meaning.specs.Lists.{and_then}
+use Rattle.dslx_meaning.specs.declared.ty.DslxType.{DslxType}
+use Rattle.dslx_core.specs.declared.expr.Shape.{Shape}
+use Rattle.dslx_core.specs.Lowering.CorePlaces.{CorePlace}
+use Rattle.dslx_core.specs.Lowering.Patterns.{LoweredShape, LoweredShapes, LowersPattern, parts_shaped}
+
+-- with these shapes before them
+abbrev pub behind_shapes : List Shape → Option LoweredShapes → Option LoweredShapes
+behind_shapes shapes o = and_then o (λ (r : LoweredShapes). Some (record { shapes = shapes ++ r.shapes; place = r.place }))
+
+pub lengths_differ : (ps : List LowersPattern) (ts : List DslxType) (outer place : CorePlace) → length ps ≢ length ts → parts_shaped ps ts outer place ≡ None
+lengths_differ [] [] outer place other = absurd (other refl)
+lengths_differ [] (t ∷ ts) outer place other = refl
+lengths_differ (p ∷ ps) [] outer place other = refl
+lengths_differ (p ∷ ps) (t ∷ ts) outer place other = by (p.lower outer place t) (λ s. lengths_differ ps ts outer s.place (λ e. other (ap suc e)))
+  where
+    by : (o : Option LoweredShape) → ((s : LoweredShape) → parts_shaped ps ts outer s.place ≡ None)
+        → and_then o (λ s. and_then {B = LoweredShapes} (parts_shaped ps ts outer s.place) (λ r. Some (record { shapes = s.shape ∷ r.shapes; place = r.place }))) ≡ None
+    by None rest = refl
+    by (Some s) rest = ap (λ (q : Option LoweredShapes). and_then {B = LoweredShapes} q (λ r. Some (record { shapes = s.shape ∷ r.shapes; place = r.place }))) (rest s)

@@ -1,0 +1,4 @@
+-- parametric values
+pub mod Numbers
+-- patterns
+pub mod Patterns

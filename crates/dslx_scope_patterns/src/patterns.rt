@@ -1,0 +1,13 @@
+//! What patterns become at a place where something is lowered, and which names they bind.
+mod bind;
+mod fresh;
+mod names;
+mod several;
+mod shape;
+mod there;
+mod value;
+
+pub use bind::{BodyKnown, BoundShape, BoundTurn, bind_there, turn_there};
+pub use names::binds_nothing_new;
+pub use several::alternatives_there;
+pub use there::{Shaped, shape_there};

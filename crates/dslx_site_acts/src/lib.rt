@@ -1,6 +1,0 @@
-//! What expressions do as statements of a `next`: they compute, receive or send.
-#![tactic(auto)]
-
-mod act;
-
-pub use act::{Act, act_of};

@@ -1,2 +1,0 @@
--- Widths in texts, as lemmas. This module is for other crates' proofs; nothing else of this folder is.
-pub use Rattle.dslx_tables.proofs.Widths.{names_have_widths, one_writes_widths}

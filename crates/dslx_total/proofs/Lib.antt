@@ -1,0 +1,18 @@
+-- `config`
+pub mod OnConfigs
+-- designs
+pub mod OnDesigns
+-- expressions
+pub mod OnExpressions
+-- families of procs
+pub mod OnFamilies
+-- instances
+pub mod OnInstances
+-- the same meaning, the same outcomes
+pub mod OnOutcomes
+-- tables of functions
+pub mod OnTables
+-- words of channels
+pub mod OnWords
+-- for other crates' proofs
+pub mod Lemmas

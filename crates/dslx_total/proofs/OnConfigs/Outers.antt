@@ -1,0 +1,79 @@
+-- The ends of the top proc's `config` become outer channels.
+use Rattle.std.proofs.Common.{◌≡◌, ◌++◌, ℕ, Bool, true, List, [], ◌∷◌, map, Option, Some, refl, ap, ◌∙◌}
+use Rattle.std.specs.List.{list_all}
+use Rattle.dslx_tree.specs.declared.item.Module.{Module}
+use Rattle.dslx_tree.specs.declared.process.End.{End}
+use Rattle.dslx_tree.specs.declared.process.Proc.{Proc}
+use Rattle.dslx_meaning.specs.Items.{numbers_bound}
+use Rattle.dslx_meaning.specs.Lists.{all_some, and_then}
+use Rattle.dslx_meaning.specs.Network.{kind_of_end, top_numbers, top_proc}
+use Rattle.dslx_meaning.specs.Types.{plain_type}
+use Rattle.dslx_meaning.specs.declared.value.DslxValue.{DslxValue}
+use Rattle.dslx_meaning.specs.Rules.Judging.{Instance, Known}
+use Rattle.dslx_meaning.specs.Rules.Mentions.{ends_mentions, parameter_names}
+use Rattle.dslx_meaning.specs.Rules.ModuleRules.{is_reached}
+use Rattle.dslx_meaning.specs.Rules.NameRules.{local_name}
+use Rattle.dslx_meaning.specs.Rules.ProcRules.{channel_type, ends_found, made_at_end, made_at_start, makings_found, proc_sight, unknown_ends, use_faults}
+use Rattle.dslx_typing.proofs.Lemmas.Judged.{found_ends}
+use Rattle.dslx_core.specs.declared.design.Outer.{Outer}
+use Rattle.dslx_typing.proofs.Lemmas.Sound.{all_in, none_in}
+use Rattle.dslx_typing.specs.Typed.Complete.{IsComplete}
+use Rattle.dslx_typing.specs.Typed.WellTyped.{IsWellTyped}
+use Rattle.dslx_typing.proofs.Lemmas.Typed.{all_are}
+use Rattle.dslx_typing.specs.Complete.Standing.{AreTyped}
+use Rattle.dslx_typing.proofs.Lemmas.Complete.{item_env}
+use Rattle.dslx_typing.proofs.Lemmas.Accepted.{IsAccepted, one_of_these}
+use Rattle.dslx_core.specs.Networks.Configs.{config_place}
+use Rattle.dslx_core.specs.Networks.Making.{outer_lowered}
+use Rattle.dslx_total.specs.Families.Plain.{ProcsBindNoConstant}
+use Rattle.dslx_total.proofs.OnFamilies.Acts.{parts_fine}
+use Rattle.dslx_total.proofs.OnFamilies.Reached.{K, Passing, all, all_sound, ends_none, proc_there, reaching}
+use Rattle.dslx_total.proofs.OnFamilies.There.{IsThere, well}
+use Rattle.dslx_total.proofs.OnFamilies.Tops.{top_there}
+use Rattle.dslx_total.specs.Configs.Becoming.{TopBecomes}
+use Rattle.dslx_total.proofs.OnConfigs.Texts.{TypesAreWritten, word_there}
+
+-- ends with which nothing is wrong, and which reach sound instances
+each_outer : TypesAreWritten → (known : Known) (p : Proc) (numbers : List DslxValue) → IsWellTyped (proc_sight known p numbers) (item_env known (numbers_bound [] p.parameters numbers)) → (before : List (List ℕ)) (es : List End)
+    → (ends_found (proc_sight known p numbers) before es).faults ≡ [] → list_all known.is_sound (ends_found (proc_sight known p numbers) before es).reached ≡ true
+    → (os : List Outer) × (map (outer_lowered (config_place known.items p numbers)) es ≡ map Some os)
+each_outer written known p numbers h before [] f r = ([], refl)
+each_outer written known p numbers h before (e ∷ es) f r =
+    let sight = proc_sight known p numbers in
+    let word = channel_type sight e.word in
+    let rest = ends_found sight (e.name.name ∷ before) es in
+    let a = none_in word.faults rest.faults (none_in (local_name sight before e.name) (word.faults ++ rest.faults) f).1 in
+    let b = all_in known.is_sound word.reached rest.reached r in
+    let t = word_there known p numbers h written e.word a.0 b.0 in
+    let others = each_outer written known p numbers h (e.name.name ∷ before) es a.1 b.1 in
+    let first : Outer = record { name = e.name.name; ty = plain_type t.ty; kind = kind_of_end e.direction } in
+    (first ∷ others.0, (λ i. and_then (t.is i) (λ u. Some (record { name = e.name.name; ty = plain_type u; kind = kind_of_end e.direction })) ∷ others.1 i))
+
+module _ (m : Module) (top : Option (List ℕ)) (s : IsAccepted m top) (procs : ProcsBindNoConstant m) (complete : IsComplete (K m top s)) (typed : AreTyped (K m top s)) (written : TypesAreWritten) where
+  abbrev known : Known
+  known = K m top s
+
+  abbrev test : Instance → Bool
+  test i = is_reached i (all m top s)
+
+  pub top_becomes : (p : Proc) → top_proc m top ≡ Some p → TopBecomes m known.items top p
+  top_becomes p e =
+      let t = top_there m top s procs complete typed p e in
+      let numbers = top_numbers known.items p in
+      let there : IsThere m top s p numbers = record { checked = record { named = t.named; among = one_of_these (record { name = p.name.name; numbers = numbers }) (all m top s) t.among }; own = t.own } in
+      let sight = proc_sight known p numbers in
+      let parts = parts_fine m top s p numbers there.checked in
+      let start = made_at_start sight p.config.ends in
+      let end = made_at_end sight start p.config.makings in
+      let made = makings_found sight start p.config.makings in
+      let outer = ends_found sight [] p.config.ends in
+      let f = (none_in outer.faults (made.faults ++ (unknown_ends end.names p.config.result ++ use_faults sight p end)) parts.config).0 in
+      let r = (all_in test outer.reached (made.reached ++ []) parts.listed).0 in
+      let bound = parameter_names p.parameters in
+      let named = found_ends (Passing m top s) sight [] p.config.ends bound (reaching m top s (ends_mentions p.config.ends bound) (ends_none p.config.ends bound) (proc_there m top s p t.named).ends) in
+      let os = each_outer written known p numbers (well m top s complete typed p numbers there) [] p.config.ends f (all_sound m top s outer.reached named r) in
+      record {
+        checked = record { named = t.named; checked = t.among; own = t.own };
+        outer = os.0;
+        outers = ap all_some os.1 ∙ all_are os.0;
+      }

@@ -1,0 +1,165 @@
+-- A number without a type names nothing.
+use Rattle.std.proofs.Common.{◌≡◌, ℕ, List, [], Option, Some, None, refl, ap}
+use Rattle.dslx_tree.specs.declared.block.Stmt.TheOpen.{Node-F}
+use Rattle.dslx_tree.specs.declared.expr.Expr.{Expr}
+use Rattle.dslx_tree.proofs.Lemmas.Folds.Levels.{Carriers, NodeLevel, NumberLevel, map_node, map_number}
+use Rattle.dslx_tree.proofs.Lemmas.Folds.Folds.{Steps}
+use Rattle.dslx_tree.proofs.Lemmas.Folds.Related.{KeepRelated, Relations, both, firsts, related_expr, seconds}
+use Rattle.dslx_meaning.specs.Meaning as m
+use Rattle.dslx_meaning.specs.Meaning.{ArmMeant, Evaluates, FieldMeant, Going, Meant, PatternMeant, Typing, meant}
+use Rattle.dslx_meaning.specs.declared.value.Bare.{Bare}
+use Rattle.dslx_meaning.specs.Rules.Mentions as n
+use Rattle.dslx_meaning.specs.Rules.Mentions.{Mentions, NamesBound, free_names, mentioned, mentions_if, value_names}
+use Rattle.dslx_typing.proofs.Lemmas.Typed.{none_some}
+
+-- ---- what trees mean and mention
+
+abbrev meanings : Carriers
+meanings = record {
+  stmt = Going;
+  node = Meant;
+  shape = PatternMeant;
+  type_node = Typing;
+  block = Evaluates;
+  bind = Going;
+  arg = Meant;
+  arm = ArmMeant;
+  expr = Meant;
+  field = FieldMeant;
+  loop = Evaluates;
+  number = Meant;
+  pattern = PatternMeant;
+  type_expr = Typing;
+}
+
+abbrev meaning : Steps meanings
+meaning = record {
+  stmt = m.stmt_meant;
+  node = m.node_meant;
+  shape = m.shape_meant;
+  type_node = m.type_meant;
+  block = m.block_meant;
+  bind = m.let_meant;
+  arg = m.arg_meant;
+  arm = m.arm_meant;
+  expr = m.expr_meant;
+  field = m.field_meant;
+  loop = m.for_meant;
+  number = m.number_node;
+  pattern = m.pattern_meant;
+  type_expr = m.type_expr_meant;
+}
+
+abbrev mentions : Carriers
+mentions = record {
+  stmt = NamesBound;
+  node = Mentions;
+  shape = NamesBound;
+  type_node = Mentions;
+  block = Mentions;
+  bind = NamesBound;
+  arg = Mentions;
+  arm = Mentions;
+  expr = Mentions;
+  field = Mentions;
+  loop = Mentions;
+  number = Mentions;
+  pattern = NamesBound;
+  type_expr = Mentions;
+}
+
+abbrev mentioning : Steps mentions
+mentioning = record {
+  stmt = n.stmt_mentions;
+  node = n.node_mentions;
+  shape = n.shape_mentions;
+  type_node = n.type_mentions;
+  block = n.block_mentions;
+  bind = n.let_mentions;
+  arg = λ a. a.value;
+  arm = n.arm_mentions;
+  expr = λ e. e.node;
+  field = n.field_mentions;
+  loop = n.for_mentions;
+  number = λ n. mentions_if n.ty;
+  pattern = λ p. p.shape;
+  type_expr = λ t. t.node;
+}
+
+-- ---- numbers
+
+abbrev NamesNothing : Meant → Mentions → Type 0
+NamesNothing x ms = (number : Bare) → x.bare ≡ Some number → (bound : List (List ℕ)) → ms bound ≡ []
+
+abbrev nothing_named : Relations meanings mentions
+nothing_named = record {
+  stmt = λ x ms. Unit {0};
+  node = NamesNothing;
+  shape = λ x ms. Unit {0};
+  type_node = λ x ms. Unit {0};
+  block = λ x ms. Unit {0};
+  bind = λ x ms. Unit {0};
+  arg = λ x ms. Unit {0};
+  arm = λ x ms. Unit {0};
+  expr = NamesNothing;
+  field = λ x ms. Unit {0};
+  loop = λ x ms. Unit {0};
+  number = NamesNothing;
+  pattern = λ x ms. Unit {0};
+  type_expr = λ x ms. Unit {0};
+}
+
+abbrev Parts : Carriers
+Parts = both meanings mentions nothing_named
+
+node_names : (x : NodeLevel Parts) → NamesNothing (meaning.node (map_node Parts meanings (firsts meanings mentions nothing_named) x)) (mentioning.node (map_node Parts mentions (seconds meanings mentions nothing_named) x))
+node_names (Node-F.Node::Number n) number e bound = n.2 number e bound
+node_names (Node-F.Node::Bool bit) number e bound = none_some number e
+node_names (Node-F.Node::Array t es dots) number e bound = none_some number e
+node_names (Node-F.Node::Name name) number e bound = none_some number e
+node_names (Node-F.Node::Member enum a) number e bound = none_some number e
+node_names (Node-F.Call f numbers es) number e bound = none_some number e
+node_names (Node-F.Node::Tuple es) number e bound = none_some number e
+node_names (Node-F.Struct name fields rest) number e bound = none_some number e
+node_names (Node-F.Block block) number e bound = none_some number e
+node_names (Node-F.If test taken other) number e bound = none_some number e
+node_names (Node-F.Match x arms) number e bound = none_some number e
+node_names (Node-F.For loop) number e bound = none_some number e
+node_names (Node-F.Index x place) number e bound = none_some number e
+node_names (Node-F.Slice x low high) number e bound = none_some number e
+node_names (Node-F.Part x start t) number e bound = none_some number e
+node_names (Node-F.Field x name) number e bound = none_some number e
+node_names (Node-F.Element x at k) number e bound = none_some number e
+node_names (Node-F.Prefix o x) number e bound = none_some number e
+node_names (Node-F.Cast x t) number e bound = none_some number e
+node_names (Node-F.Binary o l r) number e bound = none_some number e
+
+number_names : (x : NumberLevel Parts) → NamesNothing (meaning.number (map_number Parts meanings (firsts meanings mentions nothing_named) x)) (mentioning.number (map_number Parts mentions (seconds meanings mentions nothing_named) x))
+number_names x = by_type x.ty
+  where
+    by_type : (o : Option Parts.type_expr)
+        → NamesNothing (meaning.number (map_number Parts meanings (firsts meanings mentions nothing_named) (record { ty = o; is_negative = x.is_negative; value = x.value })))
+        (mentioning.number (map_number Parts mentions (seconds meanings mentions nothing_named) (record { ty = o; is_negative = x.is_negative; value = x.value })))
+    by_type None number e bound = refl
+    by_type (Some t) number e bound = none_some number e
+
+all_name_nothing : KeepRelated meanings mentions nothing_named meaning mentioning
+all_name_nothing = record {
+  stmt = λ x. tt;
+  node = node_names;
+  shape = λ x. tt;
+  type_node = λ x. tt;
+  block = λ x. tt;
+  bind = λ x. tt;
+  arg = λ x. tt;
+  arm = λ x. tt;
+  expr = λ x. x.node.2;
+  field = λ x. tt;
+  loop = λ x. tt;
+  number = number_names;
+  pattern = λ x. tt;
+  type_expr = λ x. tt;
+}
+
+pub bare_names_nothing : (e : Expr) (number : Bare) → (meant e).bare ≡ Some number → free_names e ≡ []
+bare_names_nothing e number q = ap value_names (related_expr meanings mentions nothing_named meaning mentioning all_name_nothing e number q [])

@@ -1,0 +1,188 @@
+-- Spawns with which nothing is wrong: their number arguments are known and of the types of their parameters, and the instance that
+-- they spawn is checked.
+use Rattle.std.proofs.Common.{◌≡◌, ◌&&◌, ◌||◌, ◌++◌, ◌==◌, ℕ, length, Bool, true, false, not, if◌then◌else◌, List, [], ◌∷◌, map, Option, Some, None, refl, sym, ap, subst, ◌∙◌}
+use mathlib.Core.Bool.{true≢false}
+use Rattle.std.specs.Prelude.{flat_map, nat_lt}
+use Rattle.std.specs.List.{list_all}
+use Rattle.xb_span.specs.declared.fault.Fault.{Fault}
+use Rattle.dslx_tree.specs.declared.expr.Arg.{Arg}
+use Rattle.dslx_tree.specs.declared.item.Definition.{Definition}
+use Rattle.dslx_tree.specs.declared.item.Definition.TheVariants as d
+use Rattle.dslx_tree.specs.declared.item.Module.{Module}
+use Rattle.dslx_tree.specs.declared.process.Making.TheVariants as making
+use Rattle.dslx_tree.specs.declared.process.Proc.{Proc}
+use Rattle.dslx_tree.specs.declared.process.Spawn.{Spawn}
+use Rattle.dslx_meaning.specs.Environment.{Env}
+use Rattle.dslx_meaning.specs.Items.{all_numbers, item_named, numbers_bound}
+use Rattle.dslx_meaning.specs.Lists.{all_some, and_then}
+use Rattle.dslx_meaning.specs.Meaning.{meant_arg}
+use Rattle.dslx_meaning.specs.Network.{as_proc, spawn_numbers}
+use Rattle.dslx_meaning.specs.declared.value.DslxValue.{DslxValue}
+use Rattle.dslx_meaning.specs.Rules.CallRules.{GivenNumber, NumbersSeen, given_judgements, given_numbers, numbers_seen, reached_by}
+use Rattle.dslx_meaning.specs.Rules.ItemRules.{only_faults}
+use Rattle.dslx_meaning.specs.Rules.Judging.{Instance, Known, Sight, breaks, breaks_if, faults_of_all, has_broken, reached_of_all}
+use Rattle.dslx_meaning.specs.Rules.Judgings.{ArgPair}
+use Rattle.dslx_meaning.specs.Rules.Mentions.{AsProc, is_cyclic, making_mentions, mention, mentioned_in_arg}
+use Rattle.dslx_meaning.specs.Rules.ModuleRules.{is_reached}
+use Rattle.dslx_meaning.specs.Rules.NodeRules.{arg_pair}
+use Rattle.dslx_meaning.specs.Rules.ProcRules.{Made, handed_faults, proc_sight, right_spawn, spawn_found, spawn_of, unknown_ends}
+use Rattle.dslx_typing.proofs.Lemmas.Laws.{and_true}
+use Rattle.dslx_typing.specs.Judged.Closed.{ends_within}
+use Rattle.dslx_typing.proofs.Lemmas.Judged.{arguments_reach, every_item, given_reach, item_so_named, numbers_reach, whole_is}
+use Rattle.dslx_typing.specs.Sound.Sound.{EachExprGives}
+use Rattle.dslx_typing.proofs.Lemmas.Sound.{AreGiven, EachGiven, all_in, argument_gives, none_in, not_broken, numbers_given, numbers_known, some_fault}
+use Rattle.dslx_typing.proofs.Lemmas.Depends.{meant_parts}
+use Rattle.dslx_typing.specs.Typed.Complete.{IsComplete}
+use Rattle.dslx_typing.specs.Typed.Numbers.{AllOwn, GivenMean}
+use Rattle.dslx_typing.specs.Typed.WellTyped.{IsWellTyped}
+use Rattle.dslx_typing.proofs.Lemmas.Typed.{all_are, numbers_found}
+use Rattle.dslx_typing.specs.Complete.Standing.{AreTyped}
+use Rattle.dslx_typing.proofs.Lemmas.Complete.{item_env, none_own, own_numbers}
+use Rattle.dslx_typing.proofs.Lemmas.Accepted.{IsAccepted}
+use Rattle.dslx_total.specs.Families.Plain.{ProcsBindNoConstant}
+use Rattle.dslx_total.proofs.OnFamilies.Parameters.{known_alike, parameters_known, parameters_mean, parameters_pass}
+use Rattle.dslx_total.proofs.OnFamilies.Reached.{IsProcOf, K, Listed, Passing, Within, all, all_sound, arguments_none, most, reaching}
+
+abbrev is_there : {A : Type 0} → Option A → Bool
+is_there None = false
+is_there (Some a) = true
+
+pub proc_is : (o : Option Definition) (p : Proc) → as_proc o ≡ Some p → o ≡ Some (d.Proc p)
+proc_is (Some (d.Proc q)) p e = ap (λ (o : Option Proc). as_definition o) e
+  where
+    as_definition : Option Proc → Option Definition
+    as_definition None = None
+    as_definition (Some q) = Some (d.Proc q)
+proc_is (Some (d.Function g)) p e = absurd (true≢false (sym (ap is_there e)))
+proc_is (Some (d.Constant c)) p e = absurd (true≢false (sym (ap is_there e)))
+proc_is (Some (d.Alias a)) p e = absurd (true≢false (sym (ap is_there e)))
+proc_is (Some (d.Struct s)) p e = absurd (true≢false (sym (ap is_there e)))
+proc_is (Some (d.Enum n)) p e = absurd (true≢false (sym (ap is_there e)))
+proc_is None p e = absurd (true≢false (sym (ap is_there e)))
+
+-- a proc is found by its own name
+pub proc_named : (m : Module) (name : List ℕ) (p : Proc) → as_proc (item_named name m.items) ≡ Some p → IsProcOf m p
+proc_named m name p e =
+    let named = proc_is (item_named name m.items) p e in
+    subst (λ n. item_named n m.items ≡ Some (d.Proc p)) (sym (item_so_named m.items name (d.Proc p) named)) named
+
+each_argument : (as' : List Arg) → EachExprGives (map (λ (a : ArgPair). a.1) (map arg_pair as')) (map meant_arg as')
+each_argument [] = tt
+each_argument (a ∷ as') = (argument_gives a, each_argument as')
+
+module _ (m : Module) (top : Option (List ℕ)) (s : IsAccepted m top) (procs : ProcsBindNoConstant m) (complete : IsComplete (K m top s)) (typed : AreTyped (K m top s)) where
+  abbrev known : Known
+  known = K m top s
+
+  abbrev test : Instance → Bool
+  test i = is_reached i (all m top s)
+
+  -- numbers that are known, of the types of their parameters
+  pub record NumbersThere (target : Proc) (gs : List GivenNumber) (given : List DslxValue) : Type 0 where
+    pub numbers : List DslxValue
+    pub is : (numbers_seen known target.name.name [] [] [] [] target.parameters gs).values ≡ Some numbers
+    pub own : AllOwn known.items.type_named numbers
+    pub found : all_numbers known.items [] [] target.parameters given ≡ Some numbers
+
+  pub target_ends : (target : Proc) → IsProcOf m target → ends_within m (length m.items) target.name.name ≡ true
+  target_ends target named = every_item m s.free target.name.name (d.Proc target) named
+
+  pub numbers_there : (name : List ℕ) (target : Proc) → as_proc (item_named name m.items) ≡ Some target → IsProcOf m target → (gs : List GivenNumber) (vs : List DslxValue) → EachGiven known.items.type_named gs → GivenMean gs vs
+      → (numbers_seen known target.name.name [] [] [] [] target.parameters gs).faults ≡ [] → Listed m top s (numbers_seen known target.name.name [] [] [] [] target.parameters gs).reached
+      → (numbers_seen known target.name.name [] [] [] [] target.parameters gs).is_wrong ≡ false → NumbersThere target gs vs
+  numbers_there name target is named gs vs each mean f r w =
+      let home = target.name.name in
+      let ends = target_ends target named in
+      let alike = known_alike m s.plain target named ends (procs name target is) in
+      let seen = numbers_seen known home [] [] [] [] target.parameters gs in
+      let passing = numbers_reach (Passing m top s) known home [] [] [] [] target.parameters gs (parameters_pass m s.plain target named ends) in
+      let k = numbers_known known home [] [] target.parameters gs (parameters_known known complete typed home [] (none_own known) target.parameters alike) each f (all_sound m top s seen.reached passing r) w in
+      record {
+        numbers = k.numbers;
+        is = k.all;
+        own = own_numbers known home [] target.parameters k.numbers k.fit;
+        found = numbers_found known known.items home [] [] [] target.parameters gs vs k.numbers (parameters_mean known complete typed home [] (none_own known) target.parameters alike) k.fit mean k.all;
+      }
+
+  -- what a spawn comes to
+  pub record SpawnThere (env : Env) (sp : Spawn) : Type 0 where
+    pub target : Proc
+    pub is : as_proc (item_named sp.target.name m.items) ≡ Some target
+    pub numbers : List DslxValue
+    pub given : spawn_numbers known.items env target sp.arguments ≡ Some numbers
+    pub own : AllOwn known.items.type_named numbers
+    pub among : test (record { name = target.name.name; numbers = numbers }) ≡ true
+    pub many : (length sp.ends == length target.config.ends) ≡ true
+
+  module _ (p : Proc) (own : List DslxValue) (well : IsWellTyped (proc_sight known p own) (item_env known (numbers_bound [] p.parameters own))) where
+    abbrev sight : Sight
+    sight = proc_sight known p own
+
+    abbrev env : Env
+    env = item_env known (numbers_bound [] p.parameters own)
+
+    abbrev gs : Spawn → List GivenNumber
+    gs sp = given_numbers sight (map arg_pair sp.arguments)
+
+    abbrev seen : Spawn → Proc → NumbersSeen
+    seen sp target = numbers_seen known target.name.name [] [] [] [] target.parameters (gs sp)
+
+    abbrev cyclic : Spawn → Proc → List Fault
+    cyclic sp target = breaks_if (is_cyclic known.whole p.name.name target.name.name) 3 sp.span
+
+    abbrev handed : Made → Spawn → Proc → List Fault
+    handed made sp target = if (seen sp target).is_wrong then [] else handed_faults known target.name.name (seen sp target).bound made target.config.ends sp.ends
+
+    right : (made : Made) (sp : Spawn) (bound : List (List ℕ)) (target : Proc) → as_proc (item_named sp.target.name m.items) ≡ Some target → (length sp.ends == length target.config.ends) ≡ true → AreGiven sight env (map arg_pair sp.arguments) (map meant_arg sp.arguments)
+        → (right_spawn sight made sp target (cyclic sp target) (seen sp target)).faults ≡ [] → Listed m top s (right_spawn sight made sp target (cyclic sp target) (seen sp target)).reached → SpawnThere env sp
+    right made sp bound target is many g f r =
+        let n = seen sp target in
+        let wrong = breaks_if n.is_wrong 10 sp.span in
+        let a = none_in ((cyclic sp target ++ n.faults) ++ wrong) (handed made sp target) f in
+        let b = none_in (cyclic sp target ++ n.faults) wrong a.0 in
+        let c = none_in (cyclic sp target) n.faults b.0 in
+        let no_wrong = not_broken n.is_wrong 10 sp.span b.1 in
+        let listed = all_in test n.reached (reached_by (has_broken (cyclic sp target) || n.is_wrong) target.name.name n.values) r in
+        let named = proc_named m sp.target.name target is in
+        let k = numbers_there sp.target.name target is named (gs sp) g.values g.each g.mean c.1 listed.0 no_wrong in
+        let i : Instance = record { name = target.name.name; numbers = k.numbers } in
+        let one = and_true (test i) true ((λ t. list_all test (reached_by (has_broken (sym c.0 t) || sym no_wrong t) target.name.name (sym k.is t))) ∙ listed.1) in
+        record {
+          target = target;
+          is = is;
+          numbers = k.numbers;
+          given = ap (λ os. and_then (all_some os) (all_numbers known.items [] [] target.parameters)) g.are ∙ ap (λ o. and_then o (all_numbers known.items [] [] target.parameters)) (all_are g.values) ∙ k.found;
+          own = k.own;
+          among = one.0;
+          many = many;
+        }
+
+    pub spawn_there : (made : Made) (sp : Spawn) (bound : List (List ℕ)) → Within m (most m top s) (making_mentions (making.Spawn sp) bound) → (spawn_found sight made sp).faults ≡ [] → Listed m top s (spawn_found sight made sp).reached
+        → SpawnThere env sp
+    spawn_there made sp bound within f r =
+        let given = given_judgements (gs sp) in
+        let unknown = unknown_ends made.names sp.ends in
+        let spawned = spawn_of sight made sp (gs sp) (as_proc (item_named sp.target.name known.whole.items)) in
+        let a = none_in (faults_of_all given) (unknown ++ spawned.faults) f in
+        let b = none_in unknown spawned.faults a.1 in
+        let c = all_in test (reached_of_all given) spawned.reached r in
+        let arguments = flat_map (λ (x : Arg). mentioned_in_arg x bound) sp.arguments in
+        let meant = (meant_parts (ends_within m (most m top s)) m (mention AsProc sp.target.name) arguments within).1 in
+        let passing = given_reach (Passing m top s) sight (map arg_pair sp.arguments) (arguments_reach (Passing m top s) sight sp.arguments bound (reaching m top s arguments (arguments_none sp.arguments bound) meant)) in
+        let g = numbers_given sight env well (map arg_pair sp.arguments) (map meant_arg sp.arguments) (each_argument sp.arguments) a.0 (all_sound m top s (reached_of_all given) passing c.0) in
+        by_proc (as_proc (item_named sp.target.name known.whole.items)) refl g b.1 c.1
+      where
+        enough : Proc → Bool
+        enough target = length sp.ends == length target.config.ends && not (nat_lt (length target.parameters) (length (gs sp)))
+
+        by_count : (target : Proc) → as_proc (item_named sp.target.name m.items) ≡ Some target → (t : Bool) → enough target ≡ t → AreGiven sight env (map arg_pair sp.arguments) (map meant_arg sp.arguments)
+            → (if t then right_spawn sight made sp target (cyclic sp target) (seen sp target) else only_faults (cyclic sp target ++ breaks 10 sp.span ∷ [])).faults ≡ []
+            → Listed m top s (if t then right_spawn sight made sp target (cyclic sp target) (seen sp target) else only_faults (cyclic sp target ++ breaks 10 sp.span ∷ [])).reached → SpawnThere env sp
+        by_count target is false q g f r = some_fault (breaks 10 sp.span) [] (none_in (cyclic sp target) (breaks 10 sp.span ∷ []) f).1
+        by_count target is true q g f r = right made sp bound target is (and_true (length sp.ends == length target.config.ends) (not (nat_lt (length target.parameters) (length (gs sp)))) q).0 g f r
+
+        by_proc : (o : Option Proc) → as_proc (item_named sp.target.name known.whole.items) ≡ o → AreGiven sight env (map arg_pair sp.arguments) (map meant_arg sp.arguments) → (spawn_of sight made sp (gs sp) o).faults ≡ []
+            → Listed m top s (spawn_of sight made sp (gs sp) o).reached → SpawnThere env sp
+        by_proc None q g f r = some_fault (breaks 1 sp.target.span) [] f
+        by_proc (Some target) q g f r =
+            by_count target ((λ t. as_proc (item_named sp.target.name (sym (whole_is m (length m.items)) t).items)) ∙ q) (enough target) refl g f r

@@ -1,0 +1,114 @@
+-- The top proc of a text without faults: its defaults are of the types of its parameters, and its instance is checked.
+use Rattle.std.proofs.Common.{◌≡◌, inl, inr, ◌||◌, ◌++◌, ℕ, Bool, true, false, not, if◌then◌else◌, List, [], ◌∷◌, Option, Some, None, refl, sym, ap, subst, ◌∙◌}
+use mathlib.Core.Bool.{true≢false}
+use Rattle.std.specs.Prelude.{unwrap_or}
+use Rattle.std.specs.List.{list_all, list_any}
+use Rattle.dslx_tree.specs.declared.expr.Expr.{Expr}
+use Rattle.dslx_tree.specs.declared.item.Module.{Module}
+use Rattle.dslx_tree.specs.declared.item.Parameter.{Parameter}
+use Rattle.dslx_tree.specs.declared.process.Proc.{Proc}
+use Rattle.dslx_meaning.specs.Environment.{Given}
+use Rattle.dslx_meaning.specs.Network.{as_proc, top_numbers, top_proc}
+use Rattle.dslx_meaning.specs.Items.{item_named}
+use Rattle.dslx_meaning.specs.declared.ty.DslxType.{DslxType}
+use Rattle.dslx_meaning.specs.declared.value.DslxValue.{DslxValue}
+use Rattle.dslx_meaning.specs.Rules.CallRules.{bound_by_number, declared_type, default_value, numbers_seen, of_type, resolved_value, is_wrong_number, unknown_behind}
+use Rattle.dslx_meaning.specs.Rules.Judging.{Instance, Known, breaks}
+use Rattle.dslx_meaning.specs.Rules.PatternRules.{is_there}
+use Rattle.dslx_meaning.specs.Rules.ModuleRules.{is_reached, item_names, items_found, lacks_default, outside_instances, top_faults, top_found}
+use Rattle.dslx_typing.proofs.Lemmas.Laws.{and_true}
+use Rattle.dslx_typing.proofs.Lemmas.Sound.{all_in, none_in, some_fault}
+use Rattle.dslx_typing.specs.Typed.Complete.{IsComplete}
+use Rattle.dslx_typing.specs.Typed.Numbers.{AllOwn}
+use Rattle.dslx_typing.proofs.Lemmas.Typed.{none_some, or_false}
+use Rattle.dslx_typing.specs.Complete.Standing.{AreTyped}
+use Rattle.dslx_typing.proofs.Lemmas.Accepted.{IsAccepted, all_empty}
+use Rattle.dslx_total.specs.Families.Plain.{ProcsBindNoConstant}
+use Rattle.dslx_total.proofs.OnFamilies.LastProc.{last_named}
+use Rattle.dslx_total.proofs.OnFamilies.Reached.{IsProcOf, K, Listed, all, all_listed}
+use Rattle.dslx_total.proofs.OnFamilies.Spawns.{numbers_there, proc_named}
+
+-- no default is a wrong number
+default_right : (known : Known) (home : List ℕ) (so_far : List Given) (unknown : List (List ℕ)) (t : Option DslxType) (o : Option Expr) → not (is_there o) ≡ false → is_wrong_number (default_value known home so_far unknown t o).value ≡ false
+default_right known home so_far unknown t None e = absurd (true≢false e)
+default_right known home so_far unknown t (Some x) e = by_value (of_type t (known.default_in home so_far unknown x).value)
+  where
+    by_value : (v : Option DslxValue) → is_wrong_number (resolved_value v) ≡ false
+    by_value None = refl
+    by_value (Some v) = refl
+
+none_wrong : (known : Known) (home : List ℕ) (so_far : List Given) (unknown : List (List ℕ)) (ps : List Parameter) → list_any lacks_default ps ≡ false → (numbers_seen known home [] [] so_far unknown ps []).is_wrong ≡ false
+none_wrong known home so_far unknown [] e = refl
+none_wrong known home so_far unknown (p ∷ ps) e =
+    let q = or_false (lacks_default p) (list_any lacks_default ps) e in
+    let v = (default_value known home so_far unknown (declared_type known home so_far p.ty) p.default).value in
+    λ i. default_right known home so_far unknown (declared_type known home so_far p.ty) p.default q.0 i || none_wrong known home (bound_by_number so_far p v) (unknown_behind unknown p v) ps q.1 i
+
+-- the instance of the top
+abbrev top_instance : Proc → Option (List DslxValue) → List Instance
+top_instance p None = []
+top_instance p (Some vs) = record { name = p.name.name; numbers = vs } ∷ []
+
+module _ (m : Module) (top : Option (List ℕ)) (s : IsAccepted m top) (procs : ProcsBindNoConstant m) (complete : IsComplete (K m top s)) (typed : AreTyped (K m top s)) where
+  abbrev known : Known
+  known = K m top s
+
+  abbrev test : Instance → Bool
+  test i = is_reached i (all m top s)
+
+  -- what is found outside instances, by parts
+  names_apart : item_names [] m.items ≡ []
+  names_apart =
+      let names = item_names [] m.items in
+      let tops = top_faults m top (top_proc m top) in
+      (none_in names tops (none_in (names ++ tops) ((items_found known m.items).faults ++ (top_found known (top_proc m top)).faults) (all_empty m top s).0).0).0
+
+  top_right : top_faults m top (top_proc m top) ≡ []
+  top_right =
+      let names = item_names [] m.items in
+      let tops = top_faults m top (top_proc m top) in
+      (none_in names tops (none_in (names ++ tops) ((items_found known m.items).faults ++ (top_found known (top_proc m top)).faults) (all_empty m top s).0).0).1
+
+  top_empty : (top_found known (top_proc m top)).faults ≡ []
+  top_empty =
+      let names = item_names [] m.items ++ top_faults m top (top_proc m top) in
+      (none_in (items_found known m.items).faults (top_found known (top_proc m top)).faults (none_in names ((items_found known m.items).faults ++ (top_found known (top_proc m top)).faults) (all_empty m top s).0).1).1
+
+  top_listed : Listed m top s (top_found known (top_proc m top)).reached
+  top_listed = (all_in test (items_found known m.items).reached (top_found known (top_proc m top)).reached (all_listed m top s (outside_instances m top).reached s.outside)).1
+
+  named_by : (o : Option (List ℕ)) (p : Proc) → top_proc m o ≡ Some p → (name : List ℕ) × (as_proc (item_named name m.items) ≡ Some p)
+  named_by (Some name) p e = (name, e)
+  named_by None p e = elim (last_named [] m.items None p names_apart e) [
+    | inl q ↦ none_some p q
+    | inr q ↦ (p.name.name, ap as_proc q.0)
+  ]
+
+  pub record TopThere (p : Proc) : Type 0 where
+    pub named : IsProcOf m p
+    pub own : AllOwn known.items.type_named (top_numbers known.items p)
+    pub among : test (record { name = p.name.name; numbers = top_numbers known.items p }) ≡ true
+
+  pub top_there : (p : Proc) → top_proc m top ≡ Some p → TopThere p
+  top_there p e =
+      let seen = numbers_seen known p.name.name [] [] [] [] p.parameters [] in
+      let by = named_by top p e in
+      let named = proc_named m by.0 p by.1 in
+      let lacking = defaults_there p ((λ t. top_faults m top (sym e t)) ∙ top_right) in
+      let listed = all_in test seen.reached (top_instance p seen.values) ((λ t. list_all test (top_found known (sym e t)).reached) ∙ top_listed) in
+      let k = numbers_there m top s procs complete typed by.0 p by.1 named [] [] tt tt ((λ t. (top_found known (sym e t)).faults) ∙ top_empty) listed.0 (none_wrong known p.name.name [] [] p.parameters lacking) in
+      let same : top_numbers known.items p ≡ k.numbers = ap (λ o. unwrap_or o []) k.found in
+      let i : Instance = record { name = p.name.name; numbers = k.numbers } in
+      let one = and_true (test i) true ((λ t. list_all test (top_instance p (sym k.is t))) ∙ listed.1) in
+      record {
+        named = named;
+        own = subst (AllOwn known.items.type_named) (sym same) k.own;
+        among = (λ t. test (record { name = p.name.name; numbers = same t })) ∙ one.0;
+      }
+    where
+      defaults_there : (p : Proc) → top_faults m top (Some p) ≡ [] → list_any lacks_default p.parameters ≡ false
+      defaults_there p f = by_test (list_any lacks_default p.parameters) f
+        where
+          by_test : (b : Bool) → (if b then breaks 32 p.name.span ∷ [] else []) ≡ [] → b ≡ false
+          by_test true q = some_fault (breaks 32 p.name.span) [] q
+          by_test false q = refl

@@ -1,0 +1,144 @@
+-- Instances of functions by how long the chains of items are that begin with them: each reaches those with shorter chains alone.
+use Rattle.std.proofs.Common.{◌≡◌, ◌≤◌, ◌&&◌, ◌++◌, ℕ, zero, suc, length, Bool, true, false, not, List, [], Option, Some, None, arith, refl, sym, ap, ◌∙◌}
+use mathlib.Core.Bool.{true≢false}
+use Rattle.std.specs.List.{list_all}
+use Rattle.std.proofs.lemmas.List.{length-append}
+use Rattle.dslx_tree.specs.declared.item.Definition.{Definition}
+use Rattle.dslx_tree.specs.declared.item.Definition.TheVariants as d
+use Rattle.dslx_tree.specs.declared.item.Function.{Function}
+use Rattle.dslx_tree.specs.declared.item.Module.{Module}
+use Rattle.dslx_meaning.specs.Items.{as_function, item_named}
+use Rattle.dslx_meaning.specs.Rules.ItemRules.{Found, function_seen}
+use Rattle.dslx_meaning.specs.Rules.Judging.{Instance, Known}
+use Rattle.dslx_meaning.specs.Rules.Mentions.{AsFunction, is_of_use}
+use Rattle.dslx_meaning.specs.Rules.ModuleRules.{found_of_instance, found_of_item, instances_of, is_reached, known_of}
+use Rattle.dslx_typing.proofs.Lemmas.Laws.{and_true}
+use Rattle.dslx_typing.specs.Typed.Numbers.{AllOwn}
+use Rattle.dslx_typing.specs.Judged.Closed.{IsOneOf, ends_within}
+use Rattle.dslx_typing.proofs.Lemmas.Judged.{function_is, instances_reach, longer, whole_is}
+use Rattle.dslx_typing.proofs.Lemmas.Depends.{every_item_passes, is_proc_item, passes, passes_closed, passes_next}
+use Rattle.dslx_typing.proofs.Lemmas.Accepted.{IsAccepted, all_empty, all_so, instance_faults, one_of_these, sound}
+use Rattle.dslx_core.specs.Lowering.Functions.{Instantiated}
+use Rattle.dslx_total.specs.Expressions.InstanceLists.{AreThere, EachReachesThoseBefore, ReachesThese, is_among}
+use Rattle.dslx_total.specs.Tables.Widths.{text_writes_widths}
+use Rattle.dslx_total.proofs.OnTables.Lists.{AreApart, among_first, among_second, as_named, both_chosen, chosen, chosen_among, each_behind, each_chosen, no_more}
+use Rattle.dslx_total.proofs.OnTables.Own.{all_own_pass, all_own_there, are_own}
+use Rattle.dslx_total.proofs.OnTables.Widths.{one_writes_widths}
+
+module _ (m : Module) (top : Option (List ℕ)) (s : IsAccepted m top) where
+  abbrev K : Known
+  K = known_of m
+
+  abbrev all : List Instance
+  all = instances_of m top
+
+  -- an instance of a function whose number parameters have values of their own types
+  abbrev is_function : Instance → Bool
+  is_function i = is_of_use AsFunction (item_named i.name m.items) && are_own K.items.type_named i.numbers
+
+  -- chains from it have one item more, and no fewer
+  abbrev is_next : ℕ → Instance → Bool
+  is_next k i = passes m (suc k) i.name && not (passes m k i.name)
+
+  abbrev due : ℕ → Instance → Bool
+  due k i = is_next k i && is_function i
+
+  -- those with the shortest chains first
+  abbrev pub in_order : ℕ → List Instantiated
+  in_order zero = []
+  in_order (suc k) = in_order k ++ chosen (due k) all
+
+  -- ---- what stands in it
+
+  known_item : (name : List ℕ) → item_named name K.whole.items ≡ item_named name m.items
+  known_item name = λ i. item_named name (whole_is m (length m.items) i).items
+
+  named_function : (i : Instance) (f : Function) → as_function (item_named i.name K.whole.items) ≡ Some f → item_named i.name m.items ≡ Some (d.Function f)
+  named_function i f e = function_is (item_named i.name m.items) f (ap as_function (sym (known_item i.name)) ∙ e)
+
+  is_function_there : (i : Instance) (f : Function) → item_named i.name m.items ≡ Some (d.Function f) → AllOwn K.items.type_named i.numbers → is_function i ≡ true
+  is_function_there i f e own = λ t. is_of_use AsFunction (e t) && all_own_pass K.items.type_named i.numbers own t
+
+  stands : (k : ℕ) (i : Instance) → IsOneOf i all → is_function i ≡ true → passes m k i.name ≡ true → is_among (in_order k) i ≡ true
+  stands zero i one e p = absurd (true≢false (sym p))
+  stands (suc k) i one e p = by_shorter (passes m k i.name) refl (stands k i one e)
+    where
+      by_shorter : (b : Bool) → passes m k i.name ≡ b → (passes m k i.name ≡ true → is_among (in_order k) i ≡ true) → is_among (in_order k ++ chosen (due k) all) i ≡ true
+      by_shorter true q rest = among_first i (in_order k) (chosen (due k) all) (rest q)
+      by_shorter false q rest = among_second i (in_order k) (chosen (due k) all) (chosen_among (due k) i all one (λ t. (p t && not (q t)) && e t))
+
+  pub functions_stand : AreThere (λ i. is_reached i all) K (in_order (length m.items))
+  functions_stand i f e own r =
+      let named = named_function i f e in
+      stands (length m.items) i (one_of_these i all r) (is_function_there i f named own) (every_item_passes m s.free i.name (d.Function f) named refl)
+
+  -- ---- what each reaches
+
+  -- the function of an instance
+  function_there : (i : Instance) → is_of_use AsFunction (item_named i.name m.items) ≡ true → (f : Function) × (item_named i.name m.items ≡ Some (d.Function f))
+  function_there i e = by_item (item_named i.name m.items) refl e
+    where
+      by_item : (o : Option Definition) → item_named i.name m.items ≡ o → is_of_use AsFunction o ≡ true → (f : Function) × (item_named i.name m.items ≡ Some (d.Function f))
+      by_item (Some (d.Function f)) q h = (f, q)
+      by_item (Some (d.Proc p)) q h = absurd (true≢false (sym h))
+      by_item (Some (d.Constant c)) q h = absurd (true≢false (sym h))
+      by_item (Some (d.Alias a)) q h = absurd (true≢false (sym h))
+      by_item (Some (d.Struct x)) q h = absurd (true≢false (sym h))
+      by_item (Some (d.Enum x)) q h = absurd (true≢false (sym h))
+      by_item None q h = absurd (true≢false (sym h))
+
+  reaches : text_writes_widths m ≡ true → (k : ℕ) → suc k ≤ length m.items → (i : Instance) → IsOneOf i all → due k i ≡ true → ReachesThese K (in_order k) (as_named i)
+  reaches w k l i one e =
+      let a = and_true (is_next k i) (is_function i) e in
+      let b = and_true (passes m (suc k) i.name) (not (passes m k i.name)) a.0 in
+      let c = and_true (is_of_use AsFunction (item_named i.name m.items)) (are_own K.items.type_named i.numbers) a.1 in
+      let f = function_there i c.0 in
+      let seen : found_of_instance K i ≡ (function_seen K f.0 i.numbers).found = ap (found_of_item K i.numbers) (known_item i.name ∙ f.1) in
+      let mentions = (passes_next m k i.name b.0).0 in
+      let named = instances_reach (passes m k) m (passes_closed m k) (length m.items) i mentions in
+      let shorter : k ≤ length m.items = omega (arith, l) in
+      record {
+        function = f.0;
+        is = ap as_function (known_item i.name ∙ f.1);
+        own = all_own_there K.items.type_named i.numbers c.1;
+        widths = one_writes_widths i.name (d.Function f.0) m.items f.1 w;
+        here = here;
+        clean = record {
+          faults = ap (λ (x : Found). x.faults) (sym seen) ∙ instance_faults K i all one (all_empty m top s).1;
+          reached = ap (λ (x : Found). list_all here x.reached) (sym seen) ∙ all_so here (passes m k) (found_of_instance K i).reached named (λ j r p t. s.among i j one r t && p t);
+        };
+        sound = λ j h. let q = and_true (is_reached j all) (passes m k j.name) h in sound m top s k shorter j (one_of_these j all q.0) q.1;
+        there = λ j g n own h.
+            let q = and_true (is_reached j all) (passes m k j.name) h in
+            stands k j (one_of_these j all q.0) (is_function_there j g (named_function j g n) own) q.1;
+      }
+    where
+      here : Instance → Bool
+      here j = is_reached j all && passes m k j.name
+
+  pub each_reaches : text_writes_widths m ≡ true → (k : ℕ) → k ≤ length m.items → EachReachesThoseBefore K [] (in_order k)
+  each_reaches w zero l = tt
+  each_reaches w (suc k) l = each_behind K [] (in_order k) (chosen (due k) all) (each_reaches w k (omega (arith, l))) (each_chosen K (in_order k) (due k) all (reaches w k l))
+
+  -- ---- how many they are
+
+  apart : (k : ℕ) (i : Instance) → AreApart (λ (j : Instance). passes m k j.name) (due k) (λ (j : Instance). passes m (suc k) j.name) i
+  apart k i = record {
+    first = λ p. let q = and_true (ends_within m k i.name) (not (is_proc_item (item_named i.name m.items))) p in (λ t. longer m k i.name q.0 t && q.1 t);
+    second = λ e. (and_true (passes m (suc k) i.name) (not (passes m k i.name)) (and_true (is_next k i) (is_function i) e).0).0;
+    apart = λ p e. true≢false (sym (and_true (passes m (suc k) i.name) (not (passes m k i.name)) (and_true (is_next k i) (is_function i) e).0).1 ∙ ap not p);
+  }
+
+  no_more_than : (k : ℕ) → length (in_order k) ≤ length (chosen (λ (i : Instance). passes m k i.name) all)
+  no_more_than zero = omega arith
+  no_more_than (suc k) =
+      let shorter = no_more_than k in
+      let one = both_chosen (λ (i : Instance). passes m k i.name) (due k) (λ (i : Instance). passes m (suc k) i.name) (apart k) all in
+      let both = length-append (in_order k) (chosen (due k) all) in
+      omega (arith, shorter, one, both)
+
+  pub few_in_order : length (in_order (length m.items)) ≤ length all
+  few_in_order =
+      let passing = no_more_than (length m.items) in
+      let rest = no_more (λ (i : Instance). passes m (length m.items) i.name) all in
+      omega (arith, passing, rest)

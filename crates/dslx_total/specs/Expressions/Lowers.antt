@@ -1,0 +1,123 @@
+-- Parts of a text that become something wherever nothing is wrong with them: what they become has the type that they have.
+--
+-- Each claim is an equation of what is lowered and what is judged. That a part has a type where nothing is wrong with it is a law
+-- of its own, of `dslx_sound`.
+use Rattle.std.specs.Prelude.{◌≡◌, ℕ, nat_le, List, [], Bool, true, false, Option, Some, None, option_map}
+use Rattle.std.specs.List.{list_all}
+use Rattle.xb_span.specs.declared.fault.Fault.{Fault}
+use Rattle.dslx_meaning.specs.Environment.{Env}
+use Rattle.dslx_meaning.specs.Meaning.{Meant, Typing}
+use Rattle.dslx_meaning.specs.Values.{type_of_value}
+use Rattle.dslx_meaning.specs.declared.ty.DslxType.{DslxType}
+use Rattle.dslx_meaning.specs.declared.value.DslxValue.{DslxValue}
+use Rattle.dslx_meaning.specs.Rules.ConstantRules.{is_empty}
+use Rattle.dslx_meaning.specs.Rules.Judging.{ExprPair, Instance, Judgement, Known, Sight, Typed, with_typed}
+use Rattle.dslx_meaning.specs.Rules.Judgings.{PatternJudging, SightJudging}
+use Rattle.dslx_meaning.specs.Rules.OperatorRules.{width_of_type}
+use Rattle.dslx_typing.specs.Typed.Complete.{IsFine}
+use Rattle.dslx_typing.specs.Typed.Declared.{IsDeclared}
+use Rattle.dslx_typing.specs.Typed.WellTyped.{IsWellTyped, types_at}
+use Rattle.dslx_typing.specs.Sound.Sound.{ExprGives, TypeStands}
+use Rattle.dslx_core.specs.Lowering.CorePlaces.{CorePlace}
+use Rattle.dslx_core.specs.Lowering.Lowering.{LoweredExpr}
+use Rattle.dslx_core.specs.Lowering.Patterns.{LoweredShape, Lowers, LowersPattern}
+use Rattle.dslx_core.specs.Lowering.Trees.{LowersType}
+use Rattle.dslx_total.specs.Expressions.Beside.{NamesHaveWidths, StandsBeside, has_widths}
+
+-- ---- expressions
+
+abbrev pub type_of_lowered : Option LoweredExpr → Option DslxType
+type_of_lowered None = None
+type_of_lowered (Some e) = Some e.ty
+
+-- where these instances alone may be reached
+abbrev pub reaching : Known → (Instance → Bool) → Known
+reaching known here = record known { is_sound = here }
+
+-- an expression, a block or a loop: where nothing is wrong with it, what it becomes has its type
+abbrev pub PartLowers : SightJudging → Lowers → Type 0
+PartLowers j l = (here : Instance → Bool) (sight : Sight) (env : Env) (place : CorePlace) → IsWellTyped sight env → StandsBeside here sight place → IsFine (reaching sight.known here) (j sight)
+    → type_of_lowered (l place) ≡ (j sight).ty
+
+-- it becomes something, of the type that it has
+pub record IsLoweredAsJudged (j : Judgement) (o : Option LoweredExpr) : Type 0 where
+  pub expr : LoweredExpr
+  pub is : o ≡ Some expr
+  pub typed : j.ty ≡ Some expr.ty
+
+-- in each place that stands beside what is in sight, where nothing is wrong with it
+abbrev pub IsLoweredWhereFine : SightJudging → Lowers → Type 0
+IsLoweredWhereFine j l = (here : Instance → Bool) (sight : Sight) (env : Env) (place : CorePlace) → IsWellTyped sight env → StandsBeside here sight place → IsFine (reaching sight.known here) (j sight)
+    → IsLoweredAsJudged (j sight) (l place)
+
+-- where it has no fault its type keeps the limit on words
+abbrev pub KeepsLimits : List Fault → Option DslxType → Type 0
+KeepsLimits faults ty = faults ≡ [] → (t : DslxType) → ty ≡ Some t → nat_le (width_of_type t) 128 ≡ true
+
+abbrev pub IsLimited : SightJudging → Type 0
+IsLimited j = (sight : Sight) → KeepsLimits (j sight).faults (j sight).ty
+
+-- an expression that has a value of its type, and becomes something of this type
+pub record ExprLowers (e : ExprPair) (l : Lowers) : Type 0 where
+  pub meaning : Meant
+  pub gives : ExprGives e meaning
+  pub lowers : PartLowers (e.1 false) l
+  pub limited : IsLimited (e.1 false)
+
+-- ---- types and numbers
+
+-- a written type is the same in both
+abbrev pub TypeLowers : SightJudging → LowersType → Type 0
+TypeLowers j l = (here : Instance → Bool) (sight : Sight) (env : Env) (place : CorePlace) → IsWellTyped sight env → StandsBeside here sight place → IsFine (reaching sight.known here) (j sight)
+    → l place ≡ (j sight).ty
+
+-- all bits in it have a width
+abbrev pub IsWide : SightJudging → Type 0
+IsWide j = (sight : Sight) → NamesHaveWidths sight.known → (t : DslxType) → (j sight).ty ≡ Some t → has_widths t ≡ true
+
+-- it becomes the type that it is judged to be
+pub record TypeIsLowered (j : Judgement) (o : Option DslxType) : Type 0 where
+  pub ty : DslxType
+  pub is : o ≡ Some ty
+  pub typed : j.ty ≡ Some ty
+
+abbrev pub TypeIsLoweredWhereFine : SightJudging → LowersType → Type 0
+TypeIsLoweredWhereFine j l = (here : Instance → Bool) (sight : Sight) (env : Env) (place : CorePlace) → IsWellTyped sight env → StandsBeside here sight place → IsFine (reaching sight.known here) (j sight)
+    → TypeIsLowered (j sight) (l place)
+
+pub record WrittenLowers (j : SightJudging) (l : LowersType) : Type 0 where
+  pub meaning : Typing
+  pub stands : TypeStands j meaning
+  pub lowers : TypeLowers j l
+  pub wide : IsWide j
+
+-- a number that is written with its type is a value of it
+abbrev pub NumberLowers : SightJudging → (CorePlace → Option DslxValue) → Type 0
+NumberLowers j l = (here : Instance → Bool) (sight : Sight) (env : Env) (place : CorePlace) → IsWellTyped sight env → StandsBeside here sight place → IsFine (reaching sight.known here) (j sight)
+    → option_map type_of_value (l place) ≡ (j sight).ty
+
+-- ---- patterns
+
+-- nothing breaks a rule or passes a limit, and these instances alone are reached
+pub record IsClean (here : Instance → Bool) (named : List Fault) (found : List Instance) : Type 0 where
+  pub faults : named ≡ []
+  pub reached : list_all here found ≡ true
+
+-- a pattern becomes a shape, and the place behind it stands beside what is in sight behind it
+pub record ShapeStands (here : Instance → Bool) (sight : Sight) (o : Option LoweredShape) : Type 0 where
+  pub shape : LoweredShape
+  pub is : o ≡ Some shape
+  pub behind : StandsBeside here sight shape.place
+
+-- a pattern, in a pattern that stands at an outer place, behind what is bound so far
+pub record PatternLowers (p : PatternJudging) (l : LowersPattern) : Type 0 where
+  pub lowers : (here : Instance → Bool) (may_fail : Bool) (sight : Sight) (t : DslxType) (names : List (List ℕ)) (locals : List Typed) (env : Env) (outer place : CorePlace)
+      → IsWellTyped sight env → StandsBeside here sight outer → StandsBeside here (with_typed sight locals) place → IsDeclared (types_at sight) t
+      → IsClean here (p may_fail sight (Some t) names locals).faults (p may_fail sight (Some t) names locals).reached
+      → ShapeStands here (with_typed sight (p may_fail sight (Some t) names locals).locals) (l.lower outer place t)
+  -- where it binds nothing its names are constants'
+  pub unbound : (may_fail : Bool) (sight : Sight) (t : Option DslxType) (names : List (List ℕ)) (locals : List Typed) → is_empty (p may_fail sight t names locals).names ≡ true
+      → (list_all sight.known.items.is_constant l.names ≡ true) × (is_empty names ≡ true)
+  -- and where they are it binds nothing
+  pub plain : (may_fail : Bool) (sight : Sight) (t : Option DslxType) (names : List (List ℕ)) (locals : List Typed) → list_all sight.known.items.is_constant l.names ≡ true
+      → (p may_fail sight t names locals).locals ≡ locals

@@ -1,0 +1,30 @@
+//! That the `config` of each proc of a text without faults becomes something, wherever what it spawns is at hand.
+ghost use Rattle.std.specs.Prelude.{◌≡◌, ℕ, List, [], Option, Some};
+ghost use Rattle.dslx_tree.specs.declared.item.Module.{Module};
+ghost use Rattle.dslx_tree.specs.declared.process.Proc.{Proc};
+ghost use Rattle.dslx_meaning.specs.Items.{meanings_of};
+ghost use Rattle.dslx_meaning.specs.Network.{top_proc};
+ghost use Rattle.dslx_meaning.specs.declared.value.DslxValue.{DslxValue};
+ghost use Rattle.dslx_meaning.specs.Rules.ModuleRules.{faults_of};
+ghost use Rattle.dslx_typing.specs.Laws.Recursion.{HasNoCycle};
+ghost use Rattle.dslx_typing.specs.Depends.Settled.{BindsNoConstant};
+ghost use Rattle.dslx_total.specs.Families.Plain.{ProcsBindNoConstant};
+ghost use Rattle.dslx_total.specs.Configs.ReachedProcs.{IsReachedProc};
+ghost use Rattle.dslx_total.specs.Configs.Becoming.{ConfigBecomes, TopBecomes};
+
+/// Where no part of a text breaks a rule or passes a limit, each instance of a proc that is checked, and whose number arguments
+/// are of their own types, spawns such instances alone; and wherever all of these are at hand, its `config` becomes channels,
+/// children and members. The instance of the top proc is such a one, and the ends of its `config` become outer channels. No
+/// item may reach itself, no function bind the name of a constant and no proc by its number parameters, also where nothing
+/// calls or spawns it.
+pub fn accepted_configs_are_lowered()
+    ensures configs { (m : Module) (top : Option (List ℕ)) → HasNoCycle m → BindsNoConstant m → ProcsBindNoConstant m → faults_of m top ≡ []
+        → (p : Proc) (numbers : List DslxValue) → IsReachedProc m (meanings_of m) top p numbers → ConfigBecomes m (meanings_of m) top p numbers }
+    ensures tops { (m : Module) (top : Option (List ℕ)) → HasNoCycle m → BindsNoConstant m → ProcsBindNoConstant m → faults_of m top ≡ []
+        → (p : Proc) → top_proc m top ≡ Some p → TopBecomes m (meanings_of m) top p }
+{
+    dslx_typing::judged::instances_reach_one_another();
+    dslx_typing::known::all_items_are_known();
+    dslx_typing::accepted::items_of_accepted_texts_are_fine();
+    dslx_scope::written_types::written_types_are_lowered();
+}

@@ -1,0 +1,24 @@
+//! That runs of a text's network and of a checked text that stands for it have the same outcome.
+ghost use Rattle.std.specs.Prelude.{◌≡◌, ◌<◌, ◌^◌, ℕ, List, Option};
+ghost use Rattle.xb_bits.specs.Word.{Word};
+ghost use Rattle.net_core.specs.Cuts.{final_cut};
+ghost use Rattle.net_core.specs.Outcomes.{outcome_of};
+ghost use Rattle.net_core.specs.WellFormed.{AreBehaviorsOf, EachKeepsTypes, IsInputs, IsNet, run_of};
+ghost use Rattle.dslx_tree.specs.declared.item.Module.{Module};
+ghost use Rattle.dslx_meaning.specs.Network.{behaviors_of, network_of};
+ghost use Rattle.dslx_core.specs.CoreOf.{CoreOf};
+ghost use Rattle.dslx_core.specs.Designs.{core_behaviors, core_network};
+ghost use Rattle.dslx_core.specs.declared.design.Design.{Design};
+
+/// Where a checked text stands for a text, and its network is one whose procs keep types, runs of the two have the same outcome,
+/// for all inputs, numbers of activations and depths: each channel carries the same words, and each proc ends in the same state
+/// or waits at the same site.
+pub fn made_designs_have_the_same_outcomes()
+    ensures { (m : Module) (top : Option (List ℕ)) (design : Design) (inputs : List (List Word)) (n : ℕ) (depths : List ℕ) →
+        CoreOf m top design → IsNet (core_network design) → AreBehaviorsOf (core_network design) (core_behaviors design) → EachKeepsTypes (core_behaviors design)
+        → IsInputs (core_network design) inputs → n < 2 ^ 32
+        → outcome_of (run_of (network_of m top) (behaviors_of m top) inputs n depths) (final_cut (run_of (network_of m top) (behaviors_of m top) inputs n depths))
+        ≡ outcome_of (run_of (core_network design) (core_behaviors design) inputs n depths) (final_cut (run_of (core_network design) (core_behaviors design) inputs n depths)) }
+{
+    ir_eval::outcomes::same_behavior_has_the_same_outcomes();
+}

@@ -1,0 +1,3 @@
+-- For other crates' proofs; nothing else of this folder is.
+-- laws of folds over trees
+pub mod Folds

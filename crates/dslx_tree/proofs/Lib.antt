@@ -1,0 +1,6 @@
+-- chains of operators
+pub mod OnChains
+-- operators
+pub mod OnOperators
+-- for other crates' proofs
+pub mod Lemmas

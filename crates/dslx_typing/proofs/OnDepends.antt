@@ -1,0 +1,18 @@
+-- parts beside their trees
+pub mod Links
+-- judgements by those of their parts
+pub mod Same
+-- what parts need
+pub mod Places
+-- calls
+pub mod OfCalls
+-- patterns, matches, statements and loops
+pub mod OfControl
+-- the induction on trees
+pub mod Joined
+-- what mentions no proc
+pub mod NoProcs
+-- items, by chains of items
+pub mod OfItems
+-- chains that are long enough
+pub mod Stages

@@ -1,0 +1,145 @@
+-- Instances that a judgement reaches, by those of its parts.
+use Rattle.std.proofs.Common.{◌≡◌, ◌++◌, ℕ, Bool, true, false, if◌then◌else◌, List, [], ◌∷◌, Option, Some, None}
+use Rattle.xb_span.specs.declared.span.Span.{Span}
+use Rattle.xb_span.specs.declared.fault.Fault.{Fault}
+use Rattle.dslx_tree.specs.declared.ident.Ident.{Ident}
+use Rattle.dslx_tree.specs.declared.item.Enum.{Enum}
+use Rattle.dslx_meaning.specs.Environment.{given_in}
+use Rattle.dslx_meaning.specs.Items.{as_enum, item_named}
+use Rattle.dslx_meaning.specs.Lists.{is_in}
+use Rattle.dslx_meaning.specs.Types.{holds_token}
+use Rattle.dslx_meaning.specs.declared.ty.DslxType.{DslxType, out-DslxType}
+use Rattle.dslx_meaning.specs.declared.value.Bare.{Bare}
+use Rattle.dslx_meaning.specs.declared.value.DslxValue.{DslxValue}
+use Rattle.dslx_meaning.specs.Rules.AggregateRules.{element_in, field_judged, is_some_tuple, pair_alone, range_faults, wanted_faults}
+use Rattle.dslx_meaning.specs.Rules.ConstantRules.{ConstantSeen, bare_judged, constant_of, constant_or_bare}
+use Rattle.dslx_meaning.specs.Rules.Judging.{ExprPair, Instance, Judgement, Judging, Known, Sight, Typed, alone, bare_of, breaks, no_token, settled, span_of, typed_in}
+use Rattle.dslx_meaning.specs.Rules.Judgings.{ArmSeen, FieldSeen, PatternJudging, SightJudging, StatementJudging}
+use Rattle.dslx_meaning.specs.Rules.ControlRules.{arm_judged}
+use Rattle.dslx_meaning.specs.Rules.Mentions.{Mention, Mentions, NamesBound}
+use Rattle.dslx_meaning.specs.Rules.NameRules.{local_or_other, member_judged, member_of, name_judged, number_or_item, item_value}
+use Rattle.dslx_typing.specs.Judged.Reached.{AllNamed, MentionsReach}
+
+-- ---- lists
+
+pub join : (P : List ℕ → Bool) (xs ys : List Instance) → AllNamed P xs → AllNamed P ys → AllNamed P (xs ++ ys)
+join P [] ys h k = k
+join P (x ∷ xs) ys h k = (h.0, join P xs ys h.1 k)
+
+pub join_three : (P : List ℕ → Bool) (xs ys zs : List Instance) → AllNamed P xs → AllNamed P ys → AllNamed P zs → AllNamed P ((xs ++ ys) ++ zs)
+join_three P xs ys zs h k l = join P (xs ++ ys) zs (join P xs ys h k) l
+
+pub parts : (P : List ℕ → Bool) (known : Known) (xs ys : List Mention) → MentionsReach P known (xs ++ ys) → MentionsReach P known xs × MentionsReach P known ys
+parts P known [] ys h = (tt, h)
+parts P known (x ∷ xs) ys h = let r = parts P known xs ys h.1 in ((h.0, r.0), r.1)
+
+pub three_parts : (P : List ℕ → Bool) (known : Known) (xs ys zs : List Mention) → MentionsReach P known ((xs ++ ys) ++ zs) → MentionsReach P known xs × MentionsReach P known ys × MentionsReach P known zs
+three_parts P known xs ys zs h =
+    let r = parts P known (xs ++ ys) zs h in
+    let q = parts P known xs ys r.0 in
+    (q.0, q.1, r.1)
+
+-- ---- expressions as what is around them sees them
+
+pub unmarked : (P : List ℕ → Bool) (span : Span) (j : Judgement) → AllNamed P j.reached → AllNamed P (no_token span j).reached
+unmarked P span j h = by_type j.ty j.faults j.reached j.size h
+  where
+    by_test : (u : DslxType) (faults : List Fault) (reached : List Instance) (size : Option ℕ) (b : Bool) → AllNamed P reached
+        → AllNamed P (if◌then◌else◌ {A = Judgement} b (record { ty = None; faults = faults ++ breaks 28 span ∷ []; reached = reached; size = size }) (record { ty = Some u; faults = faults; reached = reached; size = size })).reached
+    by_test u faults reached size true k = k
+    by_test u faults reached size false k = k
+
+    by_type : (ty : Option DslxType) (faults : List Fault) (reached : List Instance) (size : Option ℕ) → AllNamed P reached → AllNamed P (no_token span (record { ty = ty; faults = faults; reached = reached; size = size })).reached
+    by_type None faults reached size k = k
+    by_type (Some u) faults reached size k = by_test u faults reached size (holds_token u) k
+
+pub pair_reaches : (P : List ℕ → Bool) (sight : Sight) (e : ExprPair) → AllNamed P (e.1 false sight).reached → AllNamed P (pair_alone sight e).reached
+pair_reaches P sight e h = by_type (e.1 false sight).ty (e.1 false sight) h
+  where
+    if_pair : Judgement → Option DslxType → Judgement
+    if_pair j None = j
+    if_pair j (Some t) = if is_some_tuple (out-DslxType t) then j else no_token (span_of e) j
+
+    by_test : (b : Bool) (j : Judgement) → AllNamed P j.reached → AllNamed P (if b then j else no_token (span_of e) j).reached
+    by_test true j k = k
+    by_test false j k = unmarked P (span_of e) j k
+
+    by_type : (o : Option DslxType) (j : Judgement) → AllNamed P j.reached → AllNamed P (if_pair j o).reached
+    by_type None j k = k
+    by_type (Some t) j k = by_test (is_some_tuple (out-DslxType t)) j k
+
+-- an element of a literal, which may be a number without a type
+abbrev element_by : Sight → Option DslxType → ExprPair → Option Bare → Judgement
+element_by sight wanted e None = let j = alone sight e in record j { faults = j.faults ++ wanted_faults (span_of e) wanted j.ty }
+element_by sight wanted e (Some number) = record bare_judged { ty = wanted; faults = range_faults (span_of e) wanted number }
+
+pub element_reaches : (P : List ℕ → Bool) (sight : Sight) (wanted : Option DslxType) (e : ExprPair) → AllNamed P (alone sight e).reached → AllNamed P (element_in sight wanted e).reached
+element_reaches P sight wanted e h = by_bare (bare_of e)
+  where
+    by_bare : (o : Option Bare) → AllNamed P (element_by sight wanted e o).reached
+    by_bare None = h
+    by_bare (Some number) = tt
+
+-- a constant, which may be a number without a type
+abbrev constant_by : Sight → ExprPair → Option Bare → ConstantSeen
+constant_by sight e None = constant_of sight e
+constant_by sight e (Some number) = record { judgement = bare_judged; bare = Some number; value = None }
+
+pub constant_reaches : (P : List ℕ → Bool) (sight : Sight) (e : ExprPair) → AllNamed P (alone sight e).reached → AllNamed P (constant_or_bare sight e).judgement.reached
+constant_reaches P sight e h = by_bare (bare_of e)
+  where
+    by_bare : (o : Option Bare) → AllNamed P (constant_by sight e o).judgement.reached
+    by_bare None = h
+    by_bare (Some number) = tt
+
+-- ---- names
+
+pub name_reaches : (P : List ℕ → Bool) (span : Span) (sight : Sight) (name : List ℕ) → AllNamed P (name_judged span sight name).reached
+name_reaches P span sight name = by_local (typed_in name sight.locals)
+  where
+    by_item : (b : Bool) → AllNamed P (item_value span sight name b).reached
+    by_item true = tt
+    by_item false = tt
+
+    by_unknown : (b : Bool) → AllNamed P (if b then settled span None [] [] (Some 1) else item_value span sight name (sight.known.items.is_constant name)).reached
+    by_unknown true = tt
+    by_unknown false = by_item (sight.known.items.is_constant name)
+
+    by_number : (o : Option DslxValue) → AllNamed P (number_or_item span sight name o).reached
+    by_number None = by_unknown (is_in name sight.unknown)
+    by_number (Some v) = tt
+
+    by_local : (o : Option (Option DslxType)) → AllNamed P (local_or_other span sight name o).reached
+    by_local None = by_number (given_in name sight.numbers)
+    by_local (Some ty) = tt
+
+pub member_reaches : (P : List ℕ → Bool) (span : Span) (sight : Sight) (e a : Ident) → AllNamed P (member_judged span sight e a).reached
+member_reaches P span sight e a = by_enum (as_enum (item_named e.name sight.known.whole.items))
+  where
+    by_enum : (o : Option Enum) → AllNamed P (member_of span sight e a o).reached
+    by_enum None = tt
+    by_enum (Some declared) = tt
+
+-- ---- what is to hold of each sort
+
+-- an expression, a block, and what is judged like a type
+abbrev pub Reaches : (List ℕ → Bool) → Judging → Mentions → Type 0
+Reaches P j ms = (bound : List (List ℕ)) (on_top : Bool) (sight : Sight) → MentionsReach P sight.known (ms bound) → AllNamed P (j on_top sight).reached
+
+abbrev pub TypeReaches : (List ℕ → Bool) → SightJudging → Mentions → Type 0
+TypeReaches P j ms = (bound : List (List ℕ)) (sight : Sight) → MentionsReach P sight.known (ms bound) → AllNamed P (j sight).reached
+
+abbrev pub PatternReaches : (List ℕ → Bool) → PatternJudging → NamesBound → Type 0
+PatternReaches P p n = (bound : List (List ℕ)) (may_fail : Bool) (sight : Sight) (t : Option DslxType) (names : List (List ℕ)) (locals : List Typed) → MentionsReach P sight.known (n.mentions bound)
+    → AllNamed P (p may_fail sight t names locals).reached
+
+pub record StatementReaches (P : List ℕ → Bool) (s : StatementJudging) (n : NamesBound) : Type 0 where
+  pub known : (on_top : Bool) (sight : Sight) → (s on_top sight).sight.known ≡ sight.known
+  pub reached : (bound : List (List ℕ)) (on_top : Bool) (sight : Sight) → MentionsReach P sight.known (n.mentions bound) → AllNamed P (s on_top sight).reached
+
+abbrev pub FieldReaches : (List ℕ → Bool) → FieldSeen → Mentions → Type 0
+FieldReaches P f ms = (bound : List (List ℕ)) (sight : Sight) (struct : Option DslxType) → MentionsReach P sight.known (ms bound) → AllNamed P (field_judged sight struct f).reached
+
+abbrev pub ArmReaches : (List ℕ → Bool) → ArmSeen → Mentions → Type 0
+ArmReaches P a ms = (bound : List (List ℕ)) (sight : Sight) (t : Option DslxType) → MentionsReach P sight.known (ms bound)
+    → AllNamed P ((arm_judged sight t a).seen.reached ++ (arm_judged sight t a).value.reached)

@@ -1,0 +1,135 @@
+-- Expressions that must be constant, where nothing is wrong with them: they have values, widths and sizes their numbers, and
+-- bounds of slices theirs.
+use Rattle.std.proofs.Common.{◌≡◌, ◌&&◌, ◌||◌, ◌++◌, ◌-◌, ℕ, zero, suc, Bool, true, false, not, if◌then◌else◌, Option, Some, None, refl, sym, ap, ◌∙◌}
+use mathlib.Core.Bool.{true≢false}
+use Rattle.xb_bits.specs.Word.{Word}
+use Rattle.xb_span.specs.declared.span.Span.{Span}
+use Rattle.dslx_meaning.specs.Lists.{and_then, with_both}
+use Rattle.dslx_meaning.specs.Types.{unsigned}
+use Rattle.dslx_meaning.specs.Values.{amount_in, unsigned_of}
+use Rattle.dslx_meaning.specs.Environment.{Env}
+use Rattle.dslx_meaning.specs.Meaning as m
+use Rattle.dslx_meaning.specs.Meaning.{Meant, bound_of, size_of, some_count}
+use Rattle.dslx_meaning.specs.Operators.{slice_value}
+use Rattle.dslx_meaning.specs.declared.ty.DslxType.{DslxType}
+use Rattle.dslx_meaning.specs.declared.value.DslxValue.{DslxValue}
+use Rattle.dslx_meaning.specs.declared.value.Bare.{Bare}
+use Rattle.dslx_meaning.specs.Rules.ConstantRules.{ConstantSeen, CountSeen, bare_count, bare_judged, constant_of, constant_or_bare, count_faults, count_number, count_of, count_type_faults, count_with, is_unsigned, is_zero, names_a_local, number_of_value, size_faults}
+use Rattle.dslx_meaning.specs.Rules.Judging.{ExprPair, Sight, alone, bare_of, breaks_if, one_and, plus_size, span_of}
+use Rattle.dslx_meaning.specs.Rules.OperatorRules.{bound_number, bounds_wrong, is_bits, is_negative_bound, slice_faults, slice_judged, unless_type}
+use Rattle.dslx_meaning.specs.Rules.PatternRules.{is_there}
+use Rattle.dslx_typing.specs.Typed.Complete.{IsFine}
+use Rattle.dslx_typing.specs.Typed.InSight.{place_of}
+use Rattle.dslx_typing.specs.Typed.Kinds.{is_of}
+use Rattle.dslx_typing.specs.Typed.WellTyped.{IsWellTyped, types_at}
+use Rattle.dslx_typing.proofs.Lemmas.Laws.{is_unsigned_value}
+use Rattle.dslx_typing.proofs.Lemmas.Typed.{bound_is_meant, meant_is_known, not_false, one_type, or_false, size_is_meant, slice_gives}
+use Rattle.dslx_typing.specs.Sound.Sound.{ExprGives, HasItsValue, HasKnownValue}
+use Rattle.dslx_typing.proofs.OnSound.Fine.{all_in_three, alone_has, given, none_in, none_in_three, not_broken, passed, settled_fine, whole}
+
+-- ---- places
+
+-- where items mean what is known of them, a place is its own
+pub place_is : (sight : Sight) (env : Env) → IsWellTyped sight env → place_of sight env.bound ≡ env
+place_is sight env h = λ i. record { items = sym h.items i; bound = env.bound }
+
+value_is : (sight : Sight) (env : Env) (e : ExprPair) (x : Meant) → ExprGives e x → IsWellTyped sight env → m.value_of e.0 (place_of sight env.bound) ≡ x.value env
+value_is sight env e x s h = λ i. (s.is i).value (place_is sight env h i)
+
+-- ---- constants
+
+pub constant_has : (sight : Sight) (env : Env) (e : ExprPair) (x : Meant) → ExprGives e x → IsWellTyped sight env → IsFine sight.known (constant_of sight e).judgement → HasKnownValue sight env e x
+constant_has sight env e x s h fine =
+    let a = alone sight e in
+    let local = breaks_if (names_a_local sight e) 5 (span_of e) in
+    let size = size_faults sight.known (span_of e).to (record a { faults = a.faults ++ local }) in
+    let f = none_in_three a.faults local size fine.faults in
+    let g = alone_has sight env e x s h f.0 fine.reached in
+    record { ty = g.0; typed = g.1; gives = g.2; known = meant_is_known sight env.bound e g.0 g.2.value h.place fine g.1 (value_is sight env e x s h ∙ g.2.is) }
+
+-- ---- widths and sizes
+
+-- a number that isn't 0 counts
+counts : (n : ℕ) → is_zero n ≡ false → some_count n ≡ Some n
+counts zero e = absurd (true≢false e)
+counts (suc n) e = refl
+
+unsigned_given : (t : DslxType) (v : DslxValue) → is_unsigned t ≡ true → is_of t v ≡ true → (w : Word) × (unsigned_of v ≡ Some w)
+unsigned_given t v u o =
+    let b = is_unsigned_value v (ap is_unsigned (one_type t v o) ∙ u) in
+    (b.0.word, ap amount_in b.1.0 ∙ ap (λ s. if s then None else Some b.0.word) b.2)
+
+-- a constant, or the number without a type that an expression is
+abbrev seen_by : Sight → ExprPair → Option Bare → ConstantSeen
+seen_by sight e None = constant_of sight e
+seen_by sight e (Some number) = record { judgement = bare_judged; bare = Some number; value = None }
+
+abbrev counted_by : Sight → ExprPair → Option Bare → CountSeen
+counted_by sight e o = count_with (span_of e) (seen_by sight e o) (count_number (seen_by sight e o))
+
+pub count_has : (sight : Sight) (env : Env) (e : ExprPair) (x : Meant) → ExprGives e x → IsWellTyped sight env → IsFine sight.known (count_of sight e).judgement → (n : ℕ) × ((count_of sight e).count ≡ Some n)
+count_has sight env e x s h fine = by_bare (bare_of e) fine
+  where
+    by_bare : (o : Option Bare) → IsFine sight.known (counted_by sight e o).judgement → (n : ℕ) × ((counted_by sight e o).count ≡ Some n)
+    by_bare None f =
+        let c = constant_of sight e in
+        let q = none_in_three c.judgement.faults (count_type_faults (span_of e) c.judgement.ty) (count_faults (span_of e) (number_of_value c.value)) f.faults in
+        let k = constant_has sight env e x s h (record { faults = q.0; reached = f.reached }) in
+        let u = unsigned_given k.ty k.gives.value (passed (is_unsigned k.ty) 4 (span_of e) (ap (count_type_faults (span_of e)) (sym k.typed) ∙ q.1)) k.gives.of in
+        let number : number_of_value c.value ≡ Some u.0.value = ap number_of_value k.known ∙ ap (λ o. and_then o (λ w. Some w.value)) u.1 in
+        (u.0.value, ap (λ o. and_then o some_count) number ∙ counts u.0.value (not_broken (is_zero u.0.value) 4 (span_of e) (ap (count_faults (span_of e)) (sym number) ∙ q.2)))
+    by_bare (Some number) f = (bare_count number, counts (bare_count number) (not_broken (is_zero (bare_count number)) 4 (span_of e) f.faults))
+
+-- the number that is known is the one that is meant
+pub count_is : (sight : Sight) (env : Env) (e : ExprPair) (x : Meant) → ExprGives e x → IsWellTyped sight env → (n : ℕ) → (count_of sight e).count ≡ Some n → size_of x env ≡ Some n
+count_is sight env e x s h n q = sym (λ i. size_of (s.is i) (place_is sight env h i)) ∙ size_is_meant sight env.bound e n h.place q
+
+-- ---- slices
+
+bound_there : (o : Option ℕ) → is_there o ≡ true → (n : ℕ) × (o ≡ Some n)
+bound_there None e = absurd (true≢false (sym e))
+bound_there (Some n) e = (n, refl)
+
+not_negative : (p q b : Bool) → (p || q) ≡ true → ((p || q) && not b) ≡ false → b ≡ true
+not_negative true q b e f = not_false b f
+not_negative false true b e f = not_false b f
+not_negative false false b e f = absurd (true≢false (sym e))
+
+pub bound_has : (sight : Sight) (env : Env) (e : ExprPair) (x : Meant) → ExprGives e x → IsWellTyped sight env → IsFine sight.known (constant_or_bare sight e).judgement → is_negative_bound (constant_or_bare sight e) ≡ false
+    → (n : ℕ) × (bound_number (constant_or_bare sight e) ≡ Some n)
+bound_has sight env e x s h fine positive = by_bare (bare_of e) fine positive
+  where
+    by_bare : (o : Option Bare) → IsFine sight.known (seen_by sight e o).judgement → is_negative_bound (seen_by sight e o) ≡ false → (n : ℕ) × (bound_number (seen_by sight e o) ≡ Some n)
+    by_bare None f q =
+        let k = constant_has sight env e x s h (record { faults = f.faults; reached = f.reached }) in
+        bound_there (bound_number (constant_of sight e))
+        (not_negative (is_there (constant_of sight e).value) false (is_there (bound_number (constant_of sight e))) (ap (λ o. is_there o || false) k.known) q)
+    by_bare (Some number) f q = bound_there (bound_number (seen_by sight e (Some number))) (not_negative false true (is_there (bound_number (seen_by sight e (Some number)))) refl q)
+
+bound_is : (sight : Sight) (env : Env) (e : ExprPair) (x : Meant) → ExprGives e x → IsWellTyped sight env → (n : ℕ) → bound_number (constant_or_bare sight e) ≡ Some n → bound_of x env ≡ Some n
+bound_is sight env e x s h n q = sym (λ i. bound_of (s.is i) (place_is sight env h i)) ∙ bound_is_meant sight env.bound e n h.place q
+
+pub slice_has : (span : Span) (sight : Sight) (env : Env) (e a c : ExprPair) (x y z : Meant) → ExprGives e x → ExprGives a y → ExprGives c z → IsWellTyped sight env → IsFine sight.known (slice_judged span sight e a c)
+    → HasItsValue (types_at sight) (slice_judged span sight e a c) (and_then (x.value env) (λ v. with_both (bound_of y env) (bound_of z env) (slice_value v)))
+slice_has span sight env e a c x y z se sa sc h fine =
+    let own = alone sight e in
+    let from = constant_or_bare sight a in
+    let to = constant_or_bare sight c in
+    let ty = and_then own.ty (λ t. with_both (bound_number from) (bound_number to) (λ i j. Some (unsigned (j - i)))) in
+    let faults = ((own.faults ++ from.judgement.faults) ++ to.judgement.faults) ++ slice_faults span own.ty from to in
+    let reached = (own.reached ++ from.judgement.reached) ++ to.judgement.reached in
+    let size = one_and (plus_size own.size (plus_size from.judgement.size to.judgement.size)) in
+    let s = settled_fine sight.known span ty faults reached size fine in
+    let p = none_in ((own.faults ++ from.judgement.faults) ++ to.judgement.faults) (slice_faults span own.ty from to) s.faults in
+    let q = none_in_three own.faults from.judgement.faults to.judgement.faults p.0 in
+    let k = all_in_three sight.known.is_sound own.reached from.judgement.reached to.judgement.reached s.reached in
+    let types = (unless_type is_bits 18 span own.ty ++ unless_type is_bits 18 span from.judgement.ty) ++ unless_type is_bits 18 span to.judgement.ty in
+    let wrong = (is_negative_bound from || is_negative_bound to) || bounds_wrong own.ty (bound_number from) (bound_number to) in
+    let r = not_broken wrong 18 span (none_in types (breaks_if wrong 18 span) p.1).1 in
+    let negative = or_false (is_negative_bound from) (is_negative_bound to) (or_false (is_negative_bound from || is_negative_bound to) (bounds_wrong own.ty (bound_number from) (bound_number to)) r).0 in
+    let g = alone_has sight env e x se h q.0 k.0 in
+    let m = bound_has sight env a y sa h (record { faults = q.1; reached = k.1 }) negative.0 in
+    let n = bound_has sight env c z sc h (record { faults = q.2; reached = k.2 }) negative.1 in
+    whole (types_at sight) sight.known span ty faults reached size (unsigned (n.0 - m.0)) (and_then (x.value env) (λ v. with_both (bound_of y env) (bound_of z env) (slice_value v))) s
+    (λ d. and_then (g.1 d) (λ t. with_both (m.1 d) (n.1 d) (λ i j. Some (unsigned (j - i)))))
+    (slice_gives (types_at sight) span sight e a c (x.value env) (bound_of y env) (bound_of z env) (given (types_at sight) own (x.value env) g) (bound_is sight env a y sa h) (bound_is sight env c z sc h))

@@ -1,0 +1,96 @@
+-- Names, members of enums and numbers, where nothing is wrong with them.
+use Rattle.std.proofs.Common.{◌≡◌, ◌++◌, ℕ, Bool, true, false, not, if◌then◌else◌, List, [], ◌∷◌, Option, Some, None, refl, sym, ap, ◌∙◌}
+use mathlib.Core.Bool.{true≢false}
+use Rattle.std.specs.Option.{option_map}
+use Rattle.xb_span.specs.declared.span.Span.{Span}
+use Rattle.dslx_tree.specs.declared.ident.Ident.{Ident}
+use Rattle.dslx_tree.specs.declared.item.Definition.{Definition}
+use Rattle.dslx_tree.specs.declared.item.Definition.TheVariants as d
+use Rattle.dslx_tree.specs.declared.item.Enum.{Enum}
+use Rattle.dslx_meaning.specs.Lists.{and_then, is_in}
+use Rattle.dslx_meaning.specs.Types.{bool_type}
+use Rattle.dslx_meaning.specs.Values.{bool_value, type_of_value}
+use Rattle.dslx_meaning.specs.Operators.{number_value}
+use Rattle.dslx_meaning.specs.Environment.{Env, given_in, value_of_name}
+use Rattle.dslx_meaning.specs.Items.{as_enum, item_named}
+use Rattle.dslx_meaning.specs.Meaning.{Typing}
+use Rattle.dslx_meaning.specs.declared.ty.DslxType.{DslxType}
+use Rattle.dslx_meaning.specs.declared.value.Bare.{Bare}
+use Rattle.dslx_meaning.specs.declared.value.DslxValue.{DslxValue}
+use Rattle.dslx_meaning.specs.Rules.AggregateRules.{number_judged, range_faults}
+use Rattle.dslx_meaning.specs.Rules.Judging.{Sight, breaks, breaks_if, settled, typed_in}
+use Rattle.dslx_meaning.specs.Rules.Judgings.{SightJudging}
+use Rattle.dslx_meaning.specs.Rules.Mentions.{AsType, is_cyclic, is_of_use}
+use Rattle.dslx_meaning.specs.Rules.NameRules.{has_member, item_value, local_or_other, member_judged, member_of, name_judged, number_or_item}
+use Rattle.dslx_typing.specs.Typed.Complete.{IsFine}
+use Rattle.dslx_typing.specs.Typed.WellTyped.{IsWellTyped, types_at}
+use Rattle.dslx_typing.proofs.Lemmas.Typed.{bool_gives, member_gives, name_gives, none_some, number_gives}
+use Rattle.dslx_typing.specs.Sound.Sound.{HasItsValue, PartGives, TypeStands}
+use Rattle.dslx_typing.proofs.OnSound.Fine.{none_in, settled_fine, some_fault, whole}
+
+-- ---- names
+
+name_known : (span : Span) (sight : Sight) (name : List ℕ) (env : Env) → IsWellTyped sight env → IsFine sight.known (name_judged span sight name) → (t : DslxType) × ((name_judged span sight name).ty ≡ Some t)
+name_known span sight name env h fine = by_local (typed_in name sight.locals) refl fine
+  where
+    by_item : (b : Bool) → sight.known.items.is_constant name ≡ b → IsFine sight.known (item_value span sight name b) → (t : DslxType) × ((item_value span sight name b).ty ≡ Some t)
+    by_item false q f = some_fault (breaks 1 span) [] (settled_fine sight.known span None (breaks 1 span ∷ []) [] (Some 1) f).faults
+    by_item true q f =
+        let v = h.known.constants name q in
+        (type_of_value v.0, (settled_fine sight.known span (option_map type_of_value (sight.known.items.constant name)) (breaks_if (is_cyclic sight.known.whole sight.home name) 3 span) [] (Some 1) f).ty ∙ ap (option_map type_of_value) v.1)
+
+    by_known : (b : Bool) → is_in name sight.unknown ≡ b → IsFine sight.known (if b then settled span None [] [] (Some 1) else item_value span sight name (sight.known.items.is_constant name))
+        → (t : DslxType) × ((if b then settled span None [] [] (Some 1) else item_value span sight name (sight.known.items.is_constant name)).ty ≡ Some t)
+    by_known true q f = absurd (true≢false (sym q ∙ ap (is_in name) h.valued))
+    by_known false q f = by_item (sight.known.items.is_constant name) refl f
+
+    by_number : (o : Option DslxValue) → IsFine sight.known (number_or_item span sight name o) → (t : DslxType) × ((number_or_item span sight name o).ty ≡ Some t)
+    by_number None f = by_known (is_in name sight.unknown) refl f
+    by_number (Some v) f = (type_of_value v, (settled_fine sight.known span (Some (type_of_value v)) [] [] (Some 1) f).ty)
+
+    by_local : (o : Option (Option DslxType)) → typed_in name sight.locals ≡ o → IsFine sight.known (local_or_other span sight name o) → (t : DslxType) × ((local_or_other span sight name o).ty ≡ Some t)
+    by_local None q f = by_number (given_in name sight.numbers) f
+    by_local (Some None) q f = absurd (h.typed name q)
+    by_local (Some (Some t)) q f = (t, (settled_fine sight.known span (Some t) [] [] (Some 1) f).ty)
+
+pub name_has : (span : Span) (sight : Sight) (name : List ℕ) (env : Env) → IsWellTyped sight env → IsFine sight.known (name_judged span sight name)
+    → HasItsValue (types_at sight) (name_judged span sight name) (value_of_name name env)
+name_has span sight name env h fine = let t = name_known span sight name env h fine in (t.0, t.1, name_gives span sight name env h t.0 t.1)
+
+-- ---- members
+
+enum_is_type : (o : Option Definition) (e : Enum) → as_enum o ≡ Some e → is_of_use AsType o ≡ true
+enum_is_type None e q = none_some e q
+enum_is_type (Some (d.Function f)) e q = none_some e q
+enum_is_type (Some (d.Proc p)) e q = none_some e q
+enum_is_type (Some (d.Constant c)) e q = none_some e q
+enum_is_type (Some (d.Alias a)) e q = none_some e q
+enum_is_type (Some (d.Struct s)) e q = none_some e q
+enum_is_type (Some (d.Enum x)) e q = refl
+
+pub member_has : (span : Span) (sight : Sight) (e a : Ident) (env : Env) → IsWellTyped sight env → IsFine sight.known (member_judged span sight e a)
+    → HasItsValue (types_at sight) (member_judged span sight e a) (env.items.member e.name a.name)
+member_has span sight e a env h fine = let t = by_enum (as_enum (item_named e.name sight.known.whole.items)) refl fine in (t.0, t.1, member_gives span sight e a env h t.0 t.1)
+  where
+    by_enum : (o : Option Enum) → as_enum (item_named e.name sight.known.whole.items) ≡ o → IsFine sight.known (member_of span sight e a o) → (t : DslxType) × ((member_of span sight e a o).ty ≡ Some t)
+    by_enum None q f = some_fault (breaks 1 e.span) [] (settled_fine sight.known span None (breaks 1 e.span ∷ []) [] (Some 1) f).faults
+    by_enum (Some declared) q f =
+        let t = h.known.types e.name (enum_is_type (item_named e.name sight.known.whole.items) declared q) in
+        let faults = breaks_if (is_cyclic sight.known.whole sight.home e.name) 3 e.span ++ breaks_if (not (has_member declared a.name)) 1 a.span in
+        (t.0, (settled_fine sight.known span (types_at sight e.name) faults [] (Some 1) f).ty ∙ t.1)
+
+-- ---- `true`, `false` and numbers
+
+pub bool_has : (span : Span) (b : Bool) → PartGives (λ sight. settled span (Some bool_type) [] [] (Some 1)) (λ env. Some (bool_value b))
+bool_has span b sight env h fine =
+    let own = (settled_fine sight.known span (Some bool_type) [] [] (Some 1) fine).ty in
+    (bool_type, own, bool_gives (types_at sight) span b bool_type own)
+
+pub number_has : (span : Span) (j : SightJudging) (f : Typing) (number : Bare) → TypeStands j f → PartGives (λ sight. number_judged span (Some (j sight)) number) (λ env. and_then (f env) (λ t. number_value t number))
+number_has span j f number st sight env h fine =
+    let written = j sight in
+    let wrong = range_faults span written.ty number in
+    let s = settled_fine sight.known span written.ty (written.faults ++ wrong) written.reached (Some 1) fine in
+    let t = st.known sight env h (record { faults = (none_in written.faults wrong s.faults).0; reached = s.reached }) in
+    whole (types_at sight) sight.known span written.ty (written.faults ++ wrong) written.reached (Some 1) t.0 (and_then (f env) (λ t. number_value t number)) s t.1
+    (number_gives (types_at sight) span written (f env) number (st.means sight env h))

@@ -1,0 +1,146 @@
+-- What the turns of a loop give by its patterns and its body, and what a function gives by its body.
+use Rattle.std.proofs.Common.{◌≡◌, ◌++◌, suc, length, Bool, true, false, if◌then◌else◌, List, [], ◌∷◌, Option, Some, None, refl, sym, ap, subst, ◌∙◌}
+use mathlib.Core.Bool.{true≢false}
+use Rattle.std.proofs.lemmas.Bool.Decides.{Decides-eqb}
+use Rattle.xb_span.specs.declared.span.Span.{Span}
+use Rattle.dslx_tree.specs.declared.block.Block.{Block, out-Block}
+use Rattle.dslx_tree.specs.declared.item.Field.{Field}
+use Rattle.dslx_tree.specs.declared.item.Function.{Function}
+use Rattle.dslx_meaning.specs.Lists.{and_then, with_both, where_true}
+use Rattle.dslx_meaning.specs.Values.{bits_of}
+use Rattle.dslx_meaning.specs.Types.{same_type}
+use Rattle.dslx_meaning.specs.Environment.{Meanings, Given, Env}
+use Rattle.dslx_meaning.specs.Meaning.{Evaluates, PatternMeant, fits_at_place, loop_over, value_of_block}
+use Rattle.dslx_meaning.specs.Items.{operands_bound, numbers_bound, function_value}
+use Rattle.dslx_meaning.specs.declared.ty.DslxType.{DslxType}
+use Rattle.dslx_meaning.specs.declared.value.DslxValue.{DslxValue}
+use Rattle.dslx_meaning.specs.Rules.Judging.{Known, Sight, Typed, Judgement, has_broken, with_typed}
+use Rattle.dslx_meaning.specs.Rules.Judgings.{PatternPair, PatternSeen}
+use Rattle.dslx_meaning.specs.Rules.ConstantRules.{ConstantSeen, size_faults}
+use Rattle.dslx_meaning.specs.Rules.ControlRules.{loop_annotation, loop_with, same_ends, turn_limit, turns_of}
+use Rattle.dslx_meaning.specs.Rules.OperatorRules.{one_bit_type, unless_types}
+use Rattle.dslx_meaning.specs.Rules.PatternRules.{pattern_alone}
+use Rattle.dslx_meaning.specs.Rules.AggregateRules.{wanted_faults}
+use Rattle.dslx_meaning.specs.Rules.NodeRules.{block_pair}
+use Rattle.dslx_meaning.specs.Rules.ItemRules.{judged_inner, arguments_typed, body_judged, function_sight}
+use Rattle.dslx_typing.specs.Typed.Kinds.{is_of}
+use Rattle.dslx_typing.specs.Typed.Declared.{Declarations, IsDeclared}
+use Rattle.dslx_typing.specs.Typed.Given.{GivesOf, GivesItsType, TurnGives}
+use Rattle.dslx_typing.specs.Typed.WellTyped.{types_at, IsWellTyped, FitsOrFails, Fits, Fails, PatternKeeps, turn_seen, AreOperandsOf, NameNoConstant}
+use Rattle.dslx_typing.proofs.OnTyped.Judged.{none_some, same_some, unbroken_parts, three_unbroken, test_holds, settled_type}
+use Rattle.dslx_typing.proofs.OnTyped.OfAggregates.{and_then_type}
+use Rattle.dslx_typing.proofs.OnTyped.OfControl.{loop_gives}
+use Rattle.dslx_typing.proofs.OnTyped.OneName.{one_of_text}
+use Rattle.dslx_typing.proofs.OnTyped.OfPatterns.{bound_keeps}
+
+-- ---- turns
+
+-- a pattern that may not fail fits
+fits_surely : (sight : Sight) (seen : PatternSeen) (o : Option Env) → FitsOrFails false sight seen o → (inner : Env) × (o ≡ Some inner) × IsWellTyped (with_typed sight seen.locals) inner
+fits_surely sight seen o (Fits inner is typed) = (inner, is, typed)
+fits_surely sight seen o (Fails is may sure) = absurd (true≢false (sym may))
+
+pub turn_gives : (sight : Sight) (k t u : DslxType) (index acc : PatternPair) (im am : PatternMeant) (j : Judgement) (body : Evaluates) (env : Env)
+    → PatternKeeps index.1 im.fits → PatternKeeps acc.1 am.fits → IsDeclared (types_at sight) k → IsDeclared (types_at sight) t
+    → has_broken (pattern_alone false sight (Some k) index).faults ≡ false → has_broken (turn_seen sight k t index acc).faults ≡ false
+    → j.ty ≡ Some u → same_type t u ≡ true
+    → ((inner : Env) → IsWellTyped (with_typed sight (turn_seen sight k t index acc).locals) inner → GivesItsType (types_at sight) j (body inner))
+    → IsWellTyped sight env → TurnGives k t (λ i a. and_then (fits_at_place im i env) (λ inner. and_then (fits_at_place am a inner) body))
+turn_gives sight k t u index acc im am j body env ik ak dk dt fi fa own same gives h i a ki ta =
+    let first = fits_surely sight (pattern_alone false sight (Some k) index) (fits_at_place im i env)
+    (ik false sight k [] sight.locals env env i h h (record { value = i; is = refl; of = ki; declared = dk }) fi) in
+    let second = fits_surely (with_typed sight (pattern_alone false sight (Some k) index).locals) (turn_seen sight k t index acc) (fits_at_place am a first.0)
+    (ak false (with_typed sight (pattern_alone false sight (Some k) index).locals) t [] (pattern_alone false sight (Some k) index).locals first.0 first.0 a first.2 first.2
+    (record { value = a; is = refl; of = ta; declared = dt }) fa) in
+    let g = gives second.0 second.2 u own in (
+      g.value,
+      ap (λ o. and_then o (λ inner. and_then (fits_at_place am a inner) body)) first.1 ∙ ap (λ o. and_then o body) second.1 ∙ g.is,
+      ap (λ x. is_of x g.value) (one_of_text (types_at sight) t u same dt g.declared) ∙ g.of,
+    )
+
+-- a loop that breaks no rule, where its turns give what is accumulated its type
+pub for_gives : (types : Declarations) (span body_span : Span) (from to : ConstantSeen) (start : Judgement) (written : Option Judgement) (index acc : PatternSeen) (body : Judgement) (x y z : Option DslxValue)
+    (turn : DslxValue → DslxValue → Option DslxValue)
+    → GivesItsType types from.judgement x → GivesItsType types to.judgement y → GivesItsType types start z
+    → ((k t u : DslxType) → from.judgement.ty ≡ Some k → start.ty ≡ Some t → body.ty ≡ Some u → same_type t u ≡ true → has_broken index.faults ≡ false → has_broken acc.faults ≡ false
+    → IsDeclared types k → IsDeclared types t → TurnGives k t turn)
+    → GivesItsType types (loop_with span body_span from to start written index acc body) (and_then z (λ s. with_both (and_then x bits_of) (and_then y bits_of) (loop_over turn s)))
+for_gives types span body_span from to start written index acc body x y z turn gx gy gz turns t e =
+    let ends = (from.judgement.faults ++ to.judgement.faults) ++ start.faults in
+    let patterns = (ends ++ index.faults) ++ acc.faults in
+    let range = unless_types one_bit_type 26 span from.judgement.ty to.judgement.ty in
+    let annotation = loop_annotation span written (same_ends from.judgement.ty to.judgement.ty) start.ty in
+    let wanted = wanted_faults body_span start.ty body.ty in
+    let limit = turn_limit span.to (turns_of from.value to.value) in
+    let s = settled_type (and_then (same_ends from.judgement.ty to.judgement.ty) (λ i. and_then body.ty (λ t. start.ty)))
+    (((((patterns ++ body.faults) ++ range) ++ annotation) ++ wanted) ++ limit) t e in
+    let f = three_unbroken (((patterns ++ body.faults) ++ range) ++ annotation) wanted limit s.0 in
+    let g = three_unbroken (patterns ++ body.faults) range annotation f.0 in
+    let h = unbroken_parts patterns body.faults g.0 in
+    let p = three_unbroken ends index.faults acc.faults h.0 in
+    let i = and_then_type (same_ends from.judgement.ty to.judgement.ty) (λ i. and_then body.ty (λ t. start.ty)) t s.1 in
+    let u = and_then_type body.ty (λ t. start.ty) t i.2 in
+    let k = ends_alike from.judgement.ty to.judgement.ty i.0 i.1 in
+    let first = gx i.0 k.1 in
+    let begin = gz t u.2 in
+    loop_gives types i.0 k.0 t x y z turn first (gy k.0 k.2) k.3 begin
+    (turns i.0 t u.0 k.1 u.2 u.1 (test_holds (same_type t u.0) 9 body_span ((λ j. has_broken (wanted_faults body_span (sym u.2 j) (sym u.1 j))) ∙ f.1)) p.1 p.2 first.declared begin.declared)
+  where
+    ends_alike : (m n : Option DslxType) (i : DslxType) → same_ends m n ≡ Some i → (l : DslxType) × (m ≡ Some i) × (n ≡ Some l) × (one_bit_type i l ≡ true)
+    ends_alike None n i q = none_some i q
+    ends_alike (Some a) None i q = none_some i q
+    ends_alike (Some a) (Some b) i q = by_test (one_bit_type a b) refl q
+      where
+        by_test : (c : Bool) → one_bit_type a b ≡ c → (if c then Some a else None) ≡ Some i → (l : DslxType) × (Some a ≡ Some i) × (Some b ≡ Some l) × (one_bit_type i l ≡ true)
+        by_test false r h = none_some i h
+        by_test true r h = (b, h, refl, sym (ap (λ z. one_bit_type z b) (same_some a i h)) ∙ r)
+
+-- ---- functions
+
+-- operands of the types of the arguments, bound one after the other
+operands_keep : (sight : Sight) (items : Meanings) (fs : List Field) (vs : List DslxValue) (locals : List Typed) (bound : List Given) → AreOperandsOf sight fs vs → NameNoConstant sight fs
+    → IsWellTyped (with_typed sight locals) (record { items = items; bound = bound })
+    → IsWellTyped (with_typed sight (arguments_typed sight locals fs)) (record { items = items; bound = operands_bound bound fs vs })
+operands_keep sight items [] [] locals bound k c h = h
+operands_keep sight items [] (v ∷ vs) locals bound k c h = absurd k
+operands_keep sight items (f ∷ fs) [] locals bound k c h = absurd k
+operands_keep sight items (f ∷ fs) (v ∷ vs) locals bound k c h =
+    operands_keep sight items fs vs (record { name = f.name.name; ty = (judged_inner sight f.ty).ty } ∷ locals) (record { name = f.name.name; value = v } ∷ bound) k.1 c.1
+    (subst (λ o. IsWellTyped (with_typed sight (record { name = f.name.name; ty = o } ∷ locals)) (record { items = items; bound = record { name = f.name.name; value = v } ∷ bound })) (sym k.0.1)
+    (bound_keeps sight locals (record { items = items; bound = bound }) f.name.name k.0.0 v h k.0.2 c.0))
+
+as_many : (sight : Sight) (fs : List Field) (vs : List DslxValue) → AreOperandsOf sight fs vs → length vs ≡ length fs
+as_many sight [] [] k = refl
+as_many sight [] (v ∷ vs) k = absurd k
+as_many sight (f ∷ fs) [] k = absurd k
+as_many sight (f ∷ fs) (v ∷ vs) k = ap suc (as_many sight fs vs k.1)
+
+-- the type of a body is the one that is wanted
+body_fits : (sight : Sight) (wanted u : DslxType) (body : Block) → ((block_pair body).1 false sight).ty ≡ Some u → has_broken (body_judged false sight (Some wanted) body).faults ≡ false → same_type wanted u ≡ true
+body_fits sight wanted u body own f =
+    let j = (block_pair body).1 false sight in
+    let wrong = wanted_faults (out-Block body).span (Some wanted) j.ty in
+    let q = unbroken_parts (j.faults ++ wrong) (size_faults sight.known (out-Block body).span.to (record j { faults = j.faults ++ wrong })) f in
+    let r = unbroken_parts j.faults wrong q.0 in
+    test_holds (same_type wanted u) 9 (out-Block body).span (ap (λ o. has_broken (wanted_faults (out-Block body).span (Some wanted) o)) (sym own) ∙ r.1)
+
+pub function_gives : (known : Known) (items : Meanings) (f : Function) (numbers operands : List DslxValue) (result u : DslxType)
+    → IsWellTyped (function_sight known f numbers) (record { items = items; bound = numbers_bound [] f.parameters numbers })
+    → AreOperandsOf (function_sight known f numbers) f.arguments operands → NameNoConstant (function_sight known f numbers) f.arguments → IsDeclared known.items.type_named result
+    → ((block_pair f.body).1 false (with_typed (function_sight known f numbers) (arguments_typed (function_sight known f numbers) [] f.arguments))).ty ≡ Some u
+    → has_broken (body_judged false (with_typed (function_sight known f numbers) (arguments_typed (function_sight known f numbers) [] f.arguments)) (Some result) f.body).faults ≡ false
+    → ((env : Env) → IsWellTyped (with_typed (function_sight known f numbers) (arguments_typed (function_sight known f numbers) [] f.arguments)) env
+    → GivesItsType known.items.type_named ((block_pair f.body).1 false (with_typed (function_sight known f numbers) (arguments_typed (function_sight known f numbers) [] f.arguments))) (value_of_block f.body env))
+    → GivesOf known.items.type_named result (function_value items f numbers operands)
+function_gives known items f numbers operands result u h k plain declared own faults gives =
+    let sight = function_sight known f numbers in
+    let inner = with_typed sight (arguments_typed sight [] f.arguments) in
+    let env : Env = record { items = items; bound = operands_bound (numbers_bound [] f.parameters numbers) f.arguments operands } in
+    let g = gives env (operands_keep sight items f.arguments operands [] (numbers_bound [] f.parameters numbers) k plain h) u own in
+    let same = one_of_text known.items.type_named result u (body_fits inner result u f.body own faults) declared g.declared in
+    record {
+      value = g.value;
+      is = ap (λ b. where_true b (value_of_block f.body env)) ((Decides-eqb (length operands) (length f.arguments)).1 (as_many sight f.arguments operands k)) ∙ g.is;
+      of = ap (λ x. is_of x g.value) same ∙ g.of;
+      declared = declared;
+    }

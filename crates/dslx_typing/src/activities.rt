@@ -1,0 +1,32 @@
+//! Activations of procs with which nothing is wrong: no value is missing in them.
+ghost use Rattle.std.specs.Prelude.{◌≡◌, ◌∷◌, [], false, length, List, Some, true};
+ghost use Rattle.xb_bits.specs.Word.{Word};
+ghost use Rattle.xb_value.specs.declared.value.Value.{Value};
+ghost use Rattle.dslx_tree.specs.declared.block.Block.{Block, out-Block};
+ghost use Rattle.dslx_tree.specs.declared.process.Proc.{Proc};
+ghost use Rattle.dslx_meaning.specs.Activation.{SiteEnv, activation_of, do_stmts, site_names, sites_in_stmts, state_type_of};
+ghost use Rattle.dslx_meaning.specs.Environment.{Env};
+ghost use Rattle.dslx_meaning.specs.Items.{instance_env};
+ghost use Rattle.dslx_meaning.specs.Values.{at_type};
+ghost use Rattle.dslx_meaning.specs.declared.ty.DslxType.{DslxType};
+ghost use Rattle.dslx_meaning.specs.declared.value.DslxValue.{DslxValue};
+ghost use Rattle.dslx_meaning.specs.Rules.ItemRules.{body_judged};
+ghost use Rattle.dslx_meaning.specs.Rules.Judging.{Known, Sight, with_typed};
+ghost use Rattle.dslx_typing.specs.Typed.Complete.{IsFine};
+ghost use Rattle.dslx_typing.specs.Typed.Declared.{IsDeclared};
+ghost use Rattle.dslx_typing.specs.Typed.Kinds.{is_of};
+ghost use Rattle.dslx_typing.specs.Typed.WellTyped.{IsWellTyped, types_at};
+ghost use Rattle.dslx_typing.specs.Activities.ActivityGoesOn.{ActivityGoesOn};
+ghost use Rattle.dslx_typing.specs.Activities.Members.{IsFineNext, ProcMembersStand};
+
+/// The body of a `next` with which nothing is wrong, at a place where what is in sight is well typed and members have the types
+/// of words that the rules know: over whatever words, it does something at each site and ends with a value of its type, or it
+/// has taken all words and the next site receives.
+pub fn activations_go_on()
+    ensures body { (t : DslxType) (site : SiteEnv) (b : Block) (sight : Sight) (env : Env) → IsWellTyped sight env → ProcMembersStand sight site → IsDeclared (types_at sight) t
+        → IsFine sight.known (body_judged true sight (Some t) b)
+        → (words : List Word) → ActivityGoesOn t (length (sites_in_stmts (out-Block b).statements)) words (do_stmts site (out-Block b).statements (out-Block b).value env words) }
+    ensures activation { (known : Known) (p : Proc) (numbers : List DslxValue) (t : DslxType) → IsFineNext known p numbers t
+        → (state : Value) → is_of t (at_type t state) ≡ true
+        → (words : List Word) → ActivityGoesOn t (length (site_names p)) words (activation_of known.items p numbers state words) }
+{}

@@ -1,0 +1,28 @@
+ghost use Rattle.std.specs.Prelude.{◌≡◌, ℕ, List, [], Bool, Option, Some};
+ghost use Rattle.xb_span.specs.declared.span.Span.{Span};
+ghost use Rattle.dslx_tree.specs.declared.ident.Ident.{Ident};
+ghost use Rattle.dslx_meaning.specs.Environment.{Env, value_of_name};
+ghost use Rattle.dslx_meaning.specs.Lists.{and_then};
+ghost use Rattle.dslx_meaning.specs.Operators.{number_value};
+ghost use Rattle.dslx_meaning.specs.Types.{bool_type};
+ghost use Rattle.dslx_meaning.specs.Values.{bool_value};
+ghost use Rattle.dslx_meaning.specs.declared.ty.DslxType.{DslxType};
+ghost use Rattle.dslx_meaning.specs.declared.value.Bare.{Bare};
+ghost use Rattle.dslx_meaning.specs.Rules.AggregateRules.{number_judged};
+ghost use Rattle.dslx_meaning.specs.Rules.Judging.{Sight, Judgement, settled};
+ghost use Rattle.dslx_meaning.specs.Rules.NameRules.{member_judged, name_judged};
+ghost use Rattle.dslx_typing.specs.Typed.Declared.{Declarations, IsDeclared};
+ghost use Rattle.dslx_typing.specs.Typed.Given.{GivesItsType};
+ghost use Rattle.dslx_typing.specs.Typed.WellTyped.{IsWellTyped, types_at};
+
+/// Names, members of enums, `true` and `false`, and numbers, where what is in sight is well typed.
+pub fn names_give_values_of_their_types()
+    ensures name { (span : Span) (sight : Sight) (name : List ℕ) (env : Env) → IsWellTyped sight env
+        → GivesItsType (types_at sight) (name_judged span sight name) (value_of_name name env) }
+    ensures member { (span : Span) (sight : Sight) (e a : Ident) (env : Env) → IsWellTyped sight env
+        → GivesItsType (types_at sight) (member_judged span sight e a) (env.items.member e.name a.name) }
+    ensures truth { (types : Declarations) (span : Span) (b : Bool) → GivesItsType types (settled span (Some bool_type) [] [] (Some 1)) (Some (bool_value b)) }
+    ensures number { (types : Declarations) (span : Span) (written : Judgement) (w : Option DslxType) (number : Bare)
+        → ((t : DslxType) → written.ty ≡ Some t → (w ≡ Some t) × IsDeclared types t)
+        → GivesItsType types (number_judged span (Some written) number) (and_then w (λ t. number_value t number)) }
+{}

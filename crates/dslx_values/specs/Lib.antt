@@ -1,0 +1,4 @@
+-- inference of parametric values
+pub mod Inference
+-- operators
+pub mod Operators

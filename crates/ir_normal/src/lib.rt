@@ -1,2 +1,0 @@
-//! The normal form of packages, as the table of left sides has it: definitions alone.
-#![tactic(auto)]

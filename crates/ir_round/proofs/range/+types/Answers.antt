@@ -1,6 +1,0 @@
-use Rattle.std.proofs.Common.{rules}
-use Rattle.ir_round.proofs.Ranges.{tuple_held}
-use Rattle.ir_round.proofs.range.+types.Goals as goal
-
-pub type_in_range-returns-in-Tuple : goal.type_in_range-returns-in-Tuple
-type_in_range-returns-in-Tuple c = search (rules, tuple_held)

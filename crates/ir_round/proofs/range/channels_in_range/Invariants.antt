@@ -1,7 +1,0 @@
-use Rattle.std.proofs.Common.{◌≡◌, drop}
-use Rattle.std.specs.List.{list_all}
-use Rattle.ir_round.specs.InRange.{channel_in_range}
-use Rattle.ir_round.proofs.range.channels_in_range.Given as goal
-
-abbrev pub invariant-channels : goal.invariant-channels
-invariant-channels l = list_all channel_in_range l.channels ≡ list_all channel_in_range (drop l.channel-index l.channels)

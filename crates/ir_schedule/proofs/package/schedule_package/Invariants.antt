@@ -1,5 +1,0 @@
-use Rattle.ir_schedule.proofs.Several.{AreScheduledTo}
-use Rattle.ir_schedule.proofs.package.schedule_package.Given as goal
-
-abbrev pub invariant-procs : goal.invariant-procs
-invariant-procs l = AreScheduledTo l.ir.procs l.demands l.i l.schedules.items

@@ -1,6 +1,0 @@
-use Rattle.std.proofs.Common.{◌≡◌, ◌++◌, ◌-◌, drop, length, string_bytes}
-use Rattle.ir_text.specs.Parts.{sizes_text}
-use Rattle.ir_text.proofs.part.push_sizes.Given as goal
-
-abbrev pub invariant-sizes : goal.invariant-sizes
-invariant-sizes l = string_bytes l.text ≡ string_bytes l.fn.text ++ sizes_text (drop (length l.sizes - l.i) l.sizes)

@@ -1,0 +1,4 @@
+-- the texts of numbers, types, constants and operands
+pub mod Parts
+-- the text of each line
+pub mod Lines

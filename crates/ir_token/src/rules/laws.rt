@@ -1,0 +1,24 @@
+//! What holds of the grammar: of its names, and a law of the crate `grammar`.
+
+ghost use Rattle.std.specs.Prelude.{◌≡◌, ℕ, List, map};
+ghost use Rattle.grammar.specs.Derivation.{IsDerivation};
+ghost use Rattle.grammar.specs.Syntax.{AreInOrder};
+ghost use Rattle.ir_token.specs.Rules.Ir.{ir};
+ghost use Rattle.ir_token.specs.Rules.Rules.{kinds, named_rules, nonterminals};
+
+use crate::rules::reader::grammar;
+
+/// Different kinds of token have different numbers, and so have the nonterminals; the start is number 0. The name of a
+/// production stands for the place of its rule.
+pub fn names()
+    ensures kinds { AreInOrder kinds }
+    ensures nonterminals { AreInOrder nonterminals }
+    ensures productions { AreInOrder (map (λ r. r.number) named_rules) }
+{}
+
+/// A list of tokens has at most one derivation.
+pub fn one_derivation()
+    ensures { (ps qs ts : List ℕ) → IsDerivation ir ps ts → IsDerivation ir qs ts → ps ≡ qs }
+{
+    grammar::one_derivation(&grammar());
+}

@@ -1,0 +1,3 @@
+-- For other crates' proofs; nothing else of this folder is.
+-- types and constants of nodes
+pub mod NodeTypes

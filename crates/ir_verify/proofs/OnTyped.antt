@@ -1,0 +1,5 @@
+pub mod Words
+pub mod Operations
+pub mod Walks
+pub mod Ends
+pub mod Packages

@@ -1,6 +1,0 @@
-//! What names stand for: a table in which a name that is put again stands for what was put last.
-#![tactic(auto)]
-
-mod table;
-
-pub use table::Table;

@@ -1,5 +1,0 @@
--- The laws of streams, as lemmas for other crates' proofs. Nothing else of this folder is for them.
-pub use Rattle.net_streams.proofs.Within.{chan_there, inner_words, inner_room, received_by, final_in_trace}
-pub use Rattle.net_streams.proofs.Within.{sends_within, receives_within}
-pub use Rattle.net_streams.proofs.Moves.{begins, before, ends_next, sends_go, receives_go}
-pub use Rattle.net_streams.proofs.Stopped.{counted, come_to_the_end, input_words}

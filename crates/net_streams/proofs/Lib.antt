@@ -1,4 +1,0 @@
-pub mod Within
-pub mod Stopped
-pub mod Moves
-pub mod Lemmas

@@ -1,2 +1,0 @@
--- The procs at the ends of channels, as lemmas for other crates' proofs. Nothing else of this folder is for them.
-pub use Rattle.proc_outcome.proofs.Found.{place_passes, sends_site, receives_site, sender_is, receiver_is}

@@ -1,5 +1,0 @@
-pub mod Over
-pub mod Ended
-pub mod Found
-pub mod Streams
-pub mod Lemmas

@@ -1,9 +1,0 @@
-use Rattle.std.proofs.Common.{◌≡◌, take}
-use Rattle.lists.specs.Indexed.{indexed}
-use Rattle.proc_outcome.specs.Tasks.{cut_by}
-use Rattle.proc_outcome.specs.Inner.Counts.{end_in}
-use Rattle.proc_outcome.proofs.outcomes.ends.Given as goal
-
-abbrev pub invariant-loop-p : goal.invariant-loop-p
-invariant-loop-p g l =
-    l.ends.items ≡ indexed (end_in (g.H.Home.run l.home) (cut_by (g.H.Home.run l.home) l.tasks)) 0 (take l.p (g.H.Home.run l.home).procs)

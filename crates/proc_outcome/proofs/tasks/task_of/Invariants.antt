@@ -1,6 +1,0 @@
-use Rattle.std.proofs.Common.{◌≡◌, drop}
-use Rattle.proc_outcome.specs.Tasks.{task_in}
-use Rattle.proc_outcome.proofs.tasks.task_of.Given as goal
-
-abbrev pub invariant-loop-task : goal.invariant-loop-task
-invariant-loop-task g l = task_in l.number (drop l.task-index l.tasks) ≡ task_in l.number l.tasks

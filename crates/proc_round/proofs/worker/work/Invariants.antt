@@ -1,6 +1,0 @@
-use Rattle.task_queue.specs.Passes.{knows}
-use Rattle.proc_round.specs.Shares.{IsShareOf}
-use Rattle.proc_round.proofs.worker.work.Given as goal
-
-abbrev pub invariant-loop : goal.invariant-loop
-invariant-loop g l = IsShareOf g.T.Numbered.number_of g.T.Numbered.run_of g.T.Numbered.fact l.queue (knows l.fn.pass) l.share

@@ -1,0 +1,4 @@
+pub mod Over
+pub mod Ended
+pub mod Found
+pub mod Streams

@@ -1,0 +1,150 @@
+ghost use Rattle.std.specs.Prelude.{◌≡◌, ◌<◌, ◌^◌, IfOk, IfSome, IsSome, length, slice_get, get_or, Some, take, []};
+ghost use Rattle.base.specs.Lists.Indexed.{indexed};
+ghost use Rattle.net_core.specs.declared.net.Chan.{Chan};
+ghost use Rattle.net_core.specs.Cuts.{final_cut};
+ghost use Rattle.net_core.specs.Outcomes.{stream_of, outcome_of};
+ghost use Rattle.proc_task.specs.Outcome.Tasks.{cut_by, AreTasksOf, IsRunOf};
+ghost use Rattle.proc_task.specs.Outcome.Inner.Counts.{end_in};
+
+use crate::outcome::stops::{all_fit, all_stay};
+use crate::outcome::tasks::{received_on, sent_on, task_of};
+use crate::{Home, Task};
+use chan_queue::Streams;
+use net_core::{Inputs, Kind, Net, Outcome, ProcEnd, Stream};
+use std::alloc::{AllocError, Global};
+use xb_bits::Bits;
+use xb_value::Seq;
+
+/// The outcome of the run, if its tasks have come to its end: where the counts show that no proc can go.
+///
+/// It asks the body of each proc that isn't done once.
+pub fn outcome<S: Streams, H: Home<S>>(
+    alloc: Global,
+    home: &H,
+    net: &Net,
+    inputs: &Inputs,
+    depths: &[u32],
+    tasks: &[Task<S, H>],
+) -> Result<Option<Outcome>, AllocError>
+    requires tasks { AreTasksOf H.run H.lines home.now tasks.now }
+    requires run { IsRunOf net.now (H.run home.now) }
+    requires inputs { ((H.run home.now).inputs ≡ inputs.now.words) × (length inputs.now.words ≡ length net.now.chans) }
+    requires depths { ((H.run home.now).depths ≡ depths.now) × (length depths.now ≡ length net.now.chans) }
+    ensures outcome { IfOk result (λ given. IfSome given (λ outcome. outcome ≡ outcome_of (H.run home.now) (final_cut (H.run home.now)))) }
+    ensures over { cut_by (H.run home.now) tasks.now ≡ final_cut (H.run home.now) → IfOk result (λ given. IsSome given) }
+{
+    let streams = streams(alloc, home, net, inputs.words.as_slice(), tasks)?;
+    if !all_fit(net.chans.as_slice(), depths, streams.as_slice()) {
+        return Ok(None);
+    }
+    let ends = ends(alloc, home, net, tasks)?;
+    let stopped = all_stay(
+        net.chans.as_slice(),
+        inputs.words.as_slice(),
+        depths,
+        streams.as_slice(),
+        home.activations(),
+        ends.as_slice(),
+    );
+    if !stopped {
+        return Ok(None);
+    }
+    Ok(Some(Outcome {
+        streams: Seq::from_vec(streams),
+        procs: Seq::from_vec(ends),
+    }))
+}
+
+/// Where each proc stands, and what it waits for.
+fn ends<S: Streams, H: Home<S>>(
+    alloc: Global,
+    home: &H,
+    net: &Net,
+    tasks: &[Task<S, H>],
+) -> Result<Vec<ProcEnd>, AllocError>
+    requires tasks { AreTasksOf H.run H.lines home.now tasks.now }
+    requires run { IsRunOf net.now (H.run home.now) }
+    ensures { IfOk result (λ ends. ends.items ≡ indexed (end_in (H.run home.now) (cut_by (H.run home.now) tasks.now)) 0 (H.run home.now).procs) }
+{
+    let mut ends = Vec::new(alloc);
+    for p in 0..net.procs.len() {
+        match task_of(tasks, p) {
+            Some(task) => ends.push(task.end(alloc)?)?,
+            None => unreachable!(),
+        }
+    }
+    Ok(ends)
+}
+
+/// What went over each channel.
+fn streams<S: Streams, H: Home<S>>(
+    alloc: Global,
+    home: &H,
+    net: &Net,
+    inputs: &[Seq<Bits>],
+    tasks: &[Task<S, H>],
+) -> Result<Vec<Stream>, AllocError>
+    requires tasks { AreTasksOf H.run H.lines home.now tasks.now }
+    requires run { IsRunOf net.now (H.run home.now) }
+    requires inputs { ((H.run home.now).inputs ≡ inputs.now) × (length inputs.now ≡ length net.now.chans) }
+    ensures { IfOk result (λ streams. streams.items ≡ indexed (stream_of (H.run home.now) (cut_by (H.run home.now) tasks.now)) 0 net.now.chans) }
+{
+    let mut streams = Vec::new(alloc);
+    for (c, chan) in net.chans.as_slice().iter().enumerate() {
+        streams.push(stream(
+            alloc,
+            home,
+            net,
+            inputs[c].as_slice(),
+            tasks,
+            c as u32,
+            chan.kind,
+        )?)?;
+    }
+    Ok(streams)
+}
+
+/// What went over a channel.
+fn stream<S: Streams, H: Home<S>>(
+    alloc: Global,
+    home: &H,
+    net: &Net,
+    outside: &[Bits],
+    tasks: &[Task<S, H>],
+    c: u32,
+    kind: Kind,
+) -> Result<Stream, AllocError>
+    requires tasks { AreTasksOf H.run H.lines home.now tasks.now }
+    requires run { IsRunOf net.now (H.run home.now) }
+    requires outside { get_or (H.run home.now).inputs c [] ≡ outside.now }
+    ensures { IfOk result (λ stream. (chan : Chan) → slice_get (H.run home.now).chans c ≡ Some chan → chan.kind ≡ kind →
+        stream ≡ stream_of (H.run home.now) (cut_by (H.run home.now) tasks.now) c chan) }
+{
+    match kind {
+        Kind::Input => {
+            let received = received_on(home, net, tasks, c);
+            let words = Seq::from_slice(alloc, first(outside, received))?;
+            Ok(Stream { words, received })
+        }
+        Kind::Output => {
+            let words = Seq::from_slice(alloc, sent_on(home, net, tasks, c))?;
+            Ok(Stream { words, received: 0 })
+        }
+        Kind::Inner => {
+            let received = received_on(home, net, tasks, c);
+            let words = Seq::from_slice(alloc, sent_on(home, net, tasks, c))?;
+            Ok(Stream { words, received })
+        }
+    }
+}
+
+/// The first so many words, or all.
+fn first(words: &[Bits], count: u64) -> &[Bits]
+    ensures { result.now ≡ take count words.now }
+{
+    if count < words.len() as u64 {
+        &words[..count as usize]
+    } else {
+        words
+    }
+}

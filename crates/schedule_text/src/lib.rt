@@ -1,9 +1,0 @@
-//! The text of schedules, and the line that says why there is none.
-#![tactic(auto)]
-
-mod infeasible;
-mod part;
-mod text;
-
-pub use infeasible::infeasible_text;
-pub use text::schedule_text;

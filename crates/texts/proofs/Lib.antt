@@ -1,3 +1,0 @@
-pub mod Lemmas
-pub mod Cuts
-pub mod Digits

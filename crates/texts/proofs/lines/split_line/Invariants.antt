@@ -1,6 +1,0 @@
-use Rattle.std.proofs.Common.{◌≡◌, take, true}
-use Rattle.texts.proofs.Cuts.{is_one_line}
-use Rattle.texts.proofs.lines.split_line.Given as goal
-
-abbrev pub invariant-loop-at : goal.invariant-loop-at
-invariant-loop-at l = is_one_line (take l.at l.text) ≡ true

@@ -1,8 +1,0 @@
-use Rattle.texts.proofs.Digits.{digits_more, digits_done}
-use Rattle.texts.proofs.numbers.push_hex.Goals as goal
-
-pub digits-preserved : goal.digits-preserved
-digits-preserved c = digits_more _ _ _ _ _ _ c.digits-test.true c.digits.invariant c.in_ok-push_digit.ensures
-
-pub returns : goal.returns
-returns c = digits_done _ _ _ _ _ c.digits-test.false c.digits.invariant

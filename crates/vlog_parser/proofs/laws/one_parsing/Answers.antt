@@ -1,5 +1,0 @@
-use Rattle.vlog_parser.proofs.OneTree.{one_answer}
-use Rattle.vlog_parser.proofs.laws.one_parsing.Goals as goal
-
-pub returns : goal.returns
-returns c = one_answer (record { one_derivation = c.one_derivation.ensures; derives = c.one_tree.ensures.derives; one_forest = c.one_tree.ensures.one })

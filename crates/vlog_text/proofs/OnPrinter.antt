@@ -1,0 +1,2 @@
+-- lists that are printed with commas
+pub mod Listing

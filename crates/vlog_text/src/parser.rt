@@ -1,0 +1,13 @@
+//! Reading the tokens of a text of the Verilog subset into its module.
+//!
+//! [`parse`] accepts exactly the token lists that the grammar of `vlog_grammar` derives; the module is built along their
+//! derivation by `vlog_builder`.
+//!
+//! Cost: linear in the tokens. Nothing recurses, so no nesting is counted: no text of the grammar has more than two
+//! brackets open.
+mod laws;
+mod reader;
+
+pub use laws::one_parsing;
+pub use reader::parse;
+pub use vlog_builder::Parsed;

@@ -1,0 +1,57 @@
+-- What is named of all checks.
+use Rattle.std.proofs.lemmas.Bool.{cases_lt}
+use Rattle.std.proofs.Common.{◌⊎◌, inl, inr, ◌<◌, ◌≤◌, arith, ◌≡◌, ℕ, true, List, [], ◌∷◌, ◌++◌, refl, sym, ap, ◌∙◌, Option, Some, None, get_or}
+use Rattle.xb_span.specs.declared.fault.Fault.{Fault}
+use Rattle.xb_span.specs.declared.span.Span.{Span}
+use Rattle.vlog_tree.specs.declared.module.VModule.{VModule}
+use Rattle.vlog_tree.specs.declared.verifier.places.Places.{Places}
+use Rattle.vlog_tree.specs.Verifier.Placed.{nowhere}
+use Rattle.vlog_tree.specs.Verifier.Checks.{PartCheck, note, noted, rule_at}
+use Rattle.vlog_tree.specs.Verifier.Verified.{module_checks, Loops, none, first, IsJudged}
+use Rattle.vlog_tree.specs.Verifier.Inner.Firsts.{IsFirstLoop}
+use Rattle.vlog_tree.proofs.OnVerifier.Steps.{noted-append}
+
+pub all_noted : (ss ps as_ rs cs ls : List PartCheck) (e : PartCheck) (held h1 h2 h3 h4 h5 : Option Fault) → h1 ≡ noted held ss → h2 ≡ noted h1 (ps ++ e ∷ []) → h3 ≡ noted h2 as_ → h4 ≡ noted h3 (rs ++ cs) → h5 ≡ noted h4 ls
+    → h5 ≡ noted held (ss ++ (ps ++ (e ∷ (as_ ++ (rs ++ (cs ++ ls))))))
+all_noted ss ps as_ rs cs ls e held h1 h2 h3 h4 h5 e1 e2 e3 e4 e5 =
+    e5
+    ∙ ap (λ h. noted h ls) (e4 ∙ noted-append rs cs h3)
+    ∙ sym (noted-append cs ls (noted h3 rs))
+    ∙ sym (noted-append rs (cs ++ ls) h3)
+    ∙ ap (λ h. noted h (rs ++ (cs ++ ls))) e3
+    ∙ sym (noted-append as_ (rs ++ (cs ++ ls)) h2)
+    ∙ ap (λ h. noted h (as_ ++ (rs ++ (cs ++ ls)))) (e2 ∙ noted-append ps (e ∷ []) h1)
+    ∙ sym (noted-append ps (e ∷ (as_ ++ (rs ++ (cs ++ ls)))) h1)
+    ∙ ap (λ h. noted h (ps ++ (e ∷ (as_ ++ (rs ++ (cs ++ ls)))))) e1
+    ∙ sym (noted-append ss (ps ++ (e ∷ (as_ ++ (rs ++ (cs ++ ls))))) held)
+
+nothing_more : (cs : List PartCheck) → cs ++ [] ≡ cs
+nothing_more [] = refl
+nothing_more (c ∷ cs) = ap (λ ds. c ∷ ds) (nothing_more cs)
+
+pub judged_free : (m : VModule) (places : Places) (held : Option Fault) → held ≡ noted None (module_checks m places) → IsFirstLoop m None → IsJudged m places held
+judged_free m places held e free = record { loops = []; looped = none free; is = e ∙ ap (noted None) (sym (nothing_more (module_checks m places))) }
+
+pub judged_looped : (m : VModule) (places : Places) (held named : Option Fault) (i : ℕ) (span : Span) → held ≡ noted None (module_checks m places) → IsFirstLoop m (Some i)
+    → span ≡ get_or places.assignments i nowhere → named ≡ noted held (rule_at span 75 true ∷ []) → IsJudged m places named
+judged_looped m places held named i span e (a, at, depends, before) s n = record {
+  loops = rule_at (get_or places.assignments i nowhere) 75 true ∷ [];
+  looped = first i a at depends before;
+  is = n ∙ ap (λ sp. noted held (rule_at sp 75 true ∷ [])) s ∙ ap (λ h. noted h (rule_at (get_or places.assignments i nowhere) 75 true ∷ [])) e
+      ∙ sym (noted-append (module_checks m places) (rule_at (get_or places.assignments i nowhere) 75 true ∷ []) None);
+}
+
+-- one assignment is the first whose target depends on itself
+pub one_loop : (m : VModule) (places : Places) (one other : List PartCheck) → Loops m places one → Loops m places other → one ≡ other
+one_loop m places _ _ (none free) (none also) = refl
+one_loop m places _ _ (none free) (first i a at d before) = absurd (free i a at d)
+one_loop m places _ _ (first i a at d before) (none free) = absurd (free i a at d)
+one_loop m places _ _ (first i a at d before) (first j b bt e earlier) = ap (λ k. rule_at (get_or places.assignments k nowhere) 75 true ∷ []) (same (cases_lt i j))
+  where
+    same : (i < j) ⊎ (j ≤ i) → i ≡ j
+    same (inl h) = absurd (earlier i a h at d)
+    same (inr h) = go (cases_lt j i)
+      where
+        go : (j < i) ⊎ (i ≤ j) → i ≡ j
+        go (inl k) = absurd (before j b k bt e)
+        go (inr k) = omega arith

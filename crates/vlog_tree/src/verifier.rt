@@ -1,0 +1,16 @@
+//! The rules and limits of modules of the Verilog subset.
+//!
+//! `verify` and `check` answer the fault that is named: the one whose part ends first, at one end a rule before a limit.
+mod checks;
+mod fitting;
+pub mod laws;
+mod loops;
+mod marks;
+mod parts;
+mod places;
+mod ports;
+mod verified;
+mod walks;
+
+pub use places::Places;
+pub use verified::{check, verify};

@@ -1,0 +1,18 @@
+//! Laws of what is named, each the contract of a function without a body.
+
+ghost use Rattle.std.specs.Prelude.{◌≡◌, ◌<◌, ◌^◌, length, None, Option};
+ghost use Rattle.xb_span.specs.declared.fault.Fault.{Fault};
+ghost use Rattle.vlog_tree.specs.declared.module.VModule.{VModule};
+ghost use Rattle.vlog_tree.specs.WellFormed.{CanRun};
+ghost use Rattle.vlog_tree.specs.declared.verifier.places.Places.{Places};
+ghost use Rattle.vlog_tree.specs.Verifier.Verified.{IsJudged};
+
+/// One thing is named of a module whose parts stand at some places: one fault, or none.
+pub fn one_judgement()
+    ensures { (m : VModule) (places : Places) (one other : Option Fault) → IsJudged m places one → IsJudged m places other → one ≡ other }
+{}
+
+/// A module of which no fault is named can be simulated, if its assignments can be numbered by 32 bits.
+pub fn judged_modules_can_run()
+    ensures { (m : VModule) (places : Places) → IsJudged m places None → length m.assignments < 2 ^ 32 → CanRun m }
+{}

@@ -1,6 +1,0 @@
-use Rattle.std.proofs.Common.{◌≡◌, [], ℕ, List}
-use Rattle.std.specs.Prelude.{replicate}
-use Rattle.vlog_verify.proofs.loops.no_needs.Given as goal
-
-abbrev pub invariant-loop-made : goal.invariant-loop-made
-invariant-loop-made l = l.needs.items ≡ replicate l.made []

@@ -1,0 +1,3 @@
+-- For other crates' proofs; nothing else of this folder is.
+-- what all commands share
+pub mod Shared

@@ -1,0 +1,114 @@
+-- The steps of the commands, one after the other.
+use Rattle.std.proofs.Common.{◌≡◌, ◌<◌, ◌≤◌, ℕ, zero, suc, Bool, true, false, List, [], ◌∷◌, length, map, get_or, Option, Some, None, Result, Ok, Err, ap, ◌∙◌, arith}
+use Rattle.std.specs.Prelude.{if◌then◌else◌}
+use Rattle.std.specs.Str.{is_utf8}
+use Rattle.std.specs.Str.Lossy.{utf8_valid_len}
+use Rattle.std.specs.Borrow.{Bor}
+use Rattle.std.proofs.lemmas.List.{length-map}
+use Rattle.xb_io.specs.Contents.{Contents}
+use Rattle.xb_span.specs.declared.read_error.ReadError.{ReadError}
+use Rattle.xb_span.specs.declared.read_error.ReadError.TheVariants.{Syntax, Broken, Over, OutOfMemory}
+use Rattle.net_core.specs.declared.net.Net.{Net}
+use Rattle.net_core.specs.declared.net.Chan.{Chan}
+use Rattle.net_core.specs.declared.net.Inputs.{Inputs}
+use Rattle.net_core.specs.declared.net.Kind.{Kind}
+use Rattle.net_core.specs.declared.net.Kind.TheVariants.{Input as AtInput, Output as AtOutput, Inner as AtInner}
+use Rattle.net_core.specs.Behavior.{Behavior}
+use Rattle.net_core.specs.WellFormed.{IsDepths}
+use Rattle.chan_file.specs.declared.refusal.Cause.{Cause}
+use Rattle.chan_file.proofs.Lemmas.Reading.{one_reading}
+use Rattle.xls_cmd.specs.declared.shared.fault.Fault.TheVariants.{Text, Input}
+use Rattle.xls_cmd.specs.Shared.Done.{RefusesFor, StopsBy, text_refusal}
+use Rattle.xls_cmd.specs.Shared.Fault.{Fault}
+use Rattle.xls_cmd.specs.Shared.Loads.{Loads, OfText, accepts, text_of}
+use Rattle.xls_cmd.specs.Shared.Step.{Gives, IsOne, Then, goes_on}
+use Rattle.xls_cmd.proofs.Lemmas.Shared.{gives_is_one, loads_is_one, of_text_is_one, stops_at_text, stops_in_next, then_is_one}
+use Rattle.cmd_line.specs.declared.request.Check.{Check}
+use Rattle.cmd_line.specs.declared.request.How.{How}
+use Rattle.cmd_line.specs.declared.request.Run.{Run}
+use Rattle.dslx_narrow_tree.specs.Network.{network_of, behaviors_of}
+use Rattle.dslx_narrow_tree.specs.declared.proc.Module.{Module}
+use Rattle.dslx_narrow.specs.Designs.{GivesDesign, IsDesign, IsRefusal}
+use Rattle.dslx_narrow.specs.declared.design.Design.{Design}
+use Rattle.xls_cmd.specs.Design.Commands.{ReadsDesign, ReadsInputs, says, at_fault, check, check_text, run, run_texts, top}
+use Rattle.xls_cmd.specs.Design.Inner.{IsRead}
+use Rattle.xls_cmd.specs.Design.Written.{accepted, depth_by, depths_by, run_text}
+
+-- ---- reading a design
+
+text_case : (name bytes text : List ℕ) (b : Bool) → ◌≡◌ {A = Result (List ℕ) Fault} (Ok text) (if b then Ok bytes else Err (Text name (Syntax (utf8_valid_len bytes)))) → text ≡ bytes
+text_case name bytes text true e = cc
+text_case name bytes text false e = absurd (cc)
+
+-- a text is the bytes of its file
+pub text_is_bytes : (name bytes text : List ℕ) → Ok text ≡ text_of name bytes → text ≡ bytes
+text_is_bytes name bytes text e = text_case name bytes text (is_utf8 bytes) e
+
+pub is_read : (name bytes text : List ℕ) (design : Design) → Ok text ≡ text_of name bytes → IsDesign text top design → IsRead name bytes design
+is_read name bytes text design found is = record { tree = is.tree; reads = goes_on text (Ok is.tree) found (accepts is.tree is.given); is = is.is }
+
+refuses : (text : List ℕ) (e : ReadError) → IsRefusal text top e → RefusesFor (GivesDesign text top) e
+refuses text (Syntax at) is = is
+refuses text (Broken rule span) is = is
+refuses text (Over limit) is = is
+refuses text OutOfMemory is = tt
+
+pub stops_at_design : (name : Bor (List ℕ)) (bytes text : List ℕ) (e : ReadError) → Ok text ≡ text_of name.now bytes → IsRefusal text top e → StopsBy (ReadsDesign name.now bytes) (text_refusal name e)
+stops_at_design name bytes text e found is =
+    stops_in_next (Gives (text_of name.now bytes)) (λ t. OfText name.now (GivesDesign t top)) text (text_refusal name e) found
+    (stops_at_text name (GivesDesign text top) e (refuses text e is))
+
+-- ---- a run
+
+by_some : (said : Option ℕ) (kind : Kind) (depth : ℕ) → 1 ≤ depth_by said kind depth
+by_some None kind depth = omega arith
+by_some (Some d) AtInput depth = omega arith
+by_some (Some d) AtOutput depth = omega arith
+by_some (Some d) AtInner depth = omega arith
+
+some_depths : (said : Option ℕ) (chans : List Chan) → (c : ℕ) → c < length (map (λ (chan : Chan). depth_by said chan.kind chan.depth) chans) → 1 ≤ get_or (map (λ (chan : Chan). depth_by said chan.kind chan.depth) chans) c 0
+some_depths said [] c h = absurd (omega arith)
+some_depths said (chan ∷ chans) zero h = by_some said chan.kind chan.depth
+some_depths said (chan ∷ chans) (suc c) h = some_depths said chans c (omega arith)
+
+-- such depths are those of a run
+pub own_depths : (said : Option ℕ) (net : Net) → IsDepths net (depths_by said net)
+own_depths said net = record { count = length-map net.chans (λ (chan : Chan). depth_by said chan.kind chan.depth); some = some_depths said net.chans }
+
+pub same_text : (net net' : Net) (behaviors behaviors' : List Behavior) (inputs : Inputs) (how : How) → net ≡ net' → behaviors ≡ behaviors' → run_text net behaviors inputs how.activations (depths_by how.depth net) ≡ run_text net' behaviors' inputs how.activations (depths_by how.depth net')
+same_text net net' behaviors behaviors' inputs how e f = ap (λ x. run_text x behaviors inputs how.activations (depths_by how.depth x)) e ∙ ap (λ b. run_text net' b inputs how.activations (depths_by how.depth net')) f
+
+-- ---- one answer
+
+abbrev pub OneDesign : Type 0
+OneDesign = (text : List ℕ) (t : Option (List ℕ)) (a b : Result Module ReadError) → GivesDesign text t a → GivesDesign text t b → a ≡ b
+
+design_is_one : OneDesign → (name bytes : List ℕ) → IsOne (ReadsDesign name bytes)
+design_is_one law name bytes =
+    then_is_one (Gives (text_of name bytes)) (λ text. OfText name (GivesDesign text top)) (gives_is_one (text_of name bytes)) (λ text. of_text_is_one name (GivesDesign text top) (law text top))
+
+pub inputs_is_one : (name file : List ℕ) (net : Net) → IsOne (ReadsInputs name file net)
+inputs_is_one name file net a b (says x is) (says y also) = let same : x ≡ y = let e = one_reading net file (Ok x) (Ok y) is also in cc in ap Ok same
+inputs_is_one name file net a b (says x is) (at_fault cause at also) = let no : ◌≡◌ {A = Result Inputs (Cause × ℕ)} (Ok x) (Err (cause, at)) = one_reading net file (Ok x) (Err (cause, at)) is also in absurd (cc)
+inputs_is_one name file net a b (at_fault cause at is) (says x also) = let no : ◌≡◌ {A = Result Inputs (Cause × ℕ)} (Ok x) (Err (cause, at)) = one_reading net file (Ok x) (Err (cause, at)) also is in absurd (cc)
+inputs_is_one name file net a b (at_fault cause at is) (at_fault other place also) =
+    let same : ◌≡◌ {A = Cause × ℕ} (cause, at) (other, place) = let e = one_reading net file (Err (cause, at)) (Err (other, place)) is also in cc in
+    ap (λ (x : Cause × ℕ). Err (Input name x.0 x.1)) same
+
+pub check_is_one : OneDesign → (holds : Contents) (said : Check (List ℕ)) → IsOne (check holds said)
+check_is_one law holds said =
+    then_is_one (Loads holds said.design) (λ design. check_text said.design design) (loads_is_one holds said.design)
+    (λ design. then_is_one (ReadsDesign said.design design) (λ m. Gives (Ok (accepted (network_of m top)))) (design_is_one law said.design design) (λ m. gives_is_one (Ok (accepted (network_of m top)))))
+
+texts_are_one : OneDesign → (said : Run (List ℕ)) (design inputs : List ℕ) → IsOne (run_texts said design inputs)
+texts_are_one law said design inputs =
+    then_is_one (ReadsDesign said.design design)
+    (λ m. Then (ReadsInputs said.inputs inputs (network_of m top)) (λ words. Gives (Ok (run_text (network_of m top) (behaviors_of m top) words said.how.activations (depths_by said.how.depth (network_of m top))))))
+    (design_is_one law said.design design)
+    (λ m. then_is_one (ReadsInputs said.inputs inputs (network_of m top)) (λ words. Gives (Ok (run_text (network_of m top) (behaviors_of m top) words said.how.activations (depths_by said.how.depth (network_of m top)))))
+    (inputs_is_one said.inputs inputs (network_of m top)) (λ words. gives_is_one (Ok (run_text (network_of m top) (behaviors_of m top) words said.how.activations (depths_by said.how.depth (network_of m top))))))
+
+pub run_is_one : OneDesign → (holds : Contents) (said : Run (List ℕ)) → IsOne (run holds said)
+run_is_one law holds said =
+    then_is_one (Loads holds said.design) (λ design. Then (Loads holds said.inputs) (λ inputs. run_texts said design inputs)) (loads_is_one holds said.design)
+    (λ design. then_is_one (Loads holds said.inputs) (λ inputs. run_texts said design inputs) (loads_is_one holds said.inputs) (λ inputs. texts_are_one law said design inputs))

@@ -1,0 +1,25 @@
+use Rattle.std.proofs.Common.{ap, length, arith, subst, sym}
+use Rattle.xls_cmd.specs.Shared.Done.{StopsBy}
+use Rattle.xls_cmd.specs.Shared.Loads.{OfText, text_of}
+use Rattle.xls_cmd.specs.Shared.Step.{Gives}
+use Rattle.xls_cmd.proofs.Lemmas.Shared.{stops_in_first, err_handed}
+use Rattle.ir_text.specs.Parser.Texts.{GivesPackage}
+use Rattle.xls_cmd.specs.Ir.Commands.{ReadsPackage}
+use Rattle.xls_cmd.proofs.OnIr.Steps.{package_read, stops_at_package, text_is_bytes}
+use Rattle.xls_cmd.proofs.ir.source.read_package.Goals as goal
+
+pub returns-in_err-text-clause-refused : goal.returns-in_err-text-clause-refused
+returns-in_err-text-clause-refused c =
+    err_handed c.from_residual.result c.in_err-text.field-0.0 (StopsBy (ReadsPackage c.args.name.now c.args.bytes.now)) c.from_residual.ensures.1
+    (stops_in_first (Gives (text_of c.args.name.now c.args.bytes.now)) (λ text. OfText c.args.name.now (GivesPackage text)) c.in_err-text.field-0.0 c.in_err-text.ensures.refused)
+
+pub read_ir-requires : goal.read_ir-requires
+read_ir-requires c = omega (arith, ap length (text_is_bytes c.args.name.now c.args.bytes.now c.in_ok-text.text.now c.in_ok-text.ensures.found))
+
+pub returns-in-Ok-clause-reads : goal.returns-in-Ok-clause-reads
+returns-in-Ok-clause-reads c = package_read c.args.name.now c.args.bytes.now c.in_ok-text.text.now c.in-Ok.ir c.in_ok-text.ensures.found c.in-Ok.ensures.gives
+
+pub returns-in-Err-clause-refused : goal.returns-in-Err-clause-refused
+returns-in-Err-clause-refused c =
+    subst (StopsBy (ReadsPackage c.args.name.now c.args.bytes.now)) (sym c.of_text.ensures)
+    (stops_at_package c.args.name c.args.bytes.now c.in_ok-text.text.now c.in-Err.error c.in_ok-text.ensures.found c.in-Err.ensures.refused)

@@ -1,0 +1,61 @@
+-- The commands of a design, each read from top to bottom: the order of the steps is the order of the causes.
+use Rattle.std.specs.Prelude.{ℕ, List, [], ◌∷◌, Option, None, Result, Ok, Err}
+use Rattle.xb_io.specs.Contents.{Contents}
+use Rattle.xls_cmd.specs.Shared.Step.{Step, Then, Gives}
+use Rattle.xls_cmd.specs.Shared.Loads.{Loads, OfText, text_of}
+use Rattle.xls_cmd.specs.Shared.Fault.{Fault}
+use Rattle.xls_cmd.specs.declared.shared.fault.Fault.TheVariants.{Input}
+use Rattle.chan_file.specs.ChannelFile.{Reads}
+use Rattle.chan_file.specs.declared.refusal.Cause.{Cause}
+use Rattle.cmd_line.specs.declared.request.Check.{Check}
+use Rattle.cmd_line.specs.declared.request.Run.{Run}
+use Rattle.net_core.specs.declared.net.Net.{Net}
+use Rattle.net_core.specs.declared.net.Inputs.{Inputs}
+use Rattle.dslx_narrow_tree.specs.Network.{network_of, behaviors_of}
+use Rattle.dslx_narrow_tree.specs.declared.proc.Module.{Module}
+use Rattle.dslx_narrow.specs.Designs.{GivesDesign}
+use Rattle.xls_cmd.specs.Design.Written.{accepted, depths_by, run_text}
+
+-- ---- the steps
+
+-- the top of a design: its last proc
+abbrev pub top : Option (List ℕ)
+top = None
+
+-- the tree of a design, which is UTF-8, is read and has no fault
+abbrev pub ReadsDesign : List ℕ → List ℕ → Step Module
+ReadsDesign name bytes = Then (Gives (text_of name bytes)) (λ text. OfText name (GivesDesign text top))
+
+-- The file says the words of the network's inputs, or is refused at its first line at fault.
+pub data ReadsInputs (name file : List ℕ) (net : Net) : Result Inputs Fault → Type 0 where
+  says : (inputs : Inputs) → Reads net file (Ok inputs) → ReadsInputs name file net (Ok inputs)
+  at_fault : (cause : Cause) (at : ℕ) → Reads net file (Err (cause, at)) → ReadsInputs name file net (Err (Input name cause at))
+
+-- ---- the commands
+
+-- `check`, once the file is loaded
+abbrev pub check_text : List ℕ → List ℕ → Step (List ℕ)
+check_text name design = Then (ReadsDesign name design) (λ m. Gives (Ok (accepted (network_of m top))))
+
+abbrev pub check : Contents → Check (List ℕ) → Step (List ℕ)
+check holds said = Then (Loads holds said.design) (λ design. check_text said.design design)
+
+-- `run`, once both files are loaded
+abbrev pub run_texts : Run (List ℕ) → List ℕ → List ℕ → Step (List ℕ)
+run_texts said design inputs =
+    Then (ReadsDesign said.design design) (λ m.
+    Then (ReadsInputs said.inputs inputs (network_of m top)) (λ words.
+    Gives (Ok (run_text (network_of m top) (behaviors_of m top) words said.how.activations (depths_by said.how.depth (network_of m top))))))
+
+abbrev pub run : Contents → Run (List ℕ) → Step (List ℕ)
+run holds said =
+    Then (Loads holds said.design) (λ design.
+    Then (Loads holds said.inputs) (λ inputs.
+    run_texts said design inputs))
+
+-- the files that each names, in the order in which they are loaded
+abbrev pub check_files : Check (List ℕ) → List (List ℕ)
+check_files said = said.design ∷ []
+
+abbrev pub run_files : Run (List ℕ) → List (List ℕ)
+run_files said = said.design ∷ said.inputs ∷ []

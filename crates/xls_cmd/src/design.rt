@@ -1,0 +1,16 @@
+//! The commands of a design: `check` and `run`.
+//!
+//! What each gives stands in `specs/Commands`, and what is written in `specs/Written`. [`run_text`] writes what a run of any
+//! network shows, whatever its procs are made of and however many workers make it.
+//!
+//! Cost: linear in the files, and in the events of a run.
+mod check;
+pub mod laws;
+mod run;
+mod running;
+mod source;
+
+pub use check::{accepted, check_design};
+pub use run::run_design;
+pub use running::run_text;
+pub use source::{inputs_of, read_design};

@@ -1,0 +1,12 @@
+//! The commands of IR texts: `run --from ir`.
+//!
+//! What each gives stands in `specs/Commands`.
+//!
+//! Cost: linear in the files; each event of a run costs the nodes up to it.
+pub mod laws;
+mod run;
+mod running;
+mod source;
+
+pub use run::run_package;
+pub use source::read_package;

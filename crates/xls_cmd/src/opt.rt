@@ -1,0 +1,10 @@
+//! The command `opt` of IR texts.
+//!
+//! What it gives stands in `specs/Commands`.
+//!
+//! Cost: that of the passes over the package, and linear in the file.
+mod command;
+pub mod laws;
+mod optimising;
+
+pub use command::opt_ir;

@@ -1,0 +1,38 @@
+ghost use Rattle.std.specs.Prelude.{◌<◌, ◌^◌, Ok, length, IfOk, IfErr};
+ghost use Rattle.xls_cmd.specs.Shared.Done.{IsDone, StopsBy};
+ghost use Rattle.xls_cmd.specs.Shared.Events.{file_events};
+ghost use Rattle.xls_cmd.specs.Shared.Step.{DueBy};
+ghost use Rattle.cmd_line.specs.Named.{named_opt};
+ghost use Rattle.xls_cmd.specs.Opt.Commands.{opt, opt_files, opt_loaded};
+
+use crate::ir::read_package;
+use crate::opt::optimising::optimised;
+use crate::shared::{Refusal, load};
+use cmd_line::Opt;
+use std::alloc::Global;
+use xb_io::Files;
+
+/// `opt FILE --from ir`
+pub fn opt_ir<'a, F: Files>(
+    alloc: Global,
+    files: &mut F,
+    said: Opt<&'a str>,
+) -> Result<Vec<u8>, Refusal<'a>>
+    ensures { let asked = named_opt said.entry in
+        IsDone (λ text. text.items) (DueBy (F.told files.old) (λ holds. opt holds asked)) (opt_files asked)
+        (file_events F.asked F.faults F.taken files.old files.new) result }
+{
+    let design = load(alloc, files, said.design)?;
+    opt_loaded(alloc, &said, &design)
+}
+
+/// What `opt` gives once the file is loaded.
+fn opt_loaded<'a>(alloc: Global, said: &Opt<&'a str>, bytes: &[u8]) -> Result<Vec<u8>, Refusal<'a>>
+    requires { length bytes.now < 2 ^ 32 }
+    ensures gives { IfOk result (λ text. opt_loaded (named_opt said.now) bytes.now (Ok text.items)) }
+    ensures refused { IfErr result (StopsBy (opt_loaded (named_opt said.now) bytes.now)) }
+{
+    let ir = read_package(alloc, said.design, bytes)?;
+    let text = optimised(alloc, ir)?;
+    Ok(text)
+}

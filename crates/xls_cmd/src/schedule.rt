@@ -1,0 +1,10 @@
+//! The command `schedule` of IR texts.
+//!
+//! What it gives stands in `specs/Commands`.
+//!
+//! Cost: linear in the file.
+mod command;
+pub mod laws;
+mod scheduling;
+
+pub use command::schedule_ir;

@@ -1,0 +1,49 @@
+ghost use Rattle.std.specs.Prelude.{◌<◌, ◌≤◌, ◌^◌, Ok, length, IfOk, IfErr};
+ghost use Rattle.xls_cmd.specs.Shared.Done.{IsDone, StopsBy};
+ghost use Rattle.xls_cmd.specs.Shared.Events.{file_events};
+ghost use Rattle.xls_cmd.specs.Shared.Step.{DueBy};
+ghost use Rattle.cmd_line.specs.Named.{named_schedule};
+ghost use Rattle.xls_cmd.specs.Schedule.Commands.{schedule, schedule_files, schedule_loaded};
+
+use crate::ir::read_package;
+use crate::schedule::scheduling::scheduled;
+use crate::shared::{Refusal, load};
+use cmd_line::Schedule;
+use pipe_schedule::Demands;
+use std::alloc::Global;
+use xb_io::Files;
+
+/// `schedule FILE --clock PS [--stages N] [--ii N] --from ir`
+pub fn schedule_ir<'a, F: Files>(
+    alloc: Global,
+    files: &mut F,
+    said: Schedule<&'a str>,
+) -> Result<Vec<u8>, Refusal<'a>>
+    requires { 1 ≤ said.timing.stages }
+    ensures { let asked = named_schedule said.entry in
+        IsDone (λ text. text.items) (DueBy (F.told files.old) (λ holds. schedule holds asked)) (schedule_files asked)
+        (file_events F.asked F.faults F.taken files.old files.new) result }
+{
+    let design = load(alloc, files, said.design)?;
+    schedule_loaded(alloc, &said, &design)
+}
+
+/// What `schedule` gives once the file is loaded.
+fn schedule_loaded<'a>(
+    alloc: Global,
+    said: &Schedule<&'a str>,
+    bytes: &[u8],
+) -> Result<Vec<u8>, Refusal<'a>>
+    requires short { length bytes.now < 2 ^ 32 }
+    requires some { 1 ≤ said.now.timing.stages }
+    ensures gives { IfOk result (λ text. schedule_loaded (named_schedule said.now) bytes.now (Ok text.items)) }
+    ensures refused { IfErr result (StopsBy (schedule_loaded (named_schedule said.now) bytes.now)) }
+{
+    let ir = read_package(alloc, said.design, bytes)?;
+    let demands = Demands {
+        clock: said.timing.clock,
+        stages: said.timing.stages,
+        interval: said.timing.interval,
+    };
+    scheduled(alloc, &ir, demands)
+}
