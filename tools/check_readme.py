@@ -34,8 +34,11 @@ def commands(text):
 
 
 def main():
-    # The program is built first, where that is to be done, so that the builder says nothing later.
-    subprocess.run([os.path.join(TOP, "xls")], stdout=subprocess.DEVNULL, stderr=subprocess.DEVNULL, check=False)
+    # An unproved program writes a line of its own, which no page shows.
+    ran = subprocess.run([os.path.join(TOP, "xls")], capture_output=True, text=True, check=False)
+    if "not proved" in ran.stderr:
+        print("the pages show what the proved program writes, and there is none of these sources: run ./build")
+        sys.exit(1)
     count = 0
     for path in sys.argv[1:]:
         with open(path, encoding="utf-8") as file:
