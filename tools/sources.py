@@ -49,7 +49,7 @@ def kit():
     """What tells one kit from another, or an end where there is none."""
     command = shutil.which('rt')
     if not command:
-        raise SystemExit('xls: this needs Rattle\'s kit: its command rt has to be on the path')
+        raise SystemExit('xls: the command rt of the Rattle kit has to be on the path')
     command = os.path.realpath(command)
     return command, os.stat(command).st_size, os.stat(command).st_mtime_ns
 
