@@ -1,4 +1,4 @@
 -- ends of lists
-mod Tails
+pub mod Tails
 -- the first of a list
-mod Tops
+pub mod Tops

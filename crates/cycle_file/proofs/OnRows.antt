@@ -1,8 +1,8 @@
-mod Drafts
-mod FirstPiece
-mod Forms
-mod Known
-mod Items
-mod Lines
-mod OneReading
-mod RowsFit
+pub mod Drafts
+pub mod FirstPiece
+pub mod Forms
+pub mod Known
+pub mod Items
+pub mod Lines
+pub mod OneReading
+pub mod RowsFit

@@ -1,2 +1,2 @@
 -- widths of types without signs and names
-mod Alike
+pub mod Alike

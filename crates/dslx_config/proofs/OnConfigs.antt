@@ -1,6 +1,6 @@
 -- lists of what each part makes, one after another
-mod InOrder
+pub mod InOrder
 -- what a `config` makes, one after another
-mod Makings
+pub mod Makings
 -- ends by their numbers, one after another
-mod Numbered
+pub mod Numbered

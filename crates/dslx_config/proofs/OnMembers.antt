@@ -1,2 +1,2 @@
 -- members by their numbers
-mod Numbered
+pub mod Numbered

@@ -1,2 +1,2 @@
 -- whether an element has a value already
-mod Elements
+pub mod Elements

@@ -1,2 +1,2 @@
 -- sizes are 1 or more
-mod Sizes
+pub mod Sizes

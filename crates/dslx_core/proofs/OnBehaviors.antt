@@ -1,4 +1,4 @@
 -- receives without a word
-mod Waits
+pub mod Waits
 -- what procs do
-mod Alike
+pub mod Alike

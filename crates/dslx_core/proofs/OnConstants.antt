@@ -1,4 +1,4 @@
 -- constants and members of enums
-mod Own
+pub mod Own
 -- what is known of a text
-mod Wholes
+pub mod Wholes

@@ -1,50 +1,50 @@
 -- core expressions, shapes and plain values at each of their kinds
-mod Openings
+pub mod Openings
 -- what operators give for bits
-mod Words
+pub mod Words
 -- options, operands and results
-mod Kept
+pub mod Kept
 -- operators
-mod Operations
+pub mod Operations
 -- the test of equal types
-mod OneType
+pub mod OneType
 -- names at their numbers
-mod Slots
+pub mod Slots
 -- equal values without signs and names
-mod Likes
+pub mod Likes
 -- patterns
-mod OfPatterns
+pub mod OfPatterns
 -- names, numbers and members
-mod OfNames
+pub mod OfNames
 -- lists of expressions
-mod Lists
+pub mod Lists
 -- blocks, choices and loops
-mod OfControl
+pub mod OfControl
 -- matches
-mod OfMatch
+pub mod OfMatch
 -- tuples, and parts of values
-mod OfParts
+pub mod OfParts
 -- casts, slices and parts of bits
-mod OfCasts
+pub mod OfCasts
 -- builtins and calls
-mod OfCalls
+pub mod OfCalls
 -- binary operators
-mod OfBinary
+pub mod OfBinary
 -- written types
-mod OfTypes
+pub mod OfTypes
 -- arrays and structs
-mod OfAggregates
+pub mod OfAggregates
 -- parts beside their trees
-mod Links
+pub mod Links
 -- the induction
-mod Joined
+pub mod Joined
 -- instances of functions
-mod Tables
+pub mod Tables
 -- arrays whose last element is repeated
-mod OfDots
+pub mod OfDots
 -- values that come from plain ones
-mod FromPlain
+pub mod FromPlain
 -- the steps of `next`
-mod OfSteps
+pub mod OfSteps
 -- procs
-mod OfProcs
+pub mod OfProcs

@@ -1,12 +1,12 @@
 -- ends by their numbers
-mod Ends
+pub mod Ends
 -- channels, and number arguments of spawns
-mod Parts
+pub mod Parts
 -- families of procs
-mod Families
+pub mod Families
 -- sites
-mod Sites
+pub mod Sites
 -- tables of instances
-mod Tables
+pub mod Tables
 -- the network
-mod Networks
+pub mod Networks

@@ -1,4 +1,4 @@
 -- what is made of elements that are all of one type
-mod Elements
+pub mod Elements
 -- places of names, and lists that are filled
-mod ListLemmas
+pub mod ListLemmas

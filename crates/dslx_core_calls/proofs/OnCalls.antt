@@ -1,10 +1,10 @@
 -- what builtins become
-mod BuiltinLemmas
+pub mod BuiltinLemmas
 -- how many items a list has
-mod Counted
+pub mod Counted
 -- what loops become
-mod LoopLemmas
+pub mod LoopLemmas
 -- what matches become
-mod MatchLemmas
+pub mod MatchLemmas
 -- how many turns a loop has
-mod TurnLemmas
+pub mod TurnLemmas

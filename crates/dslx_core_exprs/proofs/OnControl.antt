@@ -1,2 +1,2 @@
 -- what is made of an array at an index, and of a part of a tuple
-mod Elements
+pub mod Elements

@@ -1,2 +1,2 @@
 -- widths that words have, and what is made where they have so many bits
-mod Widths
+pub mod Widths

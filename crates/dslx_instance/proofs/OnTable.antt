@@ -1,6 +1,6 @@
 -- what a call comes to
-mod Callees
+pub mod Callees
 -- what is found among entries
-mod Found
+pub mod Found
 -- lists of which each pair passes a test
-mod Pairs
+pub mod Pairs

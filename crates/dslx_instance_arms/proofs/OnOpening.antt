@@ -1,6 +1,6 @@
 -- how an instance is closed
-mod Closing
+pub mod Closing
 -- instances that aren't done
-mod Missing
+pub mod Missing
 -- how an instance is opened
-mod Opening
+pub mod Opening

@@ -1,2 +1,2 @@
 -- constants one after another
-mod Constants
+pub mod Constants

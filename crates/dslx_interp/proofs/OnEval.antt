@@ -1,10 +1,10 @@
 -- what functions of a table give
-mod Calls
+pub mod Calls
 -- what is bound before a value is taken apart
-mod Fronts
+pub mod Fronts
 -- each step keeps what the machine comes to
-mod Keeps
+pub mod Keeps
 -- values one after another
-mod Options
+pub mod Options
 -- a step of the machine in the code
-mod Steps
+pub mod Steps

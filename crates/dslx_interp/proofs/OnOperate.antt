@@ -1,2 +1,2 @@
 -- values that are taken apart
-mod Parts
+pub mod Parts

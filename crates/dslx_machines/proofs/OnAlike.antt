@@ -1,18 +1,18 @@
 -- the induction
-mod Joined
+pub mod Joined
 -- builtins and calls
-mod OfCalls
+pub mod OfCalls
 -- instances
-mod OfInstances
+pub mod OfInstances
 -- tuples and arrays
-mod OfLists
+pub mod OfLists
 -- operators
-mod OfOperators
+pub mod OfOperators
 -- patterns, and what stands behind them
-mod OfPatterns
+pub mod OfPatterns
 -- names and structs
-mod OfStructs
+pub mod OfStructs
 -- tables of instances
-mod OfTables
+pub mod OfTables
 -- what is claimed of two things that may be missing
-mod Relation
+pub mod Relation

@@ -1,4 +1,4 @@
 -- one more instance in a table
-mod Tables
+pub mod Tables
 -- each step of the machine
-mod Machines
+pub mod Machines

@@ -1,10 +1,10 @@
 -- what a body needs, and that it goes on
-mod Bodies
+pub mod Bodies
 -- the instances that are open stand in the other table
-mod Descent
+pub mod Descent
 -- the whole machine goes on
-mod Machines
+pub mod Machines
 -- what comes of a root
-mod Roots
+pub mod Roots
 -- instances that may be opened
-mod Opens
+pub mod Opens

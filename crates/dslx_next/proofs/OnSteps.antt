@@ -1,6 +1,6 @@
 -- steps that bind nothing yet, and what they bind
-mod Opens
+pub mod Opens
 -- statements, one after another
-mod Passed
+pub mod Passed
 -- a whole `next`
-mod Ends
+pub mod Ends

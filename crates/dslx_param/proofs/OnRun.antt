@@ -1,8 +1,8 @@
 -- several steps, and one more
 pub mod Further
 -- what is made of what was made last
-mod Made
+pub mod Made
 -- an instance that is needed
-mod Needed
+pub mod Needed
 -- an instance that is opened
-mod Opening
+pub mod Opening

@@ -1,14 +1,14 @@
-mod Chains
-mod FitsAtoms
-mod FitsBlocks
-mod FitsItems
-mod FitsOperators
-mod FitsProcs
-mod FitsStatements
-mod FitsTypes
-mod Fitting
-mod Growing
-mod Onto
-mod Putting
-mod Stepping
-mod Whole
+pub mod Chains
+pub mod FitsAtoms
+pub mod FitsBlocks
+pub mod FitsItems
+pub mod FitsOperators
+pub mod FitsProcs
+pub mod FitsStatements
+pub mod FitsTypes
+pub mod Fitting
+pub mod Growing
+pub mod Onto
+pub mod Putting
+pub mod Stepping
+pub mod Whole

@@ -1,18 +1,18 @@
-mod ChainUp
-mod Effects
-mod Every
-mod Fits
-mod Going
-mod KeepsAtoms
-mod KeepsBlocks
-mod KeepsItems
-mod KeepsOperators
-mod KeepsProcs
-mod KeepsStatements
-mod KeepsTypes
-mod NoHigher
-mod Nodes
-mod Ready
-mod States
-mod Takers
-mod Whole
+pub mod ChainUp
+pub mod Effects
+pub mod Every
+pub mod Fits
+pub mod Going
+pub mod KeepsAtoms
+pub mod KeepsBlocks
+pub mod KeepsItems
+pub mod KeepsOperators
+pub mod KeepsProcs
+pub mod KeepsStatements
+pub mod KeepsTypes
+pub mod NoHigher
+pub mod Nodes
+pub mod Ready
+pub mod States
+pub mod Takers
+pub mod Whole

@@ -1,14 +1,14 @@
-mod Around
-mod Chains
-mod Fits
-mod Going
-mod Grouping
-mod KeepsAtoms
-mod KeepsBlocks
-mod KeepsItems
-mod KeepsOperators
-mod KeepsProcs
-mod KeepsStatements
-mod KeepsTypes
-mod Standing
-mod TokensAlong
+pub mod Around
+pub mod Chains
+pub mod Fits
+pub mod Going
+pub mod Grouping
+pub mod KeepsAtoms
+pub mod KeepsBlocks
+pub mod KeepsItems
+pub mod KeepsOperators
+pub mod KeepsProcs
+pub mod KeepsStatements
+pub mod KeepsTypes
+pub mod Standing
+pub mod TokensAlong

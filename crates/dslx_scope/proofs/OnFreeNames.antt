@@ -1,10 +1,10 @@
 -- the names that are bound, from the last one on
-mod Ends
+pub mod Ends
 -- each step keeps what comes of the machine
-mod Keeps
+pub mod Keeps
 -- names among what is mentioned, and among others
 pub mod Named
 -- what the parts of a tree mention, by what stands at their top
-mod Opened
+pub mod Opened
 -- a step of the machine in the code
-mod Taken
+pub mod Taken

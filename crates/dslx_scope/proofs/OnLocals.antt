@@ -1,2 +1,2 @@
 -- what is bound, from the last name on
-mod Ends
+pub mod Ends

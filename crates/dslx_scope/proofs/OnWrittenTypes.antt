@@ -1,4 +1,4 @@
 -- values that are there unless something sees a local
-mod Unless
+pub mod Unless
 -- the induction on written types
-mod Written
+pub mod Written

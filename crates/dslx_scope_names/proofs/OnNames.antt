@@ -1,4 +1,4 @@
 -- numbers of types that are written
-mod Numbers
+pub mod Numbers
 -- what the machine comes to where a struct is used
-mod Uses
+pub mod Uses

@@ -1,2 +1,2 @@
 -- what types become that see no local
-mod Types
+pub mod Types

@@ -1,6 +1,6 @@
 -- which names are constants'
-mod Constants
+pub mod Constants
 -- arguments at their place, one after the other
-mod Located
+pub mod Located
 -- number parameters that stand, in either order
-mod Stands
+pub mod Stands

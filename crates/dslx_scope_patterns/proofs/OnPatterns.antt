@@ -1,6 +1,6 @@
 -- parts of a tuple, one behind the other
-mod InOrder
+pub mod InOrder
 -- what a pattern becomes, by what stands at its top
-mod Opened
+pub mod Opened
 -- what it becomes at its place
-mod Placed
+pub mod Placed

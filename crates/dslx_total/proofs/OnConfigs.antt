@@ -1,10 +1,10 @@
 -- instances that are reached
-mod There
+pub mod There
 -- ends by their names
-mod Held
+pub mod Held
 -- types, values and depths in a `config`
-mod Texts
+pub mod Texts
 -- channels, children and members
-mod Configs
+pub mod Configs
 -- outer channels
-mod Outers
+pub mod Outers

@@ -1,8 +1,8 @@
 -- instances among others
-mod Lists
+pub mod Lists
 -- tables of procs, one instance behind the other
-mod Growing
+pub mod Growing
 -- instances by how long chains of items are
-mod Ordered
+pub mod Ordered
 -- the top's instance
-mod Tops
+pub mod Tops

@@ -3,15 +3,15 @@ pub mod Reached
 -- what instances of procs break and reach, by parts
 pub mod Acts
 -- number parameters of procs
-mod Parameters
+pub mod Parameters
 -- spawns
 pub mod Spawns
 -- instances that are checked
 pub mod There
 -- families of procs
-mod Families
+pub mod Families
 -- the last proc of a text
-mod LastProc
+pub mod LastProc
 -- the top proc
 pub mod Tops
 -- what the `next` of procs becomes

@@ -1,6 +1,6 @@
 -- instances that are in a table
-mod Found
+pub mod Found
 -- how many instances are checked
-mod Few
+pub mod Few
 -- instances that a text reaches
-mod Tables
+pub mod Tables

@@ -1,2 +1,2 @@
 -- procs that do the same from each state of their type
-mod Alike
+pub mod Alike

@@ -1,10 +1,10 @@
 -- types that are written by their width
-mod Widths
+pub mod Widths
 -- values of their own types
 pub mod Own
 -- lists of instances
 pub mod Lists
 -- what is known of accepted texts
-mod Knowing
+pub mod Knowing
 -- instances by how long chains of items are
-mod Ordered
+pub mod Ordered

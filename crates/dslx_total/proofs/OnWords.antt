@@ -1,4 +1,4 @@
 -- types whose words a channel holds
-mod Narrow
+pub mod Narrow
 -- ends of channels
-mod Ends
+pub mod Ends

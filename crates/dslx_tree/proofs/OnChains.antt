@@ -1,1 +1,1 @@
-mod Splitting
+pub mod Splitting

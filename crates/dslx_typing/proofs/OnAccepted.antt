@@ -1,4 +1,4 @@
 -- instances that pass the test of equality
-mod OneInstance
+pub mod OneInstance
 -- items and instances without faults
-mod Sound
+pub mod Sound

@@ -1,10 +1,10 @@
 -- trees beside what the rules say of them
-mod Trees
+pub mod Trees
 -- sites, and what comes behind them
-mod Turns
+pub mod Turns
 -- expressions as statements
-mod Effects
+pub mod Effects
 -- statements in their order
-mod Statements
+pub mod Statements
 -- activations
-mod Activations
+pub mod Activations

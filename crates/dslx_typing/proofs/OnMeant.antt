@@ -1,2 +1,2 @@
 -- each item means what is known of it
-mod Itself
+pub mod Itself

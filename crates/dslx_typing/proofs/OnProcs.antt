@@ -1,4 +1,4 @@
 -- members
-mod Members
+pub mod Members
 -- instances of procs
-mod Instances
+pub mod Instances

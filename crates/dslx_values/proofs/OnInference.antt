@@ -1,4 +1,4 @@
 -- what is inferred past the last argument
-mod Ends
+pub mod Ends
 -- what written types infer, by what stands at their tops
-mod Levels
+pub mod Levels

@@ -1,8 +1,8 @@
 -- values that no word of the code holds
-mod Helds
+pub mod Helds
 -- builtins of one operand, by the bits that it is
-mod Operands
+pub mod Operands
 -- numbers in the ranges of bits
-mod RangeLemmas
+pub mod RangeLemmas
 -- how many turns there are between two words
-mod TurnLemmas
+pub mod TurnLemmas

@@ -1,4 +1,4 @@
-mod Traces
-mod Runs
-mod Positions
-mod Outcomes
+pub mod Traces
+pub mod Runs
+pub mod Positions
+pub mod Outcomes

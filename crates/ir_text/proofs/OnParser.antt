@@ -1,4 +1,4 @@
-mod LastToken
-mod OneTree
-mod OnePackage
-mod Verdicts
+pub mod LastToken
+pub mod OneTree
+pub mod OnePackage
+pub mod Verdicts

@@ -1,24 +1,24 @@
-mod Writable
-mod Held
-mod Walks
-mod Words
-mod OpWords
-mod Lists
-mod Steps
-mod Numbers
-mod TypeTexts
-mod ValueTexts
-mod Names
-mod Operands
-mod Calls
-mod NodeTexts
-mod ChannelTexts
-mod ProcTexts
-mod Depths
-mod Places
-mod Classes
-mod VerifiedNodes
-mod Anywhere
-mod Shortness
-mod VerifiedPackages
-mod Ranges
+pub mod Writable
+pub mod Held
+pub mod Walks
+pub mod Words
+pub mod OpWords
+pub mod Lists
+pub mod Steps
+pub mod Numbers
+pub mod TypeTexts
+pub mod ValueTexts
+pub mod Names
+pub mod Operands
+pub mod Calls
+pub mod NodeTexts
+pub mod ChannelTexts
+pub mod ProcTexts
+pub mod Depths
+pub mod Places
+pub mod Classes
+pub mod VerifiedNodes
+pub mod Anywhere
+pub mod Shortness
+pub mod VerifiedPackages
+pub mod Ranges

@@ -1,3 +1,3 @@
-mod Takings
-mod Openings
-mod Same
+pub mod Takings
+pub mod Openings
+pub mod Same

@@ -1,2 +1,2 @@
-mod One
-mod Packages
+pub mod One
+pub mod Packages

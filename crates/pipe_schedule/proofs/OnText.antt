@@ -1,2 +1,2 @@
-mod Ends
-mod Pieces
+pub mod Ends
+pub mod Pieces

@@ -1,1 +1,1 @@
-mod OneTree
+pub mod OneTree

@@ -1,1 +1,1 @@
-mod OneModule
+pub mod OneModule

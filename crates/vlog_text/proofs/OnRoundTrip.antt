@@ -1,13 +1,13 @@
-mod Core
-mod Says
-mod Grammar
-mod Words
-mod Spelling
-mod Phrases
-mod Whole
-mod Cuts
-mod Texts
-mod Placed
-mod Resolved
-mod Writing
-mod Round
+pub mod Core
+pub mod Says
+pub mod Grammar
+pub mod Words
+pub mod Spelling
+pub mod Phrases
+pub mod Whole
+pub mod Cuts
+pub mod Texts
+pub mod Placed
+pub mod Resolved
+pub mod Writing
+pub mod Round

@@ -1,2 +1,2 @@
-mod Loaded
-mod Putting
+pub mod Loaded
+pub mod Putting
