@@ -57,16 +57,18 @@ def what_it_is(name):
 
 
 def table():
-    """The rows of the table of crates."""
+    """The rows of the table of crates, and the crates that are tests alone."""
     uses, _ = crates()
     closed = {}
     for name, below in uses.items():
         closed[name] = {*below}.union(*(closed[it] for it in below))
+    tests = [name for name in uses if name.endswith(('_samples', '_tests'))]
     rows = ['| crate | what it is | stands on |', '|---|---|---|']
     for name, below in uses.items():
-        direct = [it for it in below if not any(it in closed[other] for other in below)]
-        rows.append(f'| `{name}` | {what_it_is(name)} | {" ".join(direct)} |')
-    return '\n'.join(rows)
+        if name not in tests:
+            direct = [it for it in below if not any(it in closed[other] for other in below)]
+            rows.append(f'| `{name}` | {what_it_is(name)} | {" ".join(direct)} |')
+    return '\n'.join([*rows, '', f'Tests alone: {", ".join(f"`{name}`" for name in tests)}.'])
 
 
 def slugs(page):
@@ -101,6 +103,13 @@ def targets(page, part):
             yield told, os.path.normpath(os.path.join(os.path.dirname(page), path)) if path else page, anchor
 
 
+def spread(path):
+    """The paths that one with `{a,b}` stands for."""
+    before, brace, rest = path.partition('{')
+    inner, _, after = rest.partition('}')
+    return [f'{before}{it}{after}' for it in inner.split(',')] if brace else [path]
+
+
 def links_at_fault(page):
     text = re.sub(r'^    .*$', '', text_of(page), flags=re.M)
     for told, path, anchor in targets(page, text):
@@ -110,8 +119,8 @@ def links_at_fault(page):
             yield f'{page}: no heading {anchor} in {path}'
         elif path.endswith('.rt'):
             yield from (f'{page}: no {name} in {path}' for name in NAME.findall(told) if not is_defined(name, path))
-    for path in PATH.findall(text):
-        if '/out' not in path and '<' not in path and not glob.glob(path.rstrip('.,:')):
+    for path in (it for found in PATH.findall(text) for it in spread(found)):
+        if '/out' not in path and not glob.glob(path):
             yield f'{page}: no {path}'
 
 
