@@ -12,14 +12,13 @@ that. It also fails where a page (README.md, docs/*.md, tools/README.md)
 - is longer than it may be;
 
 where a table of docs/PROVED.md names as a contract what is no function, clause or type of the row's files and no word of any
-specs/, or as a mutant what stands in no must-fail/ or mutants/; where README.md lacks a crate of the kit that is used, or the kit's
-version; and where tools/README.md lacks a tool.
+specs/, or as a mutant what stands in no must-fail/ or mutants/; where README.md lacks a crate of the kit that is used; and where
+tools/README.md lacks a tool.
 """
 import functools
 import glob
 import os
 import re
-import subprocess
 import sys
 
 MAP, PROVED, TOOLS = 'docs/ARCHITECTURE.md', 'docs/PROVED.md', 'tools/README.md'
@@ -158,9 +157,6 @@ def sizes_at_fault():
 def kit_at_fault():
     told = text_of('README.md')
     yield from (f'README.md: the kit\'s {name} is used, and not named' for name in sorted(crates()[1]) if f'`{name}`' not in told)
-    version = subprocess.run(['rt', 'version'], capture_output=True, text=True, check=True).stdout.strip()
-    if version not in told:
-        yield f'README.md: not of {version}'
     for path in sorted(glob.glob('tools/*.*')):
         if path != TOOLS and f'`{os.path.basename(path)}`' not in text_of(TOOLS):
             yield f'{TOOLS}: no {path}'
