@@ -54,7 +54,7 @@ fn read_text(rt: &HostRuntime, text: &str) -> io::Result<()>
     requires { length text.now < 2 ^ 32 }
 {
     match read(rt.alloc(), text) {
-        Ok(module) => println!(rt; "{} items", module.items.len())?,
+        Ok(parsed) => println!(rt; "{} items", parsed.module.items.len())?,
         Err(error) => println!(rt; "{error}")?,
     }
     Ok(())

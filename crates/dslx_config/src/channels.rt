@@ -1,6 +1,6 @@
 //! Types of words that channels hold, and types without signs and names.
 //!
-//! Each call is its definition in `dslx_meaning` or `dslx_lowering`. No call recurses deeper than a type is nested.
+//! Each call is its definition in `dslx_meaning` or `dslx_core::lowering`. No call recurses deeper than a type is nested.
 mod plain;
 mod travel;
 

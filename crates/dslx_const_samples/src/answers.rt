@@ -41,12 +41,12 @@ fn last_value(alloc: Global, text: &str) -> Result<Option<DslxValue>, Fail> {
     if text.len() >= 4_294_967_296 {
         return Err(Fail::from("long"));
     }
-    let module = match read(alloc, text) {
-        Ok(module) => module,
+    let parsed = match read(alloc, text) {
+        Ok(parsed) => parsed,
         Err(_) => return Err(Fail::from("no text")),
     };
-    match last_constant(&module) {
-        Some(expr) => Ok(const_eval(alloc, &module, Scope::new(alloc), expr)?),
+    match last_constant(&parsed.module) {
+        Some(expr) => Ok(const_eval(alloc, &parsed.module, Scope::new(alloc), expr)?),
         None => Err(Fail::from("no constant")),
     }
 }

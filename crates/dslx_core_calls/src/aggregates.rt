@@ -1,6 +1,6 @@
 //! The core expressions that tuples, arrays, structs and their fields become, made of those that their parts became.
 //!
-//! Each call is its definition in `dslx_lowering`; `None` where types don't fit.
+//! Each call is its definition in `dslx_core::lowering`; `None` where types don't fit.
 mod arrays;
 mod fields;
 mod filled;

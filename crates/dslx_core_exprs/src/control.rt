@@ -1,6 +1,6 @@
 //! The core expressions that choices, bindings and parts of values become, made of those that their parts became.
 //!
-//! Each call is its definition in `dslx_lowering`; `None` where types don't fit.
+//! Each call is its definition in `dslx_core::lowering`; `None` where types don't fit.
 mod control;
 
 pub use control::{bind_lowered, choice_lowered, element_lowered, index_lowered};

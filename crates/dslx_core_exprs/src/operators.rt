@@ -1,6 +1,6 @@
 //! The core expressions that operators, casts and parts of bits become, made of those that their operands became.
 //!
-//! Each call is its definition in `dslx_lowering`; `None` where types don't fit.
+//! Each call is its definition in `dslx_core::lowering`; `None` where types don't fit.
 mod operators;
 
 pub use operators::{

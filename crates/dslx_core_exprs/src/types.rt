@@ -1,6 +1,6 @@
 //! What is asked of the types of what is lowered, and what known values become.
 //!
-//! Each call is its definition in `dslx_lowering`.
+//! Each call is its definition in `dslx_core::lowering`.
 mod literals;
 mod types;
 

@@ -15,7 +15,7 @@ use dslx_tree::Module;
 use std::alloc::{AllocError, Global};
 
 /// The instances that one of a function needs, and that one; `None` where no table of at most so many instances has it.
-/// Which instances of a checked text have one is said by `dslx_instances_stand`; a text that breaks a rule isn't refused for it here.
+/// Which instances of a checked text have one is said by `dslx_total::instances`; a text that breaks a rule isn't refused for it here.
 ///
 /// Each instance is made once, in time as its body has parts, besides what its constants cost (`dslx_const`). An instance is looked up
 /// by a hash. Memory is taken for the instances and for what is open at once.

@@ -92,17 +92,17 @@ fn last_instances(alloc: Global, text: &str) -> Result<Option<InstanceTable>, Fa
     if text.len() >= 4_294_967_296 {
         return Err(Fail::from("long"));
     }
-    let module = match read(alloc, text) {
-        Ok(module) => module,
+    let parsed = match read(alloc, text) {
+        Ok(parsed) => parsed,
         Err(_) => return Err(Fail::from("no text")),
     };
-    match last_function(&module) {
+    match last_function(&parsed.module) {
         Some(name) => {
             let wanted = Instantiated {
                 name: Name::from_string(String::from_str(alloc, name)?),
                 numbers: Seq::new(alloc),
             };
-            Ok(instance(alloc, &module, LIMIT, wanted)?)
+            Ok(instance(alloc, &parsed.module, LIMIT, wanted)?)
         }
         None => Err(Fail::from("no function")),
     }

@@ -21,7 +21,7 @@ fn f(x: u8) -> u8 { x } fn a() -> bool { f(u8:1, u8:2) == u8:1 }
 fn f<N: u32>(x: uN[N], y: uN[N]) -> u32 { N } fn a() -> bool { f(u8:1, u9:1) == u32:8 }
 ";
 
-/// An instance doesn't ask of these whether they break a rule (`dslx_rules`), but gives nothing.
+/// An instance doesn't ask of these whether they break a rule (`dslx_meaning::rules`), but gives nothing.
 const OPERANDS: &str = "
 fn a() -> bool { u8:1 + u16:1 == u8:2 }
 fn f(x: u8) -> u8 { x + u16:1 } fn a() -> bool { f(u8:1) == u8:2 }

@@ -1,6 +1,6 @@
 //! Reading the tokens of a DSLX text into its tree.
 //!
-//! [`parse`] accepts exactly the token lists that the grammar of `dslx_grammar` derives and that nest no deeper than the
+//! [`parse`] accepts exactly the token lists that the grammar of `dslx_token::rules` derives and that nest no deeper than the
 //! limit; [`read`] cuts a text into its tokens before.
 #![tactic(auto)]
 
@@ -15,4 +15,4 @@ mod text;
 
 pub use laws::one_reading;
 pub use reader::parse;
-pub use text::read;
+pub use text::{Parsed, read};

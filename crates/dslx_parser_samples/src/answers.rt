@@ -63,10 +63,10 @@ pub fn answer(alloc: Global, text: &str, is_placed: bool) -> Result<String, Fail
     }
     match read(alloc, text) {
         Err(error) => Ok(format!(in alloc; "{error}")?),
-        Ok(module) => if is_placed {
-            Ok(placed_shape(alloc, &module)?)
+        Ok(parsed) => if is_placed {
+            Ok(placed_shape(alloc, &parsed.module)?)
         } else {
-            Ok(shape(alloc, &module)?)
+            Ok(shape(alloc, &parsed.module)?)
         },
     }
 }

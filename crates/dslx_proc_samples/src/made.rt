@@ -28,15 +28,15 @@ pub fn instances(alloc: Global, text: &str) -> Result<Option<MadeInstances>, Fai
     if text.len() >= 4_294_967_296 {
         return Err(Fail::from("long"));
     }
-    let module = match read(alloc, text) {
-        Ok(module) => module,
+    let parsed = match read(alloc, text) {
+        Ok(parsed) => parsed,
         Err(_) => return Err(Fail::from("no text")),
     };
     let none = MadeInstances {
         functions: InstanceTable::new(alloc),
         procs: Vec::new(alloc),
     };
-    Ok(all_of(alloc, &module, none)?)
+    Ok(all_of(alloc, &parsed.module, none)?)
 }
 
 fn all_of(

@@ -1,6 +1,6 @@
 //! Whatever breaks no rule becomes something in a checked text: nothing that is accepted is left out.
 //!
-//! `specs/Beside.antt` says which place stands beside what is in sight, `specs/Lowers.antt` what it means that a part becomes
+//! `specs/Expressions/Beside.antt` says which place stands beside what is in sight, `specs/Expressions/Lowers.antt` what it means that a part becomes
 //! something of its type there.
 mod expressions;
 mod instances;

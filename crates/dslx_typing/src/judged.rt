@@ -1,7 +1,7 @@
 //! What judgements of a text depend on.
 //!
 //! The instances that a part reaches are of functions that it mentions, or of those that the number parameters of such a
-//! function reach (`specs/Reached.antt`).
+//! function reach (`specs/Judged/Reached.antt`).
 mod reached;
 
 pub use reached::{

@@ -15,7 +15,7 @@ ghost use Rattle.dslx_typing.specs.Procs.WordsOfEnds.{WordsAreValues};
 
 /// Where all items are known, an instance of a proc with whose text outside its `config` nothing is wrong, and whose number
 /// parameters have values of their own types, has members whose words have the types that are meant, and states of the type that is meant; and nothing
-/// is wrong with its `next`, so that its activations come to their end or wait for a word (`dslx_activities`).
+/// is wrong with its `next`, so that its activations come to their end or wait for a word (`dslx_typing::activities`).
 pub fn fine_procs_have_fine_nexts()
     ensures { (known : Known) → IsComplete known → AreTyped known → (p : Proc) (numbers : List DslxValue) → AllOwn known.items.type_named numbers
         → IsFineFound known (acts_found known p numbers) → WordsAreValues (proc_sight known p numbers) p.members

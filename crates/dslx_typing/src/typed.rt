@@ -2,7 +2,7 @@
 //!
 //! Each law speaks of one construct: where its parts give values of the types that the rules give them, it gives one of
 //! the type that the rules give it. The laws stand on one relation between what the rules know at a place and what is
-//! bound there (`specs/WellTyped.antt`).
+//! bound there (`specs/Typed/WellTyped.antt`).
 mod arrays;
 mod builtins;
 mod constants;

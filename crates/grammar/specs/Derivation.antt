@@ -1,5 +1,5 @@
 -- Derivations by any context-free grammar. Its language is `IsSentence y`; where a list of tokens leaves that is
--- `IsFirstFault (IsSentence y)`, of the crate `lists`.
+-- `IsFirstFault (IsSentence y)`, of `base::lists`.
 use Rattle.std.specs.Prelude.{◌≡◌, ℕ, suc, ◌==◌, ◌⊎◌, MatchBool, List, [], ◌∷◌, ◌++◌, Some, slice_get}
 use Rattle.grammar.specs.declared.table.Symbol.{Symbol}
 use Rattle.grammar.specs.declared.table.Symbol.TheVariants.{Terminal, Nonterminal}

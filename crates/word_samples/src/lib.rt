@@ -1,4 +1,4 @@
-//! Tests of what words say, as a user writes them, in a crate of their own so that they cost `cmd_words` nothing.
+//! Tests of what words say, as a user writes them, in a crate of their own so that they cost `cmd_line` nothing.
 #![tactic(auto)]
 
 #[cfg(test)]

@@ -1,5 +1,5 @@
 //! The logic between the registers of a pipeline, as data: a table for each gate, and how a site is handled. Any logic
-//! makes a machine (`specs/Circuits.antt`); that of `pipeline_logic` makes one that keeps the laws.
+//! makes a machine (`specs/Machine/Circuits.antt`); that of `pipeline_logic` makes one that keeps the laws.
 
 ghost use Rattle.std.specs.Prelude.{◌≡◌};
 ghost use Rattle.block_stage.specs.Machine.Circuits.{IsLawful};

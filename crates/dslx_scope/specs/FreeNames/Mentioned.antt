@@ -1,4 +1,4 @@
--- What the parts of a tree mention that `dslx_rules` has no word for.
+-- What the parts of a tree mention that `dslx_meaning::rules` has no word for.
 use Rattle.std.specs.Prelude.{List, map, Option}
 use Rattle.std.specs.Option.{option_map}
 use Rattle.dslx_tree.specs.declared.block.Stmt.{Stmt, fold-Stmt}

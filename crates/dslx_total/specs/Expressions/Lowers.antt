@@ -1,7 +1,7 @@
 -- Parts of a text that become something wherever nothing is wrong with them: what they become has the type that they have.
 --
 -- Each claim is an equation of what is lowered and what is judged. That a part has a type where nothing is wrong with it is a law
--- of its own, of `dslx_sound`.
+-- of its own, of `dslx_typing::sound`.
 use Rattle.std.specs.Prelude.{◌≡◌, ℕ, nat_le, List, [], Bool, true, false, Option, Some, None, option_map}
 use Rattle.std.specs.List.{list_all}
 use Rattle.xb_span.specs.declared.fault.Fault.{Fault}

@@ -1,4 +1,4 @@
--- What a text's tokens and trees do to what is being built, without the places of what was read: the rules of `vlog_parser` on
+-- What a text's tokens and trees do to what is being built, without the places of what was read: the rules of `vlog_text::parser` on
 -- states that hold names alone.
 use Rattle.std.proofs.Common.{◌≡◌, ◌+◌, ◌==◌, ℕ, Bool, true, false, List, [], ◌∷◌, ◌++◌, map, drop, take, Option, None, Some, refl}
 use Rattle.std.specs.Prelude.{min, reverse, if◌then◌else◌}

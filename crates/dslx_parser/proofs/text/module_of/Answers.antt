@@ -4,7 +4,7 @@ use Rattle.dslx_token.specs.declared.rules.generated.kind.TheConstants.{END}
 use Rattle.dslx_token.specs.Tokens.{Tokens}
 use Rattle.dslx_parser.specs.Reads.{kinds_of}
 use Rattle.dslx_parser.proofs.Texts.{text_lacks, text_only, text_reads, text_refused}
-use Rattle.dslx_parser.proofs.text.read.Goals as goal
+use Rattle.dslx_parser.proofs.text.module_of.Goals as goal
 
 pub parse-requires : goal.parse-requires
 parse-requires c = subst (λ ls. EndsWith (kinds_of ls) END) (sym c.deref.ensures.value) c.in-Ok.ensures.ended
