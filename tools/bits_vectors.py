@@ -3,8 +3,8 @@
 
 usage: bits_vectors.py [--print]
 
-Each row of the table of a test NAME_vectors in crates/value_samples/src/bits.rt is a vector: a width, numbers, and the
-number that is wanted; each call NAME_are(&rt, alloc, ..) in words.rt there is two widths or a width and a count, a flat word, and the
+Each row of the table of a test NAME_vectors in crates/base_tests/src/bits.rt is a vector: a width, numbers, and the
+number that is wanted; each call NAME_are(&rt, alloc, ..) in flat_words.rt there is two widths or a width and a count, a flat word, and the
 text of the value in it. It fails where what is wanted is not what the formulas below give. With --print each vector is
 printed.
 """
@@ -12,7 +12,7 @@ import os
 import re
 import sys
 
-TESTS = os.path.join(os.path.dirname(os.path.abspath(__file__)), '..', 'crates', 'value_samples', 'src')
+TESTS = os.path.join(os.path.dirname(os.path.abspath(__file__)), '..', 'crates', 'base_tests', 'src')
 
 
 def signed(width, a):
@@ -100,7 +100,7 @@ FLAT = {
 
 def flat_words():
     """How many vectors of flat words there are, and how many are wrong."""
-    text = open(os.path.join(TESTS, 'words.rt'), encoding='utf-8').read()
+    text = open(os.path.join(TESTS, 'flat_words.rt'), encoding='utf-8').read()
     count = wrong = 0
     for name, arguments, want in re.findall(r'^    (\w+)_are\(\s*&rt,\s*alloc,([^"]*),\s*"([^"]*)",?\s*\)\?;', text, re.M):
         given = [number(a) for a in arguments.split(',') if a.strip()]

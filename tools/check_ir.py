@@ -13,7 +13,9 @@ import sys
 import tempfile
 import time
 
-from check_program import CHAIN
+from run_tests import contents
+
+CHAIN = contents('ir/chain.ir')
 
 # ---- single lines at fault
 

@@ -15,8 +15,7 @@ import subprocess
 import sys
 import tempfile
 
-from check_program import (CHAIN, CHAIN_LONG, CHAIN_OUTCOME, CHAIN_RUN, CHAIN_SCHEDULE, CHAIN_WORDS, COUNTED, COUNTER, DESIGN, NARROW, OUTCOME,
-                           PAIR, PAIR_OUTCOME, ROWS, RUN, TWO, TWO_DEEPER, TWO_RUN, USAGE, WIDE, WORDS)
+from run_tests import case_of
 
 FAILING = r"""
 #define _GNU_SOURCE
@@ -70,35 +69,28 @@ void _exit(int status) {
 }
 """
 
-# the words, and the right output, error line and status
+# the cases of tests/ whose first call is tried
 CASES = [
-    ("check pair.x", ("ok procs 1 channels 3\n", "", 0)),
-    ("run pair.x pair.txt --activations 9", (PAIR_OUTCOME, "", 0)),
-    (RUN, (OUTCOME, "", 0)),
-    (CHAIN_RUN, (CHAIN_OUTCOME, "", 0)),
-    (TWO_RUN + " --depth 2", (TWO_DEEPER, "", 0)),
-    ("run late.ir chain.txt --activations 3 --from ir", ("", "late.ir: rule 51 at 459..504\n", 7)),
-    ("schedule chain.ir --clock 100 --from ir", (CHAIN_SCHEDULE, "", 0)),
-    ("schedule chain.ir --clock 100 --stages 2 --from ir", ("", CHAIN_LONG, 9)),
-    ("opt wide.ir --from ir", (NARROW, "", 0)),
-    ("sim counter.v rows.txt", (COUNTED, "", 0)),
-    ("run inc.x", ("", USAGE, 2)),
-    ("check missing.x", ("", "cannot read missing.x\n", 4)),
-    ("check in.txt", ("", "in.txt: syntax at 0\n", 6)),
-    ("check broken.x", ("", "broken.x: rule 1 at 168..169\n", 7)),
-    ("run inc.x twice.txt --activations 5", ("", "twice.txt: input twice at 7\n", 10)),
+    "narrow/last_proc_is_the_top",
+    "narrow/words_of_two_inputs",
+    "narrow/run",
+    "ir/run_of_a_package",
+    "ir/two_procs_deeper",
+    "ir_texts/operand_that_comes_later",
+    "schedule/schedule",
+    "schedule/too_few_stages",
+    "opt/optimised_package",
+    "sim/simulation",
+    "words/commands_that_come_later",
+    "narrow/no_such_file",
+    "narrow/text_that_is_no_design",
+    "narrow_texts/name_that_nothing_declares",
+    "inputs/channel_twice_without_words",
 ]
-WANTING = ("", "out of memory\n", 3)
+WANTING = (b"", b"out of memory\n", 3)
 
 
-def lay_out(folder):
-    files = {"inc.x": DESIGN, "in.txt": "chan a\n0x00\n0xff\n", "pair.x": PAIR, "pair.txt": WORDS,
-             "broken.x": DESIGN.replace("x + u8", "y + u8"), "twice.txt": "chan a\nchan a\n",
-             "chain.ir": CHAIN, "chain.txt": CHAIN_WORDS, "two.ir": TWO, "empty": "", "wide.ir": WIDE, "counter.v": COUNTER, "rows.txt": ROWS,
-             "late.ir": CHAIN.replace("add(add.6, literal.5, id=7)", "add(add.8, literal.5, id=7)")}
-    for name, text in files.items():
-        with open(os.path.join(folder, name), "w", encoding="utf-8") as file:
-            file.write(text)
+def build_library(folder):
     source = os.path.join(folder, "failing.c")
     with open(source, "w", encoding="utf-8") as file:
         file.write(FAILING)
@@ -107,17 +99,22 @@ def lay_out(folder):
     return library
 
 
+def laid_out(folder, case):
+    """A copy of the folder of the case, in which the library may write."""
+    return shutil.copytree(case.folder, os.path.join(folder, *case.name.split("/")))
+
+
 def answer(program, words, folder, library, failing):
     """What the program answers where this allocation fails, and how many it made."""
     env = {"LD_PRELOAD": library, "FAILING": str(failing)}
-    done = subprocess.run([program, *words.split()], cwd=folder, env=env, capture_output=True, text=True, check=False)
+    done = subprocess.run([program, *words], cwd=folder, env=env, capture_output=True, check=False)
     with open(os.path.join(folder, "made"), encoding="utf-8") as file:
         return (done.stdout, done.stderr, done.returncode), int(file.read())
 
 
-def check_case(program, words, right, folder, library):
+def check_case(program, case, folder, library):
     """Fails each allocation of a call, up to the first that it doesn't make; answers how many it makes."""
-    wanting = 0
+    words, right, wanting = case.calls[0], case.wanted, 0
     for failing in itertools.count(1):
         got, made = answer(program, words, folder, library, failing)
         if made < failing:
@@ -126,7 +123,7 @@ def check_case(program, words, right, folder, library):
         if got not in (right, WANTING):
             break
     if got != right or not wanting:
-        print(f"{words}: with allocation {failing} failing {got!r}; status 3 before it {wanting} times")
+        print(f"{case.name}: with allocation {failing} failing {got!r}; status 3 before it {wanting} times")
         sys.exit(1)
     return made
 
@@ -137,8 +134,9 @@ def main():
         print("want of memory isn't tested: there is no cc")
         return
     with tempfile.TemporaryDirectory() as folder:
-        library = lay_out(folder)
-        count = sum(check_case(program, words, right, folder, library) for words, right in CASES)
+        library = build_library(folder)
+        found = [case_of(name) for name in CASES]
+        count = sum(check_case(program, case, laid_out(folder, case), library) for case in found)
     print(f"{count} allocations failed in turn: each time the program said so, or answered all the same")
 
 

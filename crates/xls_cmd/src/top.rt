@@ -140,6 +140,3 @@ fn opt<'a, F: Files>(
         Source::Ir => opt_ir(alloc, files, said),
     }
 }
-
-#[cfg(test)]
-mod tests;
