@@ -1,5 +1,5 @@
-ghost use Rattle.std.specs.Prelude.{◌≡◌, IfOk, false};
-ghost use Rattle.clap.specs.Words.{app_of, rule_of};
+ghost use Rattle.std.specs.Prelude.{◌≡◌, IfOk, false, codes};
+ghost use Rattle.clap.specs.Words.{App, Rule, app_of, new_app, rule_of, with_rule, with_subcommand as with_app};
 ghost use Rattle.clap.specs.declared.builder.Command.TheViews.{out-Command as fields_of};
 ghost use Rattle.cmd_line.specs.CommandLine.{activations, check, clock, depth, file, from, interval, opt, option, plain_run, plain_schedule, run, schedule, sim, stages, workers, xls};
 
@@ -10,30 +10,67 @@ use std::alloc::{AllocError, Global};
 pub fn command<'a>(alloc: Global) -> Result<Command<'a>, AllocError>
     ensures { IfOk result (λ command. app_of command ≡ xls) }
 {
-    Command::new(alloc, "xls")
-        .no_binary_name(true)
-        .subcommand(check(alloc)?)?
-        .subcommand(run(alloc)?)?
-        .subcommand(sim(alloc)?)?
-        .subcommand(schedule(alloc)?)?
-        .subcommand(opt(alloc)?)
+    let xls = Ok(Command::new(alloc, "xls").no_binary_name(true));
+    let xls = with_subcommand(xls, check(alloc));
+    let xls = with_subcommand(xls, run(alloc));
+    let xls = with_subcommand(xls, sim(alloc));
+    let xls = with_subcommand(xls, schedule(alloc));
+    with_subcommand(xls, opt(alloc))
+}
+
+/// What was built, with a subcommand more, where there was memory for both.
+fn with_subcommand<'a>(
+    built: Result<Command<'a>, AllocError>,
+    subcommand: Result<Command<'a>, AllocError>,
+) -> Result<Command<'a>, AllocError>
+    ensures { (app : App) (sub : App) → IfOk built.entry (λ command. app_of command ≡ app) →
+        IfOk subcommand.entry (λ command. app_of command ≡ sub) →
+        IfOk subcommand.entry (λ command. (fields_of command).has_globals ≡ false) →
+        IfOk result (λ command. app_of command ≡ with_app app sub.top) }
+{
+    match built {
+        Ok(command) => match subcommand {
+            Ok(subcommand) => command.subcommand(subcommand),
+            Err(error) => Err(error),
+        },
+        Err(error) => Err(error),
+    }
+}
+
+/// What was built, with an argument more, where there was memory for it.
+///
+/// Each function below is a chain of these, so that it never lets a half-built command go.
+fn with_arg<'a>(
+    built: Result<Command<'a>, AllocError>,
+    arg: Arg<'a>,
+) -> Result<Command<'a>, AllocError>
+    ensures app { (app : App) (rule : Rule) → IfOk built.entry (λ command. app_of command ≡ app) →
+        rule_of arg.entry ≡ rule → arg.entry.global ≡ false →
+        IfOk result (λ command. app_of command ≡ with_rule app rule) }
+    ensures local { IfOk built.entry (λ command. (fields_of command).has_globals ≡ false) → arg.entry.global ≡ false →
+        IfOk result (λ command. (fields_of command).has_globals ≡ false) }
+{
+    match built {
+        Ok(command) => command.arg(arg),
+        Err(error) => Err(error),
+    }
 }
 
 fn check<'a>(alloc: Global) -> Result<Command<'a>, AllocError>
     ensures app { IfOk result (λ command. app_of command ≡ check) }
     ensures local { IfOk result (λ command. (fields_of command).has_globals ≡ false) }
 {
-    Command::new(alloc, "check").arg(file(alloc, "design"))
+    of_design(alloc, "check")
 }
 
 fn run<'a>(alloc: Global) -> Result<Command<'a>, AllocError>
     ensures app { IfOk result (λ command. app_of command ≡ run) }
     ensures local { IfOk result (λ command. (fields_of command).has_globals ≡ false) }
 {
-    plain_run(alloc)?
-        .arg(workers(alloc))?
-        .arg(depth(alloc))?
-        .arg(from(alloc))
+    let built = plain_run(alloc);
+    let built = with_arg(built, workers(alloc));
+    let built = with_arg(built, depth(alloc));
+    with_arg(built, from(alloc))
 }
 
 /// What each run has.
@@ -41,28 +78,26 @@ fn plain_run<'a>(alloc: Global) -> Result<Command<'a>, AllocError>
     ensures app { IfOk result (λ command. app_of command ≡ plain_run) }
     ensures local { IfOk result (λ command. (fields_of command).has_globals ≡ false) }
 {
-    Command::new(alloc, "run")
-        .arg(file(alloc, "design"))?
-        .arg(file(alloc, "inputs"))?
-        .arg(activations(alloc))
+    let built = of_design(alloc, "run");
+    let built = with_arg(built, file(alloc, "inputs"));
+    with_arg(built, activations(alloc))
 }
 
 fn sim<'a>(alloc: Global) -> Result<Command<'a>, AllocError>
     ensures app { IfOk result (λ command. app_of command ≡ sim) }
     ensures local { IfOk result (λ command. (fields_of command).has_globals ≡ false) }
 {
-    Command::new(alloc, "sim")
-        .arg(file(alloc, "design"))?
-        .arg(file(alloc, "rows"))
+    let built = of_design(alloc, "sim");
+    with_arg(built, file(alloc, "rows"))
 }
 
 fn schedule<'a>(alloc: Global) -> Result<Command<'a>, AllocError>
     ensures app { IfOk result (λ command. app_of command ≡ schedule) }
     ensures local { IfOk result (λ command. (fields_of command).has_globals ≡ false) }
 {
-    plain_schedule(alloc)?
-        .arg(interval(alloc))?
-        .arg(from(alloc))
+    let built = plain_schedule(alloc);
+    let built = with_arg(built, interval(alloc));
+    with_arg(built, from(alloc))
 }
 
 /// The file, the clock and the stages.
@@ -70,19 +105,25 @@ fn plain_schedule<'a>(alloc: Global) -> Result<Command<'a>, AllocError>
     ensures app { IfOk result (λ command. app_of command ≡ plain_schedule) }
     ensures local { IfOk result (λ command. (fields_of command).has_globals ≡ false) }
 {
-    Command::new(alloc, "schedule")
-        .arg(file(alloc, "design"))?
-        .arg(clock(alloc))?
-        .arg(stages(alloc))
+    let built = of_design(alloc, "schedule");
+    let built = with_arg(built, clock(alloc));
+    with_arg(built, stages(alloc))
 }
 
 fn opt<'a>(alloc: Global) -> Result<Command<'a>, AllocError>
     ensures app { IfOk result (λ command. app_of command ≡ opt) }
     ensures local { IfOk result (λ command. (fields_of command).has_globals ≡ false) }
 {
-    Command::new(alloc, "opt")
-        .arg(file(alloc, "design"))?
-        .arg(from(alloc))
+    let built = of_design(alloc, "opt");
+    with_arg(built, from(alloc))
+}
+
+/// A subcommand whose first word is the design's file.
+fn of_design<'a>(alloc: Global, name: &'a str) -> Result<Command<'a>, AllocError>
+    ensures app { IfOk result (λ command. app_of command ≡ with_rule (new_app name.entry.now) (file (codes "design"))) }
+    ensures local { IfOk result (λ command. (fields_of command).has_globals ≡ false) }
+{
+    Command::new(alloc, name).arg(file(alloc, "design"))
 }
 
 /// The name of a file, which stands at its place.
