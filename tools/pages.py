@@ -24,7 +24,7 @@ import sys
 MAP, PROVED, TOOLS = 'docs/ARCHITECTURE.md', 'docs/PROVED.md', 'tools/README.md'
 FROM, TO = '<!-- crates: written by tools/pages.py -->', '<!-- crates: end -->'
 MOST = 95
-SIZES = {'README.md': 8_000, MAP: 24_000, PROVED: 40_000}
+SIZES = {'docs/DECISIONS.md': 26000, 'docs/PROVING.md': 20000, 'README.md': 8_000, MAP: 24_000, PROVED: 40_000}
 LINK = re.compile(r'\[([^\]]*)\]\(([^)\s]+)\)')
 NAME = re.compile(r'`(\w+)`')
 PATH = re.compile(r'`((?:crates|docs|tools|examples|\.ci)/[^`\s]*|crates\.txt|HANDLES)[^`]*`')
