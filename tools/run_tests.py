@@ -23,7 +23,7 @@ class Case:
     """The calls of a case, and what each of them must answer: its output, its error text and its status."""
 
     def __init__(self, path):
-        self.folder, file = os.path.split(path)
+        self.folder = os.path.dirname(path)
         self.base, kind = os.path.splitext(path)
         self.name = os.path.relpath(self.base, TESTS)
         lines = self.text(kind).decode().splitlines()
@@ -48,16 +48,17 @@ class Case:
 
 
 def shown(given):
-    return '%.*s' % (LONGEST, '%d %r %r' % (given[2] if given[2] is not None else -1, given[1], given[0]))
+    out, err, status = given
+    return ('%d %r %r' % (status, err, out))[:LONGEST]
 
 
-def answer(program, words, folder, **how):
+def answer(program, words, folder):
     """What the program answers in that folder."""
     try:
         done = subprocess.run([program, *words], cwd=folder, stdin=subprocess.DEVNULL, capture_output=True, check=False,
-                              timeout=SECONDS, **how)
+                              timeout=SECONDS)
     except subprocess.TimeoutExpired:
-        return b'', b'no answer', None
+        return b'', b'no answer', -1
     return done.stdout, done.stderr, done.returncode
 
 

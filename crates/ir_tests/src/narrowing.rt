@@ -1,14 +1,12 @@
 //! Narrowing of as many nodes as a package holds, whose text would be too long to be read.
 
 use crate::sample::{node, package};
-use delay_model::{Binary, Compare, Extend, Op, Unary};
+use delay_model::{Extend, Op};
 use ir_rebuild::append;
-use ir_text::printer::print_ir;
-use ir_tree::{Attributes, IrType, Node, Operand, Operands, Package};
+use ir_tree::{Attributes, Node, Operand, Package};
 use ir_verify::verify;
 use std::alloc::{AllocError, Global};
 use std::test::Fail;
-use xb_value::Seq;
 
 fn add(
     alloc: Global,

@@ -1,9 +1,10 @@
+//! A step of a network is made where one can be.
+
 ghost use Rattle.std.specs.Prelude.{◌≡◌, ◌<◌, ◌^◌, length, map};
 ghost use Rattle.net_core.specs.WellFormed.{IsNet, IsInputs, IsDepths, AreBehaviorsOf};
 ghost use Rattle.net_samples.specs.Behaviors.{behavior_of};
 
-use net_core::{Chan, Inputs, Kind, Name, Net, Outcome, ProcHead, Site, Stall};
-use net_run::run_one;
+use net_core::{Chan, Inputs, Kind, Name, Net, ProcHead, Site};
 use net_samples::{
     Port, Sample, Source, Step, When, ask_and_step, bodies_fit, depths_fit, inputs_fit, net_fits,
 };
