@@ -230,6 +230,6 @@ fn built_from_the_bottom(rt: HostRuntime) -> Result<(), Fail> {
         Step::Reduce(0),
         Step::Shift,
     ];
-    assert_eq!(rt; made.as_slice(), wanted.as_slice());
+    assert!(rt; made.as_slice() == wanted.as_slice(), "other steps");
     Ok(())
 }
