@@ -12,3 +12,5 @@ pub mod Schedule
 pub mod Shared
 -- `sim`
 pub mod Sim
+-- which words want several workers
+pub mod Workers

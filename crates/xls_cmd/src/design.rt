@@ -11,6 +11,6 @@ mod running;
 mod source;
 
 pub use check::{accepted, check_design};
-pub use run::run_design;
-pub use running::run_text;
+pub use run::{run_design, run_design_alone};
+pub use running::{run_text, run_text_alone};
 pub use source::{inputs_of, read_design};

@@ -5,8 +5,7 @@
 //! Cost: linear in the files; each event of a run costs the nodes up to it.
 pub mod laws;
 mod run;
-mod running;
 mod source;
 
-pub use run::run_package;
+pub use run::{run_package, run_package_alone};
 pub use source::read_package;

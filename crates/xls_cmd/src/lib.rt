@@ -13,4 +13,4 @@ pub mod shared;
 pub mod sim;
 mod top;
 
-pub use top::xls_main;
+pub use top::{answer_alone, xls_main};

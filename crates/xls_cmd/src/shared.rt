@@ -16,5 +16,5 @@ mod response;
 pub use fault::Fault;
 pub use loading::{load, read_text};
 pub use pieces::put_pieces;
-pub use refusal::Refusal;
+pub use refusal::{Refusal, or_no_memory};
 pub use response::respond;

@@ -1,4 +1,4 @@
-ghost use Rattle.std.specs.Prelude.{◌≡◌, ◌≤◌, ◌⊎◌, ℕ, List, Result, Some, IfSome, map, string_bytes};
+ghost use Rattle.std.specs.Prelude.{◌≡◌, ◌≤◌, ◌⊎◌, ℕ, List, Result, Some, IfSome, MatchOption, true, map, string_bytes};
 ghost use Rattle.xb_io.specs.Counts.{HasRisen};
 ghost use Rattle.xls_cmd.specs.Shared.Answered.{IsAnswered};
 ghost use Rattle.xls_cmd.specs.Shared.Done.{IsDone};
@@ -6,11 +6,12 @@ ghost use Rattle.xls_cmd.specs.Shared.Events.{file_events, sink_events};
 ghost use Rattle.xls_cmd.specs.Shared.Fault.{Fault as Cause};
 ghost use Rattle.xls_cmd.specs.Answer.{due, due_of, due_of_opt, due_of_run, due_of_schedule, files_of, files_of_opt, files_of_schedule, named_files, status_for};
 ghost use Rattle.xls_cmd.specs.Design.Commands.{run_files};
+ghost use Rattle.xls_cmd.specs.Workers.{IsLeftToWorkers, has_workers, is_by_workers, wants_workers};
 ghost use Rattle.cmd_line.specs.Bounds.{IsInBounds, IsWorkerCount};
 ghost use Rattle.cmd_line.specs.Named.{named, named_opt, named_run, named_schedule};
 
-use crate::design::{check_design, run_design};
-use crate::ir::run_package;
+use crate::design::{check_design, run_design, run_design_alone};
+use crate::ir::{run_package, run_package_alone};
 use crate::laws::one_answer;
 use crate::opt::opt_ir;
 use crate::schedule::schedule_ir;
@@ -25,8 +26,8 @@ use xb_io::{Files, Gate, Sink};
 /// What the program does, from its words (without its own name) to its status.
 ///
 /// The output goes to `out`, in one piece that is built before it is put; a line that says why there is none goes to
-/// `err`, and never changes the status. A run by several workers takes a thread for each; `gate` is called before each of
-/// their turns.
+/// `err`, and never changes the status. What takes no workers is answered by [`answer_alone`], so it ends; a run by several workers
+/// takes a thread for each, and `gate` is called before each of their turns.
 pub fn xls_main<R: Threads + Wait + Sync, F: Files, O: Sink, E: Sink, G: Gate + Sync>(
     rt: &R,
     alloc: Global,
@@ -47,9 +48,130 @@ pub fn xls_main<R: Threads + Wait + Sync, F: Files, O: Sink, E: Sink, G: Gate + 
         ¬ HasRisen (F.faults files.old) (F.faults files.new) → ¬ HasRisen (O.faults out.old) (O.faults out.new) →
         (result ≡ status_for given) ⊎ (result ≡ 3)) }
 {
+    match answer_alone(alloc, words, files, out, err) {
+        Some(status) => status,
+        None => answer(rt, alloc, words, files, out, err, gate),
+    }
+}
+
+/// [`xls_main`] of all words but those of a run by two or more workers; these alone are `None`, and nothing is asked for or put then. It
+/// has no right to wait, so it ends.
+pub fn answer_alone<F: Files, O: Sink, E: Sink>(
+    alloc: Global,
+    words: &[String],
+    files: &mut F,
+    out: &mut O,
+    err: &mut E,
+) -> Option<u8>
+    ensures answered { let texts = map string_bytes words.now in
+        MatchOption result (IsLeftToWorkers texts (files.new ≡ files.old) (out.new ≡ out.old) (err.new ≡ err.old))
+        (λ status. IsAnswered (due texts (F.told files.old)) (named_files texts)
+        (file_events F.asked F.faults F.taken files.old files.new)
+        (sink_events O.written O.faults out.old out.new)
+        (sink_events E.written E.faults err.old err.new) status) }
+    ensures complete { IfSome result (λ status. IfSome (F.told files.old) (λ holds. (given : Result (List ℕ) Cause) → due (map string_bytes words.now) (Some holds) given →
+        ¬ HasRisen (F.faults files.old) (F.faults files.new) → ¬ HasRisen (O.faults out.old) (O.faults out.new) →
+        (status ≡ status_for given) ⊎ (status ≡ 3))) }
+{
+    one_answer();
+    match execute_alone(alloc, words, files) {
+        Some(given) => Some(respond(given, out, err)),
+        None => None,
+    }
+}
+
+/// [`xls_main`], by as many workers as the words say.
+fn answer<R: Threads + Wait + Sync, F: Files, O: Sink, E: Sink, G: Gate + Sync>(
+    rt: &R,
+    alloc: Global,
+    words: &[String],
+    files: &mut F,
+    out: &mut O,
+    err: &mut E,
+    gate: &G,
+) -> u8
+    ensures answered { let texts = map string_bytes words.now in
+        IsAnswered (due texts (F.told files.old)) (named_files texts)
+        (file_events F.asked F.faults F.taken files.old files.new)
+        (sink_events O.written O.faults out.old out.new)
+        (sink_events E.written E.faults err.old err.new) result }
+    ensures complete { IfSome (F.told files.old) (λ holds. (given : Result (List ℕ) Cause) → due (map string_bytes words.now) (Some holds) given →
+        ¬ HasRisen (F.faults files.old) (F.faults files.new) → ¬ HasRisen (O.faults out.old) (O.faults out.new) →
+        (result ≡ status_for given) ⊎ (result ≡ 3)) }
+{
     one_answer();
     let given = execute(rt, alloc, words, files, gate);
     respond(given, out, err)
+}
+
+/// The output of the command that the words say, unless that is a run by two or more workers.
+fn execute_alone<'a, F: Files>(
+    alloc: Global,
+    words: &'a [String],
+    files: &mut F,
+) -> Option<Result<Vec<u8>, Refusal<'a>>>
+    ensures { let texts = map string_bytes words.entry.now in
+        MatchOption result (wants_workers texts ≡ true × (files.new ≡ files.old))
+        (IsDone (λ text. text.items) (due texts (F.told files.old)) (named_files texts)
+        (file_events F.asked F.faults F.taken files.old files.new)) }
+{
+    match read_words(alloc, words) {
+        Ok(Some(said)) => requested_alone(alloc, files, said),
+        Ok(None) => Some(Err(Refusal::Fault(Fault::Usage))),
+        Err(_) => Some(Err(Refusal::OutOfMemory)),
+    }
+}
+
+/// The output of a command, unless that is a run by two or more workers.
+fn requested_alone<'a, F: Files>(
+    alloc: Global,
+    files: &mut F,
+    said: Request<&'a str>,
+) -> Option<Result<Vec<u8>, Refusal<'a>>>
+    requires bounds { IsInBounds said }
+    ensures { MatchOption result (is_by_workers (named said.entry) ≡ true × (files.new ≡ files.old))
+        (IsDone (λ text. text.items) (due_of (named said.entry) (F.told files.old)) (files_of (named said.entry))
+        (file_events F.asked F.faults F.taken files.old files.new)) }
+{
+    match said {
+        Request::Check(said) => Some(check_design(alloc, files, said)),
+        Request::Run(said) => run_alone(alloc, files, said),
+        Request::Sim(said) => Some(sim_design(alloc, files, said)),
+        Request::Schedule(said) => Some(schedule(alloc, files, said)),
+        Request::Opt(said) => Some(opt(alloc, files, said)),
+    }
+}
+
+/// The output of a run by one worker.
+fn run_alone<'a, F: Files>(
+    alloc: Global,
+    files: &mut F,
+    said: Run<&'a str>,
+) -> Option<Result<Vec<u8>, Refusal<'a>>>
+    ensures { MatchOption result (has_workers (named_run said.entry) ≡ true × (files.new ≡ files.old))
+        (IsDone (λ text. text.items) (due_of_run (named_run said.entry) (F.told files.old)) (run_files (named_run said.entry))
+        (file_events F.asked F.faults F.taken files.old files.new)) }
+{
+    if said.how.workers > 1 {
+        None
+    } else {
+        Some(run_in_turn(alloc, files, said))
+    }
+}
+
+/// The output of a run, in one thread.
+fn run_in_turn<'a, F: Files>(
+    alloc: Global,
+    files: &mut F,
+    said: Run<&'a str>,
+) -> Result<Vec<u8>, Refusal<'a>>
+    ensures { IsDone (λ text. text.items) (due_of_run (named_run said.entry) (F.told files.old)) (run_files (named_run said.entry))
+        (file_events F.asked F.faults F.taken files.old files.new) result }
+{
+    match said.how.source {
+        Source::Dslx => run_design_alone(alloc, files, said),
+        Source::Ir => run_package_alone(alloc, files, said),
+    }
 }
 
 /// The output of the command that the words say.

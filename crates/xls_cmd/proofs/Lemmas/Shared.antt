@@ -201,6 +201,22 @@ module _ {F : Type 0} (asked : F → List (List ℕ)) (faults taken : F → ℕ)
           (λ fault due. due_goes_on told (λ holds. Loads holds name) next bytes (Err fault) loaded due)
           (refused_later asked faults taken (DueBy told (λ holds. next holds bytes)) old mid new (name ∷ []) done.names r same rises is)
 
+-- ---- from what is ready
+
+module _ {V W : Type 0} (items : V → List ℕ) (shown_as : W → List ℕ) (due : Result (List ℕ) Fault → Type 0) (named_files : List (List ℕ)) (files : FileEvents) where
+  -- a command that could make nothing ready refuses
+  pub done_refused : (r : Refusal) → IsDone items due named_files files (Err r) → IsDone shown_as due named_files files (Err r)
+  done_refused r done = record { names = done.names; in_order = done.in_order; asked = done.asked; gives = done.gives }
+
+  -- what is made of what is ready is what that stands for, or memory is wanting
+  pub done_from : {E : Type 0} (v : V) (made : Result W E) (given : Result W Refusal) → IsDone items due named_files files (Ok v) → IfOk made (λ w. shown_as w ≡ items v) →
+      MatchResult made (λ w. given ≡ Ok w) (λ e. given ≡ Err refusal.OutOfMemory) → IsDone shown_as due named_files files given
+  done_from v (Ok w) given done is same =
+      subst (IsDone shown_as due named_files files) (sym same)
+      (record { names = done.names; in_order = done.in_order; asked = done.asked; gives = (subst (λ t. due (Ok t)) (sym is) done.gives.0, done.gives.1) })
+  done_from v (Err e) given done is same =
+      subst (IsDone shown_as due named_files files) (sym same) (record { names = done.names; in_order = done.in_order; asked = done.asked; gives = done.gives.1 })
+
 -- ---- the answer
 
 answers_at : (due : Result (List ℕ) Fault → Type 0) (files : FileEvents) (names : List (List ℕ)) (out err : SinkEvents) (m n : ℕ) → m ≡ n → Answers due files names out err n → Answers due files names out err m

@@ -5,14 +5,13 @@ ghost use Rattle.xls_cmd.specs.Shared.Step.{DueBy};
 ghost use Rattle.cmd_line.specs.Bounds.{IsWorkerCount};
 ghost use Rattle.cmd_line.specs.Named.{named_run};
 ghost use Rattle.xls_cmd.specs.Design.Commands.{run, run_files, run_texts};
+ghost use Rattle.xls_cmd.specs.Design.Ready.{IsReady, shown};
 ghost use Rattle.xls_cmd.specs.Design.Written.{depths_by, run_text};
-ghost use Rattle.net_core.specs.WellFormed.{IsInputs};
-ghost use Rattle.dslx_narrow.specs.Designs.{IsRunnable};
 ghost use Rattle.dslx_narrow_core.specs.Evaluation.{behavior_of_core};
 
-use crate::design::running::run_text;
+use crate::design::running::{run_text, run_text_alone};
 use crate::design::source::{inputs_of, read_design};
-use crate::shared::{Refusal, load};
+use crate::shared::{Refusal, load, or_no_memory};
 use cmd_line::{How, Run};
 use dslx_narrow::{Design, SourceBody};
 use net_core::Inputs;
@@ -20,6 +19,13 @@ use std::alloc::{AllocError, Global};
 use std::sync::Wait;
 use std::thread::Threads;
 use xb_io::{Files, Gate};
+
+/// What a run of a design is made of.
+#[derive(Drop)]
+pub struct Ready {
+    pub design: Design,
+    pub inputs: Inputs,
+}
 
 /// `run FILE INPUTS --activations N` of a design, with a depth of its inner channels perhaps, by as many workers as are said.
 pub fn run_design<'a, R: Threads + Wait + Sync, F: Files, G: Gate + Sync>(
@@ -34,46 +40,93 @@ pub fn run_design<'a, R: Threads + Wait + Sync, F: Files, G: Gate + Sync>(
         IsDone (λ text. text.items) (DueBy (F.told files.old) (λ holds. run holds asked)) (run_files asked)
         (file_events F.asked F.faults F.taken files.old files.new) result }
 {
-    let design = load(alloc, files, said.design)?;
-    let inputs = load(alloc, files, said.inputs)?;
-    run_loaded(rt, alloc, &said, &design, &inputs, gate)
+    let how = said.how;
+    match prepare(alloc, files, said) {
+        Ok(ready) => or_no_memory(ran(rt, alloc, &ready, how, gate)),
+        Err(refusal) => Err(refusal),
+    }
 }
 
-/// What `run` gives once both files are loaded.
-fn run_loaded<'a, R: Threads + Wait + Sync, G: Gate + Sync>(
-    rt: &R,
+/// [`run_design`], in one thread whatever the number of workers that is said.
+pub fn run_design_alone<'a, F: Files>(
+    alloc: Global,
+    files: &mut F,
+    said: Run<&'a str>,
+) -> Result<Vec<u8>, Refusal<'a>>
+    ensures { let asked = named_run said.entry in
+        IsDone (λ text. text.items) (DueBy (F.told files.old) (λ holds. run holds asked)) (run_files asked)
+        (file_events F.asked F.faults F.taken files.old files.new) result }
+{
+    let how = said.how;
+    match prepare(alloc, files, said) {
+        Ok(ready) => or_no_memory(ran_alone(alloc, &ready, how)),
+        Err(refusal) => Err(refusal),
+    }
+}
+
+/// Loads both files, and reads the design and the words of its inputs.
+fn prepare<'a, F: Files>(
+    alloc: Global,
+    files: &mut F,
+    said: Run<&'a str>,
+) -> Result<Ready, Refusal<'a>>
+    ensures done { let asked = named_run said.entry in
+        IsDone (shown asked.how) (DueBy (F.told files.old) (λ holds. run holds asked)) (run_files asked)
+        (file_events F.asked F.faults F.taken files.old files.new) result }
+    ensures fits { IfOk result IsReady }
+{
+    let design = load(alloc, files, said.design)?;
+    let inputs = load(alloc, files, said.inputs)?;
+    prepare_loaded(alloc, &said, &design, &inputs)
+}
+
+/// [`prepare`], once both files are loaded.
+fn prepare_loaded<'a>(
     alloc: Global,
     said: &Run<&'a str>,
     bytes: &[u8],
     file: &[u8],
-    gate: &G,
-) -> Result<Vec<u8>, Refusal<'a>>
-    requires workers { IsWorkerCount said.now.how.workers }
+) -> Result<Ready, Refusal<'a>>
     requires design { length bytes.now < 2 ^ 32 }
     requires inputs { length file.now < 2 ^ 32 }
-    ensures gives { IfOk result (λ text. run_texts (named_run said.now) bytes.now file.now (Ok text.items)) }
+    ensures gives { IfOk result (λ ready. run_texts (named_run said.now) bytes.now file.now (Ok (shown said.now.how ready))) }
     ensures refused { IfErr result (StopsBy (run_texts (named_run said.now) bytes.now file.now)) }
+    ensures fits { IfOk result IsReady }
 {
     let design = read_design(alloc, said.design, bytes)?;
     let inputs = inputs_of(alloc, said.inputs, file, &design.net)?;
-    let text = ran(rt, alloc, &design, &inputs, said.how, gate)?;
-    Ok(text)
+    Ok(Ready { design, inputs })
 }
 
-/// What a run of a design shows.
+/// What a run of a design by several workers shows.
 fn ran<R: Threads + Wait + Sync, G: Gate + Sync>(
     rt: &R,
     alloc: Global,
-    design: &Design,
-    inputs: &Inputs,
+    ready: &Ready,
     how: How,
     gate: &G,
 ) -> Result<Vec<u8>, AllocError>
     requires workers { IsWorkerCount how.workers }
-    requires design { IsRunnable design.now }
-    requires inputs { IsInputs design.now.net inputs.now.words }
-    ensures { IfOk result (λ text. text.items ≡ run_text design.now.net (behavior_of_core design.now.core ∷ []) inputs.now how.activations (depths_by how.depth design.now.net)) }
+    requires fits { IsReady ready.now }
+    ensures { IfOk result (λ text. text.items ≡ shown how ready.now) }
 {
-    let body = SourceBody::new(&design.core);
-    run_text(rt, alloc, &design.net, &[body], inputs, how, gate)
+    let body = SourceBody::new(&ready.design.core);
+    run_text(
+        rt,
+        alloc,
+        &ready.design.net,
+        &[body],
+        &ready.inputs,
+        how,
+        gate,
+    )
+}
+
+/// What a run of a design in one thread shows.
+fn ran_alone(alloc: Global, ready: &Ready, how: How) -> Result<Vec<u8>, AllocError>
+    requires fits { IsReady ready.now }
+    ensures { IfOk result (λ text. text.items ≡ shown how ready.now) }
+{
+    let body = SourceBody::new(&ready.design.core);
+    run_text_alone(alloc, &ready.design.net, &[body], &ready.inputs, how)
 }

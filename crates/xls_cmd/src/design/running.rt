@@ -8,6 +8,7 @@ ghost use Rattle.xls_cmd.specs.Design.Written.{depth_by, depths_by, run_text};
 use chan_file::outcome_text;
 use cmd_line::How;
 use net_core::{Body, Inputs, Kind, Net};
+use net_run::run_one;
 use proc_runner::run_threads;
 use std::alloc::{AllocError, Global};
 use std::sync::Wait;
@@ -41,6 +42,32 @@ pub fn run_text<B: Body + Sync, R: Threads + Wait + Sync, G: Gate + Sync>(
         depths.as_slice(),
         how.workers,
         gate,
+    )?;
+    let text = outcome_text(alloc, net, &outcome)?;
+    Ok(text.into_bytes())
+}
+
+/// [`run_text`], in one thread whatever the number of workers that is said.
+pub fn run_text_alone<B: Body>(
+    alloc: Global,
+    net: &Net,
+    bodies: &[B],
+    inputs: &Inputs,
+    how: How,
+) -> Result<Vec<u8>, AllocError>
+    requires net { IsNet net.now }
+    requires bodies { AreBehaviorsOf net.now (map B.behavior bodies.now) }
+    requires inputs { IsInputs net.now inputs.now.words }
+    ensures { IfOk result (λ text. text.items ≡ run_text net.now (map B.behavior bodies.now) inputs.now how.activations (depths_by how.depth net.now)) }
+{
+    let depths = depths(alloc, net, how.depth)?;
+    let outcome = run_one(
+        alloc,
+        net,
+        bodies,
+        inputs,
+        how.activations,
+        depths.as_slice(),
     )?;
     let text = outcome_text(alloc, net, &outcome)?;
     Ok(text.into_bytes())

@@ -1,5 +1,6 @@
-ghost use Rattle.std.specs.Prelude.{◌≡◌};
+ghost use Rattle.std.specs.Prelude.{◌≡◌, Ok, Err, MatchResult};
 ghost use Rattle.xls_cmd.specs.Shared.Done.{text_refusal};
+ghost use Rattle.xls_cmd.specs.declared.shared.refusal.Refusal.TheVariants.{OutOfMemory};
 ghost use Rattle.xls_cmd.specs.Shared.Response.{refusal_status};
 
 use crate::shared::fault::Fault;
@@ -38,6 +39,16 @@ impl<'a> Refusal<'a> {
             ReadError::Over(_) => Refusal::Fault(Fault::Text(name, error)),
             ReadError::OutOfMemory => Refusal::OutOfMemory,
         }
+    }
+}
+
+/// What was made, or the refusal for want of memory.
+pub fn or_no_memory<'a, T>(made: Result<T, AllocError>) -> Result<T, Refusal<'a>>
+    ensures { MatchResult made (λ it. result ≡ Ok it) (λ _. result ≡ Err OutOfMemory) }
+{
+    match made {
+        Ok(it) => Ok(it),
+        Err(AllocError) => Err(Refusal::OutOfMemory),
     }
 }
 

@@ -1,4 +1,4 @@
-use Rattle.std.proofs.Common.{Ok, ap, sym, ◌∙◌, subst}
+use Rattle.std.proofs.Common.{Ok, ap, sym, subst}
 use Rattle.xls_cmd.specs.Shared.Done.{StopsBy}
 use Rattle.xls_cmd.specs.Shared.Step.{Gives, Then, goes_on}
 use Rattle.xls_cmd.proofs.Lemmas.Shared.{stops_in_first, stops_in_next, err_handed}
@@ -10,20 +10,20 @@ use Rattle.xls_cmd.specs.Design.Commands.{ReadsInputs}
 use Rattle.xls_cmd.specs.Design.Written.{depths_by, run_text}
 use Rattle.xls_cmd.specs.Ir.Commands.{ReadsPackage, run_texts}
 use Rattle.xls_cmd.proofs.OnIr.Steps.{shown_by}
-use Rattle.xls_cmd.proofs.ir.run.run_loaded.Goals as goal
+use Rattle.xls_cmd.proofs.ir.run.prepare_loaded.Goals as goal
 
 pub returns-in_err-ir-clause-refused : goal.returns-in_err-ir-clause-refused
-returns-in_err-ir-clause-refused g c =
+returns-in_err-ir-clause-refused c =
     err_handed c.from_residual.result c.in_err-ir.field-0.0 (StopsBy (run_texts (named_run c.args.said.now) c.args.bytes.now c.args.file.now)) c.from_residual.ensures.1
     (stops_in_first (ReadsPackage c.args.said.now.design.now c.args.bytes.now)
     (λ ir. Then (ReadsInputs c.args.said.now.inputs.now c.args.file.now (network_of ir)) (λ words. Gives (shown_by (named_run c.args.said.now) ir words)))
     c.in_err-ir.field-0.0 c.in_err-ir.ensures.refused)
 
 pub inputs_of-requires-clause-net : goal.inputs_of-requires-clause-net
-inputs_of-requires-clause-net g c = subst IsNet (sym (c.in_ok-net.ensures {u = tt})) (network_fits c.in_ok-ir.ir c.in_ok-ir.ensures.verified)
+inputs_of-requires-clause-net c = subst IsNet (sym (c.in_ok-net.ensures {u = tt})) (network_fits c.in_ok-ir.ir c.in_ok-ir.ensures.verified)
 
 pub returns-in_err-inputs-clause-refused : goal.returns-in_err-inputs-clause-refused
-returns-in_err-inputs-clause-refused g c =
+returns-in_err-inputs-clause-refused c =
     let ir = c.in_ok-ir.ir in
     err_handed c.from_residual-in_err-inputs.result c.in_err-inputs.field-0.0 (StopsBy (run_texts (named_run c.args.said.now) c.args.bytes.now c.args.file.now)) c.from_residual-in_err-inputs.ensures.1
     (stops_in_next (ReadsPackage c.args.said.now.design.now c.args.bytes.now)
@@ -33,8 +33,14 @@ returns-in_err-inputs-clause-refused g c =
     c.in_err-inputs.field-0.0 (subst (λ n. StopsBy (ReadsInputs c.args.said.now.inputs.now c.args.file.now n) c.in_err-inputs.field-0.0) (c.in_ok-net.ensures {u = tt}) c.in_err-inputs.ensures.refused)))
 
 pub returns-clause-gives : goal.returns-clause-gives
-returns-clause-gives g c =
+returns-clause-gives c =
     let ir = c.in_ok-ir.ir in
-    goes_on ir (Ok c.in_ok-text.text.items) c.in_ok-ir.ensures.reads
-    (goes_on c.in_ok-inputs.inputs (Ok c.in_ok-text.text.items) (subst (λ n. ReadsInputs c.args.said.now.inputs.now c.args.file.now n (Ok c.in_ok-inputs.inputs)) (c.in_ok-net.ensures {u = tt}) c.in_ok-inputs.ensures.says)
-    (ap Ok (c.in_ok-text.ensures ∙ ap (λ n. run_text n (behaviors_of ir) c.in_ok-inputs.inputs c.args.said.now.how.activations (depths_by c.args.said.now.how.depth n)) (c.in_ok-net.ensures {u = tt}))))
+    let net = c.in_ok-net.net in
+    let how = c.args.said.now.how in
+    let text = run_text net (behaviors_of ir) c.in_ok-inputs.inputs how.activations (depths_by how.depth net) in
+    goes_on ir (Ok text) c.in_ok-ir.ensures.reads
+    (goes_on c.in_ok-inputs.inputs (Ok text) (subst (λ n. ReadsInputs c.args.said.now.inputs.now c.args.file.now n (Ok c.in_ok-inputs.inputs)) (c.in_ok-net.ensures {u = tt}) c.in_ok-inputs.ensures.says)
+    (ap Ok (ap (λ n. run_text n (behaviors_of ir) c.in_ok-inputs.inputs how.activations (depths_by how.depth n)) (c.in_ok-net.ensures {u = tt}))))
+
+pub returns-clause-fits : goal.returns-clause-fits
+returns-clause-fits c = record { verified = c.in_ok-ir.ensures.verified; network = c.in_ok-net.ensures {u = tt}; inputs = c.in_ok-inputs.ensures.fits }

@@ -1,0 +1,16 @@
+use Rattle.std.proofs.Common.{[]}
+use Rattle.xls_cmd.specs.Shared.Events.{file_events}
+use Rattle.cmd_line.specs.Named.{named_run}
+use Rattle.cmd_line.specs.declared.request.Source.TheVariants.{Dslx, Ir}
+use Rattle.xls_cmd.proofs.Answering.{done_by_source}
+use Rattle.xls_cmd.proofs.top.run_in_turn.Goals as goal
+
+pub returns-in-Dslx : goal.returns-in-Dslx
+returns-in-Dslx g c =
+    done_by_source (λ text. text.items) [] (g.F.Files.told c.args.files.now) (file_events g.F.Files.asked g.F.Files.faults g.F.Files.taken c.args.files.now c.run_design_alone.new.files) c.run_design_alone.result
+    Dslx (named_run c.args.said) c.in-Dslx.is c.run_design_alone.ensures
+
+pub returns-in-Ir : goal.returns-in-Ir
+returns-in-Ir g c =
+    done_by_source (λ text. text.items) [] (g.F.Files.told c.args.files.now) (file_events g.F.Files.asked g.F.Files.faults g.F.Files.taken c.args.files.now c.run_package_alone.new.files) c.run_package_alone.result
+    Ir (named_run c.args.said) c.in-Ir.is c.run_package_alone.ensures
