@@ -61,11 +61,14 @@ class Reader:
             i = m.end()
         self.toks.append(('end', '', len(text), len(text)))
         self.i = 0
-        names = {}
+        self.kinds = {}
         for a, b in zip(self.toks, self.toks[1:]):
             if a[1] in ('fn', 'proc', 'struct', 'type', 'const', 'enum') and b[0] == 'name':
-                names.setdefault(b[1], a[1])
-        self.names = names
+                self.kinds.setdefault(b[1], set()).add(a[1])
+
+    def is_a(self, name, *kinds):
+        """Whether some item of this name is of one of these kinds."""
+        return not self.kinds.get(name, set()).isdisjoint(kinds)
 
     def peek(self, k=0):
         return self.toks[min(self.i + k, len(self.toks) - 1)]
@@ -146,16 +149,15 @@ class Reader:
     def begins_type(self):
         """Whether a type in front of `:` begins here in an expression."""
         t = self.peek()
-        if t[0] != 'name':
-            return False
-        if self.bits(t[1]) or t[1] in ('uN', 'sN', 'bits', 'bool'):
-            return True
-        return self.names.get(t[1]) == 'type'
+        return t[0] == 'name' and (self.is_base(t[1]) or self.is_a(t[1], 'type'))
+
+    def is_base(self, word):
+        return self.bits(word) or word in ('uN', 'sN', 'bits', 'bool')
 
     # ---- expressions
     def number(self, ty, start):
         negative = self.eat('-')
-        value = int(self.take()[1].replace('_', ''), 0)
+        value = whole(self.take()[1])
         number = 'roll-Number (record { ty = %s; is_negative = %s; value = %d })' % (
             'Some %s' % ty if ty else 'None', 'true' if negative else 'false', value)
         return '(%s)' % number
@@ -188,7 +190,7 @@ class Reader:
                 self.take('}')
             elif self.peek()[0] == 'num':
                 e = self.mk_number(None, start)
-            elif self.begins_type() or self.peek(1)[1] in (':', '['):
+            elif self.is_base(self.peek()[1]) or self.peek(1)[1] in (':', '['):
                 ty = self.type()
                 self.take(':')
                 e = self.mk_number(ty, start)
@@ -252,16 +254,15 @@ class Reader:
         if t[0] != 'name':
             raise SyntaxError('%d: %r begins no expression' % (t[2], t[1]))
         name = self.ident()
-        kind = self.names.get(t[1])
         if self.eat('::'):
             a = self.ident()
             return self.mk(start, 'n.Member %s %s' % (name, a))
-        if self.at('(') or (self.at('<') and kind in ('fn', 'proc')):
+        if self.at('(') or (self.at('<') and self.is_a(t[1], 'fn', 'proc')):
             numbers = self.args() if self.at('<') else '[]'
             self.take('(')
             es = self.listed(')', self.expr)
             return self.mk(start, 'n.Call %s %s %s' % (name, numbers, es))
-        if self.at('{') and kind == 'struct':
+        if self.at('{') and self.is_a(t[1], 'struct'):
             self.take('{')
             fields, rest = [], 'None'
             while not self.at('}'):
@@ -344,7 +345,7 @@ class Reader:
                 self.take()
                 if self.peek()[0] == 'num':
                     t = self.take()
-                    e = self.mk(start, 'n.Element %s (record { from = %d; to = %d }) %d' % (e, t[2], t[3], int(t[1], 0)))
+                    e = self.mk(start, 'n.Element %s (record { from = %d; to = %d }) %d' % (e, t[2], t[3], whole(t[1])))
                 else:
                     f = self.ident()
                     e = self.mk(start, 'n.Field %s %s' % (e, f))
@@ -396,7 +397,7 @@ class Reader:
             self.take('::')
             a = self.ident()
             shape = 'p.Member %s %s' % (e, a)
-        elif self.bits(t[1]) or t[1] in ('uN', 'sN', 'bits', 'bool') or self.peek(1)[1] in ('[',) or (
+        elif self.is_base(t[1]) or self.peek(1)[1] == '[' or (
                 self.peek(1)[1] == ':' and (self.peek(2)[0] == 'num' or self.peek(2)[1] == '-')):
             ty = self.type()
             self.take(':')
@@ -592,6 +593,12 @@ class Reader:
         while self.peek()[0] != 'end':
             parts.append(self.item())
         return 'record { items = %s }' % items(parts)
+
+
+def whole(number):
+    """The value of a number's token: `007` is 7."""
+    digits = number.replace('_', '')
+    return int(digits, 0) if digits[:2] in ('0x', '0b') else int(digits)
 
 
 def items(parts):

@@ -8,7 +8,7 @@ texts of each TABLE, and compares what they come to with what the table wants. I
 nothing rests on it. A NAME is an example that is tried alone.
 
 A table has paragraphs. Each is a line with a name, a line with what is wanted, and the lines of a text (`dslx_terms.py`):
-`ok`, `rule R FROM TO` or `limit WORD FOUND MOST`: what the text's first fault is; `value SIGNED WIDTH NUMBER`: the constant X;
+`ok`, `rule R FROM TO` or `limit WORD FOUND MOST`: what the text is refused for; `value SIGNED WIDTH NUMBER`: the constant X;
 `sent TURN`: what the first proc does at its first site; `turns WORDS | TURNS ; STATE`: its activation over words of 8 bits;
 `height N`: how high the text's tree is; `core NAME ARGUMENT .. ; .. | EXPRESSION`: what the last of these instances of functions becomes;
 `steps NAME ARGUMENT ..; INSTANCES | STEP; .. => EXPRESSION`: what the statements of that proc become behind these instances; `net PROCS | CHANNELS`: the network; `made PROC ARGUMENT .., .. ; FUNCTION ARGUMENT .., .. | PROCS | CHANNELS`: the network of what these instances become, the last proc being the top; `run ACTIVATIONS CHANNEL VALUE .. ; .. | LINE / ..`: what is left after a run over these words.
@@ -799,7 +799,7 @@ def fault_text(f):
 def answer(module, wanted):
     kind, top = wanted.split()[0], NONE
     if kind in ('ok', 'rule', 'limit'):
-        f = lookup(load('dslx_meaning.specs.Rules.ModuleRules'), 'first_fault')
+        f = lookup(load('dslx_meaning.specs.Rules.NetworkLimits'), 'refusal_of')
         return fault_text(apply(f, (module, top)))
     if kind == 'value':
         items = apply(lookup(load('dslx_meaning.specs.Items'), 'meanings_of'), (module,))

@@ -68,6 +68,49 @@ pub record FieldMeant : Type 0 where
   pub name : List ℕ
   pub value : Evaluates
 
+-- one level of each sort, whose parts mean this
+abbrev pub StmtMeanings : Type 0
+StmtMeanings = Stmt-F Going Meant PatternMeant Typing Evaluates Going Meant ArmMeant Meant FieldMeant Evaluates Meant PatternMeant Typing
+
+abbrev pub NodeMeanings : Type 0
+NodeMeanings = Node-F Going Meant PatternMeant Typing Evaluates Going Meant ArmMeant Meant FieldMeant Evaluates Meant PatternMeant Typing
+
+abbrev pub ShapeMeanings : Type 0
+ShapeMeanings = Shape-F Going Meant PatternMeant Typing Evaluates Going Meant ArmMeant Meant FieldMeant Evaluates Meant PatternMeant Typing
+
+abbrev pub TypeNodeMeanings : Type 0
+TypeNodeMeanings = TypeNode-F Going Meant PatternMeant Typing Evaluates Going Meant ArmMeant Meant FieldMeant Evaluates Meant PatternMeant Typing
+
+abbrev pub BlockMeanings : Type 0
+BlockMeanings = Block-F Going Meant PatternMeant Typing Evaluates Going Meant ArmMeant Meant FieldMeant Evaluates Meant PatternMeant Typing
+
+abbrev pub LetMeanings : Type 0
+LetMeanings = Let-F Going Meant PatternMeant Typing Evaluates Going Meant ArmMeant Meant FieldMeant Evaluates Meant PatternMeant Typing
+
+abbrev pub ArgMeanings : Type 0
+ArgMeanings = Arg-F Going Meant PatternMeant Typing Evaluates Going Meant ArmMeant Meant FieldMeant Evaluates Meant PatternMeant Typing
+
+abbrev pub ArmMeanings : Type 0
+ArmMeanings = Arm-F Going Meant PatternMeant Typing Evaluates Going Meant ArmMeant Meant FieldMeant Evaluates Meant PatternMeant Typing
+
+abbrev pub ExprMeanings : Type 0
+ExprMeanings = Expr-F Going Meant PatternMeant Typing Evaluates Going Meant ArmMeant Meant FieldMeant Evaluates Meant PatternMeant Typing
+
+abbrev pub FieldMeanings : Type 0
+FieldMeanings = FieldValue-F Going Meant PatternMeant Typing Evaluates Going Meant ArmMeant Meant FieldMeant Evaluates Meant PatternMeant Typing
+
+abbrev pub ForMeanings : Type 0
+ForMeanings = For-F Going Meant PatternMeant Typing Evaluates Going Meant ArmMeant Meant FieldMeant Evaluates Meant PatternMeant Typing
+
+abbrev pub NumberMeanings : Type 0
+NumberMeanings = Number-F Going Meant PatternMeant Typing Evaluates Going Meant ArmMeant Meant FieldMeant Evaluates Meant PatternMeant Typing
+
+abbrev pub PatternMeanings : Type 0
+PatternMeanings = Pattern-F Going Meant PatternMeant Typing Evaluates Going Meant ArmMeant Meant FieldMeant Evaluates Meant PatternMeant Typing
+
+abbrev pub TypeExprMeanings : Type 0
+TypeExprMeanings = TypeExpr-F Going Meant PatternMeant Typing Evaluates Going Meant ArmMeant Meant FieldMeant Evaluates Meant PatternMeant Typing
+
 abbrev pub valued : Evaluates → Meant
 valued value = record { bare = None; value = value }
 
@@ -100,7 +143,7 @@ bound_of e env = bound_in e.bare (e.value env)
 
 -- ---- types
 
-abbrev pub type_meant : TypeNode-F Going Meant PatternMeant Typing Evaluates Going Meant ArmMeant Meant FieldMeant Evaluates Meant PatternMeant Typing → Typing
+abbrev pub type_meant : TypeNodeMeanings → Typing
 type_meant (TypeNode-F.Bits s w) env = Some (ty.Bits s w)
 type_meant (TypeNode-F.Wide s e) env = and_then (size_of e env) (λ w. Some (ty.Bits s w))
 type_meant TypeNode-F.TypeNode::Bool env = Some (ty.Bits false 1)
@@ -122,7 +165,7 @@ abbrev pub fit_value : Option DslxValue → DslxValue → Env → Option Env
 fit_value None v env = None
 fit_value (Some w) v env = if same_value v w then Some env else None
 
-abbrev pub shape_fits : Shape-F Going Meant PatternMeant Typing Evaluates Going Meant ArmMeant Meant FieldMeant Evaluates Meant PatternMeant Typing → Fitting
+abbrev pub shape_fits : ShapeMeanings → Fitting
 shape_fits Shape-F.Wild place v env = Some env
 shape_fits (Shape-F.Shape::Bool b) place v env = fit_value (Some (bool_value b)) v env
 shape_fits (Shape-F.Shape::Number n) place v env = fit_value (n.value place) v env
@@ -134,12 +177,12 @@ abbrev pub all_names : List PatternMeant → List (List ℕ)
 all_names [] = []
 all_names (p ∷ ps) = p.names ++ all_names ps
 
-abbrev pub shape_names : Shape-F Going Meant PatternMeant Typing Evaluates Going Meant ArmMeant Meant FieldMeant Evaluates Meant PatternMeant Typing → List (List ℕ)
+abbrev pub shape_names : ShapeMeanings → List (List ℕ)
 shape_names (Shape-F.Shape::Name name) = name ∷ []
 shape_names (Shape-F.Shape::Tuple ps) = all_names ps
 shape_names _ = []
 
-abbrev pub shape_meant : Shape-F Going Meant PatternMeant Typing Evaluates Going Meant ArmMeant Meant FieldMeant Evaluates Meant PatternMeant Typing → PatternMeant
+abbrev pub shape_meant : ShapeMeanings → PatternMeant
 shape_meant s = record { names = shape_names s; fits = shape_fits s }
 
 -- at its own place
@@ -240,7 +283,7 @@ turn_count a b = rising (whole_number b -ℤ whole_number a)
 abbrev pub loop_over : (DslxValue → DslxValue → Option DslxValue) → DslxValue → SignedWord → SignedWord → Option DslxValue
 loop_over body start a b = where_true (of_one_type a b) (turns_from body a.signed (turn_count a b) a.word start)
 
-abbrev pub for_meant : For-F Going Meant PatternMeant Typing Evaluates Going Meant ArmMeant Meant FieldMeant Evaluates Meant PatternMeant Typing → Evaluates
+abbrev pub for_meant : ForMeanings → Evaluates
 for_meant f env =
     let body : DslxValue → DslxValue → Option DslxValue = λ i acc. and_then (fits_at_place f.index i env) (λ inner. and_then (fits_at_place f.accumulator acc inner) f.body) in
     and_then (f.start.value env) (λ start.
@@ -248,10 +291,10 @@ for_meant f env =
 
 -- ---- statements
 
-abbrev pub let_meant : Let-F Going Meant PatternMeant Typing Evaluates Going Meant ArmMeant Meant FieldMeant Evaluates Meant PatternMeant Typing → Going
+abbrev pub let_meant : LetMeanings → Going
 let_meant l rest env = and_then (l.value.value env) (λ v. and_then (fits_at_place l.pattern v env) rest)
 
-abbrev pub stmt_meant : Stmt-F Going Meant PatternMeant Typing Evaluates Going Meant ArmMeant Meant FieldMeant Evaluates Meant PatternMeant Typing → Going
+abbrev pub stmt_meant : StmtMeanings → Going
 stmt_meant (Stmt-F.Let l) rest env = l rest env
 stmt_meant (Stmt-F.Bare e) rest env = and_then (e.value env) (λ v. rest env)
 
@@ -264,7 +307,7 @@ abbrev pub statements_meant : List Going → Evaluates → Evaluates
 statements_meant [] last env = last env
 statements_meant (s ∷ ss) last env = s (statements_meant ss last) env
 
-abbrev pub block_meant : Block-F Going Meant PatternMeant Typing Evaluates Going Meant ArmMeant Meant FieldMeant Evaluates Meant PatternMeant Typing → Evaluates
+abbrev pub block_meant : BlockMeanings → Evaluates
 block_meant b = statements_meant b.statements (last_meant b.value)
 
 -- ---- calls
@@ -284,7 +327,7 @@ call_meant _ name env numbers vs = None
 
 -- ---- expressions
 
-abbrev pub node_meant : Node-F Going Meant PatternMeant Typing Evaluates Going Meant ArmMeant Meant FieldMeant Evaluates Meant PatternMeant Typing → Meant
+abbrev pub node_meant : NodeMeanings → Meant
 node_meant (Node-F.Node::Number n) = n
 node_meant (Node-F.Node::Bool b) = valued (λ env. Some (bool_value b))
 node_meant (Node-F.Node::Array ty es dots) = valued (array_meant ty es dots)
@@ -308,16 +351,16 @@ node_meant (Node-F.Prefix o e) = valued (λ env. and_then (e.value env) (prefix_
 node_meant (Node-F.Cast e t) = valued (λ env. with_both (t env) (e.value env) cast_value)
 node_meant (Node-F.Binary o l r) = valued (λ env. with_both (l.value env) (r.value env) (binary_value o))
 
-abbrev pub expr_meant : Expr-F Going Meant PatternMeant Typing Evaluates Going Meant ArmMeant Meant FieldMeant Evaluates Meant PatternMeant Typing → Meant
+abbrev pub expr_meant : ExprMeanings → Meant
 expr_meant e = e.node
 
-abbrev pub number_node : Number-F Going Meant PatternMeant Typing Evaluates Going Meant ArmMeant Meant FieldMeant Evaluates Meant PatternMeant Typing → Meant
+abbrev pub number_node : NumberMeanings → Meant
 number_node n = number_meant n.ty (record { is_negative = n.is_negative; value = n.value })
 
-abbrev pub arg_meant : Arg-F Going Meant PatternMeant Typing Evaluates Going Meant ArmMeant Meant FieldMeant Evaluates Meant PatternMeant Typing → Meant
+abbrev pub arg_meant : ArgMeanings → Meant
 arg_meant a = a.value
 
-abbrev pub arm_meant : Arm-F Going Meant PatternMeant Typing Evaluates Going Meant ArmMeant Meant FieldMeant Evaluates Meant PatternMeant Typing → ArmMeant
+abbrev pub arm_meant : ArmMeanings → ArmMeant
 arm_meant a = record { patterns = a.patterns; value = a.value.value }
 
 -- a field given by its name alone has the value of that name
@@ -325,13 +368,13 @@ abbrev pub field_value_of : List ℕ → Option Meant → Evaluates
 field_value_of name None env = value_of_name name env
 field_value_of name (Some e) env = e.value env
 
-abbrev pub field_meant : FieldValue-F Going Meant PatternMeant Typing Evaluates Going Meant ArmMeant Meant FieldMeant Evaluates Meant PatternMeant Typing → FieldMeant
+abbrev pub field_meant : FieldMeanings → FieldMeant
 field_meant f = record { name = f.name.name; value = field_value_of f.name.name f.value }
 
-abbrev pub pattern_meant : Pattern-F Going Meant PatternMeant Typing Evaluates Going Meant ArmMeant Meant FieldMeant Evaluates Meant PatternMeant Typing → PatternMeant
+abbrev pub pattern_meant : PatternMeanings → PatternMeant
 pattern_meant p = p.shape
 
-abbrev pub type_expr_meant : TypeExpr-F Going Meant PatternMeant Typing Evaluates Going Meant ArmMeant Meant FieldMeant Evaluates Meant PatternMeant Typing → Typing
+abbrev pub type_expr_meant : TypeExprMeanings → Typing
 type_expr_meant t = t.node
 
 -- ---- the trees

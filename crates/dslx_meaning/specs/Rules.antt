@@ -22,6 +22,8 @@ pub mod Mentions
 pub mod ModuleRules
 -- names
 pub mod NameRules
+-- how many procs and channels a network has
+pub mod NetworkLimits
 -- the judgement of each tree
 pub mod NodeRules
 -- operators, casts and slices

@@ -49,6 +49,34 @@ pub record NamesBound : Type 0 where
   pub mentions : Mentions
   pub names : List (List ℕ)
 
+-- one level of each sort that is looked at, whose parts mention this
+abbrev pub StmtNames : Type 0
+StmtNames = Stmt-F NamesBound Mentions NamesBound Mentions Mentions NamesBound Mentions Mentions Mentions Mentions Mentions Mentions NamesBound Mentions
+
+abbrev pub NodeNames : Type 0
+NodeNames = Node-F NamesBound Mentions NamesBound Mentions Mentions NamesBound Mentions Mentions Mentions Mentions Mentions Mentions NamesBound Mentions
+
+abbrev pub ShapeNames : Type 0
+ShapeNames = Shape-F NamesBound Mentions NamesBound Mentions Mentions NamesBound Mentions Mentions Mentions Mentions Mentions Mentions NamesBound Mentions
+
+abbrev pub TypeNodeNames : Type 0
+TypeNodeNames = TypeNode-F NamesBound Mentions NamesBound Mentions Mentions NamesBound Mentions Mentions Mentions Mentions Mentions Mentions NamesBound Mentions
+
+abbrev pub BlockNames : Type 0
+BlockNames = Block-F NamesBound Mentions NamesBound Mentions Mentions NamesBound Mentions Mentions Mentions Mentions Mentions Mentions NamesBound Mentions
+
+abbrev pub LetNames : Type 0
+LetNames = Let-F NamesBound Mentions NamesBound Mentions Mentions NamesBound Mentions Mentions Mentions Mentions Mentions Mentions NamesBound Mentions
+
+abbrev pub ArmNames : Type 0
+ArmNames = Arm-F NamesBound Mentions NamesBound Mentions Mentions NamesBound Mentions Mentions Mentions Mentions Mentions Mentions NamesBound Mentions
+
+abbrev pub ForNames : Type 0
+ForNames = For-F NamesBound Mentions NamesBound Mentions Mentions NamesBound Mentions Mentions Mentions Mentions Mentions Mentions NamesBound Mentions
+
+abbrev pub FieldNames : Type 0
+FieldNames = FieldValue-F NamesBound Mentions NamesBound Mentions Mentions NamesBound Mentions Mentions Mentions Mentions Mentions Mentions NamesBound Mentions
+
 abbrev pub mention : Use → List ℕ → List Mention
 mention as' name = record { use_as = as'; name = name } ∷ []
 
@@ -73,7 +101,7 @@ binders_names bs = flat_map (λ (b : NamesBound). b.names) bs
 abbrev pub binders_mentions : List NamesBound → Mentions
 binders_mentions bs = all_mentions (map (λ (b : NamesBound). b.mentions) bs)
 
-abbrev pub shape_mentions : Shape-F NamesBound Mentions NamesBound Mentions Mentions NamesBound Mentions Mentions Mentions Mentions Mentions Mentions NamesBound Mentions → NamesBound
+abbrev pub shape_mentions : ShapeNames → NamesBound
 shape_mentions Shape-F.Wild = record { mentions = nowhere; names = [] }
 shape_mentions (Shape-F.Shape::Bool b) = record { mentions = nowhere; names = [] }
 shape_mentions (Shape-F.Shape::Number n) = record { mentions = n; names = [] }
@@ -81,7 +109,7 @@ shape_mentions (Shape-F.Shape::Name name) = record { mentions = λ bound. mentio
 shape_mentions (Shape-F.Shape::Member e a) = record { mentions = λ bound. mention AsEnum e.name; names = [] }
 shape_mentions (Shape-F.Shape::Tuple ps) = record { mentions = binders_mentions ps; names = binders_names ps }
 
-abbrev pub type_mentions : TypeNode-F NamesBound Mentions NamesBound Mentions Mentions NamesBound Mentions Mentions Mentions Mentions Mentions Mentions NamesBound Mentions → Mentions
+abbrev pub type_mentions : TypeNodeNames → Mentions
 type_mentions (TypeNode-F.Bits s w) bound = []
 type_mentions (TypeNode-F.Wide s e) bound = e bound
 type_mentions TypeNode-F.TypeNode::Bool bound = []
@@ -94,7 +122,7 @@ abbrev pub statements_mentions : List NamesBound → Mentions → Mentions
 statements_mentions [] last bound = last bound
 statements_mentions (s ∷ ss) last bound = s.mentions bound ++ statements_mentions ss last (s.names ++ bound)
 
-abbrev pub node_mentions : Node-F NamesBound Mentions NamesBound Mentions Mentions NamesBound Mentions Mentions Mentions Mentions Mentions Mentions NamesBound Mentions → Mentions
+abbrev pub node_mentions : NodeNames → Mentions
 node_mentions (Node-F.Node::Number n) bound = n bound
 node_mentions (Node-F.Node::Bool b) bound = []
 node_mentions (Node-F.Node::Array ty es dots) bound = mentions_if ty bound ++ all_mentions es bound
@@ -117,14 +145,14 @@ node_mentions (Node-F.Prefix o e) bound = e bound
 node_mentions (Node-F.Cast e t) bound = e bound ++ t bound
 node_mentions (Node-F.Binary o l r) bound = l bound ++ r bound
 
-abbrev pub stmt_mentions : Stmt-F NamesBound Mentions NamesBound Mentions Mentions NamesBound Mentions Mentions Mentions Mentions Mentions Mentions NamesBound Mentions → NamesBound
+abbrev pub stmt_mentions : StmtNames → NamesBound
 stmt_mentions (Stmt-F.Let l) = l
 stmt_mentions (Stmt-F.Bare e) = record { mentions = e; names = [] }
 
-abbrev pub let_mentions : Let-F NamesBound Mentions NamesBound Mentions Mentions NamesBound Mentions Mentions Mentions Mentions Mentions Mentions NamesBound Mentions → NamesBound
+abbrev pub let_mentions : LetNames → NamesBound
 let_mentions l = record { mentions = λ bound. mentions_if l.ty bound ++ l.value bound ++ l.pattern.mentions bound; names = l.pattern.names }
 
-abbrev pub block_mentions : Block-F NamesBound Mentions NamesBound Mentions Mentions NamesBound Mentions Mentions Mentions Mentions Mentions Mentions NamesBound Mentions → Mentions
+abbrev pub block_mentions : BlockNames → Mentions
 block_mentions b = statements_mentions b.statements (mentions_if b.value)
 
 -- what alternatives bind: one alone what is in it, several nothing
@@ -132,15 +160,15 @@ abbrev pub bound_behind : List NamesBound → List (List ℕ)
 bound_behind (b ∷ []) = b.names
 bound_behind _ = []
 
-abbrev pub arm_mentions : Arm-F NamesBound Mentions NamesBound Mentions Mentions NamesBound Mentions Mentions Mentions Mentions Mentions Mentions NamesBound Mentions → Mentions
+abbrev pub arm_mentions : ArmNames → Mentions
 arm_mentions a bound = binders_mentions a.patterns bound ++ a.value (bound_behind a.patterns ++ bound)
 
-abbrev pub for_mentions : For-F NamesBound Mentions NamesBound Mentions Mentions NamesBound Mentions Mentions Mentions Mentions Mentions Mentions NamesBound Mentions → Mentions
+abbrev pub for_mentions : ForNames → Mentions
 for_mentions f bound =
     f.from bound ++ f.to bound ++ f.start bound ++ mentions_if f.ty bound ++ f.index.mentions bound ++ f.accumulator.mentions bound
     ++ f.body (f.accumulator.names ++ f.index.names ++ bound)
 
-abbrev pub field_mentions : FieldValue-F NamesBound Mentions NamesBound Mentions Mentions NamesBound Mentions Mentions Mentions Mentions Mentions Mentions NamesBound Mentions → Mentions
+abbrev pub field_mentions : FieldNames → Mentions
 field_mentions f = field_or_name f.value
   where
     field_or_name : Option Mentions → Mentions

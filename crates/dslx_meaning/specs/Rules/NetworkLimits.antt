@@ -1,0 +1,98 @@
+-- How many procs and channels a network has, and the limits on both.
+--
+-- They are counted by instance, each from the counts of those that it spawns: no network is laid out.
+use Rattle.std.specs.Prelude.{ℕ, zero, suc, List, [], ◌∷◌, ◌++◌, ◌+◌, nat_lt, map, Option, Some, None, length, if◌then◌else◌}
+use Rattle.xb_span.specs.declared.fault.Fault.{Fault}
+use Rattle.xb_span.specs.declared.fault.Fault.TheVariants.{Whole}
+use Rattle.xb_span.specs.declared.limit.What.{What}
+use Rattle.xb_span.specs.declared.limit.What.TheVariants as what
+use Rattle.xb_span.specs.Fault.{first_of}
+use Rattle.dslx_tree.specs.declared.item.Module.{Module}
+use Rattle.dslx_tree.specs.declared.process.Proc.{Proc}
+use Rattle.dslx_tree.specs.declared.process.Spawn.{Spawn}
+use Rattle.dslx_tree.specs.declared.process.Making.{Making}
+use Rattle.dslx_tree.specs.declared.process.Making.TheVariants as making
+use Rattle.dslx_meaning.specs.Lists.{or_else}
+use Rattle.dslx_meaning.specs.Environment.{Meanings, Env}
+use Rattle.dslx_meaning.specs.Items.{item_named, instance_env, meanings_of}
+use Rattle.dslx_meaning.specs.Network.{as_proc, spawn_numbers, top_numbers, top_proc}
+use Rattle.dslx_meaning.specs.declared.value.DslxValue.{DslxValue}
+use Rattle.dslx_meaning.specs.Rules.Judging.{Instance, same_instance}
+use Rattle.dslx_meaning.specs.Rules.ModuleRules.{instances_of, first_fault}
+
+-- how many procs and channels
+pub record Count : Type 0 where
+  pub procs : ℕ
+  pub channels : ℕ
+
+abbrev pub nobody : Count
+nobody = record { procs = 0; channels = 0 }
+
+abbrev pub one_channel : Count
+one_channel = record { procs = 0; channels = 1 }
+
+abbrev pub and_count : Count → Count → Count
+and_count a b = record { procs = a.procs + b.procs; channels = a.channels + b.channels }
+
+-- an instance of a proc, and how many it brings, itself and what it makes and spawns
+pub record Counted : Type 0 where
+  pub instance : Instance
+  pub count : Count
+
+abbrev pub count_in : List Counted → Instance → Count
+count_in [] i = nobody
+count_in (c ∷ cs) i = if same_instance c.instance i then c.count else count_in cs i
+
+abbrev pub count_of_numbers : List Counted → Proc → Option (List DslxValue) → Count
+count_of_numbers counted p None = nobody
+count_of_numbers counted p (Some numbers) = count_in counted (record { name = p.name.name; numbers = numbers })
+
+abbrev pub spawn_count : Meanings → List Counted → Env → Spawn → Option Proc → Count
+spawn_count items counted env s None = nobody
+spawn_count items counted env s (Some target) = count_of_numbers counted target (spawn_numbers items env target s.arguments)
+
+abbrev pub makings_count : Module → Meanings → List Counted → Env → List Making → Count
+makings_count m items counted env [] = nobody
+makings_count m items counted env (making.Channel c ∷ ms) = and_count one_channel (makings_count m items counted env ms)
+makings_count m items counted env (making.Spawn s ∷ ms) =
+    and_count (spawn_count items counted env s (as_proc (item_named s.target.name m.items))) (makings_count m items counted env ms)
+
+-- a proc with these number arguments, by the counts of those that it spawns
+abbrev pub proc_count : Module → Meanings → List Counted → Proc → List DslxValue → Count
+proc_count m items counted p numbers =
+    and_count (record { procs = 1; channels = 0 }) (makings_count m items counted (instance_env items p.parameters numbers) p.config.makings)
+
+abbrev pub instance_count : Module → Meanings → List Counted → Instance → Count
+instance_count m items counted i = of_proc (as_proc (item_named i.name m.items))
+  where
+    of_proc : Option Proc → Count
+    of_proc None = nobody
+    of_proc (Some p) = proc_count m items counted p i.numbers
+
+-- these instances, by chains of at most so many spawns
+abbrev pub counted_within : Module → Meanings → List Instance → ℕ → List Counted
+counted_within m items is zero = []
+counted_within m items is (suc n) =
+    let before = counted_within m items is n in map (λ (i : Instance). record { instance = i; count = instance_count m items before i }) is
+
+-- the network of a top proc: outer channels count too
+abbrev pub network_count : Module → Option (List ℕ) → Proc → Count
+network_count m top p =
+    let items = meanings_of m in
+    and_count (record { procs = 0; channels = length p.config.ends })
+    (proc_count m items (counted_within m items (instances_of m top) (length m.items)) p (top_numbers items p))
+
+-- ---- limits
+
+-- counted one by one, and named as one more than there may be
+abbrev pub whole_count : What → ℕ → ℕ → List Fault
+whole_count what most n = if nat_lt most n then Whole (record { what = what; found = most + 1; most = most }) ∷ [] else []
+
+-- a network has at most 256 procs and 1,024 channels; procs come first
+abbrev pub network_faults : Module → Option (List ℕ) → Option Proc → List Fault
+network_faults m top None = []
+network_faults m top (Some p) = let n = network_count m top p in whole_count what.Procs 256 n.procs ++ whole_count what.Channels 1024 n.channels
+
+-- what a text is refused for: its first fault, or else a limit on its network
+abbrev pub refusal_of : Module → Option (List ℕ) → Option Fault
+refusal_of m top = or_else (first_fault m top) (first_of (network_faults m top (top_proc m top)))
