@@ -11,7 +11,7 @@ use Rattle.dslx_meaning.specs.declared.ty.DslxType.{DslxType}
 use Rattle.dslx_meaning.specs.declared.ty.DslxType as ty
 use Rattle.dslx_meaning.specs.Rules.Mentions.{is_of_use, AsType, is_cyclic}
 use Rattle.dslx_meaning.specs.Rules.Judging.{Sight, Judgement, breaks, breaks_if, settled, faults_of_all, reached_of_all, types_of}
-use Rattle.dslx_meaning.specs.Rules.ConstantRules.{CountSeen, count_of}
+use Rattle.dslx_meaning.specs.Rules.ConstantRules.{CountSeen, count_of, count_faults}
 use Rattle.dslx_meaning.specs.Rules.Judgings.{TypePair, TypeNodeLayer}
 
 -- rule 31: () stands inside another type
@@ -35,6 +35,10 @@ inner_types sight ts = map (inner_type sight) ts
 abbrev pub whole_type : Span → DslxType → Judgement
 whole_type span t = settled span (Some t) [] [] (Some 0)
 
+-- bits whose width is written in their name, where no text writes 0
+abbrev pub named_bits : Span → Bool → ℕ → Judgement
+named_bits span s w = settled span (Some (ty.Bits s w)) (count_faults span (Some w)) [] (Some 0)
+
 abbrev pub counted_type : Span → Option DslxType → List Fault → CountSeen → Judgement
 counted_type span t faults n = settled span t (faults ++ n.judgement.faults) n.judgement.reached (Some 0)
 
@@ -51,7 +55,7 @@ abbrev pub array_of : Span → Judgement → CountSeen → Judgement
 array_of span t n = joined_reached t n (counted_type span (with_both t.ty n.count (λ t n. Some (ty.Array t n))) t.faults n)
 
 abbrev pub type_judged : TypeNodeLayer → Span → Sight → Judgement
-type_judged (TypeNode-F.Bits s w) span sight = whole_type span (ty.Bits s w)
+type_judged (TypeNode-F.Bits s w) span sight = named_bits span s w
 type_judged (TypeNode-F.Wide s e) span sight = let n = count_of sight e in counted_type span (and_then n.count (λ w. Some (ty.Bits s w))) [] n
 type_judged TypeNode-F.TypeNode::Bool span sight = whole_type span (ty.Bits false 1)
 type_judged (TypeNode-F.TypeNode::Name name) span sight = named_type span sight name (is_of_use AsType (item_named name sight.known.whole.items))

@@ -356,7 +356,7 @@ node_claim (Node-F.Binary o l r) w span =
 
 type_claim : (y : TypeNodeLevel Held) → type_wide (map_type_node trees wide (folds wide widths) (map_type_node Held trees tree y)) ≡ true → (span : Span)
     → TypeClaim ((seeing.type_node (map_type_node trees seen (folds seen seeing) (map_type_node Held trees tree y))).1 span) (becoming.type_node (map_type_node trees become (folds become becoming) (map_type_node Held trees tree y))).1
-type_claim (TypeNode-F.Bits s n) w span = record { lowers = bits_type_lowers span s n; wide = bits_type_wide span s n w }
+type_claim (TypeNode-F.Bits s n) w span = record { lowers = bits_type_lowers span s n; wide = bits_type_wide span s n }
 type_claim (TypeNode-F.Wide s e) w span =
     let p = fold_expr seen seeing e.0 in
     record {
@@ -364,7 +364,7 @@ type_claim (TypeNode-F.Wide s e) w span =
           (wide_lowers span s p (meant e.0) (expression_gives e.0));
       wide = wide_wide span s p;
     }
-type_claim TypeNode-F.TypeNode::Bool w span = record { lowers = bits_type_lowers span false 1; wide = bits_type_wide span false 1 refl }
+type_claim TypeNode-F.TypeNode::Bool w span = record { lowers = bits_type_lowers span false 1; wide = bits_type_wide span false 1 }
 type_claim (TypeNode-F.TypeNode::Name name) w span =
     let named = λ (sight : Sight). is_of_use AsType (item_named name sight.known.whole.items) in
     record { lowers = named_lowers span name named; wide = named_wide span name named }

@@ -10,11 +10,11 @@ use Rattle.dslx_meaning.specs.Meaning.{Meant, some_count}
 use Rattle.dslx_meaning.specs.Environment.{Env, Meanings}
 use Rattle.dslx_meaning.specs.declared.ty.DslxType.{DslxType, out-DslxType}
 use Rattle.dslx_meaning.specs.declared.ty.DslxType as ty
-use Rattle.dslx_meaning.specs.Rules.ConstantRules.{count_number, count_of, constant_or_bare}
+use Rattle.dslx_meaning.specs.Rules.ConstantRules.{count_faults, count_number, count_of, constant_or_bare}
 use Rattle.dslx_meaning.specs.Rules.Judging.{ExprPair, Instance, Sight, breaks, breaks_if, faults_of_all, reached_of_all, settled, types_of}
 use Rattle.dslx_meaning.specs.Rules.Judgings.{TypePair}
 use Rattle.dslx_meaning.specs.Rules.Mentions.{is_cyclic}
-use Rattle.dslx_meaning.specs.Rules.TypeRules.{array_of, counted_type, inner_type, inner_types, named_type, span_of_type, unit_faults, whole_type}
+use Rattle.dslx_meaning.specs.Rules.TypeRules.{array_of, counted_type, inner_type, inner_types, named_bits, named_type, span_of_type, unit_faults}
 use Rattle.dslx_typing.specs.Typed.Complete.{IsFine}
 use Rattle.dslx_typing.specs.Typed.WellTyped.{IsWellTyped}
 use Rattle.dslx_typing.proofs.Lemmas.Typed.{all_there, list_parts, none_some, same_some, settled_type}
@@ -32,11 +32,13 @@ use Rattle.dslx_total.proofs.OnExpressions.InTypes.{in_array, in_bits, in_tuple}
 bits_wide : (s : Bool) (w : ℕ) (t : DslxType) → nat_lt 0 w ≡ true → Some (ty.Bits s w) ≡ Some t → has_widths t ≡ true
 bits_wide s w t some e = ap has_widths (sym (same_some (ty.Bits s w) t e)) ∙ in_bits s w ∙ some
 
-pub bits_type_lowers : (span : Span) (s : Bool) (w : ℕ) → TypeLowers (λ sight. whole_type span (ty.Bits s w)) (λ place. Some (ty.Bits s w))
-bits_type_lowers span s w here sight env place h at fine = refl
+pub bits_type_lowers : (span : Span) (s : Bool) (w : ℕ) → TypeLowers (λ sight. named_bits span s w) (λ place. Some (ty.Bits s w))
+bits_type_lowers span s w here sight env place h at fine = sym (settled_fine (reaching sight.known here) span (Some (ty.Bits s w)) (count_faults span (Some w)) [] (Some 0) fine).ty
 
-pub bits_type_wide : (span : Span) (s : Bool) (w : ℕ) → nat_lt 0 w ≡ true → IsWide (λ sight. whole_type span (ty.Bits s w))
-bits_type_wide span s w some sight names t e = bits_wide s w t some e
+-- no type has the width 0
+pub bits_type_wide : (span : Span) (s : Bool) (w : ℕ) → IsWide (λ sight. named_bits span s w)
+bits_type_wide span s zero sight names t e = none_some t e
+bits_type_wide span s (suc n) sight names t e = bits_wide s (suc n) t ((Decides-ltb 0 (suc n)).1 (omega arith)) e
 
 pub wide_lowers : (span : Span) (s : Bool) (e : ExprPair) (x : Meant) → ExprGives e x
     → TypeLowers (λ sight. counted_type span (and_then (count_of sight e).count (λ w. Some (ty.Bits s w))) [] (count_of sight e)) (λ place. and_then (size_at place e.0) (λ w. Some (ty.Bits s w)))

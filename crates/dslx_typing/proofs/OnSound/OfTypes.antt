@@ -8,11 +8,11 @@ use Rattle.dslx_meaning.specs.Items.{item_named}
 use Rattle.dslx_meaning.specs.Meaning.{Meant, Typing, size_of}
 use Rattle.dslx_meaning.specs.declared.ty.DslxType as ty
 use Rattle.dslx_meaning.specs.declared.ty.DslxType.{DslxType}
-use Rattle.dslx_meaning.specs.Rules.ConstantRules.{count_of}
+use Rattle.dslx_meaning.specs.Rules.ConstantRules.{count_faults, count_of}
 use Rattle.dslx_meaning.specs.Rules.Judging.{ExprPair, Sight, breaks, breaks_if, faults_of_all, reached_of_all, settled, types_of}
 use Rattle.dslx_meaning.specs.Rules.Judgings.{TypePair}
 use Rattle.dslx_meaning.specs.Rules.Mentions.{AsType, is_cyclic, is_of_use}
-use Rattle.dslx_meaning.specs.Rules.TypeRules.{array_of, counted_type, inner_type, inner_types, named_type, span_of_type, unit_faults, whole_type}
+use Rattle.dslx_meaning.specs.Rules.TypeRules.{array_of, counted_type, inner_type, inner_types, named_bits, named_type, span_of_type, unit_faults}
 use Rattle.dslx_typing.specs.Typed.Complete.{IsFine}
 use Rattle.dslx_typing.specs.Typed.Given.{EachTypeMeans}
 use Rattle.dslx_typing.specs.Typed.WellTyped.{IsWellTyped, types_at}
@@ -21,10 +21,10 @@ use Rattle.dslx_typing.specs.Sound.Sound.{EachTypeStands, ExprGives, TypeStands}
 use Rattle.dslx_typing.proofs.OnSound.Fine.{all_in, none_in, settled_fine, some_fault}
 use Rattle.dslx_typing.proofs.OnSound.OfConstants.{count_has, count_is}
 
-pub plain_stands : (span : Span) (s : Bool) (w : ℕ) → TypeStands (λ sight. whole_type span (ty.Bits s w)) (λ env. Some (ty.Bits s w))
+pub plain_stands : (span : Span) (s : Bool) (w : ℕ) → TypeStands (λ sight. named_bits span s w) (λ env. Some (ty.Bits s w))
 plain_stands span s w = record {
   means = λ sight env h. bits_mean (types_at sight) span s w;
-  known = λ sight env h fine. (ty.Bits s w, (settled_fine sight.known span (Some (ty.Bits s w)) [] [] (Some 0) fine).ty);
+  known = λ sight env h fine. (ty.Bits s w, (settled_fine sight.known span (Some (ty.Bits s w)) (count_faults span (Some w)) [] (Some 0) fine).ty);
 }
 
 pub wide_stands : (span : Span) (s : Bool) (e : ExprPair) (x : Meant) → ExprGives e x

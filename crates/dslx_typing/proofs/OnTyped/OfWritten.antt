@@ -9,8 +9,8 @@ use Rattle.dslx_meaning.specs.declared.ty.DslxType as ty
 use Rattle.dslx_meaning.specs.Rules.Mentions.{is_cyclic}
 use Rattle.dslx_meaning.specs.Rules.Judging.{Sight, Judgement, ExprPair, breaks, breaks_if, settled, types_of, faults_of_all, reached_of_all}
 use Rattle.dslx_meaning.specs.Rules.Judgings.{TypePair}
-use Rattle.dslx_meaning.specs.Rules.ConstantRules.{is_zero, CountSeen, constant_or_bare, count_number, count_of}
-use Rattle.dslx_meaning.specs.Rules.TypeRules.{inner_type, inner_types, whole_type, counted_type, named_type, array_of}
+use Rattle.dslx_meaning.specs.Rules.ConstantRules.{is_zero, CountSeen, constant_or_bare, count_faults, count_number, count_of}
+use Rattle.dslx_meaning.specs.Rules.TypeRules.{inner_type, inner_types, named_bits, counted_type, named_type, array_of}
 use Rattle.dslx_typing.specs.Typed.Declared.{Declarations, IsDeclared, AllDeclared}
 use Rattle.dslx_typing.specs.Typed.Given.{TypeMeans, EachTypeMeans}
 use Rattle.dslx_typing.specs.Typed.WellTyped.{types_at}
@@ -21,9 +21,9 @@ use Rattle.dslx_typing.proofs.OnTyped.OfOperators.{bits_declared}
 use Rattle.dslx_typing.proofs.OnTyped.OfAggregates.{and_then_type}
 use Rattle.dslx_typing.proofs.OnTyped.OfParts.{with_both_type}
 
-pub bits_mean : (types : Declarations) (span : Span) (s : Bool) (w : ℕ) → TypeMeans types (whole_type span (ty.Bits s w)) (Some (ty.Bits s w))
+pub bits_mean : (types : Declarations) (span : Span) (s : Bool) (w : ℕ) → TypeMeans types (named_bits span s w) (Some (ty.Bits s w))
 bits_mean types span s w t e =
-    let q = settled_type (Some (ty.Bits s w)) [] t e in
+    let q = settled_type (Some (ty.Bits s w)) (count_faults span (Some w)) t e in
     (q.1, subst (IsDeclared types) (same_some (ty.Bits s w) t q.1) (bits_declared types s w))
 
 pub wide_means : (types : Declarations) (span : Span) (s : Bool) (n : CountSeen) (m : Option ℕ) → ((k : ℕ) → n.count ≡ Some k → m ≡ Some k)

@@ -6,7 +6,7 @@ ghost use Rattle.dslx_meaning.specs.declared.ty.DslxType.{DslxType};
 ghost use Rattle.dslx_meaning.specs.Rules.ConstantRules.{CountSeen, count_of};
 ghost use Rattle.dslx_meaning.specs.Rules.Judging.{Sight, Judgement, ExprPair, faults_of_all, reached_of_all, settled, types_of};
 ghost use Rattle.dslx_meaning.specs.Rules.Judgings.{TypePair};
-ghost use Rattle.dslx_meaning.specs.Rules.TypeRules.{array_of, counted_type, inner_types, named_type, whole_type};
+ghost use Rattle.dslx_meaning.specs.Rules.TypeRules.{array_of, counted_type, inner_types, named_bits, named_type};
 ghost use Rattle.dslx_typing.specs.Typed.Declared.{Declarations, IsDeclared};
 ghost use Rattle.dslx_typing.specs.Typed.Given.{EachTypeMeans, TypeMeans};
 ghost use Rattle.dslx_typing.specs.Typed.WellTyped.{types_at};
@@ -14,7 +14,7 @@ ghost use Rattle.dslx_typing.specs.Typed.WellTyped.{types_at};
 /// Written types: where a type is known, it is the one that is meant, and each of its structs and enums is the text's. Sizes
 /// have to mean what is known of them, as they do (`what_is_known_of_constants_is_meant`).
 pub fn written_types_mean_what_is_known()
-    ensures bits { (types : Declarations) (span : Span) (s : Bool) (w : ℕ) → TypeMeans types (whole_type span (ty.Bits s w)) (Some (ty.Bits s w)) }
+    ensures bits { (types : Declarations) (span : Span) (s : Bool) (w : ℕ) → TypeMeans types (named_bits span s w) (Some (ty.Bits s w)) }
     ensures wide { (types : Declarations) (span : Span) (s : Bool) (n : CountSeen) (m : Option ℕ) → ((k : ℕ) → n.count ≡ Some k → m ≡ Some k)
         → TypeMeans types (counted_type span (and_then n.count (λ w. Some (ty.Bits s w))) [] n) (and_then m (λ w. Some (ty.Bits s w))) }
     ensures name { (span : Span) (sight : Sight) (name : List ℕ) (b : Bool) → ((t : DslxType) → types_at sight name ≡ Some t → IsDeclared (types_at sight) t)
