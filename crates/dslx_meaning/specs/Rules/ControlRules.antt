@@ -267,35 +267,80 @@ abbrev pub times_size : Option ℕ → Option ℕ → Option ℕ
 times_size (Some n) (Some k) = Some (n * k)
 times_size _ _ = None
 
--- the annotation of a `for` is a tuple of the index's type and that of what it accumulates
+abbrev pub same_ends : Option DslxType → Option DslxType → Option DslxType
+same_ends (Some t) (Some u) = if one_bit_type t u then Some t else None
+same_ends _ _ = None
+
+-- a loop by its parts: the ends of its range, its annotation, what it starts with, its two patterns and its body
+pub record LoopSeen : Type 0 where
+  pub from : ConstantSeen
+  pub to : ConstantSeen
+  pub written : Option Judgement
+  pub start : Judgement
+  pub index : PatternSeen
+  pub acc : PatternSeen
+  pub body : Judgement
+
+-- the type of what it counts
+abbrev pub index_type : LoopSeen → Option DslxType
+index_type l = same_ends l.from.judgement.ty l.to.judgement.ty
+
+-- the annotation is a tuple of the index's type and that of what it accumulates
 abbrev pub loop_annotation : Span → Option Judgement → Option DslxType → Option DslxType → List Fault
 loop_annotation span None index acc = []
 loop_annotation span (Some written) index acc =
     written.faults ++ wanted_faults span written.ty (with_both index acc (λ i a. Some (ty.Tuple (i ∷ a ∷ []))))
 
-abbrev pub same_ends : Option DslxType → Option DslxType → Option DslxType
-same_ends (Some t) (Some u) = if one_bit_type t u then Some t else None
-same_ends _ _ = None
+abbrev pub annotated_type : Option Judgement → Option DslxType → Option DslxType
+annotated_type None t = t
+annotated_type (Some written) t = written.ty
 
--- a loop, by all that its parts come to. Each turn counts 1, its patterns and its body
-abbrev pub loop_with : Span → Span → ConstantSeen → ConstantSeen → Judgement → Option Judgement → PatternSeen → PatternSeen → Judgement → Judgement
-loop_with span body_span from to start written index acc body =
-    let turns = turns_of from.value to.value in
-    settled span (and_then (same_ends from.judgement.ty to.judgement.ty) (λ i. and_then body.ty (λ t. start.ty)))
-    (from.judgement.faults ++ to.judgement.faults ++ start.faults ++ index.faults ++ acc.faults ++ body.faults
-    ++ unless_types one_bit_type 26 span from.judgement.ty to.judgement.ty
-    ++ loop_annotation span written (same_ends from.judgement.ty to.judgement.ty) start.ty
-    ++ wanted_faults body_span start.ty body.ty
-    ++ turn_limit span.to turns)
-    (from.judgement.reached ++ to.judgement.reached ++ start.reached ++ annotation_reached written ++ index.reached ++ acc.reached ++ body.reached)
-    (one_and (plus_size (plus_size from.judgement.size to.judgement.size)
-    (plus_size start.size (times_size turns (plus_size (Some (1 + index.size + acc.size)) body.size)))))
+-- no part may lack a type, the annotation neither
+abbrev pub loop_type : LoopSeen → Option DslxType
+loop_type l = and_then (index_type l) (λ i. and_then l.body.ty (λ t. and_then (annotated_type l.written l.start.ty) (λ u. l.start.ty)))
 
-abbrev pub loop_judged : ForLayer → Span → Sight → Judgement
-loop_judged f span sight =
+abbrev pub loop_parts_faults : LoopSeen → List Fault
+loop_parts_faults l = l.from.judgement.faults ++ l.to.judgement.faults ++ l.start.faults ++ l.index.faults ++ l.acc.faults ++ l.body.faults
+
+-- rules 26 and 9, and the limit on its turns
+abbrev pub loop_faults : Span → Span → LoopSeen → List Fault
+loop_faults span body_span l =
+    unless_types one_bit_type 26 span l.from.judgement.ty l.to.judgement.ty
+    ++ loop_annotation span l.written (index_type l) l.start.ty
+    ++ wanted_faults body_span l.start.ty l.body.ty
+    ++ turn_limit span.to (turns_of l.from.value l.to.value)
+
+abbrev pub loop_reached : LoopSeen → List Instance
+loop_reached l =
+    l.from.judgement.reached ++ l.to.judgement.reached ++ l.start.reached ++ annotation_reached l.written
+    ++ l.index.reached ++ l.acc.reached ++ l.body.reached
+
+-- each turn counts 1, its patterns and its body
+abbrev pub turns_size : LoopSeen → Option ℕ
+turns_size l = times_size (turns_of l.from.value l.to.value) (plus_size (Some (1 + l.index.size + l.acc.size)) l.body.size)
+
+abbrev pub loop_size : LoopSeen → Option ℕ
+loop_size l = one_and (plus_size (plus_size l.from.judgement.size l.to.judgement.size) (plus_size l.start.size (turns_size l)))
+
+abbrev pub loop_seen : ForLayer → Sight → LoopSeen
+loop_seen f sight =
     let from = constant_of sight f.from in
     let to = constant_of sight f.to in
     let start = alone sight f.start in
     let index = pattern_alone false sight (same_ends from.judgement.ty to.judgement.ty) f.index in
     let acc = pattern_alone false (with_typed sight index.locals) start.ty f.accumulator in
-    loop_with span (span_of_block f.body) from to start (written_judged sight f.ty) index acc (block_alone (with_typed sight acc.locals) f.body)
+    record {
+      from = from;
+      to = to;
+      written = written_judged sight f.ty;
+      start = start;
+      index = index;
+      acc = acc;
+      body = block_alone (with_typed sight acc.locals) f.body;
+    }
+
+abbrev pub loop_with : Span → Span → LoopSeen → Judgement
+loop_with span body_span l = settled span (loop_type l) (loop_parts_faults l ++ loop_faults span body_span l) (loop_reached l) (loop_size l)
+
+abbrev pub loop_judged : ForLayer → Span → Sight → Judgement
+loop_judged f span sight = loop_with span (span_of_block f.body) (loop_seen f sight)

@@ -1,5 +1,5 @@
 -- The rules of items: of an instance of a function or a proc, of constants, types, structs and enums.
-use Rattle.std.specs.Prelude.{ℕ, List, [], ◌∷◌, ◌++◌, ◌||◌, map, Bool, false, Option, Some, None, if◌then◌else◌}
+use Rattle.std.specs.Prelude.{ℕ, List, [], ◌∷◌, ◌++◌, ◌&&◌, ◌||◌, map, Bool, true, false, Option, Some, None, if◌then◌else◌}
 use Rattle.xb_span.specs.declared.fault.Fault.{Fault}
 use Rattle.dslx_tree.specs.declared.block.Block.{Block, out-Block}
 use Rattle.dslx_tree.specs.declared.expr.Expr.{Expr, out-Expr}
@@ -24,6 +24,7 @@ use Rattle.dslx_meaning.specs.declared.value.DslxValue.{DslxValue}
 use Rattle.dslx_meaning.specs.Rules.Judging.{Known, Instance, Typed, Sight, Judgement, ExprPair, breaks_if, unless_broken, type_limits, span_of, bare_of}
 use Rattle.dslx_meaning.specs.Rules.ConstantRules.{ConstantSeen, constant_of, with_size_limit, is_empty}
 use Rattle.dslx_meaning.specs.Rules.NameRules.{listed_name, local_name}
+use Rattle.dslx_meaning.specs.Rules.PatternRules.{is_there}
 use Rattle.dslx_meaning.specs.Rules.TypeRules.{inner_type}
 use Rattle.dslx_meaning.specs.Rules.OperatorRules.{unless_type, is_bits}
 use Rattle.dslx_meaning.specs.Rules.AggregateRules.{wanted_faults, range_faults}
@@ -146,6 +147,11 @@ pub record ConstantFound : Type 0 where
   pub found : Found
   pub value : Option DslxValue
 
+-- the written type, if there is one, is a type
+abbrev pub is_annotated : Option TypeExpr → Option DslxType → Bool
+is_annotated None t = true
+is_annotated (Some e) t = is_there t
+
 abbrev pub constant_seen : Known → Constant → ConstantFound
 constant_seen known c =
     let sight = item_sight known c.name.name [] in
@@ -154,7 +160,7 @@ constant_seen known c =
     let wrong = wanted_faults (out-Expr c.value).span written.ty value.judgement.ty in
     record {
       found = record { faults = written.faults ++ value.judgement.faults ++ wrong; reached = written.reached ++ value.judgement.reached };
-      value = if is_empty (written.faults ++ wrong) then value.value else None;
+      value = if is_empty (written.faults ++ wrong) && is_annotated c.ty written.ty then value.value else None;
     }
 
 -- ---- types, structs and enums: what their text breaks and reaches, and the type that they name
@@ -183,7 +189,8 @@ struct_seen known s =
     let t = unless_broken faults (and_then (fields_types sight s.fields) (λ ts. Some (ty.Struct s.name.name (map name_of_field s.fields) ts))) in
     record { found = record { faults = faults ++ type_limits s.span.to t; reached = found.reached }; ty = t }
 
--- a member's value: a number without a type in the base's range, or a constant of the base
+-- a member's value: a number without a type in the base's range, or a constant of the base. Where the base has no type, it has
+-- none
 abbrev pub member_constant : Sight → Option DslxType → Member → ConstantFound
 member_constant sight base m = by_bare (bare_of pair)
   where
@@ -197,7 +204,7 @@ member_constant sight base m = by_bare (bare_of pair)
     of_base : ConstantSeen → List Fault → ConstantFound
     of_base c wrong = record {
       found = record { faults = c.judgement.faults ++ wrong; reached = c.judgement.reached };
-      value = if is_empty wrong then c.value else None;
+      value = and_then base (λ t. if is_empty wrong then c.value else None);
     }
 
     by_bare : Option Bare → ConstantFound

@@ -139,16 +139,24 @@ bound_number c = by_bare c.bare
 abbrev pub is_negative_bound : ConstantSeen → Bool
 is_negative_bound c = (is_there c.value || is_there c.bare) && not (is_there (bound_number c))
 
-abbrev pub bounds_wrong : Option DslxType → Option ℕ → Option ℕ → Bool
-bounds_wrong None (Some from) (Some to) = not (nat_lt from to)
-bounds_wrong (Some t) (Some from) (Some to) = not (nat_lt from to && nat_le to (width_of_type t))
-bounds_wrong t _ _ = false
+-- a bound is past the width, whatever the other one is
+abbrev pub is_past : Option DslxType → Option ℕ → Bool
+is_past (Some t) (Some n) = nat_lt (width_of_type t) n
+is_past _ _ = false
+
+-- both bounds are known, and the first one isn't less
+abbrev pub bounds_fall : Option ℕ → Option ℕ → Bool
+bounds_fall (Some from) (Some to) = nat_le to from
+bounds_fall _ _ = false
+
+abbrev pub is_wrong_bound : Option DslxType → ConstantSeen → Bool
+is_wrong_bound t c = is_negative_bound c || is_past t (bound_number c)
 
 abbrev pub slice_faults : Span → Option DslxType → ConstantSeen → ConstantSeen → List Fault
 slice_faults span t from to =
     unless_type is_bits 18 span t
     ++ unless_type is_bits 18 span from.judgement.ty ++ unless_type is_bits 18 span to.judgement.ty
-    ++ breaks_if (is_negative_bound from || is_negative_bound to || bounds_wrong t (bound_number from) (bound_number to)) 18 span
+    ++ breaks_if (is_wrong_bound t from || is_wrong_bound t to || bounds_fall (bound_number from) (bound_number to)) 18 span
 
 abbrev pub slice_judged : Span → Sight → ExprPair → ExprPair → ExprPair → Judgement
 slice_judged span sight e a c =

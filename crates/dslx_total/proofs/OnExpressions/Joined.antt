@@ -25,13 +25,13 @@ use Rattle.dslx_tree.specs.declared.expr.Arm.{Arm}
 use Rattle.dslx_tree.specs.declared.block.Stmt.TheOpen.{Node-F, Shape-F, TypeNode-F, Stmt-F}
 use Rattle.dslx_tree.specs.declared.block.Stmt.{Stmt}
 use Rattle.dslx_tree.specs.declared.block.Block.{Block}
-use Rattle.dslx_typing.specs.Sound.Sound.{EachPatternGives, acc_seen, body_seen, index_seen}
+use Rattle.dslx_typing.specs.Sound.Sound.{EachPatternGives, TypeStandsIf, loop_at}
 use Rattle.dslx_typing.proofs.Lemmas.Sound.{alone_fine, block_of_text_has, expression_gives, name_has, none_in, pattern_gives, settled_fine, some_fault, type_stands, HoldOn, TreeClaims, holds_block, holds_expr, holds_pattern, holds_type_expr, own_expr, held, held_tree, paired, pairing}
 use Rattle.dslx_meaning.specs.Rules.TypeRules.{array_of, counted_type, inner_type}
 use Rattle.dslx_meaning.specs.Rules.OperatorRules.{slice_judged}
 use Rattle.dslx_meaning.specs.Rules.Mentions.{AsType, is_of_use}
 use Rattle.dslx_meaning.specs.Rules.ConstantRules.{count_of, constant_of}
-use Rattle.dslx_meaning.specs.Meaning.{meant, meant_pattern, value_of_block, written_type}
+use Rattle.dslx_meaning.specs.Meaning.{Typing, meant, meant_pattern, value_of_block, written_type}
 use Rattle.dslx_meaning.specs.Lists.{and_then, with_both}
 use Rattle.dslx_meaning.specs.Items.{item_named}
 use Rattle.dslx_meaning.specs.Callees.{kind_of_call}
@@ -47,7 +47,7 @@ use Rattle.dslx_typing.proofs.Lemmas.Laws.{and_true}
 use Rattle.dslx_typing.specs.Typed.WellTyped.{types_at, IsWellTyped}
 use Rattle.dslx_tree.specs.declared.type_expr.TypeExpr.{TypeExpr}
 use Rattle.dslx_meaning.specs.Rules.NameRules.{name_judged}
-use Rattle.dslx_meaning.specs.Rules.ControlRules.{same_ends, span_of_block, written_judged}
+use Rattle.dslx_meaning.specs.Rules.ControlRules.{same_ends, span_of_block}
 use Rattle.dslx_meaning.specs.Rules.AggregateRules.{range_faults}
 use Rattle.dslx_meaning.specs.declared.value.Bare.{Bare}
 use Rattle.dslx_meaning.specs.Values.{bits_of}
@@ -454,40 +454,48 @@ block_claim y w = by_value y.value w
 
 loop_claim : (y : ForLevel Held) → for_wide (map_loop trees wide (folds wide widths) (map_loop Held trees tree y)) ≡ true → (span : Span)
     → PartClaim ((seeing.loop (map_loop trees seen (folds seen seeing) (map_loop Held trees tree y))).1 span) (becoming.loop (map_loop trees become (folds become becoming) (map_loop Held trees tree y))).1
-loop_claim y w span =
-    let b0 = fold_expr wide widths y.from.0 in
-    let b1 = fold_expr wide widths y.to.0 in
-    let b2 = fold_expr wide widths y.start.0 in
-    let b3 = fold_pattern wide widths y.index.0 in
-    let b4 = fold_pattern wide widths y.accumulator.0 in
-    let p = and_true ((((b0 && b1) && b2) && b3) && b4) (fold_block wide widths y.body.0) w in
-    let q = and_true (((b0 && b1) && b2) && b3) b4 p.0 in
-    let r = and_true ((b0 && b1) && b2) b3 q.0 in
-    let s = and_true (b0 && b1) b2 r.0 in
-    let t = and_true b0 b1 s.0 in
-    let from = fold_expr seen seeing y.from.0 in
-    let to = fold_expr seen seeing y.to.0 in
-    let start = fold_expr seen seeing y.start.0 in
-    let index = fold_pattern seen seeing y.index.0 in
-    let acc = fold_pattern seen seeing y.accumulator.0 in
-    let body = fold_block seen seeing y.body.0 in
-    let written = (map_loop trees seen (folds seen seeing) (map_loop Held trees tree y)).ty in
-    let judged : SightJudging = (seeing.loop (map_loop trees seen (folds seen seeing) (map_loop Held trees tree y))).1 span in
-    let lowered_from = fold_expr become becoming y.from.0 in
-    let lowered_start = fold_expr become becoming y.start.0 in
-    let il = (fold_pattern become becoming y.index.0).1 in
-    let al = (fold_pattern become becoming y.accumulator.0).1 in
-    let bl = (fold_block become becoming y.body.0).1 in
-    record {
-      lowers = subst (λ u. PartLowers judged (λ place. loop_lowered (lowered_start.1 place) (lowered_from.1 place) (and_then (constant_at place lowered_from.0) bits_of) (and_then (constant_at place u) bits_of) il al bl place)) (same_tree y.to.0)
-          (subst (λ u. PartLowers judged (λ place. loop_lowered (lowered_start.1 place) (lowered_from.1 place) (and_then (constant_at place u) bits_of) (and_then (constant_at place to.0) bits_of) il al bl place)) (same_tree y.from.0)
-          (loop_lowers span (span_of_block body) from to start lowered_from.1 (fold_expr become becoming y.to.0).1 lowered_start.1 written index acc il al (meant_pattern y.index.0) (meant_pattern y.accumulator.0) body bl
-          (expr_part y.from t.0) (expr_part y.to t.1) (expr_part y.start s.1) (y.index.1 r.1) (y.accumulator.1 q.1) (pattern_gives y.index.0) (pattern_gives y.accumulator.0) (block_part y.body p.1)));
-      limited = loop_limited span (span_of_block body) (λ sight. constant_of sight from) (λ sight. constant_of sight to) (λ sight. alone sight start) (λ sight. written_judged sight written)
-          (λ sight. index_seen sight index (same_ends (constant_of sight from).judgement.ty (constant_of sight to).judgement.ty))
-          (λ sight. acc_seen sight index acc (same_ends (constant_of sight from).judgement.ty (constant_of sight to).judgement.ty) (alone sight start).ty)
-          (λ sight. body_seen sight index acc body (same_ends (constant_of sight from).judgement.ty (constant_of sight to).judgement.ty) (alone sight start).ty);
-    }
+loop_claim y w span = by_type y.ty
+  where
+    with_type : Option TypePart → ForLevel Held
+    with_type o = record { index = y.index; accumulator = y.accumulator; ty = o; from = y.from; to = y.to; body = y.body; start = y.start }
+
+    claim : (o : Option TypePart) (g : Option Typing) → TypeStandsIf (map_loop trees seen (folds seen seeing) (map_loop Held trees tree (with_type o))).ty g
+        → PartClaim ((seeing.loop (map_loop trees seen (folds seen seeing) (map_loop Held trees tree (with_type o)))).1 span) (becoming.loop (map_loop trees become (folds become becoming) (map_loop Held trees tree (with_type o)))).1
+    claim o g stands =
+        let b0 = fold_expr wide widths y.from.0 in
+        let b1 = fold_expr wide widths y.to.0 in
+        let b2 = fold_expr wide widths y.start.0 in
+        let b3 = fold_pattern wide widths y.index.0 in
+        let b4 = fold_pattern wide widths y.accumulator.0 in
+        let p = and_true ((((b0 && b1) && b2) && b3) && b4) (fold_block wide widths y.body.0) w in
+        let q = and_true (((b0 && b1) && b2) && b3) b4 p.0 in
+        let r = and_true ((b0 && b1) && b2) b3 q.0 in
+        let s = and_true (b0 && b1) b2 r.0 in
+        let t = and_true b0 b1 s.0 in
+        let from = fold_expr seen seeing y.from.0 in
+        let to = fold_expr seen seeing y.to.0 in
+        let start = fold_expr seen seeing y.start.0 in
+        let index = fold_pattern seen seeing y.index.0 in
+        let acc = fold_pattern seen seeing y.accumulator.0 in
+        let body = fold_block seen seeing y.body.0 in
+        let written = (map_loop trees seen (folds seen seeing) (map_loop Held trees tree (with_type o))).ty in
+        let judged : SightJudging = (seeing.loop (map_loop trees seen (folds seen seeing) (map_loop Held trees tree (with_type o)))).1 span in
+        let lowered_from = fold_expr become becoming y.from.0 in
+        let lowered_start = fold_expr become becoming y.start.0 in
+        let il = (fold_pattern become becoming y.index.0).1 in
+        let al = (fold_pattern become becoming y.accumulator.0).1 in
+        let bl = (fold_block become becoming y.body.0).1 in
+        record {
+          lowers = subst (λ u. PartLowers judged (λ place. loop_lowered (lowered_start.1 place) (lowered_from.1 place) (and_then (constant_at place lowered_from.0) bits_of) (and_then (constant_at place u) bits_of) il al bl place)) (same_tree y.to.0)
+              (subst (λ u. PartLowers judged (λ place. loop_lowered (lowered_start.1 place) (lowered_from.1 place) (and_then (constant_at place u) bits_of) (and_then (constant_at place to.0) bits_of) il al bl place)) (same_tree y.from.0)
+              (loop_lowers span (span_of_block body) from to start lowered_from.1 (fold_expr become becoming y.to.0).1 lowered_start.1 written g index acc il al (meant_pattern y.index.0) (meant_pattern y.accumulator.0) body bl
+              (expr_part y.from t.0) (expr_part y.to t.1) (expr_part y.start s.1) stands (y.index.1 r.1) (y.accumulator.1 q.1) (pattern_gives y.index.0) (pattern_gives y.accumulator.0) (block_part y.body p.1)));
+          limited = loop_limited span (span_of_block body) (λ sight. loop_at sight from to start written index acc body (same_ends (constant_of sight from).judgement.ty (constant_of sight to).judgement.ty));
+        }
+
+    by_type : (o : Option TypePart) → PartClaim ((seeing.loop (map_loop trees seen (folds seen seeing) (map_loop Held trees tree (with_type o)))).1 span) (becoming.loop (map_loop trees become (folds become becoming) (map_loop Held trees tree (with_type o)))).1
+    by_type None = claim None None tt
+    by_type (Some t) = claim (Some t) (Some (written_type t.0)) (type_stands t.0)
 
 -- ---- numbers and fields
 

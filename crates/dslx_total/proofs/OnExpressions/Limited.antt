@@ -13,12 +13,12 @@ use Rattle.dslx_meaning.specs.Types.{bool_type, same_type, unsigned}
 use Rattle.dslx_meaning.specs.declared.ty.DslxType.{DslxType}
 use Rattle.dslx_meaning.specs.declared.ty.DslxType as ty
 use Rattle.dslx_meaning.specs.declared.value.DslxValue.{DslxValue}
-use Rattle.dslx_meaning.specs.Rules.AggregateRules.{struct_if, struct_judged, array_faults, array_in, element_alone, element_in, element_type, field_judged, field_part_judged, field_type, first_type_of, has_twice, index_judged, is_array, lacks_one, like_first, number_judged, others_judged, pair_alone, part_type, range_faults, tuple_element_judged, tuple_judged, typed_array, unknown_fields, untyped_array, wanted_faults, when_all, written_fields}
+use Rattle.dslx_meaning.specs.Rules.AggregateRules.{struct_if, struct_judged, array_faults, array_in, element_alone, element_in, element_type, field_judged, field_part_judged, field_type, first_type_of, has_twice, index_judged, is_array, lacks_one, like_first, number_judged, others_judged, pair_alone, part_type, range_faults, tuple_element_judged, tuple_judged, typed_array, unknown_fields, untyped_array, when_all, written_fields}
 use Rattle.dslx_meaning.specs.Rules.CallRules.{GivenNumber, builtin_judged, call_judged, counting, first_operand_type, function_call, given_numbers, has_right_count, updating, without_numbers, NumbersSeen, call_parts_faults, call_type, inferred_by, joining, maybe_inferred, numbers_seen, operand_faults, right_call, token_judged, update_faults, wrong_call}
 use Rattle.dslx_meaning.specs.Rules.Judging.{ExprPair, Judgement, Sight, all_alone, settled, typed_in, alone, breaks, breaks_if, faults_of_all, one_and, plus_size, span_of, types_of}
-use Rattle.dslx_meaning.specs.Rules.Judgings.{ArgPair, FieldSeen, ArmSeen, BlockPair, PatternSeen, SightJudging, StatementJudging}
+use Rattle.dslx_meaning.specs.Rules.Judgings.{ArgPair, FieldSeen, ArmSeen, BlockPair, SightJudging, StatementJudging}
 use Rattle.dslx_meaning.specs.Rules.NameRules.{item_value, local_or_other, member_judged, member_of, name_judged, number_or_item, has_member}
-use Rattle.dslx_meaning.specs.Rules.OperatorRules.{binary_faults, binary_judged, binary_type, bound_number, cast_judged, is_bits, is_bits_or_enum, is_bool, one_bit_type, part_judged, prefix_judged, slice_faults, slice_judged, unless_type, unless_types}
+use Rattle.dslx_meaning.specs.Rules.OperatorRules.{binary_faults, binary_judged, binary_type, bound_number, cast_judged, is_bits, is_bits_or_enum, is_bool, part_judged, prefix_judged, slice_faults, slice_judged, unless_type, unless_types}
 use Rattle.dslx_typing.proofs.Lemmas.Typed.{none_some}
 use Rattle.dslx_total.specs.Expressions.Lowers.{IsLimited, KeepsLimits}
 use Rattle.dslx_total.proofs.OnExpressions.Limits.{settled_keeps}
@@ -27,8 +27,8 @@ use Rattle.std.specs.Prelude.{option_map}
 use Rattle.dslx_tree.specs.declared.operator.Binary.{Binary}
 use Rattle.dslx_meaning.specs.Rules.PatternRules.{is_there}
 use Rattle.dslx_meaning.specs.Rules.Mentions.{is_cyclic}
-use Rattle.dslx_meaning.specs.Rules.ControlRules.{all_known, arm_judged, arm_values, arms_faults, block_alone, first_of_types, if_judged, last_judged, loop_annotation, loop_with, match_faults, match_judged, same_ends, statements_judged, turn_limit, turns_of}
-use Rattle.dslx_meaning.specs.Rules.ConstantRules.{ConstantSeen, constant_or_bare, is_empty, is_unsigned}
+use Rattle.dslx_meaning.specs.Rules.ControlRules.{LoopSeen, all_known, arm_judged, arm_values, arms_faults, block_alone, first_of_types, if_judged, last_judged, loop_faults, loop_parts_faults, loop_type, loop_with, match_faults, match_judged, statements_judged}
+use Rattle.dslx_meaning.specs.Rules.ConstantRules.{constant_or_bare, is_empty, is_unsigned}
 use Rattle.dslx_meaning.specs.declared.value.Bare.{Bare}
 use Rattle.dslx_meaning.specs.Values.{type_of_value}
 
@@ -184,17 +184,8 @@ block_limited span ss o sight =
     let last = last_judged walked.sight o in
     settled_keeps span last.ty (walked.faults ++ last.faults)
 
-pub loop_limited : (span body_span : Span) (from to : Sight → ConstantSeen) (start : Sight → Judgement) (written : Sight → Option Judgement) (index acc : Sight → PatternSeen) (body : Sight → Judgement)
-    → IsLimited (λ sight. loop_with span body_span (from sight) (to sight) (start sight) (written sight) (index sight) (acc sight) (body sight))
-loop_limited span body_span from to start written index acc body sight =
-    let c = from sight in
-    let d = to sight in
-    let a = start sight in
-    let b = body sight in
-    let ends = same_ends c.judgement.ty d.judgement.ty in
-    settled_keeps span (and_then ends (λ i. and_then b.ty (λ t. a.ty)))
-    (((((((((c.judgement.faults ++ d.judgement.faults) ++ a.faults) ++ (index sight).faults) ++ (acc sight).faults) ++ b.faults) ++ unless_types one_bit_type 26 span c.judgement.ty d.judgement.ty)
-    ++ loop_annotation span (written sight) ends a.ty) ++ wanted_faults body_span a.ty b.ty) ++ turn_limit span.to (turns_of c.value d.value))
+pub loop_limited : (span body_span : Span) (seen : Sight → LoopSeen) → IsLimited (λ sight. loop_with span body_span (seen sight))
+loop_limited span body_span seen sight = settled_keeps span (loop_type (seen sight)) (loop_parts_faults (seen sight) ++ loop_faults span body_span (seen sight))
 
 -- ---- calls
 

@@ -12,16 +12,17 @@ use Rattle.dslx_meaning.specs.Lists.{and_then, where_true, with_both}
 use Rattle.dslx_meaning.specs.Types.{bits_in, bits_step, same_bool, same_type}
 use Rattle.dslx_meaning.specs.Values.{bits_of}
 use Rattle.dslx_meaning.specs.Environment.{Env}
-use Rattle.dslx_meaning.specs.Meaning.{PatternMeant, turn_count}
+use Rattle.dslx_meaning.specs.Meaning.{PatternMeant, Typing, turn_count}
 use Rattle.dslx_meaning.specs.Operators.{of_one_type}
 use Rattle.dslx_meaning.specs.declared.ty.BitKind.{BitKind}
+use Rattle.dslx_meaning.specs.declared.ty.DslxType as ty
 use Rattle.dslx_meaning.specs.declared.ty.DslxType.{DslxType}
 use Rattle.dslx_meaning.specs.declared.ty.DslxType.TheViews as views
 use Rattle.dslx_meaning.specs.declared.value.DslxValue.{DslxValue}
 use Rattle.dslx_meaning.specs.declared.value.SignedWord.{SignedWord}
 use Rattle.dslx_meaning.specs.Rules.AggregateRules.{wanted_faults}
 use Rattle.dslx_meaning.specs.Rules.ConstantRules.{constant_of, names_a_local, size_faults}
-use Rattle.dslx_meaning.specs.Rules.ControlRules.{annotation_reached, loop_annotation, loop_with, same_ends, turn_limit, turns_of, written_judged}
+use Rattle.dslx_meaning.specs.Rules.ControlRules.{annotated_type, annotation_reached, loop_annotation, loop_faults, loop_parts_faults, loop_reached, loop_size, loop_type, loop_with, same_ends, turn_limit, turns_of, written_judged}
 use Rattle.dslx_meaning.specs.Rules.Judging.{ExprPair, Instance, Judgement, Sight, alone, breaks_if, found_number, has_broken, passes, span_of, with_typed}
 use Rattle.dslx_meaning.specs.Rules.Judgings.{BlockPair, PatternPair, PatternSeen, TypePair}
 use Rattle.dslx_meaning.specs.Rules.OperatorRules.{is_bits, one_bit_type, unless_types}
@@ -31,7 +32,7 @@ use Rattle.dslx_typing.specs.Typed.Declared.{Declarations, IsDeclared}
 use Rattle.dslx_typing.specs.Typed.Given.{GivesOf}
 use Rattle.dslx_typing.specs.Typed.WellTyped.{IsWellTyped, types_at}
 use Rattle.dslx_typing.proofs.Lemmas.Typed.{bits_given, one_of_text, same_some}
-use Rattle.dslx_typing.specs.Sound.Sound.{PatternGives, acc_seen, body_seen, index_seen}
+use Rattle.dslx_typing.specs.Sound.Sound.{PatternGives, TypeStandsIf, acc_seen, body_seen, index_seen, loop_at}
 use Rattle.dslx_typing.proofs.Lemmas.Sound.{all_in, all_in_three, constant_has, none_in, none_in_three, passed, settled_fine, some_fault}
 use Rattle.dslx_core.specs.declared.expr.CoreExpr as core
 use Rattle.dslx_core.specs.Lowering.CorePlaces.{CorePlace, constant_at}
@@ -135,20 +136,30 @@ loop_typed start index a b il al bl place first second body f g k e =
     (lowered (core.Loop (turn_count a b) a.word first.shape second.shape body.core start.core) start.ty)))) k
     ∙ ap (λ t. type_of_lowered (where_true t (lowered (core.Loop (turn_count a b) a.word first.shape second.shape body.core start.core) start.ty))) e
 
-pub loop_lowers : (span body_span : Span) (from to start : ExprPair) (x y z : Lowers) (written : Option TypePair) (index acc : PatternPair) (il al : LowersPattern) (im am : PatternMeant) (body : BlockPair) (bl : Lowers)
-    → ExprLowers from x → ExprLowers to y → ExprLowers start z → PatternLowers index.1 il → PatternLowers acc.1 al → PatternGives index.1 im → PatternGives acc.1 am → BlockLowers body.1 bl
+-- an annotation, if there is one, has a type
+annotation_there : (here : Instance → Bool) (sight : Sight) (env : Env) (place : CorePlace) → IsWellTyped sight env → StandsBeside here sight place → (span : Span) (written : Option TypePair) (g : Option Typing) → TypeStandsIf written g
+    → (index acc : Option DslxType) (t : DslxType) → acc ≡ Some t → loop_annotation span (written_judged sight written) index acc ≡ [] → list_all here (annotation_reached (written_judged sight written)) ≡ true
+    → (u : DslxType) × (annotated_type (written_judged sight written) acc ≡ Some u)
+annotation_there here sight env place h at span None None k index acc t own e r = (t, own)
+annotation_there here sight env place h at span None (Some g) k index acc t own e r = absurd k
+annotation_there here sight env place h at span (Some p) None k index acc t own e r = absurd k
+annotation_there here sight env place h at span (Some p) (Some g) k index acc t own e r =
+    let j = p.1 sight in
+    let faults = (none_in j.faults (wanted_faults span j.ty (with_both index acc (λ i a. Some (ty.Tuple (i ∷ a ∷ []))))) e).0 in
+    k.known sight env h (fine_there here sight place j at (record { faults = faults; reached = r }))
+
+pub loop_lowers : (span body_span : Span) (from to start : ExprPair) (x y z : Lowers) (written : Option TypePair) (g : Option Typing) (index acc : PatternPair) (il al : LowersPattern) (im am : PatternMeant) (body : BlockPair) (bl : Lowers)
+    → ExprLowers from x → ExprLowers to y → ExprLowers start z → TypeStandsIf written g → PatternLowers index.1 il → PatternLowers acc.1 al → PatternGives index.1 im → PatternGives acc.1 am → BlockLowers body.1 bl
     → PartLowers
-    (λ sight. loop_with span body_span (constant_of sight from) (constant_of sight to) (alone sight start) (written_judged sight written)
-    (index_seen sight index (same_ends (constant_of sight from).judgement.ty (constant_of sight to).judgement.ty))
-    (acc_seen sight index acc (same_ends (constant_of sight from).judgement.ty (constant_of sight to).judgement.ty) (alone sight start).ty)
-    (body_seen sight index acc body (same_ends (constant_of sight from).judgement.ty (constant_of sight to).judgement.ty) (alone sight start).ty))
+    (λ sight. loop_with span body_span (loop_at sight from to start written index acc body (same_ends (constant_of sight from).judgement.ty (constant_of sight to).judgement.ty)))
     (λ place. loop_lowered (z place) (x place) (and_then (constant_at place from.0) bits_of) (and_then (constant_at place to.0) bits_of) il al bl place)
-loop_lowers span body_span from to start x y z written index acc il al im am body bl sx sy sz pi pa gi ga' sb here sight env place h at fine =
+loop_lowers span body_span from to start x y z written g index acc il al im am body bl sx sy sz st pi pa gi ga' sb here sight env place h at fine =
     let c = constant_of sight from in
     let d = constant_of sight to in
     let a = alone sight start in
     let w = written_judged sight written in
     let ends = same_ends c.judgement.ty d.judgement.ty in
+    let seen = loop_at sight from to start written index acc body ends in
     let i = index_seen sight index ends in
     let p = acc_seen sight index acc ends a.ty in
     let b = body_seen sight index acc body ends a.ty in
@@ -159,12 +170,11 @@ loop_lowers span body_span from to start x y z written index acc il al im am bod
     let wanted = wanted_faults body_span a.ty b.ty in
     let limit = turn_limit span.to (turns_of c.value d.value) in
     let ends_reached = (c.judgement.reached ++ d.judgement.reached) ++ a.reached in
-    let reached = (((ends_reached ++ annotation_reached w) ++ i.reached) ++ p.reached) ++ b.reached in
-    let own = and_then ends (λ i. and_then b.ty (λ t. a.ty)) in
-    let s = settled_fine (reaching sight.known here) span own ((((six ++ range) ++ annotation) ++ wanted) ++ limit) reached (loop_with span body_span c d a w i p b).size fine in
-    let q = none_in_three ((six ++ range) ++ annotation) wanted limit s.faults in
-    let r = none_in_three six range annotation q.0 in
-    let u = none_in ((three ++ i.faults) ++ p.faults) b.faults r.0 in
+    let s = settled_fine (reaching sight.known here) span (loop_type seen) (loop_parts_faults seen ++ loop_faults span body_span seen) (loop_reached seen) (loop_size seen) fine in
+    let both = none_in six (loop_faults span body_span seen) s.faults in
+    let q = none_in_three (range ++ annotation) wanted limit both.1 in
+    let r = none_in range annotation q.0 in
+    let u = none_in ((three ++ i.faults) ++ p.faults) b.faults both.0 in
     let v = none_in_three three i.faults p.faults u.0 in
     let f = none_in_three c.judgement.faults d.judgement.faults a.faults v.0 in
     let k = all_in here (((ends_reached ++ annotation_reached w) ++ i.reached) ++ p.reached) b.reached s.reached in
@@ -180,9 +190,10 @@ loop_lowers span body_span from to start x y z written index acc il al im am bod
     let alone_faults = (none_in_three first.faults local (size_faults sight.known (span_of from).to (record first { faults = first.faults ++ local })) f.0).0 in
     let gx = alone_becomes here sight env place from x sx h at alone_faults n.0 in
     let gz = alone_becomes here sight env place start z sz h at f.2 n.2 in
+    let annotated = annotation_there here sight env place h at span written g st ends a.ty gz.expr.ty gz.typed r.1 m.1 in
     let index_type = gx.expr.ty in
     let acc_type = gz.expr.ty in
-    let one = and_true (is_bits index_type) (same_type index_type gd.ty) (passed (one_bit_type index_type gd.ty) 26 span ((λ e. unless_types one_bit_type 26 span (sym gx.typed e) (sym gd.typed e)) ∙ r.1)) in
+    let one = and_true (is_bits index_type) (same_type index_type gd.ty) (passed (one_bit_type index_type gd.ty) 26 span ((λ e. unless_types one_bit_type 26 span (sym gx.typed e) (sym gd.typed e)) ∙ r.0)) in
     let alike : ends ≡ Some index_type = (λ e. same_ends (gx.typed e) (gd.typed e)) ∙ (λ e. if (one.0 e && one.1 e) then Some index_type else None) in
     let first_value : GivesOf (types_at sight) index_type (Some gc.gives.value) =
     subst (λ t. GivesOf (types_at sight) t (Some gc.gives.value)) (same_some gc.ty index_type (sym gc.typed ∙ gx.typed)) (record { value = gc.gives.value; is = refl; of = gc.gives.of; declared = gc.gives.declared }) in
@@ -210,4 +221,4 @@ loop_lowers span body_span from to start x y z written index acc il al im am bod
     let to_there = ap (λ o. and_then o bits_of) (constant_there here sight env place to sy.meaning sy.gives h at fd gd.gives.value gd.known) ∙ high.is in
     (λ e. type_of_lowered (loop_lowered (gz.is e) (gx.is e) (from_there e) (to_there e) il al bl place))
     ∙ loop_typed gz.expr gx.expr from_word to_word il al bl place turn.first turn.second turn.body turn.first_is turn.second_is turn.body_is (λ e. same e && few e)
-    ∙ sym (λ e. and_then (alike e) (λ i. and_then (body_typed e) (λ t. gz.typed e))) ∙ sym s.ty
+    ∙ sym (λ e. and_then (alike e) (λ i. and_then (body_typed e) (λ t. and_then (annotated.1 e) (λ u. gz.typed e)))) ∙ sym s.ty

@@ -7,10 +7,10 @@ use Rattle.dslx_meaning.specs.Lists.{and_then, where_true, with_both}
 use Rattle.dslx_meaning.specs.Types.{unsigned}
 use Rattle.dslx_meaning.specs.Rules.ConstantRules.{constant_or_bare}
 use Rattle.dslx_meaning.specs.Rules.Judging.{ExprPair, alone, breaks_if, one_and, plus_size}
-use Rattle.dslx_meaning.specs.Rules.OperatorRules.{bound_number, bounds_wrong, is_bits, is_negative_bound, slice_faults, slice_judged, unless_type, width_of_type}
+use Rattle.dslx_meaning.specs.Rules.OperatorRules.{bound_number, bounds_fall, is_bits, is_negative_bound, is_past, is_wrong_bound, slice_faults, slice_judged, unless_type, width_of_type}
 use Rattle.dslx_typing.proofs.Lemmas.Laws.{and_true}
 use Rattle.dslx_typing.specs.Typed.Complete.{IsFine}
-use Rattle.dslx_typing.proofs.Lemmas.Typed.{not_false, or_false}
+use Rattle.dslx_typing.proofs.Lemmas.Typed.{bounds_within, or_false}
 use Rattle.dslx_typing.proofs.Lemmas.Sound.{all_in_three, bound_has, none_in, none_in_three, not_broken, settled_fine}
 use Rattle.dslx_core.specs.declared.expr.CoreExpr as core
 use Rattle.dslx_core.specs.Lowering.CorePlaces.{bound_at}
@@ -41,18 +41,20 @@ slice_lowers span e a c x y z se sa sc here sight env place h at fine =
     let q = none_in_three whole.faults from.judgement.faults to.judgement.faults p.0 in
     let k = all_in_three here whole.reached from.judgement.reached to.judgement.reached s.reached in
     let types = (unless_type is_bits 18 span whole.ty ++ unless_type is_bits 18 span from.judgement.ty) ++ unless_type is_bits 18 span to.judgement.ty in
-    let some = is_negative_bound from || is_negative_bound to in
-    let outside = bounds_wrong whole.ty (bound_number from) (bound_number to) in
-    let r = or_false some outside (not_broken (some || outside) 18 span (none_in types (breaks_if (some || outside) 18 span) p.1).1) in
-    let negative = or_false (is_negative_bound from) (is_negative_bound to) r.0 in
+    let some = is_wrong_bound whole.ty from || is_wrong_bound whole.ty to in
+    let fall = bounds_fall (bound_number from) (bound_number to) in
+    let r = or_false some fall (not_broken (some || fall) 18 span (none_in types (breaks_if (some || fall) 18 span) p.1).1) in
+    let right = or_false (is_wrong_bound whole.ty from) (is_wrong_bound whole.ty to) r.0 in
+    let first = or_false (is_negative_bound from) (is_past whole.ty (bound_number from)) right.0 in
+    let last = or_false (is_negative_bound to) (is_past whole.ty (bound_number to)) right.1 in
     let g = alone_becomes here sight env place e x se h at q.0 k.0 in
     let fa : IsFine (reaching sight.known here) from.judgement = record { faults = q.1; reached = k.1 } in
     let fc : IsFine (reaching sight.known here) to.judgement = record { faults = q.2; reached = k.2 } in
-    let m = bound_has sight env a sa.meaning sa.gives h (fine_there here sight place from.judgement at fa) negative.0 in
-    let n = bound_has sight env c sc.meaning sc.gives h (fine_there here sight place to.judgement at fc) negative.1 in
-    let low = bound_there here sight env place a sa.meaning sa.gives h at fa negative.0 ∙ m.1 in
-    let high = bound_there here sight env place c sc.meaning sc.gives h at fc negative.1 ∙ n.1 in
-    let inside = not_false (nat_lt m.0 n.0 && nat_le n.0 (width_of_type g.expr.ty)) ((λ i. bounds_wrong (sym g.typed i) (sym m.1 i) (sym n.1 i)) ∙ r.1) in
+    let m = bound_has sight env a sa.meaning sa.gives h (fine_there here sight place from.judgement at fa) first.0 in
+    let n = bound_has sight env c sc.meaning sc.gives h (fine_there here sight place to.judgement at fc) last.0 in
+    let low = bound_there here sight env place a sa.meaning sa.gives h at fa first.0 ∙ m.1 in
+    let high = bound_there here sight env place c sc.meaning sc.gives h at fc last.0 ∙ n.1 in
+    let inside = bounds_within g.expr.ty m.0 n.0 ((λ i. is_past (sym g.typed i) (sym n.1 i)) ∙ last.1) ((λ i. bounds_fall (sym m.1 i) (sym n.1 i)) ∙ r.1) in
     let two = and_true (nat_lt m.0 n.0) (nat_le n.0 (width_of_type g.expr.ty)) inside in
     (λ i. type_of_lowered (slice_lowered (g.is i) (low i) (high i)))
     ∙ (λ i. type_of_lowered (where_true (two.0 i && within_both n.0 (width_of_type g.expr.ty) 128 two.1 g.narrow i) (lowered (core.Slice g.expr.core m.0 (n.0 - m.0)) (unsigned (n.0 - m.0)))))

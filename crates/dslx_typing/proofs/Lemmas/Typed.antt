@@ -14,7 +14,7 @@ pub use Rattle.dslx_typing.proofs.OnTyped.OfNames.{name_gives, member_gives, boo
 pub use Rattle.dslx_typing.proofs.OnTyped.OfPatterns.{bound_keeps, parts_of_type, one_value_keeps, name_pattern_keeps, tuple_pattern_keeps}
 pub use Rattle.dslx_typing.proofs.OnTyped.OfControl.{truth_given, if_gives, let_keeps, bare_keeps, statements_keep, block_gives}
 pub use Rattle.dslx_typing.proofs.OnTyped.OfCalls.{counting_gives, reducing_gives, update_given, BitsGiven, bits_given}
-pub use Rattle.dslx_typing.proofs.OnTyped.OfParts.{slice_gives, part_gives, field_gives, with_both_type}
+pub use Rattle.dslx_typing.proofs.OnTyped.OfParts.{bounds_within, slice_gives, part_gives, field_gives, with_both_type}
 pub use Rattle.dslx_typing.proofs.OnTyped.OfConstants.{none_shown, shown, constant_is_meant, meant_is_known, size_is_meant, bound_is_meant}
 pub use Rattle.dslx_typing.proofs.OnTyped.OfStructs.{struct_gives}
 pub use Rattle.dslx_typing.proofs.OnTyped.OfMatches.{match_gives}

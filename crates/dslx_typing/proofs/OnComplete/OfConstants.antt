@@ -1,6 +1,7 @@
 -- Constants, aliases and number parameters with whose text nothing is wrong.
-use Rattle.std.proofs.Common.{◌++◌, ℕ, if◌then◌else◌, List, [], Some, None, refl, sym, ap, ◌∙◌}
+use Rattle.std.proofs.Common.{◌≡◌, ◌&&◌, ◌++◌, ℕ, true, if◌then◌else◌, List, [], Option, Some, None, refl, sym, ap, ◌∙◌}
 use Rattle.dslx_tree.specs.declared.expr.Expr.{out-Expr}
+use Rattle.dslx_tree.specs.declared.type_expr.TypeExpr.{TypeExpr}
 use Rattle.dslx_tree.specs.declared.item.Alias.{Alias}
 use Rattle.dslx_tree.specs.declared.item.Constant.{Constant}
 use Rattle.dslx_tree.specs.declared.item.Parameter.{Parameter}
@@ -9,9 +10,10 @@ use Rattle.dslx_meaning.specs.Meaning.{meant}
 use Rattle.dslx_meaning.specs.Types.{is_unit}
 use Rattle.dslx_meaning.specs.Rules.AggregateRules.{wanted_faults}
 use Rattle.dslx_meaning.specs.Rules.ConstantRules.{constant_of, is_empty}
-use Rattle.dslx_meaning.specs.Rules.ItemRules.{annotation_judged, alias_seen, constant_seen, item_sight, judged_inner, judged_type}
+use Rattle.dslx_meaning.specs.Rules.ItemRules.{annotation_judged, alias_seen, constant_seen, is_annotated, item_sight, judged_inner, judged_type}
 use Rattle.dslx_meaning.specs.Rules.Judging.{Known, unless_broken}
 use Rattle.dslx_meaning.specs.Rules.NodeRules.{expr_pair, type_pair}
+use Rattle.dslx_meaning.specs.Rules.PatternRules.{is_there}
 use Rattle.dslx_meaning.specs.Rules.TypeRules.{span_of_type, unit_faults}
 use Rattle.dslx_typing.specs.Typed.Complete.{IsComplete, IsFine, IsTypeKnown}
 use Rattle.dslx_typing.specs.Typed.Numbers.{AreOwn}
@@ -19,6 +21,12 @@ use Rattle.dslx_typing.proofs.Lemmas.Typed.{constant_is_meant, one_type, own_val
 use Rattle.dslx_typing.proofs.Lemmas.Sound.{all_in, constant_has, expression_gives, none_in, none_in_three, not_broken, type_stands}
 use Rattle.dslx_typing.specs.Complete.Standing.{AliasStands, AreTyped, ConstantStands, IsFineFound, ParameterStands}
 use Rattle.dslx_typing.proofs.OnComplete.Places.{item_env, item_typed, none_own}
+
+-- a written type with which nothing is wrong is one
+annotation_there : (known : Known) → IsComplete known → AreTyped known → (home : List ℕ) (o : Option TypeExpr) → IsFine known (annotation_judged (item_sight known home []) o) → is_annotated o (annotation_judged (item_sight known home []) o).ty ≡ true
+annotation_there known complete typed home None fine = refl
+annotation_there known complete typed home (Some t) fine =
+    ap is_there ((type_stands t).known (item_sight known home []) (item_env known []) (item_typed known complete typed home [] (none_own known)) (record { faults = fine.faults; reached = fine.reached })).1
 
 pub constant_stands : (known : Known) → IsComplete known → AreTyped known → (c : Constant) → IsFineFound known (constant_seen known c).found → ConstantStands known c
 constant_stands known complete typed c fine =
@@ -30,9 +38,10 @@ constant_stands known complete typed c fine =
     let s = all_in known.is_sound written.reached seen.judgement.reached fine.reached in
     let place = item_typed known complete typed c.name.name [] (none_own known) in
     let k = constant_has sight (item_env known []) (expr_pair c.value) (meant c.value) (expression_gives c.value) place (record { faults = f.1; reached = s.1 }) in
+    let annotated = annotation_there known complete typed c.name.name c.ty (record { faults = f.0; reached = s.0 }) in
     record {
       value = k.gives.value;
-      is = (λ i. if is_empty (f.0 i ++ f.2 i) then seen.value else None) ∙ k.known;
+      is = (λ i. if is_empty (f.0 i ++ f.2 i) && annotated i then seen.value else None) ∙ k.known;
       own = own_value known.items.type_named k.ty ((meant c.value).value (item_env known [])) k.gives.value k.gives.is k.gives;
       means = k.gives.is;
     }

@@ -49,14 +49,14 @@ abbrev in_base : Option DslxType → Bare → Option DslxValue
 in_base None number = None
 in_base (Some t) number = number_value t number
 
-abbrev of_base : ConstantSeen → List Fault → ConstantFound
-of_base c wrong = record {
+abbrev of_base : Option DslxType → ConstantSeen → List Fault → ConstantFound
+of_base base c wrong = record {
   found = record { faults = c.judgement.faults ++ wrong; reached = c.judgement.reached };
-  value = if is_empty wrong then c.value else None;
+  value = and_then base (λ t. if is_empty wrong then c.value else None);
 }
 
 abbrev member_by : Sight → Option DslxType → ExprPair → Option Bare → ConstantFound
-member_by sight base pair None = of_base (constant_of sight pair) (wanted_faults (span_of pair) base (constant_of sight pair).judgement.ty)
+member_by sight base pair None = of_base base (constant_of sight pair) (wanted_faults (span_of pair) base (constant_of sight pair).judgement.ty)
 member_by sight base pair (Some number) = record { found = only_faults (range_faults (span_of pair) base number); value = in_base base number }
 
 member_has : (sight : Sight) (env : Env) → IsWellTyped sight env → (t : DslxType) → IsDeclared (types_at sight) t → (m : Member) → IsFineFound sight.known (member_constant sight (Some t) m).found

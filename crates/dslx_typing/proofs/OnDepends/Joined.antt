@@ -21,18 +21,18 @@ use Rattle.dslx_meaning.specs.declared.value.DslxValue.{DslxValue}
 use Rattle.dslx_meaning.specs.Rules.AggregateRules.{field_judged, field_part_judged, field_type, index_judged, number_judged, struct_judged, tuple_element_judged, wanted_faults}
 use Rattle.dslx_meaning.specs.Rules.CallRules.{call_judged}
 use Rattle.dslx_meaning.specs.Rules.ConstantRules.{ConstantSeen, constant_of}
-use Rattle.dslx_meaning.specs.Rules.ControlRules.{bare_judged_at, behind, block_alone, if_judged, last_judged, loop_with, same_ends, span_of_block, statements_judged}
+use Rattle.dslx_meaning.specs.Rules.ControlRules.{bare_judged_at, behind, if_judged, last_judged, loop_with, span_of_block, statements_judged}
 use Rattle.dslx_meaning.specs.Rules.Judging.{ExprPair, Judgement, Judging, Known, Sight, alone, constant_env, faults_of_all, no_token, one_and, plus_size, reached_of_all, settled, span_of, types_of, with_typed}
-use Rattle.dslx_meaning.specs.Rules.Judgings.{BlockPair, PatternJudging, PatternPair, SightJudging, StatementJudging, StatementSeen}
+use Rattle.dslx_meaning.specs.Rules.Judgings.{PatternJudging, PatternPair, SightJudging, StatementJudging, StatementSeen}
 use Rattle.dslx_meaning.specs.Rules.Mentions.{AsFunction, AsStruct, Mention, Mentions, NamesBound, all_mentions, binders_mentions, binders_names, bound_behind, mention, mentioned, mentioned_in_block, mentioned_in_type, mentions_if, statements_mentions}
 use Rattle.dslx_meaning.specs.Rules.NodeRules.{block_pair, expr_pair, second_of, type_pair}
 use Rattle.dslx_meaning.specs.Rules.OperatorRules.{binary_judged, bound_number, cast_judged, part_judged, prefix_judged, slice_faults}
-use Rattle.dslx_meaning.specs.Rules.PatternRules.{is_there, one_value, part_types, pattern_alone, tuple_pattern}
+use Rattle.dslx_meaning.specs.Rules.PatternRules.{is_there, one_value, part_types, tuple_pattern}
 use Rattle.dslx_meaning.specs.Rules.TypeRules.{array_of, counted_type}
 use Rattle.dslx_typing.specs.Depends.Alike.{FunctionAlike, NamesAlike, SeesAlike, in_known}
 use Rattle.dslx_typing.proofs.OnDepends.Links.{Claims, claimed, judged, judging, mentions, mention_steps, seen_stmt, seen_node, seen_shape, seen_type_node, seen_block, seen_bind, seen_arg, seen_arm, seen_expr, seen_field, seen_loop, seen_number, seen_pattern, seen_type_expr, mentioned_stmt, mentioned_node, mentioned_shape, mentioned_type_node, mentioned_block, mentioned_bind, mentioned_arg, mentioned_arm, mentioned_expr, mentioned_field, mentioned_loop, mentioned_number, mentioned_pattern, mentioned_type_expr}
 use Rattle.dslx_typing.proofs.OnDepends.OfCalls.{EachGivenSame, IfCalled, call_same}
-use Rattle.dslx_typing.proofs.OnDepends.OfControl.{ArmSame, EachArmSame, EachPatternSame, PatternSame, arm_same, behind_in_known, let_same, loop_same, match_same, name_pattern_same, parts_same}
+use Rattle.dslx_typing.proofs.OnDepends.OfControl.{ArmSame, EachArmSame, EachPatternSame, PatternSame, arm_same, behind_in_known, let_same, loop_behind, loop_same, match_same, name_pattern_same, parts_same}
 use Rattle.dslx_typing.proofs.OnDepends.Places.{ExprAlike, JudgedAlike, behind_names, constant_alike, first_part, fits_alike, names_join, second_part, value_alike}
 use Rattle.dslx_typing.proofs.OnDepends.Same.{EachFieldSame, EachSame, EachTypeSame, FieldSame, OthersSame, alone_same, array_same, bare_same, constant_same, count_same, frozen, inner_same, inner_types_same, member_same, name_same, named_same, struct_same, tuple_same, untyped_same}
 
@@ -425,20 +425,13 @@ module _ (P : List ℕ → Bool) where
 
   -- ---- loops, numbers and fields
 
-  -- a loop, by its bounds, its start and its annotation
-  abbrev loop_by : Span → Span → Sight → PatternPair → PatternPair → BlockPair → ConstantSeen → ConstantSeen → Judgement → Option Judgement → Judgement
-  loop_by span body_span sight index acc body from to start written =
-      let i = pattern_alone false sight (same_ends from.judgement.ty to.judgement.ty) index in
-      let a = pattern_alone false (with_typed sight i.locals) start.ty acc in
-      loop_with span body_span from to start written i a (block_alone (with_typed sight a.locals) body)
-
   loop_alike : (x : ForLevel Parts) (span : Span) → TypeAlike P ((judging.loop (map_loop Parts judged (firsts judged mentions (claimed (alike P))) x)).1 span) (mention_steps.loop (map_loop Parts mentions (seconds judged mentions (claimed (alike P))) x))
   loop_alike x span = by_type x.ty
     where
       whole : (bound : List (List ℕ)) (sight : Sight) (other : Known) (typed : List Mention) (written written' : Option Judgement) → (Sees bound sight other typed → written ≡ written')
           → Sees bound sight other ((((((x.from.1 bound ++ x.to.1 bound) ++ x.start.1 bound) ++ typed) ++ x.index.1.mentions bound) ++ x.accumulator.1.mentions bound) ++ x.body.1 ((x.accumulator.1.names ++ x.index.1.names) ++ bound))
-          → loop_by span (span_of_block x.body.0) sight x.index.0 x.accumulator.0 x.body.0 (constant_of sight x.from.0) (constant_of sight x.to.0) (alone sight x.start.0) written
-          ≡ loop_by span (span_of_block x.body.0) (in_known sight other) x.index.0 x.accumulator.0 x.body.0 (constant_of (in_known sight other) x.from.0) (constant_of (in_known sight other) x.to.0) (alone (in_known sight other) x.start.0) written'
+          → loop_with span (span_of_block x.body.0) (loop_behind sight x.index.0 x.accumulator.0 x.body.0 (constant_of sight x.from.0) (constant_of sight x.to.0) (alone sight x.start.0) written)
+          ≡ loop_with span (span_of_block x.body.0) (loop_behind (in_known sight other) x.index.0 x.accumulator.0 x.body.0 (constant_of (in_known sight other) x.from.0) (constant_of (in_known sight other) x.to.0) (alone (in_known sight other) x.start.0) written')
       whole bound sight other typed written written' own h =
           let names = x.accumulator.1.names ++ x.index.1.names in
           let ends = x.from.1 bound ++ x.to.1 bound in
@@ -459,9 +452,9 @@ module _ (P : List ℕ → Bool) where
           let to = constant_same P sight other x.to.0 h.known (constant_alike P x.to.0 x.to.1 (expr_alike x.to) bound sight other (two bound sight other (x.from.1 bound) (x.to.1 bound) e)) in
           let start = alone_alike bound sight other x.start (two bound sight other ends (x.start.1 bound) d) in
           let annotation = own (two bound sight other three typed c) in
-          loop_same span (span_of_block x.body.0) sight other (constant_of sight x.from.0) (constant_of sight x.to.0) (alone sight x.start.0) written x.index.0 x.accumulator.0 x.body.0
+          ap (loop_with span (span_of_block x.body.0)) (loop_same sight other (constant_of sight x.from.0) (constant_of sight x.to.0) (alone sight x.start.0) written x.index.0 x.accumulator.0 x.body.0
           (x.index.2.2.judged bound sight other index) (λ locals. x.accumulator.2.2.judged bound (with_typed sight locals) other acc) (λ locals. x.body.2.2 (names ++ bound) false (with_typed sight locals) other last)
-          ∙ (λ i. loop_by span (span_of_block x.body.0) (in_known sight other) x.index.0 x.accumulator.0 x.body.0 (from i) (to i) (start i) (annotation i))
+          ∙ (λ i. loop_behind (in_known sight other) x.index.0 x.accumulator.0 x.body.0 (from i) (to i) (start i) (annotation i)))
 
       by_type : (o : Option TypePart)
           → TypeAlike P ((judging.loop (map_loop Parts judged (firsts judged mentions (claimed (alike P))) (record { index = x.index; accumulator = x.accumulator; ty = o; from = x.from; to = x.to; body = x.body; start = x.start }))).1 span)

@@ -16,9 +16,9 @@ use Rattle.dslx_meaning.specs.declared.ty.DslxType.{DslxType, out-DslxType}
 use Rattle.dslx_meaning.specs.declared.ty.DslxType.TheOpen.{DslxType-F}
 use Rattle.dslx_meaning.specs.declared.value.DslxValue.{DslxValue}
 use Rattle.dslx_meaning.specs.Rules.ConstantRules.{ConstantSeen, is_empty}
-use Rattle.dslx_meaning.specs.Rules.ControlRules.{ArmJudged, all_known, all_words_match, alternatives_seen, arm_judged, arm_values, arms_faults, arms_reached, arms_size, block_alone, bound_type, differ, first_of_types, is_exhaustive, is_exhaustive_in, is_matched, last_is_sure, let_with, loop_with, match_judged, member_matches, members_match, not_exhaustive, same_ends, some_binds, values_match}
+use Rattle.dslx_meaning.specs.Rules.ControlRules.{ArmJudged, LoopSeen, all_known, all_words_match, alternatives_seen, arm_judged, arm_values, arms_faults, arms_reached, arms_size, block_alone, bound_type, differ, first_of_types, is_exhaustive, is_exhaustive_in, is_matched, last_is_sure, let_with, match_judged, member_matches, members_match, not_exhaustive, same_ends, some_binds, values_match}
 use Rattle.dslx_meaning.specs.Rules.Judging.{ExprPair, Judgement, Known, Sight, Typed, alone, breaks_if, constant_env, one_and, plus_size, settled, types_of, with_typed}
-use Rattle.dslx_meaning.specs.Rules.Judgings.{ArmSeen, BlockPair, PatternJudging, PatternPair, StatementSeen}
+use Rattle.dslx_meaning.specs.Rules.Judgings.{ArmSeen, BlockPair, PatternJudging, PatternPair, PatternSeen, StatementSeen}
 use Rattle.dslx_meaning.specs.Rules.Mentions.{is_cyclic, item_reaches}
 use Rattle.dslx_meaning.specs.Rules.PatternRules.{both_patterns, first_part_type, is_there, name_pattern, one_value, other_part_types, parts_judged, pattern_alone}
 use Rattle.dslx_typing.specs.Depends.Alike.{KnownAlike, in_known}
@@ -189,24 +189,28 @@ let_same sight other e span on_top written written' pattern value type_same h = 
 
 -- ---- loops
 
--- a loop, by its two patterns and its body, each behind those before it
-pub loop_same : (span body_span : Span) (sight : Sight) (other : Known) (from to : ConstantSeen) (start : Judgement) (written : Option Judgement) (index acc : PatternPair) (body : BlockPair)
-    → PatternSame sight other index.1 → ((locals : List Typed) → PatternSame (with_typed sight locals) other acc.1) → ((locals : List Typed) → block_alone (with_typed sight locals) body ≡ block_alone (with_typed (in_known sight other) locals) body)
-    → (let i = pattern_alone false sight (same_ends from.judgement.ty to.judgement.ty) index in
+abbrev loop_of : ConstantSeen → ConstantSeen → Judgement → Option Judgement → PatternSeen → PatternSeen → Judgement → LoopSeen
+loop_of from to start written index acc body = record { from = from; to = to; written = written; start = start; index = index; acc = acc; body = body }
+
+-- a loop, by its bounds, its start and its annotation: its two patterns and its body, each behind those before it
+abbrev pub loop_behind : Sight → PatternPair → PatternPair → BlockPair → ConstantSeen → ConstantSeen → Judgement → Option Judgement → LoopSeen
+loop_behind sight index acc body from to start written =
+    let i = pattern_alone false sight (same_ends from.judgement.ty to.judgement.ty) index in
     let a = pattern_alone false (with_typed sight i.locals) start.ty acc in
-    loop_with span body_span from to start written i a (block_alone (with_typed sight a.locals) body))
-    ≡ (let i = pattern_alone false (in_known sight other) (same_ends from.judgement.ty to.judgement.ty) index in
-    let a = pattern_alone false (with_typed (in_known sight other) i.locals) start.ty acc in
-    loop_with span body_span from to start written i a (block_alone (with_typed (in_known sight other) a.locals) body))
-loop_same span body_span sight other from to start written index acc body hi ha hb =
+    loop_of from to start written i a (block_alone (with_typed sight a.locals) body)
+
+pub loop_same : (sight : Sight) (other : Known) (from to : ConstantSeen) (start : Judgement) (written : Option Judgement) (index acc : PatternPair) (body : BlockPair)
+    → PatternSame sight other index.1 → ((locals : List Typed) → PatternSame (with_typed sight locals) other acc.1) → ((locals : List Typed) → block_alone (with_typed sight locals) body ≡ block_alone (with_typed (in_known sight other) locals) body)
+    → loop_behind sight index acc body from to start written ≡ loop_behind (in_known sight other) index acc body from to start written
+loop_same sight other from to start written index acc body hi ha hb =
     let i = pattern_alone false sight (same_ends from.judgement.ty to.judgement.ty) index in
     let a = pattern_alone false (with_typed sight i.locals) start.ty acc in
     let body_same = hb a.locals in
     let acc_same = ha i.locals false start.ty [] i.locals in
     let index_same = hi false (same_ends from.judgement.ty to.judgement.ty) [] sight.locals in
-    (λ d. loop_with span body_span from to start written i a (body_same d))
-    ∙ (λ d. loop_with span body_span from to start written i (acc_same d) (block_alone (with_typed (in_known sight other) (acc_same d).locals) body))
+    (λ d. loop_of from to start written i a (body_same d))
+    ∙ (λ d. loop_of from to start written i (acc_same d) (block_alone (with_typed (in_known sight other) (acc_same d).locals) body))
     ∙ (λ d.
     let k = index_same d in
     let b = pattern_alone false (with_typed (in_known sight other) k.locals) start.ty acc in
-    loop_with span body_span from to start written k b (block_alone (with_typed (in_known sight other) b.locals) body))
+    loop_of from to start written k b (block_alone (with_typed (in_known sight other) b.locals) body))

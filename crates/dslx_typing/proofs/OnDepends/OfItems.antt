@@ -32,7 +32,7 @@ use Rattle.dslx_meaning.specs.declared.value.DslxValue.{DslxValue}
 use Rattle.dslx_meaning.specs.Rules.AggregateRules.{range_faults, wanted_faults}
 use Rattle.dslx_meaning.specs.Rules.CallRules.{result_type}
 use Rattle.dslx_meaning.specs.Rules.ConstantRules.{ConstantSeen, constant_of, is_empty}
-use Rattle.dslx_meaning.specs.Rules.ItemRules.{ConstantFound, Found, TypeFound, alias_seen, and_found, annotation_judged, arguments_found, arguments_typed, base_if_bits, body_judged, bound_with, constant_seen, default_found, enum_member_value, enum_of_base, enum_seen, fields_found, found_in, function_seen, has_equal_values, item_sight, judged_inner, judged_type, member_constant, member_values, members_found, number_at, numbers_behind, only_faults, parameters_found, result_judged, struct_seen}
+use Rattle.dslx_meaning.specs.Rules.ItemRules.{ConstantFound, Found, TypeFound, alias_seen, and_found, annotation_judged, arguments_found, arguments_typed, base_if_bits, body_judged, bound_with, constant_seen, default_found, enum_member_value, enum_of_base, enum_seen, fields_found, found_in, function_seen, has_equal_values, is_annotated, item_sight, judged_inner, judged_type, member_constant, member_values, members_found, number_at, numbers_behind, only_faults, parameters_found, result_judged, struct_seen}
 use Rattle.dslx_meaning.specs.Rules.Judging.{ExprPair, Instance, Judgement, Known, Sight, Typed, bare_of, breaks_if, has_broken, span_of, type_limits, unless_broken}
 use Rattle.dslx_meaning.specs.Rules.Mentions.{Use, AsValue, AsEnum, Mention, definition_mentions, expr_if, field_names, fields_mentions, is_of_use, item_reaches, mentioned, mentioned_in_block, mentioned_in_type, mentions_of, names_meant, parameter_names, parameters_mentions, reaches_within, type_if}
 use Rattle.dslx_meaning.specs.Rules.ModuleRules.{found_of_instance, known_over, sound_instance, unbroken_instance}
@@ -125,11 +125,11 @@ abbrev number_in : Option DslxType → Bare → Option DslxValue
 number_in None number = None
 number_in (Some t) number = number_value t number
 
-abbrev of_base : ConstantSeen → List Fault → ConstantFound
-of_base c wrong = record { found = record { faults = c.judgement.faults ++ wrong; reached = c.judgement.reached }; value = if is_empty wrong then c.value else None }
+abbrev of_base : Option DslxType → ConstantSeen → List Fault → ConstantFound
+of_base base c wrong = record { found = record { faults = c.judgement.faults ++ wrong; reached = c.judgement.reached }; value = and_then base (λ t. if is_empty wrong then c.value else None) }
 
 abbrev member_by : Sight → Option DslxType → ExprPair → Option Bare → ConstantFound
-member_by sight base pair None = of_base (constant_of sight pair) (wanted_faults (span_of pair) base (constant_of sight pair).judgement.ty)
+member_by sight base pair None = of_base base (constant_of sight pair) (wanted_faults (span_of pair) base (constant_of sight pair).judgement.ty)
 member_by sight base pair (Some number) = record { found = only_faults (range_faults (span_of pair) base number); value = number_in base number }
 
 module _ (P : List ℕ → Bool) (m : Module) (a b : Known) (closed : IsClosed P m) (s : Stage P m a b) where
@@ -323,7 +323,7 @@ module _ (P : List ℕ → Bool) (m : Module) (a b : Known) (closed : IsClosed P
       let wrong = wanted_faults (out-Expr c.value).span written.ty value.judgement.ty in
       record {
         found = record { faults = written.faults ++ value.judgement.faults ++ wrong; reached = written.reached ++ value.judgement.reached };
-        value = if is_empty (written.faults ++ wrong) then value.value else None;
+        value = if is_empty (written.faults ++ wrong) && is_annotated c.ty written.ty then value.value else None;
       }
 
   pub constant_item_at : (c : Constant) → Own c.name.name → Meant (definition_mentions (d.Constant c)) → constant_seen a c ≡ constant_seen b c
@@ -371,7 +371,7 @@ module _ (P : List ℕ → Bool) (m : Module) (a b : Known) (closed : IsClosed P
       by_bare : (o : Option Bare) → member_by (item_sight a home []) t (expr_pair x.value) o ≡ member_by (item_sight b home []) u (expr_pair x.value) o
       by_bare None =
           let c = constant_at home own [] tt x.value h [] [] [] in
-          λ i. of_base (c i) (wanted_faults (span_of (expr_pair x.value)) (e i) (c i).judgement.ty)
+          λ i. of_base (e i) (c i) (wanted_faults (span_of (expr_pair x.value)) (e i) (c i).judgement.ty)
       by_bare (Some number) = λ i. record { found = only_faults (range_faults (span_of (expr_pair x.value)) (e i) number); value = number_in (e i) number }
 
   abbrev members_mentions : List Member → List Mention

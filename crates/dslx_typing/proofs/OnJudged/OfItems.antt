@@ -33,6 +33,7 @@ use Rattle.dslx_tree.specs.declared.item.Module.{Module}
 use Rattle.dslx_tree.specs.declared.item.Parameter.{Parameter}
 use Rattle.dslx_tree.specs.declared.type_expr.TypeExpr.{TypeExpr}
 use Rattle.dslx_meaning.specs.Environment.{Given}
+use Rattle.dslx_meaning.specs.Lists.{and_then}
 use Rattle.dslx_meaning.specs.Items.{as_function, item_named, name_of_definition}
 use Rattle.dslx_meaning.specs.declared.ty.DslxType.{DslxType}
 use Rattle.dslx_meaning.specs.declared.value.DslxValue.{DslxValue}
@@ -357,14 +358,14 @@ abbrev in_base : Option DslxType → Bare → Option DslxValue
 in_base None number = None
 in_base (Some t) number = number_value t number
 
-abbrev of_base : ConstantSeen → List Fault → ConstantFound
-of_base c wrong = record {
+abbrev of_base : Option DslxType → ConstantSeen → List Fault → ConstantFound
+of_base base c wrong = record {
   found = record { faults = c.judgement.faults ++ wrong; reached = c.judgement.reached };
-  value = if is_empty wrong then c.value else None;
+  value = and_then base (λ t. if is_empty wrong then c.value else None);
 }
 
 abbrev member_by : Sight → Option DslxType → ExprPair → Option Bare → ConstantFound
-member_by sight base pair None = of_base (constant_of sight pair) (wanted_faults (span_of pair) base (constant_of sight pair).judgement.ty)
+member_by sight base pair None = of_base base (constant_of sight pair) (wanted_faults (span_of pair) base (constant_of sight pair).judgement.ty)
 member_by sight base pair (Some number) = record { found = only_faults (range_faults (span_of pair) base number); value = in_base base number }
 
 found_member : (P : List ℕ → Bool) (sight : Sight) (base : Option DslxType) (m : Member) → MentionsReach P sight.known (mentioned m.value []) → AllNamed P (member_constant sight base m).found.reached

@@ -18,7 +18,7 @@ use Rattle.dslx_meaning.specs.Environment.{Env}
 use Rattle.dslx_meaning.specs.Meaning.{Meant, PatternMeant, Typing, call_meant, meant, meant_arg, meant_pattern, value_of, value_of_block, values_of, written_type}
 use Rattle.dslx_meaning.specs.declared.value.Bare.{Bare}
 use Rattle.dslx_meaning.specs.Rules.CallRules.{call_judged, receiving, receiving_if, sending, sending_if}
-use Rattle.dslx_meaning.specs.Rules.ControlRules.{same_ends, span_of_block, written_judged}
+use Rattle.dslx_meaning.specs.Rules.ControlRules.{same_ends, span_of_block}
 use Rattle.dslx_meaning.specs.Rules.ConstantRules.{constant_of}
 use Rattle.dslx_meaning.specs.Rules.Judging.{ExprPair, Judging, Sight, alone, breaks, no_token, settled, span_of}
 use Rattle.dslx_meaning.specs.Rules.PatternRules.{is_there}
@@ -283,10 +283,20 @@ block_claim x = by_value x.value
 -- ---- loops, numbers and fields
 
 loop_claim : (x : ForLevel Parts) (span : Span) → PartGives ((judging.loop (map_loop Parts judged (firsts judged meanings (claimed sound)) x)).1 span) (meaning.loop (map_loop Parts meanings (seconds judged meanings (claimed sound)) x))
-loop_claim x span sight env h fine =
-    loop_has span (span_of_block x.body.0) sight env x.from.0 x.to.0 x.start.0 x.from.1 x.to.1 x.start.1 (written_judged sight (map_loop Parts judged (firsts judged meanings (claimed sound)) x).ty) x.index.0 x.accumulator.0 x.index.1 x.accumulator.1 x.body.0 x.body.1
-    (expr_gives x.from) (expr_gives x.to) (expr_gives x.start) x.index.2.1.0.keeps x.accumulator.2.1.0.keeps x.body.2.1 h
-    (same_ends (constant_of sight x.from.0).judgement.ty (constant_of sight x.to.0).judgement.ty) refl fine
+loop_claim x span = by_type x.ty
+  where
+    with_type : Option TypePart → ForLevel Parts
+    with_type o = record { index = x.index; accumulator = x.accumulator; ty = o; from = x.from; to = x.to; body = x.body; start = x.start }
+
+    by_type : (o : Option TypePart) → PartGives ((judging.loop (map_loop Parts judged (firsts judged meanings (claimed sound)) (with_type o))).1 span) (meaning.loop (map_loop Parts meanings (seconds judged meanings (claimed sound)) (with_type o)))
+    by_type None = λ sight env h fine.
+        loop_has span (span_of_block x.body.0) sight env x.from.0 x.to.0 x.start.0 x.from.1 x.to.1 x.start.1 None None x.index.0 x.accumulator.0 x.index.1 x.accumulator.1 x.body.0 x.body.1
+        (expr_gives x.from) (expr_gives x.to) (expr_gives x.start) tt x.index.2.1.0.keeps x.accumulator.2.1.0.keeps x.body.2.1 h
+        (same_ends (constant_of sight x.from.0).judgement.ty (constant_of sight x.to.0).judgement.ty) refl fine
+    by_type (Some t) = λ sight env h fine.
+        loop_has span (span_of_block x.body.0) sight env x.from.0 x.to.0 x.start.0 x.from.1 x.to.1 x.start.1 (Some t.0) (Some t.1) x.index.0 x.accumulator.0 x.index.1 x.accumulator.1 x.body.0 x.body.1
+        (expr_gives x.from) (expr_gives x.to) (expr_gives x.start) t.2.1.0 x.index.2.1.0.keeps x.accumulator.2.1.0.keeps x.body.2.1 h
+        (same_ends (constant_of sight x.from.0).judgement.ty (constant_of sight x.to.0).judgement.ty) refl fine
 
 number_claim : (x : NumberLevel Parts) (span : Span) → NumberClaim ((judging.number (map_number Parts judged (firsts judged meanings (claimed sound)) x)).1 span) (meaning.number (map_number Parts meanings (seconds judged meanings (claimed sound)) x))
 number_claim x span = by_type x.ty

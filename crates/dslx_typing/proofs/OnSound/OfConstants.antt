@@ -16,7 +16,7 @@ use Rattle.dslx_meaning.specs.declared.value.DslxValue.{DslxValue}
 use Rattle.dslx_meaning.specs.declared.value.Bare.{Bare}
 use Rattle.dslx_meaning.specs.Rules.ConstantRules.{ConstantSeen, CountSeen, bare_count, bare_judged, constant_of, constant_or_bare, count_faults, count_number, count_of, count_type_faults, count_with, is_unsigned, is_zero, names_a_local, number_of_value, size_faults}
 use Rattle.dslx_meaning.specs.Rules.Judging.{ExprPair, Sight, alone, bare_of, breaks_if, one_and, plus_size, span_of}
-use Rattle.dslx_meaning.specs.Rules.OperatorRules.{bound_number, bounds_wrong, is_bits, is_negative_bound, slice_faults, slice_judged, unless_type}
+use Rattle.dslx_meaning.specs.Rules.OperatorRules.{bound_number, bounds_fall, is_bits, is_negative_bound, is_past, is_wrong_bound, slice_faults, slice_judged, unless_type}
 use Rattle.dslx_meaning.specs.Rules.PatternRules.{is_there}
 use Rattle.dslx_typing.specs.Typed.Complete.{IsFine}
 use Rattle.dslx_typing.specs.Typed.InSight.{place_of}
@@ -124,12 +124,14 @@ slice_has span sight env e a c x y z se sa sc h fine =
     let q = none_in_three own.faults from.judgement.faults to.judgement.faults p.0 in
     let k = all_in_three sight.known.is_sound own.reached from.judgement.reached to.judgement.reached s.reached in
     let types = (unless_type is_bits 18 span own.ty ++ unless_type is_bits 18 span from.judgement.ty) ++ unless_type is_bits 18 span to.judgement.ty in
-    let wrong = (is_negative_bound from || is_negative_bound to) || bounds_wrong own.ty (bound_number from) (bound_number to) in
+    let wrong = (is_wrong_bound own.ty from || is_wrong_bound own.ty to) || bounds_fall (bound_number from) (bound_number to) in
     let r = not_broken wrong 18 span (none_in types (breaks_if wrong 18 span) p.1).1 in
-    let negative = or_false (is_negative_bound from) (is_negative_bound to) (or_false (is_negative_bound from || is_negative_bound to) (bounds_wrong own.ty (bound_number from) (bound_number to)) r).0 in
+    let right = or_false (is_wrong_bound own.ty from) (is_wrong_bound own.ty to) (or_false (is_wrong_bound own.ty from || is_wrong_bound own.ty to) (bounds_fall (bound_number from) (bound_number to)) r).0 in
+    let low = or_false (is_negative_bound from) (is_past own.ty (bound_number from)) right.0 in
+    let high = or_false (is_negative_bound to) (is_past own.ty (bound_number to)) right.1 in
     let g = alone_has sight env e x se h q.0 k.0 in
-    let m = bound_has sight env a y sa h (record { faults = q.1; reached = k.1 }) negative.0 in
-    let n = bound_has sight env c z sc h (record { faults = q.2; reached = k.2 }) negative.1 in
+    let m = bound_has sight env a y sa h (record { faults = q.1; reached = k.1 }) low.0 in
+    let n = bound_has sight env c z sc h (record { faults = q.2; reached = k.2 }) high.0 in
     whole (types_at sight) sight.known span ty faults reached size (unsigned (n.0 - m.0)) (and_then (x.value env) (λ v. with_both (bound_of y env) (bound_of z env) (slice_value v))) s
     (λ d. and_then (g.1 d) (λ t. with_both (m.1 d) (n.1 d) (λ i j. Some (unsigned (j - i)))))
     (slice_gives (types_at sight) span sight e a c (x.value env) (bound_of y env) (bound_of z env) (given (types_at sight) own (x.value env) g) (bound_is sight env a y sa h) (bound_is sight env c z sc h))

@@ -16,8 +16,8 @@ use Rattle.dslx_meaning.specs.declared.ty.DslxType.{DslxType}
 use Rattle.dslx_meaning.specs.declared.value.DslxValue.{DslxValue}
 use Rattle.dslx_meaning.specs.Rules.Judging.{Known, Sight, Typed, Judgement, has_broken, with_typed}
 use Rattle.dslx_meaning.specs.Rules.Judgings.{PatternPair, PatternSeen}
-use Rattle.dslx_meaning.specs.Rules.ConstantRules.{ConstantSeen, size_faults}
-use Rattle.dslx_meaning.specs.Rules.ControlRules.{loop_annotation, loop_with, same_ends, turn_limit, turns_of}
+use Rattle.dslx_meaning.specs.Rules.ConstantRules.{size_faults}
+use Rattle.dslx_meaning.specs.Rules.ControlRules.{LoopSeen, annotated_type, index_type, loop_annotation, loop_faults, loop_parts_faults, loop_type, loop_with, same_ends, turn_limit, turns_of}
 use Rattle.dslx_meaning.specs.Rules.OperatorRules.{one_bit_type, unless_types}
 use Rattle.dslx_meaning.specs.Rules.PatternRules.{pattern_alone}
 use Rattle.dslx_meaning.specs.Rules.AggregateRules.{wanted_faults}
@@ -59,32 +59,31 @@ turn_gives sight k t u index acc im am j body env ik ak dk dt fi fa own same giv
     )
 
 -- a loop that breaks no rule, where its turns give what is accumulated its type
-pub for_gives : (types : Declarations) (span body_span : Span) (from to : ConstantSeen) (start : Judgement) (written : Option Judgement) (index acc : PatternSeen) (body : Judgement) (x y z : Option DslxValue)
-    (turn : DslxValue → DslxValue → Option DslxValue)
-    → GivesItsType types from.judgement x → GivesItsType types to.judgement y → GivesItsType types start z
-    → ((k t u : DslxType) → from.judgement.ty ≡ Some k → start.ty ≡ Some t → body.ty ≡ Some u → same_type t u ≡ true → has_broken index.faults ≡ false → has_broken acc.faults ≡ false
+pub for_gives : (types : Declarations) (span body_span : Span) (l : LoopSeen) (x y z : Option DslxValue) (turn : DslxValue → DslxValue → Option DslxValue)
+    → GivesItsType types l.from.judgement x → GivesItsType types l.to.judgement y → GivesItsType types l.start z
+    → ((k t u : DslxType) → l.from.judgement.ty ≡ Some k → l.start.ty ≡ Some t → l.body.ty ≡ Some u → same_type t u ≡ true → has_broken l.index.faults ≡ false → has_broken l.acc.faults ≡ false
     → IsDeclared types k → IsDeclared types t → TurnGives k t turn)
-    → GivesItsType types (loop_with span body_span from to start written index acc body) (and_then z (λ s. with_both (and_then x bits_of) (and_then y bits_of) (loop_over turn s)))
-for_gives types span body_span from to start written index acc body x y z turn gx gy gz turns t e =
-    let ends = (from.judgement.faults ++ to.judgement.faults) ++ start.faults in
-    let patterns = (ends ++ index.faults) ++ acc.faults in
-    let range = unless_types one_bit_type 26 span from.judgement.ty to.judgement.ty in
-    let annotation = loop_annotation span written (same_ends from.judgement.ty to.judgement.ty) start.ty in
-    let wanted = wanted_faults body_span start.ty body.ty in
-    let limit = turn_limit span.to (turns_of from.value to.value) in
-    let s = settled_type (and_then (same_ends from.judgement.ty to.judgement.ty) (λ i. and_then body.ty (λ t. start.ty)))
-    (((((patterns ++ body.faults) ++ range) ++ annotation) ++ wanted) ++ limit) t e in
-    let f = three_unbroken (((patterns ++ body.faults) ++ range) ++ annotation) wanted limit s.0 in
-    let g = three_unbroken (patterns ++ body.faults) range annotation f.0 in
-    let h = unbroken_parts patterns body.faults g.0 in
-    let p = three_unbroken ends index.faults acc.faults h.0 in
-    let i = and_then_type (same_ends from.judgement.ty to.judgement.ty) (λ i. and_then body.ty (λ t. start.ty)) t s.1 in
-    let u = and_then_type body.ty (λ t. start.ty) t i.2 in
-    let k = ends_alike from.judgement.ty to.judgement.ty i.0 i.1 in
+    → GivesItsType types (loop_with span body_span l) (and_then z (λ s. with_both (and_then x bits_of) (and_then y bits_of) (loop_over turn s)))
+for_gives types span body_span l x y z turn gx gy gz turns t e =
+    let ends = (l.from.judgement.faults ++ l.to.judgement.faults) ++ l.start.faults in
+    let patterns = (ends ++ l.index.faults) ++ l.acc.faults in
+    let range = unless_types one_bit_type 26 span l.from.judgement.ty l.to.judgement.ty in
+    let annotation = loop_annotation span l.written (index_type l) l.start.ty in
+    let wanted = wanted_faults body_span l.start.ty l.body.ty in
+    let limit = turn_limit span.to (turns_of l.from.value l.to.value) in
+    let s = settled_type (loop_type l) (loop_parts_faults l ++ loop_faults span body_span l) t e in
+    let g = unbroken_parts (loop_parts_faults l) (loop_faults span body_span l) s.0 in
+    let f = three_unbroken (range ++ annotation) wanted limit g.1 in
+    let h = unbroken_parts patterns l.body.faults g.0 in
+    let p = three_unbroken ends l.index.faults l.acc.faults h.0 in
+    let i = and_then_type (index_type l) (λ i. and_then l.body.ty (λ t. and_then (annotated_type l.written l.start.ty) (λ u. l.start.ty))) t s.1 in
+    let u = and_then_type l.body.ty (λ t. and_then (annotated_type l.written l.start.ty) (λ u. l.start.ty)) t i.2 in
+    let own = (and_then_type (annotated_type l.written l.start.ty) (λ u. l.start.ty) t u.2).2 in
+    let k = ends_alike l.from.judgement.ty l.to.judgement.ty i.0 i.1 in
     let first = gx i.0 k.1 in
-    let begin = gz t u.2 in
+    let begin = gz t own in
     loop_gives types i.0 k.0 t x y z turn first (gy k.0 k.2) k.3 begin
-    (turns i.0 t u.0 k.1 u.2 u.1 (test_holds (same_type t u.0) 9 body_span ((λ j. has_broken (wanted_faults body_span (sym u.2 j) (sym u.1 j))) ∙ f.1)) p.1 p.2 first.declared begin.declared)
+    (turns i.0 t u.0 k.1 own u.1 (test_holds (same_type t u.0) 9 body_span ((λ j. has_broken (wanted_faults body_span (sym own j) (sym u.1 j))) ∙ f.1)) p.1 p.2 first.declared begin.declared)
   where
     ends_alike : (m n : Option DslxType) (i : DslxType) → same_ends m n ≡ Some i → (l : DslxType) × (m ≡ Some i) × (n ≡ Some l) × (one_bit_type i l ≡ true)
     ends_alike None n i q = none_some i q

@@ -1,7 +1,9 @@
 -- What slices, parts of bits and fields give.
-use Rattle.std.proofs.Common.{◌≡◌, ◌&&◌, ◌||◌, ◌++◌, ◌-◌, ℕ, Bool, true, false, not, if◌then◌else◌, List, map, Option, Some, None, slice_get, refl, sym, ap, subst, ◌∙◌}
+use Rattle.std.proofs.Common.{◌≡◌, ◌&&◌, ◌||◌, ◌++◌, ◌-◌, ℕ, ◌<◌, ◌≤◌, Bool, true, false, not, if◌then◌else◌, List, map, Option, Some, None, slice_get, refl, sym, ap, subst, ◌∙◌}
 use mathlib.Core.Bool.{true≢false}
 use Rattle.std.specs.Prelude.{nat_lt, nat_le}
+use Rattle.std.proofs.lemmas.Bool.{leb-false, le-leb, ltb-false}
+use Rattle.std.proofs.lemmas.Bool.Decides.{Decides-ltb}
 use Rattle.xb_bits.specs.Word.{Word}
 use Rattle.xb_bits.specs.Operations as op
 use Rattle.xb_span.specs.declared.span.Span.{Span}
@@ -22,13 +24,13 @@ use Rattle.dslx_meaning.specs.declared.value.SignedWord.{SignedWord}
 use Rattle.dslx_meaning.specs.Rules.Judging.{Sight, Judgement, ExprPair, breaks_if, has_broken, alone}
 use Rattle.dslx_meaning.specs.Rules.ConstantRules.{constant_or_bare, is_unsigned, is_unsigned_kind}
 use Rattle.dslx_meaning.specs.Rules.PatternRules.{is_there}
-use Rattle.dslx_meaning.specs.Rules.OperatorRules.{is_bits, width_of_type, unless_type, bound_number, is_negative_bound, bounds_wrong, slice_faults, slice_judged, part_judged}
+use Rattle.dslx_meaning.specs.Rules.OperatorRules.{is_bits, width_of_type, unless_type, bound_number, is_negative_bound, is_past, bounds_fall, is_wrong_bound, slice_faults, slice_judged, part_judged}
 use Rattle.dslx_meaning.specs.Rules.AggregateRules.{struct_field_type, field_type, field_part_judged}
 use Rattle.dslx_typing.proofs.Lemmas.Laws.{is_bits_type, is_unsigned_value}
 use Rattle.dslx_typing.specs.Typed.Kinds.{is_of, each_of}
 use Rattle.dslx_typing.specs.Typed.Declared.{Declarations, IsDeclared, AllDeclared, DeclaresParts}
 use Rattle.dslx_typing.specs.Typed.Given.{GivesOf, GivesItsType}
-use Rattle.dslx_typing.proofs.OnTyped.Judged.{none_some, same_some, or_false, not_false, unbroken_parts, three_unbroken, rule_holds, test_holds, settled_type}
+use Rattle.dslx_typing.proofs.OnTyped.Judged.{none_some, same_some, or_false, unbroken_parts, three_unbroken, rule_holds, test_holds, settled_type}
 use Rattle.dslx_typing.proofs.OnTyped.OfTypes.{one_type, is_struct_of, bits_of_width}
 use Rattle.dslx_typing.proofs.OnTyped.OfWords.{dyn_slice_lies, slice_lies}
 use Rattle.dslx_typing.proofs.OnTyped.OfOperators.{bits_declared, unsigned_bits}
@@ -47,6 +49,13 @@ with_both_type (Some a) (Some b) f c e = (a, b, refl, refl, e)
 width_of_bits : (t : DslxType) (s : Bool) (w : ℕ) → t ≡ ty.Bits s w → width_of_type t ≡ w
 width_of_bits t s w e = subst (λ u. width_of_type u ≡ w) (sym e) (rw (type_views.outs-Bits s w) refl)
 
+-- bounds that are right: the first one is less, and the second one is within the width
+pub bounds_within : (t : DslxType) (i j : ℕ) → is_past (Some t) (Some j) ≡ false → bounds_fall (Some i) (Some j) ≡ false → (nat_lt i j && nat_le j (width_of_type t)) ≡ true
+bounds_within t i j past fall =
+    let less : i < j = leb-false j i fall in
+    let most : j ≤ width_of_type t = ltb-false (width_of_type t) j past in
+    λ d. (Decides-ltb i j).1 less d && le-leb j (width_of_type t) most d
+
 pub slice_gives : (types : Declarations) (span : Span) (sight : Sight) (e a c : ExprPair) (x : Option DslxValue) (m n : Option ℕ)
     → GivesItsType types (alone sight e) x → ((k : ℕ) → bound_number (constant_or_bare sight a) ≡ Some k → m ≡ Some k) → ((k : ℕ) → bound_number (constant_or_bare sight c) ≡ Some k → n ≡ Some k)
     → GivesItsType types (slice_judged span sight e a c) (and_then x (λ v. with_both m n (slice_value v)))
@@ -60,12 +69,13 @@ slice_gives types span sight e a c x m n gives first last t h =
     let q = and_then_type whole.ty (λ t. with_both (bound_number from) (bound_number to) (λ i j. Some (unsigned (j - i)))) t s.1 in
     let b = with_both_type (bound_number from) (bound_number to) (λ i j. Some (unsigned (j - i))) t q.2 in
     let kinds = (unless_type is_bits 18 span whole.ty ++ unless_type is_bits 18 span from.judgement.ty) ++ unless_type is_bits 18 span to.judgement.ty in
-    let wrong = (is_negative_bound from || is_negative_bound to) || bounds_wrong whole.ty (bound_number from) (bound_number to) in
+    let wrong = (is_wrong_bound whole.ty from || is_wrong_bound whole.ty to) || bounds_fall (bound_number from) (bound_number to) in
     let g = unbroken_parts kinds (breaks_if wrong 18 span) f.1 in
     let k = three_unbroken (unless_type is_bits 18 span whole.ty) (unless_type is_bits 18 span from.judgement.ty) (unless_type is_bits 18 span to.judgement.ty) g.0 in
-    let bounds = (or_false (is_negative_bound from || is_negative_bound to) (bounds_wrong whole.ty (bound_number from) (bound_number to)) (rule_holds wrong 18 span g.1)).1 in
+    let bounds = or_false (is_wrong_bound whole.ty from || is_wrong_bound whole.ty to) (bounds_fall (bound_number from) (bound_number to)) (rule_holds wrong 18 span g.1) in
+    let high = or_false (is_negative_bound to) (is_past whole.ty (bound_number to)) (or_false (is_wrong_bound whole.ty from) (is_wrong_bound whole.ty to) bounds.0).1 in
     sliced q.0 b.0 b.1 (gives q.0 q.1) (test_holds (is_bits q.0) 18 span (ap (λ o. has_broken (unless_type is_bits 18 span o)) (sym q.1) ∙ k.0))
-    (not_false (nat_lt b.0 b.1 && nat_le b.1 (width_of_type q.0)) ((λ i. bounds_wrong (sym q.1 i) (sym b.2 i) (sym b.3 i)) ∙ bounds))
+    (bounds_within q.0 b.0 b.1 ((λ i. is_past (sym q.1 i) (sym b.3 i)) ∙ high.1) ((λ i. bounds_fall (sym b.2 i) (sym b.3 i)) ∙ bounds.1))
     (first b.0 b.2) (last b.1 b.3) (same_some (unsigned (b.1 - b.0)) t b.4)
   where
     sliced : (w : DslxType) (i j : ℕ) → GivesOf types w x → is_bits w ≡ true → (nat_lt i j && nat_le j (width_of_type w)) ≡ true → m ≡ Some i → n ≡ Some j → unsigned (j - i) ≡ t

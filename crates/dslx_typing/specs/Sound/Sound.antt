@@ -12,8 +12,8 @@ use Rattle.dslx_meaning.specs.declared.value.Bare.{Bare}
 use Rattle.dslx_meaning.specs.declared.value.DslxValue.{DslxValue}
 use Rattle.dslx_meaning.specs.Rules.AggregateRules.{field_judged, is_some_tuple}
 use Rattle.dslx_meaning.specs.Rules.ConstantRules.{constant_of, is_empty}
-use Rattle.dslx_meaning.specs.Rules.ControlRules.{arm_judged, arms_faults, arms_reached, block_alone, is_exhaustive}
-use Rattle.dslx_meaning.specs.Rules.Judging.{ExprPair, Judgement, Judging, Sight, Typed, has_broken, with_typed, within}
+use Rattle.dslx_meaning.specs.Rules.ControlRules.{LoopSeen, arm_judged, arms_faults, arms_reached, block_alone, is_exhaustive, written_judged}
+use Rattle.dslx_meaning.specs.Rules.Judging.{ExprPair, Judgement, Judging, Sight, Typed, alone, has_broken, with_typed, within}
 use Rattle.dslx_meaning.specs.Rules.Judgings.{ArmSeen, BlockPair, FieldSeen, PatternJudging, PatternPair, PatternSeen, SightJudging, StatementJudging, TypePair}
 use Rattle.dslx_meaning.specs.Rules.PatternRules.{is_there, pattern_alone}
 use Rattle.dslx_typing.specs.Typed.Complete.{IsFine}
@@ -160,6 +160,20 @@ acc_seen sight index acc k t = pattern_alone false (with_typed sight (index_seen
 
 abbrev pub body_seen : Sight → PatternPair → PatternPair → BlockPair → Option DslxType → Option DslxType → Judgement
 body_seen sight index acc body k t = block_alone (with_typed sight (acc_seen sight index acc k t).locals) body
+
+-- the loop, where this is the type of what it counts
+abbrev pub loop_at : Sight → ExprPair → ExprPair → ExprPair → Option TypePair → PatternPair → PatternPair → BlockPair → Option DslxType → LoopSeen
+loop_at sight from to start written index acc body k =
+    let t = (alone sight start).ty in
+    record {
+      from = constant_of sight from;
+      to = constant_of sight to;
+      written = written_judged sight written;
+      start = alone sight start;
+      index = index_seen sight index k;
+      acc = acc_seen sight index acc k t;
+      body = body_seen sight index acc body k t;
+    }
 
 abbrev pub turn_of : PatternMeant → PatternMeant → Evaluates → Env → DslxValue → DslxValue → Option DslxValue
 turn_of im am f env i a = and_then (m.fits_at_place im i env) (λ inner. and_then (m.fits_at_place am a inner) f)

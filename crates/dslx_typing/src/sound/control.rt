@@ -6,10 +6,10 @@ ghost use Rattle.dslx_meaning.specs.Values.{bits_of};
 ghost use Rattle.dslx_meaning.specs.declared.ty.DslxType.{DslxType};
 ghost use Rattle.dslx_meaning.specs.Rules.ConstantRules.{constant_of};
 ghost use Rattle.dslx_meaning.specs.Rules.ControlRules.{behind, bound_type, if_judged, last_judged, let_with, loop_with, same_ends, statements_judged, written_judged};
-ghost use Rattle.dslx_meaning.specs.Rules.Judging.{ExprPair, Judgement, Sight, alone, one_and, plus_size, settled};
+ghost use Rattle.dslx_meaning.specs.Rules.Judging.{ExprPair, Sight, alone, one_and, plus_size, settled};
 ghost use Rattle.dslx_meaning.specs.Rules.Judgings.{BlockPair, PatternPair, StatementJudging, TypePair};
 ghost use Rattle.dslx_meaning.specs.Rules.PatternRules.{pattern_alone};
-ghost use Rattle.dslx_typing.specs.Sound.Sound.{BlockGives, ExprGives, ExprGivesIf, HasItsValue, StatementGives, StatementsGive, TypeStandsIf, acc_seen, body_seen, index_seen, turn_of};
+ghost use Rattle.dslx_typing.specs.Sound.Sound.{BlockGives, ExprGives, ExprGivesIf, HasItsValue, StatementGives, StatementsGive, TypeStandsIf, loop_at, turn_of};
 ghost use Rattle.dslx_typing.specs.Typed.Complete.{IsFine};
 ghost use Rattle.dslx_typing.specs.Typed.WellTyped.{IsWellTyped, PatternKeeps, types_at};
 ghost use Rattle.std.specs.Prelude.{List, Option, false, ◌++◌, ◌≡◌};
@@ -29,11 +29,10 @@ pub fn control_has_values_of_its_types()
         ((statements_judged ss on_top sight).reached ++ (last_judged (statements_judged ss on_top sight).sight o).reached)
         (one_and (plus_size (statements_judged ss on_top sight).size (last_judged (statements_judged ss on_top sight).sight o).size)))
         (statements_meant gs (last_meant x)) }
-    ensures turns { (span body_span : Span) (sight : Sight) (env : Env) (from to start : ExprPair) (x y z : Meant) (written : Option Judgement) (index acc : PatternPair) (im am : PatternMeant) (body : BlockPair) (f : Evaluates)
-        → ExprGives from x → ExprGives to y → ExprGives start z → PatternKeeps index.1 im.fits → PatternKeeps acc.1 am.fits → BlockGives body.1 f → IsWellTyped sight env
+    ensures turns { (span body_span : Span) (sight : Sight) (env : Env) (from to start : ExprPair) (x y z : Meant) (written : Option TypePair) (g : Option Typing) (index acc : PatternPair) (im am : PatternMeant) (body : BlockPair) (f : Evaluates)
+        → ExprGives from x → ExprGives to y → ExprGives start z → TypeStandsIf written g → PatternKeeps index.1 im.fits → PatternKeeps acc.1 am.fits → BlockGives body.1 f → IsWellTyped sight env
         → (ends : Option DslxType) → same_ends (constant_of sight from).judgement.ty (constant_of sight to).judgement.ty ≡ ends
-        → IsFine sight.known (loop_with span body_span (constant_of sight from) (constant_of sight to) (alone sight start) written (index_seen sight index ends) (acc_seen sight index acc ends (alone sight start).ty) (body_seen sight index acc body ends (alone sight start).ty))
-        → HasItsValue (types_at sight)
-        (loop_with span body_span (constant_of sight from) (constant_of sight to) (alone sight start) written (index_seen sight index ends) (acc_seen sight index acc ends (alone sight start).ty) (body_seen sight index acc body ends (alone sight start).ty))
+        → IsFine sight.known (loop_with span body_span (loop_at sight from to start written index acc body ends))
+        → HasItsValue (types_at sight) (loop_with span body_span (loop_at sight from to start written index acc body ends))
         (and_then (z.value env) (λ s. with_both (and_then (x.value env) bits_of) (and_then (y.value env) bits_of) (loop_over (turn_of im am f env) s))) }
 {}

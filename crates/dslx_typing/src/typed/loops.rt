@@ -7,10 +7,9 @@ ghost use Rattle.dslx_meaning.specs.Types.{same_type};
 ghost use Rattle.dslx_meaning.specs.Values.{bits_of};
 ghost use Rattle.dslx_meaning.specs.declared.ty.DslxType.{DslxType};
 ghost use Rattle.dslx_meaning.specs.declared.value.DslxValue.{DslxValue};
-ghost use Rattle.dslx_meaning.specs.Rules.ConstantRules.{ConstantSeen};
-ghost use Rattle.dslx_meaning.specs.Rules.ControlRules.{loop_with};
+ghost use Rattle.dslx_meaning.specs.Rules.ControlRules.{LoopSeen, loop_with};
 ghost use Rattle.dslx_meaning.specs.Rules.Judging.{Sight, Judgement, has_broken, with_typed};
-ghost use Rattle.dslx_meaning.specs.Rules.Judgings.{PatternPair, PatternSeen};
+ghost use Rattle.dslx_meaning.specs.Rules.Judgings.{PatternPair};
 ghost use Rattle.dslx_meaning.specs.Rules.PatternRules.{pattern_alone};
 ghost use Rattle.dslx_typing.specs.Typed.Declared.{Declarations, IsDeclared};
 ghost use Rattle.dslx_typing.specs.Typed.Given.{GivesItsType, TurnGives};
@@ -25,11 +24,10 @@ pub fn loops_give_values_of_their_types()
         → j.ty ≡ Some u → same_type t u ≡ true
         → ((inner : Env) → IsWellTyped (with_typed sight (turn_seen sight k t index acc).locals) inner → GivesItsType (types_at sight) j (body inner))
         → IsWellTyped sight env → TurnGives k t (λ i a. and_then (fits_at_place im i env) (λ inner. and_then (fits_at_place am a inner) body)) }
-    ensures whole { (types : Declarations) (span body_span : Span) (from to : ConstantSeen) (start : Judgement) (written : Option Judgement)
-        (index acc : PatternSeen) (body : Judgement) (x y z : Option DslxValue) (turn : DslxValue → DslxValue → Option DslxValue)
-        → GivesItsType types from.judgement x → GivesItsType types to.judgement y → GivesItsType types start z
-        → ((k t u : DslxType) → from.judgement.ty ≡ Some k → start.ty ≡ Some t → body.ty ≡ Some u → same_type t u ≡ true
-        → has_broken index.faults ≡ false → has_broken acc.faults ≡ false → IsDeclared types k → IsDeclared types t → TurnGives k t turn)
-        → GivesItsType types (loop_with span body_span from to start written index acc body)
+    ensures whole { (types : Declarations) (span body_span : Span) (l : LoopSeen) (x y z : Option DslxValue) (turn : DslxValue → DslxValue → Option DslxValue)
+        → GivesItsType types l.from.judgement x → GivesItsType types l.to.judgement y → GivesItsType types l.start z
+        → ((k t u : DslxType) → l.from.judgement.ty ≡ Some k → l.start.ty ≡ Some t → l.body.ty ≡ Some u → same_type t u ≡ true
+        → has_broken l.index.faults ≡ false → has_broken l.acc.faults ≡ false → IsDeclared types k → IsDeclared types t → TurnGives k t turn)
+        → GivesItsType types (loop_with span body_span l)
         (and_then z (λ s. with_both (and_then x bits_of) (and_then y bits_of) (loop_over turn s))) }
 {}
