@@ -37,6 +37,11 @@ abbrev pub is_in : List ℕ → List (List ℕ) → Bool
 is_in name [] = false
 is_in name (n ∷ ns) = if bytes_eq name n then true else is_in name ns
 
+-- how often the name stands among these
+abbrev pub times_in : List ℕ → List (List ℕ) → ℕ
+times_in name [] = 0
+times_in name (n ∷ ns) = if bytes_eq name n then suc (times_in name ns) else times_in name ns
+
 -- the place of the first name that is this one
 abbrev pub place_in : List ℕ → List (List ℕ) → Option ℕ
 place_in name [] = None

@@ -22,6 +22,8 @@ pub mod Mentions
 pub mod ModuleRules
 -- names
 pub mod NameRules
+-- items of one name
+pub mod Namesakes
 -- how many procs and channels a network has
 pub mod NetworkLimits
 -- the judgement of each tree

@@ -29,6 +29,7 @@ use Rattle.dslx_meaning.specs.Rules.CallRules.{NumbersSeen, numbers_seen}
 use Rattle.dslx_meaning.specs.Rules.NodeRules.{expr_pair}
 use Rattle.dslx_meaning.specs.Rules.ItemRules.{Found, nothing_found, and_found, only_faults, all_found, item_sight, judged_type, judged_inner, function_seen, constant_seen, alias_seen, struct_seen, enum_seen, enum_member_value}
 use Rattle.dslx_meaning.specs.Rules.ProcRules.{proc_seen}
+use Rattle.dslx_meaning.specs.Rules.Namesakes.{told_apart}
 
 -- ---- what is known of items, from what is known of those that they mention
 
@@ -193,7 +194,7 @@ top_found known (Some p) = with_numbers (numbers_seen known p.name.name [] [] []
 abbrev pub outside_instances : Module → Option (List ℕ) → Found
 outside_instances m top =
     let known = known_of m in
-    and_found (only_faults (item_names [] m.items ++ top_faults m top (top_proc m top)))
+    and_found (only_faults (top_faults m top (top_proc m top)))
     (and_found (items_found known m.items) (top_found known (top_proc m top)))
 
 -- the instances that are checked: functions and procs without number parameters, the top's, and all that is reached
@@ -208,11 +209,15 @@ instance_limit is = if nat_lt 4096 (length is) then Whole (record { what = what.
 abbrev pub instances_faults : Known → List Instance → List Fault
 instances_faults known is = flat_map (λ i. (found_of_instance known i).faults) is
 
--- all rules that the parts of a module break, and all limits that they pass
-abbrev pub faults_of : Module → Option (List ℕ) → List Fault
-faults_of m top =
+-- all that the items break and pass
+abbrev pub items_faults : Module → Option (List ℕ) → List Fault
+items_faults m top =
     let instances = instances_of m top in
     instance_limit instances ++ (outside_instances m top).faults ++ instances_faults (known_of m) instances
+
+-- all rules that the parts of a module break, and all limits that they pass. Items of one name are told apart
+abbrev pub faults_of : Module → Option (List ℕ) → List Fault
+faults_of m top = item_names [] m.items ++ items_faults (told_apart m) top
 
 -- the fault that is named, if there is one
 abbrev pub first_fault : Module → Option (List ℕ) → Option Fault

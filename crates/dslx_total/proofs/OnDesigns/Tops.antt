@@ -11,12 +11,12 @@ use Rattle.dslx_meaning.specs.Lists.{and_then}
 use Rattle.dslx_meaning.specs.Network.{top_numbers, top_proc}
 use Rattle.dslx_meaning.specs.declared.value.DslxValue.{DslxValue}
 use Rattle.dslx_meaning.specs.Rules.Judging.{Instance, breaks}
-use Rattle.dslx_meaning.specs.Rules.ModuleRules.{faults_of, ident_of, instance_limit, instances_faults, instances_of, item_names, items_found, known_of, not_a_proc, nowhere, outside_instances, top_faults, top_found}
+use Rattle.dslx_meaning.specs.Rules.ModuleRules.{faults_of, ident_of, instance_limit, instances_faults, instances_of, items_found, known_of, not_a_proc, nowhere, outside_instances, top_faults, top_found}
 use Rattle.dslx_typing.specs.Laws.Recursion.{HasNoCycle}
 use Rattle.dslx_typing.specs.Judged.Closed.{ends_within}
 use Rattle.dslx_typing.proofs.Lemmas.Judged.{every_item}
 use Rattle.dslx_typing.proofs.Lemmas.Sound.{none_in, some_fault}
-use Rattle.dslx_typing.proofs.Lemmas.Accepted.{one_of_these}
+use Rattle.dslx_typing.proofs.Lemmas.Accepted.{one_of_these, own_faults}
 use Rattle.dslx_core.specs.Lowering.Functions.{CoreInstance}
 use Rattle.dslx_core.specs.Networks.Procs.{procs_from}
 use Rattle.dslx_total.specs.Families.EachPlaced.{NextBecomes}
@@ -76,11 +76,10 @@ no_proc_faulty (Some x) e = some_fault (breaks 32 (ident_of x).span) [] e
 pub top_there : (m : Module) (top : Option (List ℕ)) → faults_of m top ≡ [] → (p : Proc) × (top_proc m top ≡ Some p)
 top_there m top e =
     let known = known_of m in
-    let names = item_names [] m.items in
     let tops = top_faults m top (top_proc m top) in
     let others = (items_found known m.items).faults ++ (top_found known (top_proc m top)).faults in
-    let outside = (none_in (instance_limit (instances_of m top)) (outside_instances m top).faults (none_in (instance_limit (instances_of m top) ++ (outside_instances m top).faults) (instances_faults known (instances_of m top)) e).0).1 in
-    by_top top (top_proc m top) refl (none_in names tops (none_in (names ++ tops) others outside).0).1
+    let outside = (none_in (instance_limit (instances_of m top)) (outside_instances m top).faults (none_in (instance_limit (instances_of m top) ++ (outside_instances m top).faults) (instances_faults known (instances_of m top)) (own_faults m top e)).0).1 in
+    by_top top (top_proc m top) refl (none_in tops others outside).0
   where
     by_top : (t : Option (List ℕ)) (o : Option Proc) → top_proc m top ≡ o → top_faults m t o ≡ [] → (p : Proc) × (top_proc m top ≡ Some p)
     by_top t (Some p) q f = (p, q)

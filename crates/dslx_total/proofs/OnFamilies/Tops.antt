@@ -15,14 +15,14 @@ use Rattle.dslx_meaning.specs.declared.value.DslxValue.{DslxValue}
 use Rattle.dslx_meaning.specs.Rules.CallRules.{bound_by_number, declared_type, default_value, numbers_seen, of_type, resolved_value, is_wrong_number, unknown_behind}
 use Rattle.dslx_meaning.specs.Rules.Judging.{Instance, Known, breaks}
 use Rattle.dslx_meaning.specs.Rules.PatternRules.{is_there}
-use Rattle.dslx_meaning.specs.Rules.ModuleRules.{is_reached, item_names, items_found, lacks_default, outside_instances, top_faults, top_found}
+use Rattle.dslx_meaning.specs.Rules.ModuleRules.{is_reached, items_found, lacks_default, outside_instances, top_faults, top_found}
 use Rattle.dslx_typing.proofs.Lemmas.Laws.{and_true}
 use Rattle.dslx_typing.proofs.Lemmas.Sound.{all_in, none_in, some_fault}
 use Rattle.dslx_typing.specs.Typed.Complete.{IsComplete}
 use Rattle.dslx_typing.specs.Typed.Numbers.{AllOwn}
 use Rattle.dslx_typing.proofs.Lemmas.Typed.{none_some, or_false}
 use Rattle.dslx_typing.specs.Complete.Standing.{AreTyped}
-use Rattle.dslx_typing.proofs.Lemmas.Accepted.{IsAccepted, all_empty}
+use Rattle.dslx_typing.proofs.Lemmas.Accepted.{IsAccepted, all_empty, names_apart}
 use Rattle.dslx_total.specs.Families.Plain.{ProcsBindNoConstant}
 use Rattle.dslx_total.proofs.OnFamilies.LastProc.{last_named}
 use Rattle.dslx_total.proofs.OnFamilies.Reached.{IsProcOf, K, Listed, all, all_listed}
@@ -57,29 +57,20 @@ module _ (m : Module) (top : Option (List ℕ)) (s : IsAccepted m top) (procs : 
   test i = is_reached i (all m top s)
 
   -- what is found outside instances, by parts
-  names_apart : item_names [] m.items ≡ []
-  names_apart =
-      let names = item_names [] m.items in
-      let tops = top_faults m top (top_proc m top) in
-      (none_in names tops (none_in (names ++ tops) ((items_found known m.items).faults ++ (top_found known (top_proc m top)).faults) (all_empty m top s).0).0).0
-
   top_right : top_faults m top (top_proc m top) ≡ []
-  top_right =
-      let names = item_names [] m.items in
-      let tops = top_faults m top (top_proc m top) in
-      (none_in names tops (none_in (names ++ tops) ((items_found known m.items).faults ++ (top_found known (top_proc m top)).faults) (all_empty m top s).0).0).1
+  top_right = (none_in (top_faults m top (top_proc m top)) ((items_found known m.items).faults ++ (top_found known (top_proc m top)).faults) (all_empty m top s).0).0
 
   top_empty : (top_found known (top_proc m top)).faults ≡ []
   top_empty =
-      let names = item_names [] m.items ++ top_faults m top (top_proc m top) in
-      (none_in (items_found known m.items).faults (top_found known (top_proc m top)).faults (none_in names ((items_found known m.items).faults ++ (top_found known (top_proc m top)).faults) (all_empty m top s).0).1).1
+      let tops = top_faults m top (top_proc m top) in
+      (none_in (items_found known m.items).faults (top_found known (top_proc m top)).faults (none_in tops ((items_found known m.items).faults ++ (top_found known (top_proc m top)).faults) (all_empty m top s).0).1).1
 
   top_listed : Listed m top s (top_found known (top_proc m top)).reached
   top_listed = (all_in test (items_found known m.items).reached (top_found known (top_proc m top)).reached (all_listed m top s (outside_instances m top).reached s.outside)).1
 
   named_by : (o : Option (List ℕ)) (p : Proc) → top_proc m o ≡ Some p → (name : List ℕ) × (as_proc (item_named name m.items) ≡ Some p)
   named_by (Some name) p e = (name, e)
-  named_by None p e = elim (last_named [] m.items None p names_apart e) [
+  named_by None p e = elim (last_named [] m.items None p (names_apart m top s.faults) e) [
     | inl q ↦ none_some p q
     | inr q ↦ (p.name.name, ap as_proc q.0)
   ]

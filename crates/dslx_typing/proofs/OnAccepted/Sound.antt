@@ -12,7 +12,7 @@ use Rattle.dslx_meaning.specs.Network.{top_proc}
 use Rattle.dslx_meaning.specs.Rules.ConstantRules.{is_empty}
 use Rattle.dslx_meaning.specs.Rules.Judging.{Instance, Known, same_instance}
 use Rattle.dslx_meaning.specs.Rules.Mentions.{mentions_of}
-use Rattle.dslx_meaning.specs.Rules.ModuleRules.{faults_of, found_of_instance, instance_limit, instances_faults, instances_of, is_reached, item_found, item_names, items_found, known_of, outside_instances, top_faults, top_found}
+use Rattle.dslx_meaning.specs.Rules.ModuleRules.{faults_of, found_of_instance, instance_limit, instances_faults, instances_of, is_reached, item_found, items_found, known_of, outside_instances, top_faults, top_found}
 use Rattle.dslx_typing.specs.Laws.Recursion.{HasNoCycle}
 use Rattle.dslx_typing.proofs.Lemmas.Typed.{none_some, same_some}
 use Rattle.dslx_typing.specs.Judged.Closed.{IsOneOf, ReachOneAnother}
@@ -22,6 +22,7 @@ use Rattle.dslx_typing.specs.Depends.Settled.{BindsNoConstant}
 use Rattle.dslx_typing.proofs.Lemmas.Depends.{every_item_passes, is_proc_item, passes, passes_closed, passes_next, stage}
 use Rattle.dslx_typing.specs.Complete.Standing.{IsFineFound}
 use Rattle.dslx_typing.specs.Known.Fine.{EachItemFine}
+use Rattle.dslx_typing.proofs.OnAccepted.Namesakes.{own_faults}
 use Rattle.dslx_typing.proofs.OnAccepted.OneInstance.{one_instance}
 
 -- ---- lists
@@ -90,12 +91,12 @@ module _ (m : Module) (top : Option (List ℕ)) (s : IsAccepted m top) where
   -- nothing is found outside instances, nor in them
   pub all_empty : ((outside_instances m top).faults ≡ []) × (instances_faults K instances ≡ [])
   all_empty =
-      let front = both_empty (instance_limit instances ++ (outside_instances m top).faults) (instances_faults K instances) s.faults in
+      let front = both_empty (instance_limit instances ++ (outside_instances m top).faults) (instances_faults K instances) (own_faults m top s.faults) in
       ((both_empty (instance_limit instances) (outside_instances m top).faults front.0).1, front.1)
 
   items_empty : (items_found K m.items).faults ≡ []
   items_empty =
-      let own = item_names [] m.items ++ top_faults m top (top_proc m top) in
+      let own = top_faults m top (top_proc m top) in
       let rest = both_empty own ((items_found K m.items).faults ++ (top_found K (top_proc m top)).faults) all_empty.0 in
       (both_empty (items_found K m.items).faults (top_found K (top_proc m top)).faults rest.1).0
 
