@@ -8,3 +8,5 @@ pub mod Joined
 pub mod OfItems
 -- instances that reach none but one another
 pub mod Closed
+-- the least that has some
+pub mod Least

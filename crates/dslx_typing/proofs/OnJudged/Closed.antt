@@ -32,7 +32,7 @@ pub in_second : (i : Instance) (xs ys : List Instance) → IsOneOf i ys → IsOn
 in_second i [] ys h = h
 in_second i (x ∷ xs) ys h = inr (in_second i xs ys h)
 
-in_either : (i : Instance) (xs ys : List Instance) → IsOneOf i (xs ++ ys) → IsOneOf i xs ⊎ IsOneOf i ys
+pub in_either : (i : Instance) (xs ys : List Instance) → IsOneOf i (xs ++ ys) → IsOneOf i xs ⊎ IsOneOf i ys
 in_either i [] ys h = inr h
 in_either i (x ∷ xs) ys (inl e) = inl (inl e)
 in_either i (x ∷ xs) ys (inr h) = elim (in_either i xs ys h) [
@@ -46,12 +46,12 @@ in_flat f i j (x ∷ xs) (inl e) k = in_first j (f x) (flat_map f xs) (subst (λ
 in_flat f i j (x ∷ xs) (inr h) k = in_second j (f x) (flat_map f xs) (in_flat f i j xs h k)
 
 -- the one by which it is there
-record IsReachedBy (f : Instance → List Instance) (j : Instance) (is : List Instance) : Type 0 where
-  by : Instance
-  among : IsOneOf by is
-  reached : IsOneOf j (f by)
+pub record IsReachedBy (f : Instance → List Instance) (j : Instance) (is : List Instance) : Type 0 where
+  pub by : Instance
+  pub among : IsOneOf by is
+  pub reached : IsOneOf j (f by)
 
-from_flat : (f : Instance → List Instance) (j : Instance) (is : List Instance) → IsOneOf j (flat_map f is) → IsReachedBy f j is
+pub from_flat : (f : Instance → List Instance) (j : Instance) (is : List Instance) → IsOneOf j (flat_map f is) → IsReachedBy f j is
 from_flat f j [] h = absurd h
 from_flat f j (x ∷ xs) h = elim (in_either j (f x) (flat_map f xs) h) [
   | inl p ↦ record { by = x; among = inl refl; reached = p }
@@ -74,7 +74,7 @@ numbers_itself (v ∷ vs) = λ i. value_equals_itself v i && numbers_itself vs i
 itself : (i : Instance) → same_instance i i ≡ true
 itself i = λ k. (bytes_eq-Decides i.name i.name).1 refl k && numbers_itself i.numbers k
 
-one_reached : (i : Instance) (is : List Instance) → IsOneOf i is → is_reached i is ≡ true
+pub one_reached : (i : Instance) (is : List Instance) → IsOneOf i is → is_reached i is ≡ true
 one_reached i [] h = absurd h
 one_reached i (x ∷ xs) (inl e) = or_first (same_instance i x) (is_reached i xs) (subst (λ z. same_instance i z ≡ true) e (itself i))
 one_reached i (x ∷ xs) (inr h) = or_second (same_instance i x) (is_reached i xs) (one_reached i xs h)
@@ -100,7 +100,7 @@ not_before i xs ys e = by_xs (is_reached i xs) refl
 abbrev with_one : List Instance → Instance → Bool → List Instance
 with_one found i b = if b then found else found ++ i ∷ []
 
-still_reached : (i : Instance) (found is : List Instance) → is_reached i found ≡ true → is_reached i (add_new found is) ≡ true
+pub still_reached : (i : Instance) (found is : List Instance) → is_reached i found ≡ true → is_reached i (add_new found is) ≡ true
 still_reached i found [] e = e
 still_reached i found (x ∷ is) e = still_reached i (with_one found x (is_reached x found)) is (by_test (is_reached x found))
   where
@@ -108,7 +108,7 @@ still_reached i found (x ∷ is) e = still_reached i (with_one found x (is_reach
     by_test true = e
     by_test false = reached_before i found (x ∷ []) e
 
-all_added : (i : Instance) (found is : List Instance) → IsOneOf i is → is_reached i (add_new found is) ≡ true
+pub all_added : (i : Instance) (found is : List Instance) → IsOneOf i is → is_reached i (add_new found is) ≡ true
 all_added i found [] h = absurd h
 all_added i found (x ∷ is) (inl e) = still_reached i (with_one found x (is_reached x found)) is (subst (λ z. is_reached z (with_one found x (is_reached x found)) ≡ true) (sym e) (by_test (is_reached x found) refl))
   where
@@ -118,10 +118,10 @@ all_added i found (x ∷ is) (inl e) = still_reached i (with_one found x (is_rea
 all_added i found (x ∷ is) (inr h) = all_added i (with_one found x (is_reached x found)) is h
 
 -- one that is there was there, or is new
-abbrev IsOldOrNew : Instance → List Instance → List Instance → Type 0
+abbrev pub IsOldOrNew : Instance → List Instance → List Instance → Type 0
 IsOldOrNew i found is = IsOneOf i found ⊎ (IsOneOf i is × (is_reached i found ≡ false))
 
-old_or_new : (i : Instance) (found is : List Instance) → IsOneOf i (add_new found is) → IsOldOrNew i found is
+pub old_or_new : (i : Instance) (found is : List Instance) → IsOneOf i (add_new found is) → IsOldOrNew i found is
 old_or_new i found [] h = inl h
 old_or_new i found (x ∷ is) h = by_test (is_reached x found) refl (old_or_new i (with_one found x (is_reached x found)) is h)
   where
@@ -176,7 +176,7 @@ every_item m free name x e = ends_so m (length m.items) name (by_kind x e)
 
 -- ---- what is reached in so many steps
 
-abbrev reached_from : Known → Instance → List Instance
+abbrev pub reached_from : Known → Instance → List Instance
 reached_from known i = (found_of_instance known i).reached
 
 -- each one reaches none but these, or its chains are short
@@ -216,7 +216,7 @@ pub reaching_ends : (m : Module) → HasNoCycle m → (a : ℕ) (start : List In
 reaching_ends m free a start = steps_end m a (length m.items) start (at_start m free a start)
 
 -- what is there stays there
-steps_keep : (known : Known) (i : Instance) (n : ℕ) (found : List Instance) → is_reached i found ≡ true → is_reached i (reached_within known n found) ≡ true
+pub steps_keep : (known : Known) (i : Instance) (n : ℕ) (found : List Instance) → is_reached i found ≡ true → is_reached i (reached_within known n found) ≡ true
 steps_keep known i zero found e = e
 steps_keep known i (suc n) found e = steps_keep known i n (reached_next known found) (still_reached i found (flat_map (reached_from known) found) e)
 

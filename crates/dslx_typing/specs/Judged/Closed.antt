@@ -16,6 +16,14 @@ IsOneOf i (x ∷ xs) = (i ≡ x) ⊎ IsOneOf i xs
 abbrev pub ReachOneAnother : Known → List Instance → Type 0
 ReachOneAnother known is = (i j : Instance) → IsOneOf i is → IsOneOf j (found_of_instance known i).reached → is_reached j is ≡ true
 
+-- the least instances that have these and all that they themselves reach: a test that these pass, and what is reached by those that
+-- pass it, is passed by each
+pub record IsLeastClosed (known : Known) (start all : List Instance) : Type 0 where
+  pub starts : (i : Instance) → IsOneOf i start → is_reached i all ≡ true
+  pub closed : ReachOneAnother known all
+  pub least : (P : Instance → Bool) → ((i : Instance) → IsOneOf i start → P i ≡ true)
+      → ((i j : Instance) → P i ≡ true → IsOneOf j (found_of_instance known i).reached → P j ≡ true) → (i : Instance) → IsOneOf i all → P i ≡ true
+
 -- no chain from this item has more than so many items
 abbrev pub ends_within : Module → ℕ → List ℕ → Bool
 ends_within m zero name = false

@@ -1,10 +1,10 @@
-ghost use Rattle.dslx_typing.specs.Judged.Closed.{IsOneOf, ReachOneAnother};
+ghost use Rattle.dslx_typing.specs.Judged.Closed.{IsLeastClosed, IsOneOf, ReachOneAnother};
 ghost use Rattle.dslx_typing.specs.Judged.Reached.{AllNamed, IsClosed, MentionsReach};
 ghost use Rattle.dslx_typing.specs.Laws.Recursion.{HasNoCycle};
 ghost use Rattle.dslx_meaning.specs.Items.{item_named};
 ghost use Rattle.dslx_meaning.specs.Rules.Judging.{Instance, Sight};
 ghost use Rattle.dslx_meaning.specs.Rules.Mentions.{mentioned, mentioned_in_block, mentioned_in_type, mentions_of, names_meant};
-ghost use Rattle.dslx_meaning.specs.Rules.ModuleRules.{found_of_instance, instances_of, is_reached, item_found, known_of, known_within, outside_instances, reached_within};
+ghost use Rattle.dslx_meaning.specs.Rules.ModuleRules.{found_of_instance, instances_of, is_reached, item_found, known_of, known_within, outside_instances, own_instances, reached_within};
 ghost use Rattle.dslx_meaning.specs.Rules.NodeRules.{block_pair, expr_pair, type_pair};
 ghost use Rattle.dslx_tree.specs.declared.block.Block.{Block};
 ghost use Rattle.dslx_tree.specs.declared.expr.Expr.{Expr};
@@ -12,7 +12,7 @@ ghost use Rattle.dslx_tree.specs.declared.type_expr.TypeExpr.{TypeExpr};
 ghost use Rattle.dslx_tree.specs.declared.item.Definition.{Definition};
 ghost use Rattle.dslx_tree.specs.declared.item.Module.{Module};
 ghost use Rattle.std.specs.List.{list_all};
-ghost use Rattle.std.specs.Prelude.{◌≡◌, Bool, List, ℕ, Option, Some, true, length};
+ghost use Rattle.std.specs.Prelude.{◌≡◌, ◌++◌, Bool, List, ℕ, Option, Some, true, length};
 
 /// What a part of a text reaches is of functions that it mentions, or is reached by their number parameters: a test that
 /// the names of those pass is passed by the name of each instance that the part reaches, whatever is bound.
@@ -39,4 +39,11 @@ pub fn instances_reach_one_another()
     ensures any { (m : Module) → HasNoCycle m → (n : ℕ) (start : List Instance) → ReachOneAnother (known_within m n) (reached_within (known_within m n) (length m.items) start) }
     ensures text { (m : Module) (top : Option (List ℕ)) → HasNoCycle m → ReachOneAnother (known_of m) (instances_of m top) }
     ensures outside { (m : Module) (top : Option (List ℕ)) (i : Instance) → IsOneOf i (outside_instances m top).reached → is_reached i (instances_of m top) ≡ true }
+{}
+
+/// And they are the least that have the instances of functions and procs without number parameters, what is reached outside all
+/// instances, and all that they reach themselves.
+pub fn what_is_checked_is_least()
+    ensures any { (m : Module) → HasNoCycle m → (n : ℕ) (start : List Instance) → IsLeastClosed (known_within m n) start (reached_within (known_within m n) (length m.items) start) }
+    ensures text { (m : Module) (top : Option (List ℕ)) → HasNoCycle m → IsLeastClosed (known_of m) (own_instances m.items ++ (outside_instances m top).reached) (instances_of m top) }
 {}
