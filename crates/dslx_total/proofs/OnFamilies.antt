@@ -10,6 +10,8 @@ pub mod Spawns
 pub mod There
 -- families of procs
 pub mod Families
+-- how many procs and channels they have
+pub mod Counts
 -- the last proc of a text
 pub mod LastProc
 -- the top proc

@@ -2,6 +2,7 @@
 #![tactic(auto)]
 
 pub mod configs;
+pub mod counts;
 pub mod designs;
 pub mod expressions;
 pub mod families;

@@ -62,12 +62,12 @@ abbrev pub proc_count : Module → Meanings → List Counted → Proc → List D
 proc_count m items counted p numbers =
     and_count (record { procs = 1; channels = 0 }) (makings_count m items counted (instance_env items p.parameters numbers) p.config.makings)
 
+abbrev pub count_of_proc : Module → Meanings → List Counted → List DslxValue → Option Proc → Count
+count_of_proc m items counted numbers None = nobody
+count_of_proc m items counted numbers (Some p) = proc_count m items counted p numbers
+
 abbrev pub instance_count : Module → Meanings → List Counted → Instance → Count
-instance_count m items counted i = of_proc (as_proc (item_named i.name m.items))
-  where
-    of_proc : Option Proc → Count
-    of_proc None = nobody
-    of_proc (Some p) = proc_count m items counted p i.numbers
+instance_count m items counted i = count_of_proc m items counted i.numbers (as_proc (item_named i.name m.items))
 
 -- these instances, by chains of at most so many spawns
 abbrev pub counted_within : Module → Meanings → List Instance → ℕ → List Counted
@@ -80,7 +80,7 @@ abbrev pub network_count : Module → Option (List ℕ) → Proc → Count
 network_count m top p =
     let items = meanings_of m in
     and_count (record { procs = 0; channels = length p.config.ends })
-    (proc_count m items (counted_within m items (instances_of m top) (length m.items)) p (top_numbers items p))
+    (count_in (counted_within m items (instances_of m top) (length m.items)) (record { name = p.name.name; numbers = top_numbers items p }))
 
 -- ---- limits
 

@@ -4,4 +4,4 @@ pub use Rattle.dslx_typing.proofs.OnJudged.Joined.{expression_reaches, block_of_
 pub use Rattle.dslx_typing.proofs.OnJudged.Parts.{join, parts, three_parts, unmarked}
 pub use Rattle.dslx_typing.proofs.OnJudged.OfItems.{arguments_reach, found_ends, found_parameters, parameters_reach, whole_is, item_so_named, function_is, meant_reach, instances_reach, items_reach, default_reached}
 pub use Rattle.dslx_typing.proofs.OnJudged.OfCalls.{given_reach, numbers_reach}
-pub use Rattle.dslx_typing.proofs.OnJudged.Closed.{all_weaker, longer, closed, every_item, in_first, in_second}
+pub use Rattle.dslx_typing.proofs.OnJudged.Closed.{all_weaker, longer, closed, every_item, in_first, in_second, itself}

@@ -71,7 +71,7 @@ numbers_itself : (vs : List DslxValue) → pairwise equal_value vs vs ≡ true
 numbers_itself [] = refl
 numbers_itself (v ∷ vs) = λ i. value_equals_itself v i && numbers_itself vs i
 
-itself : (i : Instance) → same_instance i i ≡ true
+pub itself : (i : Instance) → same_instance i i ≡ true
 itself i = λ k. (bytes_eq-Decides i.name i.name).1 refl k && numbers_itself i.numbers k
 
 pub one_reached : (i : Instance) (is : List Instance) → IsOneOf i is → is_reached i is ≡ true

@@ -1,0 +1,154 @@
+-- How many procs and channels a family has: as many as are counted of its first proc's instance.
+use Rattle.std.proofs.Common.{◌≡◌, inl, inr, ◌+◌, ◌++◌, ℕ, zero, suc, length, Bool, true, false, if◌then◌else◌, List, [], ◌∷◌, map, Option, Some, refl, sym, ap, ◌∙◌, arith}
+use mathlib.Core.Bool.{true≢false}
+use Rattle.std.specs.Prelude.{flat_map}
+use Rattle.std.proofs.lemmas.List.{length-append}
+use Rattle.dslx_tree.specs.declared.item.Definition.TheVariants as d
+use Rattle.dslx_tree.specs.declared.item.Module.{Module}
+use Rattle.dslx_tree.specs.declared.process.Making.{Making}
+use Rattle.dslx_tree.specs.declared.process.Making.TheVariants as making
+use Rattle.dslx_tree.specs.declared.process.Proc.{Proc}
+use Rattle.dslx_tree.specs.declared.process.Spawn.{Spawn}
+use Rattle.dslx_meaning.specs.Environment.{Env}
+use Rattle.dslx_meaning.specs.Items.{item_named, numbers_bound}
+use Rattle.dslx_meaning.specs.Lists.{and_then}
+use Rattle.dslx_meaning.specs.Network.{Family, Held, Placing, as_proc, channels_of_ends, child_path, children, handed_over, made_chans, made_ends, place_within, spawn_numbers, spawned, spawned_at}
+use Rattle.dslx_meaning.specs.declared.value.DslxValue.{DslxValue}
+use Rattle.dslx_meaning.specs.Rules.Judging.{Instance, Known, Sight, same_instance}
+use Rattle.dslx_meaning.specs.Rules.Mentions.{making_mentions, parameter_names}
+use Rattle.dslx_meaning.specs.Rules.ModuleRules.{is_reached}
+use Rattle.dslx_meaning.specs.Rules.NetworkLimits.{Count, Counted, and_count, count_in, count_of_numbers, count_of_proc, counted_within, instance_count, makings_count, proc_count, spawn_count}
+use Rattle.dslx_meaning.specs.Rules.ProcRules.{Made, channel_found, ends_found, made_at_start, made_with, makings_found, proc_sight, spawn_found}
+use Rattle.dslx_typing.specs.Judged.Closed.{IsOneOf, ends_within}
+use Rattle.dslx_typing.proofs.Lemmas.Judged.{itself}
+use Rattle.dslx_typing.proofs.Lemmas.Sound.{all_in, none_in}
+use Rattle.dslx_typing.proofs.Lemmas.Depends.{meant_parts}
+use Rattle.dslx_typing.specs.Typed.Complete.{IsComplete}
+use Rattle.dslx_typing.specs.Complete.Standing.{AreTyped}
+use Rattle.dslx_typing.proofs.Lemmas.Complete.{item_env}
+use Rattle.dslx_typing.proofs.Lemmas.Accepted.{IsAccepted, one_instance, one_of_these}
+use Rattle.dslx_total.specs.Families.Plain.{ProcsBindNoConstant}
+use Rattle.dslx_total.proofs.OnFamilies.Acts.{parts_fine}
+use Rattle.dslx_total.proofs.OnFamilies.Reached.{K, Listed, Within, all, most, proc_there}
+use Rattle.dslx_total.proofs.OnFamilies.Spawns.{proc_named, spawn_there}
+use Rattle.dslx_total.proofs.OnFamilies.There.{IsThere, well}
+
+-- ---- counts
+
+abbrev pub size_of_family : Family → Count
+size_of_family f = record { procs = length f.procs; channels = length f.chans }
+
+one_count : (a b : Count) → a.procs ≡ b.procs → a.channels ≡ b.channels → a ≡ b
+one_count a b p c = λ i. record { procs = p i; channels = c i }
+
+-- beside so many channels
+abbrev beside_channels : ℕ → Count → Count
+beside_channels n c = and_count (record { procs = 0; channels = n }) c
+
+-- the count of one of these instances
+counted_there : (f : Instance → Count) (i : Instance) (is : List Instance) → IsOneOf i is → count_in (map (λ (j : Instance). record { instance = j; count = f j }) is) i ≡ f i
+counted_there f i [] h = absurd h
+counted_there f i (x ∷ xs) h = by_same (same_instance x i) refl h (counted_there f i xs)
+  where
+    Rest : Bool → Type 0
+    Rest b = (if b then f x else count_in (map (λ (j : Instance). record { instance = j; count = f j }) xs) i) ≡ f i
+
+    by_same : (b : Bool) → same_instance x i ≡ b → IsOneOf i (x ∷ xs) → (IsOneOf i xs → Rest false) → Rest b
+    by_same true q k rest = ap f (one_instance x i q)
+    by_same false q (inl e) rest = absurd (true≢false (sym (itself i) ∙ ap (λ j. same_instance j i) e ∙ q))
+    by_same false q (inr k) rest = rest k
+
+module _ (m : Module) (top : Option (List ℕ)) (s : IsAccepted m top) (procs : ProcsBindNoConstant m) (complete : IsComplete (K m top s)) (typed : AreTyped (K m top s)) where
+  abbrev known : Known
+  known = K m top s
+
+  -- whatever such an instance places is as much as is counted of it
+  abbrev PlacesCounted : Placing → List Counted → Type 0
+  PlacesCounted place counted = (path : List ℕ) (p : Proc) (numbers : List DslxValue) (ends : List Held) (number : ℕ) → IsThere m top s p numbers
+      → size_of_family (place path p numbers ends number) ≡ count_in counted (record { name = p.name.name; numbers = numbers })
+
+  module _ (place : Placing) (counted : List Counted) (so : PlacesCounted place counted) (p : Proc) (numbers : List DslxValue) (here : IsThere m top s p numbers) (path : List ℕ) (held : List Held) where
+    abbrev sight : Sight
+    sight = proc_sight known p numbers
+
+    abbrev env : Env
+    env = item_env known (numbers_bound [] p.parameters numbers)
+
+    abbrev bound : List (List ℕ)
+    bound = parameter_names p.parameters
+
+    one_counted : (own : List ℕ) (made : Made) (sp : Spawn) (number : ℕ) → Within m (most m top s) (making_mentions (making.Spawn sp) bound) → (spawn_found sight made sp).faults ≡ [] → Listed m top s (spawn_found sight made sp).reached
+        → size_of_family (spawned m known.items place own env held sp number) ≡ spawn_count known.items counted env sp (as_proc (item_named sp.target.name m.items))
+    one_counted own made sp number within f r =
+        let t = spawn_there m top s procs complete typed p numbers (well m top s complete typed p numbers here) made sp bound within f r in
+        let named = proc_named m sp.target.name t.target t.is in
+        let ends = handed_over t.target.config.ends (channels_of_ends held sp.ends) in
+        let placed : spawned m known.items place own env held sp number ≡ place own t.target t.numbers ends number =
+        (λ i. spawned_at place own held sp number (t.is i) (and_then (t.is i) (λ q. spawn_numbers known.items env q sp.arguments))) ∙ ap (spawned_at place own held sp number (Some t.target)) t.given in
+        ap size_of_family placed
+        ∙ so own t.target t.numbers ends number (record { checked = record { named = named; among = one_of_these (record { name = t.target.name.name; numbers = t.numbers }) (all m top s) t.among }; own = t.own })
+        ∙ sym (ap (count_of_numbers counted t.target) t.given) ∙ sym (ap (spawn_count known.items counted env sp) t.is)
+
+    -- children with the channels that are made beside them
+    children_counted : (made : Made) (ms : List Making) (k number : ℕ) → Within m (most m top s) (flat_map (λ (x : Making). making_mentions x bound) ms) → (makings_found sight made ms).faults ≡ [] → Listed m top s (makings_found sight made ms).reached
+        → beside_channels (length (made_chans path env ms)) (size_of_family (children m known.items place path env held ms k number)) ≡ makings_count m known.items counted env ms
+    children_counted made [] k number within f r = refl
+    children_counted made (making.Channel c ∷ ms) k number within f r =
+        let next = made_with sight made c in
+        let w = meant_parts (ends_within m (most m top s)) m (making_mentions (making.Channel c) bound) (flat_map (λ (x : Making). making_mentions x bound) ms) within in
+        let a = none_in (channel_found sight made c).faults (makings_found sight next ms).faults f in
+        let b = all_in (λ i. is_reached i (all m top s)) (channel_found sight made c).reached (makings_found sight next ms).reached r in
+        let rest = children_counted next ms k number w.1 a.1 b.1 in
+        let few : 0 + length (children m known.items place path env held ms k number).procs ≡ (makings_count m known.items counted env ms).procs = ap (λ (n : Count). n.procs) rest in
+        let many : length (made_chans path env ms) + length (children m known.items place path env held ms k number).chans ≡ (makings_count m known.items counted env ms).channels = ap (λ (n : Count). n.channels) rest in
+        one_count (beside_channels (suc (length (made_chans path env ms))) (size_of_family (children m known.items place path env held ms k number)))
+        (and_count (record { procs = 0; channels = 1 }) (makings_count m known.items counted env ms)) (omega arith) (omega arith)
+    children_counted made (making.Spawn sp ∷ ms) k number within f r =
+        let w = meant_parts (ends_within m (most m top s)) m (making_mentions (making.Spawn sp) bound) (flat_map (λ (x : Making). making_mentions x bound) ms) within in
+        let a = none_in (spawn_found sight made sp).faults (makings_found sight made ms).faults f in
+        let b = all_in (λ i. is_reached i (all m top s)) (spawn_found sight made sp).reached (makings_found sight made ms).reached r in
+        let first = spawned m known.items place (child_path path k) env held sp number in
+        let others = children m known.items place path env held ms (suc k) (number + length first.chans) in
+        both_counted first others (length (made_chans path env ms)) (spawn_count known.items counted env sp (as_proc (item_named sp.target.name m.items))) (makings_count m known.items counted env ms)
+        (one_counted (child_path path k) made sp number w.0 a.0 b.0) (children_counted made ms (suc k) (number + length first.chans) w.1 a.1 b.1)
+      where
+        both_counted : (first others : Family) (own : ℕ) (c e : Count) → size_of_family first ≡ c → beside_channels own (size_of_family others) ≡ e
+            → beside_channels own (record { procs = length (first.procs ++ others.procs); channels = length (first.chans ++ others.chans) }) ≡ and_count c e
+        both_counted first others own c e p q =
+            let one = length-append first.procs others.procs in
+            let two = length-append first.chans others.chans in
+            let three = ap (λ (n : Count). n.procs) p in
+            let four = ap (λ (n : Count). n.channels) p in
+            let five = ap (λ (n : Count). n.procs) q in
+            let six = ap (λ (n : Count). n.channels) q in
+            one_count (beside_channels own (record { procs = length (first.procs ++ others.procs); channels = length (first.chans ++ others.chans) })) (and_count c e) (omega arith) (omega arith)
+
+    -- and the proc itself
+    pub proc_counted : (number : ℕ) → size_of_family (record {
+      procs = record { path = path; proc = p; numbers = numbers; channels = channels_of_ends held p.config.result } ∷ (children m known.items place path env held p.config.makings 0 number).procs;
+      chans = made_chans path env p.config.makings ++ (children m known.items place path env held p.config.makings 0 number).chans;
+    }) ≡ proc_count m known.items counted p numbers
+    proc_counted number =
+        let parts = parts_fine m top s p numbers here.checked in
+        let start = made_at_start sight p.config.ends in
+        let made = makings_found sight start p.config.makings in
+        let outer = ends_found sight [] p.config.ends in
+        let a = none_in outer.faults (made.faults ++ _) parts.config in
+        let b = all_in (λ i. is_reached i (all m top s)) outer.reached (made.reached ++ []) parts.listed in
+        let own = made_chans path env p.config.makings in
+        let others = children m known.items place path env held p.config.makings 0 number in
+        let rest = children_counted start p.config.makings 0 number (proc_there m top s p here.checked.named).makings (none_in made.faults _ a.1).0 (all_in (λ i. is_reached i (all m top s)) made.reached [] b.1).0 in
+        let few : 0 + length others.procs ≡ (makings_count m known.items counted env p.config.makings).procs = ap (λ (n : Count). n.procs) rest in
+        let many : length own + length others.chans ≡ (makings_count m known.items counted env p.config.makings).channels = ap (λ (n : Count). n.channels) rest in
+        let both = length-append own others.chans in
+        one_count (record { procs = suc (length others.procs); channels = length (own ++ others.chans) }) (and_count (record { procs = 1; channels = 0 }) (makings_count m known.items counted env p.config.makings)) (omega arith) (omega arith)
+
+  -- by spawns of any number
+  pub all_counted : (n : ℕ) → PlacesCounted (place_within m known.items n) (counted_within m known.items (all m top s) n)
+  all_counted zero path p numbers ends number here = refl
+  all_counted (suc n) path p numbers ends number here =
+      let before = counted_within m known.items (all m top s) n in
+      let env = item_env known (numbers_bound [] p.parameters numbers) in
+      proc_counted (place_within m known.items n) before (all_counted n) p numbers here path (ends ++ made_ends number p.config.makings) (number + length (made_chans path env p.config.makings))
+      ∙ sym (ap (count_of_proc m known.items before numbers) (ap as_proc here.checked.named))
+      ∙ sym (counted_there (instance_count m known.items before) (record { name = p.name.name; numbers = numbers }) (all m top s) here.checked.among)
