@@ -2,8 +2,6 @@
 pub mod Beside
 -- what each part becomes
 pub mod Lowers
--- trees in which types have widths
-pub mod Widths
 -- instances of functions
 pub mod Instances
 -- instances in order

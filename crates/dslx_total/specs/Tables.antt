@@ -1,4 +1,2 @@
--- types that are written by their width
-pub mod Widths
 -- tables of functions
 pub mod Tables

@@ -1,5 +1,5 @@
 //! That each text without faults has a design: a checked text that is made of its instances and stands for it.
-ghost use Rattle.std.specs.Prelude.{◌≡◌, ◌≤◌, ℕ, List, [], Option, Some, length, true};
+ghost use Rattle.std.specs.Prelude.{◌≡◌, ◌≤◌, ℕ, List, [], Option, Some, length};
 ghost use Rattle.dslx_tree.specs.declared.item.Module.{Module};
 ghost use Rattle.dslx_tree.specs.declared.process.Proc.{Proc};
 ghost use Rattle.dslx_meaning.specs.Items.{meanings_of};
@@ -11,7 +11,6 @@ ghost use Rattle.dslx_typing.specs.Depends.Settled.{BindsNoConstant};
 ghost use Rattle.dslx_core.specs.Lowering.Steps.{next_lowered, proc_known};
 ghost use Rattle.dslx_machines.specs.Extension.Comes.{IsNever};
 ghost use Rattle.dslx_total.specs.Tables.Tables.{FunctionsHaveTable};
-ghost use Rattle.dslx_total.specs.Tables.Widths.{text_writes_widths};
 ghost use Rattle.dslx_total.specs.Families.EachPlaced.{NextBecomes};
 ghost use Rattle.dslx_total.specs.Families.Plain.{ProcsBindNoConstant};
 ghost use Rattle.dslx_total.specs.Configs.ReachedProcs.{IsReachedProc};
@@ -20,9 +19,9 @@ ghost use Rattle.dslx_total.specs.Designs.Designs.{HasDesign, ProcsHaveTable};
 /// Where no part of a text breaks a rule or passes a limit, the `next` of each instance of a proc that is checked, and whose number
 /// arguments are of their own types, becomes steps and a next state where the functions of its table are at hand; and its
 /// `init` has a value of the type of its state. So it is also where nothing in the top's network spawns it. No item may reach
-/// itself and no function bind the name of a constant. Types that are written by their width have one, as in each text.
+/// itself and no function bind the name of a constant.
 pub fn reached_nexts_are_lowered()
-    ensures { (m : Module) (top : Option (List ℕ)) → HasNoCycle m → BindsNoConstant m → text_writes_widths m ≡ true → faults_of m top ≡ [] → (functions : FunctionsHaveTable m top)
+    ensures { (m : Module) (top : Option (List ℕ)) → HasNoCycle m → BindsNoConstant m → faults_of m top ≡ [] → (functions : FunctionsHaveTable m top)
         → (p : Proc) (numbers : List DslxValue) → IsReachedProc m (meanings_of m) top p numbers → NextBecomes m functions.known.table p numbers }
 {
     dslx_typing::judged::instances_reach_one_another();
@@ -37,7 +36,7 @@ pub fn reached_nexts_are_lowered()
 /// So none of these is given up where as many instances of functions are allowed as are checked: that it becomes nothing by any table
 /// of at most so many (`IsNever`) isn't so.
 pub fn reached_nexts_are_not_given_up()
-    ensures { (m : Module) (top : Option (List ℕ)) → HasNoCycle m → BindsNoConstant m → text_writes_widths m ≡ true → faults_of m top ≡ []
+    ensures { (m : Module) (top : Option (List ℕ)) → HasNoCycle m → BindsNoConstant m → faults_of m top ≡ []
         → (p : Proc) (numbers : List DslxValue) → IsReachedProc m (meanings_of m) top p numbers → (limit : ℕ) → length (instances_of m top) ≤ limit
         → IsNever m limit (λ table. next_lowered (proc_known m (meanings_of m) table p numbers) p) → ⊥ }
 {
@@ -49,7 +48,7 @@ pub fn reached_nexts_are_not_given_up()
 /// become a table, in which the top's instance is the last one. It is no longer than the list of instances that are checked.
 /// No proc may bind the name of a constant by its number parameters.
 pub fn accepted_procs_have_a_table()
-    ensures { (m : Module) (top : Option (List ℕ)) → HasNoCycle m → BindsNoConstant m → ProcsBindNoConstant m → text_writes_widths m ≡ true → faults_of m top ≡ [] → (functions : FunctionsHaveTable m top)
+    ensures { (m : Module) (top : Option (List ℕ)) → HasNoCycle m → BindsNoConstant m → ProcsBindNoConstant m → faults_of m top ≡ [] → (functions : FunctionsHaveTable m top)
         → (p : Proc) → top_proc m top ≡ Some p → ProcsHaveTable m top functions.known.table p }
 {
     reached_nexts_are_lowered();
@@ -58,7 +57,7 @@ pub fn accepted_procs_have_a_table()
 
 /// So each text without faults has a checked text that is made of its instances, and that stands for it.
 pub fn accepted_texts_have_a_design()
-    ensures { (m : Module) (top : Option (List ℕ)) → HasNoCycle m → BindsNoConstant m → ProcsBindNoConstant m → text_writes_widths m ≡ true → faults_of m top ≡ [] → HasDesign m top }
+    ensures { (m : Module) (top : Option (List ℕ)) → HasNoCycle m → BindsNoConstant m → ProcsBindNoConstant m → faults_of m top ≡ [] → HasDesign m top }
 {
     crate::tables::accepted_functions_have_a_table();
     crate::families::accepted_texts_are_fine();

@@ -1,5 +1,5 @@
 //! That a text without faults is one with which nothing is wrong: what is made of its instances stands for it.
-ghost use Rattle.std.specs.Prelude.{◌≡◌, ℕ, List, [], Option, Some, true};
+ghost use Rattle.std.specs.Prelude.{◌≡◌, ℕ, List, [], Option, Some};
 ghost use Rattle.dslx_tree.specs.declared.item.Module.{Module};
 ghost use Rattle.dslx_tree.specs.declared.process.Proc.{Proc};
 ghost use Rattle.dslx_meaning.specs.Network.{family_of, top_proc};
@@ -10,7 +10,6 @@ ghost use Rattle.dslx_core.specs.CoreOf.{CoreOf};
 ghost use Rattle.dslx_core.specs.declared.design.Design.{Design};
 ghost use Rattle.dslx_core.specs.Networks.Making.{IsDesignFrom};
 ghost use Rattle.dslx_total.specs.Tables.Tables.{FunctionsHaveTable};
-ghost use Rattle.dslx_total.specs.Tables.Widths.{text_writes_widths};
 ghost use Rattle.dslx_total.specs.Texts.FineTexts.{IsFineText};
 ghost use Rattle.dslx_total.specs.Families.EachPlaced.{EachPlaced, NextBecomes};
 ghost use Rattle.dslx_total.specs.Families.Plain.{ProcsBindNoConstant};
@@ -18,11 +17,10 @@ ghost use Rattle.dslx_total.specs.Families.Plain.{ProcsBindNoConstant};
 /// Where no part of a text breaks a rule or passes a limit, nothing is wrong with its constants and types, nor with any proc in
 /// its network: its number parameters have values of their own types, nothing is wrong with what it does, and each word of its
 /// channels is a value. So a checked text that is made of its instances stands for it. No item may reach itself, no function bind
-/// the name of a constant and no proc by its number parameters, also where nothing calls or spawns it. Types that are written
-/// by their width have one, as in each text.
+/// the name of a constant and no proc by its number parameters, also where nothing calls or spawns it.
 pub fn accepted_texts_are_fine()
-    ensures fine { (m : Module) (top : Option (List ℕ)) → HasNoCycle m → BindsNoConstant m → ProcsBindNoConstant m → text_writes_widths m ≡ true → faults_of m top ≡ [] → IsFineText m top }
-    ensures stands { (m : Module) (top : Option (List ℕ)) (design : Design) → HasNoCycle m → BindsNoConstant m → ProcsBindNoConstant m → text_writes_widths m ≡ true → faults_of m top ≡ []
+    ensures fine { (m : Module) (top : Option (List ℕ)) → HasNoCycle m → BindsNoConstant m → ProcsBindNoConstant m → faults_of m top ≡ [] → IsFineText m top }
+    ensures stands { (m : Module) (top : Option (List ℕ)) (design : Design) → HasNoCycle m → BindsNoConstant m → ProcsBindNoConstant m → faults_of m top ≡ []
         → IsDesignFrom m top design → CoreOf m top design }
 {
     dslx_typing::judged::instances_reach_one_another();
@@ -36,7 +34,7 @@ pub fn accepted_texts_are_fine()
 /// And the `next` of each proc in its network becomes steps and a next state, where the functions of its table are at hand; and
 /// its `init` has a value of the type of its state.
 pub fn accepted_nexts_are_lowered()
-    ensures { (m : Module) (top : Option (List ℕ)) → HasNoCycle m → BindsNoConstant m → ProcsBindNoConstant m → text_writes_widths m ≡ true → faults_of m top ≡ [] → (functions : FunctionsHaveTable m top)
+    ensures { (m : Module) (top : Option (List ℕ)) → HasNoCycle m → BindsNoConstant m → ProcsBindNoConstant m → faults_of m top ≡ [] → (functions : FunctionsHaveTable m top)
         → (p : Proc) → top_proc m top ≡ Some p → EachPlaced (NextBecomes m functions.known.table) (family_of m p).procs }
 {
     dslx_typing::judged::instances_reach_one_another();

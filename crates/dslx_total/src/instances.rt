@@ -1,6 +1,6 @@
 //! What tables of instances of an accepted text are: each instance has the values of the text's function, and each that the text
 //! reaches stands in one.
-ghost use Rattle.std.specs.Prelude.{◌≡◌, ◌≤◌, ℕ, List, [], Option, length, true};
+ghost use Rattle.std.specs.Prelude.{◌≡◌, ◌≤◌, ℕ, List, [], Option, length};
 ghost use Rattle.dslx_tree.specs.declared.item.Module.{Module};
 ghost use Rattle.dslx_meaning.specs.Items.{meanings_of};
 ghost use Rattle.dslx_meaning.specs.Rules.ModuleRules.{faults_of, instances_of};
@@ -8,7 +8,6 @@ ghost use Rattle.dslx_typing.specs.Laws.Recursion.{HasNoCycle};
 ghost use Rattle.dslx_typing.specs.Depends.Settled.{BindsNoConstant};
 ghost use Rattle.dslx_core.specs.Lowering.Functions.{CoreInstance, Instantiated};
 ghost use Rattle.dslx_core.specs.Lowering.Instances.{InstancesStand};
-ghost use Rattle.dslx_total.specs.Tables.Widths.{text_writes_widths};
 ghost use Rattle.dslx_machines.specs.Machine.Reached.{IsTable};
 ghost use Rattle.dslx_machines.specs.Progress.Missing.{InNoTable};
 ghost use Rattle.dslx_total.specs.Instances.Reached.{IsReachedInstance, StandsInTable};
@@ -30,9 +29,9 @@ pub fn instances_have_their_values()
 /// number parameters have values of their own types. So where at least as many may be open at once, none of them is missing. There
 /// are at most 4,096.
 pub fn accepted_instances_are_in_a_table()
-    ensures stands { (m : Module) (top : Option (List ℕ)) → HasNoCycle m → BindsNoConstant m → text_writes_widths m ≡ true → faults_of m top ≡ []
+    ensures stands { (m : Module) (top : Option (List ℕ)) → HasNoCycle m → BindsNoConstant m → faults_of m top ≡ []
         → (i : Instantiated) → IsReachedInstance m top i → (limit : ℕ) → length (instances_of m top) ≤ limit → StandsInTable m limit i }
-    ensures made { (m : Module) (top : Option (List ℕ)) → HasNoCycle m → BindsNoConstant m → text_writes_widths m ≡ true → faults_of m top ≡ []
+    ensures made { (m : Module) (top : Option (List ℕ)) → HasNoCycle m → BindsNoConstant m → faults_of m top ≡ []
         → (i : Instantiated) → IsReachedInstance m top i → (limit : ℕ) → length (instances_of m top) ≤ limit
         → (before : List CoreInstance) → InNoTable (record { text = m; items = meanings_of m; table = before }) limit i → ⊥ }
     ensures few { (m : Module) (top : Option (List ℕ)) → faults_of m top ≡ [] → length (instances_of m top) ≤ 4096 }

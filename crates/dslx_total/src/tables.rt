@@ -1,17 +1,16 @@
 //! That the functions of an accepted text have an order in which each calls those before it, and so become a table.
-ghost use Rattle.std.specs.Prelude.{◌≡◌, ℕ, List, [], Option, true};
+ghost use Rattle.std.specs.Prelude.{◌≡◌, ℕ, List, [], Option};
 ghost use Rattle.dslx_tree.specs.declared.item.Module.{Module};
 ghost use Rattle.dslx_meaning.specs.Rules.ModuleRules.{faults_of};
 ghost use Rattle.dslx_typing.specs.Laws.Recursion.{HasNoCycle};
 ghost use Rattle.dslx_typing.specs.Depends.Settled.{BindsNoConstant};
 ghost use Rattle.dslx_total.specs.Tables.Tables.{FunctionsHaveTable};
-ghost use Rattle.dslx_total.specs.Tables.Widths.{text_writes_widths};
 
 /// Where no part of a text breaks a rule or passes a limit, the instances of its functions become a table in which each calls
 /// those before it. All that the text reaches stand in it whose number parameters have values of their own types, and it is
-/// no longer than the list of instances that are checked. Types that are written by their width have one, as in each text.
+/// no longer than the list of instances that are checked.
 pub fn accepted_functions_have_a_table()
-    ensures { (m : Module) (top : Option (List ℕ)) → HasNoCycle m → BindsNoConstant m → text_writes_widths m ≡ true → faults_of m top ≡ [] → FunctionsHaveTable m top }
+    ensures { (m : Module) (top : Option (List ℕ)) → HasNoCycle m → BindsNoConstant m → faults_of m top ≡ [] → FunctionsHaveTable m top }
 {
     dslx_typing::judged::instances_reach_one_another();
     dslx_typing::depends::what_is_known_settles();

@@ -1,6 +1,6 @@
 -- The induction on all sorts of parts of a tree: each part becomes something wherever nothing is wrong with it.
 use Rattle.xb_span.specs.declared.span.Span.{Span}
-use Rattle.std.proofs.Common.{Bool, Option, false, true, ◌≡◌, List, None, Some, [], map, refl, subst, sym, ◌&&◌, ◌∙◌, ◌∷◌, ◌++◌}
+use Rattle.std.proofs.Common.{Bool, Option, false, ◌≡◌, List, None, Some, [], map, refl, subst, sym, ◌∙◌, ◌∷◌, ◌++◌}
 use Rattle.dslx_tree.proofs.Lemmas.Folds.Levels.{Carriers, Maps, trees, ArmLevel, NodeLevel, ShapeLevel, TypeNodeLevel, map_arm, map_node, map_shape, map_type_node, BlockLevel, ExprLevel, FieldValueLevel, ForLevel, LetLevel, NumberLevel, StmtLevel, map_arg, map_bind, map_block, map_expr, map_field, map_loop, map_number, map_pattern, map_stmt, map_type_expr}
 use Rattle.dslx_tree.proofs.Lemmas.Folds.Folds.{Steps, fold_arg, fold_arm, fold_bind, fold_block, fold_expr, fold_field, fold_loop, fold_node, fold_number, fold_pattern, fold_shape, fold_stmt, fold_type_expr, fold_type_node, folds, fold_arg-roll, fold_arm-roll, fold_bind-roll, fold_block-roll, fold_expr-roll, fold_field-roll, fold_loop-roll, fold_node-roll, fold_number-roll, fold_pattern-roll, fold_shape-roll, fold_stmt-roll, fold_type_expr-roll, fold_type_node-roll}
 use Rattle.dslx_tree.specs.declared.expr.Expr.{Expr}
@@ -10,7 +10,6 @@ use Rattle.dslx_meaning.specs.Rules.Judgings.{SightJudging, judged_sorts, Statem
 use Rattle.dslx_meaning.specs.Rules.Judging.{ExprPair, Sight, alone, breaks, no_token, span_of, Instance}
 use Rattle.dslx_meaning.specs.declared.ty.DslxType as ty
 use Rattle.dslx_meaning.specs.declared.value.DslxValue.{DslxValue}
-use Rattle.dslx_total.specs.Expressions.Widths.{arm_wide, block_wide, for_wide, let_wide, node_wide, shape_wide, stmt_wide, type_wide, wide_if, all_wide, block_writes_widths, type_writes_widths, writes_widths}
 use Rattle.dslx_total.specs.Expressions.Lowers.{IsWide, IsLimited, PartLowers, PatternLowers, TypeLowers, ExprLowers, WrittenLowers, reaching, IsLoweredWhereFine, TypeIsLoweredWhereFine}
 use Rattle.dslx_total.proofs.OnExpressions.OfStructs.{FieldLowers, EachFieldLowers, struct_lowers}
 use Rattle.dslx_total.proofs.OnExpressions.OfPatterns.{NumberStands, EachPatternLowers, bool_pattern_lowers, member_pattern_lowers, name_pattern_lowers, number_pattern_lowers, tuple_pattern_lowers, wild_lowers}
@@ -43,7 +42,6 @@ use Rattle.dslx_total.proofs.OnExpressions.OfAggregates.{element_lowers, tuple_l
 use Rattle.dslx_total.proofs.OnExpressions.Lists.{EachExprLowers}
 use Rattle.dslx_total.proofs.OnExpressions.Limited.{binary_limited, bool_limited, call_limited, cast_limited, element_limited, field_limited, if_limited, index_limited, match_limited, member_limited, name_limited, part_limited, prefix_limited, slice_limited, struct_limited, tuple_limited, typed_limited, untyped_limited, block_limited, loop_limited, number_limited}
 use Rattle.dslx_core.specs.Lowering.Lowering.{slice_lowered, name_lowered}
-use Rattle.dslx_typing.proofs.Lemmas.Laws.{and_true}
 use Rattle.dslx_typing.specs.Typed.WellTyped.{types_at, IsWellTyped}
 use Rattle.dslx_tree.specs.declared.type_expr.TypeExpr.{TypeExpr}
 use Rattle.dslx_meaning.specs.Rules.NameRules.{name_judged}
@@ -71,43 +69,6 @@ become = paired lowered_sorts
 abbrev pub becoming : Steps become
 becoming = pairing lowered_sorts lowering_steps
 
--- whether their types have widths
-abbrev pub wide : Carriers
-wide = record {
-  stmt = Bool;
-  node = Bool;
-  shape = Bool;
-  type_node = Bool;
-  block = Bool;
-  bind = Bool;
-  arg = Bool;
-  arm = Bool;
-  expr = Bool;
-  field = Bool;
-  loop = Bool;
-  number = Bool;
-  pattern = Bool;
-  type_expr = Bool;
-}
-
-abbrev pub widths : Steps wide
-widths = record {
-  stmt = stmt_wide;
-  node = node_wide;
-  shape = shape_wide;
-  type_node = type_wide;
-  block = block_wide;
-  bind = let_wide;
-  arg = λ a. a.value;
-  arm = arm_wide;
-  expr = λ e. e.node;
-  field = λ f. wide_if f.value;
-  loop = for_wide;
-  number = λ n. wide_if n.ty;
-  pattern = λ p. p.shape;
-  type_expr = λ t. t.node;
-}
-
 -- ---- what is to hold of each sort
 
 -- a part becomes something of its type, and keeps the limits
@@ -127,23 +88,22 @@ pub record ArgClaim (e : ExprPair) (l : Expr) : Type 0 where
   pub same : e.0 ≡ l
   pub gives : ExprGivesSome e
 
--- of trees whose types have widths
 abbrev becomes_something : TreeClaims
 becomes_something = record {
-  stmt = λ x. fold_stmt wide widths x ≡ true → StatementLowers (fold_stmt seen seeing x).1 (fold_stmt become becoming x).1;
-  node = λ x. fold_node wide widths x ≡ true → (span : Span) → PartClaim ((fold_node seen seeing x).1 span false) (fold_node become becoming x).1;
-  shape = λ x. fold_shape wide widths x ≡ true → (span : Span) → PatternLowers ((fold_shape seen seeing x).1 span) (fold_shape become becoming x).1;
-  type_node = λ x. fold_type_node wide widths x ≡ true → (span : Span) → TypeClaim ((fold_type_node seen seeing x).1 span) (fold_type_node become becoming x).1;
-  block = λ x. fold_block wide widths x ≡ true → PartClaim ((fold_block seen seeing x).1 false) (fold_block become becoming x).1;
-  bind = λ x. fold_bind wide widths x ≡ true → StatementLowers (fold_bind seen seeing x).1 (fold_bind become becoming x).1;
-  arg = λ x. fold_arg wide widths x ≡ true → ArgClaim (fold_arg seen seeing x).1 (fold_arg become becoming x).1;
-  arm = λ x. fold_arm wide widths x ≡ true → ArmLowers (fold_arm seen seeing x).1 (fold_arm become becoming x).1;
-  expr = λ x. fold_expr wide widths x ≡ true → PartClaim ((fold_expr seen seeing x).1 false) (fold_expr become becoming x).1;
-  field = λ x. fold_field wide widths x ≡ true → FieldLowers (fold_field seen seeing x).1 (fold_field become becoming x).1;
-  loop = λ x. fold_loop wide widths x ≡ true → (span : Span) → PartClaim ((fold_loop seen seeing x).1 span) (fold_loop become becoming x).1;
-  number = λ x. fold_number wide widths x ≡ true → (span : Span) → NumberClaim ((fold_number seen seeing x).1 span) (fold_number become becoming x).1;
-  pattern = λ x. fold_pattern wide widths x ≡ true → PatternLowers (fold_pattern seen seeing x).1 (fold_pattern become becoming x).1;
-  type_expr = λ x. fold_type_expr wide widths x ≡ true → TypeClaim (fold_type_expr seen seeing x).1 (fold_type_expr become becoming x).1;
+  stmt = λ x. StatementLowers (fold_stmt seen seeing x).1 (fold_stmt become becoming x).1;
+  node = λ x. (span : Span) → PartClaim ((fold_node seen seeing x).1 span false) (fold_node become becoming x).1;
+  shape = λ x. (span : Span) → PatternLowers ((fold_shape seen seeing x).1 span) (fold_shape become becoming x).1;
+  type_node = λ x. (span : Span) → TypeClaim ((fold_type_node seen seeing x).1 span) (fold_type_node become becoming x).1;
+  block = λ x. PartClaim ((fold_block seen seeing x).1 false) (fold_block become becoming x).1;
+  bind = λ x. StatementLowers (fold_bind seen seeing x).1 (fold_bind become becoming x).1;
+  arg = λ x. ArgClaim (fold_arg seen seeing x).1 (fold_arg become becoming x).1;
+  arm = λ x. ArmLowers (fold_arm seen seeing x).1 (fold_arm become becoming x).1;
+  expr = λ x. PartClaim ((fold_expr seen seeing x).1 false) (fold_expr become becoming x).1;
+  field = λ x. FieldLowers (fold_field seen seeing x).1 (fold_field become becoming x).1;
+  loop = λ x. (span : Span) → PartClaim ((fold_loop seen seeing x).1 span) (fold_loop become becoming x).1;
+  number = λ x. (span : Span) → NumberClaim ((fold_number seen seeing x).1 span) (fold_number become becoming x).1;
+  pattern = λ x. PatternLowers (fold_pattern seen seeing x).1 (fold_pattern become becoming x).1;
+  type_expr = λ x. TypeClaim (fold_type_expr seen seeing x).1 (fold_type_expr become becoming x).1;
 }
 
 abbrev Held : Carriers
@@ -178,14 +138,14 @@ StmtPart = Held.stmt
 same_tree : (x : Expr) → (fold_expr seen seeing x).0 ≡ (fold_expr become becoming x).0
 same_tree x = own_expr judged_sorts judged_steps x ∙ sym (own_expr lowered_sorts lowering_steps x)
 
-expr_part : (p : ExprPart) → fold_expr wide widths p.0 ≡ true → ExprLowers (fold_expr seen seeing p.0) (fold_expr become becoming p.0).1
-expr_part p w = let c = p.1 w in record { meaning = meant p.0; gives = expression_gives p.0; lowers = c.lowers; limited = c.limited }
+expr_part : (p : ExprPart) → ExprLowers (fold_expr seen seeing p.0) (fold_expr become becoming p.0).1
+expr_part p = let c = p.1 in record { meaning = meant p.0; gives = expression_gives p.0; lowers = c.lowers; limited = c.limited }
 
-block_part : (p : Held.block) → fold_block wide widths p.0 ≡ true → BlockLowers (fold_block seen seeing p.0).1 (fold_block become becoming p.0).1
-block_part p w = let c = p.1 w in record { meaning = value_of_block p.0; gives = block_of_text_has p.0; lowers = c.lowers; limited = c.limited }
+block_part : (p : Held.block) → BlockLowers (fold_block seen seeing p.0).1 (fold_block become becoming p.0).1
+block_part p = let c = p.1 in record { meaning = value_of_block p.0; gives = block_of_text_has p.0; lowers = c.lowers; limited = c.limited }
 
-type_part : (p : TypePart) → fold_type_expr wide widths p.0 ≡ true → WrittenLowers (fold_type_expr seen seeing p.0).1 (fold_type_expr become becoming p.0).1
-type_part p w = let c = p.1 w in record { meaning = written_type p.0; stands = type_stands p.0; lowers = c.lowers; wide = c.wide }
+type_part : (p : TypePart) → WrittenLowers (fold_type_expr seen seeing p.0).1 (fold_type_expr become becoming p.0).1
+type_part p = let c = p.1 in record { meaning = written_type p.0; stands = type_stands p.0; lowers = c.lowers; wide = c.wide }
 
 -- ---- lists of parts
 
@@ -195,239 +155,195 @@ exprs_seen ps = map (fold_expr seen seeing) (map (λ (p : ExprPart). p.0) ps)
 abbrev exprs_become : List ExprPart → List LoweredPair
 exprs_become ps = map (fold_expr become becoming) (map (λ (p : ExprPart). p.0) ps)
 
-each_expr : (ps : List ExprPart) → all_wide (map (fold_expr wide widths) (map (λ (p : ExprPart). p.0) ps)) ≡ true → EachExprLowers (exprs_seen ps) (exprs_become ps)
-each_expr [] w = tt
-each_expr (p ∷ ps) w =
-    let q = and_true (fold_expr wide widths p.0) (all_wide (map (fold_expr wide widths) (map (λ (p : ExprPart). p.0) ps))) w in
-    (same_tree p.0, expr_part p q.0, each_expr ps q.1)
+each_expr : (ps : List ExprPart) → EachExprLowers (exprs_seen ps) (exprs_become ps)
+each_expr [] = tt
+each_expr (p ∷ ps) = (same_tree p.0, expr_part p, each_expr ps)
 
-each_number : (ps : List ArgPart) → all_wide (map (fold_arg wide widths) (map (λ (p : ArgPart). p.0) ps)) ≡ true
-    → EachNumber (map (fold_arg seen seeing) (map (λ (p : ArgPart). p.0) ps)) (map (fold_arg become becoming) (map (λ (p : ArgPart). p.0) ps))
-each_number [] w = tt
-each_number (p ∷ ps) w =
-    let q = and_true (fold_arg wide widths p.0) (all_wide (map (fold_arg wide widths) (map (λ (p : ArgPart). p.0) ps))) w in
-    let c = p.1 q.0 in
-    (c.same, c.gives, each_number ps q.1)
+each_number : (ps : List ArgPart) → EachNumber (map (fold_arg seen seeing) (map (λ (p : ArgPart). p.0) ps)) (map (fold_arg become becoming) (map (λ (p : ArgPart). p.0) ps))
+each_number [] = tt
+each_number (p ∷ ps) =
+    let c = p.1 in
+    (c.same, c.gives, each_number ps)
 
-each_field : (ps : List FieldPart) → all_wide (map (fold_field wide widths) (map (λ (p : FieldPart). p.0) ps)) ≡ true
-    → EachFieldLowers (map second_of (map (fold_field seen seeing) (map (λ (p : FieldPart). p.0) ps))) (map (λ (f : FieldValue × LowersField). f.1) (map (fold_field become becoming) (map (λ (p : FieldPart). p.0) ps)))
-each_field [] w = tt
-each_field (p ∷ ps) w =
-    let q = and_true (fold_field wide widths p.0) (all_wide (map (fold_field wide widths) (map (λ (p : FieldPart). p.0) ps))) w in
-    (p.1 q.0, each_field ps q.1)
+each_field : (ps : List FieldPart) → EachFieldLowers (map second_of (map (fold_field seen seeing) (map (λ (p : FieldPart). p.0) ps))) (map (λ (f : FieldValue × LowersField). f.1) (map (fold_field become becoming) (map (λ (p : FieldPart). p.0) ps)))
+each_field [] = tt
+each_field (p ∷ ps) = (p.1, each_field ps)
 
-each_arm : (ps : List ArmPart) → all_wide (map (fold_arm wide widths) (map (λ (p : ArmPart). p.0) ps)) ≡ true
-    → EachArmLowers (map second_of (map (fold_arm seen seeing) (map (λ (p : ArmPart). p.0) ps))) (map (λ (a : Arm × LowersArm). a.1) (map (fold_arm become becoming) (map (λ (p : ArmPart). p.0) ps)))
-each_arm [] w = tt
-each_arm (p ∷ ps) w =
-    let q = and_true (fold_arm wide widths p.0) (all_wide (map (fold_arm wide widths) (map (λ (p : ArmPart). p.0) ps))) w in
-    (p.1 q.0, each_arm ps q.1)
+each_arm : (ps : List ArmPart) → EachArmLowers (map second_of (map (fold_arm seen seeing) (map (λ (p : ArmPart). p.0) ps))) (map (λ (a : Arm × LowersArm). a.1) (map (fold_arm become becoming) (map (λ (p : ArmPart). p.0) ps)))
+each_arm [] = tt
+each_arm (p ∷ ps) = (p.1, each_arm ps)
 
-each_pattern : (ps : List PatternPart) → all_wide (map (fold_pattern wide widths) (map (λ (p : PatternPart). p.0) ps)) ≡ true
-    → EachPatternLowers (map (fold_pattern seen seeing) (map (λ (p : PatternPart). p.0) ps)) (second_parts (map (fold_pattern become becoming) (map (λ (p : PatternPart). p.0) ps)))
-each_pattern [] w = tt
-each_pattern (p ∷ ps) w =
-    let q = and_true (fold_pattern wide widths p.0) (all_wide (map (fold_pattern wide widths) (map (λ (p : PatternPart). p.0) ps))) w in
-    (p.1 q.0, each_pattern ps q.1)
+each_pattern : (ps : List PatternPart) → EachPatternLowers (map (fold_pattern seen seeing) (map (λ (p : PatternPart). p.0) ps)) (second_parts (map (fold_pattern become becoming) (map (λ (p : PatternPart). p.0) ps)))
+each_pattern [] = tt
+each_pattern (p ∷ ps) = (p.1, each_pattern ps)
 
 each_pattern_gives : (ps : List PatternPart) → EachPatternGives (map (fold_pattern seen seeing) (map (λ (p : PatternPart). p.0) ps)) (map (λ (p : PatternPart). meant_pattern p.0) ps)
 each_pattern_gives [] = tt
 each_pattern_gives (p ∷ ps) = (pattern_gives p.0, each_pattern_gives ps)
 
-each_type : (ps : List TypePart) → all_wide (map (fold_type_expr wide widths) (map (λ (p : TypePart). p.0) ps)) ≡ true
-    → EachTypeLowers (map (fold_type_expr seen seeing) (map (λ (p : TypePart). p.0) ps)) (map (fold_type_expr become becoming) (map (λ (p : TypePart). p.0) ps))
-each_type [] w = tt
-each_type (p ∷ ps) w =
-    let q = and_true (fold_type_expr wide widths p.0) (all_wide (map (fold_type_expr wide widths) (map (λ (p : TypePart). p.0) ps))) w in
-    ((p.1 q.0).lowers, each_type ps q.1)
+each_type : (ps : List TypePart) → EachTypeLowers (map (fold_type_expr seen seeing) (map (λ (p : TypePart). p.0) ps)) (map (fold_type_expr become becoming) (map (λ (p : TypePart). p.0) ps))
+each_type [] = tt
+each_type (p ∷ ps) = (p.1.lowers, each_type ps)
 
-each_type_wide : (ps : List TypePart) → all_wide (map (fold_type_expr wide widths) (map (λ (p : TypePart). p.0) ps)) ≡ true → EachIsWide (map (fold_type_expr seen seeing) (map (λ (p : TypePart). p.0) ps))
-each_type_wide [] w = tt
-each_type_wide (p ∷ ps) w =
-    let q = and_true (fold_type_expr wide widths p.0) (all_wide (map (fold_type_expr wide widths) (map (λ (p : TypePart). p.0) ps))) w in
-    ((p.1 q.0).wide, each_type_wide ps q.1)
+each_type_wide : (ps : List TypePart) → EachIsWide (map (fold_type_expr seen seeing) (map (λ (p : TypePart). p.0) ps))
+each_type_wide [] = tt
+each_type_wide (p ∷ ps) = (p.1.wide, each_type_wide ps)
 
-each_stmt : (ps : List StmtPart) → all_wide (map (fold_stmt wide widths) (map (λ (p : StmtPart). p.0) ps)) ≡ true
-    → EachStatementLowers (map (λ (s : Stmt × StatementJudging). s.1) (map (fold_stmt seen seeing) (map (λ (p : StmtPart). p.0) ps))) (map (λ (s : Stmt × (Lowers → Lowers)). s.1) (map (fold_stmt become becoming) (map (λ (p : StmtPart). p.0) ps)))
-each_stmt [] w = tt
-each_stmt (p ∷ ps) w =
-    let q = and_true (fold_stmt wide widths p.0) (all_wide (map (fold_stmt wide widths) (map (λ (p : StmtPart). p.0) ps))) w in
-    (p.1 q.0, each_stmt ps q.1)
+each_stmt : (ps : List StmtPart) → EachStatementLowers (map (λ (s : Stmt × StatementJudging). s.1) (map (fold_stmt seen seeing) (map (λ (p : StmtPart). p.0) ps))) (map (λ (s : Stmt × (Lowers → Lowers)). s.1) (map (fold_stmt become becoming) (map (λ (p : StmtPart). p.0) ps)))
+each_stmt [] = tt
+each_stmt (p ∷ ps) = (p.1, each_stmt ps)
 
 -- ---- expressions
 
-node_claim : (y : NodeLevel Held) → node_wide (map_node trees wide (folds wide widths) (map_node Held trees tree y)) ≡ true → (span : Span)
+node_claim : (y : NodeLevel Held) → (span : Span)
     → PartClaim ((seeing.node (map_node trees seen (folds seen seeing) (map_node Held trees tree y))).1 span false) (becoming.node (map_node trees become (folds become becoming) (map_node Held trees tree y))).1
-node_claim (Node-F.Node::Number n) w span =
-    let c = n.1 w span in
+node_claim (Node-F.Node::Number n) span =
+    let c = n.1 span in
     record { lowers = λ here sight env place h at fine. literal_typed ((fold_number become becoming n.0).1 place) ∙ c.stands.lowers here sight env place h at fine; limited = c.limited }
-node_claim (Node-F.Node::Bool b) w span = record { lowers = bool_lowers span b; limited = bool_limited span }
-node_claim (Node-F.Node::Array None es dots) w span = record { lowers = untyped_lowers span (exprs_seen es) dots (exprs_become es) (each_expr es w); limited = untyped_limited span (exprs_seen es) dots }
-node_claim (Node-F.Node::Array (Some t) es dots) w span =
-    let q = and_true (fold_type_expr wide widths t.0) (all_wide (map (fold_expr wide widths) (map (λ (p : ExprPart). p.0) es))) w in
+node_claim (Node-F.Node::Bool b) span = record { lowers = bool_lowers span b; limited = bool_limited span }
+node_claim (Node-F.Node::Array None es dots) span = record { lowers = untyped_lowers span (exprs_seen es) dots (exprs_become es) (each_expr es); limited = untyped_limited span (exprs_seen es) dots }
+node_claim (Node-F.Node::Array (Some t) es dots) span =
     record {
-      lowers = typed_lowers span (fold_type_expr seen seeing t.0).1 (fold_type_expr become becoming t.0).1 (exprs_seen es) dots (exprs_become es) (type_part t q.0) (each_expr es q.1);
+      lowers = typed_lowers span (fold_type_expr seen seeing t.0).1 (fold_type_expr become becoming t.0).1 (exprs_seen es) dots (exprs_become es) (type_part t) (each_expr es);
       limited = typed_limited span (fold_type_expr seen seeing t.0).1 (exprs_seen es) dots;
     }
-node_claim (Node-F.Node::Name name) w span = record { lowers = name_lowers span name; limited = name_limited span name }
-node_claim (Node-F.Node::Member e a) w span = record { lowers = member_lowers span e a; limited = member_limited span e a }
-node_claim (Node-F.Call f numbers es) w span =
-    let q = and_true (all_wide (map (fold_arg wide widths) (map (λ (p : ArgPart). p.0) numbers))) (all_wide (map (fold_expr wide widths) (map (λ (p : ExprPart). p.0) es))) w in
+node_claim (Node-F.Node::Name name) span = record { lowers = name_lowers span name; limited = name_limited span name }
+node_claim (Node-F.Node::Member e a) span = record { lowers = member_lowers span e a; limited = member_limited span e a }
+node_claim (Node-F.Call f numbers es) span =
     let as' = map (fold_arg seen seeing) (map (λ (p : ArgPart). p.0) numbers) in
     record {
-      lowers = call_lowers (kind_of_call f.name) span f as' (map (fold_arg become becoming) (map (λ (p : ArgPart). p.0) numbers)) (exprs_seen es) (exprs_become es) (each_number numbers q.0) (each_expr es q.1);
+      lowers = call_lowers (kind_of_call f.name) span f as' (map (fold_arg become becoming) (map (λ (p : ArgPart). p.0) numbers)) (exprs_seen es) (exprs_become es) (each_number numbers) (each_expr es);
       limited = call_limited (kind_of_call f.name) span f as' (exprs_seen es);
     }
-node_claim (Node-F.Node::Tuple es) w span = record { lowers = tuple_lowers span (exprs_seen es) (exprs_become es) (each_expr es w); limited = tuple_limited span (exprs_seen es) }
-node_claim (Node-F.Struct name fields None) w span =
-    let q = and_true (all_wide (map (fold_field wide widths) (map (λ (p : FieldPart). p.0) fields))) true w in
+node_claim (Node-F.Node::Tuple es) span = record { lowers = tuple_lowers span (exprs_seen es) (exprs_become es) (each_expr es); limited = tuple_limited span (exprs_seen es) }
+node_claim (Node-F.Struct name fields None) span =
     let fs = map second_of (map (fold_field seen seeing) (map (λ (p : FieldPart). p.0) fields)) in
     record {
-      lowers = struct_lowers span name fs (map (λ (f : FieldValue × LowersField). f.1) (map (fold_field become becoming) (map (λ (p : FieldPart). p.0) fields))) None None (each_field fields q.0) tt;
+      lowers = struct_lowers span name fs (map (λ (f : FieldValue × LowersField). f.1) (map (fold_field become becoming) (map (λ (p : FieldPart). p.0) fields))) None None (each_field fields) tt;
       limited = struct_limited span name fs None;
     }
-node_claim (Node-F.Struct name fields (Some rest)) w span =
-    let q = and_true (all_wide (map (fold_field wide widths) (map (λ (p : FieldPart). p.0) fields))) (fold_expr wide widths rest.0) w in
+node_claim (Node-F.Struct name fields (Some rest)) span =
     let fs = map second_of (map (fold_field seen seeing) (map (λ (p : FieldPart). p.0) fields)) in
     record {
       lowers = struct_lowers span name fs (map (λ (f : FieldValue × LowersField). f.1) (map (fold_field become becoming) (map (λ (p : FieldPart). p.0) fields))) (Some (fold_expr seen seeing rest.0))
-          (Some (fold_expr become becoming rest.0)) (each_field fields q.0) (expr_part rest q.1);
+          (Some (fold_expr become becoming rest.0)) (each_field fields) (expr_part rest);
       limited = struct_limited span name fs (Some (fold_expr seen seeing rest.0));
     }
-node_claim (Node-F.Block block) w span = let c = block.1 w in record { lowers = c.lowers; limited = c.limited }
-node_claim (Node-F.If test taken other) w span =
-    let q = and_true (fold_expr wide widths test.0 && fold_block wide widths taken.0) (fold_expr wide widths other.0) w in
-    let r = and_true (fold_expr wide widths test.0) (fold_block wide widths taken.0) q.0 in
+node_claim (Node-F.Block block) span = let c = block.1 in record { lowers = c.lowers; limited = c.limited }
+node_claim (Node-F.If test taken other) span =
     record {
       lowers = if_lowers span (fold_expr seen seeing test.0) (fold_block seen seeing taken.0) (fold_expr seen seeing other.0) (fold_expr become becoming test.0).1 (fold_block become becoming taken.0).1 (fold_expr become becoming other.0).1
-          (expr_part test r.0) (block_part taken r.1) (expr_part other q.1);
+          (expr_part test) (block_part taken) (expr_part other);
       limited = if_limited span (fold_expr seen seeing test.0) (fold_block seen seeing taken.0) (fold_expr seen seeing other.0);
     }
-node_claim (Node-F.Match e arms) w span =
-    let q = and_true (fold_expr wide widths e.0) (all_wide (map (fold_arm wide widths) (map (λ (p : ArmPart). p.0) arms))) w in
+node_claim (Node-F.Match e arms) span =
     let as' = map second_of (map (fold_arm seen seeing) (map (λ (p : ArmPart). p.0) arms)) in
     record {
-      lowers = match_lowers span (fold_expr seen seeing e.0) as' (fold_expr become becoming e.0).1 (map (λ (a : Arm × LowersArm). a.1) (map (fold_arm become becoming) (map (λ (p : ArmPart). p.0) arms))) (expr_part e q.0) (each_arm arms q.1);
+      lowers = match_lowers span (fold_expr seen seeing e.0) as' (fold_expr become becoming e.0).1 (map (λ (a : Arm × LowersArm). a.1) (map (fold_arm become becoming) (map (λ (p : ArmPart). p.0) arms))) (expr_part e) (each_arm arms);
       limited = match_limited span (fold_expr seen seeing e.0) as';
     }
-node_claim (Node-F.For loop) w span = let c = loop.1 w span in record { lowers = c.lowers; limited = c.limited }
-node_claim (Node-F.Index e i) w span =
-    let q = and_true (fold_expr wide widths e.0) (fold_expr wide widths i.0) w in
+node_claim (Node-F.For loop) span = let c = loop.1 span in record { lowers = c.lowers; limited = c.limited }
+node_claim (Node-F.Index e i) span =
     record {
-      lowers = index_lowers span (fold_expr seen seeing e.0) (fold_expr seen seeing i.0) (fold_expr become becoming e.0).1 (fold_expr become becoming i.0).1 (expr_part e q.0) (expr_part i q.1);
+      lowers = index_lowers span (fold_expr seen seeing e.0) (fold_expr seen seeing i.0) (fold_expr become becoming e.0).1 (fold_expr become becoming i.0).1 (expr_part e) (expr_part i);
       limited = index_limited span (fold_expr seen seeing e.0) (fold_expr seen seeing i.0);
     }
-node_claim (Node-F.Slice e low high) w span =
-    let q = and_true (fold_expr wide widths e.0 && fold_expr wide widths low.0) (fold_expr wide widths high.0) w in
-    let r = and_true (fold_expr wide widths e.0) (fold_expr wide widths low.0) q.0 in
+node_claim (Node-F.Slice e low high) span =
     let judged : SightJudging = λ sight. slice_judged span sight (fold_expr seen seeing e.0) (fold_expr seen seeing low.0) (fold_expr seen seeing high.0) in
     record {
       lowers = subst (λ t. PartLowers judged (λ place. slice_lowered ((fold_expr become becoming e.0).1 place) (bound_at place (fold_expr become becoming low.0).0) (bound_at place t))) (same_tree high.0)
           (subst (λ t. PartLowers judged (λ place. slice_lowered ((fold_expr become becoming e.0).1 place) (bound_at place t) (bound_at place (fold_expr seen seeing high.0).0))) (same_tree low.0)
           (slice_lowers span (fold_expr seen seeing e.0) (fold_expr seen seeing low.0) (fold_expr seen seeing high.0) (fold_expr become becoming e.0).1 (fold_expr become becoming low.0).1 (fold_expr become becoming high.0).1
-          (expr_part e r.0) (expr_part low r.1) (expr_part high q.1)));
+          (expr_part e) (expr_part low) (expr_part high)));
       limited = slice_limited span (fold_expr seen seeing e.0) (fold_expr seen seeing low.0) (fold_expr seen seeing high.0);
     }
-node_claim (Node-F.Part e start t) w span =
-    let q = and_true (fold_expr wide widths e.0 && fold_expr wide widths start.0) (fold_type_expr wide widths t.0) w in
-    let r = and_true (fold_expr wide widths e.0) (fold_expr wide widths start.0) q.0 in
+node_claim (Node-F.Part e start t) span =
     record {
       lowers = part_lowers span (fold_expr seen seeing e.0) (fold_expr seen seeing start.0) (fold_type_expr seen seeing t.0).1 (fold_expr become becoming e.0).1 (fold_expr become becoming start.0).1 (fold_type_expr become becoming t.0).1
-          (expr_part e r.0) (expr_part start r.1) (type_part t q.1);
+          (expr_part e) (expr_part start) (type_part t);
       limited = part_limited span (fold_expr seen seeing e.0) (fold_expr seen seeing start.0) (fold_type_expr seen seeing t.0).1;
     }
-node_claim (Node-F.Field e name) w span = record { lowers = field_lowers span (fold_expr seen seeing e.0) name (fold_expr become becoming e.0).1 (expr_part e w); limited = field_limited span (fold_expr seen seeing e.0) name }
-node_claim (Node-F.Element e at k) w span = record { lowers = element_lowers span (fold_expr seen seeing e.0) k (fold_expr become becoming e.0).1 (expr_part e w); limited = element_limited span (fold_expr seen seeing e.0) k }
-node_claim (Node-F.Prefix o e) w span = record { lowers = prefix_lowers span o (fold_expr seen seeing e.0) (fold_expr become becoming e.0).1 (expr_part e w); limited = prefix_limited span (fold_expr seen seeing e.0) }
-node_claim (Node-F.Cast e t) w span =
-    let q = and_true (fold_expr wide widths e.0) (fold_type_expr wide widths t.0) w in
+node_claim (Node-F.Field e name) span = record { lowers = field_lowers span (fold_expr seen seeing e.0) name (fold_expr become becoming e.0).1 (expr_part e); limited = field_limited span (fold_expr seen seeing e.0) name }
+node_claim (Node-F.Element e at k) span = record { lowers = element_lowers span (fold_expr seen seeing e.0) k (fold_expr become becoming e.0).1 (expr_part e); limited = element_limited span (fold_expr seen seeing e.0) k }
+node_claim (Node-F.Prefix o e) span = record { lowers = prefix_lowers span o (fold_expr seen seeing e.0) (fold_expr become becoming e.0).1 (expr_part e); limited = prefix_limited span (fold_expr seen seeing e.0) }
+node_claim (Node-F.Cast e t) span =
     record {
-      lowers = cast_lowers span (fold_expr seen seeing e.0) (fold_type_expr seen seeing t.0).1 (fold_expr become becoming e.0).1 (fold_type_expr become becoming t.0).1 (expr_part e q.0) (type_part t q.1);
+      lowers = cast_lowers span (fold_expr seen seeing e.0) (fold_type_expr seen seeing t.0).1 (fold_expr become becoming e.0).1 (fold_type_expr become becoming t.0).1 (expr_part e) (type_part t);
       limited = cast_limited span (fold_expr seen seeing e.0) (fold_type_expr seen seeing t.0).1;
     }
-node_claim (Node-F.Binary o l r) w span =
-    let q = and_true (fold_expr wide widths l.0) (fold_expr wide widths r.0) w in
+node_claim (Node-F.Binary o l r) span =
     record {
-      lowers = binary_lowers span o (fold_expr seen seeing l.0) (fold_expr seen seeing r.0) (fold_expr become becoming l.0).1 (fold_expr become becoming r.0).1 (expr_part l q.0) (expr_part r q.1);
+      lowers = binary_lowers span o (fold_expr seen seeing l.0) (fold_expr seen seeing r.0) (fold_expr become becoming l.0).1 (fold_expr become becoming r.0).1 (expr_part l) (expr_part r);
       limited = binary_limited span o (fold_expr seen seeing l.0) (fold_expr seen seeing r.0);
     }
 
 -- ---- types and patterns
 
-type_claim : (y : TypeNodeLevel Held) → type_wide (map_type_node trees wide (folds wide widths) (map_type_node Held trees tree y)) ≡ true → (span : Span)
+type_claim : (y : TypeNodeLevel Held) → (span : Span)
     → TypeClaim ((seeing.type_node (map_type_node trees seen (folds seen seeing) (map_type_node Held trees tree y))).1 span) (becoming.type_node (map_type_node trees become (folds become becoming) (map_type_node Held trees tree y))).1
-type_claim (TypeNode-F.Bits s n) w span = record { lowers = bits_type_lowers span s n; wide = bits_type_wide span s n }
-type_claim (TypeNode-F.Wide s e) w span =
+type_claim (TypeNode-F.Bits s n) span = record { lowers = bits_type_lowers span s n; wide = bits_type_wide span s n }
+type_claim (TypeNode-F.Wide s e) span =
     let p = fold_expr seen seeing e.0 in
     record {
       lowers = subst (λ t. TypeLowers (λ sight. counted_type span (and_then (count_of sight p).count (λ w. Some (ty.Bits s w))) [] (count_of sight p)) (λ place. and_then (size_at place t) (λ w. Some (ty.Bits s w)))) (same_tree e.0)
           (wide_lowers span s p (meant e.0) (expression_gives e.0));
       wide = wide_wide span s p;
     }
-type_claim TypeNode-F.TypeNode::Bool w span = record { lowers = bits_type_lowers span false 1; wide = bits_type_wide span false 1 }
-type_claim (TypeNode-F.TypeNode::Name name) w span =
+type_claim TypeNode-F.TypeNode::Bool span = record { lowers = bits_type_lowers span false 1; wide = bits_type_wide span false 1 }
+type_claim (TypeNode-F.TypeNode::Name name) span =
     let named = λ (sight : Sight). is_of_use AsType (item_named name sight.known.whole.items) in
     record { lowers = named_lowers span name named; wide = named_wide span name named }
-type_claim (TypeNode-F.TypeNode::Tuple ts) w span =
+type_claim (TypeNode-F.TypeNode::Tuple ts) span =
     let ps = map (fold_type_expr seen seeing) (map (λ (p : TypePart). p.0) ts) in
-    record { lowers = tuple_type_lowers span ps (map (fold_type_expr become becoming) (map (λ (p : TypePart). p.0) ts)) (each_type ts w); wide = tuple_type_wide span ps (each_type_wide ts w) }
-type_claim (TypeNode-F.TypeNode::Array t e) w span =
-    let q = and_true (fold_type_expr wide widths t.0) (fold_expr wide widths e.0) w in
+    record { lowers = tuple_type_lowers span ps (map (fold_type_expr become becoming) (map (λ (p : TypePart). p.0) ts)) (each_type ts); wide = tuple_type_wide span ps (each_type_wide ts) }
+type_claim (TypeNode-F.TypeNode::Array t e) span =
     let p = fold_type_expr seen seeing t.0 in
     let n = fold_expr seen seeing e.0 in
     record {
       lowers = subst (λ x. TypeLowers (λ sight. array_of span (inner_type sight p) (count_of sight n)) (λ place. with_both ((fold_type_expr become becoming t.0).1 place) (size_at place x) (λ t n. Some (ty.Array t n)))) (same_tree e.0)
-          (array_type_lowers span p (fold_type_expr become becoming t.0).1 n (meant e.0) (t.1 q.0).lowers (expression_gives e.0));
-      wide = array_type_wide span p n (t.1 q.0).wide;
+          (array_type_lowers span p (fold_type_expr become becoming t.0).1 n (meant e.0) t.1.lowers (expression_gives e.0));
+      wide = array_type_wide span p n t.1.wide;
     }
 
-shape_claim : (y : ShapeLevel Held) → shape_wide (map_shape trees wide (folds wide widths) (map_shape Held trees tree y)) ≡ true → (span : Span)
+shape_claim : (y : ShapeLevel Held) → (span : Span)
     → PatternLowers ((seeing.shape (map_shape trees seen (folds seen seeing) (map_shape Held trees tree y))).1 span) (becoming.shape (map_shape trees become (folds become becoming) (map_shape Held trees tree y))).1
-shape_claim Shape-F.Wild w span = wild_lowers
-shape_claim (Shape-F.Shape::Bool b) w span = bool_pattern_lowers span b
-shape_claim (Shape-F.Shape::Number n) w span = number_pattern_lowers span ((fold_number seen seeing n.0).1 span) (fold_number become becoming n.0).1 (n.1 w span).stands
-shape_claim (Shape-F.Shape::Name name) w span = name_pattern_lowers span name
-shape_claim (Shape-F.Shape::Member e a) w span = member_pattern_lowers span e a
-shape_claim (Shape-F.Shape::Tuple ps) w span =
-    tuple_pattern_lowers span (map (fold_pattern seen seeing) (map (λ (p : PatternPart). p.0) ps)) (second_parts (map (fold_pattern become becoming) (map (λ (p : PatternPart). p.0) ps))) (each_pattern ps w)
+shape_claim Shape-F.Wild span = wild_lowers
+shape_claim (Shape-F.Shape::Bool b) span = bool_pattern_lowers span b
+shape_claim (Shape-F.Shape::Number n) span = number_pattern_lowers span ((fold_number seen seeing n.0).1 span) (fold_number become becoming n.0).1 (n.1 span).stands
+shape_claim (Shape-F.Shape::Name name) span = name_pattern_lowers span name
+shape_claim (Shape-F.Shape::Member e a) span = member_pattern_lowers span e a
+shape_claim (Shape-F.Shape::Tuple ps) span =
+    tuple_pattern_lowers span (map (fold_pattern seen seeing) (map (λ (p : PatternPart). p.0) ps)) (second_parts (map (fold_pattern become becoming) (map (λ (p : PatternPart). p.0) ps))) (each_pattern ps)
 
-arm_claim : (y : ArmLevel Held) → arm_wide (map_arm trees wide (folds wide widths) (map_arm Held trees tree y)) ≡ true
+arm_claim : (y : ArmLevel Held)
     → ArmLowers (seeing.arm (map_arm trees seen (folds seen seeing) (map_arm Held trees tree y))).1 (becoming.arm (map_arm trees become (folds become becoming) (map_arm Held trees tree y))).1
-arm_claim y w =
-    let q = and_true (all_wide (map (fold_pattern wide widths) (map (λ (p : PatternPart). p.0) y.patterns))) (fold_expr wide widths y.value.0) w in
-    record { patterns = each_pattern y.patterns q.0; meanings = map (λ (p : PatternPart). meant_pattern p.0) y.patterns; give = each_pattern_gives y.patterns; value = expr_part y.value q.1 }
+arm_claim y = record { patterns = each_pattern y.patterns; meanings = map (λ (p : PatternPart). meant_pattern p.0) y.patterns; give = each_pattern_gives y.patterns; value = expr_part y.value }
 
 -- ---- statements and blocks
 
-bind_claim : (y : LetLevel Held) → let_wide (map_bind trees wide (folds wide widths) (map_bind Held trees tree y)) ≡ true
+bind_claim : (y : LetLevel Held)
     → StatementLowers (seeing.bind (map_bind trees seen (folds seen seeing) (map_bind Held trees tree y))).1 (becoming.bind (map_bind trees become (folds become becoming) (map_bind Held trees tree y))).1
-bind_claim y w = by_type y.ty
+bind_claim y = by_type y.ty
   where
-    parts : ((wide_if (map_bind trees wide (folds wide widths) (map_bind Held trees tree y)).ty && fold_expr wide widths y.value.0) ≡ true) × (fold_pattern wide widths y.pattern.0 ≡ true)
-    parts = and_true (wide_if (map_bind trees wide (folds wide widths) (map_bind Held trees tree y)).ty && fold_expr wide widths y.value.0) (fold_pattern wide widths y.pattern.0) w
-
-    value : fold_expr wide widths y.value.0 ≡ true
-    value = (and_true (wide_if (map_bind trees wide (folds wide widths) (map_bind Held trees tree y)).ty) (fold_expr wide widths y.value.0) parts.0).1
-
     with_type : Option TypePart → LetLevel Held
     with_type o = record { span = y.span; pattern = y.pattern; ty = o; value = y.value }
 
     by_type : (o : Option TypePart) → StatementLowers (seeing.bind (map_bind trees seen (folds seen seeing) (map_bind Held trees tree (with_type o)))).1 (becoming.bind (map_bind trees become (folds become becoming) (map_bind Held trees tree (with_type o)))).1
     by_type None =
         let_lowers (span_of (fold_expr seen seeing y.value.0)) (fold_expr seen seeing y.value.0) (fold_expr become becoming y.value.0).1 None None (fold_pattern seen seeing y.pattern.0) (fold_pattern become becoming y.pattern.0).1
-        (meant_pattern y.pattern.0) (expr_part y.value value) tt (y.pattern.1 parts.1) (pattern_gives y.pattern.0)
+        (meant_pattern y.pattern.0) (expr_part y.value) tt y.pattern.1 (pattern_gives y.pattern.0)
     by_type (Some t) =
         let_lowers (span_of (fold_expr seen seeing y.value.0)) (fold_expr seen seeing y.value.0) (fold_expr become becoming y.value.0).1 (Some (fold_type_expr seen seeing t.0)) (Some (written_type t.0)) (fold_pattern seen seeing y.pattern.0)
-        (fold_pattern become becoming y.pattern.0).1 (meant_pattern y.pattern.0) (expr_part y.value value) (type_stands t.0) (y.pattern.1 parts.1) (pattern_gives y.pattern.0)
+        (fold_pattern become becoming y.pattern.0).1 (meant_pattern y.pattern.0) (expr_part y.value) (type_stands t.0) y.pattern.1 (pattern_gives y.pattern.0)
 
-stmt_claim : (y : StmtLevel Held) → stmt_wide (map_stmt trees wide (folds wide widths) (map_stmt Held trees tree y)) ≡ true
+stmt_claim : (y : StmtLevel Held)
     → StatementLowers (seeing.stmt (map_stmt trees seen (folds seen seeing) (map_stmt Held trees tree y))).1 (becoming.stmt (map_stmt trees become (folds become becoming) (map_stmt Held trees tree y))).1
-stmt_claim (Stmt-F.Let l) w = l.1 w
-stmt_claim (Stmt-F.Bare e) w = record { lowers = (bare_lowers (fold_expr seen seeing e.0)).lowers }
+stmt_claim (Stmt-F.Let l) = l.1
+stmt_claim (Stmt-F.Bare e) = record { lowers = (bare_lowers (fold_expr seen seeing e.0)).lowers }
 
-block_claim : (y : BlockLevel Held) → block_wide (map_block trees wide (folds wide widths) (map_block Held trees tree y)) ≡ true
+block_claim : (y : BlockLevel Held)
     → PartClaim ((seeing.block (map_block trees seen (folds seen seeing) (map_block Held trees tree y))).1 false) (becoming.block (map_block trees become (folds become becoming) (map_block Held trees tree y))).1
-block_claim y w = by_value y.value w
+block_claim y = by_value y.value
   where
     with_value : Option ExprPart → BlockLevel Held
     with_value o = record { span = y.span; statements = y.statements; value = o }
@@ -438,23 +354,20 @@ block_claim y w = by_value y.value w
     ls : List (Lowers → Lowers)
     ls = map (λ (s : Stmt × (Lowers → Lowers)). s.1) (map (fold_stmt become becoming) (map (λ (p : StmtPart). p.0) y.statements))
 
-    by_value : (o : Option ExprPart) → block_wide (map_block trees wide (folds wide widths) (map_block Held trees tree (with_value o))) ≡ true
+    by_value : (o : Option ExprPart)
         → PartClaim ((seeing.block (map_block trees seen (folds seen seeing) (map_block Held trees tree (with_value o)))).1 false) (becoming.block (map_block trees become (folds become becoming) (map_block Held trees tree (with_value o)))).1
-    by_value None w =
-        let q = and_true (all_wide (map (fold_stmt wide widths) (map (λ (p : StmtPart). p.0) y.statements))) true w in
-        record { lowers = block_lowers y.span ss ls None None (each_stmt y.statements q.0) tt; limited = block_limited y.span ss None }
-    by_value (Some e) w =
-        let q = and_true (all_wide (map (fold_stmt wide widths) (map (λ (p : StmtPart). p.0) y.statements))) (fold_expr wide widths e.0) w in
+    by_value None = record { lowers = block_lowers y.span ss ls None None (each_stmt y.statements) tt; limited = block_limited y.span ss None }
+    by_value (Some e) =
         record {
-          lowers = block_lowers y.span ss ls (Some (fold_expr seen seeing e.0)) (Some (fold_expr become becoming e.0)) (each_stmt y.statements q.0) (expr_part e q.1);
+          lowers = block_lowers y.span ss ls (Some (fold_expr seen seeing e.0)) (Some (fold_expr become becoming e.0)) (each_stmt y.statements) (expr_part e);
           limited = block_limited y.span ss (Some (fold_expr seen seeing e.0));
         }
 
 -- ---- loops
 
-loop_claim : (y : ForLevel Held) → for_wide (map_loop trees wide (folds wide widths) (map_loop Held trees tree y)) ≡ true → (span : Span)
+loop_claim : (y : ForLevel Held) → (span : Span)
     → PartClaim ((seeing.loop (map_loop trees seen (folds seen seeing) (map_loop Held trees tree y))).1 span) (becoming.loop (map_loop trees become (folds become becoming) (map_loop Held trees tree y))).1
-loop_claim y w span = by_type y.ty
+loop_claim y span = by_type y.ty
   where
     with_type : Option TypePart → ForLevel Held
     with_type o = record { index = y.index; accumulator = y.accumulator; ty = o; from = y.from; to = y.to; body = y.body; start = y.start }
@@ -462,16 +375,6 @@ loop_claim y w span = by_type y.ty
     claim : (o : Option TypePart) (g : Option Typing) → TypeStandsIf (map_loop trees seen (folds seen seeing) (map_loop Held trees tree (with_type o))).ty g
         → PartClaim ((seeing.loop (map_loop trees seen (folds seen seeing) (map_loop Held trees tree (with_type o)))).1 span) (becoming.loop (map_loop trees become (folds become becoming) (map_loop Held trees tree (with_type o)))).1
     claim o g stands =
-        let b0 = fold_expr wide widths y.from.0 in
-        let b1 = fold_expr wide widths y.to.0 in
-        let b2 = fold_expr wide widths y.start.0 in
-        let b3 = fold_pattern wide widths y.index.0 in
-        let b4 = fold_pattern wide widths y.accumulator.0 in
-        let p = and_true ((((b0 && b1) && b2) && b3) && b4) (fold_block wide widths y.body.0) w in
-        let q = and_true (((b0 && b1) && b2) && b3) b4 p.0 in
-        let r = and_true ((b0 && b1) && b2) b3 q.0 in
-        let s = and_true (b0 && b1) b2 r.0 in
-        let t = and_true b0 b1 s.0 in
         let from = fold_expr seen seeing y.from.0 in
         let to = fold_expr seen seeing y.to.0 in
         let start = fold_expr seen seeing y.start.0 in
@@ -489,7 +392,7 @@ loop_claim y w span = by_type y.ty
           lowers = subst (λ u. PartLowers judged (λ place. loop_lowered (lowered_start.1 place) (lowered_from.1 place) (and_then (constant_at place lowered_from.0) bits_of) (and_then (constant_at place u) bits_of) il al bl place)) (same_tree y.to.0)
               (subst (λ u. PartLowers judged (λ place. loop_lowered (lowered_start.1 place) (lowered_from.1 place) (and_then (constant_at place u) bits_of) (and_then (constant_at place to.0) bits_of) il al bl place)) (same_tree y.from.0)
               (loop_lowers span (span_of_block body) from to start lowered_from.1 (fold_expr become becoming y.to.0).1 lowered_start.1 written g index acc il al (meant_pattern y.index.0) (meant_pattern y.accumulator.0) body bl
-              (expr_part y.from t.0) (expr_part y.to t.1) (expr_part y.start s.1) stands (y.index.1 r.1) (y.accumulator.1 q.1) (pattern_gives y.index.0) (pattern_gives y.accumulator.0) (block_part y.body p.1)));
+              (expr_part y.from) (expr_part y.to) (expr_part y.start) stands y.index.1 y.accumulator.1 (pattern_gives y.index.0) (pattern_gives y.accumulator.0) (block_part y.body)));
           limited = loop_limited span (span_of_block body) (λ sight. loop_at sight from to start written index acc body (same_ends (constant_of sight from).judgement.ty (constant_of sight to).judgement.ty));
         }
 
@@ -499,9 +402,9 @@ loop_claim y w span = by_type y.ty
 
 -- ---- numbers and fields
 
-number_claim : (y : NumberLevel Held) → wide_if (map_number trees wide (folds wide widths) (map_number Held trees tree y)).ty ≡ true → (span : Span)
+number_claim : (y : NumberLevel Held) → (span : Span)
     → NumberClaim ((seeing.number (map_number trees seen (folds seen seeing) (map_number Held trees tree y))).1 span) (becoming.number (map_number trees become (folds become becoming) (map_number Held trees tree y))).1
-number_claim y w span = by_type y.ty w
+number_claim y span = by_type y.ty
   where
     number : Bare
     number = record { is_negative = y.is_negative; value = y.value }
@@ -509,17 +412,17 @@ number_claim y w span = by_type y.ty w
     with_type : Option TypePart → NumberLevel Held
     with_type o = record { ty = o; is_negative = y.is_negative; value = y.value }
 
-    by_type : (o : Option TypePart) → wide_if (map_number trees wide (folds wide widths) (map_number Held trees tree (with_type o))).ty ≡ true
+    by_type : (o : Option TypePart)
         → NumberClaim ((seeing.number (map_number trees seen (folds seen seeing) (map_number Held trees tree (with_type o)))).1 span) (becoming.number (map_number trees become (folds become becoming) (map_number Held trees tree (with_type o)))).1
-    by_type None w = record {
+    by_type None = record {
       stands = record {
         lowers = λ here sight env place h at fine. refl;
         known = λ here sight env place h at fine. some_fault (breaks 7 span) [] (settled_fine (reaching sight.known here) span None (breaks 7 span ∷ []) [] (Some 1) fine).faults;
       };
       limited = number_limited span None number;
     }
-    by_type (Some t) w =
-        let part = type_part t w in
+    by_type (Some t) =
+        let part = type_part t in
         let j = (fold_type_expr seen seeing t.0).1 in
         record {
           stands = record {
@@ -533,16 +436,16 @@ number_claim y w span = by_type y.ty w
           limited = number_limited span (Some j) number;
         }
 
-field_claim : (y : FieldValueLevel Held) → wide_if (map_field trees wide (folds wide widths) (map_field Held trees tree y)).value ≡ true
+field_claim : (y : FieldValueLevel Held)
     → FieldLowers (seeing.field (map_field trees seen (folds seen seeing) (map_field Held trees tree y))).1 (becoming.field (map_field trees become (folds become becoming) (map_field Held trees tree y))).1
-field_claim y w = by_value y.value w
+field_claim y = by_value y.value
   where
     with_value : Option ExprPart → FieldValueLevel Held
     with_value o = record { name = y.name; value = o }
 
-    by_value : (o : Option ExprPart) → wide_if (map_field trees wide (folds wide widths) (map_field Held trees tree (with_value o))).value ≡ true
+    by_value : (o : Option ExprPart)
         → FieldLowers (seeing.field (map_field trees seen (folds seen seeing) (map_field Held trees tree (with_value o)))).1 (becoming.field (map_field trees become (folds become becoming) (map_field Held trees tree (with_value o)))).1
-    by_value None w = record {
+    by_value None = record {
       name = refl;
       lowers = λ here sight struct env place h at fine.
           let j = name_judged y.name.span sight y.name.name in
@@ -553,11 +456,11 @@ field_claim y w = by_value y.value w
           (name_limited y.name.span y.name.name sight a.fine.faults g.0 g.1) in
           record { expr = b.expr; is = b.is; typed = a.same_type ∙ b.typed; declared = b.declared; value = b.value; given = b.given; narrow = b.narrow };
     }
-    by_value (Some e) w = record {
+    by_value (Some e) = record {
       name = refl;
       lowers = λ here sight struct env place h at fine.
           let a = alone sight (fold_expr seen seeing e.0) in
-          let b = alone_becomes here sight env place (fold_expr seen seeing e.0) (fold_expr become becoming e.0).1 (expr_part e w) h at (none_in a.faults _ fine.faults).0 fine.reached in
+          let b = alone_becomes here sight env place (fold_expr seen seeing e.0) (fold_expr become becoming e.0).1 (expr_part e) h at (none_in a.faults _ fine.faults).0 fine.reached in
           record { expr = b.expr; is = b.is; typed = b.typed; declared = b.declared; value = b.value; given = b.given; narrow = b.narrow };
     }
 
@@ -569,58 +472,58 @@ moved R {a' = a'} {b = b} e f h = subst (λ x. R x b) (sym e) (subst (λ y. R a'
 
 all_become : HoldOn becomes_something
 all_become = record {
-  stmt = λ y w. moved (λ p q. StatementLowers p.1 q.1) (fold_stmt-roll seen seeing (map_stmt Held trees tree y)) (fold_stmt-roll become becoming (map_stmt Held trees tree y)) (stmt_claim y (sym (fold_stmt-roll wide widths (map_stmt Held trees tree y)) ∙ w));
-  node = λ y w span. moved (λ p q. PartClaim (p.1 span false) q.1) (fold_node-roll seen seeing (map_node Held trees tree y)) (fold_node-roll become becoming (map_node Held trees tree y)) (node_claim y (sym (fold_node-roll wide widths (map_node Held trees tree y)) ∙ w) span);
-  shape = λ y w span. moved (λ p q. PatternLowers (p.1 span) q.1) (fold_shape-roll seen seeing (map_shape Held trees tree y)) (fold_shape-roll become becoming (map_shape Held trees tree y)) (shape_claim y (sym (fold_shape-roll wide widths (map_shape Held trees tree y)) ∙ w) span);
-  type_node = λ y w span. moved (λ p q. TypeClaim (p.1 span) q.1) (fold_type_node-roll seen seeing (map_type_node Held trees tree y)) (fold_type_node-roll become becoming (map_type_node Held trees tree y)) (type_claim y (sym (fold_type_node-roll wide widths (map_type_node Held trees tree y)) ∙ w) span);
-  block = λ y w. moved (λ p q. PartClaim (p.1 false) q.1) (fold_block-roll seen seeing (map_block Held trees tree y)) (fold_block-roll become becoming (map_block Held trees tree y)) (block_claim y (sym (fold_block-roll wide widths (map_block Held trees tree y)) ∙ w));
-  bind = λ y w. moved (λ p q. StatementLowers p.1 q.1) (fold_bind-roll seen seeing (map_bind Held trees tree y)) (fold_bind-roll become becoming (map_bind Held trees tree y)) (bind_claim y (sym (fold_bind-roll wide widths (map_bind Held trees tree y)) ∙ w));
-  arg = λ y w. moved (λ p q. ArgClaim p.1 q.1) (fold_arg-roll seen seeing (map_arg Held trees tree y)) (fold_arg-roll become becoming (map_arg Held trees tree y)) (record { same = same_tree y.value.0; gives = (meant y.value.0, expression_gives y.value.0) });
-  arm = λ y w. moved (λ p q. ArmLowers p.1 q.1) (fold_arm-roll seen seeing (map_arm Held trees tree y)) (fold_arm-roll become becoming (map_arm Held trees tree y)) (arm_claim y (sym (fold_arm-roll wide widths (map_arm Held trees tree y)) ∙ w));
-  expr = λ y w. moved (λ p q. PartClaim (p.1 false) q.1) (fold_expr-roll seen seeing (map_expr Held trees tree y)) (fold_expr-roll become becoming (map_expr Held trees tree y)) (expr_claim y (sym (fold_expr-roll wide widths (map_expr Held trees tree y)) ∙ w));
-  field = λ y w. moved (λ p q. FieldLowers p.1 q.1) (fold_field-roll seen seeing (map_field Held trees tree y)) (fold_field-roll become becoming (map_field Held trees tree y)) (field_claim y (sym (fold_field-roll wide widths (map_field Held trees tree y)) ∙ w));
-  loop = λ y w span. moved (λ p q. PartClaim (p.1 span) q.1) (fold_loop-roll seen seeing (map_loop Held trees tree y)) (fold_loop-roll become becoming (map_loop Held trees tree y)) (loop_claim y (sym (fold_loop-roll wide widths (map_loop Held trees tree y)) ∙ w) span);
-  number = λ y w span. moved (λ p q. NumberClaim (p.1 span) q.1) (fold_number-roll seen seeing (map_number Held trees tree y)) (fold_number-roll become becoming (map_number Held trees tree y)) (number_claim y (sym (fold_number-roll wide widths (map_number Held trees tree y)) ∙ w) span);
-  pattern = λ y w. moved (λ p q. PatternLowers p.1 q.1) (fold_pattern-roll seen seeing (map_pattern Held trees tree y)) (fold_pattern-roll become becoming (map_pattern Held trees tree y)) (y.shape.1 (sym (fold_pattern-roll wide widths (map_pattern Held trees tree y)) ∙ w) y.span);
-  type_expr = λ y w. moved (λ p q. TypeClaim p.1 q.1) (fold_type_expr-roll seen seeing (map_type_expr Held trees tree y)) (fold_type_expr-roll become becoming (map_type_expr Held trees tree y)) (y.node.1 (sym (fold_type_expr-roll wide widths (map_type_expr Held trees tree y)) ∙ w) y.span);
+  stmt = λ y. moved (λ p q. StatementLowers p.1 q.1) (fold_stmt-roll seen seeing (map_stmt Held trees tree y)) (fold_stmt-roll become becoming (map_stmt Held trees tree y)) (stmt_claim y);
+  node = λ y span. moved (λ p q. PartClaim (p.1 span false) q.1) (fold_node-roll seen seeing (map_node Held trees tree y)) (fold_node-roll become becoming (map_node Held trees tree y)) (node_claim y span);
+  shape = λ y span. moved (λ p q. PatternLowers (p.1 span) q.1) (fold_shape-roll seen seeing (map_shape Held trees tree y)) (fold_shape-roll become becoming (map_shape Held trees tree y)) (shape_claim y span);
+  type_node = λ y span. moved (λ p q. TypeClaim (p.1 span) q.1) (fold_type_node-roll seen seeing (map_type_node Held trees tree y)) (fold_type_node-roll become becoming (map_type_node Held trees tree y)) (type_claim y span);
+  block = λ y. moved (λ p q. PartClaim (p.1 false) q.1) (fold_block-roll seen seeing (map_block Held trees tree y)) (fold_block-roll become becoming (map_block Held trees tree y)) (block_claim y);
+  bind = λ y. moved (λ p q. StatementLowers p.1 q.1) (fold_bind-roll seen seeing (map_bind Held trees tree y)) (fold_bind-roll become becoming (map_bind Held trees tree y)) (bind_claim y);
+  arg = λ y. moved (λ p q. ArgClaim p.1 q.1) (fold_arg-roll seen seeing (map_arg Held trees tree y)) (fold_arg-roll become becoming (map_arg Held trees tree y)) (record { same = same_tree y.value.0; gives = (meant y.value.0, expression_gives y.value.0) });
+  arm = λ y. moved (λ p q. ArmLowers p.1 q.1) (fold_arm-roll seen seeing (map_arm Held trees tree y)) (fold_arm-roll become becoming (map_arm Held trees tree y)) (arm_claim y);
+  expr = λ y. moved (λ p q. PartClaim (p.1 false) q.1) (fold_expr-roll seen seeing (map_expr Held trees tree y)) (fold_expr-roll become becoming (map_expr Held trees tree y)) (expr_claim y);
+  field = λ y. moved (λ p q. FieldLowers p.1 q.1) (fold_field-roll seen seeing (map_field Held trees tree y)) (fold_field-roll become becoming (map_field Held trees tree y)) (field_claim y);
+  loop = λ y span. moved (λ p q. PartClaim (p.1 span) q.1) (fold_loop-roll seen seeing (map_loop Held trees tree y)) (fold_loop-roll become becoming (map_loop Held trees tree y)) (loop_claim y span);
+  number = λ y span. moved (λ p q. NumberClaim (p.1 span) q.1) (fold_number-roll seen seeing (map_number Held trees tree y)) (fold_number-roll become becoming (map_number Held trees tree y)) (number_claim y span);
+  pattern = λ y. moved (λ p q. PatternLowers p.1 q.1) (fold_pattern-roll seen seeing (map_pattern Held trees tree y)) (fold_pattern-roll become becoming (map_pattern Held trees tree y)) (y.shape.1 y.span);
+  type_expr = λ y. moved (λ p q. TypeClaim p.1 q.1) (fold_type_expr-roll seen seeing (map_type_expr Held trees tree y)) (fold_type_expr-roll become becoming (map_type_expr Held trees tree y)) (y.node.1 y.span);
 }
   where
-    expr_claim : (y : ExprLevel Held) → fold_node wide widths y.node.0 ≡ true → PartClaim ((fold_node seen seeing y.node.0).1 y.span false) (fold_node become becoming y.node.0).1
-    expr_claim y w = y.node.1 w y.span
+    expr_claim : (y : ExprLevel Held) → PartClaim ((fold_node seen seeing y.node.0).1 y.span false) (fold_node become becoming y.node.0).1
+    expr_claim y = y.node.1 y.span
 
-pub expression_part : (e : Expr) → writes_widths e ≡ true → ExprLowers (expr_pair e) (expression_lowered e)
-expression_part e w = expr_part (e, holds_expr becomes_something all_become e) w
+pub expression_part : (e : Expr) → ExprLowers (expr_pair e) (expression_lowered e)
+expression_part e = expr_part (e, holds_expr becomes_something all_become e)
 
-pub pattern_part : (p : Pattern) → fold_pattern wide widths p ≡ true → PatternLowers (fold_pattern seen seeing p).1 (fold_pattern become becoming p).1
+pub pattern_part : (p : Pattern) → PatternLowers (fold_pattern seen seeing p).1 (fold_pattern become becoming p).1
 pattern_part = holds_pattern becomes_something all_become
 
 -- whole parts, with what else is known of what they become
-pub block_part_becomes : (here : Instance → Bool) (sight : Sight) (env : Env) (place : CorePlace) (b : Block) → block_writes_widths b ≡ true → IsWellTyped sight env → StandsBeside here sight place
+pub block_part_becomes : (here : Instance → Bool) (sight : Sight) (env : Env) (place : CorePlace) (b : Block) → IsWellTyped sight env → StandsBeside here sight place
     → IsFine (reaching sight.known here) ((block_pair b).1 false sight) → Becomes (types_at sight) ((block_pair b).1 false sight) (block_of_text_lowered b place)
-block_part_becomes here sight env place b w h at fine = block_becomes here sight env place (block_pair b).1 (block_of_text_lowered b) (block_part (b, holds_block becomes_something all_become b) w) h at fine
+block_part_becomes here sight env place b h at fine = block_becomes here sight env place (block_pair b).1 (block_of_text_lowered b) (block_part (b, holds_block becomes_something all_become b)) h at fine
 
-pub type_part_becomes : (here : Instance → Bool) (sight : Sight) (env : Env) (place : CorePlace) (t : TypeExpr) → type_writes_widths t ≡ true → IsWellTyped sight env → StandsBeside here sight place
+pub type_part_becomes : (here : Instance → Bool) (sight : Sight) (env : Env) (place : CorePlace) (t : TypeExpr) → IsWellTyped sight env → StandsBeside here sight place
     → IsFine (reaching sight.known here) ((type_pair t).1 sight) → BecomesType (types_at sight) ((type_pair t).1 sight) (type_of_text_lowered t place)
-type_part_becomes here sight env place t w h at fine = type_becomes here sight env place (type_pair t).1 (type_of_text_lowered t) (type_part (t, holds_type_expr becomes_something all_become t) w) h at fine
+type_part_becomes here sight env place t h at fine = type_becomes here sight env place (type_pair t).1 (type_of_text_lowered t) (type_part (t, holds_type_expr becomes_something all_become t)) h at fine
 
 -- an expression becomes something of its type
-pub expression_is_lowered : (e : Expr) → writes_widths e ≡ true → IsLoweredWhereFine ((expr_pair e).1 false) (expression_lowered e)
-expression_is_lowered e w here sight env place h at fine =
-    let b = within_becomes here sight env place (expr_pair e) (expression_lowered e) (expression_part e w) h at fine in
+pub expression_is_lowered : (e : Expr) → IsLoweredWhereFine ((expr_pair e).1 false) (expression_lowered e)
+expression_is_lowered e here sight env place h at fine =
+    let b = within_becomes here sight env place (expr_pair e) (expression_lowered e) (expression_part e) h at fine in
     record { expr = b.expr; is = b.is; typed = b.typed }
 
 -- so does a block
-pub block_is_lowered : (b : Block) → block_writes_widths b ≡ true → IsLoweredWhereFine ((block_pair b).1 false) (block_of_text_lowered b)
-block_is_lowered b w here sight env place h at fine =
-    let c = block_part_becomes here sight env place b w h at fine in
+pub block_is_lowered : (b : Block) → IsLoweredWhereFine ((block_pair b).1 false) (block_of_text_lowered b)
+block_is_lowered b here sight env place h at fine =
+    let c = block_part_becomes here sight env place b h at fine in
     record { expr = c.expr; is = c.is; typed = c.typed }
 
 -- and a written type becomes what is known of it
-pub type_is_lowered : (t : TypeExpr) → type_writes_widths t ≡ true → TypeIsLoweredWhereFine (type_pair t).1 (type_of_text_lowered t)
-type_is_lowered t w here sight env place h at fine =
-    let b = type_part_becomes here sight env place t w h at fine in
+pub type_is_lowered : (t : TypeExpr) → TypeIsLoweredWhereFine (type_pair t).1 (type_of_text_lowered t)
+type_is_lowered t here sight env place h at fine =
+    let b = type_part_becomes here sight env place t h at fine in
     record { ty = b.ty; is = b.is; typed = b.typed }
 
 -- all bits in a type have a width
-pub type_is_wide : (t : TypeExpr) → type_writes_widths t ≡ true → IsWide (type_pair t).1
-type_is_wide t w = (type_part (t, holds_type_expr becomes_something all_become t) w).wide
+pub type_is_wide : (t : TypeExpr) → IsWide (type_pair t).1
+type_is_wide t = (type_part (t, holds_type_expr becomes_something all_become t)).wide

@@ -31,7 +31,6 @@ use Rattle.dslx_meaning.specs.Types.{received, same_type, plain_type}
 use Rattle.dslx_meaning.specs.Lists.{and_then, where_true, with_both}
 use Rattle.dslx_meaning.specs.Environment.{Env}
 use Rattle.dslx_meaning.specs.Activation.{Computes, SiteAct, TakesWord, node_of, SendsWord, SendsWordIf, TakesWordIf, name_in_node, at_channel}
-use Rattle.dslx_total.specs.Expressions.Widths.{writes_widths}
 use Rattle.dslx_total.specs.Expressions.NextSteps.{MembersStand}
 use Rattle.dslx_total.specs.Expressions.Lowers.{reaching}
 use Rattle.dslx_total.specs.Expressions.Beside.{StandsBeside}
@@ -134,9 +133,9 @@ received_declared : (types : Declarations) (w : DslxType) → IsDeclared types w
 received_declared types w d = tuple_declared types (ty.Token ∷ w ∷ []) (token_declared types, (d, tt))
 
 module _ (here : Instance → Bool) (sight : Sight) (env : Env) (outer place : CorePlace) (ends : List End) (h : IsWellTyped sight env) (at : StandsBeside here sight place) (members : MembersStand sight outer ends) where
-  pub computes_there : (e : Expr) → writes_widths e ≡ true → IsFine (reaching sight.known here) ((expr_pair e).1 false sight) → ActThere (types_at sight) outer ends place e Computes ((expr_pair e).1 false sight)
-  computes_there e w fine =
-      let b = within_becomes here sight env place (expr_pair e) (expression_lowered e) (expression_part e w) h at fine in
+  pub computes_there : (e : Expr) → IsFine (reaching sight.known here) ((expr_pair e).1 false sight) → ActThere (types_at sight) outer ends place e Computes ((expr_pair e).1 false sight)
+  computes_there e fine =
+      let b = within_becomes here sight env place (expr_pair e) (expression_lowered e) (expression_part e) h at fine in
       record {
         own = b.expr.ty;
         typed = b.typed;
@@ -148,15 +147,15 @@ module _ (here : Instance → Bool) (sight : Sight) (env : Env) (outer place : C
       }
 
   -- the token that an effect takes
-  token_there : (t : Expr) → writes_widths t ≡ true → (token_judged sight (expr_pair t)).faults ≡ [] → list_all here (token_judged sight (expr_pair t)).reached ≡ true
+  token_there : (t : Expr) → (token_judged sight (expr_pair t)).faults ≡ [] → list_all here (token_judged sight (expr_pair t)).reached ≡ true
       → (u : DslxType) × ((token_judged sight (expr_pair t)).ty ≡ Some u)
-  token_there t w f r =
+  token_there t f r =
       let a = within sight (expr_pair t) in
-      let b = within_becomes here sight env place (expr_pair t) (expression_lowered t) (expression_part t w) h at (record { faults = (none_in a.faults (token_faults (span_of (expr_pair t)) a.ty) f).0; reached = r }) in
+      let b = within_becomes here sight env place (expr_pair t) (expression_lowered t) (expression_part t) h at (record { faults = (none_in a.faults (token_faults (span_of (expr_pair t)) a.ty) f).0; reached = r }) in
       (b.expr.ty, b.typed)
 
-  value_there : (e : Expr) → writes_widths e ≡ true → (alone sight (expr_pair e)).faults ≡ [] → list_all here (alone sight (expr_pair e)).reached ≡ true → Becomes (types_at sight) (alone sight (expr_pair e)) (expression_lowered e place)
-  value_there e w f r = alone_becomes here sight env place (expr_pair e) (expression_lowered e) (expression_part e w) h at f r
+  value_there : (e : Expr) → (alone sight (expr_pair e)).faults ≡ [] → list_all here (alone sight (expr_pair e)).reached ≡ true → Becomes (types_at sight) (alone sight (expr_pair e)) (expression_lowered e place)
+  value_there e f r = alone_becomes here sight env place (expr_pair e) (expression_lowered e) (expression_part e) h at f r
 
   -- a word of the member's type
   word_there : (e : Expr) (m : CoreMember) → IsDeclared (types_at sight) m.word → (b : Becomes (types_at sight) (alone sight (expr_pair e)) (expression_lowered e place)) (o : Option DslxType) → o ≡ Some m.word
@@ -169,12 +168,12 @@ module _ (here : Instance → Bool) (sight : Sight) (env : Env) (outer place : C
   member_there : (c : Expr) (ch : ChannelThere sight (expr_pair c) (name_of_expr (expr_pair c))) (act : List ℕ → SiteAct) → at_channel c act ≡ act ch.name
   member_there c ch act = ap (act_named act) (ap (λ x. name_in_node (node_of x)) (sym (own_expr judged_sorts judged_steps c)) ∙ ch.is)
 
-  pub receiving_there : (span : Span) (e t c : Expr) → writes_widths t ≡ true → IsFine (reaching sight.known here) (receiving span sight (expr_pair t ∷ expr_pair c ∷ []))
+  pub receiving_there : (span : Span) (e t c : Expr) → IsFine (reaching sight.known here) (receiving span sight (expr_pair t ∷ expr_pair c ∷ []))
       → ActThere (types_at sight) outer ends place e (at_channel c TakesWord) (receiving span sight (expr_pair t ∷ expr_pair c ∷ []))
-  receiving_there span e t c w fine =
+  receiving_there span e t c fine =
       let channel = channel_seen sight (expr_pair c) in
       let q = effect_fine (reaching sight.known here) span sight In (token_judged sight (expr_pair t)) channel [] [] (and_then (word_of channel) (λ w. Some (received w))) fine in
-      let tok = token_there t w q.token q.token_reached in
+      let tok = token_there t q.token q.token_reached in
       let ch = channel_there sight (expr_pair c) (name_of_expr (expr_pair c)) span In q.site in
       let m = members ch.name ch.outlet ch.found in
       let word : word_of channel ≡ Some m.member.word = ch.word ∙ m.word in
@@ -189,17 +188,17 @@ module _ (here : Instance → Bool) (sight : Sight) (env : Env) (outer place : C
             ∙ one_step (step.Receive (record { member = m.member.number; word = plain_type m.member.word; condition = None; shape = s.shape })) (rest s.place);
       })
 
-  pub sending_there : (span : Span) (e t c x : Expr) → writes_widths t ≡ true → writes_widths x ≡ true → IsFine (reaching sight.known here) (sending span sight (expr_pair t ∷ expr_pair c ∷ expr_pair x ∷ []))
+  pub sending_there : (span : Span) (e t c x : Expr) → IsFine (reaching sight.known here) (sending span sight (expr_pair t ∷ expr_pair c ∷ expr_pair x ∷ []))
       → ActThere (types_at sight) outer ends place e (at_channel c (λ name. SendsWord name x)) (sending span sight (expr_pair t ∷ expr_pair c ∷ expr_pair x ∷ []))
-  sending_there span e t c x w wx fine =
+  sending_there span e t c x fine =
       let channel = channel_seen sight (expr_pair c) in
       let value = alone sight (expr_pair x) in
       let q = effect_fine (reaching sight.known here) span sight Out (token_judged sight (expr_pair t)) channel (value ∷ []) (wanted_faults (span_of (expr_pair x)) (word_of channel) value.ty) (and_then (word_of channel) (λ w. Some ty.Token)) fine in
-      let tok = token_there t w q.token q.token_reached in
+      let tok = token_there t q.token q.token_reached in
       let ch = channel_there sight (expr_pair c) (name_of_expr (expr_pair c)) span Out q.site in
       let m = members ch.name ch.outlet ch.found in
       let word : word_of channel ≡ Some m.member.word = ch.word ∙ m.word in
-      let b = value_there x wx (none_in value.faults [] q.others).0 (all_in here value.reached [] q.others_reached).0 in
+      let b = value_there x (none_in value.faults [] q.others).0 (all_in here value.reached [] q.others_reached).0 in
       let of = word_there x m.member m.declared b (word_of channel) word q.more in
       subst (λ a. ActThere (types_at sight) outer ends place e a (sending span sight (expr_pair t ∷ expr_pair c ∷ expr_pair x ∷ []))) (sym (member_there c ch (λ name. SendsWord name x)))
       (record {
@@ -213,24 +212,24 @@ module _ (here : Instance → Bool) (sight : Sight) (env : Env) (outer place : C
             ∙ one_step (step.Send (record { member = m.member.number; condition = None; word = b.expr.core; shape = s.shape })) (rest s.place);
       })
 
-  pub receiving_if_there : (span : Span) (e t c p x : Expr) → writes_widths t ≡ true → writes_widths p ≡ true → writes_widths x ≡ true
+  pub receiving_if_there : (span : Span) (e t c p x : Expr)
       → IsFine (reaching sight.known here) (receiving_if span sight (expr_pair t ∷ expr_pair c ∷ expr_pair p ∷ expr_pair x ∷ []))
       → ActThere (types_at sight) outer ends place e (at_channel c (λ name. TakesWordIf name p x)) (receiving_if span sight (expr_pair t ∷ expr_pair c ∷ expr_pair p ∷ expr_pair x ∷ []))
-  receiving_if_there span e t c p x w wp wx fine =
+  receiving_if_there span e t c p x fine =
       let channel = channel_seen sight (expr_pair c) in
       let test = alone sight (expr_pair p) in
       let value = alone sight (expr_pair x) in
       let bool = unless_type is_bool 15 (span_of (expr_pair p)) test.ty in
       let wrong = wanted_faults (span_of (expr_pair x)) (word_of channel) value.ty in
       let q = effect_fine (reaching sight.known here) span sight In (token_judged sight (expr_pair t)) channel (test ∷ value ∷ []) (bool ++ wrong) (and_then (word_of channel) (λ w. Some (received w))) fine in
-      let tok = token_there t w q.token q.token_reached in
+      let tok = token_there t q.token q.token_reached in
       let ch = channel_there sight (expr_pair c) (name_of_expr (expr_pair c)) span In q.site in
       let m = members ch.name ch.outlet ch.found in
       let word : word_of channel ≡ Some m.member.word = ch.word ∙ m.word in
       let f = none_in test.faults (value.faults ++ []) q.others in
       let r = all_in here test.reached (value.reached ++ []) q.others_reached in
-      let a = value_there p wp f.0 r.0 in
-      let b = value_there x wx (none_in value.faults [] f.1).0 (all_in here value.reached [] r.1).0 in
+      let a = value_there p f.0 r.0 in
+      let b = value_there x (none_in value.faults [] f.1).0 (all_in here value.reached [] r.1).0 in
       let of = word_there x m.member m.declared b (word_of channel) word (none_in bool wrong q.more).1 in
       subst (λ a. ActThere (types_at sight) outer ends place e a (receiving_if span sight (expr_pair t ∷ expr_pair c ∷ expr_pair p ∷ expr_pair x ∷ []))) (sym (member_there c ch (λ name. TakesWordIf name p x)))
       (record {
@@ -244,24 +243,24 @@ module _ (here : Instance → Bool) (sight : Sight) (env : Env) (outer place : C
             ∙ one_step (step.Receive (record { member = m.member.number; word = plain_type m.member.word; condition = Some (a.expr.core, b.expr.core); shape = s.shape })) (rest s.place);
       })
 
-  pub sending_if_there : (span : Span) (e t c p x : Expr) → writes_widths t ≡ true → writes_widths p ≡ true → writes_widths x ≡ true
+  pub sending_if_there : (span : Span) (e t c p x : Expr)
       → IsFine (reaching sight.known here) (sending_if span sight (expr_pair t ∷ expr_pair c ∷ expr_pair p ∷ expr_pair x ∷ []))
       → ActThere (types_at sight) outer ends place e (at_channel c (λ name. SendsWordIf name p x)) (sending_if span sight (expr_pair t ∷ expr_pair c ∷ expr_pair p ∷ expr_pair x ∷ []))
-  sending_if_there span e t c p x w wp wx fine =
+  sending_if_there span e t c p x fine =
       let channel = channel_seen sight (expr_pair c) in
       let test = alone sight (expr_pair p) in
       let value = alone sight (expr_pair x) in
       let bool = unless_type is_bool 15 (span_of (expr_pair p)) test.ty in
       let wrong = wanted_faults (span_of (expr_pair x)) (word_of channel) value.ty in
       let q = effect_fine (reaching sight.known here) span sight Out (token_judged sight (expr_pair t)) channel (test ∷ value ∷ []) (bool ++ wrong) (and_then (word_of channel) (λ w. Some ty.Token)) fine in
-      let tok = token_there t w q.token q.token_reached in
+      let tok = token_there t q.token q.token_reached in
       let ch = channel_there sight (expr_pair c) (name_of_expr (expr_pair c)) span Out q.site in
       let m = members ch.name ch.outlet ch.found in
       let word : word_of channel ≡ Some m.member.word = ch.word ∙ m.word in
       let f = none_in test.faults (value.faults ++ []) q.others in
       let r = all_in here test.reached (value.reached ++ []) q.others_reached in
-      let a = value_there p wp f.0 r.0 in
-      let b = value_there x wx (none_in value.faults [] f.1).0 (all_in here value.reached [] r.1).0 in
+      let a = value_there p f.0 r.0 in
+      let b = value_there x (none_in value.faults [] f.1).0 (all_in here value.reached [] r.1).0 in
       let of = word_there x m.member m.declared b (word_of channel) word (none_in bool wrong q.more).1 in
       subst (λ a. ActThere (types_at sight) outer ends place e a (sending_if span sight (expr_pair t ∷ expr_pair c ∷ expr_pair p ∷ expr_pair x ∷ []))) (sym (member_there c ch (λ name. SendsWordIf name p x)))
       (record {

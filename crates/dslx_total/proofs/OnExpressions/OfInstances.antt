@@ -29,9 +29,8 @@ use Rattle.dslx_meaning.specs.Lists.{all_some, and_then, is_in, where_true}
 use Rattle.dslx_meaning.specs.Items.{is_constant_item, item_named, numbers_bound, with_number}
 use Rattle.dslx_meaning.specs.Environment.{Env, Given, Meanings, bind}
 use Rattle.dslx_meaning.specs.Callees.{is_own_name}
-use Rattle.dslx_total.specs.Expressions.Widths.{block_writes_widths, type_writes_widths}
 use Rattle.dslx_total.specs.Expressions.Lowers.{IsClean, reaching}
-use Rattle.dslx_total.specs.Expressions.Instances.{InstanceIsLowered, function_writes_widths}
+use Rattle.dslx_total.specs.Expressions.Instances.{InstanceIsLowered}
 use Rattle.dslx_total.specs.Expressions.Beside.{StandsBeside}
 use Rattle.dslx_total.proofs.OnExpressions.Parts.{fine_there}
 use Rattle.dslx_total.proofs.OnExpressions.OfPatterns.{local_beside}
@@ -40,7 +39,6 @@ use Rattle.dslx_total.proofs.OnExpressions.Inhabited.{some_value}
 use Rattle.dslx_core.specs.Lowering.Trees.{block_of_text_lowered, type_of_text_lowered}
 use Rattle.dslx_core.specs.Lowering.Functions.{LoweredFunction, argument_types, arguments_placed, body_lowered, instance_lowered, numbers_stand, outer_place}
 use Rattle.dslx_core.specs.Lowering.CorePlaces.{CoreKnown, CorePlace, with_local}
-use Rattle.dslx_typing.proofs.Lemmas.Laws.{and_true}
 use Rattle.dslx_typing.specs.Typed.Kinds.{is_of}
 use Rattle.dslx_meaning.specs.Values.{type_of_value}
 
@@ -93,19 +91,18 @@ record ArgumentsStand (here : Instance → Bool) (sight : Sight) (fs : List Fiel
   typed : IsWellTyped (with_typed sight (arguments_typed sight locals fs)) env
 
 arguments_stand : (here : Instance → Bool) (sight : Sight) (outer : Env) (core : CoreKnown) → IsWellTyped sight outer → StandsBeside here sight (outer_place core) → (before : List (List ℕ)) (fs : List Field)
-    → list_all (λ (a : Field). type_writes_widths a.ty) fs ≡ true → (arguments_found sight before fs).faults ≡ [] → list_all here (arguments_found sight before fs).reached ≡ true
+    → (arguments_found sight before fs).faults ≡ [] → list_all here (arguments_found sight before fs).reached ≡ true
     → (locals : List Typed) (env : Env) (place : CorePlace) → IsWellTyped (with_typed sight locals) env → StandsBeside here (with_typed sight locals) place → ArgumentsStand here sight fs locals core place
-arguments_stand here sight outer core ho ao before [] w f r locals env place h at = record { types = []; are = refl; judged = refl; inner = refl; behind = place; placed = refl; stands = at; env = env; typed = h }
-arguments_stand here sight outer core ho ao before (g ∷ fs) w f r locals env place h at =
+arguments_stand here sight outer core ho ao before [] f r locals env place h at = record { types = []; are = refl; judged = refl; inner = refl; behind = place; placed = refl; stands = at; env = env; typed = h }
+arguments_stand here sight outer core ho ao before (g ∷ fs) f r locals env place h at =
     let listed = local_name sight before g.name in
     let j = judged_inner sight g.ty in
     let rest = arguments_found sight (g.name.name ∷ before) fs in
     let a = none_in listed (j.faults ++ rest.faults) f in
     let b = none_in j.faults rest.faults a.1 in
     let k = all_in here j.reached rest.reached r in
-    let wide = and_true (type_writes_widths g.ty) (list_all (λ (a : Field). type_writes_widths a.ty) fs) w in
     let own = (type_pair g.ty).1 sight in
-    let t = type_part_becomes here sight outer (outer_place core) g.ty wide.0 ho ao (record { faults = (none_in own.faults (unit_faults (span_of_type (type_pair g.ty)) own.ty) b.0).0; reached = k.0 }) in
+    let t = type_part_becomes here sight outer (outer_place core) g.ty ho ao (record { faults = (none_in own.faults (unit_faults (span_of_type (type_pair g.ty)) own.ty) b.0).0; reached = k.0 }) in
     let units = none_in own.faults (unit_faults (span_of_type (type_pair g.ty)) own.ty) b.0 in
     let not_unit = not_broken (is_unit t.ty) 31 (span_of_type (type_pair g.ty)) (ap (unit_faults (span_of_type (type_pair g.ty))) (sym t.typed) ∙ units.1) in
     let plain = plain_name sight ho.known before g.name a.0 in
@@ -113,7 +110,7 @@ arguments_stand here sight outer core ho ao before (g ∷ fs) w f r locals env p
     let local : Typed = record { name = g.name.name; ty = j.ty } in
     let h' = subst (λ o. IsWellTyped (with_typed sight (record { name = g.name.name; ty = o } ∷ locals)) (bind g.name.name v.0 env)) (sym t.typed) (bound_keeps sight locals env g.name.name t.ty v.0 h v.1 plain) in
     let at' = subst (λ o. StandsBeside here (with_typed sight (record { name = g.name.name; ty = o } ∷ locals)) (with_local g.name.name t.ty place)) (sym t.typed) (local_beside here sight locals place g.name.name t.ty at) in
-    let more = arguments_stand here sight outer core ho ao (g.name.name ∷ before) fs wide.1 b.1 k.1 (local ∷ locals) (bind g.name.name v.0 env) (with_local g.name.name t.ty place) h' at' in
+    let more = arguments_stand here sight outer core ho ao (g.name.name ∷ before) fs b.1 k.1 (local ∷ locals) (bind g.name.name v.0 env) (with_local g.name.name t.ty place) h' at' in
     record {
       types = t.ty ∷ more.types;
       are = λ i. t.is i ∷ more.are i;
@@ -142,10 +139,10 @@ result_there here sight env place h at (Some t) fine =
 
 -- ---- the instance
 
-pub instance_is_lowered : (here : Instance → Bool) (known : Known) (f : Function) (numbers : List DslxValue) (core : CoreKnown) → AllOwn known.items.type_named numbers → function_writes_widths f ≡ true
+pub instance_is_lowered : (here : Instance → Bool) (known : Known) (f : Function) (numbers : List DslxValue) (core : CoreKnown) → AllOwn known.items.type_named numbers
     → IsWellTyped (function_sight known f numbers) (record { items = known.items; bound = numbers_bound [] f.parameters numbers }) → StandsBeside here (function_sight known f numbers) (outer_place core)
     → IsClean here (function_seen known f numbers).found.faults (function_seen known f numbers).found.reached → InstanceIsLowered known f numbers (instance_lowered core f)
-instance_is_lowered here known f numbers core own w h at clean =
+instance_is_lowered here known f numbers core own h at clean =
     let sight = function_sight known f numbers in
     let outer : Env = record { items = known.items; bound = numbers_bound [] f.parameters numbers } in
     let parameters = parameters_found known f.name.name [] [] f.parameters numbers in
@@ -159,13 +156,12 @@ instance_is_lowered here known f numbers core own w h at clean =
     let p = all_in here parameters.reached (arguments.reached ++ (result.reached ++ body.reached)) clean.reached in
     let q = all_in here arguments.reached (result.reached ++ body.reached) p.1 in
     let r = all_in here result.reached body.reached q.1 in
-    let wide = and_true (list_all (λ (a : Field). type_writes_widths a.ty) f.arguments) (block_writes_widths f.body) w in
-    let args = arguments_stand here sight outer core h at [] f.arguments wide.0 b.0 q.0 [] outer (outer_place core) h at in
+    let args = arguments_stand here sight outer core h at [] f.arguments b.0 q.0 [] outer (outer_place core) h at in
     let j = (block_pair f.body).1 false inner in
     let wrong = wanted_faults (out-Block f.body).span result.ty j.ty in
     let size = size_faults known (out-Block f.body).span.to (record j { faults = j.faults ++ wrong }) in
     let own_faults = none_in j.faults wrong (none_in (j.faults ++ wrong) size c.1).0 in
-    let e = block_part_becomes here inner args.env args.behind f.body wide.1 args.typed args.stands (record { faults = own_faults.0; reached = r.1 }) in
+    let e = block_part_becomes here inner args.env args.behind f.body args.typed args.stands (record { faults = own_faults.0; reached = r.1 }) in
     let k = result_there here sight outer (outer_place core) h at f.result (record { faults = c.0; reached = r.0 }) in
     let same = passed (same_type k.ty e.expr.ty) 9 (out-Block f.body).span ((λ i. wanted_faults (out-Block f.body).span (sym k.typed i) (sym e.typed i)) ∙ own_faults.1) in
     let one = one_of_text (types_at sight) k.ty e.expr.ty same k.declared e.declared in

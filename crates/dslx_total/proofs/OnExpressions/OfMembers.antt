@@ -99,7 +99,7 @@ pub members_are_there : (here : Instance → Bool) (sight : Sight) (env : Env) (
     → IsClean here (ends_found sight [] ends).faults (ends_found sight [] ends).reached → MembersStand (record sight { members = map (outlet_of sight) ends }) outer ends
 members_are_there here sight env outer ends h at k clean name o q =
     let e = end_there here sight [] ends k clean name o q in
-    let t = type_part_becomes here sight env outer e.end.word e.words.written h at e.fine in
+    let t = type_part_becomes here sight env outer e.end.word h at e.fine in
     let sized = sized_there (types_at sight) h.known.parts t.ty t.declared in
     record {
       member = record { number = e.number; word = t.ty };

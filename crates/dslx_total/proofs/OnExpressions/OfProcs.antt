@@ -25,7 +25,6 @@ use Rattle.dslx_typing.specs.Typed.Declared.{AllDeclared, Declarations, Declares
 use Rattle.dslx_typing.proofs.Lemmas.Typed.{bound_keeps, element_declared, parts_declared, struct_declared, type_induction}
 use Rattle.dslx_typing.specs.Complete.Acts.{acts_found}
 use Rattle.dslx_typing.proofs.Lemmas.Sound.{all_in, none_in, passed}
-use Rattle.dslx_typing.proofs.Lemmas.Laws.{and_true}
 use Rattle.dslx_core.specs.Lowering.CorePlaces.{CoreKnown, CorePlace, with_local}
 use Rattle.dslx_core.specs.Lowering.EqualTypes.{equal_type}
 use Rattle.dslx_core.specs.Lowering.Functions.{numbers_stand, outer_place}
@@ -34,8 +33,7 @@ use Rattle.dslx_core.specs.Lowering.Trees.{type_of_text_lowered}
 use Rattle.dslx_total.specs.Expressions.Beside.{StandsBeside}
 use Rattle.dslx_total.specs.Expressions.Lowers.{IsClean}
 use Rattle.dslx_total.specs.Expressions.NextSteps.{MembersStand}
-use Rattle.dslx_total.specs.Expressions.Nexts.{NextIsLowered, members_sight, next_writes_widths}
-use Rattle.dslx_total.specs.Expressions.Widths.{block_writes_widths, type_writes_widths}
+use Rattle.dslx_total.specs.Expressions.Nexts.{NextIsLowered, members_sight}
 use Rattle.dslx_total.proofs.OnExpressions.Equal.{equal_of_text}
 use Rattle.dslx_total.proofs.OnExpressions.Inhabited.{some_value}
 use Rattle.dslx_total.proofs.OnExpressions.Joined.{type_part_becomes}
@@ -89,10 +87,10 @@ stands_with here sight members place at =
 
 -- ---- next
 
-pub next_is_lowered : (here : Instance → Bool) (known : Known) (p : Proc) (numbers : List DslxValue) (env : Env) (core : CoreKnown) → AllOwn known.items.type_named numbers → next_writes_widths p ≡ true
+pub next_is_lowered : (here : Instance → Bool) (known : Known) (p : Proc) (numbers : List DslxValue) (env : Env) (core : CoreKnown) → AllOwn known.items.type_named numbers
     → IsWellTyped (proc_sight known p numbers) env → StandsBeside here (proc_sight known p numbers) (outer_place core) → MembersStand (members_sight known p numbers) (outer_place core) p.members
     → IsClean here (acts_found known p numbers).faults (acts_found known p numbers).reached → NextIsLowered known p numbers (next_lowered core p)
-next_is_lowered here known p numbers env core own w h at members clean =
+next_is_lowered here known p numbers env core own h at members clean =
     let sight = proc_sight known p numbers in
     let outer = outer_place core in
     let name = p.next.state.name in
@@ -124,8 +122,7 @@ next_is_lowered here known p numbers env core own w h at members clean =
     let r4 = all_in here init.reached f5.reached r2.1 in
     let r6 = all_in here state.reached f7.reached r4.1 in
     let r7 = all_in here judged.reached sites.reached r6.1 in
-    let wide = and_true (type_writes_widths p.next.ty) (block_writes_widths body) w in
-    let t = type_part_becomes here sight env outer p.next.ty wide.0 h at (record { faults = a6.0; reached = r6.0 }) in
+    let t = type_part_becomes here sight env outer p.next.ty h at (record { faults = a6.0; reached = r6.0 }) in
     let plain = plain_name sight h.known [] p.next.state a5.0 in
     let v = some_value (types_at sight) h.known.parts t.ty t.declared in
     let h' = subst (λ o. IsWellTyped (with_typed sight (record { name = name; ty = o } ∷ [])) (bind name v.0 env)) (sym t.typed) (bound_keeps sight [] env name t.ty v.0 h v.1 plain) in
@@ -134,7 +131,7 @@ next_is_lowered here known p numbers env core own w h at members clean =
     let wrong = wanted_faults span state.ty j.ty in
     let size = size_faults known span.to (record j { faults = j.faults ++ wrong }) in
     let fine = none_in j.faults wrong (none_in (j.faults ++ wrong) size a7.0).0 in
-    let e = block_of_next body wide.1 here inner (bind name v.0 env) outer (with_local name t.ty outer) p.members (typed_with (with_typed sight (local ∷ [])) inside.members (bind name v.0 env) h')
+    let e = block_of_next body here inner (bind name v.0 env) outer (with_local name t.ty outer) p.members (typed_with (with_typed sight (local ∷ [])) inside.members (bind name v.0 env) h')
     (stands_with here (with_typed sight (local ∷ [])) inside.members (with_local name t.ty outer) at') members (record { faults = fine.0; reached = r7.0 }) in
     let same = passed (same_type t.ty e.steps.next.ty) 9 span ((λ i. wanted_faults span (sym t.typed i) (sym e.typed i)) ∙ fine.1) in
     let equal = equal_of_text (types_at sight) t.ty e.steps.next.ty same t.declared e.declared in

@@ -170,7 +170,7 @@ next_there known can is cs table i r =
       constants = λ name v q. (can.typed.constants name v q).declared;
     } in
     let typed = item_typed known can.complete can.typed r.function.name.name bound (own_bound known.items.type_named [] r.function.parameters i.numbers (none_own known) r.own) in
-    let l = instance_is_lowered r.here known r.function i.numbers core r.own r.widths typed at r.clean in
+    let l = instance_is_lowered r.here known r.function i.numbers core r.own typed at r.clean in
     let c : CoreInstance = record { name = i.name; numbers = i.numbers; function = l.function } in (
       c,
       ap (λ o. and_then o (λ f. and_then (instance_lowered (instance_known known.whole known.items cs f i.numbers) f) (λ l. Some (record { name = i.name; numbers = i.numbers; function = l })))) r.is

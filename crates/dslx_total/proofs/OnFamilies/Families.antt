@@ -1,7 +1,6 @@
 -- A proc with which nothing is wrong, and all that it spawns, as they are placed in a network.
-use Rattle.std.proofs.Common.{◌≡◌, ◌+◌, ◌++◌, ℕ, zero, suc, length, true, List, [], ◌∷◌, Option, Some, sym, ap, subst, ◌∙◌}
+use Rattle.std.proofs.Common.{◌≡◌, ◌+◌, ◌++◌, ℕ, zero, suc, length, List, [], ◌∷◌, Option, Some, sym, ap, subst, ◌∙◌}
 use Rattle.std.specs.Prelude.{flat_map}
-use Rattle.std.specs.List.{list_all}
 use Rattle.dslx_tree.specs.declared.item.Definition.TheVariants as d
 use Rattle.dslx_tree.specs.declared.item.Module.{Module}
 use Rattle.dslx_tree.specs.declared.process.End.{End}
@@ -18,7 +17,6 @@ use Rattle.dslx_meaning.specs.Rules.Judging.{Known, Sight}
 use Rattle.dslx_meaning.specs.Rules.Mentions.{making_mentions, parameter_names}
 use Rattle.dslx_meaning.specs.Rules.ModuleRules.{is_reached}
 use Rattle.dslx_meaning.specs.Rules.ProcRules.{Made, channel_found, ends_found, made_at_start, made_with, makings_found, proc_sight, spawn_found}
-use Rattle.dslx_typing.proofs.Lemmas.Laws.{and_true}
 use Rattle.dslx_typing.specs.Judged.Closed.{ends_within}
 use Rattle.dslx_typing.proofs.Lemmas.Sound.{all_in, none_in}
 use Rattle.dslx_typing.proofs.Lemmas.Depends.{meant_parts}
@@ -27,12 +25,8 @@ use Rattle.dslx_typing.specs.Typed.WellTyped.{IsWellTyped}
 use Rattle.dslx_typing.specs.Complete.Standing.{AreTyped}
 use Rattle.dslx_typing.proofs.Lemmas.Complete.{item_env}
 use Rattle.dslx_total.specs.Expressions.Beside.{NamesHaveWidths}
-use Rattle.dslx_total.specs.Expressions.Nexts.{next_writes_widths}
-use Rattle.dslx_total.specs.Expressions.Widths.{type_writes_widths}
 use Rattle.dslx_typing.specs.Procs.WordsOfEnds.{WordsAreValues}
 use Rattle.dslx_total.specs.Texts.FineTexts.{EachProcIsFine, IsFineProc}
-use Rattle.dslx_total.specs.Tables.Widths.{text_writes_widths}
-use Rattle.dslx_total.proofs.Lemmas.Tables.{one_writes_widths}
 use Rattle.dslx_typing.proofs.Lemmas.Accepted.{IsAccepted, one_of_these}
 use Rattle.dslx_total.specs.Families.EachPlaced.{EachPlaced}
 use Rattle.dslx_total.specs.Families.Plain.{ProcsBindNoConstant}
@@ -43,7 +37,7 @@ use Rattle.dslx_total.proofs.OnFamilies.There.{IsThere, well}
 
 -- each word of a channel is a value, where nothing is wrong with ends
 abbrev pub WordsThere : Type 0
-WordsThere = (sight : Sight) (env : Env) → IsWellTyped sight env → NamesHaveWidths sight.known → (before : List (List ℕ)) (ends : List End) → list_all (λ (e : End). type_writes_widths e.word) ends ≡ true → (ends_found sight before ends).faults ≡ []
+WordsThere = (sight : Sight) (env : Env) → IsWellTyped sight env → NamesHaveWidths sight.known → (before : List (List ℕ)) (ends : List End) → (ends_found sight before ends).faults ≡ []
     → WordsAreValues sight ends
 
 each_behind : (Q : Proc → List DslxValue → Type 0) (xs ys : List Placed) → EachPlaced Q xs → EachPlaced Q ys → EachPlaced Q (xs ++ ys)
@@ -55,18 +49,17 @@ each_fine known [] h = tt
 each_fine known (a ∷ as') h = (h.0, each_fine known as' h.1)
 
 module _ (m : Module) (top : Option (List ℕ)) (s : IsAccepted m top) (procs : ProcsBindNoConstant m) (complete : IsComplete (K m top s)) (typed : AreTyped (K m top s)) (names : NamesHaveWidths (K m top s))
-    (wide : text_writes_widths m ≡ true) (words : WordsThere) where
+    (words : WordsThere) where
   abbrev known : Known
   known = K m top s
 
   pub fine_proc : (p : Proc) (numbers : List DslxValue) → IsThere m top s p numbers → IsFineProc known p numbers
   fine_proc p numbers h =
       let parts = parts_fine m top s p numbers h.checked in
-      let written = and_true (list_all (λ (e : End). type_writes_widths e.word) p.members) (next_writes_widths p) (one_writes_widths p.name.name (d.Proc p) m.items h.checked.named wide) in
       record {
         own = h.own;
         found = parts.acts;
-        words = words (proc_sight known p numbers) (item_env known (numbers_bound [] p.parameters numbers)) (well m top s complete typed p numbers h) names [] p.members written.0 parts.members;
+        words = words (proc_sight known p numbers) (item_env known (numbers_bound [] p.parameters numbers)) (well m top s complete typed p numbers h) names [] p.members parts.members;
       }
 
   -- whatever such an instance places

@@ -39,12 +39,9 @@ use Rattle.dslx_total.specs.Expressions.InstanceLists.{AreThere}
 use Rattle.dslx_total.specs.Expressions.Lowers.{IsClean}
 use Rattle.dslx_total.specs.Expressions.Members.{EachHasWords}
 use Rattle.dslx_total.specs.Expressions.NextSteps.{MembersStand}
-use Rattle.dslx_total.specs.Expressions.Nexts.{NextIsLowered, members_sight, next_writes_widths}
-use Rattle.dslx_total.specs.Expressions.Widths.{type_writes_widths}
+use Rattle.dslx_total.specs.Expressions.Nexts.{NextIsLowered, members_sight}
 use Rattle.dslx_typing.proofs.Lemmas.Accepted.{IsAccepted, one_of_these, sound}
 use Rattle.dslx_total.specs.Tables.Tables.{FunctionsHaveTable}
-use Rattle.dslx_total.specs.Tables.Widths.{text_writes_widths}
-use Rattle.dslx_total.proofs.Lemmas.Tables.{one_writes_widths}
 use Rattle.dslx_total.specs.Families.EachPlaced.{NextBecomes}
 use Rattle.dslx_total.proofs.OnFamilies.Acts.{parts_fine}
 use Rattle.dslx_total.proofs.OnFamilies.Reached.{K, Listed, Passing, all, most}
@@ -52,7 +49,7 @@ use Rattle.dslx_total.proofs.OnFamilies.There.{IsThere, well}
 
 -- the laws of parts of `next`
 abbrev pub WordsHaveWidths : Type 0
-WordsHaveWidths = (sight : Sight) (env : Env) → IsWellTyped sight env → NamesHaveWidths sight.known → (before : List (List ℕ)) (ends : List End) → list_all (λ (e : End). type_writes_widths e.word) ends ≡ true → (ends_found sight before ends).faults ≡ []
+WordsHaveWidths = (sight : Sight) (env : Env) → IsWellTyped sight env → NamesHaveWidths sight.known → (before : List (List ℕ)) (ends : List End) → (ends_found sight before ends).faults ≡ []
     → EachHasWords sight ends
 
 abbrev pub MembersThere : Type 0
@@ -60,12 +57,12 @@ MembersThere = (here : Instance → Bool) (sight : Sight) (env : Env) (outer : C
     → IsClean here (ends_found sight [] ends).faults (ends_found sight [] ends).reached → MembersStand (record sight { members = map (outlet_of sight) ends }) outer ends
 
 abbrev pub NextsLowered : Type 0
-NextsLowered = (here : Instance → Bool) (known : Known) (p : Proc) (numbers : List DslxValue) (env : Env) (core : CoreKnown) → AllOwn known.items.type_named numbers → next_writes_widths p ≡ true
+NextsLowered = (here : Instance → Bool) (known : Known) (p : Proc) (numbers : List DslxValue) (env : Env) (core : CoreKnown) → AllOwn known.items.type_named numbers
     → IsWellTyped (proc_sight known p numbers) env → StandsBeside here (proc_sight known p numbers) (outer_place core) → MembersStand (members_sight known p numbers) (outer_place core) p.members
     → IsClean here (acts_found known p numbers).faults (acts_found known p numbers).reached → NextIsLowered known p numbers (next_lowered core p)
 
 module _ (m : Module) (top : Option (List ℕ)) (s : IsAccepted m top) (complete : IsComplete (K m top s)) (typed : AreTyped (K m top s)) (names : NamesHaveWidths (K m top s))
-    (wide : text_writes_widths m ≡ true) (widths : WordsHaveWidths) (members : MembersThere) (nexts : NextsLowered) (same : (K m top s).items ≡ meanings_of m) (f : FunctionsHaveTable m top) where
+    (widths : WordsHaveWidths) (members : MembersThere) (nexts : NextsLowered) (same : (K m top s).items ≡ meanings_of m) (f : FunctionsHaveTable m top) where
   abbrev known : Known
   known = K m top s
 
@@ -136,7 +133,6 @@ module _ (m : Module) (top : Option (List ℕ)) (s : IsAccepted m top) (complete
       let core : CoreKnown = record { items = known.items; numbers = bound; callee = callee_in known.whole known.items f.known.table } in
       let parts = parts_fine m top s p numbers there.checked in
       let placed = well m top s complete typed p numbers there in
-      let written = and_true (list_all (λ (e : End). type_writes_widths e.word) p.members) (next_writes_widths p) (one_writes_widths p.name.name (d.Proc p) m.items there.checked.named wide) in
       let at : StandsBeside here sight (outer_place core) = record {
         items = refl;
         numbers = refl;
@@ -150,8 +146,8 @@ module _ (m : Module) (top : Option (List ℕ)) (s : IsAccepted m top) (complete
       let parameters = parameters_found known p.name.name [] [] p.parameters numbers in
       let ends = ends_found sight [] p.members in
       let listed = (all_in here ends.reached _ (all_in here parameters.reached (ends.reached ++ _) whole).1).0 in
-      let stand = members here sight env (outer_place core) p.members placed at (widths sight env placed names [] p.members written.0 parts.members) (record { faults = parts.members; reached = listed }) in
-      let next = nexts here known p numbers env core there.own written.1 placed at stand (record { faults = parts.acts.faults; reached = whole }) in
+      let stand = members here sight env (outer_place core) p.members placed at (widths sight env placed names [] p.members parts.members) (record { faults = parts.members; reached = listed }) in
+      let next = nexts here known p numbers env core there.own placed at stand (record { faults = parts.acts.faults; reached = whole }) in
       let first = opening_there p numbers there.own placed parts.acts next.next.state next.state in
       record {
         next = next.next;

@@ -62,7 +62,6 @@ behind_more known before more i r = record {
   function = r.function;
   is = r.is;
   own = r.own;
-  widths = r.widths;
   here = r.here;
   clean = r.clean;
   sound = r.sound;

@@ -20,10 +20,8 @@ use Rattle.dslx_typing.proofs.Lemmas.Depends.{every_item_passes, is_proc_item, p
 use Rattle.dslx_typing.proofs.Lemmas.Accepted.{IsAccepted, all_empty, all_so, instance_faults, one_of_these, sound}
 use Rattle.dslx_core.specs.Lowering.Functions.{Instantiated}
 use Rattle.dslx_total.specs.Expressions.InstanceLists.{AreThere, EachReachesThoseBefore, ReachesThese, is_among}
-use Rattle.dslx_total.specs.Tables.Widths.{text_writes_widths}
 use Rattle.dslx_total.proofs.OnTables.Lists.{AreApart, among_first, among_second, as_named, both_chosen, chosen, chosen_among, each_behind, each_chosen, no_more}
 use Rattle.dslx_total.proofs.OnTables.Own.{all_own_pass, all_own_there, are_own}
-use Rattle.dslx_total.proofs.OnTables.Widths.{one_writes_widths}
 
 module _ (m : Module) (top : Option (List ℕ)) (s : IsAccepted m top) where
   abbrev K : Known
@@ -87,8 +85,8 @@ module _ (m : Module) (top : Option (List ℕ)) (s : IsAccepted m top) where
       by_item (Some (d.Enum x)) q h = absurd (true≢false (sym h))
       by_item None q h = absurd (true≢false (sym h))
 
-  reaches : text_writes_widths m ≡ true → (k : ℕ) → suc k ≤ length m.items → (i : Instance) → IsOneOf i all → due k i ≡ true → ReachesThese K (in_order k) (as_named i)
-  reaches w k l i one e =
+  reaches : (k : ℕ) → suc k ≤ length m.items → (i : Instance) → IsOneOf i all → due k i ≡ true → ReachesThese K (in_order k) (as_named i)
+  reaches k l i one e =
       let a = and_true (is_next k i) (is_function i) e in
       let b = and_true (passes m (suc k) i.name) (not (passes m k i.name)) a.0 in
       let c = and_true (is_of_use AsFunction (item_named i.name m.items)) (are_own K.items.type_named i.numbers) a.1 in
@@ -101,7 +99,6 @@ module _ (m : Module) (top : Option (List ℕ)) (s : IsAccepted m top) where
         function = f.0;
         is = ap as_function (known_item i.name ∙ f.1);
         own = all_own_there K.items.type_named i.numbers c.1;
-        widths = one_writes_widths i.name (d.Function f.0) m.items f.1 w;
         here = here;
         clean = record {
           faults = ap (λ (x : Found). x.faults) (sym seen) ∙ instance_faults K i all one (all_empty m top s).1;
@@ -116,9 +113,9 @@ module _ (m : Module) (top : Option (List ℕ)) (s : IsAccepted m top) where
       here : Instance → Bool
       here j = is_reached j all && passes m k j.name
 
-  pub each_reaches : text_writes_widths m ≡ true → (k : ℕ) → k ≤ length m.items → EachReachesThoseBefore K [] (in_order k)
-  each_reaches w zero l = tt
-  each_reaches w (suc k) l = each_behind K [] (in_order k) (chosen (due k) all) (each_reaches w k (omega (arith, l))) (each_chosen K (in_order k) (due k) all (reaches w k l))
+  pub each_reaches : (k : ℕ) → k ≤ length m.items → EachReachesThoseBefore K [] (in_order k)
+  each_reaches zero l = tt
+  each_reaches (suc k) l = each_behind K [] (in_order k) (chosen (due k) all) (each_reaches k (omega (arith, l))) (each_chosen K (in_order k) (due k) all (reaches k l))
 
   -- ---- how many they are
 

@@ -1,16 +1,14 @@
 -- All bits in what names of a text stand for have a width.
 use Rattle.std.proofs.Common.{◌&&◌, ◌≡◌, ◌||◌, ◌++◌, ℕ, zero, suc, Bool, true, false, if◌then◌else◌, List, [], ◌∷◌, map, Option, Some, None, refl, sym, ap, ◌∙◌}
 use Rattle.std.specs.List.{list_all}
-use Rattle.std.specs.Str.{bytes_eq}
 use Rattle.xb_span.specs.declared.fault.Fault.{Fault}
 use Rattle.dslx_tree.specs.declared.item.Definition.{Definition}
 use Rattle.dslx_tree.specs.declared.item.Definition.TheVariants as d
 use Rattle.dslx_tree.specs.declared.item.Field.{Field}
-use Rattle.dslx_tree.specs.declared.item.Item.{Item}
 use Rattle.dslx_tree.specs.declared.item.Module.{Module}
 use Rattle.dslx_tree.specs.declared.item.Struct.{Struct}
 use Rattle.dslx_tree.specs.declared.type_expr.TypeExpr.{TypeExpr}
-use Rattle.dslx_meaning.specs.Items.{item_named, name_of_definition, name_of_field}
+use Rattle.dslx_meaning.specs.Items.{item_named, name_of_field}
 use Rattle.dslx_meaning.specs.Lists.{and_then}
 use Rattle.dslx_meaning.specs.Types.{bits_in}
 use Rattle.dslx_meaning.specs.declared.ty.BitKind.{BitKind}
@@ -22,26 +20,12 @@ use Rattle.dslx_meaning.specs.Rules.Judging.{Known, Sight, breaks_if, has_broken
 use Rattle.dslx_meaning.specs.Rules.ModuleRules.{known_within, type_known}
 use Rattle.dslx_meaning.specs.Rules.NodeRules.{type_pair}
 use Rattle.dslx_meaning.specs.Rules.OperatorRules.{is_bits, unless_type}
-use Rattle.dslx_typing.proofs.Lemmas.Laws.{and_true}
 use Rattle.dslx_typing.proofs.Lemmas.Typed.{all_there, list_parts, none_some, same_some}
 use Rattle.dslx_typing.proofs.Lemmas.Sound.{some_fault}
 use Rattle.dslx_typing.proofs.Lemmas.Judged.{whole_is}
 use Rattle.dslx_total.specs.Expressions.Beside.{NamesHaveWidths, has_widths}
 use Rattle.dslx_total.specs.Expressions.Lowers.{IsWide}
-use Rattle.dslx_total.specs.Expressions.Widths.{type_writes_widths}
 use Rattle.dslx_total.proofs.Lemmas.Expressions.{in_enum, in_struct, own_width}
-use Rattle.dslx_total.specs.Tables.Widths.{definition_writes_widths, item_writes_widths, text_writes_widths}
-
--- an item of the text
-pub one_writes_widths : (name : List ℕ) (x : Definition) (is : List Item) → item_named name is ≡ Some x → list_all item_writes_widths is ≡ true → definition_writes_widths x ≡ true
-one_writes_widths name x [] e w = none_some x e
-one_writes_widths name x (i ∷ is) e w =
-    let q = and_true (item_writes_widths i) (list_all item_writes_widths is) w in
-    by_name (bytes_eq name (name_of_definition i.definition)) e q.0 (λ r. one_writes_widths name x is r q.1)
-  where
-    by_name : (b : Bool) → (if b then Some i.definition else item_named name is) ≡ Some x → definition_writes_widths i.definition ≡ true → (item_named name is ≡ Some x → definition_writes_widths x ≡ true) → definition_writes_widths x ≡ true
-    by_name true r own rest = ap definition_writes_widths (sym (same_some i.definition x r)) ∙ own
-    by_name false r own rest = rest r
 
 -- what stands where no rule is broken
 without_faults : (faults : List Fault) (o : Option DslxType) (t : DslxType) → unless_broken faults o ≡ Some t → o ≡ Some t
@@ -52,25 +36,24 @@ without_faults faults o t e = by_broken (has_broken faults) e
     by_broken false q = q
 
 -- fields, each with a type that has widths
-fields_wide : ((t : TypeExpr) → type_writes_widths t ≡ true → IsWide (type_pair t).1) → (sight : Sight) → NamesHaveWidths sight.known → (fs : List Field) → list_all (λ (f : Field). type_writes_widths f.ty) fs ≡ true
+fields_wide : ((t : TypeExpr) → IsWide (type_pair t).1) → (sight : Sight) → NamesHaveWidths sight.known → (fs : List Field)
     → (ts : List DslxType) → map (λ (f : Field). (judged_inner sight f.ty).ty) fs ≡ map Some ts → list_all (λ b. b) (map has_widths ts) ≡ true
-fields_wide wide sight names [] w [] e = refl
-fields_wide wide sight names [] w (t ∷ ts) e = some_fault (Some t) (map Some ts) (sym e)
-fields_wide wide sight names (f ∷ fs) w [] e = some_fault (judged_inner sight f.ty).ty (map (λ (f : Field). (judged_inner sight f.ty).ty) fs) e
-fields_wide wide sight names (f ∷ fs) w (t ∷ ts) e =
+fields_wide wide sight names [] [] e = refl
+fields_wide wide sight names [] (t ∷ ts) e = some_fault (Some t) (map Some ts) (sym e)
+fields_wide wide sight names (f ∷ fs) [] e = some_fault (judged_inner sight f.ty).ty (map (λ (f : Field). (judged_inner sight f.ty).ty) fs) e
+fields_wide wide sight names (f ∷ fs) (t ∷ ts) e =
     let both = list_parts (judged_inner sight f.ty).ty (Some t) (map (λ (f : Field). (judged_inner sight f.ty).ty) fs) (map Some ts) e in
-    let own = and_true (type_writes_widths f.ty) (list_all (λ (f : Field). type_writes_widths f.ty) fs) w in
-    λ i. wide f.ty own.0 sight names t both.0 i && fields_wide wide sight names fs own.1 ts both.1 i
+    λ i. wide f.ty sight names t both.0 i && fields_wide wide sight names fs ts both.1 i
 
-struct_wide : ((t : TypeExpr) → type_writes_widths t ≡ true → IsWide (type_pair t).1) → (sight : Sight) → NamesHaveWidths sight.known → (s : Struct) → list_all (λ (f : Field). type_writes_widths f.ty) s.fields ≡ true
+struct_wide : ((t : TypeExpr) → IsWide (type_pair t).1) → (sight : Sight) → NamesHaveWidths sight.known → (s : Struct)
     → (t : DslxType) → and_then (fields_types sight s.fields) (λ ts. Some (ty.Struct s.name.name (map name_of_field s.fields) ts)) ≡ Some t → has_widths t ≡ true
-struct_wide wide sight names s w t e = by_types (fields_types sight s.fields) refl e
+struct_wide wide sight names s t e = by_types (fields_types sight s.fields) refl e
   where
     by_types : (o : Option (List DslxType)) → fields_types sight s.fields ≡ o → and_then o (λ ts. Some (ty.Struct s.name.name (map name_of_field s.fields) ts)) ≡ Some t → has_widths t ≡ true
     by_types None q r = none_some t r
     by_types (Some ts) q r =
         ap has_widths (sym (same_some (ty.Struct s.name.name (map name_of_field s.fields) ts) t r)) ∙ in_struct s.name.name (map name_of_field s.fields) ts
-        ∙ fields_wide wide sight names s.fields w ts (all_there (map (λ (f : Field). (judged_inner sight f.ty).ty) s.fields) ts q)
+        ∙ fields_wide wide sight names s.fields ts (all_there (map (λ (f : Field). (judged_inner sight f.ty).ty) s.fields) ts q)
 
 -- an enum of a base that has a width
 enum_wide : (name : List ℕ) (base : Option DslxType) → ((t : DslxType) → base ≡ Some t → has_widths t ≡ true) → (t : DslxType) → enum_of_base name base ≡ Some t → has_widths t ≡ true
@@ -82,9 +65,9 @@ enum_wide name (Some base) wide t e = by_bits (bits_in base) refl e
     by_bits (Some own) q r = ap has_widths (sym (same_some (ty.Enum name own.signed own.width) t r)) ∙ in_enum name own.signed own.width ∙ own_width base (wide base refl) own q
 
 -- by chains of items of any length
-pub names_have_widths : ((t : TypeExpr) → type_writes_widths t ≡ true → IsWide (type_pair t).1) → (m : Module) → text_writes_widths m ≡ true → (n : ℕ) → NamesHaveWidths (known_within m n)
-names_have_widths wide m w zero name t e = none_some t e
-names_have_widths wide m w (suc n) name t e = by_item (item_named name m.items) refl ((λ i. type_known known (item_named name (sym (whole_is m n) i).items)) ∙ e) (names_have_widths wide m w n)
+pub names_have_widths : ((t : TypeExpr) → IsWide (type_pair t).1) → (m : Module) (n : ℕ) → NamesHaveWidths (known_within m n)
+names_have_widths wide m zero name t e = none_some t e
+names_have_widths wide m (suc n) name t e = by_item (item_named name m.items) refl ((λ i. type_known known (item_named name (sym (whole_is m n) i).items)) ∙ e) (names_have_widths wide m n)
   where
     known : Known
     known = known_within m n
@@ -96,16 +79,16 @@ names_have_widths wide m w (suc n) name t e = by_item (item_named name m.items) 
     by_item (Some (d.Constant c)) q r names = none_some t r
     by_item (Some (d.Alias a)) q r names =
         let j = judged_type (item_sight known a.name.name []) a.ty in
-        wide a.ty (one_writes_widths name (d.Alias a) m.items q w) (item_sight known a.name.name []) names t (without_faults j.faults j.ty t r)
+        wide a.ty (item_sight known a.name.name []) names t (without_faults j.faults j.ty t r)
     by_item (Some (d.Struct s)) q r names =
         let sight = item_sight known s.name.name [] in
         let faults = (fields_found sight [] s.fields).faults ++ breaks_if (is_empty s.fields) 31 s.span in
         let own = and_then (fields_types sight s.fields) (λ ts. Some (ty.Struct s.name.name (map name_of_field s.fields) ts)) in
-        struct_wide wide sight names s (one_writes_widths name (d.Struct s) m.items q w) t (without_faults faults own t r)
+        struct_wide wide sight names s t (without_faults faults own t r)
     by_item (Some (d.Enum x)) q r names =
         let sight = item_sight known x.name.name [] in
         let base = judged_type sight x.base in
         let members = members_found sight (base_if_bits base.ty) [] x.members in
         let none_or_twice = breaks_if (is_empty x.members || has_equal_values (member_values sight (base_if_bits base.ty) x.members)) 23 x.span in
         let faults = base.faults ++ members.faults ++ unless_type is_bits 23 x.span base.ty ++ none_or_twice in
-        enum_wide x.name.name base.ty (wide x.base (one_writes_widths name (d.Enum x) m.items q w) sight names) t (without_faults faults (enum_of_base x.name.name base.ty) t r)
+        enum_wide x.name.name base.ty (wide x.base sight names) t (without_faults faults (enum_of_base x.name.name base.ty) t r)

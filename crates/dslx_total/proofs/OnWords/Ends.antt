@@ -1,7 +1,6 @@
 -- Ends of channels with which nothing is wrong: their words have 1 to 128 bits, and each of them is a value.
 use Rattle.std.proofs.Common.{◌≡◌, ◌≤◌, ◌++◌, ℕ, Bool, true, false, if◌then◌else◌, List, [], ◌∷◌, Some, refl, sym, ap, ◌∙◌}
 use Rattle.std.specs.Prelude.{nat_lt}
-use Rattle.std.specs.List.{list_all}
 use Rattle.std.proofs.lemmas.Bool.{ltb-false}
 use Rattle.xb_bits.specs.Word.{Word}
 use Rattle.xb_value.specs.Unflat.{unflat_of}
@@ -21,7 +20,6 @@ use Rattle.dslx_meaning.specs.Rules.Judging.{Sight, found_number, passes}
 use Rattle.dslx_meaning.specs.Rules.NameRules.{local_name}
 use Rattle.dslx_meaning.specs.Rules.NodeRules.{type_pair}
 use Rattle.dslx_meaning.specs.Rules.ProcRules.{channel_type, ends_found, word_limit}
-use Rattle.dslx_typing.proofs.Lemmas.Laws.{and_true}
 use Rattle.dslx_typing.specs.Typed.Kinds.{is_of}
 use Rattle.dslx_typing.specs.Typed.WellTyped.{IsWellTyped, types_at}
 use Rattle.dslx_typing.proofs.Lemmas.Sound.{none_in, some_fault, type_stands}
@@ -30,13 +28,12 @@ use Rattle.dslx_core.proofs.Lemmas.Lowering.{from_plain}
 use Rattle.dslx_total.specs.Expressions.Beside.{NamesHaveWidths}
 use Rattle.dslx_total.specs.Expressions.Lowers.{IsWide}
 use Rattle.dslx_total.specs.Expressions.Members.{EachHasWords, HasWords}
-use Rattle.dslx_total.specs.Expressions.Widths.{type_writes_widths}
 use Rattle.dslx_total.proofs.Lemmas.Expressions.{sized_there}
 use Rattle.dslx_typing.specs.Procs.WordsOfEnds.{WordsAreValues}
 use Rattle.dslx_total.proofs.OnWords.Narrow.{narrow}
 
 abbrev pub TypesAreWide : Type 0
-TypesAreWide = (t : TypeExpr) → type_writes_widths t ≡ true → IsWide (type_pair t).1
+TypesAreWide = (t : TypeExpr) → IsWide (type_pair t).1
 
 -- no more bits than the limit
 within_limit : (at n : ℕ) → passes what.Word 128 at n ≡ [] → n ≤ 128
@@ -51,9 +48,9 @@ record EndHasWords (sight : Sight) (e : End) : Type 0 where
   words : HasWords sight e
   values : (w : DslxType) → (judged_inner sight e.word).ty ≡ Some w → (x : Word) → is_of w (from_word w x) ≡ true
 
-end_has_words : TypesAreWide → (sight : Sight) (env : Env) → IsWellTyped sight env → NamesHaveWidths sight.known → (e : End) → type_writes_widths e.word ≡ true → (channel_type sight e.word).faults ≡ [] → EndHasWords sight e
-end_has_words wide sight env h names e w f = record {
-  words = record { written = w; widths = few };
+end_has_words : TypesAreWide → (sight : Sight) (env : Env) → IsWellTyped sight env → NamesHaveWidths sight.known → (e : End) → (channel_type sight e.word).faults ≡ [] → EndHasWords sight e
+end_has_words wide sight env h names e f = record {
+  words = record { widths = few };
   values = λ t q x. (from_plain t (sized t q) (unflat_of (plain_type t) x.value) (gives_typed (plain_type t) (few t q) x.value)).0;
 }
   where
@@ -67,23 +64,19 @@ end_has_words wide sight env h names e w f = record {
     sized t q = sized_there (types_at sight) h.known.parts t ((type_stands e.word).means sight env h t q).1
 
     few : (t : DslxType) → (judged_inner sight e.word).ty ≡ Some t → fold-Ty Bool widths_step (plain_type t) ≡ true
-    few t q = narrow t (wide e.word w sight names t q) (sized t q) (within_limit to (flat_bits t) (ap (word_limit to) (sym q) ∙ limit))
+    few t q = narrow t (wide e.word sight names t q) (sized t q) (within_limit to (flat_bits t) (ap (word_limit to) (sym q) ∙ limit))
 
 module _ (wide : TypesAreWide) (sight : Sight) (env : Env) (h : IsWellTyped sight env) (names : NamesHaveWidths sight.known) where
-  abbrev written : List End → Bool
-  written es = list_all (λ (e : End). type_writes_widths e.word) es
-
-  first_end : (before : List (List ℕ)) (e : End) (es : List End) → written (e ∷ es) ≡ true → (ends_found sight before (e ∷ es)).faults ≡ [] → EndHasWords sight e × (written es ≡ true) × ((ends_found sight (e.name.name ∷ before) es).faults ≡ [])
-  first_end before e es w f =
+  first_end : (before : List (List ℕ)) (e : End) (es : List End) → (ends_found sight before (e ∷ es)).faults ≡ [] → EndHasWords sight e × ((ends_found sight (e.name.name ∷ before) es).faults ≡ [])
+  first_end before e es f =
       let rest = ends_found sight (e.name.name ∷ before) es in
       let both = none_in (channel_type sight e.word).faults rest.faults (none_in (local_name sight before e.name) ((channel_type sight e.word).faults ++ rest.faults) f).1 in
-      let own = and_true (type_writes_widths e.word) (written es) w in
-      (end_has_words wide sight env h names e own.0 both.0, own.1, both.1)
+      (end_has_words wide sight env h names e both.0, both.1)
 
-  pub each_has_words : (before : List (List ℕ)) (es : List End) → written es ≡ true → (ends_found sight before es).faults ≡ [] → EachHasWords sight es
-  each_has_words before [] w f = tt
-  each_has_words before (e ∷ es) w f = let q = first_end before e es w f in (q.0.words, each_has_words (e.name.name ∷ before) es q.1 q.2)
+  pub each_has_words : (before : List (List ℕ)) (es : List End) → (ends_found sight before es).faults ≡ [] → EachHasWords sight es
+  each_has_words before [] f = tt
+  each_has_words before (e ∷ es) f = let q = first_end before e es f in (q.0.words, each_has_words (e.name.name ∷ before) es q.1)
 
-  pub words_are_values : (before : List (List ℕ)) (es : List End) → written es ≡ true → (ends_found sight before es).faults ≡ [] → WordsAreValues sight es
-  words_are_values before [] w f = tt
-  words_are_values before (e ∷ es) w f = let q = first_end before e es w f in (q.0.values, words_are_values (e.name.name ∷ before) es q.1 q.2)
+  pub words_are_values : (before : List (List ℕ)) (es : List End) → (ends_found sight before es).faults ≡ [] → WordsAreValues sight es
+  words_are_values before [] f = tt
+  words_are_values before (e ∷ es) f = let q = first_end before e es f in (q.0.values, words_are_values (e.name.name ∷ before) es q.1)

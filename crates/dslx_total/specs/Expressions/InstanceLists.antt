@@ -16,7 +16,6 @@ use Rattle.dslx_typing.specs.Complete.Standing.{AreTyped}
 use Rattle.dslx_meaning.specs.Rules.EqualValues.{equal_value}
 use Rattle.dslx_core.specs.Lowering.Functions.{CoreInstance, Instantiated, callee_in, instances_from}
 use Rattle.dslx_total.specs.Expressions.Beside.{CallsAreKnown, NamesHaveWidths}
-use Rattle.dslx_total.specs.Expressions.Instances.{function_writes_widths}
 use Rattle.dslx_total.specs.Expressions.Lowers.{IsClean}
 
 -- the instance is one of these
@@ -49,7 +48,6 @@ pub record ReachesThese (known : Known) (before : List Instantiated) (i : Instan
   pub function : Function
   pub is : as_function (item_named i.name known.whole.items) ≡ Some function
   pub own : AllOwn known.items.type_named i.numbers
-  pub widths : function_writes_widths function ≡ true
   pub here : Instance → Bool
   pub clean : IsClean here (function_seen known function i.numbers).found.faults (function_seen known function i.numbers).found.reached
   pub sound : (j : Instance) → here j ≡ true → known.is_sound j ≡ true

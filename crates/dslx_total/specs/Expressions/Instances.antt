@@ -1,5 +1,5 @@
 -- Instances of functions that become something.
-use Rattle.std.specs.Prelude.{◌≡◌, ◌&&◌, List, map, Bool, true, not, Option, Some}
+use Rattle.std.specs.Prelude.{◌≡◌, List, map, true, not, Option, Some}
 use Rattle.dslx_meaning.specs.Types.{is_unit}
 use Rattle.std.specs.List.{list_all}
 use Rattle.dslx_tree.specs.declared.item.Field.{Field}
@@ -8,11 +8,6 @@ use Rattle.dslx_meaning.specs.declared.value.DslxValue.{DslxValue}
 use Rattle.dslx_meaning.specs.Rules.ItemRules.{function_sight, judged_inner, result_judged}
 use Rattle.dslx_meaning.specs.Rules.Judging.{Known}
 use Rattle.dslx_core.specs.Lowering.Functions.{LoweredFunction}
-use Rattle.dslx_total.specs.Expressions.Widths.{block_writes_widths, type_writes_widths}
-
--- each type that is written by its width in the function's arguments and its body has one
-abbrev pub function_writes_widths : Function → Bool
-function_writes_widths f = list_all (λ (a : Field). type_writes_widths a.ty) f.arguments && block_writes_widths f.body
 
 -- an instance becomes a function of the types that are declared for its arguments, none of which is (), and for its result
 pub record InstanceIsLowered (known : Known) (f : Function) (numbers : List DslxValue) (o : Option LoweredFunction) : Type 0 where

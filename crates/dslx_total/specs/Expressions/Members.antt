@@ -7,11 +7,9 @@ use Rattle.dslx_meaning.specs.Types.{plain_type}
 use Rattle.dslx_meaning.specs.declared.ty.DslxType.{DslxType}
 use Rattle.dslx_meaning.specs.Rules.ItemRules.{judged_inner}
 use Rattle.dslx_meaning.specs.Rules.Judging.{Sight}
-use Rattle.dslx_total.specs.Expressions.Widths.{type_writes_widths}
 
 -- all bits in the words of the end are 1 to 128 wide
 pub record HasWords (sight : Sight) (e : End) : Type 0 where
-  pub written : type_writes_widths e.word ≡ true
   pub widths : (t : DslxType) → (judged_inner sight e.word).ty ≡ Some t → fold-Ty Bool widths_step (plain_type t) ≡ true
 
 abbrev pub EachHasWords : Sight → List End → Type 0

@@ -1,16 +1,11 @@
 -- The `next` of an instance of a proc that becomes something.
-use Rattle.std.specs.Prelude.{◌≡◌, ◌&&◌, List, map, Bool, Option, Some}
+use Rattle.std.specs.Prelude.{◌≡◌, List, map, Option, Some}
 use Rattle.dslx_tree.specs.declared.process.Proc.{Proc}
 use Rattle.dslx_meaning.specs.declared.value.DslxValue.{DslxValue}
 use Rattle.dslx_meaning.specs.Rules.ItemRules.{judged_type}
 use Rattle.dslx_meaning.specs.Rules.Judging.{Known, Sight}
 use Rattle.dslx_meaning.specs.Rules.ProcRules.{outlet_of, proc_sight}
 use Rattle.dslx_core.specs.Lowering.Steps.{LoweredNext}
-use Rattle.dslx_total.specs.Expressions.Widths.{block_writes_widths, type_writes_widths}
-
--- each type that is written by its width in `next` has one
-abbrev pub next_writes_widths : Proc → Bool
-next_writes_widths p = type_writes_widths p.next.ty && block_writes_widths p.next.body
 
 -- what is in sight in it besides the state
 abbrev pub members_sight : Known → Proc → List DslxValue → Sight

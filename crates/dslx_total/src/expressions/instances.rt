@@ -1,9 +1,9 @@
-ghost use Rattle.std.specs.Prelude.{◌≡◌, Bool, List, [], true};
+ghost use Rattle.std.specs.Prelude.{Bool, List, []};
 ghost use Rattle.dslx_core.specs.Lowering.CorePlaces.{CoreKnown};
 ghost use Rattle.dslx_core.specs.Lowering.Functions.{Instantiated, instance_lowered, outer_place};
 ghost use Rattle.dslx_total.specs.Expressions.Beside.{StandsBeside};
 ghost use Rattle.dslx_total.specs.Expressions.InstanceLists.{CanLower, EachReachesThoseBefore, HaveTable};
-ghost use Rattle.dslx_total.specs.Expressions.Instances.{InstanceIsLowered, function_writes_widths};
+ghost use Rattle.dslx_total.specs.Expressions.Instances.{InstanceIsLowered};
 ghost use Rattle.dslx_total.specs.Expressions.Lowers.{IsClean};
 ghost use Rattle.dslx_meaning.specs.Items.{numbers_bound};
 ghost use Rattle.dslx_meaning.specs.declared.value.DslxValue.{DslxValue};
@@ -17,7 +17,7 @@ ghost use Rattle.dslx_typing.specs.Typed.WellTyped.{IsWellTyped};
 /// all instances that it calls are known with the types of their results, it becomes a function of the types that are
 /// declared for its arguments and its result.
 pub fn an_instance_is_lowered()
-    ensures { (here : Instance → Bool) (known : Known) (f : Function) (numbers : List DslxValue) (core : CoreKnown) → AllOwn known.items.type_named numbers → function_writes_widths f ≡ true
+    ensures { (here : Instance → Bool) (known : Known) (f : Function) (numbers : List DslxValue) (core : CoreKnown) → AllOwn known.items.type_named numbers
         → IsWellTyped (function_sight known f numbers) (record { items = known.items; bound = numbers_bound [] f.parameters numbers })
         → StandsBeside here (function_sight known f numbers) (outer_place core)
         → IsClean here (function_seen known f numbers).found.faults (function_seen known f numbers).found.reached

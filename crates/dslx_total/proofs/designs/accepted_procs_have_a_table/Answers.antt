@@ -2,6 +2,6 @@ use Rattle.dslx_total.proofs.OnDesigns.Tops.{procs_have_table}
 use Rattle.dslx_total.proofs.designs.accepted_procs_have_a_table.Goals as goal
 
 pub returns : goal.returns
-returns c m top free plain procs wide faults functions p e =
-    procs_have_table m top functions.known.table (c.reached_nexts_are_lowered.ensures m top free plain wide faults functions) (c.accepted_configs_are_lowered.ensures.configs m top free plain procs faults) free p
+returns c m top free plain procs faults functions p e =
+    procs_have_table m top functions.known.table (c.reached_nexts_are_lowered.ensures m top free plain faults functions) (c.accepted_configs_are_lowered.ensures.configs m top free plain procs faults) free p
     (c.accepted_configs_are_lowered.ensures.tops m top free plain procs faults p e).checked

@@ -12,12 +12,12 @@ use Rattle.dslx_total.proofs.OnFamilies.Tops.{top_there}
 use Rattle.dslx_total.proofs.families.accepted_nexts_are_lowered.Goals as goal
 
 pub returns : goal.returns
-returns c m top free plain procs wide accepted functions p e =
+returns c m top free plain procs accepted functions p e =
     let fine = c.items_of_accepted_texts_are_fine.ensures.fine m top free plain accepted in
     let meant = c.items_of_accepted_texts_are_fine.ensures.meant m top free plain accepted in
     let complete = c.all_items_are_known.ensures.complete m free plain fine in
     let typed = c.all_items_are_known.ensures.typed m free plain fine in
-    let names = names_have_widths c.an_expression_is_lowered.ensures.wide m wide (length m.items) in
+    let names = names_have_widths c.an_expression_is_lowered.ensures.wide m (length m.items) in
     let s : IsAccepted m top = record {
       free = free;
       plain = plain;
@@ -31,6 +31,6 @@ returns c m top free plain procs wide accepted functions p e =
     let words = c.words_of_ends_have_widths.ensures in
     let Q = NextBecomes m functions.known.table in
     subst (λ (x : Meanings). EachPlaced Q (place_within m x (length m.items) p.name.name p (top_numbers x p) (outer_ends 0 p.config.ends) (length p.config.ends)).procs) meant
-    (all_placed m top s procs complete typed names wide words.values Q
-    (next_becomes m top s complete typed names wide words.widths c.members_stand.ensures c.next_is_lowered.ensures meant functions) (length m.items) p.name.name p numbers (outer_ends 0 p.config.ends) (length p.config.ends)
+    (all_placed m top s procs complete typed names words.values Q
+    (next_becomes m top s complete typed names words.widths c.members_stand.ensures c.next_is_lowered.ensures meant functions) (length m.items) p.name.name p numbers (outer_ends 0 p.config.ends) (length p.config.ends)
     (record { checked = record { named = t.named; among = one_of_these (record { name = p.name.name; numbers = numbers }) (all m top s) t.among }; own = t.own }))

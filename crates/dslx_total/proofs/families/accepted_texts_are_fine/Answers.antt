@@ -11,12 +11,12 @@ use Rattle.dslx_total.proofs.OnFamilies.Tops.{top_there}
 use Rattle.dslx_total.proofs.families.accepted_texts_are_fine.Goals as goal
 
 pub returns-clause-fine : goal.returns-clause-fine
-returns-clause-fine c = λ m top free plain procs wide accepted.
+returns-clause-fine c = λ m top free plain procs accepted.
     let fine = c.items_of_accepted_texts_are_fine.ensures.fine m top free plain accepted in
     let meant = c.items_of_accepted_texts_are_fine.ensures.meant m top free plain accepted in
     let complete = c.all_items_are_known.ensures.complete m free plain fine in
     let typed = c.all_items_are_known.ensures.typed m free plain fine in
-    let names = names_have_widths c.an_expression_is_lowered.ensures.wide m wide (length m.items) in
+    let names = names_have_widths c.an_expression_is_lowered.ensures.wide m (length m.items) in
     let s : IsAccepted m top = record {
       free = free;
       plain = plain;
@@ -35,9 +35,9 @@ returns-clause-fine c = λ m top free plain procs wide accepted.
           let words = c.words_of_ends_have_widths.ensures.values in
           subst (λ (x : Meanings). EachProcIsFine known (place_within m x (length m.items) p.name.name p (top_numbers x p) (outer_ends 0 p.config.ends) (length p.config.ends)).procs) meant
           (each_fine known _
-          (all_placed m top s procs complete typed names wide words (IsFineProc known) (fine_proc m top s procs complete typed names wide words) (length m.items) p.name.name p numbers (outer_ends 0 p.config.ends) (length p.config.ends)
+          (all_placed m top s procs complete typed names words (IsFineProc known) (fine_proc m top s procs complete typed names words) (length m.items) p.name.name p numbers (outer_ends 0 p.config.ends) (length p.config.ends)
           (record { checked = record { named = t.named; among = one_of_these (record { name = p.name.name; numbers = numbers }) (all m top s) t.among }; own = t.own })));
     }
 
 pub returns-clause-stands : goal.returns-clause-stands
-returns-clause-stands c = λ m top design free plain procs wide accepted made. c.fine_texts_stand.ensures m top design (returns-clause-fine c m top free plain procs wide accepted) made
+returns-clause-stands c = λ m top design free plain procs accepted made. c.fine_texts_stand.ensures m top design (returns-clause-fine c m top free plain procs accepted) made

@@ -11,7 +11,7 @@ use Rattle.dslx_total.proofs.OnTables.Widths.{names_have_widths}
 use Rattle.dslx_total.proofs.tables.accepted_functions_have_a_table.Goals as goal
 
 pub returns : goal.returns
-returns c m top free plain wide accepted =
+returns c m top free plain accepted =
     let n = length m.items in
     let fine = c.items_of_accepted_texts_are_fine.ensures.fine m top free plain accepted in
     let meant = c.items_of_accepted_texts_are_fine.ensures.meant m top free plain accepted in
@@ -21,7 +21,7 @@ returns c m top free plain wide accepted =
       complete = c.all_items_are_known.ensures.complete m free plain fine;
       typed = c.all_items_are_known.ensures.typed m free plain fine;
       types = λ name f e. types_judged (known_of m) f ((c.what_is_known_settles.ensures.items m free plain n (suc n) same one_more AsFunction name).function f e);
-      widths = names_have_widths c.an_expression_is_lowered.ensures.wide m wide n;
+      widths = names_have_widths c.an_expression_is_lowered.ensures.wide m n;
     } in
     let s : IsAccepted m top = record {
       free = free;
@@ -30,7 +30,7 @@ returns c m top free plain wide accepted =
       among = c.instances_reach_one_another.ensures.text m top free;
       outside = c.instances_reach_one_another.ensures.outside m top;
     } in
-    let have = c.instances_in_order_are_lowered.ensures (known_of m) can (in_order m top s n) (each_reaches m top s wide n same) in
+    let have = c.instances_in_order_are_lowered.ensures (known_of m) can (in_order m top s n) (each_reaches m top s n same) in
     let few = few_in_order m top s in
     let many = have.many in
     record {
