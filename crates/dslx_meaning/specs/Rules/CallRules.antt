@@ -359,17 +359,17 @@ effect_with span sight direction t c others more given =
     (t.reached ++ c.judgement.reached ++ reached_of_all others)
     (one_and (plus_size t.size (plus_size c.judgement.size (size_of_all others))))
 
--- another number of arguments than the effect's
-abbrev pub wrong_effect : Span → Sight → List ExprPair → Judgement
-wrong_effect span sight [] = wrong_call span [] [] []
-wrong_effect span sight (t ∷ []) = wrong_call span [] (held_judged sight t ∷ []) []
-wrong_effect span sight (t ∷ c ∷ es) = wrong_call span [] (held_judged sight t ∷ (channel_seen sight c).judgement ∷ all_alone sight es) []
+-- another number of arguments than the effect's, or number arguments
+abbrev pub wrong_effect : Span → Sight → List GivenNumber → List ExprPair → Judgement
+wrong_effect span sight given [] = wrong_call span given [] []
+wrong_effect span sight given (t ∷ []) = wrong_call span given (held_judged sight t ∷ []) []
+wrong_effect span sight given (t ∷ c ∷ es) = wrong_call span given (held_judged sight t ∷ (channel_seen sight c).judgement ∷ all_alone sight es) []
 
 abbrev pub receiving : Span → Sight → List ExprPair → Judgement
 receiving span sight (t ∷ c ∷ []) =
     let channel = channel_seen sight c in
     effect_with span sight In (token_judged sight t) channel [] [] (and_then (word_of channel) (λ w. Some (received w)))
-receiving span sight es = wrong_effect span sight es
+receiving span sight es = wrong_effect span sight [] es
 
 abbrev pub receiving_if : Span → Sight → List ExprPair → Judgement
 receiving_if span sight (t ∷ c ∷ p ∷ e ∷ []) =
@@ -379,7 +379,7 @@ receiving_if span sight (t ∷ c ∷ p ∷ e ∷ []) =
     effect_with span sight In (token_judged sight t) channel (condition ∷ default ∷ [])
     (unless_type is_bool 15 (span_of p) condition.ty ++ wanted_faults (span_of e) (word_of channel) default.ty)
     (and_then (word_of channel) (λ w. Some (received w)))
-receiving_if span sight es = wrong_effect span sight es
+receiving_if span sight es = wrong_effect span sight [] es
 
 abbrev pub sending : Span → Sight → List ExprPair → Judgement
 sending span sight (t ∷ c ∷ e ∷ []) =
@@ -387,7 +387,7 @@ sending span sight (t ∷ c ∷ e ∷ []) =
     let word = alone sight e in
     effect_with span sight Out (token_judged sight t) channel (word ∷ []) (wanted_faults (span_of e) (word_of channel) word.ty)
     (and_then (word_of channel) (λ w. Some ty.Token))
-sending span sight es = wrong_effect span sight es
+sending span sight es = wrong_effect span sight [] es
 
 abbrev pub sending_if : Span → Sight → List ExprPair → Judgement
 sending_if span sight (t ∷ c ∷ p ∷ e ∷ []) =
@@ -397,7 +397,7 @@ sending_if span sight (t ∷ c ∷ p ∷ e ∷ []) =
     effect_with span sight Out (token_judged sight t) channel (condition ∷ word ∷ [])
     (unless_type is_bool 15 (span_of p) condition.ty ++ wanted_faults (span_of e) (word_of channel) word.ty)
     (and_then (word_of channel) (λ w. Some ty.Token))
-sending_if span sight es = wrong_effect span sight es
+sending_if span sight es = wrong_effect span sight [] es
 
 -- rule 28: an effect stands at the top of `next` alone
 abbrev pub only_on_top : Bool → Span → Judgement → Judgement
@@ -419,11 +419,16 @@ builtin_judged Reverses span es sight = let js = all_alone sight es in counting 
 builtin_judged Updates span es sight = updating span es (all_alone sight es)
 builtin_judged _ span es sight = counting span es (all_alone sight es) (Some bool_type)
 
+-- nor has an effect
+abbrev pub unnumbered_effect : Span → Sight → List ArgPair → List ExprPair → Judgement → Judgement
+unnumbered_effect span sight [] es j = j
+unnumbered_effect span sight (n ∷ ns) es j = wrong_effect span sight (given_numbers sight (n ∷ ns)) es
+
 abbrev pub call_judged : CallKind → Span → Ident → List ArgPair → List ExprPair → Bool → Sight → Judgement
-call_judged Receives span name numbers es on_top sight = only_on_top on_top span (receiving span sight es)
-call_judged ReceivesIf span name numbers es on_top sight = only_on_top on_top span (receiving_if span sight es)
-call_judged Sends span name numbers es on_top sight = only_on_top on_top span (sending span sight es)
-call_judged SendsIf span name numbers es on_top sight = only_on_top on_top span (sending_if span sight es)
+call_judged Receives span name numbers es on_top sight = only_on_top on_top span (unnumbered_effect span sight numbers es (receiving span sight es))
+call_judged ReceivesIf span name numbers es on_top sight = only_on_top on_top span (unnumbered_effect span sight numbers es (receiving_if span sight es))
+call_judged Sends span name numbers es on_top sight = only_on_top on_top span (unnumbered_effect span sight numbers es (sending span sight es))
+call_judged SendsIf span name numbers es on_top sight = only_on_top on_top span (unnumbered_effect span sight numbers es (sending_if span sight es))
 call_judged Calls span name numbers es on_top sight =
     function_call span sight name (given_numbers sight numbers) es (all_alone sight es) (as_function (item_named name.name sight.known.whole.items))
 call_judged kind span name numbers es on_top sight = without_numbers span sight numbers es (builtin_judged kind span es sight)

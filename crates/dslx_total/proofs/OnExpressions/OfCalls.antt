@@ -20,7 +20,7 @@ use Rattle.dslx_meaning.specs.declared.ty.DslxType.{DslxType}
 use Rattle.dslx_meaning.specs.declared.ty.DslxType as ty
 use Rattle.dslx_meaning.specs.declared.value.DslxValue.{DslxValue}
 use Rattle.dslx_meaning.specs.Rules.AggregateRules.{array_in, element_type, is_array, wanted_faults, when_all}
-use Rattle.dslx_meaning.specs.Rules.CallRules.{GivenNumber, NumbersSeen, builtin_judged, call_judged, call_parts_faults, call_parts_reached, counting, declared_type, first_operand_type, function_call, given_judgements, given_numbers, has_right_count, inferred_by, joining, maybe_inferred, numbers_seen, operand_faults, reached_by, receiving, receiving_if, result_type, right_call, sending, sending_if, token_faults, token_judged, update_faults, updating, without_numbers, wrong_call}
+use Rattle.dslx_meaning.specs.Rules.CallRules.{GivenNumber, NumbersSeen, builtin_judged, call_judged, call_parts_faults, call_parts_reached, counting, declared_type, first_operand_type, function_call, given_judgements, given_numbers, has_right_count, inferred_by, joining, maybe_inferred, numbers_seen, operand_faults, reached_by, receiving, receiving_if, result_type, right_call, sending, sending_if, token_faults, token_judged, unnumbered_effect, update_faults, updating, without_numbers, wrong_call}
 use Rattle.dslx_meaning.specs.Rules.ConstantRules.{constant_of, is_unsigned}
 use Rattle.dslx_meaning.specs.Rules.Judging.{ExprPair, Instance, Judgement, Sight, all_alone, alone, breaks, breaks_if, faults_of_all, has_broken, one_and, plus_size, reached_of_all, size_of_all, span_of, types_of, within}
 use Rattle.dslx_meaning.specs.Rules.Judgings.{ArgPair}
@@ -289,8 +289,8 @@ call_lowers AllOnes span f as' ls es xs kn kx = without_lowers span as' es (buil
 call_lowers SomeOne span f as' ls es xs kn kx = without_lowers span as' es (builtin_judged SomeOne span es) (λ place. reduced_lowered u.OrReduce (all_lowered place xs)) (reduces_lower span u.OrReduce es xs kx)
 call_lowers Parity span f as' ls es xs kn kx = without_lowers span as' es (builtin_judged Parity span es) (λ place. reduced_lowered u.XorReduce (all_lowered place xs)) (reduces_lower span u.XorReduce es xs kx)
 call_lowers Updates span f as' ls es xs kn kx = without_lowers span as' es (builtin_judged Updates span es) (λ place. updated_lowered (all_lowered place xs)) (updates_lower span es xs kx)
-call_lowers Receives span f as' ls es xs kn kx = λ here sight env place h at fine. some_fault (breaks 28 span) [] (none_in (receiving span sight es).faults (breaks 28 span ∷ []) fine.faults).1
-call_lowers ReceivesIf span f as' ls es xs kn kx = λ here sight env place h at fine. some_fault (breaks 28 span) [] (none_in (receiving_if span sight es).faults (breaks 28 span ∷ []) fine.faults).1
-call_lowers Sends span f as' ls es xs kn kx = λ here sight env place h at fine. some_fault (breaks 28 span) [] (none_in (sending span sight es).faults (breaks 28 span ∷ []) fine.faults).1
-call_lowers SendsIf span f as' ls es xs kn kx = λ here sight env place h at fine. some_fault (breaks 28 span) [] (none_in (sending_if span sight es).faults (breaks 28 span ∷ []) fine.faults).1
+call_lowers Receives span f as' ls es xs kn kx = λ here sight env place h at fine. some_fault (breaks 28 span) [] (none_in (unnumbered_effect span sight as' es (receiving span sight es)).faults (breaks 28 span ∷ []) fine.faults).1
+call_lowers ReceivesIf span f as' ls es xs kn kx = λ here sight env place h at fine. some_fault (breaks 28 span) [] (none_in (unnumbered_effect span sight as' es (receiving_if span sight es)).faults (breaks 28 span ∷ []) fine.faults).1
+call_lowers Sends span f as' ls es xs kn kx = λ here sight env place h at fine. some_fault (breaks 28 span) [] (none_in (unnumbered_effect span sight as' es (sending span sight es)).faults (breaks 28 span ∷ []) fine.faults).1
+call_lowers SendsIf span f as' ls es xs kn kx = λ here sight env place h at fine. some_fault (breaks 28 span) [] (none_in (unnumbered_effect span sight as' es (sending_if span sight es)).faults (breaks 28 span ∷ []) fine.faults).1
 call_lowers Calls span f as' ls es xs kn kx = function_lowers span f as' ls es xs kn kx

@@ -200,39 +200,39 @@ held_same sight other e h = λ i. c.held_judged sight (frozen e (h i))
 token_same : (sight : Sight) (other : Known) (e : ExprPair) → PartSame sight other e → token_judged sight e ≡ token_judged (in_known sight other) e
 token_same sight other e h = λ i. token_judged sight (frozen e (h i))
 
-wrong_effect_same : (span : Span) (sight : Sight) (other : Known) (es : List ExprPair) → EachSame sight other es → c.wrong_effect span sight es ≡ c.wrong_effect span (in_known sight other) es
-wrong_effect_same span sight other [] h = refl
-wrong_effect_same span sight other (t ∷ []) h = λ i. wrong_call span [] (held_same sight other t h.0 i ∷ []) []
-wrong_effect_same span sight other (t ∷ x ∷ es) h = λ i. wrong_call span [] (held_same sight other t h.0 i ∷ (channel_same sight other x h.1.0 i).judgement ∷ all_alone_same sight other es h.1.1 i) []
+wrong_effect_same : (span : Span) (sight : Sight) (other : Known) (given : List GivenNumber) (es : List ExprPair) → EachSame sight other es → c.wrong_effect span sight given es ≡ c.wrong_effect span (in_known sight other) given es
+wrong_effect_same span sight other given [] h = refl
+wrong_effect_same span sight other given (t ∷ []) h = λ i. wrong_call span given (held_same sight other t h.0 i ∷ []) []
+wrong_effect_same span sight other given (t ∷ x ∷ es) h = λ i. wrong_call span given (held_same sight other t h.0 i ∷ (channel_same sight other x h.1.0 i).judgement ∷ all_alone_same sight other es h.1.1 i) []
 
 receiving_same : (span : Span) (sight : Sight) (other : Known) (es : List ExprPair) → EachSame sight other es → c.receiving span sight es ≡ c.receiving span (in_known sight other) es
-receiving_same span sight other [] h = wrong_effect_same span sight other [] h
-receiving_same span sight other (t ∷ []) h = wrong_effect_same span sight other (t ∷ []) h
+receiving_same span sight other [] h = wrong_effect_same span sight other [] [] h
+receiving_same span sight other (t ∷ []) h = wrong_effect_same span sight other [] (t ∷ []) h
 receiving_same span sight other (t ∷ x ∷ []) h = λ i. c.receiving span sight (frozen t (h.0 i) ∷ frozen x (h.1.0 i) ∷ [])
-receiving_same span sight other (t ∷ x ∷ e ∷ es) h = wrong_effect_same span sight other (t ∷ x ∷ e ∷ es) h
+receiving_same span sight other (t ∷ x ∷ e ∷ es) h = wrong_effect_same span sight other [] (t ∷ x ∷ e ∷ es) h
 
 sending_same : (span : Span) (sight : Sight) (other : Known) (es : List ExprPair) → EachSame sight other es → c.sending span sight es ≡ c.sending span (in_known sight other) es
-sending_same span sight other [] h = wrong_effect_same span sight other [] h
-sending_same span sight other (t ∷ []) h = wrong_effect_same span sight other (t ∷ []) h
-sending_same span sight other (t ∷ x ∷ []) h = wrong_effect_same span sight other (t ∷ x ∷ []) h
+sending_same span sight other [] h = wrong_effect_same span sight other [] [] h
+sending_same span sight other (t ∷ []) h = wrong_effect_same span sight other [] (t ∷ []) h
+sending_same span sight other (t ∷ x ∷ []) h = wrong_effect_same span sight other [] (t ∷ x ∷ []) h
 sending_same span sight other (t ∷ x ∷ e ∷ []) h = λ i. c.sending span sight (frozen t (h.0 i) ∷ frozen x (h.1.0 i) ∷ frozen e (h.1.1.0 i) ∷ [])
-sending_same span sight other (t ∷ x ∷ e ∷ f ∷ es) h = wrong_effect_same span sight other (t ∷ x ∷ e ∷ f ∷ es) h
+sending_same span sight other (t ∷ x ∷ e ∷ f ∷ es) h = wrong_effect_same span sight other [] (t ∷ x ∷ e ∷ f ∷ es) h
 
 receiving_if_same : (span : Span) (sight : Sight) (other : Known) (es : List ExprPair) → EachSame sight other es → c.receiving_if span sight es ≡ c.receiving_if span (in_known sight other) es
-receiving_if_same span sight other [] h = wrong_effect_same span sight other [] h
-receiving_if_same span sight other (t ∷ []) h = wrong_effect_same span sight other (t ∷ []) h
-receiving_if_same span sight other (t ∷ x ∷ []) h = wrong_effect_same span sight other (t ∷ x ∷ []) h
-receiving_if_same span sight other (t ∷ x ∷ p ∷ []) h = wrong_effect_same span sight other (t ∷ x ∷ p ∷ []) h
+receiving_if_same span sight other [] h = wrong_effect_same span sight other [] [] h
+receiving_if_same span sight other (t ∷ []) h = wrong_effect_same span sight other [] (t ∷ []) h
+receiving_if_same span sight other (t ∷ x ∷ []) h = wrong_effect_same span sight other [] (t ∷ x ∷ []) h
+receiving_if_same span sight other (t ∷ x ∷ p ∷ []) h = wrong_effect_same span sight other [] (t ∷ x ∷ p ∷ []) h
 receiving_if_same span sight other (t ∷ x ∷ p ∷ e ∷ []) h = λ i. c.receiving_if span sight (frozen t (h.0 i) ∷ frozen x (h.1.0 i) ∷ frozen p (h.1.1.0 i) ∷ frozen e (h.1.1.1.0 i) ∷ [])
-receiving_if_same span sight other (t ∷ x ∷ p ∷ e ∷ f ∷ es) h = wrong_effect_same span sight other (t ∷ x ∷ p ∷ e ∷ f ∷ es) h
+receiving_if_same span sight other (t ∷ x ∷ p ∷ e ∷ f ∷ es) h = wrong_effect_same span sight other [] (t ∷ x ∷ p ∷ e ∷ f ∷ es) h
 
 sending_if_same : (span : Span) (sight : Sight) (other : Known) (es : List ExprPair) → EachSame sight other es → c.sending_if span sight es ≡ c.sending_if span (in_known sight other) es
-sending_if_same span sight other [] h = wrong_effect_same span sight other [] h
-sending_if_same span sight other (t ∷ []) h = wrong_effect_same span sight other (t ∷ []) h
-sending_if_same span sight other (t ∷ x ∷ []) h = wrong_effect_same span sight other (t ∷ x ∷ []) h
-sending_if_same span sight other (t ∷ x ∷ p ∷ []) h = wrong_effect_same span sight other (t ∷ x ∷ p ∷ []) h
+sending_if_same span sight other [] h = wrong_effect_same span sight other [] [] h
+sending_if_same span sight other (t ∷ []) h = wrong_effect_same span sight other [] (t ∷ []) h
+sending_if_same span sight other (t ∷ x ∷ []) h = wrong_effect_same span sight other [] (t ∷ x ∷ []) h
+sending_if_same span sight other (t ∷ x ∷ p ∷ []) h = wrong_effect_same span sight other [] (t ∷ x ∷ p ∷ []) h
 sending_if_same span sight other (t ∷ x ∷ p ∷ e ∷ []) h = λ i. c.sending_if span sight (frozen t (h.0 i) ∷ frozen x (h.1.0 i) ∷ frozen p (h.1.1.0 i) ∷ frozen e (h.1.1.1.0 i) ∷ [])
-sending_if_same span sight other (t ∷ x ∷ p ∷ e ∷ f ∷ es) h = wrong_effect_same span sight other (t ∷ x ∷ p ∷ e ∷ f ∷ es) h
+sending_if_same span sight other (t ∷ x ∷ p ∷ e ∷ f ∷ es) h = wrong_effect_same span sight other [] (t ∷ x ∷ p ∷ e ∷ f ∷ es) h
 
 -- ---- any call
 
@@ -240,6 +240,12 @@ unnumbered : (span : Span) (sight : Sight) (other : Known) (as' : List ArgPair) 
     → without_numbers span sight as' es j ≡ without_numbers span (in_known sight other) as' es k
 unnumbered span sight other [] es j k h g e = e
 unnumbered span sight other (a ∷ as') es j k h g e = λ i. wrong_call span (given_same sight other (a ∷ as') h i) (all_alone_same sight other es g i) []
+
+effect_unnumbered : (span : Span) (sight : Sight) (other : Known) (as' : List ArgPair) (es : List ExprPair) (j k : Judgement) → EachGivenSame sight other as' → EachSame sight other es → j ≡ k
+    → c.unnumbered_effect span sight as' es j ≡ c.unnumbered_effect span (in_known sight other) as' es k
+effect_unnumbered span sight other [] es j k h g e = e
+effect_unnumbered span sight other (a ∷ as') es j k h g e =
+    ap (λ given. c.wrong_effect span sight given es) (given_same sight other (a ∷ as') h) ∙ wrong_effect_same span sight other (given_numbers (in_known sight other) (a ∷ as')) es g
 
 -- the kind is a function of the text, and then the same is known of it
 abbrev pub IfCalled : CallKind → Type 0 → Type 0
@@ -252,10 +258,10 @@ pub call_same : (P : List ℕ → Bool) (kind : CallKind) (span : Span) (name : 
 call_same P Calls span name as' es on_top sight other k g h f =
     function_same P span sight other name (given_numbers sight as') es (all_alone sight es) k f
     ∙ (λ i. function_call span (in_known sight other) name (given_same sight other as' g i) es (all_alone_same sight other es h i) (as_function (item_named name.name other.whole.items)))
-call_same P Receives span name as' es on_top sight other k g h f = ap (c.only_on_top on_top span) (receiving_same span sight other es h)
-call_same P ReceivesIf span name as' es on_top sight other k g h f = ap (c.only_on_top on_top span) (receiving_if_same span sight other es h)
-call_same P Sends span name as' es on_top sight other k g h f = ap (c.only_on_top on_top span) (sending_same span sight other es h)
-call_same P SendsIf span name as' es on_top sight other k g h f = ap (c.only_on_top on_top span) (sending_if_same span sight other es h)
+call_same P Receives span name as' es on_top sight other k g h f = ap (c.only_on_top on_top span) (effect_unnumbered span sight other as' es _ _ g h (receiving_same span sight other es h))
+call_same P ReceivesIf span name as' es on_top sight other k g h f = ap (c.only_on_top on_top span) (effect_unnumbered span sight other as' es _ _ g h (receiving_if_same span sight other es h))
+call_same P Sends span name as' es on_top sight other k g h f = ap (c.only_on_top on_top span) (effect_unnumbered span sight other as' es _ _ g h (sending_same span sight other es h))
+call_same P SendsIf span name as' es on_top sight other k g h f = ap (c.only_on_top on_top span) (effect_unnumbered span sight other as' es _ _ g h (sending_if_same span sight other es h))
 call_same P Joins span name as' es on_top sight other k g h f = unnumbered span sight other as' es _ _ g h (builtin_same Joins span sight other es h)
 call_same P CountsLeading span name as' es on_top sight other k g h f = unnumbered span sight other as' es _ _ g h (builtin_same CountsLeading span sight other es h)
 call_same P CountsTrailing span name as' es on_top sight other k g h f = unnumbered span sight other as' es _ _ g h (builtin_same CountsTrailing span sight other es h)

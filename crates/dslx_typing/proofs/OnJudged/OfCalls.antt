@@ -14,7 +14,7 @@ use Rattle.dslx_meaning.specs.Lists.{is_in}
 use Rattle.dslx_meaning.specs.Types.{bool_type}
 use Rattle.dslx_meaning.specs.declared.ty.DslxType.{DslxType}
 use Rattle.dslx_meaning.specs.declared.value.DslxValue.{DslxValue}
-use Rattle.dslx_meaning.specs.Rules.CallRules.{GivenNumber, Number, NumbersSeen, Resolved, Unknown, Wrong, bound_by_number, builtin_judged, call_judged, call_parts_reached, channel_named, channel_seen, counting, declared_type, default_value, first_operand_type, function_call, given_judgements, given_numbers, has_right_count, held_judged, inferred_by, maybe_inferred, named_channel, not_given, numbers_for, numbers_seen, of_type, only_on_top, outlet_at, reached_by, receiving, receiving_if, resolved_value, right_call, sending, sending_if, token_judged, type_without_value, unknown_behind, updating, without_numbers, wrong_call, wrong_effect}
+use Rattle.dslx_meaning.specs.Rules.CallRules.{GivenNumber, Number, NumbersSeen, Resolved, Unknown, Wrong, bound_by_number, builtin_judged, call_judged, call_parts_reached, channel_named, channel_seen, counting, declared_type, default_value, first_operand_type, function_call, given_judgements, given_numbers, has_right_count, held_judged, inferred_by, maybe_inferred, named_channel, not_given, numbers_for, numbers_seen, of_type, only_on_top, outlet_at, reached_by, receiving, receiving_if, resolved_value, right_call, sending, sending_if, token_judged, type_without_value, unknown_behind, unnumbered_effect, updating, without_numbers, wrong_call, wrong_effect}
 use Rattle.dslx_meaning.specs.Rules.Judging.{ExprPair, Judgement, Known, Outlet, Sight, all_alone, alone, breaks_if, has_broken, name_of_expr, reached_of_all, span_of, types_of, within}
 use Rattle.dslx_meaning.specs.Rules.Judgings.{ArgPair}
 use Rattle.dslx_meaning.specs.Rules.Mentions.{is_cyclic}
@@ -135,45 +135,47 @@ channel_reaches P sight e h = by_name (name_of_expr e)
     by_name None = unmarked P (span_of e) (within sight e) h
     by_name (Some name) = by_outlet name (outlet_at sight name)
 
-wrong_effect_reaches : (P : List ℕ → Bool) (span : Span) (sight : Sight) (es : List ExprPair) → EachReaches P sight es → AllNamed P (wrong_effect span sight es).reached
-wrong_effect_reaches P span sight [] h = tt
-wrong_effect_reaches P span sight (t ∷ []) h = join P (held_judged sight t).reached [] h.0 tt
-wrong_effect_reaches P span sight (t ∷ c ∷ es) h =
-    join P (held_judged sight t).reached (reached_of_all ((channel_seen sight c).judgement ∷ all_alone sight es)) h.0
-    (join P (channel_seen sight c).judgement.reached (reached_of_all (all_alone sight es)) (channel_reaches P sight c h.1.0) (alone_reach P sight es h.1.1))
+wrong_effect_reaches : (P : List ℕ → Bool) (span : Span) (sight : Sight) (gs : List GivenNumber) (es : List ExprPair) → AllNamed P (reached_of_all (given_judgements gs)) → EachReaches P sight es
+    → AllNamed P (wrong_effect span sight gs es).reached
+wrong_effect_reaches P span sight gs [] g h = join P (reached_of_all (given_judgements gs)) [] g tt
+wrong_effect_reaches P span sight gs (t ∷ []) g h = join P (reached_of_all (given_judgements gs)) (reached_of_all (held_judged sight t ∷ [])) g (join P (held_judged sight t).reached [] h.0 tt)
+wrong_effect_reaches P span sight gs (t ∷ c ∷ es) g h =
+    join P (reached_of_all (given_judgements gs)) (reached_of_all (held_judged sight t ∷ (channel_seen sight c).judgement ∷ all_alone sight es)) g
+    (join P (held_judged sight t).reached (reached_of_all ((channel_seen sight c).judgement ∷ all_alone sight es)) h.0
+    (join P (channel_seen sight c).judgement.reached (reached_of_all (all_alone sight es)) (channel_reaches P sight c h.1.0) (alone_reach P sight es h.1.1)))
 
 effect_reaches : (P : List ℕ → Bool) (sight : Sight) (t c : ExprPair) (es : List ExprPair) → EachReaches P sight (t ∷ c ∷ es)
     → AllNamed P (((token_judged sight t).reached ++ (channel_seen sight c).judgement.reached) ++ reached_of_all (all_alone sight es))
 effect_reaches P sight t c es h = join_three P (token_judged sight t).reached (channel_seen sight c).judgement.reached (reached_of_all (all_alone sight es)) h.0 (channel_reaches P sight c h.1.0) (alone_reach P sight es h.1.1)
 
 receiving_reaches : (P : List ℕ → Bool) (span : Span) (sight : Sight) (es : List ExprPair) → EachReaches P sight es → AllNamed P (receiving span sight es).reached
-receiving_reaches P span sight [] h = wrong_effect_reaches P span sight [] h
-receiving_reaches P span sight (t ∷ []) h = wrong_effect_reaches P span sight (t ∷ []) h
+receiving_reaches P span sight [] h = wrong_effect_reaches P span sight [] [] tt h
+receiving_reaches P span sight (t ∷ []) h = wrong_effect_reaches P span sight [] (t ∷ []) tt h
 receiving_reaches P span sight (t ∷ c ∷ []) h = effect_reaches P sight t c [] h
-receiving_reaches P span sight (t ∷ c ∷ e ∷ es) h = wrong_effect_reaches P span sight (t ∷ c ∷ e ∷ es) h
+receiving_reaches P span sight (t ∷ c ∷ e ∷ es) h = wrong_effect_reaches P span sight [] (t ∷ c ∷ e ∷ es) tt h
 
 sending_reaches : (P : List ℕ → Bool) (span : Span) (sight : Sight) (es : List ExprPair) → EachReaches P sight es → AllNamed P (sending span sight es).reached
-sending_reaches P span sight [] h = wrong_effect_reaches P span sight [] h
-sending_reaches P span sight (t ∷ []) h = wrong_effect_reaches P span sight (t ∷ []) h
-sending_reaches P span sight (t ∷ c ∷ []) h = wrong_effect_reaches P span sight (t ∷ c ∷ []) h
+sending_reaches P span sight [] h = wrong_effect_reaches P span sight [] [] tt h
+sending_reaches P span sight (t ∷ []) h = wrong_effect_reaches P span sight [] (t ∷ []) tt h
+sending_reaches P span sight (t ∷ c ∷ []) h = wrong_effect_reaches P span sight [] (t ∷ c ∷ []) tt h
 sending_reaches P span sight (t ∷ c ∷ e ∷ []) h = effect_reaches P sight t c (e ∷ []) h
-sending_reaches P span sight (t ∷ c ∷ e ∷ a ∷ es) h = wrong_effect_reaches P span sight (t ∷ c ∷ e ∷ a ∷ es) h
+sending_reaches P span sight (t ∷ c ∷ e ∷ a ∷ es) h = wrong_effect_reaches P span sight [] (t ∷ c ∷ e ∷ a ∷ es) tt h
 
 receiving_if_reaches : (P : List ℕ → Bool) (span : Span) (sight : Sight) (es : List ExprPair) → EachReaches P sight es → AllNamed P (receiving_if span sight es).reached
-receiving_if_reaches P span sight [] h = wrong_effect_reaches P span sight [] h
-receiving_if_reaches P span sight (t ∷ []) h = wrong_effect_reaches P span sight (t ∷ []) h
-receiving_if_reaches P span sight (t ∷ c ∷ []) h = wrong_effect_reaches P span sight (t ∷ c ∷ []) h
-receiving_if_reaches P span sight (t ∷ c ∷ p ∷ []) h = wrong_effect_reaches P span sight (t ∷ c ∷ p ∷ []) h
+receiving_if_reaches P span sight [] h = wrong_effect_reaches P span sight [] [] tt h
+receiving_if_reaches P span sight (t ∷ []) h = wrong_effect_reaches P span sight [] (t ∷ []) tt h
+receiving_if_reaches P span sight (t ∷ c ∷ []) h = wrong_effect_reaches P span sight [] (t ∷ c ∷ []) tt h
+receiving_if_reaches P span sight (t ∷ c ∷ p ∷ []) h = wrong_effect_reaches P span sight [] (t ∷ c ∷ p ∷ []) tt h
 receiving_if_reaches P span sight (t ∷ c ∷ p ∷ e ∷ []) h = effect_reaches P sight t c (p ∷ e ∷ []) h
-receiving_if_reaches P span sight (t ∷ c ∷ p ∷ e ∷ a ∷ es) h = wrong_effect_reaches P span sight (t ∷ c ∷ p ∷ e ∷ a ∷ es) h
+receiving_if_reaches P span sight (t ∷ c ∷ p ∷ e ∷ a ∷ es) h = wrong_effect_reaches P span sight [] (t ∷ c ∷ p ∷ e ∷ a ∷ es) tt h
 
 sending_if_reaches : (P : List ℕ → Bool) (span : Span) (sight : Sight) (es : List ExprPair) → EachReaches P sight es → AllNamed P (sending_if span sight es).reached
-sending_if_reaches P span sight [] h = wrong_effect_reaches P span sight [] h
-sending_if_reaches P span sight (t ∷ []) h = wrong_effect_reaches P span sight (t ∷ []) h
-sending_if_reaches P span sight (t ∷ c ∷ []) h = wrong_effect_reaches P span sight (t ∷ c ∷ []) h
-sending_if_reaches P span sight (t ∷ c ∷ p ∷ []) h = wrong_effect_reaches P span sight (t ∷ c ∷ p ∷ []) h
+sending_if_reaches P span sight [] h = wrong_effect_reaches P span sight [] [] tt h
+sending_if_reaches P span sight (t ∷ []) h = wrong_effect_reaches P span sight [] (t ∷ []) tt h
+sending_if_reaches P span sight (t ∷ c ∷ []) h = wrong_effect_reaches P span sight [] (t ∷ c ∷ []) tt h
+sending_if_reaches P span sight (t ∷ c ∷ p ∷ []) h = wrong_effect_reaches P span sight [] (t ∷ c ∷ p ∷ []) tt h
 sending_if_reaches P span sight (t ∷ c ∷ p ∷ e ∷ []) h = effect_reaches P sight t c (p ∷ e ∷ []) h
-sending_if_reaches P span sight (t ∷ c ∷ p ∷ e ∷ a ∷ es) h = wrong_effect_reaches P span sight (t ∷ c ∷ p ∷ e ∷ a ∷ es) h
+sending_if_reaches P span sight (t ∷ c ∷ p ∷ e ∷ a ∷ es) h = wrong_effect_reaches P span sight [] (t ∷ c ∷ p ∷ e ∷ a ∷ es) tt h
 
 on_top_reaches : (P : List ℕ → Bool) (b : Bool) (span : Span) (j : Judgement) → AllNamed P j.reached → AllNamed P (only_on_top b span j).reached
 on_top_reaches P true span j h = h
@@ -187,6 +189,11 @@ unnumbered P span sight [] es j h k r = r
 unnumbered P span sight (a ∷ as') es j h k r =
     join P (reached_of_all (given_judgements (given_numbers sight (a ∷ as')))) (reached_of_all (all_alone sight es)) (given_reach P sight (a ∷ as') h) (alone_reach P sight es k)
 
+effect_unnumbered : (P : List ℕ → Bool) (span : Span) (sight : Sight) (as' : List ArgPair) (es : List ExprPair) (j : Judgement) → EachReaches P sight (map (λ (a : ArgPair). a.1) as') → EachReaches P sight es → AllNamed P j.reached
+    → AllNamed P (unnumbered_effect span sight as' es j).reached
+effect_unnumbered P span sight [] es j h k r = r
+effect_unnumbered P span sight (a ∷ as') es j h k r = wrong_effect_reaches P span sight (given_numbers sight (a ∷ as')) es (given_reach P sight (a ∷ as') h) k
+
 -- the kind is a function of the text, and then it is as the function reaches
 abbrev pub IfCalls : CallKind → Type 0 → Type 0
 IfCalls Calls X = X
@@ -198,10 +205,10 @@ pub call_reaches : (P : List ℕ → Bool) (kind : CallKind) (span : Span) (name
 call_reaches P Calls span name as' es on_top sight h k f =
     function_reaches P span sight name (given_numbers sight as') es (all_alone sight es)
     (join P (reached_of_all (given_judgements (given_numbers sight as'))) (reached_of_all (all_alone sight es)) (given_reach P sight as' h) (alone_reach P sight es k)) f
-call_reaches P Receives span name as' es on_top sight h k f = on_top_reaches P on_top span (receiving span sight es) (receiving_reaches P span sight es k)
-call_reaches P ReceivesIf span name as' es on_top sight h k f = on_top_reaches P on_top span (receiving_if span sight es) (receiving_if_reaches P span sight es k)
-call_reaches P Sends span name as' es on_top sight h k f = on_top_reaches P on_top span (sending span sight es) (sending_reaches P span sight es k)
-call_reaches P SendsIf span name as' es on_top sight h k f = on_top_reaches P on_top span (sending_if span sight es) (sending_if_reaches P span sight es k)
+call_reaches P Receives span name as' es on_top sight h k f = on_top_reaches P on_top span (unnumbered_effect span sight as' es (receiving span sight es)) (effect_unnumbered P span sight as' es (receiving span sight es) h k (receiving_reaches P span sight es k))
+call_reaches P ReceivesIf span name as' es on_top sight h k f = on_top_reaches P on_top span (unnumbered_effect span sight as' es (receiving_if span sight es)) (effect_unnumbered P span sight as' es (receiving_if span sight es) h k (receiving_if_reaches P span sight es k))
+call_reaches P Sends span name as' es on_top sight h k f = on_top_reaches P on_top span (unnumbered_effect span sight as' es (sending span sight es)) (effect_unnumbered P span sight as' es (sending span sight es) h k (sending_reaches P span sight es k))
+call_reaches P SendsIf span name as' es on_top sight h k f = on_top_reaches P on_top span (unnumbered_effect span sight as' es (sending_if span sight es)) (effect_unnumbered P span sight as' es (sending_if span sight es) h k (sending_if_reaches P span sight es k))
 call_reaches P Joins span name as' es on_top sight h k f = unnumbered P span sight as' es (builtin_judged Joins span es sight) h k (token_reach P sight es k)
 call_reaches P CountsLeading span name as' es on_top sight h k f = unnumbered P span sight as' es (builtin_judged CountsLeading span es sight) h k (counting_reaches P span sight es (first_operand_type (all_alone sight es)) k)
 call_reaches P CountsTrailing span name as' es on_top sight h k f = unnumbered P span sight as' es (builtin_judged CountsTrailing span es sight) h k (counting_reaches P span sight es (first_operand_type (all_alone sight es)) k)
