@@ -1,5 +1,5 @@
 -- What calls reach.
-use Rattle.std.proofs.Common.{◌≡◌, ◌||◌, ◌++◌, ℕ, Bool, true, false, if◌then◌else◌, List, [], ◌∷◌, map, Option, Some, None, refl}
+use Rattle.std.proofs.Common.{◌≡◌, ◌++◌, ℕ, Bool, true, false, if◌then◌else◌, List, [], ◌∷◌, map, Option, Some, None, refl}
 use Rattle.xb_span.specs.declared.span.Span.{Span}
 use Rattle.xb_span.specs.declared.fault.Fault.{Fault}
 use Rattle.dslx_tree.specs.declared.expr.Expr.{Expr}
@@ -7,15 +7,15 @@ use Rattle.dslx_tree.specs.declared.ident.Ident.{Ident}
 use Rattle.dslx_tree.specs.declared.item.Function.{Function}
 use Rattle.dslx_tree.specs.declared.item.Parameter.{Parameter}
 use Rattle.dslx_meaning.specs.Callees.{AllOnes, CallKind, Calls, CountsLeading, CountsTrailing, Joins, Parity, Receives, ReceivesIf, Reverses, Sends, SendsIf, SomeOne, Updates}
-use Rattle.dslx_meaning.specs.Environment.{Given}
 use Rattle.dslx_meaning.specs.Inference.{Inferred}
 use Rattle.dslx_meaning.specs.Items.{as_function, item_named}
 use Rattle.dslx_meaning.specs.Lists.{is_in}
 use Rattle.dslx_meaning.specs.Types.{bool_type}
 use Rattle.dslx_meaning.specs.declared.ty.DslxType.{DslxType}
 use Rattle.dslx_meaning.specs.declared.value.DslxValue.{DslxValue}
-use Rattle.dslx_meaning.specs.Rules.CallRules.{GivenNumber, Number, NumbersSeen, Resolved, Unknown, Wrong, bound_by_number, builtin_judged, call_judged, call_parts_reached, channel_named, channel_seen, counting, declared_type, default_value, first_operand_type, function_call, given_judgements, given_numbers, has_right_count, held_judged, inferred_by, maybe_inferred, named_channel, not_given, numbers_for, numbers_seen, of_type, only_on_top, outlet_at, reached_by, receiving, receiving_if, resolved_value, right_call, sending, sending_if, token_judged, type_without_value, unknown_behind, unnumbered_effect, updating, without_numbers, wrong_call, wrong_effect}
-use Rattle.dslx_meaning.specs.Rules.Judging.{ExprPair, Judgement, Known, Outlet, Sight, all_alone, alone, breaks_if, has_broken, name_of_expr, reached_of_all, span_of, types_of, within}
+use Rattle.dslx_meaning.specs.Rules.CallRules.{Before, GivenNumber, NumbersSeen, Unknown, and_parameter, builtin_judged, call_judged, call_numbers, call_parts_reached, channel_named, channel_seen, counting, declared_type, default_there, default_value, first_operand_type, function_call, given_judgements, given_numbers, has_right_count, held_judged, inferred_by, is_refused, judged_there, known_before, maybe_inferred, named_channel, not_given, nothing_there, numbers_for, numbers_seen, of_type, only_on_top, outlet_at, reached_by, receiving, receiving_if, resolved_value, right_call, sending, sending_if, token_judged, type_there, unnumbered_effect, updating, without_default, without_numbers, wrong_call, wrong_effect}
+use Rattle.dslx_meaning.specs.Rules.ConstantRules.{is_empty}
+use Rattle.dslx_meaning.specs.Rules.Judging.{ExprPair, Judgement, Known, Outlet, Sight, all_alone, alone, breaks_if, name_of_expr, reached_of_all, span_of, types_of, within}
 use Rattle.dslx_meaning.specs.Rules.Judgings.{ArgPair}
 use Rattle.dslx_meaning.specs.Rules.Mentions.{is_cyclic}
 use Rattle.dslx_typing.specs.Judged.Reached.{AllNamed, EachParameterReaches, InstancesReach, ParameterReaches}
@@ -23,40 +23,56 @@ use Rattle.dslx_typing.proofs.OnJudged.Parts.{join, join_three, unmarked}
 
 -- ---- number parameters
 
-default_reaches : (P : List ℕ → Bool) (known : Known) (home : List ℕ) (so_far : List Given) (unknown : List (List ℕ)) (t : Option DslxType) (p : Parameter) → ParameterReaches P known home p → (o : Option Expr) → p.default ≡ o
-    → AllNamed P (default_value known home so_far unknown t o).reached
-default_reaches P known home so_far unknown t p h None q = tt
-default_reaches P known home so_far unknown t p h (Some e) q = h.default so_far unknown e q
+default_reaches : (P : List ℕ → Bool) (known : Known) (home : List ℕ) (before : Before) (t : Option DslxType) (p : Parameter) → ParameterReaches P known home p → (o : Option Expr) → p.default ≡ o
+    → AllNamed P (default_value known home before t o).judged.reached
+default_reaches P known home before t p h None q = tt
+default_reaches P known home before t p h (Some e) q = by_unknown (is_empty before.unknown)
+  where
+    by_unknown : (b : Bool) → AllNamed P (if b then default_there known home before.values t e else without_default Unknown).judged.reached
+    by_unknown true = h.default before.values e q
+    by_unknown false = tt
 
-not_given_reaches : (P : List ℕ → Bool) (known : Known) (home : List ℕ) (so_far : List Given) (unknown : List (List ℕ)) (p : Parameter) → ParameterReaches P known home p → (t : Option DslxType) (maybe : Bool) (ns : List ℕ)
-    → AllNamed P (not_given known home so_far unknown p t maybe ns).reached
-not_given_reaches P known home so_far unknown p h t true [] = tt
-not_given_reaches P known home so_far unknown p h t false [] = default_reaches P known home so_far unknown t p h p.default refl
-not_given_reaches P known home so_far unknown p h t maybe (n ∷ ns) = tt
+not_given_reaches : (P : List ℕ → Bool) (known : Known) (home : List ℕ) (before : Before) (p : Parameter) → ParameterReaches P known home p → (t : Option DslxType) (maybe : Bool) (ns : List ℕ)
+    → AllNamed P (not_given known home before p t maybe ns).judged.reached
+not_given_reaches P known home before p h t true [] = tt
+not_given_reaches P known home before p h t false [] = default_reaches P known home before t p h p.default refl
+not_given_reaches P known home before p h t maybe (n ∷ ns) = tt
 
-written_reaches : (P : List ℕ → Bool) (known : Known) (home : List ℕ) (so_far : List Given) (unknown : List (List ℕ)) (p : Parameter) → ParameterReaches P known home p → (r : Resolved)
-    → AllNamed P (type_without_value known home so_far unknown p r).reached
-written_reaches P known home so_far unknown p h Unknown = h.ty so_far unknown
-written_reaches P known home so_far unknown p h (Number v) = tt
-written_reaches P known home so_far unknown p h Wrong = tt
+type_reaches : (P : List ℕ → Bool) (known : Known) (home : List ℕ) (before : Before) (p : Parameter) → ParameterReaches P known home p → AllNamed P (type_there known home before p).reached
+type_reaches P known home before p h = by_unknown (is_empty before.unknown)
+  where
+    by_unknown : (b : Bool)
+        → AllNamed P (if b then record { faults = (known.type_seen_in home before.values p.ty).faults; reached = (known.type_seen_in home before.values p.ty).reached } else nothing_there).reached
+    by_unknown true = h.ty before.values
+    by_unknown false = tt
 
-pub numbers_reach : (P : List ℕ → Bool) (known : Known) (home : List ℕ) (inferred : List Inferred) (maybe : List (List ℕ)) (so_far : List Given) (unknown : List (List ℕ)) (ps : List Parameter) (gs : List GivenNumber)
-    → EachParameterReaches P known home ps → AllNamed P (numbers_seen known home inferred maybe so_far unknown ps gs).reached
-numbers_reach P known home inferred maybe so_far unknown [] [] h = tt
-numbers_reach P known home inferred maybe so_far unknown [] (g ∷ gs) h = tt
-numbers_reach P known home inferred maybe so_far unknown (p ∷ ps) (g ∷ gs) h =
-    let r = resolved_value (of_type (declared_type known home so_far p.ty) g.seen.value) in
-    let written = type_without_value known home so_far unknown p r in
-    let rest = numbers_seen known home inferred maybe (bound_by_number so_far p r) (unknown_behind unknown p r) ps gs in
-    join P written.reached rest.reached (written_reaches P known home so_far unknown p h.0 r) (numbers_reach P known home inferred maybe (bound_by_number so_far p r) (unknown_behind unknown p r) ps gs h.1)
-numbers_reach P known home inferred maybe so_far unknown (p ∷ ps) [] h =
-    let t = declared_type known home so_far p.ty in
-    let r = not_given known home so_far unknown p t (is_in p.name.name maybe) (numbers_for p.name.name inferred) in
-    let written = type_without_value known home so_far unknown p r.value in
-    let rest = numbers_seen known home inferred maybe (bound_by_number so_far p r.value) (unknown_behind unknown p r.value) ps [] in
-    join_three P written.reached r.reached rest.reached (written_reaches P known home so_far unknown p h.0 r.value)
-    (not_given_reaches P known home so_far unknown p h.0 t (is_in p.name.name maybe) (numbers_for p.name.name inferred))
-    (numbers_reach P known home inferred maybe (bound_by_number so_far p r.value) (unknown_behind unknown p r.value) ps [] h.1)
+pub numbers_reach : (P : List ℕ → Bool) (known : Known) (home : List ℕ) (inferred : List Inferred) (maybe : List (List ℕ)) (before : Before) (ps : List Parameter) (gs : List GivenNumber)
+    → EachParameterReaches P known home ps → AllNamed P (numbers_seen known home inferred maybe before ps gs).declared.reached
+numbers_reach P known home inferred maybe before [] [] h = tt
+numbers_reach P known home inferred maybe before [] (g ∷ gs) h = tt
+numbers_reach P known home inferred maybe before (p ∷ ps) (g ∷ gs) h =
+    let r = resolved_value (of_type (declared_type known home before p.ty) g.seen.value) in
+    let rest = numbers_seen known home inferred maybe (and_parameter before p r) ps gs in
+    join P (type_there known home before p).reached rest.declared.reached (type_reaches P known home before p h.0) (numbers_reach P known home inferred maybe (and_parameter before p r) ps gs h.1)
+numbers_reach P known home inferred maybe before (p ∷ ps) [] h =
+    let t = declared_type known home before p.ty in
+    let r = not_given known home before p t (is_in p.name.name maybe) (numbers_for p.name.name inferred) in
+    let rest = numbers_seen known home inferred maybe (and_parameter before p r.value) ps [] in
+    join_three P (type_there known home before p).reached r.judged.reached rest.declared.reached (type_reaches P known home before p h.0)
+    (not_given_reaches P known home before p h.0 t (is_in p.name.name maybe) (numbers_for p.name.name inferred))
+    (numbers_reach P known home inferred maybe (and_parameter before p r.value) ps [] h.1)
+
+-- so does what is judged where the call isn't refused
+pub judged_reaches : (P : List ℕ → Bool) (known : Known) (home : List ℕ) (inferred : List Inferred) (maybe : List (List ℕ)) (ps : List Parameter) (gs : List GivenNumber) (cyclic : List Fault)
+    → EachParameterReaches P known home ps → AllNamed P (judged_there cyclic (numbers_seen known home inferred maybe (known_before []) ps gs)).reached
+judged_reaches P known home inferred maybe ps gs cyclic h = by_refusal (is_refused cyclic seen)
+  where
+    seen : NumbersSeen
+    seen = numbers_seen known home inferred maybe (known_before []) ps gs
+
+    by_refusal : (b : Bool) → AllNamed P (if b then nothing_there else seen.declared).reached
+    by_refusal true = tt
+    by_refusal false = numbers_reach P known home inferred maybe (known_before []) ps gs h
 
 -- ---- calls of functions
 
@@ -74,14 +90,14 @@ function_reaches P span sight name gs es js h k = by_function (as_function (item
     cyclic = breaks_if (is_cyclic sight.known.whole sight.home name.name) 3 span
 
     seen : Function → NumbersSeen
-    seen f = numbers_seen sight.known f.name.name (inferred_by f.arguments (types_of js)) (maybe_inferred f.arguments (types_of js)) [] [] f.parameters gs
+    seen f = call_numbers sight.known f gs (types_of js)
 
     by_count : (f : Function) → InstancesReach P sight.known f.name.name f.parameters → (b : Bool) → AllNamed P (if b then right_call span sight f gs es js cyclic (seen f) else wrong_call span gs js cyclic).reached
     by_count f r false = h
     by_count f r true =
-        join_three P (call_parts_reached gs js) (seen f).reached (reached_by (has_broken cyclic || (seen f).is_wrong) f.name.name (seen f).values) h
-        (numbers_reach P sight.known f.name.name (inferred_by f.arguments (types_of js)) (maybe_inferred f.arguments (types_of js)) [] [] f.parameters gs r.parameters)
-        (instance_reached P (has_broken cyclic || (seen f).is_wrong) f.name.name (seen f).values r.own)
+        join_three P (call_parts_reached gs js) (judged_there cyclic (seen f)).reached (reached_by (is_refused cyclic (seen f)) f.name.name (seen f).values) h
+        (judged_reaches P sight.known f.name.name (inferred_by f.arguments (types_of js)) (maybe_inferred f.arguments (types_of js)) f.parameters gs cyclic r.parameters)
+        (instance_reached P (is_refused cyclic (seen f)) f.name.name (seen f).values r.own)
 
     by_function : (o : Option Function) → as_function (item_named name.name sight.known.whole.items) ≡ o → AllNamed P (function_call span sight name gs es js o).reached
     by_function None q = h
