@@ -27,7 +27,7 @@ use Rattle.dslx_meaning.specs.declared.value.DslxValue.{DslxValue}
 use Rattle.dslx_meaning.specs.Rules.Mentions.{is_cyclic}
 use Rattle.dslx_meaning.specs.Rules.Judging.{Known, Instance, Outlet, Sight, Judgement, ExprPair, breaks, breaks_if, settled, has_broken, span_of, name_of_expr, within, alone, all_alone, faults_of_all, reached_of_all, size_of_all, types_of, plus_size, one_and, typed_in}
 use Rattle.dslx_meaning.specs.Rules.Judgings.{ArgPair}
-use Rattle.dslx_meaning.specs.Rules.ConstantRules.{ConstantSeen, constant_of, is_unsigned, bare_judged}
+use Rattle.dslx_meaning.specs.Rules.ConstantRules.{ConstantSeen, constant_of, is_empty, is_unsigned}
 use Rattle.dslx_meaning.specs.Rules.OperatorRules.{unless_type, is_bits, is_bool}
 use Rattle.dslx_meaning.specs.Rules.AggregateRules.{wanted_faults, is_array, array_in, element_type, when_all}
 
@@ -106,52 +106,76 @@ in_type (Some t) n = or_wrong (number_value t (record { is_negative = false; val
 abbrev pub of_type : Option DslxType → Option DslxValue → Option DslxValue
 of_type t v = with_both t v (λ t v. if same_type t (type_of_value v) then Some v else None)
 
--- the type that is declared for a parameter, an argument or an end, where () is none
-abbrev pub declared_type : Known → List ℕ → List Given → TypeExpr → Option DslxType
-declared_type known home so_far t = and_then (known.type_in home so_far t) (λ t. if is_unit t then None else Some t)
+-- the parameters before one: those with values, and the names of those of which no value is known
+pub record Before : Type 0 where
+  pub values : List Given
+  pub unknown : List (List ℕ)
 
--- a parameter that isn't given, with what its default breaks and reaches where that is used
+-- where all have values
+abbrev pub known_before : List Given → Before
+known_before values = record { values = values; unknown = [] }
+
+abbrev pub and_parameter : Before → Parameter → Resolved → Before
+and_parameter before p (Number v) = record before { values = with_number before.values p v }
+and_parameter before p Unknown = record before { unknown = p.name.name ∷ before.unknown }
+and_parameter before p Wrong = record before { unknown = p.name.name ∷ before.unknown }
+
+-- the type that is declared for a parameter, an argument or an end, where () is none
+abbrev pub declared_type : Known → List ℕ → Before → TypeExpr → Option DslxType
+declared_type known home before t = and_then (known.type_in home before.values before.unknown t) (λ t. if is_unit t then None else Some t)
+
+-- what is judged of another declaration: what it breaks and passes there, and the instances that it reaches
+pub record JudgedThere : Type 0 where
+  pub faults : List Fault
+  pub reached : List Instance
+
+abbrev pub nothing_there : JudgedThere
+nothing_there = record { faults = []; reached = [] }
+
+abbrev pub and_there : JudgedThere → JudgedThere → JudgedThere
+and_there a b = record { faults = a.faults ++ b.faults; reached = a.reached ++ b.reached }
+
+-- the type of a parameter is judged at a call, up to the first parameter without a value
+abbrev pub type_there : Known → List ℕ → Before → Parameter → JudgedThere
+type_there known home before p =
+    if is_empty before.unknown
+    then record { faults = (known.type_seen_in home before.values p.ty).faults; reached = (known.type_seen_in home before.values p.ty).reached }
+    else nothing_there
+
+-- a parameter that isn't given, with what is judged of its default where that is used
 pub record NotGiven : Type 0 where
   pub value : Resolved
-  pub faults : List Fault
-  pub reached : List Instance
+  pub judged : JudgedThere
 
 abbrev pub without_default : Resolved → NotGiven
-without_default r = record { value = r; faults = []; reached = [] }
+without_default r = record { value = r; judged = nothing_there }
 
-abbrev pub default_value : Known → List ℕ → List Given → List (List ℕ) → Option DslxType → Option Expr → NotGiven
-default_value known home so_far unknown t None = without_default Wrong
-default_value known home so_far unknown t (Some e) =
-    let default = known.default_in home so_far unknown e in
+abbrev pub default_there : Known → List ℕ → List Given → Option DslxType → Expr → NotGiven
+default_there known home values t e =
+    let default = known.default_in home values e in
     record {
       value = resolved_value (of_type t default.value);
-      faults = default.judgement.faults ++ wanted_faults (out-Expr e).span t default.judgement.ty;
-      reached = default.judgement.reached;
+      judged = record { faults = default.judgement.faults ++ wanted_faults (out-Expr e).span t default.judgement.ty; reached = default.judgement.reached };
     }
 
--- inferred, if that is one number, or else the default
-abbrev pub not_given : Known → List ℕ → List Given → List (List ℕ) → Parameter → Option DslxType → Bool → List ℕ → NotGiven
-not_given known home so_far unknown p t maybe [] = if maybe then without_default Unknown else default_value known home so_far unknown t p.default
-not_given known home so_far unknown p t maybe (n ∷ ns) = without_default (if list_all (λ k. k == n) ns then in_type t n else Wrong)
+-- behind a parameter without a value no default is looked at
+abbrev pub default_value : Known → List ℕ → Before → Option DslxType → Option Expr → NotGiven
+default_value known home before t None = without_default Wrong
+default_value known home before t (Some e) = if is_empty before.unknown then default_there known home before.values t e else without_default Unknown
 
--- the number parameters of a call or a spawn: the values where all are known, what is bound as far as it is known, whether
--- rule 10 is broken, and what the parameters break and reach by what is given, by defaults and by types
+-- inferred, if that is one number, or else the default
+abbrev pub not_given : Known → List ℕ → Before → Parameter → Option DslxType → Bool → List ℕ → NotGiven
+not_given known home before p t maybe [] = if maybe then without_default Unknown else default_value known home before t p.default
+not_given known home before p t maybe (n ∷ ns) = without_default (if list_all (λ k. k == n) ns then in_type t n else Wrong)
+
+-- the number parameters of a call or a spawn: the values where all are known, those that are, whether rule 10 is broken, rule 9
+-- at what is given, and what is judged of the other declaration
 pub record NumbersSeen : Type 0 where
   pub values : Option (List DslxValue)
-  pub bound : List Given
+  pub bound : Before
   pub is_wrong : Bool
   pub faults : List Fault
-  pub reached : List Instance
-
-abbrev pub bound_by_number : List Given → Parameter → Resolved → List Given
-bound_by_number so_far p (Number v) = with_number so_far p v
-bound_by_number so_far p Unknown = so_far
-bound_by_number so_far p Wrong = so_far
-
-abbrev pub unknown_behind : List (List ℕ) → Parameter → Resolved → List (List ℕ)
-unknown_behind unknown p (Number v) = unknown
-unknown_behind unknown p Unknown = p.name.name ∷ unknown
-unknown_behind unknown p Wrong = p.name.name ∷ unknown
+  pub declared : JudgedThere
 
 abbrev pub value_before : Resolved → Option (List DslxValue) → Option (List DslxValue)
 value_before (Number v) (Some vs) = Some (v ∷ vs)
@@ -161,36 +185,34 @@ abbrev pub is_wrong_number : Resolved → Bool
 is_wrong_number Wrong = true
 is_wrong_number _ = false
 
-abbrev pub number_before : Resolved → List Fault → List Instance → NumbersSeen → NumbersSeen
-number_before r faults reached rest = record {
+abbrev pub number_before : Resolved → List Fault → JudgedThere → NumbersSeen → NumbersSeen
+number_before r faults declared rest = record {
   values = value_before r rest.values;
   bound = rest.bound;
   is_wrong = is_wrong_number r || rest.is_wrong;
   faults = faults ++ rest.faults;
-  reached = reached ++ rest.reached;
+  declared = and_there declared rest.declared;
 }
 
--- what the type of a parameter comes to that has no value: the call reaches no instance then, in which it would be found
-abbrev pub type_without_value : Known → List ℕ → List Given → List (List ℕ) → Parameter → Resolved → Judgement
-type_without_value known home so_far unknown p Unknown = known.type_seen_in home so_far unknown p.ty
-type_without_value known home so_far unknown p (Number v) = bare_judged
-type_without_value known home so_far unknown p Wrong = bare_judged
-
--- from the parameters before that are bound, and those of which no value is known
-abbrev pub numbers_seen : Known → List ℕ → List Inferred → List (List ℕ) → List Given → List (List ℕ) → List Parameter → List GivenNumber → NumbersSeen
-numbers_seen known home inferred maybe so_far unknown [] [] = record { values = Some []; bound = so_far; is_wrong = false; faults = []; reached = [] }
-numbers_seen known home inferred maybe so_far unknown [] (g ∷ gs) = record { values = None; bound = so_far; is_wrong = true; faults = []; reached = [] }
-numbers_seen known home inferred maybe so_far unknown (p ∷ ps) (g ∷ gs) =
-    let t = declared_type known home so_far p.ty in
+abbrev pub numbers_seen : Known → List ℕ → List Inferred → List (List ℕ) → Before → List Parameter → List GivenNumber → NumbersSeen
+numbers_seen known home inferred maybe before [] [] = record { values = Some []; bound = before; is_wrong = false; faults = []; declared = nothing_there }
+numbers_seen known home inferred maybe before [] (g ∷ gs) = record { values = None; bound = before; is_wrong = true; faults = []; declared = nothing_there }
+numbers_seen known home inferred maybe before (p ∷ ps) (g ∷ gs) =
+    let t = declared_type known home before p.ty in
     let r = resolved_value (of_type t g.seen.value) in
-    let written = type_without_value known home so_far unknown p r in
-    number_before r (written.faults ++ wanted_faults g.span t g.seen.judgement.ty) written.reached
-    (numbers_seen known home inferred maybe (bound_by_number so_far p r) (unknown_behind unknown p r) ps gs)
-numbers_seen known home inferred maybe so_far unknown (p ∷ ps) [] =
-    let r = not_given known home so_far unknown p (declared_type known home so_far p.ty) (is_in p.name.name maybe) (numbers_for p.name.name inferred) in
-    let written = type_without_value known home so_far unknown p r.value in
-    number_before r.value (written.faults ++ r.faults) (written.reached ++ r.reached)
-    (numbers_seen known home inferred maybe (bound_by_number so_far p r.value) (unknown_behind unknown p r.value) ps [])
+    number_before r (wanted_faults g.span t g.seen.judgement.ty) (type_there known home before p)
+    (numbers_seen known home inferred maybe (and_parameter before p r) ps gs)
+numbers_seen known home inferred maybe before (p ∷ ps) [] =
+    let r = not_given known home before p (declared_type known home before p.ty) (is_in p.name.name maybe) (numbers_for p.name.name inferred) in
+    number_before r.value [] (and_there (type_there known home before p) r.judged)
+    (numbers_seen known home inferred maybe (and_parameter before p r.value) ps [])
+
+-- a call or a spawn that breaks rule 3 or 10 judges nothing of the other declaration, and reaches no instance of it
+abbrev pub is_refused : List Fault → NumbersSeen → Bool
+is_refused cyclic numbers = has_broken cyclic || numbers.is_wrong
+
+abbrev pub judged_there : List Fault → NumbersSeen → JudgedThere
+judged_there cyclic numbers = if is_refused cyclic numbers then nothing_there else numbers.declared
 
 abbrev pub given_numbers : Sight → List ArgPair → List GivenNumber
 given_numbers sight as' = map (λ (a : ArgPair). record { span = span_of a.1; seen = constant_of sight a.1 }) as'
@@ -201,20 +223,19 @@ given_judgements gs = map (λ (g : GivenNumber). g.seen.judgement) gs
 -- ---- calls of functions
 
 -- rule 9 at the operands
-abbrev pub operand_faults : Known → List ℕ → List Given → List Field → List ExprPair → List Judgement → List Fault
+abbrev pub operand_faults : Known → List ℕ → Before → List Field → List ExprPair → List Judgement → List Fault
 operand_faults known home bound (f ∷ fs) (e ∷ es) (j ∷ js) =
     wanted_faults (span_of e) (declared_type known home bound f.ty) j.ty ++ operand_faults known home bound fs es js
 operand_faults known home bound _ _ _ = []
 
-abbrev pub result_type : Known → List ℕ → List Given → Option TypeExpr → Option DslxType
+abbrev pub result_type : Known → List ℕ → Before → Option TypeExpr → Option DslxType
 result_type known home bound None = Some unit_type
-result_type known home bound (Some t) = known.type_in home bound t
+result_type known home bound (Some t) = known.type_in home bound.values bound.unknown t
 
 -- the type of what a call gives: where all number parameters are known, and each operand has a type
 abbrev pub call_type : Known → Function → NumbersSeen → List Judgement → Option DslxType
 call_type known f numbers js = and_then numbers.values (λ vs. when_all (types_of js) (result_type known f.name.name numbers.bound f.result))
 
--- a call that breaks rule 3 or 10 reaches no instance
 abbrev pub reached_by : Bool → List ℕ → Option (List DslxValue) → List Instance
 reached_by true name numbers = []
 reached_by false name None = []
@@ -237,11 +258,16 @@ wrong_call span given js more =
 
 abbrev pub right_call : Span → Sight → Function → List GivenNumber → List ExprPair → List Judgement → List Fault → NumbersSeen → Judgement
 right_call span sight f given es js cyclic numbers =
+    let declared = judged_there cyclic numbers in
     settled span (call_type sight.known f numbers js)
-    (call_parts_faults given js ++ cyclic ++ numbers.faults ++ breaks_if numbers.is_wrong 10 span
+    (call_parts_faults given js ++ cyclic ++ numbers.faults ++ declared.faults ++ breaks_if numbers.is_wrong 10 span
     ++ (if numbers.is_wrong then [] else operand_faults sight.known f.name.name numbers.bound f.arguments es js))
-    (call_parts_reached given js ++ numbers.reached ++ reached_by (has_broken cyclic || numbers.is_wrong) f.name.name numbers.values)
+    (call_parts_reached given js ++ declared.reached ++ reached_by (is_refused cyclic numbers) f.name.name numbers.values)
     (one_and (plus_size (size_of_all js) (callee_size sight.known f.name.name numbers.values)))
+
+-- operands of these types infer number parameters
+abbrev pub call_numbers : Known → Function → List GivenNumber → List (Option DslxType) → NumbersSeen
+call_numbers known f given types = numbers_seen known f.name.name (inferred_by f.arguments types) (maybe_inferred f.arguments types) (known_before []) f.parameters given
 
 abbrev pub has_right_count : Function → List GivenNumber → List ExprPair → Bool
 has_right_count f given es = length es == length f.arguments && not (nat_lt (length f.parameters) (length given))
@@ -251,8 +277,7 @@ function_call span sight name given es js None = settled span None (call_parts_f
 function_call span sight name given es js (Some f) =
     let cyclic = breaks_if (is_cyclic sight.known.whole sight.home name.name) 3 span in
     if has_right_count f given es then
-    right_call span sight f given es js cyclic
-    (numbers_seen sight.known f.name.name (inferred_by f.arguments (types_of js)) (maybe_inferred f.arguments (types_of js)) [] [] f.parameters given)
+    right_call span sight f given es js cyclic (call_numbers sight.known f given (types_of js))
     else wrong_call span given js cyclic
 
 -- ---- builtins
@@ -359,17 +384,17 @@ effect_with span sight direction t c others more given =
     (t.reached ++ c.judgement.reached ++ reached_of_all others)
     (one_and (plus_size t.size (plus_size c.judgement.size (size_of_all others))))
 
--- another number of arguments than the effect's
-abbrev pub wrong_effect : Span → Sight → List ExprPair → Judgement
-wrong_effect span sight [] = wrong_call span [] [] []
-wrong_effect span sight (t ∷ []) = wrong_call span [] (held_judged sight t ∷ []) []
-wrong_effect span sight (t ∷ c ∷ es) = wrong_call span [] (held_judged sight t ∷ (channel_seen sight c).judgement ∷ all_alone sight es) []
+-- another number of arguments than the effect's, or number arguments
+abbrev pub wrong_effect : Span → Sight → List GivenNumber → List ExprPair → Judgement
+wrong_effect span sight given [] = wrong_call span given [] []
+wrong_effect span sight given (t ∷ []) = wrong_call span given (held_judged sight t ∷ []) []
+wrong_effect span sight given (t ∷ c ∷ es) = wrong_call span given (held_judged sight t ∷ (channel_seen sight c).judgement ∷ all_alone sight es) []
 
 abbrev pub receiving : Span → Sight → List ExprPair → Judgement
 receiving span sight (t ∷ c ∷ []) =
     let channel = channel_seen sight c in
     effect_with span sight In (token_judged sight t) channel [] [] (and_then (word_of channel) (λ w. Some (received w)))
-receiving span sight es = wrong_effect span sight es
+receiving span sight es = wrong_effect span sight [] es
 
 abbrev pub receiving_if : Span → Sight → List ExprPair → Judgement
 receiving_if span sight (t ∷ c ∷ p ∷ e ∷ []) =
@@ -379,7 +404,7 @@ receiving_if span sight (t ∷ c ∷ p ∷ e ∷ []) =
     effect_with span sight In (token_judged sight t) channel (condition ∷ default ∷ [])
     (unless_type is_bool 15 (span_of p) condition.ty ++ wanted_faults (span_of e) (word_of channel) default.ty)
     (and_then (word_of channel) (λ w. Some (received w)))
-receiving_if span sight es = wrong_effect span sight es
+receiving_if span sight es = wrong_effect span sight [] es
 
 abbrev pub sending : Span → Sight → List ExprPair → Judgement
 sending span sight (t ∷ c ∷ e ∷ []) =
@@ -387,7 +412,7 @@ sending span sight (t ∷ c ∷ e ∷ []) =
     let word = alone sight e in
     effect_with span sight Out (token_judged sight t) channel (word ∷ []) (wanted_faults (span_of e) (word_of channel) word.ty)
     (and_then (word_of channel) (λ w. Some ty.Token))
-sending span sight es = wrong_effect span sight es
+sending span sight es = wrong_effect span sight [] es
 
 abbrev pub sending_if : Span → Sight → List ExprPair → Judgement
 sending_if span sight (t ∷ c ∷ p ∷ e ∷ []) =
@@ -397,7 +422,7 @@ sending_if span sight (t ∷ c ∷ p ∷ e ∷ []) =
     effect_with span sight Out (token_judged sight t) channel (condition ∷ word ∷ [])
     (unless_type is_bool 15 (span_of p) condition.ty ++ wanted_faults (span_of e) (word_of channel) word.ty)
     (and_then (word_of channel) (λ w. Some ty.Token))
-sending_if span sight es = wrong_effect span sight es
+sending_if span sight es = wrong_effect span sight [] es
 
 -- rule 28: an effect stands at the top of `next` alone
 abbrev pub only_on_top : Bool → Span → Judgement → Judgement
@@ -419,11 +444,16 @@ builtin_judged Reverses span es sight = let js = all_alone sight es in counting 
 builtin_judged Updates span es sight = updating span es (all_alone sight es)
 builtin_judged _ span es sight = counting span es (all_alone sight es) (Some bool_type)
 
+-- nor has an effect
+abbrev pub unnumbered_effect : Span → Sight → List ArgPair → List ExprPair → Judgement → Judgement
+unnumbered_effect span sight [] es j = j
+unnumbered_effect span sight (n ∷ ns) es j = wrong_effect span sight (given_numbers sight (n ∷ ns)) es
+
 abbrev pub call_judged : CallKind → Span → Ident → List ArgPair → List ExprPair → Bool → Sight → Judgement
-call_judged Receives span name numbers es on_top sight = only_on_top on_top span (receiving span sight es)
-call_judged ReceivesIf span name numbers es on_top sight = only_on_top on_top span (receiving_if span sight es)
-call_judged Sends span name numbers es on_top sight = only_on_top on_top span (sending span sight es)
-call_judged SendsIf span name numbers es on_top sight = only_on_top on_top span (sending_if span sight es)
+call_judged Receives span name numbers es on_top sight = only_on_top on_top span (unnumbered_effect span sight numbers es (receiving span sight es))
+call_judged ReceivesIf span name numbers es on_top sight = only_on_top on_top span (unnumbered_effect span sight numbers es (receiving_if span sight es))
+call_judged Sends span name numbers es on_top sight = only_on_top on_top span (unnumbered_effect span sight numbers es (sending span sight es))
+call_judged SendsIf span name numbers es on_top sight = only_on_top on_top span (unnumbered_effect span sight numbers es (sending_if span sight es))
 call_judged Calls span name numbers es on_top sight =
     function_call span sight name (given_numbers sight numbers) es (all_alone sight es) (as_function (item_named name.name sight.known.whole.items))
 call_judged kind span name numbers es on_top sight = without_numbers span sight numbers es (builtin_judged kind span es sight)

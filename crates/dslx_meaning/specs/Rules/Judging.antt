@@ -62,11 +62,11 @@ pub record Known : Type 0 where
   pub is_unbroken : Instance → Bool
   -- how many nodes the body of an instance has
   pub body_size : Instance → Option ℕ
-  -- what a type and a default mean in the text of an item, where its number parameters have these values, and what a type
-  -- comes to there where () may not stand. Types and defaults may name parameters of which no value is known
-  pub type_in : List ℕ → List Given → TypeExpr → Option DslxType
-  pub type_seen_in : List ℕ → List Given → List (List ℕ) → TypeExpr → Judgement
-  pub default_in : List ℕ → List Given → List (List ℕ) → Expr → DefaultSeen
+  -- what a type means in the text of an item, where these number parameters have values and of these no value is known
+  pub type_in : List ℕ → List Given → List (List ℕ) → TypeExpr → Option DslxType
+  -- what a type where () may not stand and a default come to there, where all parameters before have values
+  pub type_seen_in : List ℕ → List Given → TypeExpr → Judgement
+  pub default_in : List ℕ → List Given → Expr → DefaultSeen
 
 -- a name that is bound, with its type if it has one
 pub record Typed : Type 0 where

@@ -25,10 +25,10 @@ use Rattle.dslx_meaning.specs.Rules.Judging.{Known, Instance, same_instance, Def
 use Rattle.dslx_meaning.specs.Rules.ConstantRules.{constant_of, is_empty, bare_judged}
 use Rattle.dslx_meaning.specs.Rules.NameRules.{listed_name}
 use Rattle.dslx_meaning.specs.Rules.PatternRules.{is_there}
-use Rattle.dslx_meaning.specs.Rules.CallRules.{NumbersSeen, numbers_seen}
+use Rattle.dslx_meaning.specs.Rules.CallRules.{NumbersSeen, judged_there}
 use Rattle.dslx_meaning.specs.Rules.NodeRules.{expr_pair}
 use Rattle.dslx_meaning.specs.Rules.ItemRules.{Found, nothing_found, and_found, only_faults, all_found, item_sight, judged_type, judged_inner, function_seen, constant_seen, alias_seen, struct_seen, enum_seen, enum_member_value}
-use Rattle.dslx_meaning.specs.Rules.ProcRules.{proc_seen}
+use Rattle.dslx_meaning.specs.Rules.ProcRules.{proc_numbers, proc_seen}
 use Rattle.dslx_meaning.specs.Rules.Namesakes.{told_apart}
 
 -- ---- what is known of items, from what is known of those that they mention
@@ -58,9 +58,9 @@ abbrev pub size_known : Known → List DslxValue → Option Function → Option 
 size_known known numbers None = None
 size_known known numbers (Some f) = (function_seen known f numbers).body.size
 
-abbrev pub default_known : Known → List ℕ → List Given → List (List ℕ) → Expr → DefaultSeen
-default_known known home numbers unknown e =
-    let c = constant_of (record (item_sight known home numbers) { unknown = unknown }) (expr_pair e) in
+abbrev pub default_known : Known → List ℕ → List Given → Expr → DefaultSeen
+default_known known home numbers e =
+    let c = constant_of (item_sight known home numbers) (expr_pair e) in
     record { judgement = c.judgement; value = c.value }
 
 -- nothing is known
@@ -71,9 +71,9 @@ known_nothing m = record {
   is_sound = λ i. false;
   is_unbroken = λ i. false;
   body_size = λ i. None;
-  type_in = λ home numbers t. None;
-  type_seen_in = λ home numbers unknown t. bare_judged;
-  default_in = λ home numbers unknown e. record { judgement = bare_judged; value = None };
+  type_in = λ home numbers unknown t. None;
+  type_seen_in = λ home numbers t. bare_judged;
+  default_in = λ home numbers e. record { judgement = bare_judged; value = None };
 }
 
 abbrev pub known_over : Known → Known
@@ -90,8 +90,8 @@ known_over known = record {
   is_sound = sound_instance known;
   is_unbroken = unbroken_instance known;
   body_size = λ i. size_known known i.numbers (as_function (item_named i.name known.whole.items));
-  type_in = λ home numbers t. (judged_type (item_sight known home numbers) t).ty;
-  type_seen_in = λ home numbers unknown t. judged_inner (record (item_sight known home numbers) { unknown = unknown }) t;
+  type_in = λ home numbers unknown t. (judged_type (record (item_sight known home numbers) { unknown = unknown }) t).ty;
+  type_seen_in = λ home numbers t. judged_inner (item_sight known home numbers) t;
   default_in = default_known known;
 }
 
@@ -179,14 +179,14 @@ top_faults m top (Some p) = if list_any lacks_default p.parameters then breaks 3
 -- its defaults give its instance
 abbrev pub top_found : Known → Option Proc → Found
 top_found known None = nothing_found
-top_found known (Some p) = with_numbers (numbers_seen known p.name.name [] [] [] [] p.parameters [])
+top_found known (Some p) = with_numbers (proc_numbers known p [])
   where
     instance_if : Option (List DslxValue) → List Instance
     instance_if None = []
     instance_if (Some vs) = record { name = p.name.name; numbers = vs } ∷ []
 
     with_numbers : NumbersSeen → Found
-    with_numbers n = record { faults = n.faults; reached = n.reached ++ instance_if n.values }
+    with_numbers n = let declared = judged_there [] n in record { faults = n.faults ++ declared.faults; reached = declared.reached ++ instance_if n.values }
 
 -- ---- all faults
 

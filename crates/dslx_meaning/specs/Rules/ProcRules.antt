@@ -21,7 +21,6 @@ use Rattle.dslx_tree.specs.declared.process.Direction.{Direction}
 use Rattle.dslx_tree.specs.declared.process.Direction.TheVariants.{In, Out}
 use Rattle.dslx_meaning.specs.Lists.{is_in}
 use Rattle.dslx_meaning.specs.Types.{same_type, flat_bits}
-use Rattle.dslx_meaning.specs.Environment.{Given}
 use Rattle.dslx_meaning.specs.Items.{item_named, numbers_bound}
 use Rattle.dslx_meaning.specs.Activation.{StmtLayer}
 use Rattle.dslx_meaning.specs.Network.{as_proc}
@@ -29,10 +28,10 @@ use Rattle.dslx_meaning.specs.declared.ty.DslxType.{DslxType}
 use Rattle.dslx_meaning.specs.declared.value.DslxValue.{DslxValue}
 use Rattle.dslx_meaning.specs.Rules.Mentions.{is_cyclic}
 use Rattle.dslx_meaning.specs.Rules.EffectNames.{is_effect}
-use Rattle.dslx_meaning.specs.Rules.Judging.{Known, Outlet, Sight, Judgement, breaks, breaks_if, has_broken, passes, passes_count, faults_of_all, reached_of_all}
+use Rattle.dslx_meaning.specs.Rules.Judging.{Known, Outlet, Sight, Judgement, breaks, breaks_if, passes, passes_count, faults_of_all, reached_of_all}
 use Rattle.dslx_meaning.specs.Rules.ConstantRules.{count_of}
 use Rattle.dslx_meaning.specs.Rules.NameRules.{local_name}
-use Rattle.dslx_meaning.specs.Rules.CallRules.{GivenNumber, NumbersSeen, numbers_seen, declared_type, given_numbers, given_judgements, same_direction, outlet_in, reached_by}
+use Rattle.dslx_meaning.specs.Rules.CallRules.{GivenNumber, Before, known_before, NumbersSeen, numbers_seen, is_refused, judged_there, declared_type, given_numbers, given_judgements, same_direction, outlet_in, reached_by}
 use Rattle.dslx_meaning.specs.Rules.NodeRules.{arg_pair}
 use Rattle.dslx_meaning.specs.Rules.ItemRules.{Found, nothing_found, and_found, only_faults, found_in, item_sight, judged_type, judged_inner, parameters_found, body_judged}
 
@@ -114,7 +113,7 @@ misfits direction word (Some o) = not (same_direction direction o.direction) || 
     other_word _ _ = false
 
 -- rule 9 at the end's name
-abbrev pub handed_faults : Known → List ℕ → List Given → Made → List End → List Ident → List Fault
+abbrev pub handed_faults : Known → List ℕ → Before → Made → List End → List Ident → List Fault
 handed_faults known home bound made (e ∷ es) (i ∷ is) =
     breaks_if (misfits e.direction (declared_type known home bound e.word) (outlet_in i.name made.outlets)) 9 i.span
     ++ handed_faults known home bound made es is
@@ -123,19 +122,25 @@ handed_faults known home bound made _ _ = []
 abbrev pub given_found : List GivenNumber → Found
 given_found gs = record { faults = faults_of_all (given_judgements gs); reached = reached_of_all (given_judgements gs) }
 
+-- the ends of a proc infer nothing
+abbrev pub proc_numbers : Known → Proc → List GivenNumber → NumbersSeen
+proc_numbers known p given = numbers_seen known p.name.name [] [] (known_before []) p.parameters given
+
 abbrev pub right_spawn : Sight → Made → Spawn → Proc → List Fault → NumbersSeen → Found
-right_spawn sight made s target cyclic numbers = record {
-  faults = cyclic ++ numbers.faults ++ breaks_if numbers.is_wrong 10 s.span
-      ++ (if numbers.is_wrong then [] else handed_faults sight.known target.name.name numbers.bound made target.config.ends s.ends);
-  reached = numbers.reached ++ reached_by (has_broken cyclic || numbers.is_wrong) target.name.name numbers.values;
-}
+right_spawn sight made s target cyclic numbers =
+    let declared = judged_there cyclic numbers in
+    record {
+      faults = cyclic ++ numbers.faults ++ declared.faults ++ breaks_if numbers.is_wrong 10 s.span
+          ++ (if numbers.is_wrong then [] else handed_faults sight.known target.name.name numbers.bound made target.config.ends s.ends);
+      reached = declared.reached ++ reached_by (is_refused cyclic numbers) target.name.name numbers.values;
+    }
 
 abbrev pub spawn_of : Sight → Made → Spawn → List GivenNumber → Option Proc → Found
 spawn_of sight made s given None = only_faults (breaks 1 s.target.span ∷ [])
 spawn_of sight made s given (Some target) =
     let cyclic = breaks_if (is_cyclic sight.known.whole sight.home target.name.name) 3 s.span in
     if length s.ends == length target.config.ends && not (nat_lt (length target.parameters) (length given))
-    then right_spawn sight made s target cyclic (numbers_seen sight.known target.name.name [] [] [] [] target.parameters given)
+    then right_spawn sight made s target cyclic (proc_numbers sight.known target given)
     else only_faults (cyclic ++ breaks 10 s.span ∷ [])
 
 abbrev pub spawn_found : Sight → Made → Spawn → Found

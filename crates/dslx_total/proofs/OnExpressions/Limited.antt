@@ -14,7 +14,7 @@ use Rattle.dslx_meaning.specs.declared.ty.DslxType.{DslxType}
 use Rattle.dslx_meaning.specs.declared.ty.DslxType as ty
 use Rattle.dslx_meaning.specs.declared.value.DslxValue.{DslxValue}
 use Rattle.dslx_meaning.specs.Rules.AggregateRules.{struct_if, struct_judged, array_faults, array_in, element_alone, element_in, element_type, field_judged, field_part_judged, field_type, first_type_of, has_twice, index_judged, is_array, lacks_one, like_first, number_judged, others_judged, pair_alone, part_type, range_faults, tuple_element_judged, tuple_judged, typed_array, unknown_fields, untyped_array, when_all, written_fields}
-use Rattle.dslx_meaning.specs.Rules.CallRules.{GivenNumber, builtin_judged, call_judged, counting, first_operand_type, function_call, given_numbers, has_right_count, updating, without_numbers, NumbersSeen, call_parts_faults, call_type, inferred_by, joining, maybe_inferred, numbers_seen, operand_faults, right_call, token_judged, update_faults, wrong_call}
+use Rattle.dslx_meaning.specs.Rules.CallRules.{GivenNumber, builtin_judged, call_judged, counting, first_operand_type, function_call, given_numbers, has_right_count, updating, without_numbers, NumbersSeen, call_parts_faults, call_type, joining, operand_faults, right_call, token_judged, update_faults, wrong_call, call_numbers, judged_there}
 use Rattle.dslx_meaning.specs.Rules.Judging.{ExprPair, Judgement, Sight, all_alone, settled, typed_in, alone, breaks, breaks_if, faults_of_all, one_and, plus_size, span_of, types_of}
 use Rattle.dslx_meaning.specs.Rules.Judgings.{ArgPair, FieldSeen, ArmSeen, BlockPair, SightJudging, StatementJudging}
 use Rattle.dslx_meaning.specs.Rules.NameRules.{item_value, local_or_other, member_judged, member_of, name_judged, number_or_item, has_member}
@@ -228,13 +228,13 @@ function_keeps span sight name gs es = by_function (as_function (item_named name
     cyclic = breaks_if (is_cyclic sight.known.whole sight.home name.name) 3 span
 
     seen : Function → NumbersSeen
-    seen f = numbers_seen sight.known f.name.name (inferred_by f.arguments (types_of js)) (maybe_inferred f.arguments (types_of js)) [] [] f.parameters gs
+    seen f = call_numbers sight.known f gs (types_of js)
 
     by_count : (f : Function) (b : Bool) → Keeps (if b then right_call span sight f gs es js cyclic (seen f) else wrong_call span gs js cyclic)
     by_count f false = wrong_keeps span gs js cyclic
     by_count f true =
         settled_keeps span (call_type sight.known f (seen f) js)
-        ((((call_parts_faults gs js ++ cyclic) ++ (seen f).faults) ++ breaks_if (seen f).is_wrong 10 span)
+        (((((call_parts_faults gs js ++ cyclic) ++ (seen f).faults) ++ (judged_there cyclic (seen f)).faults) ++ breaks_if (seen f).is_wrong 10 span)
         ++ (if (seen f).is_wrong then [] else operand_faults sight.known f.name.name (seen f).bound f.arguments es js))
 
     by_function : (o : Option Function) → Keeps (function_call span sight name gs es js o)

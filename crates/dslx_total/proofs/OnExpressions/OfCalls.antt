@@ -20,7 +20,7 @@ use Rattle.dslx_meaning.specs.declared.ty.DslxType.{DslxType}
 use Rattle.dslx_meaning.specs.declared.ty.DslxType as ty
 use Rattle.dslx_meaning.specs.declared.value.DslxValue.{DslxValue}
 use Rattle.dslx_meaning.specs.Rules.AggregateRules.{array_in, element_type, is_array, wanted_faults, when_all}
-use Rattle.dslx_meaning.specs.Rules.CallRules.{GivenNumber, NumbersSeen, builtin_judged, call_judged, call_parts_faults, call_parts_reached, counting, declared_type, first_operand_type, function_call, given_judgements, given_numbers, has_right_count, inferred_by, joining, maybe_inferred, numbers_seen, operand_faults, reached_by, receiving, receiving_if, result_type, right_call, sending, sending_if, token_faults, token_judged, update_faults, updating, without_numbers, wrong_call}
+use Rattle.dslx_meaning.specs.Rules.CallRules.{GivenNumber, NumbersSeen, builtin_judged, call_judged, call_numbers, call_parts_faults, call_parts_reached, counting, declared_type, first_operand_type, function_call, given_judgements, given_numbers, has_right_count, joining, known_before, operand_faults, reached_by, receiving, receiving_if, result_type, right_call, sending, sending_if, token_faults, token_judged, unnumbered_effect, update_faults, updating, without_numbers, wrong_call}
 use Rattle.dslx_meaning.specs.Rules.ConstantRules.{constant_of, is_unsigned}
 use Rattle.dslx_meaning.specs.Rules.Judging.{ExprPair, Instance, Judgement, Sight, all_alone, alone, breaks, breaks_if, faults_of_all, has_broken, one_and, plus_size, reached_of_all, size_of_all, span_of, types_of, within}
 use Rattle.dslx_meaning.specs.Rules.Judgings.{ArgPair}
@@ -183,7 +183,7 @@ numbers_there here sight env place h at (a ∷ as') (l ∷ ls) k f r (v ∷ vs) 
 
 -- operands of the types that are declared for the arguments
 declared_for : (sight : Sight) (home : List ℕ) (bound : List Given) (fs : List Field) (es : List ExprPair) (exprs : List LoweredExpr) → EachArgumentDeclared sight.known home bound fs → length es ≡ length fs
-    → types_of (all_alone sight es) ≡ map Some (types_of_lowered exprs) → AllDeclared (types_at sight) (types_of_lowered exprs) → operand_faults sight.known home bound fs es (all_alone sight es) ≡ []
+    → types_of (all_alone sight es) ≡ map Some (types_of_lowered exprs) → AllDeclared (types_at sight) (types_of_lowered exprs) → operand_faults sight.known home (known_before bound) fs es (all_alone sight es) ≡ []
     → AreDeclaredFor sight.known home bound fs (types_of_lowered exprs)
 declared_for sight home bound [] [] [] known n typed d f = tt
 declared_for sight home bound [] [] (x ∷ xs) known n typed d f = some_fault (Some x.ty) (map Some (types_of_lowered xs)) (sym typed)
@@ -197,7 +197,7 @@ declared_for sight home bound (g ∷ fs) [] exprs known n typed d f = absurd (no
     none_long q = omega (arith, q)
 declared_for sight home bound (g ∷ fs) (e ∷ es) [] known n typed d f = some_fault (alone sight e).ty (types_of (all_alone sight es)) typed
 declared_for sight home bound (g ∷ fs) (e ∷ es) (x ∷ xs) known n typed d f =
-    let p = none_in (wanted_faults (span_of e) (declared_type sight.known home bound g.ty) (alone sight e).ty) (operand_faults sight.known home bound fs es (all_alone sight es)) f in
+    let p = none_in (wanted_faults (span_of e) (declared_type sight.known home (known_before bound) g.ty) (alone sight e).ty) (operand_faults sight.known home (known_before bound) fs es (all_alone sight es)) f in
     let q = list_parts (alone sight e).ty (Some x.ty) (types_of (all_alone sight es)) (map Some (types_of_lowered xs)) typed in
     let fewer : length es ≡ length fs = omega (arith, n) in (
       (λ t k.
@@ -210,7 +210,7 @@ called_lowers : (here : Instance → Bool) (span : Span) (sight : Sight) (env : 
     → EachNumber as' ls → IsWellTyped sight env → StandsBeside here sight place → as_function (item_named name sight.known.whole.items) ≡ Some f → length es ≡ length f.arguments
     → (exprs : List LoweredExpr) → all_lowered place xs ≡ map Some exprs → AllDeclared (types_at sight) (types_of_lowered exprs) → types_of (all_alone sight es) ≡ map Some (types_of_lowered exprs)
     → (n : NumbersSeen)
-    → n ≡ numbers_seen sight.known f.name.name (inferred_by f.arguments (map Some (types_of_lowered exprs))) (maybe_inferred f.arguments (map Some (types_of_lowered exprs))) [] [] f.parameters (given_numbers sight as')
+    → n ≡ call_numbers sight.known f (given_numbers sight as') (map Some (types_of_lowered exprs))
     → IsFine (reaching sight.known here) (right_call span sight f (given_numbers sight as') es (all_alone sight es) cyclic n)
     → type_of_lowered (function_lowered place name (numbers_at place ls) (all_lowered place xs)) ≡ (right_call span sight f (given_numbers sight as') es (all_alone sight es) cyclic n).ty
 called_lowers here span sight env place name f as' ls es xs cyclic k h at is count exprs are declared typed n same fine =
@@ -231,7 +231,7 @@ called_lowers here span sight env place name f as' ls es xs cyclic k h at is cou
     ∙ (λ i. type_of_lowered (with_both (all_are c.given i) (all_are exprs i) (λ numbers es. and_then (place.known.callee name numbers (types_of_lowered es)) (λ callee. lowered (core.Call callee.number (cores_of es)) callee.result))))
     ∙ ap (λ o. type_of_lowered (and_then o (λ callee. lowered (core.Call callee.number (cores_of exprs)) callee.result))) callee.is
     ∙ sym (w.own ∙ (λ i. and_then (c.all i) (λ vs. when_all (typed i) (result_type sight.known home (c.shown i) f.result)))
-    ∙ ap (λ a. and_then a (λ us. result_type sight.known home (numbers_bound [] f.parameters c.numbers) f.result)) (all_are ts) ∙ callee.result)
+    ∙ ap (λ a. and_then a (λ us. result_type sight.known home (known_before (numbers_bound [] f.parameters c.numbers)) f.result)) (all_are ts) ∙ callee.result)
 
 pub function_lowers : (span : Span) (name : Ident) (as' : List ArgPair) (ls : List LoweredArg) (es : List ExprPair) (xs : List LoweredPair) → EachNumber as' ls → EachExprLowers es xs
     → PartLowers (λ sight. function_call span sight name (given_numbers sight as') es (all_alone sight es) (as_function (item_named name.name sight.known.whole.items)))
@@ -248,7 +248,7 @@ function_lowers span name as' ls es xs kn kx here sight env place h at fine = by
     cycle = breaks_if (is_cyclic sight.known.whole sight.home name.name) 3 span
 
     seen : Function → List (Option DslxType) → NumbersSeen
-    seen f ts = numbers_seen sight.known f.name.name (inferred_by f.arguments ts) (maybe_inferred f.arguments ts) [] [] f.parameters gs
+    seen f ts = call_numbers sight.known f gs ts
 
     right : Function → Judgement
     right f = right_call span sight f gs es js cycle (seen f (types_of js))
@@ -289,8 +289,8 @@ call_lowers AllOnes span f as' ls es xs kn kx = without_lowers span as' es (buil
 call_lowers SomeOne span f as' ls es xs kn kx = without_lowers span as' es (builtin_judged SomeOne span es) (λ place. reduced_lowered u.OrReduce (all_lowered place xs)) (reduces_lower span u.OrReduce es xs kx)
 call_lowers Parity span f as' ls es xs kn kx = without_lowers span as' es (builtin_judged Parity span es) (λ place. reduced_lowered u.XorReduce (all_lowered place xs)) (reduces_lower span u.XorReduce es xs kx)
 call_lowers Updates span f as' ls es xs kn kx = without_lowers span as' es (builtin_judged Updates span es) (λ place. updated_lowered (all_lowered place xs)) (updates_lower span es xs kx)
-call_lowers Receives span f as' ls es xs kn kx = λ here sight env place h at fine. some_fault (breaks 28 span) [] (none_in (receiving span sight es).faults (breaks 28 span ∷ []) fine.faults).1
-call_lowers ReceivesIf span f as' ls es xs kn kx = λ here sight env place h at fine. some_fault (breaks 28 span) [] (none_in (receiving_if span sight es).faults (breaks 28 span ∷ []) fine.faults).1
-call_lowers Sends span f as' ls es xs kn kx = λ here sight env place h at fine. some_fault (breaks 28 span) [] (none_in (sending span sight es).faults (breaks 28 span ∷ []) fine.faults).1
-call_lowers SendsIf span f as' ls es xs kn kx = λ here sight env place h at fine. some_fault (breaks 28 span) [] (none_in (sending_if span sight es).faults (breaks 28 span ∷ []) fine.faults).1
+call_lowers Receives span f as' ls es xs kn kx = λ here sight env place h at fine. some_fault (breaks 28 span) [] (none_in (unnumbered_effect span sight as' es (receiving span sight es)).faults (breaks 28 span ∷ []) fine.faults).1
+call_lowers ReceivesIf span f as' ls es xs kn kx = λ here sight env place h at fine. some_fault (breaks 28 span) [] (none_in (unnumbered_effect span sight as' es (receiving_if span sight es)).faults (breaks 28 span ∷ []) fine.faults).1
+call_lowers Sends span f as' ls es xs kn kx = λ here sight env place h at fine. some_fault (breaks 28 span) [] (none_in (unnumbered_effect span sight as' es (sending span sight es)).faults (breaks 28 span ∷ []) fine.faults).1
+call_lowers SendsIf span f as' ls es xs kn kx = λ here sight env place h at fine. some_fault (breaks 28 span) [] (none_in (unnumbered_effect span sight as' es (sending_if span sight es)).faults (breaks 28 span ∷ []) fine.faults).1
 call_lowers Calls span f as' ls es xs kn kx = function_lowers span f as' ls es xs kn kx

@@ -20,7 +20,7 @@ use Rattle.dslx_tree.specs.declared.block.Block.{Block, out-Block}
 use Rattle.dslx_typing.proofs.Lemmas.Sound.{wrongly_called, all_in, all_in_three, alone_fine, none_in, none_in_three, pattern_gives, settled_fine, type_stands}
 use Rattle.dslx_meaning.specs.Rules.NodeRules.{expr_pair, node_judged, block_pair}
 use Rattle.dslx_meaning.specs.Rules.Judging.{ExprPair, Instance, Judgement, Known, Sight, all_alone, alone, has_broken, no_token, one_and, plus_size, settled, span_of}
-use Rattle.dslx_meaning.specs.Rules.CallRules.{call_judged, channel_seen, held_judged, receiving, receiving_if, sending, sending_if, wrong_effect}
+use Rattle.dslx_meaning.specs.Rules.CallRules.{GivenNumber, call_judged, channel_seen, given_numbers, held_judged, receiving, receiving_if, sending, sending_if, wrong_effect}
 use Rattle.dslx_meaning.specs.Environment.{Env}
 use Rattle.dslx_meaning.specs.Callees.{AllOnes, CallKind, Calls, CountsLeading, CountsTrailing, Joins, Parity, Receives, ReceivesIf, Reverses, Sends, SendsIf, SomeOne, Updates, kind_of_call}
 use Rattle.dslx_meaning.specs.Activation.{Computes, NodeLayer, act_of, act_of_call, act_of_node, node_of}
@@ -52,47 +52,47 @@ use Rattle.dslx_core.specs.Lowering.Patterns.{lowered_at_place}
 
 -- ---- any expression at the top
 
-wrong_any : {X : Type 0} (known : Known) (span : Span) (sight : Sight) (es : List ExprPair) → IsFine known (wrong_effect span sight es) → X
-wrong_any known span sight [] fine = wrongly_called known span [] [] [] fine
-wrong_any known span sight (t ∷ []) fine = wrongly_called known span [] (held_judged sight t ∷ []) [] fine
-wrong_any known span sight (t ∷ c ∷ es) fine = wrongly_called known span [] (held_judged sight t ∷ (channel_seen sight c).judgement ∷ all_alone sight es) [] fine
+wrong_any : {X : Type 0} (known : Known) (span : Span) (sight : Sight) (given : List GivenNumber) (es : List ExprPair) → IsFine known (wrong_effect span sight given es) → X
+wrong_any known span sight given [] fine = wrongly_called known span given [] [] fine
+wrong_any known span sight given (t ∷ []) fine = wrongly_called known span given (held_judged sight t ∷ []) [] fine
+wrong_any known span sight given (t ∷ c ∷ es) fine = wrongly_called known span given (held_judged sight t ∷ (channel_seen sight c).judgement ∷ all_alone sight es) [] fine
 
 module _ (here : Instance → Bool) (sight : Sight) (env : Env) (outer place : CorePlace) (ends : List End) (h : IsWellTyped sight env) (at : StandsBeside here sight place) (members : MembersStand sight outer ends) (e : Expr) where
   receives_at : (span : Span) (es : List Expr) → IsFine (reaching sight.known here) (receiving span sight (map expr_pair es))
       → ActThere (types_at sight) outer ends place e (act_of_call Receives es) (receiving span sight (map expr_pair es))
-  receives_at span [] fine = wrong_any (reaching sight.known here) span sight [] fine
-  receives_at span (t ∷ []) fine = wrong_any (reaching sight.known here) span sight (expr_pair t ∷ []) fine
+  receives_at span [] fine = wrong_any (reaching sight.known here) span sight [] [] fine
+  receives_at span (t ∷ []) fine = wrong_any (reaching sight.known here) span sight [] (expr_pair t ∷ []) fine
   receives_at span (t ∷ c ∷ []) fine = receiving_there here sight env outer place ends h at members span e t c fine
-  receives_at span (t ∷ c ∷ x ∷ es) fine = wrong_any (reaching sight.known here) span sight (map expr_pair (t ∷ c ∷ x ∷ es)) fine
+  receives_at span (t ∷ c ∷ x ∷ es) fine = wrong_any (reaching sight.known here) span sight [] (map expr_pair (t ∷ c ∷ x ∷ es)) fine
 
   receives_if_at : (span : Span) (es : List Expr) → IsFine (reaching sight.known here) (receiving_if span sight (map expr_pair es))
       → ActThere (types_at sight) outer ends place e (act_of_call ReceivesIf es) (receiving_if span sight (map expr_pair es))
-  receives_if_at span [] fine = wrong_any (reaching sight.known here) span sight [] fine
-  receives_if_at span (t ∷ []) fine = wrong_any (reaching sight.known here) span sight (map expr_pair (t ∷ [])) fine
-  receives_if_at span (t ∷ c ∷ []) fine = wrong_any (reaching sight.known here) span sight (map expr_pair (t ∷ c ∷ [])) fine
-  receives_if_at span (t ∷ c ∷ p ∷ []) fine = wrong_any (reaching sight.known here) span sight (map expr_pair (t ∷ c ∷ p ∷ [])) fine
+  receives_if_at span [] fine = wrong_any (reaching sight.known here) span sight [] [] fine
+  receives_if_at span (t ∷ []) fine = wrong_any (reaching sight.known here) span sight [] (map expr_pair (t ∷ [])) fine
+  receives_if_at span (t ∷ c ∷ []) fine = wrong_any (reaching sight.known here) span sight [] (map expr_pair (t ∷ c ∷ [])) fine
+  receives_if_at span (t ∷ c ∷ p ∷ []) fine = wrong_any (reaching sight.known here) span sight [] (map expr_pair (t ∷ c ∷ p ∷ [])) fine
   receives_if_at span (t ∷ c ∷ p ∷ x ∷ []) fine =
       receiving_if_there here sight env outer place ends h at members span e t c p x fine
-  receives_if_at span (t ∷ c ∷ p ∷ x ∷ y ∷ es) fine = wrong_any (reaching sight.known here) span sight (map expr_pair (t ∷ c ∷ p ∷ x ∷ y ∷ es)) fine
+  receives_if_at span (t ∷ c ∷ p ∷ x ∷ y ∷ es) fine = wrong_any (reaching sight.known here) span sight [] (map expr_pair (t ∷ c ∷ p ∷ x ∷ y ∷ es)) fine
 
   sends_at : (span : Span) (es : List Expr) → IsFine (reaching sight.known here) (sending span sight (map expr_pair es))
       → ActThere (types_at sight) outer ends place e (act_of_call Sends es) (sending span sight (map expr_pair es))
-  sends_at span [] fine = wrong_any (reaching sight.known here) span sight [] fine
-  sends_at span (t ∷ []) fine = wrong_any (reaching sight.known here) span sight (map expr_pair (t ∷ [])) fine
-  sends_at span (t ∷ c ∷ []) fine = wrong_any (reaching sight.known here) span sight (map expr_pair (t ∷ c ∷ [])) fine
+  sends_at span [] fine = wrong_any (reaching sight.known here) span sight [] [] fine
+  sends_at span (t ∷ []) fine = wrong_any (reaching sight.known here) span sight [] (map expr_pair (t ∷ [])) fine
+  sends_at span (t ∷ c ∷ []) fine = wrong_any (reaching sight.known here) span sight [] (map expr_pair (t ∷ c ∷ [])) fine
   sends_at span (t ∷ c ∷ x ∷ []) fine =
       sending_there here sight env outer place ends h at members span e t c x fine
-  sends_at span (t ∷ c ∷ x ∷ y ∷ es) fine = wrong_any (reaching sight.known here) span sight (map expr_pair (t ∷ c ∷ x ∷ y ∷ es)) fine
+  sends_at span (t ∷ c ∷ x ∷ y ∷ es) fine = wrong_any (reaching sight.known here) span sight [] (map expr_pair (t ∷ c ∷ x ∷ y ∷ es)) fine
 
   sends_if_at : (span : Span) (es : List Expr) → IsFine (reaching sight.known here) (sending_if span sight (map expr_pair es))
       → ActThere (types_at sight) outer ends place e (act_of_call SendsIf es) (sending_if span sight (map expr_pair es))
-  sends_if_at span [] fine = wrong_any (reaching sight.known here) span sight [] fine
-  sends_if_at span (t ∷ []) fine = wrong_any (reaching sight.known here) span sight (map expr_pair (t ∷ [])) fine
-  sends_if_at span (t ∷ c ∷ []) fine = wrong_any (reaching sight.known here) span sight (map expr_pair (t ∷ c ∷ [])) fine
-  sends_if_at span (t ∷ c ∷ p ∷ []) fine = wrong_any (reaching sight.known here) span sight (map expr_pair (t ∷ c ∷ p ∷ [])) fine
+  sends_if_at span [] fine = wrong_any (reaching sight.known here) span sight [] [] fine
+  sends_if_at span (t ∷ []) fine = wrong_any (reaching sight.known here) span sight [] (map expr_pair (t ∷ [])) fine
+  sends_if_at span (t ∷ c ∷ []) fine = wrong_any (reaching sight.known here) span sight [] (map expr_pair (t ∷ c ∷ [])) fine
+  sends_if_at span (t ∷ c ∷ p ∷ []) fine = wrong_any (reaching sight.known here) span sight [] (map expr_pair (t ∷ c ∷ p ∷ [])) fine
   sends_if_at span (t ∷ c ∷ p ∷ x ∷ []) fine =
       sending_if_there here sight env outer place ends h at members span e t c p x fine
-  sends_if_at span (t ∷ c ∷ p ∷ x ∷ y ∷ es) fine = wrong_any (reaching sight.known here) span sight (map expr_pair (t ∷ c ∷ p ∷ x ∷ y ∷ es)) fine
+  sends_if_at span (t ∷ c ∷ p ∷ x ∷ y ∷ es) fine = wrong_any (reaching sight.known here) span sight [] (map expr_pair (t ∷ c ∷ p ∷ x ∷ y ∷ es)) fine
 
   -- what has a value alone is judged alike at the top and elsewhere
   alike_there : (j : Judgement) → (expr_pair e).1 false sight ≡ j → IsFine (reaching sight.known here) j → ActThere (types_at sight) outer ends place e Computes j
@@ -112,10 +112,14 @@ module _ (here : Instance → Bool) (sight : Sight) (env : Env) (outer place : C
       by_call : (f : Ident) (numbers : List Arg) (es : List Expr) (k : CallKind) → (expr_pair e).1 false sight ≡ call_judged k span f (map (fold_arg seen seeing) numbers) (map expr_pair es) false sight
           → IsFine (reaching sight.known here) (call_judged k span f (map (fold_arg seen seeing) numbers) (map expr_pair es) true sight)
           → ActThere (types_at sight) outer ends place e (act_of_call k es) (call_judged k span f (map (fold_arg seen seeing) numbers) (map expr_pair es) true sight)
-      by_call f numbers es Receives q g = receives_at span es g
-      by_call f numbers es ReceivesIf q g = receives_if_at span es g
-      by_call f numbers es Sends q g = sends_at span es g
-      by_call f numbers es SendsIf q g = sends_if_at span es g
+      by_call f [] es Receives q g = receives_at span es g
+      by_call f (n ∷ ns) es Receives q g = wrong_any (reaching sight.known here) span sight (given_numbers sight (map (fold_arg seen seeing) (n ∷ ns))) (map expr_pair es) g
+      by_call f [] es ReceivesIf q g = receives_if_at span es g
+      by_call f (n ∷ ns) es ReceivesIf q g = wrong_any (reaching sight.known here) span sight (given_numbers sight (map (fold_arg seen seeing) (n ∷ ns))) (map expr_pair es) g
+      by_call f [] es Sends q g = sends_at span es g
+      by_call f (n ∷ ns) es Sends q g = wrong_any (reaching sight.known here) span sight (given_numbers sight (map (fold_arg seen seeing) (n ∷ ns))) (map expr_pair es) g
+      by_call f [] es SendsIf q g = sends_if_at span es g
+      by_call f (n ∷ ns) es SendsIf q g = wrong_any (reaching sight.known here) span sight (given_numbers sight (map (fold_arg seen seeing) (n ∷ ns))) (map expr_pair es) g
       by_call f numbers es Joins q g = alike_there _ q g
       by_call f numbers es CountsLeading q g = alike_there _ q g
       by_call f numbers es CountsTrailing q g = alike_there _ q g

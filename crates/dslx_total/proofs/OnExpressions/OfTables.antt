@@ -16,7 +16,7 @@ use Rattle.dslx_typing.proofs.Lemmas.Complete.{item_typed, none_own}
 use Rattle.dslx_typing.proofs.Lemmas.Sound.{some_fault}
 use Rattle.dslx_meaning.specs.Rules.Judging.{Instance, Known}
 use Rattle.dslx_meaning.specs.Rules.ItemRules.{function_sight, item_sight, judged_inner}
-use Rattle.dslx_meaning.specs.Rules.CallRules.{declared_type}
+use Rattle.dslx_meaning.specs.Rules.CallRules.{declared_type, known_before}
 use Rattle.dslx_meaning.specs.declared.value.DslxValue.{DslxValue}
 use Rattle.dslx_meaning.specs.Types.{is_unit}
 use Rattle.dslx_meaning.specs.Lists.{and_then, pairwise, where_true}
@@ -124,7 +124,7 @@ arguments_equal known home bound (g ∷ fs) types (x ∷ us) (t ∷ ts) j u d =
     let sight = item_sight known home bound in
     let p = list_parts (judged_inner sight g.ty).ty (Some x) (map (λ (a : Field). (judged_inner sight a.ty).ty) fs) (map Some us) j in
     let q = and_true (not (is_unit x)) (list_all (λ t. not (is_unit t)) us) u in
-    let declared : declared_type known home bound g.ty ≡ Some x = ap (λ o. and_then o (λ t. if is_unit t then None else Some t)) (types.0 bound ∙ p.0) ∙ ap (λ b. if b then None else Some x) (is_false (is_unit x) q.0) in
+    let declared : declared_type known home (known_before bound) g.ty ≡ Some x = ap (λ o. and_then o (λ t. if is_unit t then None else Some t)) (types.0 bound ∙ p.0) ∙ ap (λ b. if b then None else Some x) (is_false (is_unit x) q.0) in
     λ i. (ap (equal_type x) (sym (d.0 x declared)) ∙ equal_itself x) i && arguments_equal known home bound fs types.1 us ts p.1 q.1 d.1 i
   where
     is_false : (b : Bool) → not b ≡ true → b ≡ false

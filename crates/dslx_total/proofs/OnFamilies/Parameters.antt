@@ -69,11 +69,11 @@ module _ (m : Module) (plain : BindsNoConstant m) (k : ℕ) (home : List ℕ) (o
       let both = meant_parts Passing m (mentioned_in_type p.ty bound) (expr_if p.default bound) front.0 in
       let typed = λ (numbers : List Given) (unknown : List (List ℕ)). written_type_alike Passing p.ty bound (sight_at numbers unknown) b (sees bound n (mentioned_in_type p.ty bound) both.0) in (
         record {
-          ty = λ so_far. ap (λ (j : Judgement). j.ty) (typed so_far []);
-          seen = λ so_far unknown. inner_same (sight_at so_far unknown) b (type_pair p.ty) (typed so_far unknown);
-          default = λ so_far unknown e q.
-              let c = constant_same Passing (sight_at so_far unknown) b (expr_pair e) there.known
-              (constant_alike Passing (expr_pair e) (mentioned e) (expression_alike Passing e) bound (sight_at so_far unknown) b (sees bound n (mentioned e bound) (subst (λ o. Meant (expr_if o bound)) q both.1))) in
+          ty = λ so_far unknown. ap (λ (j : Judgement). j.ty) (typed so_far unknown);
+          seen = λ so_far. inner_same (sight_at so_far []) b (type_pair p.ty) (typed so_far []);
+          default = λ so_far e q.
+              let c = constant_same Passing (sight_at so_far []) b (expr_pair e) there.known
+              (constant_alike Passing (expr_pair e) (mentioned e) (expression_alike Passing e) bound (sight_at so_far []) b (sees bound n (mentioned e bound) (subst (λ o. Meant (expr_if o bound)) q both.1))) in
               λ i. record { judgement = (c i).judgement; value = (c i).value };
         },
         parameters_alike ps (p.name.name ∷ bound) (hidden.0, n) hidden.1 front.1,
@@ -127,8 +127,8 @@ module _ (known : Known) (complete : IsComplete known) (typed : AreTyped known) 
   parameters_mean so_far own (p ∷ ps) a =
       let st = parameter_stands known complete typed home p in (
         record {
-          types = λ t e. (st.means so_far t own (sym (a.0.ty so_far) ∙ e)).0;
-          defaults = λ e v q r. st.default_means so_far e v (ap (λ (x : DefaultSeen). x.value) (sym (a.0.default so_far [] e q)) ∙ r);
+          types = λ t e. (st.means so_far t own (sym (a.0.ty so_far []) ∙ e)).0;
+          defaults = λ e v q r. st.default_means so_far e v (ap (λ (x : DefaultSeen). x.value) (sym (a.0.default so_far e q)) ∙ r);
         },
         λ t v e g. parameters_mean (with_number so_far p v) (own_more known.items.type_named so_far p v own (own_value known.items.type_named t (Some v) v refl g)) ps a.1,
       )
@@ -138,10 +138,10 @@ module _ (known : Known) (complete : IsComplete known) (typed : AreTyped known) 
   parameters_known so_far own (p ∷ ps) a =
       let st = parameter_stands known complete typed home p in (
         record {
-          declared = λ t e. (st.means so_far t own (sym (a.0.ty so_far) ∙ e)).1;
-          typed = λ fine. subst IsTypeKnown (sym (a.0.ty so_far)) (st.typed so_far own (subst (IsFine known) (a.0.seen so_far []) fine));
+          declared = λ t e. (st.means so_far t own (sym (a.0.ty so_far []) ∙ e)).1;
+          typed = λ fine. subst IsTypeKnown (sym (a.0.ty so_far [])) (st.typed so_far own (subst (IsFine known) (a.0.seen so_far) fine));
           default = λ e q fine.
-              let same = a.0.default so_far [] e q in
+              let same = a.0.default so_far e q in
               subst (IsDefaultKnown known.items.type_named) (sym same) (st.default so_far e own (subst (IsFine known) (ap (λ (x : DefaultSeen). x.judgement) same) fine));
         },
         λ t v e g. parameters_known (with_number so_far p v) (own_more known.items.type_named so_far p v own (own_value known.items.type_named t (Some v) v refl g)) ps a.1,

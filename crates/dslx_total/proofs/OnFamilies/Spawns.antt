@@ -18,19 +18,19 @@ use Rattle.dslx_meaning.specs.Lists.{all_some, and_then}
 use Rattle.dslx_meaning.specs.Meaning.{meant_arg}
 use Rattle.dslx_meaning.specs.Network.{as_proc, spawn_numbers}
 use Rattle.dslx_meaning.specs.declared.value.DslxValue.{DslxValue}
-use Rattle.dslx_meaning.specs.Rules.CallRules.{GivenNumber, NumbersSeen, given_judgements, given_numbers, numbers_seen, reached_by}
+use Rattle.dslx_meaning.specs.Rules.CallRules.{GivenNumber, JudgedThere, NumbersSeen, given_judgements, given_numbers, is_refused, judged_there, known_before, reached_by}
 use Rattle.dslx_meaning.specs.Rules.ItemRules.{only_faults}
 use Rattle.dslx_meaning.specs.Rules.Judging.{Instance, Known, Sight, breaks, breaks_if, faults_of_all, has_broken, reached_of_all}
 use Rattle.dslx_meaning.specs.Rules.Judgings.{ArgPair}
 use Rattle.dslx_meaning.specs.Rules.Mentions.{AsProc, is_cyclic, making_mentions, mention, mentioned_in_arg}
 use Rattle.dslx_meaning.specs.Rules.ModuleRules.{is_reached}
 use Rattle.dslx_meaning.specs.Rules.NodeRules.{arg_pair}
-use Rattle.dslx_meaning.specs.Rules.ProcRules.{Made, handed_faults, proc_sight, right_spawn, spawn_found, spawn_of, unknown_ends}
+use Rattle.dslx_meaning.specs.Rules.ProcRules.{Made, handed_faults, proc_numbers, proc_sight, right_spawn, spawn_found, spawn_of, unknown_ends}
 use Rattle.dslx_typing.proofs.Lemmas.Laws.{and_true}
 use Rattle.dslx_typing.specs.Judged.Closed.{ends_within}
 use Rattle.dslx_typing.proofs.Lemmas.Judged.{arguments_reach, every_item, given_reach, item_so_named, numbers_reach, whole_is}
 use Rattle.dslx_typing.specs.Sound.Sound.{EachExprGives}
-use Rattle.dslx_typing.proofs.Lemmas.Sound.{AreGiven, EachGiven, all_in, argument_gives, none_in, not_broken, numbers_given, numbers_known, some_fault}
+use Rattle.dslx_typing.proofs.Lemmas.Sound.{AreGiven, EachGiven, all_in, argument_gives, judged_right, none_in, not_broken, numbers_given, numbers_known, some_fault}
 use Rattle.dslx_typing.proofs.Lemmas.Depends.{meant_parts}
 use Rattle.dslx_typing.specs.Typed.Complete.{IsComplete}
 use Rattle.dslx_typing.specs.Typed.Numbers.{AllOwn, GivenMean}
@@ -80,7 +80,7 @@ module _ (m : Module) (top : Option (List ℕ)) (s : IsAccepted m top) (procs : 
   -- numbers that are known, of the types of their parameters
   pub record NumbersThere (target : Proc) (gs : List GivenNumber) (given : List DslxValue) : Type 0 where
     pub numbers : List DslxValue
-    pub is : (numbers_seen known target.name.name [] [] [] [] target.parameters gs).values ≡ Some numbers
+    pub is : (proc_numbers known target gs).values ≡ Some numbers
     pub own : AllOwn known.items.type_named numbers
     pub found : all_numbers known.items [] [] target.parameters given ≡ Some numbers
 
@@ -88,15 +88,16 @@ module _ (m : Module) (top : Option (List ℕ)) (s : IsAccepted m top) (procs : 
   target_ends target named = every_item m s.free target.name.name (d.Proc target) named
 
   pub numbers_there : (name : List ℕ) (target : Proc) → as_proc (item_named name m.items) ≡ Some target → IsProcOf m target → (gs : List GivenNumber) (vs : List DslxValue) → EachGiven known.items.type_named gs → GivenMean gs vs
-      → (numbers_seen known target.name.name [] [] [] [] target.parameters gs).faults ≡ [] → Listed m top s (numbers_seen known target.name.name [] [] [] [] target.parameters gs).reached
-      → (numbers_seen known target.name.name [] [] [] [] target.parameters gs).is_wrong ≡ false → NumbersThere target gs vs
-  numbers_there name target is named gs vs each mean f r w =
+      → (proc_numbers known target gs).faults ≡ [] → (proc_numbers known target gs).declared.faults ≡ [] → Listed m top s (proc_numbers known target gs).declared.reached → (proc_numbers known target gs).is_wrong ≡ false
+      → NumbersThere target gs vs
+  numbers_there name target is named gs vs each mean f j r w =
       let home = target.name.name in
       let ends = target_ends target named in
       let alike = known_alike m s.plain target named ends (procs name target is) in
-      let seen = numbers_seen known home [] [] [] [] target.parameters gs in
-      let passing = numbers_reach (Passing m top s) known home [] [] [] [] target.parameters gs (parameters_pass m s.plain target named ends) in
-      let k = numbers_known known home [] [] target.parameters gs (parameters_known known complete typed home [] (none_own known) target.parameters alike) each f (all_sound m top s seen.reached passing r) w in
+      let seen = proc_numbers known target gs in
+      let passing = numbers_reach (Passing m top s) known home [] [] (known_before []) target.parameters gs (parameters_pass m s.plain target named ends) in
+      let k = numbers_known known home [] [] target.parameters gs (parameters_known known complete typed home [] (none_own known) target.parameters alike) each
+      (record { given = f; declared = j; reached = all_sound m top s seen.declared.reached passing r; right = w }) in
       record {
         numbers = k.numbers;
         is = k.all;
@@ -125,7 +126,7 @@ module _ (m : Module) (top : Option (List ℕ)) (s : IsAccepted m top) (procs : 
     gs sp = given_numbers sight (map arg_pair sp.arguments)
 
     abbrev seen : Spawn → Proc → NumbersSeen
-    seen sp target = numbers_seen known target.name.name [] [] [] [] target.parameters (gs sp)
+    seen sp target = proc_numbers known target (gs sp)
 
     abbrev cyclic : Spawn → Proc → List Fault
     cyclic sp target = breaks_if (is_cyclic known.whole p.name.name target.name.name) 3 sp.span
@@ -138,13 +139,16 @@ module _ (m : Module) (top : Option (List ℕ)) (s : IsAccepted m top) (procs : 
     right made sp bound target is many g f r =
         let n = seen sp target in
         let wrong = breaks_if n.is_wrong 10 sp.span in
-        let a = none_in ((cyclic sp target ++ n.faults) ++ wrong) (handed made sp target) f in
-        let b = none_in (cyclic sp target ++ n.faults) wrong a.0 in
-        let c = none_in (cyclic sp target) n.faults b.0 in
+        let declared = judged_there (cyclic sp target) n in
+        let a = none_in (((cyclic sp target ++ n.faults) ++ declared.faults) ++ wrong) (handed made sp target) f in
+        let b = none_in ((cyclic sp target ++ n.faults) ++ declared.faults) wrong a.0 in
+        let d = none_in (cyclic sp target ++ n.faults) declared.faults b.0 in
+        let c = none_in (cyclic sp target) n.faults d.0 in
         let no_wrong = not_broken n.is_wrong 10 sp.span b.1 in
-        let listed = all_in test n.reached (reached_by (has_broken (cyclic sp target) || n.is_wrong) target.name.name n.values) r in
+        let there = judged_right (cyclic sp target) n c.0 no_wrong in
+        let listed = all_in test declared.reached (reached_by (is_refused (cyclic sp target) n) target.name.name n.values) r in
         let named = proc_named m sp.target.name target is in
-        let k = numbers_there sp.target.name target is named (gs sp) g.values g.each g.mean c.1 listed.0 no_wrong in
+        let k = numbers_there sp.target.name target is named (gs sp) g.values g.each g.mean c.1 (ap (λ (j : JudgedThere). j.faults) (sym there) ∙ d.1) (ap (λ (j : JudgedThere). list_all test j.reached) (sym there) ∙ listed.0) no_wrong in
         let i : Instance = record { name = target.name.name; numbers = k.numbers } in
         let one = and_true (test i) true ((λ t. list_all test (reached_by (has_broken (sym c.0 t) || sym no_wrong t) target.name.name (sym k.is t))) ∙ listed.1) in
         record {

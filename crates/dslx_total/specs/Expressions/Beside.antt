@@ -9,7 +9,7 @@ use Rattle.dslx_meaning.specs.Values.{type_of_value}
 use Rattle.dslx_meaning.specs.declared.ty.DslxType.{DslxType, fold-DslxType}
 use Rattle.dslx_meaning.specs.declared.ty.DslxType.TheOpen.{DslxType-F}
 use Rattle.dslx_meaning.specs.declared.value.DslxValue.{DslxValue}
-use Rattle.dslx_meaning.specs.Rules.CallRules.{declared_type, result_type}
+use Rattle.dslx_meaning.specs.Rules.CallRules.{declared_type, known_before, result_type}
 use Rattle.dslx_meaning.specs.Rules.Judging.{Instance, Known, Sight, Typed}
 use Rattle.dslx_typing.specs.Typed.Declared.{IsDeclared}
 use Rattle.dslx_typing.specs.Typed.Numbers.{AllOwn}
@@ -20,7 +20,7 @@ use Rattle.dslx_core.specs.Lowering.CorePlaces.{BoundSlot, CoreCallee, CoreKnown
 -- types that are those which are declared for the arguments, where these are known
 abbrev pub AreDeclaredFor : Known → List ℕ → List Given → List Field → List DslxType → Type 0
 AreDeclaredFor known home numbers [] [] = Unit {0}
-AreDeclaredFor known home numbers (f ∷ fs) (t ∷ ts) = ((u : DslxType) → declared_type known home numbers f.ty ≡ Some u → u ≡ t) × AreDeclaredFor known home numbers fs ts
+AreDeclaredFor known home numbers (f ∷ fs) (t ∷ ts) = ((u : DslxType) → declared_type known home (known_before numbers) f.ty ≡ Some u → u ≡ t) × AreDeclaredFor known home numbers fs ts
 AreDeclaredFor known home numbers [] (t ∷ ts) = ⊥
 AreDeclaredFor known home numbers (f ∷ fs) [] = ⊥
 
@@ -28,7 +28,7 @@ AreDeclaredFor known home numbers (f ∷ fs) [] = ⊥
 pub record HasCallee (known : Known) (core : CoreKnown) (name : List ℕ) (f : Function) (given numbers : List DslxValue) (types : List DslxType) : Type 0 where
   pub callee : CoreCallee
   pub is : core.callee name given types ≡ Some callee
-  pub result : result_type known f.name.name (numbers_bound [] f.parameters numbers) f.result ≡ Some callee.result
+  pub result : result_type known f.name.name (known_before (numbers_bound [] f.parameters numbers)) f.result ≡ Some callee.result
 
 -- calls of these instances, whose number parameters have values of their own types, with operands of the types of the arguments, are
 -- known

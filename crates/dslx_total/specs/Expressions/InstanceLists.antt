@@ -7,7 +7,7 @@ use Rattle.dslx_tree.specs.declared.item.Function.{Function}
 use Rattle.dslx_meaning.specs.Environment.{Given}
 use Rattle.dslx_meaning.specs.Items.{as_function, item_named}
 use Rattle.dslx_meaning.specs.Lists.{pairwise}
-use Rattle.dslx_meaning.specs.Rules.CallRules.{result_type}
+use Rattle.dslx_meaning.specs.Rules.CallRules.{known_before, result_type}
 use Rattle.dslx_meaning.specs.Rules.ItemRules.{function_seen, item_sight, judged_type, result_judged}
 use Rattle.dslx_meaning.specs.Rules.Judging.{Instance, Known}
 use Rattle.dslx_typing.specs.Typed.Complete.{IsComplete}
@@ -25,12 +25,12 @@ is_among is i = list_any (λ (j : Instantiated). bytes_eq i.name j.name && pairw
 -- each type is known to be what it is judged to be, in the text of this item
 abbrev pub AreJudged : Known → List ℕ → List Field → Type 0
 AreJudged known home [] = Unit {0}
-AreJudged known home (f ∷ fs) = ((bound : List Given) → known.type_in home bound f.ty ≡ (judged_type (item_sight known home bound) f.ty).ty) × AreJudged known home fs
+AreJudged known home (f ∷ fs) = ((bound : List Given) → known.type_in home bound [] f.ty ≡ (judged_type (item_sight known home bound) f.ty).ty) × AreJudged known home fs
 
 -- the types of a function's arguments and of its result are known to be what they are judged to be in its text
 pub record TypesAreJudged (known : Known) (f : Function) : Type 0 where
   pub arguments : AreJudged known f.name.name f.arguments
-  pub result : (bound : List Given) → result_type known f.name.name bound f.result ≡ (result_judged (item_sight known f.name.name bound) f.result).ty
+  pub result : (bound : List Given) → result_type known f.name.name (known_before bound) f.result ≡ (result_judged (item_sight known f.name.name bound) f.result).ty
 
 -- what is known of the items, for what is lowered
 pub record CanLower (known : Known) : Type 0 where

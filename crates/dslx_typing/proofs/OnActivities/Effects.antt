@@ -28,7 +28,7 @@ use Rattle.dslx_meaning.specs.declared.value.DslxValue as value
 use Rattle.dslx_meaning.specs.declared.value.DslxValue.{DslxValue}
 use Rattle.dslx_meaning.specs.declared.value.DslxValue.TheViews as views
 use Rattle.dslx_meaning.specs.Rules.AggregateRules.{wanted_faults, when_all}
-use Rattle.dslx_meaning.specs.Rules.CallRules.{ChannelSeen, GivenNumber, call_judged, call_parts_faults, call_parts_reached, held_judged, channel_named, channel_seen, effect_with, goes_there, has_site, outlet_at, outlet_if, outlet_in, receiving, receiving_if, sending, sending_if, site_faults, token_faults, token_judged, word_of, wrong_call, wrong_effect}
+use Rattle.dslx_meaning.specs.Rules.CallRules.{ChannelSeen, GivenNumber, call_judged, call_parts_faults, call_parts_reached, held_judged, channel_named, channel_seen, effect_with, given_numbers, goes_there, has_site, outlet_at, outlet_if, outlet_in, receiving, receiving_if, sending, sending_if, site_faults, token_faults, token_judged, word_of, wrong_call, wrong_effect}
 use Rattle.dslx_meaning.specs.Rules.EffectNames.{is_effect_kind}
 use Rattle.dslx_meaning.specs.Rules.Judgings.{ArgPair}
 use Rattle.dslx_meaning.specs.Rules.Judging.{ExprPair, Judgement, Known, Outlet, Sight, all_alone, alone, breaks, breaks_if, faults_of_all, name_of_expr, one_and, plus_size, reached_of_all, size_of_all, span_of, typed_in, types_of, within}
@@ -90,10 +90,10 @@ never_wrong known span given js more fine =
     let s = settled_fine known span None (call_parts_faults given js ++ breaks 10 span ∷ more) (call_parts_reached given js) None fine in
     some_fault (breaks 10 span) more (none_in (call_parts_faults given js) (breaks 10 span ∷ more) s.faults).1
 
-never_wrong_effect : {X : Type 0} (span : Span) (sight : Sight) (es : List ExprPair) → IsFine sight.known (wrong_effect span sight es) → X
-never_wrong_effect span sight [] fine = never_wrong sight.known span [] [] [] fine
-never_wrong_effect span sight (t ∷ []) fine = never_wrong sight.known span [] (held_judged sight t ∷ []) [] fine
-never_wrong_effect span sight (t ∷ c ∷ es) fine = never_wrong sight.known span [] (held_judged sight t ∷ (channel_seen sight c).judgement ∷ all_alone sight es) [] fine
+never_wrong_effect : {X : Type 0} (span : Span) (sight : Sight) (given : List GivenNumber) (es : List ExprPair) → IsFine sight.known (wrong_effect span sight given es) → X
+never_wrong_effect span sight given [] fine = never_wrong sight.known span given [] [] fine
+never_wrong_effect span sight given (t ∷ []) fine = never_wrong sight.known span given (held_judged sight t ∷ []) [] fine
+never_wrong_effect span sight given (t ∷ c ∷ es) fine = never_wrong sight.known span given (held_judged sight t ∷ (channel_seen sight c).judgement ∷ all_alone sight es) [] fine
 
 -- the member that a channel is
 pub record ChannelIs (sight : Sight) (site : SiteEnv) (c : Expr) (seen : ChannelSeen) : Type 0 where
@@ -316,32 +316,32 @@ act_goes t more site e binds rest sight env h members fine b words =
 
     by_receive : (es : List Expr) → IsFine sight.known (receiving span sight (map expr_pair es)) → Bound (receiving span sight (map expr_pair es)) → Goes (act_of_call Receives es)
     by_receive (x ∷ c ∷ []) f k = receive_act t more span site x c e binds rest sight env h members f k words
-    by_receive [] f k = never_wrong_effect span sight [] f
-    by_receive (x ∷ []) f k = never_wrong_effect span sight (map expr_pair (x ∷ [])) f
-    by_receive (x ∷ c ∷ y ∷ es) f k = never_wrong_effect span sight (map expr_pair (x ∷ c ∷ y ∷ es)) f
+    by_receive [] f k = never_wrong_effect span sight [] [] f
+    by_receive (x ∷ []) f k = never_wrong_effect span sight [] (map expr_pair (x ∷ [])) f
+    by_receive (x ∷ c ∷ y ∷ es) f k = never_wrong_effect span sight [] (map expr_pair (x ∷ c ∷ y ∷ es)) f
 
     by_receive_if : (es : List Expr) → IsFine sight.known (receiving_if span sight (map expr_pair es)) → Bound (receiving_if span sight (map expr_pair es)) → Goes (act_of_call ReceivesIf es)
     by_receive_if (x ∷ c ∷ p ∷ d ∷ []) f k = receive_if_act t more span site x c p d e binds rest sight env h members f k words
-    by_receive_if [] f k = never_wrong_effect span sight [] f
-    by_receive_if (x ∷ []) f k = never_wrong_effect span sight (map expr_pair (x ∷ [])) f
-    by_receive_if (x ∷ c ∷ []) f k = never_wrong_effect span sight (map expr_pair (x ∷ c ∷ [])) f
-    by_receive_if (x ∷ c ∷ p ∷ []) f k = never_wrong_effect span sight (map expr_pair (x ∷ c ∷ p ∷ [])) f
-    by_receive_if (x ∷ c ∷ p ∷ d ∷ y ∷ es) f k = never_wrong_effect span sight (map expr_pair (x ∷ c ∷ p ∷ d ∷ y ∷ es)) f
+    by_receive_if [] f k = never_wrong_effect span sight [] [] f
+    by_receive_if (x ∷ []) f k = never_wrong_effect span sight [] (map expr_pair (x ∷ [])) f
+    by_receive_if (x ∷ c ∷ []) f k = never_wrong_effect span sight [] (map expr_pair (x ∷ c ∷ [])) f
+    by_receive_if (x ∷ c ∷ p ∷ []) f k = never_wrong_effect span sight [] (map expr_pair (x ∷ c ∷ p ∷ [])) f
+    by_receive_if (x ∷ c ∷ p ∷ d ∷ y ∷ es) f k = never_wrong_effect span sight [] (map expr_pair (x ∷ c ∷ p ∷ d ∷ y ∷ es)) f
 
     by_send : (es : List Expr) → IsFine sight.known (sending span sight (map expr_pair es)) → Bound (sending span sight (map expr_pair es)) → Goes (act_of_call Sends es)
     by_send (x ∷ c ∷ d ∷ []) f k = send_act t more span site x c d e binds rest sight env h members f k words
-    by_send [] f k = never_wrong_effect span sight [] f
-    by_send (x ∷ []) f k = never_wrong_effect span sight (map expr_pair (x ∷ [])) f
-    by_send (x ∷ c ∷ []) f k = never_wrong_effect span sight (map expr_pair (x ∷ c ∷ [])) f
-    by_send (x ∷ c ∷ d ∷ y ∷ es) f k = never_wrong_effect span sight (map expr_pair (x ∷ c ∷ d ∷ y ∷ es)) f
+    by_send [] f k = never_wrong_effect span sight [] [] f
+    by_send (x ∷ []) f k = never_wrong_effect span sight [] (map expr_pair (x ∷ [])) f
+    by_send (x ∷ c ∷ []) f k = never_wrong_effect span sight [] (map expr_pair (x ∷ c ∷ [])) f
+    by_send (x ∷ c ∷ d ∷ y ∷ es) f k = never_wrong_effect span sight [] (map expr_pair (x ∷ c ∷ d ∷ y ∷ es)) f
 
     by_send_if : (es : List Expr) → IsFine sight.known (sending_if span sight (map expr_pair es)) → Bound (sending_if span sight (map expr_pair es)) → Goes (act_of_call SendsIf es)
     by_send_if (x ∷ c ∷ p ∷ d ∷ []) f k = send_if_act t more span site x c p d e binds rest sight env h members f k words
-    by_send_if [] f k = never_wrong_effect span sight [] f
-    by_send_if (x ∷ []) f k = never_wrong_effect span sight (map expr_pair (x ∷ [])) f
-    by_send_if (x ∷ c ∷ []) f k = never_wrong_effect span sight (map expr_pair (x ∷ c ∷ [])) f
-    by_send_if (x ∷ c ∷ p ∷ []) f k = never_wrong_effect span sight (map expr_pair (x ∷ c ∷ p ∷ [])) f
-    by_send_if (x ∷ c ∷ p ∷ d ∷ y ∷ es) f k = never_wrong_effect span sight (map expr_pair (x ∷ c ∷ p ∷ d ∷ y ∷ es)) f
+    by_send_if [] f k = never_wrong_effect span sight [] [] f
+    by_send_if (x ∷ []) f k = never_wrong_effect span sight [] (map expr_pair (x ∷ [])) f
+    by_send_if (x ∷ c ∷ []) f k = never_wrong_effect span sight [] (map expr_pair (x ∷ c ∷ [])) f
+    by_send_if (x ∷ c ∷ p ∷ []) f k = never_wrong_effect span sight [] (map expr_pair (x ∷ c ∷ p ∷ [])) f
+    by_send_if (x ∷ c ∷ p ∷ d ∷ y ∷ es) f k = never_wrong_effect span sight [] (map expr_pair (x ∷ c ∷ p ∷ d ∷ y ∷ es)) f
 
     same_judged : (k : CallKind) → is_effect_kind k ≡ false → (f : Ident) (ns : List ArgPair) (es : List ExprPair) → call_judged k span f ns es false sight ≡ call_judged k span f ns es true sight
     same_judged Joins q f ns es = refl
@@ -367,10 +367,14 @@ act_goes t more site e binds rest sight env h members fine b words =
 
     by_kind : (k : CallKind) (f : Ident) (ns : List Arg) (es : List Expr) → kind_of_call f.name ≡ k → node_of e ≡ Node-F.Call f ns es
         → IsFine sight.known (call_judged k span f (map arg_pair ns) (map expr_pair es) true sight) → Bound (call_judged k span f (map arg_pair ns) (map expr_pair es) true sight) → Goes (act_of_call k es)
-    by_kind Receives f ns es q is y z = by_receive es y z
-    by_kind ReceivesIf f ns es q is y z = by_receive_if es y z
-    by_kind Sends f ns es q is y z = by_send es y z
-    by_kind SendsIf f ns es q is y z = by_send_if es y z
+    by_kind Receives f [] es q is y z = by_receive es y z
+    by_kind Receives f (n ∷ ns) es q is y z = never_wrong_effect span sight (given_numbers sight (map arg_pair (n ∷ ns))) (map expr_pair es) y
+    by_kind ReceivesIf f [] es q is y z = by_receive_if es y z
+    by_kind ReceivesIf f (n ∷ ns) es q is y z = never_wrong_effect span sight (given_numbers sight (map arg_pair (n ∷ ns))) (map expr_pair es) y
+    by_kind Sends f [] es q is y z = by_send es y z
+    by_kind Sends f (n ∷ ns) es q is y z = never_wrong_effect span sight (given_numbers sight (map arg_pair (n ∷ ns))) (map expr_pair es) y
+    by_kind SendsIf f [] es q is y z = by_send_if es y z
+    by_kind SendsIf f (n ∷ ns) es q is y z = never_wrong_effect span sight (given_numbers sight (map arg_pair (n ∷ ns))) (map expr_pair es) y
     by_kind Joins f ns es q is y z = other Joins refl f ns es q is y z
     by_kind CountsLeading f ns es q is y z = other CountsLeading refl f ns es q is y z
     by_kind CountsTrailing f ns es q is y z = other CountsTrailing refl f ns es q is y z

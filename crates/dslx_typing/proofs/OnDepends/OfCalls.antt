@@ -1,5 +1,5 @@
 -- Calls by what is known in two ways.
-use Rattle.std.proofs.Common.{◌≡◌, ◌||◌, ◌++◌, ℕ, Bool, true, false, if◌then◌else◌, List, [], ◌∷◌, map, Option, Some, None, refl, ap, ◌∙◌}
+use Rattle.std.proofs.Common.{◌≡◌, ◌++◌, ℕ, Bool, true, false, if◌then◌else◌, List, [], ◌∷◌, map, Option, Some, None, refl, ap, ◌∙◌}
 use Rattle.xb_span.specs.declared.fault.Fault.{Fault}
 use Rattle.xb_span.specs.declared.span.Span.{Span}
 use Rattle.dslx_tree.specs.declared.expr.Expr.{Expr, out-Expr}
@@ -8,7 +8,6 @@ use Rattle.dslx_tree.specs.declared.item.Field.{Field}
 use Rattle.dslx_tree.specs.declared.item.Function.{Function}
 use Rattle.dslx_tree.specs.declared.item.Parameter.{Parameter}
 use Rattle.dslx_meaning.specs.Callees.{AllOnes, CallKind, Calls, CountsLeading, CountsTrailing, Joins, Parity, Receives, ReceivesIf, Reverses, Sends, SendsIf, SomeOne, Updates}
-use Rattle.dslx_meaning.specs.Environment.{Given}
 use Rattle.dslx_meaning.specs.Inference.{Inferred}
 use Rattle.dslx_meaning.specs.Items.{as_function, item_named}
 use Rattle.dslx_meaning.specs.Lists.{and_then, is_in}
@@ -18,9 +17,9 @@ use Rattle.dslx_meaning.specs.declared.ty.DslxType as ty
 use Rattle.dslx_meaning.specs.declared.value.DslxValue.{DslxValue}
 use Rattle.dslx_meaning.specs.Rules.AggregateRules.{wanted_faults, when_all}
 use Rattle.dslx_meaning.specs.Rules.CallRules as c
-use Rattle.dslx_meaning.specs.Rules.CallRules.{ChannelSeen, GivenNumber, NotGiven, Number, NumbersSeen, Resolved, Unknown, Wrong, bound_by_number, builtin_judged, call_judged, call_parts_faults, call_parts_reached, call_type, callee_size, channel_seen, declared_type, default_value, function_call, given_judgements, given_numbers, has_right_count, in_type, inferred_by, maybe_inferred, not_given, number_before, numbers_for, numbers_seen, of_type, operand_faults, reached_by, resolved_value, result_type, right_call, token_judged, type_without_value, unknown_behind, without_default, without_numbers, wrong_call}
-use Rattle.dslx_meaning.specs.Rules.ConstantRules.{constant_of}
-use Rattle.dslx_meaning.specs.Rules.Judging.{ExprPair, Judgement, Known, Sight, all_alone, breaks_if, faults_of_all, has_broken, name_of_expr, one_and, plus_size, reached_of_all, settled, size_of_all, span_of, types_of}
+use Rattle.dslx_meaning.specs.Rules.CallRules.{Before, GivenNumber, NotGiven, NumbersSeen, Resolved, Unknown, and_parameter, and_there, builtin_judged, call_judged, call_numbers, call_parts_faults, call_parts_reached, callee_size, channel_seen, declared_type, default_value, function_call, given_numbers, has_right_count, inferred_by, is_refused, judged_there, known_before, maybe_inferred, not_given, nothing_there, number_before, numbers_for, numbers_seen, of_type, operand_faults, reached_by, resolved_value, right_call, token_judged, type_there, without_default, without_numbers, wrong_call}
+use Rattle.dslx_meaning.specs.Rules.ConstantRules.{constant_of, is_empty}
+use Rattle.dslx_meaning.specs.Rules.Judging.{ExprPair, Judgement, Known, Sight, all_alone, breaks_if, faults_of_all, name_of_expr, one_and, plus_size, reached_of_all, settled, size_of_all, span_of, types_of}
 use Rattle.dslx_meaning.specs.Rules.Judgings.{ArgPair}
 use Rattle.dslx_meaning.specs.Rules.Mentions.{is_cyclic}
 use Rattle.dslx_typing.specs.Depends.Alike.{EachArgumentAlike, EachParameterAlike, FunctionAlike, KnownAlike, ParameterAlike, in_known}
@@ -28,76 +27,68 @@ use Rattle.dslx_typing.proofs.OnDepends.Same.{EachSame, PartSame, all_alone_same
 
 -- ---- number parameters
 
-declared_same : (a b : Known) (home : List ℕ) (p : Parameter) → ParameterAlike a b home p → (so_far : List Given) → declared_type a home so_far p.ty ≡ declared_type b home so_far p.ty
-declared_same a b home p h so_far = ap (λ o. and_then o (λ t. if is_unit t then None else Some t)) (h.ty so_far)
+declared_same : (a b : Known) (home : List ℕ) (p : Parameter) → ParameterAlike a b home p → (before : Before) → declared_type a home before p.ty ≡ declared_type b home before p.ty
+declared_same a b home p h before = ap (λ o. and_then o (λ t. if is_unit t then None else Some t)) (h.ty before.values before.unknown)
 
-default_same : (a b : Known) (home : List ℕ) (p : Parameter) → ParameterAlike a b home p → (so_far : List Given) (unknown : List (List ℕ)) (t : Option DslxType) (o : Option Expr) → p.default ≡ o
-    → default_value a home so_far unknown t o ≡ default_value b home so_far unknown t o
-default_same a b home p h so_far unknown t None q = refl
-default_same a b home p h so_far unknown t (Some e) q = λ i.
-    record {
-      value = resolved_value (of_type t (h.default so_far unknown e q i).value);
-      faults = (h.default so_far unknown e q i).judgement.faults ++ wanted_faults (out-Expr e).span t (h.default so_far unknown e q i).judgement.ty;
-      reached = (h.default so_far unknown e q i).judgement.reached;
+default_same : (a b : Known) (home : List ℕ) (p : Parameter) → ParameterAlike a b home p → (before : Before) (t : Option DslxType) (o : Option Expr) → p.default ≡ o → default_value a home before t o ≡ default_value b home before t o
+default_same a b home p h before t None q = refl
+default_same a b home p h before t (Some e) q = λ i.
+    if is_empty before.unknown
+    then record {
+      value = resolved_value (of_type t (h.default before.values e q i).value);
+      judged = record {
+        faults = (h.default before.values e q i).judgement.faults ++ wanted_faults (out-Expr e).span t (h.default before.values e q i).judgement.ty;
+        reached = (h.default before.values e q i).judgement.reached;
+      };
     }
+    else without_default Unknown
 
-not_given_same : (a b : Known) (home : List ℕ) (p : Parameter) → ParameterAlike a b home p → (so_far : List Given) (unknown : List (List ℕ)) (t : Option DslxType) (maybe : Bool) (ns : List ℕ)
-    → not_given a home so_far unknown p t maybe ns ≡ not_given b home so_far unknown p t maybe ns
-not_given_same a b home p h so_far unknown t true [] = refl
-not_given_same a b home p h so_far unknown t false [] = default_same a b home p h so_far unknown t p.default refl
-not_given_same a b home p h so_far unknown t maybe (n ∷ ns) = refl
+not_given_same : (a b : Known) (home : List ℕ) (p : Parameter) → ParameterAlike a b home p → (before : Before) (t : Option DslxType) (maybe : Bool) (ns : List ℕ) → not_given a home before p t maybe ns ≡ not_given b home before p t maybe ns
+not_given_same a b home p h before t true [] = refl
+not_given_same a b home p h before t false [] = default_same a b home p h before t p.default refl
+not_given_same a b home p h before t maybe (n ∷ ns) = refl
 
-written_same : (a b : Known) (home : List ℕ) (p : Parameter) → ParameterAlike a b home p → (so_far : List Given) (unknown : List (List ℕ)) (r : Resolved)
-    → type_without_value a home so_far unknown p r ≡ type_without_value b home so_far unknown p r
-written_same a b home p h so_far unknown Unknown = h.seen so_far unknown
-written_same a b home p h so_far unknown (Number v) = refl
-written_same a b home p h so_far unknown Wrong = refl
+type_same : (a b : Known) (home : List ℕ) (p : Parameter) → ParameterAlike a b home p → (before : Before) → type_there a home before p ≡ type_there b home before p
+type_same a b home p h before = λ i. if is_empty before.unknown then record { faults = (h.seen before.values i).faults; reached = (h.seen before.values i).reached } else nothing_there
 
 -- a parameter with its argument, by its type and those behind it
-abbrev with_given : Known → List ℕ → List Inferred → List (List ℕ) → List Given → List (List ℕ) → Parameter → List Parameter → GivenNumber → List GivenNumber → Option DslxType → NumbersSeen
-with_given known home inferred maybe so_far unknown p ps g gs t =
+abbrev with_given : Known → List ℕ → List Inferred → List (List ℕ) → Before → Parameter → List Parameter → GivenNumber → List GivenNumber → Option DslxType → NumbersSeen
+with_given known home inferred maybe before p ps g gs t =
     let r = resolved_value (of_type t g.seen.value) in
-    let written = type_without_value known home so_far unknown p r in
-    number_before r (written.faults ++ wanted_faults g.span t g.seen.judgement.ty) written.reached
-    (numbers_seen known home inferred maybe (bound_by_number so_far p r) (unknown_behind unknown p r) ps gs)
+    number_before r (wanted_faults g.span t g.seen.judgement.ty) (type_there known home before p) (numbers_seen known home inferred maybe (and_parameter before p r) ps gs)
 
-abbrev without_given : Known → List ℕ → List Inferred → List (List ℕ) → List Given → List (List ℕ) → Parameter → List Parameter → NotGiven → NumbersSeen
-without_given known home inferred maybe so_far unknown p ps r =
-    let written = type_without_value known home so_far unknown p r.value in
-    number_before r.value (written.faults ++ r.faults) (written.reached ++ r.reached)
-    (numbers_seen known home inferred maybe (bound_by_number so_far p r.value) (unknown_behind unknown p r.value) ps [])
+abbrev without_given : Known → List ℕ → List Inferred → List (List ℕ) → Before → Parameter → List Parameter → NotGiven → NumbersSeen
+without_given known home inferred maybe before p ps r =
+    number_before r.value [] (and_there (type_there known home before p) r.judged) (numbers_seen known home inferred maybe (and_parameter before p r.value) ps [])
 
-numbers_same : (a b : Known) (home : List ℕ) (inferred : List Inferred) (maybe : List (List ℕ)) (so_far : List Given) (unknown : List (List ℕ)) (ps : List Parameter) (gs : List GivenNumber)
-    → EachParameterAlike a b home ps → numbers_seen a home inferred maybe so_far unknown ps gs ≡ numbers_seen b home inferred maybe so_far unknown ps gs
-numbers_same a b home inferred maybe so_far unknown [] [] h = refl
-numbers_same a b home inferred maybe so_far unknown [] (g ∷ gs) h = refl
-numbers_same a b home inferred maybe so_far unknown (p ∷ ps) (g ∷ gs) h =
-    by_type (declared_type a home so_far p.ty) (λ r. numbers_same a b home inferred maybe (bound_by_number so_far p r) (unknown_behind unknown p r) ps gs h.1) ∙ ap (with_given b home inferred maybe so_far unknown p ps g gs) (declared_same a b home p h.0 so_far)
+numbers_same : (a b : Known) (home : List ℕ) (inferred : List Inferred) (maybe : List (List ℕ)) (before : Before) (ps : List Parameter) (gs : List GivenNumber)
+    → EachParameterAlike a b home ps → numbers_seen a home inferred maybe before ps gs ≡ numbers_seen b home inferred maybe before ps gs
+numbers_same a b home inferred maybe before [] [] h = refl
+numbers_same a b home inferred maybe before [] (g ∷ gs) h = refl
+numbers_same a b home inferred maybe before (p ∷ ps) (g ∷ gs) h =
+    by_type (declared_type a home before p.ty) (λ r. numbers_same a b home inferred maybe (and_parameter before p r) ps gs h.1) ∙ ap (with_given b home inferred maybe before p ps g gs) (declared_same a b home p h.0 before)
   where
-    by_type : (t : Option DslxType) → ((r : Resolved) → numbers_seen a home inferred maybe (bound_by_number so_far p r) (unknown_behind unknown p r) ps gs ≡ numbers_seen b home inferred maybe (bound_by_number so_far p r) (unknown_behind unknown p r) ps gs)
-        → with_given a home inferred maybe so_far unknown p ps g gs t ≡ with_given b home inferred maybe so_far unknown p ps g gs t
+    by_type : (t : Option DslxType) → ((r : Resolved) → numbers_seen a home inferred maybe (and_parameter before p r) ps gs ≡ numbers_seen b home inferred maybe (and_parameter before p r) ps gs)
+        → with_given a home inferred maybe before p ps g gs t ≡ with_given b home inferred maybe before p ps g gs t
     by_type t rest =
         let r = resolved_value (of_type t g.seen.value) in
-        let written = written_same a b home p h.0 so_far unknown r in
-        λ i. number_before r ((written i).faults ++ wanted_faults g.span t g.seen.judgement.ty) (written i).reached (rest r i)
-numbers_same a b home inferred maybe so_far unknown (p ∷ ps) [] h =
-    by_value (not_given a home so_far unknown p (declared_type a home so_far p.ty) (is_in p.name.name maybe) (numbers_for p.name.name inferred))
-    (λ r. numbers_same a b home inferred maybe (bound_by_number so_far p r) (unknown_behind unknown p r) ps [] h.1)
-    ∙ ap (without_given b home inferred maybe so_far unknown p ps)
-    (not_given_same a b home p h.0 so_far unknown (declared_type a home so_far p.ty) (is_in p.name.name maybe) (numbers_for p.name.name inferred)
-    ∙ ap (λ t. not_given b home so_far unknown p t (is_in p.name.name maybe) (numbers_for p.name.name inferred)) (declared_same a b home p h.0 so_far))
+        λ i. number_before r (wanted_faults g.span t g.seen.judgement.ty) (type_same a b home p h.0 before i) (rest r i)
+numbers_same a b home inferred maybe before (p ∷ ps) [] h =
+    by_value (not_given a home before p (declared_type a home before p.ty) (is_in p.name.name maybe) (numbers_for p.name.name inferred))
+    (λ r. numbers_same a b home inferred maybe (and_parameter before p r) ps [] h.1)
+    ∙ ap (without_given b home inferred maybe before p ps)
+    (not_given_same a b home p h.0 before (declared_type a home before p.ty) (is_in p.name.name maybe) (numbers_for p.name.name inferred)
+    ∙ ap (λ t. not_given b home before p t (is_in p.name.name maybe) (numbers_for p.name.name inferred)) (declared_same a b home p h.0 before))
   where
-    by_value : (r : NotGiven) → ((r : Resolved) → numbers_seen a home inferred maybe (bound_by_number so_far p r) (unknown_behind unknown p r) ps [] ≡ numbers_seen b home inferred maybe (bound_by_number so_far p r) (unknown_behind unknown p r) ps [])
-        → without_given a home inferred maybe so_far unknown p ps r ≡ without_given b home inferred maybe so_far unknown p ps r
-    by_value r rest =
-        let written = written_same a b home p h.0 so_far unknown r.value in
-        λ i. number_before r.value ((written i).faults ++ r.faults) ((written i).reached ++ r.reached) (rest r.value i)
+    by_value : (r : NotGiven) → ((r : Resolved) → numbers_seen a home inferred maybe (and_parameter before p r) ps [] ≡ numbers_seen b home inferred maybe (and_parameter before p r) ps [])
+        → without_given a home inferred maybe before p ps r ≡ without_given b home inferred maybe before p ps r
+    by_value r rest = λ i. number_before r.value [] (and_there (type_same a b home p h.0 before i) r.judged) (rest r.value i)
 
 -- ---- calls of functions
 
-operands_same : (a b : Known) (home : List ℕ) (bound : List Given) (fs : List Field) (es : List ExprPair) (js : List Judgement) → EachArgumentAlike a b home fs → operand_faults a home bound fs es js ≡ operand_faults b home bound fs es js
+operands_same : (a b : Known) (home : List ℕ) (bound : Before) (fs : List Field) (es : List ExprPair) (js : List Judgement) → EachArgumentAlike a b home fs → operand_faults a home bound fs es js ≡ operand_faults b home bound fs es js
 operands_same a b home bound (f ∷ fs) (e ∷ es) (j ∷ js) h = λ i.
-    wanted_faults (span_of e) (and_then (h.0 bound i) (λ t. if is_unit t then None else Some t)) j.ty ++ operands_same a b home bound fs es js h.1 i
+    wanted_faults (span_of e) (and_then (h.0 bound.values bound.unknown i) (λ t. if is_unit t then None else Some t)) j.ty ++ operands_same a b home bound fs es js h.1 i
 operands_same a b home bound [] es js h = refl
 operands_same a b home bound (f ∷ fs) [] js h = refl
 operands_same a b home bound (f ∷ fs) (e ∷ es) [] h = refl
@@ -109,8 +100,8 @@ size_same a b f h (Some vs) = h.size vs
 abbrev right_by : Span → Function → List GivenNumber → List Judgement → List Fault → NumbersSeen → Option DslxType → List Fault → Option ℕ → Judgement
 right_by span f given js cyclic numbers result operands size =
     settled span (and_then numbers.values (λ vs. when_all (types_of js) result))
-    (call_parts_faults given js ++ cyclic ++ numbers.faults ++ breaks_if numbers.is_wrong 10 span ++ (if numbers.is_wrong then [] else operands))
-    (call_parts_reached given js ++ numbers.reached ++ reached_by (has_broken cyclic || numbers.is_wrong) f.name.name numbers.values)
+    (call_parts_faults given js ++ cyclic ++ numbers.faults ++ (judged_there cyclic numbers).faults ++ breaks_if numbers.is_wrong 10 span ++ (if numbers.is_wrong then [] else operands))
+    (call_parts_reached given js ++ (judged_there cyclic numbers).reached ++ reached_by (is_refused cyclic numbers) f.name.name numbers.values)
     (one_and (plus_size (size_of_all js) size))
 
 right_same : (span : Span) (sight : Sight) (other : Known) (f : Function) (given : List GivenNumber) (es : List ExprPair) (js : List Judgement) (cyclic : List Fault) (numbers : NumbersSeen) → FunctionAlike sight.known other f
@@ -131,7 +122,7 @@ function_same P span sight other name given es js k h =
     ∙ ap (function_call span (in_known sight other) name given es js) (λ i. as_function (item_named name.name (k.whole i).items))
   where
     seen : Known → Function → NumbersSeen
-    seen known f = numbers_seen known f.name.name (inferred_by f.arguments (types_of js)) (maybe_inferred f.arguments (types_of js)) [] [] f.parameters given
+    seen known f = call_numbers known f given (types_of js)
 
     cyclic : Known → List Fault
     cyclic known = breaks_if (is_cyclic known.whole sight.home name.name) 3 span
@@ -145,7 +136,7 @@ function_same P span sight other name given es js k h =
     by_count f q false = ap (wrong_call span given js) cyclic_same
     by_count f q true =
         right_same span sight other f given es js (cyclic sight.known) (seen sight.known f) q
-        ∙ (λ i. right_call span (in_known sight other) f given es js (cyclic_same i) (numbers_same sight.known other f.name.name (inferred_by f.arguments (types_of js)) (maybe_inferred f.arguments (types_of js)) [] [] f.parameters given q.parameters i))
+        ∙ (λ i. right_call span (in_known sight other) f given es js (cyclic_same i) (numbers_same sight.known other f.name.name (inferred_by f.arguments (types_of js)) (maybe_inferred f.arguments (types_of js)) (known_before []) f.parameters given q.parameters i))
 
     by_function : (o : Option Function) → as_function (item_named name.name sight.known.whole.items) ≡ o → function_call span sight name given es js o ≡ function_call span (in_known sight other) name given es js o
     by_function None q = refl
@@ -200,39 +191,39 @@ held_same sight other e h = λ i. c.held_judged sight (frozen e (h i))
 token_same : (sight : Sight) (other : Known) (e : ExprPair) → PartSame sight other e → token_judged sight e ≡ token_judged (in_known sight other) e
 token_same sight other e h = λ i. token_judged sight (frozen e (h i))
 
-wrong_effect_same : (span : Span) (sight : Sight) (other : Known) (es : List ExprPair) → EachSame sight other es → c.wrong_effect span sight es ≡ c.wrong_effect span (in_known sight other) es
-wrong_effect_same span sight other [] h = refl
-wrong_effect_same span sight other (t ∷ []) h = λ i. wrong_call span [] (held_same sight other t h.0 i ∷ []) []
-wrong_effect_same span sight other (t ∷ x ∷ es) h = λ i. wrong_call span [] (held_same sight other t h.0 i ∷ (channel_same sight other x h.1.0 i).judgement ∷ all_alone_same sight other es h.1.1 i) []
+wrong_effect_same : (span : Span) (sight : Sight) (other : Known) (given : List GivenNumber) (es : List ExprPair) → EachSame sight other es → c.wrong_effect span sight given es ≡ c.wrong_effect span (in_known sight other) given es
+wrong_effect_same span sight other given [] h = refl
+wrong_effect_same span sight other given (t ∷ []) h = λ i. wrong_call span given (held_same sight other t h.0 i ∷ []) []
+wrong_effect_same span sight other given (t ∷ x ∷ es) h = λ i. wrong_call span given (held_same sight other t h.0 i ∷ (channel_same sight other x h.1.0 i).judgement ∷ all_alone_same sight other es h.1.1 i) []
 
 receiving_same : (span : Span) (sight : Sight) (other : Known) (es : List ExprPair) → EachSame sight other es → c.receiving span sight es ≡ c.receiving span (in_known sight other) es
-receiving_same span sight other [] h = wrong_effect_same span sight other [] h
-receiving_same span sight other (t ∷ []) h = wrong_effect_same span sight other (t ∷ []) h
+receiving_same span sight other [] h = wrong_effect_same span sight other [] [] h
+receiving_same span sight other (t ∷ []) h = wrong_effect_same span sight other [] (t ∷ []) h
 receiving_same span sight other (t ∷ x ∷ []) h = λ i. c.receiving span sight (frozen t (h.0 i) ∷ frozen x (h.1.0 i) ∷ [])
-receiving_same span sight other (t ∷ x ∷ e ∷ es) h = wrong_effect_same span sight other (t ∷ x ∷ e ∷ es) h
+receiving_same span sight other (t ∷ x ∷ e ∷ es) h = wrong_effect_same span sight other [] (t ∷ x ∷ e ∷ es) h
 
 sending_same : (span : Span) (sight : Sight) (other : Known) (es : List ExprPair) → EachSame sight other es → c.sending span sight es ≡ c.sending span (in_known sight other) es
-sending_same span sight other [] h = wrong_effect_same span sight other [] h
-sending_same span sight other (t ∷ []) h = wrong_effect_same span sight other (t ∷ []) h
-sending_same span sight other (t ∷ x ∷ []) h = wrong_effect_same span sight other (t ∷ x ∷ []) h
+sending_same span sight other [] h = wrong_effect_same span sight other [] [] h
+sending_same span sight other (t ∷ []) h = wrong_effect_same span sight other [] (t ∷ []) h
+sending_same span sight other (t ∷ x ∷ []) h = wrong_effect_same span sight other [] (t ∷ x ∷ []) h
 sending_same span sight other (t ∷ x ∷ e ∷ []) h = λ i. c.sending span sight (frozen t (h.0 i) ∷ frozen x (h.1.0 i) ∷ frozen e (h.1.1.0 i) ∷ [])
-sending_same span sight other (t ∷ x ∷ e ∷ f ∷ es) h = wrong_effect_same span sight other (t ∷ x ∷ e ∷ f ∷ es) h
+sending_same span sight other (t ∷ x ∷ e ∷ f ∷ es) h = wrong_effect_same span sight other [] (t ∷ x ∷ e ∷ f ∷ es) h
 
 receiving_if_same : (span : Span) (sight : Sight) (other : Known) (es : List ExprPair) → EachSame sight other es → c.receiving_if span sight es ≡ c.receiving_if span (in_known sight other) es
-receiving_if_same span sight other [] h = wrong_effect_same span sight other [] h
-receiving_if_same span sight other (t ∷ []) h = wrong_effect_same span sight other (t ∷ []) h
-receiving_if_same span sight other (t ∷ x ∷ []) h = wrong_effect_same span sight other (t ∷ x ∷ []) h
-receiving_if_same span sight other (t ∷ x ∷ p ∷ []) h = wrong_effect_same span sight other (t ∷ x ∷ p ∷ []) h
+receiving_if_same span sight other [] h = wrong_effect_same span sight other [] [] h
+receiving_if_same span sight other (t ∷ []) h = wrong_effect_same span sight other [] (t ∷ []) h
+receiving_if_same span sight other (t ∷ x ∷ []) h = wrong_effect_same span sight other [] (t ∷ x ∷ []) h
+receiving_if_same span sight other (t ∷ x ∷ p ∷ []) h = wrong_effect_same span sight other [] (t ∷ x ∷ p ∷ []) h
 receiving_if_same span sight other (t ∷ x ∷ p ∷ e ∷ []) h = λ i. c.receiving_if span sight (frozen t (h.0 i) ∷ frozen x (h.1.0 i) ∷ frozen p (h.1.1.0 i) ∷ frozen e (h.1.1.1.0 i) ∷ [])
-receiving_if_same span sight other (t ∷ x ∷ p ∷ e ∷ f ∷ es) h = wrong_effect_same span sight other (t ∷ x ∷ p ∷ e ∷ f ∷ es) h
+receiving_if_same span sight other (t ∷ x ∷ p ∷ e ∷ f ∷ es) h = wrong_effect_same span sight other [] (t ∷ x ∷ p ∷ e ∷ f ∷ es) h
 
 sending_if_same : (span : Span) (sight : Sight) (other : Known) (es : List ExprPair) → EachSame sight other es → c.sending_if span sight es ≡ c.sending_if span (in_known sight other) es
-sending_if_same span sight other [] h = wrong_effect_same span sight other [] h
-sending_if_same span sight other (t ∷ []) h = wrong_effect_same span sight other (t ∷ []) h
-sending_if_same span sight other (t ∷ x ∷ []) h = wrong_effect_same span sight other (t ∷ x ∷ []) h
-sending_if_same span sight other (t ∷ x ∷ p ∷ []) h = wrong_effect_same span sight other (t ∷ x ∷ p ∷ []) h
+sending_if_same span sight other [] h = wrong_effect_same span sight other [] [] h
+sending_if_same span sight other (t ∷ []) h = wrong_effect_same span sight other [] (t ∷ []) h
+sending_if_same span sight other (t ∷ x ∷ []) h = wrong_effect_same span sight other [] (t ∷ x ∷ []) h
+sending_if_same span sight other (t ∷ x ∷ p ∷ []) h = wrong_effect_same span sight other [] (t ∷ x ∷ p ∷ []) h
 sending_if_same span sight other (t ∷ x ∷ p ∷ e ∷ []) h = λ i. c.sending_if span sight (frozen t (h.0 i) ∷ frozen x (h.1.0 i) ∷ frozen p (h.1.1.0 i) ∷ frozen e (h.1.1.1.0 i) ∷ [])
-sending_if_same span sight other (t ∷ x ∷ p ∷ e ∷ f ∷ es) h = wrong_effect_same span sight other (t ∷ x ∷ p ∷ e ∷ f ∷ es) h
+sending_if_same span sight other (t ∷ x ∷ p ∷ e ∷ f ∷ es) h = wrong_effect_same span sight other [] (t ∷ x ∷ p ∷ e ∷ f ∷ es) h
 
 -- ---- any call
 
@@ -240,6 +231,12 @@ unnumbered : (span : Span) (sight : Sight) (other : Known) (as' : List ArgPair) 
     → without_numbers span sight as' es j ≡ without_numbers span (in_known sight other) as' es k
 unnumbered span sight other [] es j k h g e = e
 unnumbered span sight other (a ∷ as') es j k h g e = λ i. wrong_call span (given_same sight other (a ∷ as') h i) (all_alone_same sight other es g i) []
+
+effect_unnumbered : (span : Span) (sight : Sight) (other : Known) (as' : List ArgPair) (es : List ExprPair) (j k : Judgement) → EachGivenSame sight other as' → EachSame sight other es → j ≡ k
+    → c.unnumbered_effect span sight as' es j ≡ c.unnumbered_effect span (in_known sight other) as' es k
+effect_unnumbered span sight other [] es j k h g e = e
+effect_unnumbered span sight other (a ∷ as') es j k h g e =
+    ap (λ given. c.wrong_effect span sight given es) (given_same sight other (a ∷ as') h) ∙ wrong_effect_same span sight other (given_numbers (in_known sight other) (a ∷ as')) es g
 
 -- the kind is a function of the text, and then the same is known of it
 abbrev pub IfCalled : CallKind → Type 0 → Type 0
@@ -252,10 +249,10 @@ pub call_same : (P : List ℕ → Bool) (kind : CallKind) (span : Span) (name : 
 call_same P Calls span name as' es on_top sight other k g h f =
     function_same P span sight other name (given_numbers sight as') es (all_alone sight es) k f
     ∙ (λ i. function_call span (in_known sight other) name (given_same sight other as' g i) es (all_alone_same sight other es h i) (as_function (item_named name.name other.whole.items)))
-call_same P Receives span name as' es on_top sight other k g h f = ap (c.only_on_top on_top span) (receiving_same span sight other es h)
-call_same P ReceivesIf span name as' es on_top sight other k g h f = ap (c.only_on_top on_top span) (receiving_if_same span sight other es h)
-call_same P Sends span name as' es on_top sight other k g h f = ap (c.only_on_top on_top span) (sending_same span sight other es h)
-call_same P SendsIf span name as' es on_top sight other k g h f = ap (c.only_on_top on_top span) (sending_if_same span sight other es h)
+call_same P Receives span name as' es on_top sight other k g h f = ap (c.only_on_top on_top span) (effect_unnumbered span sight other as' es _ _ g h (receiving_same span sight other es h))
+call_same P ReceivesIf span name as' es on_top sight other k g h f = ap (c.only_on_top on_top span) (effect_unnumbered span sight other as' es _ _ g h (receiving_if_same span sight other es h))
+call_same P Sends span name as' es on_top sight other k g h f = ap (c.only_on_top on_top span) (effect_unnumbered span sight other as' es _ _ g h (sending_same span sight other es h))
+call_same P SendsIf span name as' es on_top sight other k g h f = ap (c.only_on_top on_top span) (effect_unnumbered span sight other as' es _ _ g h (sending_if_same span sight other es h))
 call_same P Joins span name as' es on_top sight other k g h f = unnumbered span sight other as' es _ _ g h (builtin_same Joins span sight other es h)
 call_same P CountsLeading span name as' es on_top sight other k g h f = unnumbered span sight other as' es _ _ g h (builtin_same CountsLeading span sight other es h)
 call_same P CountsTrailing span name as' es on_top sight other k g h f = unnumbered span sight other as' es _ _ g h (builtin_same CountsTrailing span sight other es h)

@@ -30,7 +30,7 @@ use Rattle.dslx_meaning.specs.declared.ty.DslxType as ty
 use Rattle.dslx_meaning.specs.declared.value.Bare.{Bare}
 use Rattle.dslx_meaning.specs.declared.value.DslxValue.{DslxValue}
 use Rattle.dslx_meaning.specs.Rules.AggregateRules.{range_faults, wanted_faults}
-use Rattle.dslx_meaning.specs.Rules.CallRules.{result_type}
+use Rattle.dslx_meaning.specs.Rules.CallRules.{Before, result_type}
 use Rattle.dslx_meaning.specs.Rules.ConstantRules.{ConstantSeen, constant_of, is_empty}
 use Rattle.dslx_meaning.specs.Rules.ItemRules.{ConstantFound, Found, TypeFound, alias_seen, and_found, annotation_judged, arguments_found, arguments_typed, base_if_bits, body_judged, bound_with, constant_seen, default_found, enum_member_value, enum_of_base, enum_seen, fields_found, found_in, function_seen, has_equal_values, is_annotated, item_sight, judged_inner, judged_type, member_constant, member_values, members_found, number_at, numbers_behind, only_faults, parameters_found, result_judged, struct_seen}
 use Rattle.dslx_meaning.specs.Rules.Judging.{ExprPair, Instance, Judgement, Known, Sight, Typed, bare_of, breaks_if, has_broken, span_of, type_limits, unless_broken}
@@ -190,10 +190,10 @@ module _ (P : List ℕ → Bool) (m : Module) (a b : Known) (closed : IsClosed P
       let front = meant_parts P m (mentioned_in_type p.ty bound ++ expr_if p.default bound) (parameters_mentions ps (p.name.name ∷ bound)) h in
       let both = meant_parts P m (mentioned_in_type p.ty bound) (expr_if p.default bound) front.0 in (
         record {
-          ty = λ so_far. ap (λ (j : Judgement). j.ty) (type_at home own bound n p.ty both.0 so_far [] []);
-          seen = λ so_far unknown. inner_at home own bound n p.ty both.0 so_far unknown [];
-          default = λ so_far unknown e q.
-              let c = constant_at home own bound n e (subst (λ o. Meant (expr_if o bound)) q both.1) so_far unknown [] in
+          ty = λ so_far unknown. ap (λ (j : Judgement). j.ty) (type_at home own bound n p.ty both.0 so_far unknown []);
+          seen = λ so_far. inner_at home own bound n p.ty both.0 so_far [] [];
+          default = λ so_far e q.
+              let c = constant_at home own bound n e (subst (λ o. Meant (expr_if o bound)) q both.1) so_far [] [] in
               λ i. record { judgement = (c i).judgement; value = (c i).value };
         },
         parameters_over home own ps (p.name.name ∷ bound) (plain.0, n) plain.1 front.1,
@@ -203,12 +203,12 @@ module _ (P : List ℕ → Bool) (m : Module) (a b : Known) (closed : IsClosed P
   arguments_over home own [] bound n h = tt
   arguments_over home own (f ∷ fs) bound n h =
       let both = meant_parts P m (mentioned_in_type f.ty bound) (fields_mentions fs bound) h in
-      ((λ given. ap (λ (j : Judgement). j.ty) (type_at home own bound n f.ty both.0 given [] [])), arguments_over home own fs bound n both.1)
+      ((λ given unknown. ap (λ (j : Judgement). j.ty) (type_at home own bound n f.ty both.0 given unknown [])), arguments_over home own fs bound n both.1)
 
-  pub result_over : (home : List ℕ) → Own home → (o : Option TypeExpr) (bound : List (List ℕ)) → NamesAlike a b bound → Meant (type_if o bound) → (given : List Given)
+  pub result_over : (home : List ℕ) → Own home → (o : Option TypeExpr) (bound : List (List ℕ)) → NamesAlike a b bound → Meant (type_if o bound) → (given : Before)
       → result_type (known_over a) home given o ≡ result_type (known_over b) home given o
   result_over home own None bound n h given = refl
-  result_over home own (Some t) bound n h given = ap (λ (j : Judgement). j.ty) (type_at home own bound n t h given [] [])
+  result_over home own (Some t) bound n h given = ap (λ (j : Judgement). j.ty) (type_at home own bound n t h given.values given.unknown [])
 
   default_at : (home : List ℕ) → Own home → (bound : List (List ℕ)) → NamesAlike a b bound → (o : Option Expr) → Meant (expr_if o bound) → (numbers : List Given) (t u : Option DslxType) → t ≡ u
       → default_found (item_sight a home numbers) t o ≡ default_found (item_sight b home numbers) u o

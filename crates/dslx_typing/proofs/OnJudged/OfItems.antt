@@ -1,6 +1,6 @@
 -- What the items of a text reach, by chains of items.
 use Rattle.std.specs.Option.{option_map}
-use Rattle.std.proofs.Common.{length, not, ◌==◌, ◌||◌, ◌≡◌, ◌&&◌, ◌++◌, ℕ, zero, suc, Bool, true, false, if◌then◌else◌, List, [], ◌∷◌, map, Option, Some, None, refl, sym, ap, subst, ◌∙◌}
+use Rattle.std.proofs.Common.{length, not, ◌==◌, ◌≡◌, ◌&&◌, ◌++◌, ℕ, zero, suc, Bool, true, false, if◌then◌else◌, List, [], ◌∷◌, map, Option, Some, None, refl, sym, ap, subst, ◌∙◌}
 use mathlib.Core.Bool.{true≢false}
 use Rattle.std.specs.Prelude.{flat_map, nat_lt}
 use Rattle.std.specs.Str.{bytes_eq}
@@ -22,11 +22,11 @@ use Rattle.dslx_meaning.specs.Network.{as_proc}
 use Rattle.dslx_meaning.specs.Operators.{number_value}
 use Rattle.dslx_meaning.specs.declared.value.Bare.{Bare}
 use Rattle.dslx_meaning.specs.Rules.AggregateRules.{range_faults, wanted_faults}
-use Rattle.dslx_meaning.specs.Rules.CallRules.{GivenNumber, NumbersSeen, given_judgements, given_numbers, numbers_seen, reached_by}
+use Rattle.dslx_meaning.specs.Rules.CallRules.{GivenNumber, NumbersSeen, given_judgements, given_numbers, is_refused, judged_there, reached_by}
 use Rattle.dslx_meaning.specs.Rules.ConstantRules.{ConstantSeen, constant_of, is_empty}
 use Rattle.dslx_meaning.specs.Rules.Judgings.{ArgPair}
-use Rattle.dslx_meaning.specs.Rules.ProcRules.{Made, depth_found, ends_found, made_at_start, made_with, makings_found, outlet_of, proc_seen, proc_sight, right_spawn, spawn_found, spawn_of}
-use Rattle.dslx_typing.proofs.OnJudged.OfCalls.{EachReaches, given_reach, instance_reached, numbers_reach}
+use Rattle.dslx_meaning.specs.Rules.ProcRules.{Made, depth_found, ends_found, made_at_start, made_with, makings_found, outlet_of, proc_numbers, proc_seen, proc_sight, right_spawn, spawn_found, spawn_of}
+use Rattle.dslx_typing.proofs.OnJudged.OfCalls.{EachReaches, given_reach, instance_reached, judged_reaches}
 use Rattle.dslx_tree.specs.declared.item.Function.{Function}
 use Rattle.dslx_tree.specs.declared.item.Item.{Item}
 use Rattle.dslx_tree.specs.declared.item.Module.{Module}
@@ -38,7 +38,7 @@ use Rattle.dslx_meaning.specs.Items.{as_function, item_named, name_of_definition
 use Rattle.dslx_meaning.specs.declared.ty.DslxType.{DslxType}
 use Rattle.dslx_meaning.specs.declared.value.DslxValue.{DslxValue}
 use Rattle.dslx_meaning.specs.Rules.ItemRules.{ConstantFound, annotation_judged, base_if_bits, fields_found, judged_type, member_constant, members_found, only_faults, arguments_found, arguments_typed, body_judged, bound_with, default_found, function_seen, function_sight, item_sight, judged_inner, number_at, numbers_behind, parameters_found, result_judged}
-use Rattle.dslx_meaning.specs.Rules.Judging.{ExprPair, Instance, Known, Sight, alone, bare_of, breaks, breaks_if, has_broken, reached_of_all, span_of, with_typed, within}
+use Rattle.dslx_meaning.specs.Rules.Judging.{ExprPair, Instance, Known, Sight, alone, bare_of, breaks, breaks_if, reached_of_all, span_of, with_typed, within}
 use Rattle.dslx_meaning.specs.Rules.Mentions.{arg_if, ends_mentions, is_cyclic, making_mentions, mention, mentioned_in_arg, proc_mentions, Use, AsFunction, AsEnum, AsPattern, AsProc, AsStruct, AsType, AsValue, Mention, definition_mentions, expr_if, field_names, fields_mentions, is_of_use, mentioned, mentioned_in_block, mentioned_in_type, mentions_of, names_meant, parameter_names, parameters_mentions, type_if}
 use Rattle.dslx_meaning.specs.Rules.ModuleRules.{found_of_instance, found_of_item, item_found, known_nothing, known_over, known_within}
 use Rattle.dslx_meaning.specs.Rules.NodeRules.{arg_pair, expr_pair}
@@ -101,25 +101,25 @@ constant_reached : (P : List ℕ → Bool) (known : Known) (sight : Sight) → s
 constant_reached P known sight same e bound h =
     unmarked P (span_of (expr_pair e)) (within sight (expr_pair e)) (expression_reaches P e bound false sight (subst (λ k. MentionsReach P k (expr_if (Some e) bound)) (sym same) h))
 
-pub default_reached : (P : List ℕ → Bool) (known : Known) (o : Option Expr) (bound : List (List ℕ)) → MentionsReach P known (expr_if o bound) → (home : List ℕ) (so_far : List Given) (unknown : List (List ℕ)) (e : Expr) → o ≡ Some e
-    → AllNamed P ((known_over known).default_in home so_far unknown e).judgement.reached
-default_reached P known o bound h home so_far unknown e q =
-    constant_reached P known (record (item_sight known home so_far) { unknown = unknown }) refl e bound (subst (λ x. MentionsReach P known (expr_if x bound)) q h)
+pub default_reached : (P : List ℕ → Bool) (known : Known) (o : Option Expr) (bound : List (List ℕ)) → MentionsReach P known (expr_if o bound) → (home : List ℕ) (so_far : List Given) (e : Expr) → o ≡ Some e
+    → AllNamed P ((known_over known).default_in home so_far e).judgement.reached
+default_reached P known o bound h home so_far e q =
+    constant_reached P known (item_sight known home so_far) refl e bound (subst (λ x. MentionsReach P known (expr_if x bound)) q h)
 
 pub parameters_reach : (P : List ℕ → Bool) (known : Known) (home : List ℕ) (ps : List Parameter) (bound : List (List ℕ)) → MentionsReach P known (parameters_mentions ps bound) → EachParameterReaches P (known_over known) home ps
 parameters_reach P known home [] bound h = tt
 parameters_reach P known home (p ∷ ps) bound h =
     let r = three_parts P known (mentioned_in_type p.ty bound) (expr_if p.default bound) (parameters_mentions ps (p.name.name ∷ bound)) h in (
       record {
-        ty = λ so_far unknown. inner_reaches P known (record (item_sight known home so_far) { unknown = unknown }) refl p.ty bound r.0;
-        default = λ so_far unknown e q. default_reached P known p.default bound r.1 home so_far unknown e q;
+        ty = λ so_far. inner_reaches P known (item_sight known home so_far) refl p.ty bound r.0;
+        default = λ so_far e q. default_reached P known p.default bound r.1 home so_far e q;
       },
       parameters_reach P known home ps (p.name.name ∷ bound) r.2,
     )
 
 nothing_reached : (P : List ℕ → Bool) (m : Module) (home : List ℕ) (ps : List Parameter) → EachParameterReaches P (known_nothing m) home ps
 nothing_reached P m home [] = tt
-nothing_reached P m home (p ∷ ps) = (record { ty = λ so_far unknown. tt; default = λ so_far unknown e q. tt }, nothing_reached P m home ps)
+nothing_reached P m home (p ∷ ps) = (record { ty = λ so_far. tt; default = λ so_far e q. tt }, nothing_reached P m home ps)
 
 -- ---- chains of items
 
@@ -292,7 +292,7 @@ found_spawn P sight made s bound h =
     r = parts P sight.known (mention AsProc s.target.name) (flat_map (λ a. mentioned_in_arg a bound) s.arguments) h
 
     seen : Proc → NumbersSeen
-    seen p = numbers_seen sight.known p.name.name [] [] [] [] p.parameters given
+    seen p = proc_numbers sight.known p given
 
     cyclic : Proc → List Fault
     cyclic p = breaks_if (is_cyclic sight.known.whole sight.home p.name.name) 3 s.span
@@ -301,8 +301,8 @@ found_spawn P sight made s bound h =
         → AllNamed P (if b then right_spawn sight made s p (cyclic p) (seen p) else only_faults (cyclic p ++ breaks 10 s.span ∷ [])).reached
     by_count p q false = tt
     by_count p q true =
-        join P (seen p).reached (reached_by (has_broken (cyclic p) || (seen p).is_wrong) p.name.name (seen p).values)
-        (numbers_reach P sight.known p.name.name [] [] [] [] p.parameters given q.parameters) (instance_reached P (has_broken (cyclic p) || (seen p).is_wrong) p.name.name (seen p).values q.own)
+        join P (judged_there (cyclic p) (seen p)).reached (reached_by (is_refused (cyclic p) (seen p)) p.name.name (seen p).values)
+        (judged_reaches P sight.known p.name.name [] [] p.parameters given (cyclic p) q.parameters) (instance_reached P (is_refused (cyclic p) (seen p)) p.name.name (seen p).values q.own)
 
     by_proc : (o : Option Proc) → as_proc (item_named s.target.name sight.known.whole.items) ≡ o → AllNamed P (spawn_of sight made s given o).reached
     by_proc None q = tt

@@ -24,7 +24,7 @@ use Rattle.dslx_meaning.specs.declared.ty.DslxType as ty
 use Rattle.dslx_meaning.specs.declared.ty.DslxType.TheOpen.{DslxType-F}
 use Rattle.dslx_meaning.specs.declared.ty.DslxType.TheViews as views
 use Rattle.dslx_meaning.specs.declared.value.DslxValue.{DslxValue}
-use Rattle.dslx_meaning.specs.Rules.CallRules.{declared_type}
+use Rattle.dslx_meaning.specs.Rules.CallRules.{declared_type, known_before}
 use Rattle.dslx_meaning.specs.Rules.Judging.{DefaultSeen, Judgement, Known}
 use Rattle.dslx_meaning.specs.Rules.Mentions.{AsType, is_of_use}
 use Rattle.dslx_meaning.specs.Rules.NameRules.{has_member}
@@ -193,28 +193,28 @@ module _ (w : ℕ) (P : List ℕ → Bool) (known : Known) where
   no_fault : {X : Type 0} → refused.faults ≡ [] → X
   no_fault k = absurd (true≢false (ap some_faults k))
 
-  not_fine : {X : Type 0} (home : List ℕ) → P home ≡ false → (so_far : List Given) (unknown : List (List ℕ)) (p : Parameter) → (F.type_seen_in home so_far unknown p.ty).faults ≡ [] → X
-  not_fine home p so_far unknown q e = no_fault (sym (ap (λ (j : Judgement). j.faults) (other home (known.type_seen_in home so_far unknown q.ty) refused p)) ∙ e)
+  not_fine : {X : Type 0} (home : List ℕ) → P home ≡ false → (so_far : List Given) (p : Parameter) → (F.type_seen_in home so_far p.ty).faults ≡ [] → X
+  not_fine home p so_far q e = no_fault (sym (ap (λ (j : Judgement). j.faults) (other home (known.type_seen_in home so_far q.ty) refused p)) ∙ e)
 
   abbrev nothing_seen : DefaultSeen
   nothing_seen = record { judgement = refused; value = None }
 
-  default_not_fine : {X : Type 0} (home : List ℕ) → P home ≡ false → (so_far : List Given) (unknown : List (List ℕ)) (x : Expr) → (F.default_in home so_far unknown x).judgement.faults ≡ [] → X
-  default_not_fine home p so_far unknown x e = no_fault (sym (ap (λ (d : DefaultSeen). d.judgement.faults) (other home (known.default_in home so_far unknown x) nothing_seen p)) ∙ e)
+  default_not_fine : {X : Type 0} (home : List ℕ) → P home ≡ false → (so_far : List Given) (x : Expr) → (F.default_in home so_far x).judgement.faults ≡ [] → X
+  default_not_fine home p so_far x e = no_fault (sym (ap (λ (d : DefaultSeen). d.judgement.faults) (other home (known.default_in home so_far x) nothing_seen p)) ∙ e)
 
-  no_type : (home : List ℕ) → P home ≡ false → (so_far : List Given) (t : TypeExpr) → F.type_in home so_far t ≡ None
-  no_type home p so_far t = other home (known.type_in home so_far t) None p
+  no_type : (home : List ℕ) → P home ≡ false → (so_far : List Given) (t : TypeExpr) → F.type_in home so_far [] t ≡ None
+  no_type home p so_far t = other home (known.type_in home so_far [] t) None p
 
-  no_declared : {X : Type 0} (home : List ℕ) → P home ≡ false → (so_far : List Given) (t : TypeExpr) (u : DslxType) → declared_type F home so_far t ≡ Some u → X
+  no_declared : {X : Type 0} (home : List ℕ) → P home ≡ false → (so_far : List Given) (t : TypeExpr) (u : DslxType) → declared_type F home (known_before so_far) t ≡ Some u → X
   no_declared home p so_far t u e = none_some u (sym (ap (λ o. and_then o (λ t. if is_unit t then None else Some t)) (no_type home p so_far t)) ∙ e)
 
-  no_default : {X : Type 0} (home : List ℕ) → P home ≡ false → (so_far : List Given) (unknown : List (List ℕ)) (x : Expr) (v : DslxValue) → (F.default_in home so_far unknown x).value ≡ Some v → X
-  no_default home p so_far unknown x v e = none_some v (sym (ap (λ (d : DefaultSeen). d.value) (other home (known.default_in home so_far unknown x) nothing_seen p)) ∙ e)
+  no_default : {X : Type 0} (home : List ℕ) → P home ≡ false → (so_far : List Given) (x : Expr) (v : DslxValue) → (F.default_in home so_far x).value ≡ Some v → X
+  no_default home p so_far x v e = none_some v (sym (ap (λ (d : DefaultSeen). d.value) (other home (known.default_in home so_far x) nothing_seen p)) ∙ e)
 
   mean_filled : (items : Meanings) (home : List ℕ) → P home ≡ false → (so_far : List Given) (ps : List Parameter) → ParametersMean F items home so_far ps
   mean_filled items home p so_far [] = tt
   mean_filled items home p so_far (q ∷ ps) = (
-    record { types = λ t e. none_some t (sym (no_type home p so_far q.ty) ∙ e); defaults = λ x v e k. no_default home p so_far [] x v k },
+    record { types = λ t e. none_some t (sym (no_type home p so_far q.ty) ∙ e); defaults = λ x v e k. no_default home p so_far x v k },
     λ t v e g. no_declared home p so_far q.ty t e,
   )
 
@@ -223,8 +223,8 @@ module _ (w : ℕ) (P : List ℕ → Bool) (known : Known) where
   parameters_filled home p so_far (q ∷ ps) = (
     record {
       declared = λ t e. none_some t (sym (no_type home p so_far q.ty) ∙ e);
-      typed = λ fine. not_fine home p so_far [] q fine.faults;
-      default = λ x e fine. default_not_fine home p so_far [] x fine.faults;
+      typed = λ fine. not_fine home p so_far q fine.faults;
+      default = λ x e fine. default_not_fine home p so_far x fine.faults;
     },
     λ t v e g. no_declared home p so_far q.ty t e,
   )

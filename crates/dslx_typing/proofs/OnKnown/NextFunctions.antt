@@ -17,7 +17,7 @@ use Rattle.dslx_meaning.specs.Types.{is_unit}
 use Rattle.dslx_meaning.specs.Values.{type_of_value}
 use Rattle.dslx_meaning.specs.declared.ty.DslxType.{DslxType}
 use Rattle.dslx_meaning.specs.declared.value.DslxValue.{DslxValue}
-use Rattle.dslx_meaning.specs.Rules.CallRules.{declared_type, result_type}
+use Rattle.dslx_meaning.specs.Rules.CallRules.{declared_type, known_before, result_type}
 use Rattle.dslx_meaning.specs.Rules.ConstantRules.{is_empty}
 use Rattle.dslx_meaning.specs.Rules.ItemRules.{arguments_found, body_judged, arguments_typed, function_seen, function_sight, item_sight, judged_inner, parameters_found, result_judged}
 use Rattle.dslx_meaning.specs.Rules.Judging.{DefaultSeen, Instance, Judgement, Known}
@@ -49,9 +49,9 @@ use Rattle.dslx_typing.proofs.OnKnown.OnFilled.{stage_filled}
 
 -- what is known of the text of an item, whatever it is that the text mentions
 pub record AlikeAt (home : List ℕ) (a b : Known) : Type 0 where
-  pub ty : (so_far : List Given) (t : TypeExpr) → a.type_in home so_far t ≡ b.type_in home so_far t
-  pub seen : (so_far : List Given) (t : TypeExpr) → a.type_seen_in home so_far [] t ≡ b.type_seen_in home so_far [] t
-  pub default : (so_far : List Given) (e : Expr) → a.default_in home so_far [] e ≡ b.default_in home so_far [] e
+  pub ty : (so_far : List Given) (t : TypeExpr) → a.type_in home so_far [] t ≡ b.type_in home so_far [] t
+  pub seen : (so_far : List Given) (t : TypeExpr) → a.type_seen_in home so_far t ≡ b.type_seen_in home so_far t
+  pub default : (so_far : List Given) (e : Expr) → a.default_in home so_far e ≡ b.default_in home so_far e
 
 module _ (m : Module) (free : HasNoCycle m) (plain : BindsNoConstant m) (fine : EachItemFine m) (k : ℕ) (stand : (w : ℕ) → PassingStand w (passes m k) (known_of m))
     (G : Known) (s : of.Stage (passes m (suc k)) m (known_of m) G)
@@ -114,7 +114,7 @@ module _ (m : Module) (free : HasNoCycle m) (plain : BindsNoConstant m) (fine : 
 
   -- ---- types and defaults of number parameters
 
-  shown : (so_far : List Given) (t : TypeExpr) → G.type_in home so_far t ≡ K.type_in home so_far t
+  shown : (so_far : List Given) (t : TypeExpr) → G.type_in home so_far [] t ≡ K.type_in home so_far [] t
   shown so_far t = alike.ty so_far t
 
   -- a part is judged with nothing wrong over either as it is by what passes
@@ -153,19 +153,19 @@ module _ (m : Module) (free : HasNoCycle m) (plain : BindsNoConstant m) (fine : 
   abbrev OverAlike : List Parameter → Type 0
   OverAlike ps = EachParameterAlike K (known_over K) home ps × EachParameterAlike (known_over K) (known_over (F 1)) home ps × EachParameterAlike (known_over K) (known_over (F 2)) home ps
 
-  declared_one : (v : ℕ) (so_far : List Given) (p : Parameter) (t : DslxType) → AreOwn (types v) so_far → K.type_in home so_far p.ty ≡ (known_over K).type_in home so_far p.ty
-      → (known_over K).type_in home so_far p.ty ≡ (known_over (F v)).type_in home so_far p.ty → G.type_in home so_far p.ty ≡ Some t
+  declared_one : (v : ℕ) (so_far : List Given) (p : Parameter) (t : DslxType) → AreOwn (types v) so_far → K.type_in home so_far [] p.ty ≡ (known_over K).type_in home so_far [] p.ty
+      → (known_over K).type_in home so_far [] p.ty ≡ (known_over (F v)).type_in home so_far [] p.ty → G.type_in home so_far [] p.ty ≡ Some t
       → (written_type p.ty (env_of (F v) so_far) ≡ Some t) × IsDeclared (types v) t
   declared_one v so_far p t own x y e = (parameter_stands (F v) (complete v) (typed v) home p).means so_far t own (sym y ∙ sym x ∙ sym (shown so_far p.ty) ∙ e)
 
   moved : (v : ℕ) (t : DslxType) (x : DslxValue) → IsDeclared (types v) t → GivesOf next t (Some x) → GivesOf (types v) t (Some x)
   moved v t x h g = record { value = g.value; is = g.is; of = g.of; declared = h }
 
-  behind : (so_far : List Given) (p : Parameter) (ps : List Parameter) (t : DslxType) (x : DslxValue) → OverAlike (p ∷ ps) → Bound so_far → declared_type G home so_far p.ty ≡ Some t → GivesOf next t (Some x) → Bound (with_number so_far p x)
+  behind : (so_far : List Given) (p : Parameter) (ps : List Parameter) (t : DslxType) (x : DslxValue) → OverAlike (p ∷ ps) → Bound so_far → declared_type G home (known_before so_far) p.ty ≡ Some t → GivesOf next t (Some x) → Bound (with_number so_far p x)
   behind so_far p ps t x a own e g =
       let there = declared_is G home so_far p.ty t e in
-      let one = declared_one 1 so_far p t own.0 (a.0.0.ty so_far) (a.1.0.ty so_far) there in
-      let two = declared_one 2 so_far p t own.1 (a.0.0.ty so_far) (a.2.0.ty so_far) there in (
+      let one = declared_one 1 so_far p t own.0 (a.0.0.ty so_far []) (a.1.0.ty so_far []) there in
+      let two = declared_one 2 so_far p t own.1 (a.0.0.ty so_far []) (a.2.0.ty so_far []) there in (
         own_more (types 1) so_far p x own.0 (own_value (types 1) t (Some x) x refl (moved 1 t x one.1 g)),
         own_more (types 2) so_far p x own.1 (own_value (types 2) t (Some x) x refl (moved 2 t x two.1 g)),
       )
@@ -173,17 +173,17 @@ module _ (m : Module) (free : HasNoCycle m) (plain : BindsNoConstant m) (fine : 
   type_reached : (names : List (List ℕ)) (so_far : List Given) (t : TypeExpr) → Meant (mentioned_in_type t names) → AllNamed P (judged_inner (item_sight K home so_far) t).reached
   type_reached names so_far t h = written_type_reaches P t names (item_sight K home so_far) ((stage_filled m 1 k).reach (mentioned_in_type t names) h)
 
-  shown_default : (so_far : List Given) (x : Expr) → G.default_in home so_far [] x ≡ K.default_in home so_far [] x
+  shown_default : (so_far : List Given) (x : Expr) → G.default_in home so_far x ≡ K.default_in home so_far x
   shown_default so_far x = alike.default so_far x
 
-  shown_seen : (so_far : List Given) (t : TypeExpr) → G.type_seen_in home so_far [] t ≡ K.type_seen_in home so_far [] t
+  shown_seen : (so_far : List Given) (t : TypeExpr) → G.type_seen_in home so_far t ≡ K.type_seen_in home so_far t
   shown_seen so_far t = alike.seen so_far t
 
-  default_reached_of : (names : List (List ℕ)) (p : Parameter) → Meant (expr_if p.default names) → (so_far : List Given) (x : Expr) → p.default ≡ Some x → AllNamed P (default_known K home so_far [] x).judgement.reached
-  default_reached_of names p h so_far x e = default_reached P K p.default names ((stage_filled m 1 k).reach (expr_if p.default names) h) home so_far [] x e
+  default_reached_of : (names : List (List ℕ)) (p : Parameter) → Meant (expr_if p.default names) → (so_far : List Given) (x : Expr) → p.default ≡ Some x → AllNamed P (default_known K home so_far x).judgement.reached
+  default_reached_of names p h so_far x e = default_reached P K p.default names ((stage_filled m 1 k).reach (expr_if p.default names) h) home so_far x e
 
-  default_both : (so_far : List Given) (x : Expr) → G.default_in home so_far [] x ≡ default_known (F 1) home so_far [] x → G.default_in home so_far [] x ≡ default_known (F 2) home so_far [] x
-      → IsDefaultKnown (types 1) (default_known (F 1) home so_far [] x) → IsDefaultKnown (types 2) (default_known (F 2) home so_far [] x) → IsDefaultKnown next (G.default_in home so_far [] x)
+  default_both : (so_far : List Given) (x : Expr) → G.default_in home so_far x ≡ default_known (F 1) home so_far x → G.default_in home so_far x ≡ default_known (F 2) home so_far x
+      → IsDefaultKnown (types 1) (default_known (F 1) home so_far x) → IsDefaultKnown (types 2) (default_known (F 2) home so_far x) → IsDefaultKnown next (G.default_in home so_far x)
   default_both so_far x one two a b =
       let same : b.value ≡ a.value = same_some b.value a.value (sym b.is ∙ ap (λ (c : DefaultSeen). c.value) (sym two ∙ one) ∙ a.is) in
       record {
@@ -213,11 +213,11 @@ module _ (m : Module) (free : HasNoCycle m) (plain : BindsNoConstant m) (fine : 
       both : Meant (mentioned_in_type p.ty names) × Meant (expr_if p.default names)
       both = meant_parts P m (mentioned_in_type p.ty names) (expr_if p.default names) (front names p ps h).0
 
-      one : (x : Expr) → p.default ≡ Some x → G.default_in home so_far [] x ≡ default_known (F 1) home so_far [] x
-      one x e = shown_default so_far x ∙ a.0.0.default so_far [] x e ∙ a.1.0.default so_far [] x e
+      one : (x : Expr) → p.default ≡ Some x → G.default_in home so_far x ≡ default_known (F 1) home so_far x
+      one x e = shown_default so_far x ∙ a.0.0.default so_far x e ∙ a.1.0.default so_far x e
 
-      two : (x : Expr) → p.default ≡ Some x → G.default_in home so_far [] x ≡ default_known (F 2) home so_far [] x
-      two x e = shown_default so_far x ∙ a.0.0.default so_far [] x e ∙ a.2.0.default so_far [] x e
+      two : (x : Expr) → p.default ≡ Some x → G.default_in home so_far x ≡ default_known (F 2) home so_far x
+      two x e = shown_default so_far x ∙ a.0.0.default so_far x e ∙ a.2.0.default so_far x e
 
       first : ParameterStands (F 1) home p
       first = parameter_stands (F 1) (complete 1) (typed 1) home p
@@ -227,31 +227,31 @@ module _ (m : Module) (free : HasNoCycle m) (plain : BindsNoConstant m) (fine : 
 
       means : ParameterMeans G G.items home so_far p
       means = record {
-        types = λ t e. same_written names so_far given p.ty both.0 ∙ (declared_one 1 so_far p t own.0 (a.0.0.ty so_far) (a.1.0.ty so_far) e).0;
+        types = λ t e. same_written names so_far given p.ty both.0 ∙ (declared_one 1 so_far p t own.0 (a.0.0.ty so_far []) (a.1.0.ty so_far []) e).0;
         defaults = λ x v e z. same_value names so_far given x (subst (λ o. Meant (expr_if o names)) e both.1) ∙ first.default_means so_far x v (sym (ap (λ (c : DefaultSeen). c.value) (one x e)) ∙ z);
       }
 
       known_of_it : IsParameterKnown G home so_far p
       known_of_it = record {
-        declared = λ t e. carry t (declared_one 1 so_far p t own.0 (a.0.0.ty so_far) (a.1.0.ty so_far) e).1 (declared_one 2 so_far p t own.1 (a.0.0.ty so_far) (a.2.0.ty so_far) e).1;
+        declared = λ t e. carry t (declared_one 1 so_far p t own.0 (a.0.0.ty so_far []) (a.1.0.ty so_far []) e).1 (declared_one 2 so_far p t own.1 (a.0.0.ty so_far []) (a.2.0.ty so_far []) e).1;
         typed = λ z.
-            let r = first.typed so_far own.0 (fine_over 1 (G.type_seen_in home so_far [] p.ty) (judged_inner (item_sight K home so_far) p.ty) (judged_inner (item_sight (F 1) home so_far) p.ty)
-            (shown_seen so_far p.ty ∙ a.0.0.seen so_far []) (a.1.0.seen so_far []) (type_reached names so_far p.ty both.0) z) in
-            (r.0, shown so_far p.ty ∙ a.0.0.ty so_far ∙ a.1.0.ty so_far ∙ r.1, r.2);
+            let r = first.typed so_far own.0 (fine_over 1 (G.type_seen_in home so_far p.ty) (judged_inner (item_sight K home so_far) p.ty) (judged_inner (item_sight (F 1) home so_far) p.ty)
+            (shown_seen so_far p.ty ∙ a.0.0.seen so_far) (a.1.0.seen so_far) (type_reached names so_far p.ty both.0) z) in
+            (r.0, shown so_far p.ty ∙ a.0.0.ty so_far [] ∙ a.1.0.ty so_far [] ∙ r.1, r.2);
         default = λ x e z.
             let seen = λ (c : DefaultSeen). c.judgement in
-            let here = ap seen (shown_default so_far x ∙ a.0.0.default so_far [] x e) in
+            let here = ap seen (shown_default so_far x ∙ a.0.0.default so_far x e) in
             let reached = default_reached_of names p both.1 so_far x e in
             default_both so_far x (one x e) (two x e)
-            (first.default so_far x own.0 (fine_over 1 (G.default_in home so_far [] x).judgement (default_known K home so_far [] x).judgement (default_known (F 1) home so_far [] x).judgement here (ap seen (a.1.0.default so_far [] x e)) reached z))
-            (second.default so_far x own.1 (fine_over 2 (G.default_in home so_far [] x).judgement (default_known K home so_far [] x).judgement (default_known (F 2) home so_far [] x).judgement here (ap seen (a.2.0.default so_far [] x e)) reached z));
+            (first.default so_far x own.0 (fine_over 1 (G.default_in home so_far x).judgement (default_known K home so_far x).judgement (default_known (F 1) home so_far x).judgement here (ap seen (a.1.0.default so_far x e)) reached z))
+            (second.default so_far x own.1 (fine_over 2 (G.default_in home so_far x).judgement (default_known K home so_far x).judgement (default_known (F 2) home so_far x).judgement here (ap seen (a.2.0.default so_far x e)) reached z));
       }
 
   numbers_known : (names : List (List ℕ)) (so_far : List Given) → AllGiven names so_far → Bound so_far → (ps : List Parameter) → OverAlike ps → Meant (parameters_mentions ps names) → Both so_far ps
   numbers_known names so_far given own [] a h = (tt, tt)
   numbers_known names so_far given own (p ∷ ps) a h =
       let it = one_known names so_far given own p ps a h in
-      let rest = λ (t : DslxType) (x : DslxValue) (e : declared_type G home so_far p.ty ≡ Some t) (g : GivesOf next t (Some x)).
+      let rest = λ (t : DslxType) (x : DslxValue) (e : declared_type G home (known_before so_far) p.ty ≡ Some t) (g : GivesOf next t (Some x)).
       numbers_known (p.name.name ∷ names) (with_number so_far p x) ((x, given_here p.name.name x so_far), given_more names p.name.name x so_far given) (behind so_far p ps t x a own e g) ps (a.0.1, a.1.1, a.2.1) (front names p ps h).1 in
       ((it.0, λ t x e g. (rest t x e g).0), (it.1, λ t x e g. (rest t x e g).1))
 
@@ -261,8 +261,8 @@ module _ (m : Module) (free : HasNoCycle m) (plain : BindsNoConstant m) (fine : 
   own_both so_far own (p ∷ ps) a [] h = absurd h
   own_both so_far own (p ∷ ps) a (x ∷ xs) h =
       let there = declared_is G home so_far p.ty h.0.0 h.0.1 in
-      let one = declared_one 1 so_far p h.0.0 own.0 (a.0.0.ty so_far) (a.1.0.ty so_far) there in
-      let two = declared_one 2 so_far p h.0.0 own.1 (a.0.0.ty so_far) (a.2.0.ty so_far) there in
+      let one = declared_one 1 so_far p h.0.0 own.0 (a.0.0.ty so_far []) (a.1.0.ty so_far []) there in
+      let two = declared_one 2 so_far p h.0.0 own.1 (a.0.0.ty so_far []) (a.2.0.ty so_far []) there in
       let rest = own_both (with_number so_far p x) (behind so_far p ps h.0.0 x a own h.0.1 h.0.2) ps (a.0.1, a.1.1, a.2.1) xs h.1 in (
         (own_value (types 1) h.0.0 (Some x) x refl (moved 1 h.0.0 x one.1 h.0.2), rest.0),
         (own_value (types 2) h.0.0 (Some x) x refl (moved 2 h.0.0 x two.1 h.0.2), rest.1),
@@ -279,7 +279,7 @@ module _ (m : Module) (free : HasNoCycle m) (plain : BindsNoConstant m) (fine : 
   arguments_known : (bound : List Given) → Bound bound → (fs : List Field) → ArgumentsAlike fs → EachArgumentDeclared G home bound fs
   arguments_known bound own [] a = tt
   arguments_known bound own (x ∷ fs) a = (
-    (λ t e. carry t (declared_one 1 bound (as_parameter x) t own.0 (a.0.0 bound) (a.1.0 bound) e).1 (declared_one 2 bound (as_parameter x) t own.1 (a.0.0 bound) (a.2.0 bound) e).1),
+    (λ t e. carry t (declared_one 1 bound (as_parameter x) t own.0 (a.0.0 bound []) (a.1.0 bound []) e).1 (declared_one 2 bound (as_parameter x) t own.1 (a.0.0 bound []) (a.2.0 bound []) e).1),
     arguments_known bound own fs (a.0.1, a.1.1, a.2.1),
   )
 
@@ -296,9 +296,9 @@ module _ (m : Module) (free : HasNoCycle m) (plain : BindsNoConstant m) (fine : 
       let both = none_in j.faults rest.faults listed.1 in
       let reached = all_in (F 1).is_sound j.reached rest.reached h.reached in
       let r = inner_known (F 1) (complete 1) (typed 1) home bound own.0 (as_parameter x) (record { faults = both.0; reached = reached.0 }) in
-      let there = shown bound x.ty ∙ a.0.0 bound ∙ a.1.0 bound ∙ r.1 in
+      let there = shown bound x.ty ∙ a.0.0 bound [] ∙ a.1.0 bound [] ∙ r.1 in
       let declared = ap (λ o. and_then o (λ t. if is_unit t then None else Some t)) there ∙ (λ i. if (r.2 i) then None else Some r.0) in (
-        (r.0, r.1, moved 1 r.0 v (declared_one 1 bound (as_parameter x) r.0 own.0 (a.0.0 bound) (a.1.0 bound) (shown bound x.ty ∙ a.0.0 bound ∙ a.1.0 bound ∙ r.1)).1 (g.0 r.0 declared)),
+        (r.0, r.1, moved 1 r.0 v (declared_one 1 bound (as_parameter x) r.0 own.0 (a.0.0 bound []) (a.1.0 bound []) (shown bound x.ty ∙ a.0.0 bound [] ∙ a.1.0 bound [] ∙ r.1)).1 (g.0 r.0 declared)),
         operands_from bound own (x.name.name ∷ before) fs (a.0.1, a.1.1, a.2.1) (record { faults = both.1; reached = reached.1 }) vs g.1,
       )
 
@@ -321,14 +321,14 @@ module _ (m : Module) (free : HasNoCycle m) (plain : BindsNoConstant m) (fine : 
       let own = own_both [] none_bound f.parameters numbers_alike numbers fit in
       (own_bound (types 1) [] f.parameters numbers (none_own (F 1)) own.0, own_bound (types 2) [] f.parameters numbers (none_own (F 2)) own.1)
 
-  result_is : (v : ℕ) (bound : List Given) → result_type G home bound f.result ≡ (result_judged (item_sight (F v) home bound) f.result).ty
-  result_is v bound = passing f.result ∙ long.result bound ∙ (short v).result bound ∙ judged f.result
+  result_is : (v : ℕ) (bound : List Given) → result_type G home (known_before bound) f.result ≡ (result_judged (item_sight (F v) home bound) f.result).ty
+  result_is v bound = passing f.result ∙ long.result (known_before bound) ∙ (short v).result (known_before bound) ∙ judged f.result
     where
-      passing : (o : Option TypeExpr) → result_type G home bound o ≡ result_type K home bound o
+      passing : (o : Option TypeExpr) → result_type G home (known_before bound) o ≡ result_type K home (known_before bound) o
       passing None = refl
       passing (Some t) = shown bound t
 
-      judged : (o : Option TypeExpr) → result_type (known_over (F v)) home bound o ≡ (result_judged (item_sight (F v) home bound) o).ty
+      judged : (o : Option TypeExpr) → result_type (known_over (F v)) home (known_before bound) o ≡ (result_judged (item_sight (F v) home bound) o).ty
       judged None = refl
       judged (Some t) = refl
 

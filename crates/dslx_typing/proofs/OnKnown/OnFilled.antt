@@ -8,9 +8,8 @@ use Rattle.dslx_tree.specs.declared.item.Function.{Function}
 use Rattle.dslx_tree.specs.declared.item.Module.{Module}
 use Rattle.dslx_tree.specs.declared.item.Parameter.{Parameter}
 use Rattle.dslx_tree.specs.declared.type_expr.TypeExpr.{TypeExpr}
-use Rattle.dslx_meaning.specs.Environment.{Given}
 use Rattle.dslx_meaning.specs.Items.{item_named}
-use Rattle.dslx_meaning.specs.Rules.CallRules.{result_type}
+use Rattle.dslx_meaning.specs.Rules.CallRules.{Before, result_type}
 use Rattle.dslx_meaning.specs.Rules.Judging.{DefaultSeen, Known}
 use Rattle.dslx_meaning.specs.Rules.Mentions.{Use, AsValue, AsPattern, AsType, AsFunction, AsProc, AsEnum, AsStruct, is_of_use}
 use Rattle.dslx_meaning.specs.Rules.ModuleRules.{known_of}
@@ -93,20 +92,20 @@ module _ (m : Module) (w k : ℕ) where
       each_parameter [] = tt
       each_parameter (q ∷ ps) = (
         record {
-          ty = λ so_far. pass (P f.name.name) (K.type_in f.name.name so_far q.ty) None p;
-          seen = λ so_far unknown. pass (P f.name.name) (K.type_seen_in f.name.name so_far unknown q.ty) refused p;
-          default = λ so_far unknown e x. pass (P f.name.name) (K.default_in f.name.name so_far unknown e) nothing_seen p;
+          ty = λ so_far unknown. pass (P f.name.name) (K.type_in f.name.name so_far unknown q.ty) None p;
+          seen = λ so_far. pass (P f.name.name) (K.type_seen_in f.name.name so_far q.ty) refused p;
+          default = λ so_far e x. pass (P f.name.name) (K.default_in f.name.name so_far e) nothing_seen p;
         },
         each_parameter ps,
       )
 
       each_argument : (fs : List Field) → EachArgumentAlike K F f.name.name fs
       each_argument [] = tt
-      each_argument (x ∷ fs) = ((λ bound. pass (P f.name.name) (K.type_in f.name.name bound x.ty) None p), each_argument fs)
+      each_argument (x ∷ fs) = ((λ bound unknown. pass (P f.name.name) (K.type_in f.name.name bound unknown x.ty) None p), each_argument fs)
 
-      by_result : (o : Option TypeExpr) (bound : List Given) → result_type K f.name.name bound o ≡ result_type F f.name.name bound o
+      by_result : (o : Option TypeExpr) (bound : Before) → result_type K f.name.name bound o ≡ result_type F f.name.name bound o
       by_result None bound = refl
-      by_result (Some t) bound = pass (P f.name.name) (K.type_in f.name.name bound t) None p
+      by_result (Some t) bound = pass (P f.name.name) (K.type_in f.name.name bound.values bound.unknown t) None p
 
   used : (u : Use) (name : List ℕ) → P name ≡ true → UseAlike K F u name
   used AsValue name p = pass (P name) (K.items.constant name) (constant_filler w (item_of name)) p

@@ -74,9 +74,9 @@ module _ (m : Module) (free : HasNoCycle m) (plain : BindsNoConstant m) (fine : 
 
   alike_filled : (w k : ℕ) (home : List ℕ) → passes m k home ≡ true → AlikeAt home (filled w (passes m k) K) K
   alike_filled w k home p = record {
-    ty = λ so_far t. sym (pass (passes m k home) (K.type_in home so_far t) None p);
-    seen = λ so_far t. sym (pass (passes m k home) (K.type_seen_in home so_far [] t) refused p);
-    default = λ so_far e. sym (pass (passes m k home) (K.default_in home so_far [] e) (record { judgement = refused; value = None }) p);
+    ty = λ so_far t. sym (pass (passes m k home) (K.type_in home so_far [] t) None p);
+    seen = λ so_far t. sym (pass (passes m k home) (K.type_seen_in home so_far t) refused p);
+    default = λ so_far e. sym (pass (passes m k home) (K.default_in home so_far e) (record { judgement = refused; value = None }) p);
   }
 
   one_more : (k : ℕ) → ((w : ℕ) → PassingStand w (passes m k) K) → (w : ℕ) → PassingStand w (passes m (suc k)) K
@@ -157,11 +157,11 @@ module _ (m : Module) (free : HasNoCycle m) (plain : BindsNoConstant m) (fine : 
 
   each_same : (home : List ℕ) (ps : List Parameter) → EachParameterAlike K K home ps
   each_same home [] = tt
-  each_same home (p ∷ ps) = (record { ty = λ so_far. refl; seen = λ so_far unknown. refl; default = λ so_far unknown e q. refl }, each_same home ps)
+  each_same home (p ∷ ps) = (record { ty = λ so_far unknown. refl; seen = λ so_far. refl; default = λ so_far e q. refl }, each_same home ps)
 
   each_argument : (home : List ℕ) (fs : List Field) → EachArgumentAlike K K home fs
   each_argument home [] = tt
-  each_argument home (f ∷ fs) = ((λ bound. refl), each_argument home fs)
+  each_argument home (f ∷ fs) = ((λ bound unknown. refl), each_argument home fs)
 
   one_use : (u : Use) (name : List ℕ) → UseAlike K K u name
   one_use AsValue name = refl

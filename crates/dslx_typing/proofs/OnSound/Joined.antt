@@ -17,7 +17,7 @@ use Rattle.dslx_meaning.specs.Lists.{with_both}
 use Rattle.dslx_meaning.specs.Environment.{Env}
 use Rattle.dslx_meaning.specs.Meaning.{Meant, PatternMeant, Typing, call_meant, meant, meant_arg, meant_pattern, value_of, value_of_block, values_of, written_type}
 use Rattle.dslx_meaning.specs.declared.value.Bare.{Bare}
-use Rattle.dslx_meaning.specs.Rules.CallRules.{call_judged, receiving, receiving_if, sending, sending_if}
+use Rattle.dslx_meaning.specs.Rules.CallRules.{call_judged, receiving, receiving_if, sending, sending_if, unnumbered_effect}
 use Rattle.dslx_meaning.specs.Rules.ControlRules.{same_ends, span_of_block}
 use Rattle.dslx_meaning.specs.Rules.ConstantRules.{constant_of}
 use Rattle.dslx_meaning.specs.Rules.Judging.{ExprPair, Judging, Sight, alone, breaks, no_token, settled, span_of}
@@ -173,10 +173,10 @@ call_claim AllOnes span f numbers es sight env h fine = builtin_has AllOnes span
 call_claim SomeOne span f numbers es sight env h fine = builtin_has SomeOne span sight env f.name (map (λ (p : ArgPart). p.0) numbers) (map (λ (p : ArgPart). p.1) numbers) (map (λ (p : ExprPart). p.0) es) (map (λ (p : ExprPart). p.1) es) tt (as_many numbers) (each_expr es) h fine
 call_claim Parity span f numbers es sight env h fine = builtin_has Parity span sight env f.name (map (λ (p : ArgPart). p.0) numbers) (map (λ (p : ArgPart). p.1) numbers) (map (λ (p : ExprPart). p.0) es) (map (λ (p : ExprPart). p.1) es) tt (as_many numbers) (each_expr es) h fine
 call_claim Updates span f numbers es sight env h fine = builtin_has Updates span sight env f.name (map (λ (p : ArgPart). p.0) numbers) (map (λ (p : ArgPart). p.1) numbers) (map (λ (p : ExprPart). p.0) es) (map (λ (p : ExprPart). p.1) es) tt (as_many numbers) (each_expr es) h fine
-call_claim Receives span f numbers es sight env h fine = some_fault (breaks 28 span) [] (none_in (receiving span sight (map (λ (p : ExprPart). p.0) es)).faults (breaks 28 span ∷ []) fine.faults).1
-call_claim ReceivesIf span f numbers es sight env h fine = some_fault (breaks 28 span) [] (none_in (receiving_if span sight (map (λ (p : ExprPart). p.0) es)).faults (breaks 28 span ∷ []) fine.faults).1
-call_claim Sends span f numbers es sight env h fine = some_fault (breaks 28 span) [] (none_in (sending span sight (map (λ (p : ExprPart). p.0) es)).faults (breaks 28 span ∷ []) fine.faults).1
-call_claim SendsIf span f numbers es sight env h fine = some_fault (breaks 28 span) [] (none_in (sending_if span sight (map (λ (p : ExprPart). p.0) es)).faults (breaks 28 span ∷ []) fine.faults).1
+call_claim Receives span f numbers es sight env h fine = some_fault (breaks 28 span) [] (none_in (unnumbered_effect span sight (map (λ (p : ArgPart). p.0) numbers) (map (λ (p : ExprPart). p.0) es) (receiving span sight (map (λ (p : ExprPart). p.0) es))).faults (breaks 28 span ∷ []) fine.faults).1
+call_claim ReceivesIf span f numbers es sight env h fine = some_fault (breaks 28 span) [] (none_in (unnumbered_effect span sight (map (λ (p : ArgPart). p.0) numbers) (map (λ (p : ExprPart). p.0) es) (receiving_if span sight (map (λ (p : ExprPart). p.0) es))).faults (breaks 28 span ∷ []) fine.faults).1
+call_claim Sends span f numbers es sight env h fine = some_fault (breaks 28 span) [] (none_in (unnumbered_effect span sight (map (λ (p : ArgPart). p.0) numbers) (map (λ (p : ExprPart). p.0) es) (sending span sight (map (λ (p : ExprPart). p.0) es))).faults (breaks 28 span ∷ []) fine.faults).1
+call_claim SendsIf span f numbers es sight env h fine = some_fault (breaks 28 span) [] (none_in (unnumbered_effect span sight (map (λ (p : ArgPart). p.0) numbers) (map (λ (p : ExprPart). p.0) es) (sending_if span sight (map (λ (p : ExprPart). p.0) es))).faults (breaks 28 span ∷ []) fine.faults).1
 call_claim Calls span f numbers es sight env h fine =
     function_has span sight env f (map (λ (p : ArgPart). p.0) numbers) (map (λ (p : ArgPart). p.1) numbers) (map (λ (p : ExprPart). p.0) es) (map (λ (p : ExprPart). p.1) es) (each_arg numbers) (each_expr es) h fine
 

@@ -19,7 +19,7 @@ use Rattle.dslx_meaning.specs.Meaning.{Meant, values_of}
 use Rattle.dslx_meaning.specs.declared.ty.DslxType.{DslxType}
 use Rattle.dslx_meaning.specs.declared.value.DslxValue.{DslxValue}
 use Rattle.dslx_meaning.specs.Rules.AggregateRules.{wanted_faults, when_all}
-use Rattle.dslx_meaning.specs.Rules.CallRules.{GivenNumber, NumbersSeen, call_parts_faults, call_parts_reached, call_type, callee_size, declared_type, function_call, given_judgements, given_numbers, has_right_count, inferred_by, maybe_inferred, numbers_seen, operand_faults, reached_by, result_type, right_call, wrong_call}
+use Rattle.dslx_meaning.specs.Rules.CallRules.{GivenNumber, JudgedThere, NumbersSeen, call_numbers, call_parts_faults, call_parts_reached, call_type, callee_size, declared_type, function_call, given_judgements, given_numbers, has_right_count, inferred_by, is_refused, judged_there, known_before, maybe_inferred, numbers_seen, operand_faults, reached_by, result_type, right_call, wrong_call}
 use Rattle.dslx_meaning.specs.Rules.Judging.{ExprPair, Judgement, Known, Sight, all_alone, alone, breaks, breaks_if, faults_of_all, has_broken, one_and, plus_size, reached_of_all, size_of_all, span_of, types_of}
 use Rattle.dslx_meaning.specs.Rules.Judgings.{ArgPair}
 use Rattle.dslx_meaning.specs.Rules.Mentions.{is_cyclic}
@@ -32,7 +32,7 @@ use Rattle.dslx_typing.specs.Typed.WellTyped.{IsWellTyped, types_at}
 use Rattle.dslx_typing.proofs.Lemmas.Typed.{all_are, declared_is, inferred_alike, list_parts, numbers_found, one_of_text, one_type, same_some}
 use Rattle.dslx_typing.specs.Sound.Sound.{EachExprGives, HasItsValue}
 use Rattle.dslx_typing.proofs.OnSound.OfBuiltins.{wrongly_called}
-use Rattle.dslx_typing.proofs.OnSound.OfNumbers.{EachGiven, numbers_given, numbers_known}
+use Rattle.dslx_typing.proofs.OnSound.OfNumbers.{EachGiven, NumbersFine, judged_right, numbers_given, numbers_known}
 use Rattle.dslx_typing.proofs.OnSound.Fine.{all_in, all_in_three, alone_has, none_in, none_in_three, not_broken, passed, settled_fine, some_fault}
 
 -- ---- operands
@@ -64,7 +64,7 @@ operands_have sight env h (e ∷ es) (x ∷ xs) k f r =
 
 -- they are of the types of the arguments
 fit : (sight : Sight) (home : List ℕ) (bound : List Given) (fs : List Field) (es : List ExprPair) (vs : List DslxValue) → EachArgumentDeclared sight.known home bound fs → length es ≡ length fs
-    → types_of (all_alone sight es) ≡ map Some (map type_of_value vs) → AllOwn (types_at sight) vs → operand_faults sight.known home bound fs es (all_alone sight es) ≡ [] → FitArguments sight.known home bound fs vs
+    → types_of (all_alone sight es) ≡ map Some (map type_of_value vs) → AllOwn (types_at sight) vs → operand_faults sight.known home (known_before bound) fs es (all_alone sight es) ≡ [] → FitArguments sight.known home bound fs vs
 fit sight home bound [] [] [] known n typed own f = tt
 fit sight home bound [] [] (v ∷ vs) known n typed own f = some_fault (Some (type_of_value v)) (map Some (map type_of_value vs)) (sym typed)
 fit sight home bound [] (e ∷ es) vs known n typed own f = absurd (none_long n)
@@ -77,7 +77,7 @@ fit sight home bound (g ∷ fs) [] vs known n typed own f = absurd (none_long n)
     none_long q = omega (arith, q)
 fit sight home bound (g ∷ fs) (e ∷ es) [] known n typed own f = some_fault (alone sight e).ty (types_of (all_alone sight es)) typed
 fit sight home bound (g ∷ fs) (e ∷ es) (v ∷ vs) known n typed own f =
-    let p = none_in (wanted_faults (span_of e) (declared_type sight.known home bound g.ty) (alone sight e).ty) (operand_faults sight.known home bound fs es (all_alone sight es)) f in
+    let p = none_in (wanted_faults (span_of e) (declared_type sight.known home (known_before bound) g.ty) (alone sight e).ty) (operand_faults sight.known home (known_before bound) fs es (all_alone sight es)) f in
     let q = list_parts (alone sight e).ty (Some (type_of_value v)) (types_of (all_alone sight es)) (map Some (map type_of_value vs)) typed in
     let fewer : length es ≡ length fs = omega (arith, n) in (
       (λ t d.
@@ -105,13 +105,12 @@ pub record IsRight (known : Known) (sight : Sight) (span : Span) (f : Function) 
   pub numbers_given : faults_of_all (given_judgements gs) ≡ []
   pub operands_given : faults_of_all js ≡ []
   pub no_cycle : cyclic ≡ []
-  pub numbers : n.faults ≡ []
   pub right : n.is_wrong ≡ false
   pub operands : (if n.is_wrong then [] else operand_faults sight.known f.name.name n.bound f.arguments es js) ≡ []
   pub numbers_reach : list_all known.is_sound (reached_of_all (given_judgements gs)) ≡ true
   pub operands_reach : list_all known.is_sound (reached_of_all js) ≡ true
-  pub defaults_reach : list_all known.is_sound n.reached ≡ true
-  pub found : list_all known.is_sound (reached_by (has_broken cyclic || n.is_wrong) f.name.name n.values) ≡ true
+  pub fine : NumbersFine known n
+  pub found : list_all known.is_sound (reached_by (is_refused cyclic n) f.name.name n.values) ≡ true
   pub own : (right_call span sight f gs es js cyclic n).ty ≡ call_type sight.known f n js
 
 pub right_fine : (known : Known) (sight : Sight) (span : Span) (f : Function) (gs : List GivenNumber) (es : List ExprPair) (js : List Judgement) (cyclic : List Fault) (n : NumbersSeen) → IsFine known (right_call span sight f gs es js cyclic n)
@@ -120,26 +119,29 @@ right_fine known sight span f gs es js cyclic n fine =
     let parts = call_parts_faults gs js in
     let wrong = breaks_if n.is_wrong 10 span in
     let misfits : List Fault = if n.is_wrong then [] else operand_faults sight.known f.name.name n.bound f.arguments es js in
-    let faults = (((parts ++ cyclic) ++ n.faults) ++ wrong) ++ misfits in
-    let reach = reached_by (has_broken cyclic || n.is_wrong) f.name.name n.values in
-    let reached = (call_parts_reached gs js ++ n.reached) ++ reach in
+    let declared = judged_there cyclic n in
+    let faults = ((((parts ++ cyclic) ++ n.faults) ++ declared.faults) ++ wrong) ++ misfits in
+    let reach = reached_by (is_refused cyclic n) f.name.name n.values in
+    let reached = (call_parts_reached gs js ++ declared.reached) ++ reach in
     let size = one_and (plus_size (size_of_all js) (callee_size sight.known f.name.name n.values)) in
     let s = settled_fine known span (call_type sight.known f n js) faults reached size fine in
-    let p = none_in_three ((parts ++ cyclic) ++ n.faults) wrong misfits s.faults in
-    let q = none_in_three parts cyclic n.faults p.0 in
-    let r = none_in (faults_of_all (given_judgements gs)) (faults_of_all js) q.0 in
-    let k = all_in_three known.is_sound (call_parts_reached gs js) n.reached reach s.reached in
+    let p = none_in_three (((parts ++ cyclic) ++ n.faults) ++ declared.faults) wrong misfits s.faults in
+    let q = none_in_three (parts ++ cyclic) n.faults declared.faults p.0 in
+    let c = none_in parts cyclic q.0 in
+    let r = none_in (faults_of_all (given_judgements gs)) (faults_of_all js) c.0 in
+    let k = all_in_three known.is_sound (call_parts_reached gs js) declared.reached reach s.reached in
     let l = all_in known.is_sound (reached_of_all (given_judgements gs)) (reached_of_all js) k.0 in
+    let right = not_broken n.is_wrong 10 span p.1 in
+    let there = judged_right cyclic n c.1 right in
     record {
       numbers_given = r.0;
       operands_given = r.1;
-      no_cycle = q.1;
-      numbers = q.2;
-      right = not_broken n.is_wrong 10 span p.1;
+      no_cycle = c.1;
+      right = right;
       operands = p.2;
       numbers_reach = l.0;
       operands_reach = l.1;
-      defaults_reach = k.1;
+      fine = record { given = q.1; declared = ap (λ (j : JudgedThere). j.faults) (sym there) ∙ q.2; reached = ap (λ (j : JudgedThere). list_all known.is_sound j.reached) (sym there) ∙ k.1; right = right };
       found = k.2;
       own = s.ty;
     }
@@ -155,8 +157,8 @@ same_lists (u ∷ us) (v ∷ vs) e =
 called : (span : Span) (sight : Sight) (env : Env) (name : List ℕ) (f : Function) (as' : List ArgPair) (ns : List Meant) (es : List ExprPair) (xs : List Meant) (cyclic : List Fault)
     → EachExprGives (map (λ (a : ArgPair). a.1) as') ns → EachExprGives es xs → IsWellTyped sight env → as_function (item_named name sight.known.whole.items) ≡ Some f → length es ≡ length f.arguments
     → (ts : List DslxType) → types_of (all_alone sight es) ≡ map Some ts
-    → IsFine sight.known (right_call span sight f (given_numbers sight as') es (all_alone sight es) cyclic (numbers_seen sight.known f.name.name (inferred_by f.arguments (map Some ts)) (maybe_inferred f.arguments (map Some ts)) [] [] f.parameters (given_numbers sight as')))
-    → HasItsValue (types_at sight) (right_call span sight f (given_numbers sight as') es (all_alone sight es) cyclic (numbers_seen sight.known f.name.name (inferred_by f.arguments (map Some ts)) (maybe_inferred f.arguments (map Some ts)) [] [] f.parameters (given_numbers sight as')))
+    → IsFine sight.known (right_call span sight f (given_numbers sight as') es (all_alone sight es) cyclic (call_numbers sight.known f (given_numbers sight as') (map Some ts)))
+    → HasItsValue (types_at sight) (right_call span sight f (given_numbers sight as') es (all_alone sight es) cyclic (call_numbers sight.known f (given_numbers sight as') (map Some ts)))
     (with_both (values_of ns env) (values_of xs env) (env.items.call name))
 called span sight env name f as' ns es xs cyclic kn kx h is count ts typed fine = subst Right (sym (none_maybe f.arguments ts)) known fine
   where
@@ -173,13 +175,13 @@ called span sight env name f as' ns es xs cyclic kn kx h is count ts typed fine 
     inferred = inferred_by f.arguments (map Some ts)
 
     call : List (List ℕ) → Judgement
-    call maybe = right_call span sight f gs es js cyclic (numbers_seen sight.known home inferred maybe [] [] f.parameters gs)
+    call maybe = right_call span sight f gs es js cyclic (numbers_seen sight.known home inferred maybe (known_before []) f.parameters gs)
 
     Right : List (List ℕ) → Type 0
     Right maybe = IsFine sight.known (call maybe) → HasItsValue (types_at sight) (call maybe) (with_both (values_of ns env) (values_of xs env) (env.items.call name))
 
     n : NumbersSeen
-    n = numbers_seen sight.known home inferred [] [] [] f.parameters gs
+    n = numbers_seen sight.known home inferred [] (known_before []) f.parameters gs
 
     known : Right []
     known fine =
@@ -187,17 +189,16 @@ called span sight env name f as' ns es xs cyclic kn kx h is count ts typed fine 
         let g = numbers_given sight env h as' ns kn w.numbers_given w.numbers_reach in
         let o = operands_have sight env h es xs kx w.operands_given w.operands_reach in
         let k = h.known.functions name f is in
-        let m = numbers_known sight.known home inferred [] f.parameters gs k.parameters g.each w.numbers w.defaults_reach w.right in
+        let m = numbers_known sight.known home inferred [] f.parameters gs k.parameters g.each w.fine in
         let sound = and_both (sight.known.is_sound (record { name = home; numbers = m.numbers })) true
         ((λ i. list_all sight.known.is_sound (reached_by (has_broken (sym w.no_cycle i) || sym w.right i) home (sym m.all i))) ∙ w.found) in
         let c = k.calls m.numbers m.fit sound.0 in
         let own : ts ≡ map type_of_value o.values = same_lists ts (map type_of_value o.values) (sym typed ∙ o.typed) in
         let numbers = numbers_found sight.known sight.known.items home inferred [] [] f.parameters gs g.values m.numbers k.mean m.fit g.mean m.all in
         let same : inferred ≡ inferred_from f.arguments (map type_of_value o.values) = inferred_alike f.arguments ts ∙ ap (inferred_from f.arguments) own in
-        let fits = fit sight home n.bound f.arguments es o.values (subst (λ b. EachArgumentDeclared sight.known home b f.arguments) (sym m.shown) (k.arguments m.numbers m.fit)) count o.typed o.own
-        (ap (λ b. if◌then◌else◌ {A = List Fault} b [] (operand_faults sight.known home n.bound f.arguments es js)) (sym w.right) ∙ w.operands) in
-        let v = c.gives g.values o.values (ap (λ i. all_numbers sight.known.items i [] f.parameters g.values) (sym same) ∙ numbers)
-        (subst (λ b. FitArguments sight.known home b f.arguments o.values) m.shown fits) in
+        let fits = fit sight home (numbers_bound [] f.parameters m.numbers) f.arguments es o.values (k.arguments m.numbers m.fit) count o.typed o.own
+        (ap (λ b. operand_faults sight.known home b f.arguments es js) (sym m.shown) ∙ ap (λ b. if◌then◌else◌ {A = List Fault} b [] (operand_faults sight.known home n.bound f.arguments es js)) (sym w.right) ∙ w.operands) in
+        let v = c.gives g.values o.values (ap (λ i. all_numbers sight.known.items i [] f.parameters g.values) (sym same) ∙ numbers) fits in
         let ty : (call []).ty ≡ Some c.result = w.own ∙ (λ i. and_then (m.all i) (λ vs. when_all (o.typed i) (result_type sight.known home n.bound f.result)))
         ∙ ap (λ a. and_then a (λ us. result_type sight.known home n.bound f.result)) (all_are (map type_of_value o.values))
         ∙ ap (λ b. result_type sight.known home b f.result) m.shown ∙ c.typed in
@@ -221,7 +222,7 @@ function_has span sight env name as' ns es xs kn kx h fine = by_function (as_fun
     Has j = HasItsValue (types_at sight) j (with_both (values_of ns env) (values_of xs env) (env.items.call name.name))
 
     right : Function → List (Option DslxType) → Judgement
-    right f ts = right_call span sight f gs es js (breaks_if (is_cyclic sight.known.whole sight.home name.name) 3 span) (numbers_seen sight.known f.name.name (inferred_by f.arguments ts) (maybe_inferred f.arguments ts) [] [] f.parameters gs)
+    right f ts = right_call span sight f gs es js (breaks_if (is_cyclic sight.known.whole sight.home name.name) 3 span) (call_numbers sight.known f gs ts)
 
     wrong : Judgement
     wrong = wrong_call span gs js (breaks_if (is_cyclic sight.known.whole sight.home name.name) 3 span)
@@ -229,7 +230,7 @@ function_has span sight env name as' ns es xs kn kx h fine = by_function (as_fun
     typed : (f : Function) → as_function (item_named name.name sight.known.whole.items) ≡ Some f → length es ≡ length f.arguments → IsFine sight.known (right f (types_of js)) → Has (right f (types_of js))
     typed f is n g =
         let cycle = breaks_if (is_cyclic sight.known.whole sight.home name.name) 3 span in
-        let seen = numbers_seen sight.known f.name.name (inferred_by f.arguments (types_of js)) (maybe_inferred f.arguments (types_of js)) [] [] f.parameters gs in
+        let seen = call_numbers sight.known f gs (types_of js) in
         let w = right_fine sight.known sight span f gs es js cycle seen g in
         let o = operands_have sight env h es xs kx w.operands_given w.operands_reach in
         subst (λ ts. IsFine sight.known (right f ts) → Has (right f ts)) (sym o.typed) (called span sight env name.name f as' ns es xs cycle kn kx h is n (map type_of_value o.values) o.typed) g
@@ -253,7 +254,7 @@ pub record CallFound (sight : Sight) (f : Function) (gs : List GivenNumber) (ts 
   pub written : map (λ (g : GivenNumber). g.seen.value) gs ≡ map Some given
   pub numbers : List DslxValue
   pub all : n.values ≡ Some numbers
-  pub shown : n.bound ≡ numbers_bound [] f.parameters numbers
+  pub shown : n.bound ≡ known_before (numbers_bound [] f.parameters numbers)
   pub fit : FitNumbers sight.known f.name.name [] f.parameters numbers
   pub arguments : EachArgumentDeclared sight.known f.name.name (numbers_bound [] f.parameters numbers) f.arguments
   pub found : all_numbers sight.known.items (inferred_from f.arguments ts) [] f.parameters given ≡ Some numbers
@@ -266,15 +267,15 @@ values_written types (g ∷ gs) (v ∷ vs) k m = λ i. (k.0.is ∙ ap Some (sym 
 
 pub call_found : (span : Span) (sight : Sight) (env : Env) (name : List ℕ) (f : Function) (as' : List ArgPair) (ns : List Meant) (es : List ExprPair) (cyclic : List Fault) → EachExprGives (map (λ (a : ArgPair). a.1) as') ns
     → IsWellTyped sight env → as_function (item_named name sight.known.whole.items) ≡ Some f → (ts : List DslxType)
-    → IsFine sight.known (right_call span sight f (given_numbers sight as') es (all_alone sight es) cyclic (numbers_seen sight.known f.name.name (inferred_by f.arguments (map Some ts)) (maybe_inferred f.arguments (map Some ts)) [] [] f.parameters (given_numbers sight as')))
-    → CallFound sight f (given_numbers sight as') ts (numbers_seen sight.known f.name.name (inferred_by f.arguments (map Some ts)) (maybe_inferred f.arguments (map Some ts)) [] [] f.parameters (given_numbers sight as'))
+    → IsFine sight.known (right_call span sight f (given_numbers sight as') es (all_alone sight es) cyclic (call_numbers sight.known f (given_numbers sight as') (map Some ts)))
+    → CallFound sight f (given_numbers sight as') ts (call_numbers sight.known f (given_numbers sight as') (map Some ts))
 call_found span sight env name f as' ns es cyclic kn h is ts fine = subst Found (sym (none_maybe f.arguments ts)) known fine
   where
     gs : List GivenNumber
     gs = given_numbers sight as'
 
     seen : List (List ℕ) → NumbersSeen
-    seen maybe = numbers_seen sight.known f.name.name (inferred_by f.arguments (map Some ts)) maybe [] [] f.parameters gs
+    seen maybe = numbers_seen sight.known f.name.name (inferred_by f.arguments (map Some ts)) maybe (known_before []) f.parameters gs
 
     Found : List (List ℕ) → Type 0
     Found maybe = IsFine sight.known (right_call span sight f gs es (all_alone sight es) cyclic (seen maybe)) → CallFound sight f gs ts (seen maybe)
@@ -285,7 +286,7 @@ call_found span sight env name f as' ns es cyclic kn h is ts fine = subst Found 
         let g = numbers_given sight env h as' ns kn w.numbers_given w.numbers_reach in
         let k = h.known.functions name f is in
         let inferred = inferred_by f.arguments (map Some ts) in
-        let m = numbers_known sight.known f.name.name inferred [] f.parameters gs k.parameters g.each w.numbers w.defaults_reach w.right in
+        let m = numbers_known sight.known f.name.name inferred [] f.parameters gs k.parameters g.each w.fine in
         record {
           given = g.values;
           written = values_written (types_at sight) gs g.values g.each g.mean;

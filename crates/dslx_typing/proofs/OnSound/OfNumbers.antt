@@ -19,9 +19,9 @@ use Rattle.dslx_meaning.specs.declared.ty.DslxType.{DslxType}
 use Rattle.dslx_meaning.specs.declared.value.Bare.{Bare}
 use Rattle.dslx_meaning.specs.declared.value.DslxValue.{DslxValue}
 use Rattle.dslx_meaning.specs.Rules.AggregateRules.{wanted_faults}
-use Rattle.dslx_meaning.specs.Rules.CallRules.{GivenNumber, Number, NumbersSeen, Resolved, Unknown, Wrong, bound_by_number, declared_type, default_value, given_judgements, given_numbers, in_type, is_wrong_number, not_given, number_before, numbers_for, numbers_seen, of_type, resolved_value, type_without_value, unknown_behind, value_before}
+use Rattle.dslx_meaning.specs.Rules.CallRules.{GivenNumber, Number, NumbersSeen, Resolved, JudgedThere, Wrong, and_parameter, and_there, declared_type, default_value, given_judgements, given_numbers, in_type, is_wrong_number, judged_there, known_before, not_given, nothing_there, number_before, numbers_for, numbers_seen, of_type, resolved_value, type_there, value_before}
 use Rattle.dslx_meaning.specs.Rules.ConstantRules.{constant_of}
-use Rattle.dslx_meaning.specs.Rules.Judging.{Instance, Known, Sight, faults_of_all, reached_of_all}
+use Rattle.dslx_meaning.specs.Rules.Judging.{Known, Sight, faults_of_all, has_broken, reached_of_all}
 use Rattle.dslx_meaning.specs.Rules.Judgings.{ArgPair}
 use Rattle.dslx_meaning.specs.Rules.PatternRules.{is_there}
 use Rattle.dslx_typing.specs.Typed.Complete.{EachParameterKnown, IsFine, IsParameterKnown, IsTypeKnown}
@@ -39,12 +39,12 @@ use Rattle.dslx_typing.proofs.OnSound.Fine.{all_in, none_in, passed}
 abbrev declared_if : Bool → DslxType → Option DslxType
 declared_if b t = if b then None else Some t
 
-declared_known : (known : Known) (home : List ℕ) (so_far : List Given) (p : TypeExpr) → IsTypeKnown (known.type_in home so_far p) → (t : DslxType) × (declared_type known home so_far p ≡ Some t)
+declared_known : (known : Known) (home : List ℕ) (so_far : List Given) (p : TypeExpr) → IsTypeKnown (known.type_in home so_far [] p) → (t : DslxType) × (declared_type known home (known_before so_far) p ≡ Some t)
 declared_known known home so_far p k = (k.0, ap (λ o. and_then o (λ t. declared_if (is_unit t) t)) k.1 ∙ ap (λ b. declared_if b k.0) k.2)
 
 -- a parameter whose type is unknown
-untyped : {X : Type 0} (known : Known) (home : List ℕ) (so_far : List Given) (p : Parameter) → IsParameterKnown known home so_far p → declared_type known home so_far p.ty ≡ None
-    → IsFine known (type_without_value known home so_far [] p Unknown) → X
+untyped : {X : Type 0} (known : Known) (home : List ℕ) (so_far : List Given) (p : Parameter) → IsParameterKnown known home so_far p → declared_type known home (known_before so_far) p.ty ≡ None
+    → IsFine known (known.type_seen_in home so_far p.ty) → X
 untyped known home so_far p k q fine =
     let t = declared_known known home so_far p.ty (k.typed fine) in
     none_some t.0 (sym q ∙ t.1)
@@ -54,12 +54,12 @@ record Found (known : Known) (home : List ℕ) (so_far : List Given) (p : Parame
   value : DslxValue
   is : r ≡ Number value
   ty : DslxType
-  typed : declared_type known home so_far p.ty ≡ Some ty
+  typed : declared_type known home (known_before so_far) p.ty ≡ Some ty
   gives : GivesOf known.items.type_named ty (Some value)
 
 -- a value of the type of its parameter
 resolved_given : (known : Known) (home : List ℕ) (so_far : List Given) (p : Parameter) → IsParameterKnown known home so_far p → (span : Span) (v : DslxValue) → GivesOf known.items.type_named (type_of_value v) (Some v)
-    → (o : Option DslxType) → declared_type known home so_far p.ty ≡ o → IsFine known (type_without_value known home so_far [] p (resolved_value (of_type o (Some v)))) → wanted_faults span o (Some (type_of_value v)) ≡ []
+    → (o : Option DslxType) → declared_type known home (known_before so_far) p.ty ≡ o → IsFine known (known.type_seen_in home so_far p.ty) → wanted_faults span o (Some (type_of_value v)) ≡ []
     → Found known home so_far p (resolved_value (of_type o (Some v)))
 resolved_given known home so_far p k span v own None q fine wanted = untyped known home so_far p k q fine
 resolved_given known home so_far p k span v own (Some t) q fine wanted =
@@ -79,8 +79,8 @@ abbrev or_wrong : Option DslxValue → Resolved
 or_wrong None = Wrong
 or_wrong (Some v) = Number v
 
-number_in_type : (known : Known) (home : List ℕ) (so_far : List Given) (p : Parameter) → IsParameterKnown known home so_far p → (n : ℕ) (o : Option DslxType) → declared_type known home so_far p.ty ≡ o
-    → IsFine known (type_without_value known home so_far [] p (in_type o n)) → is_wrong_number (in_type o n) ≡ false → Found known home so_far p (in_type o n)
+number_in_type : (known : Known) (home : List ℕ) (so_far : List Given) (p : Parameter) → IsParameterKnown known home so_far p → (n : ℕ) (o : Option DslxType) → declared_type known home (known_before so_far) p.ty ≡ o
+    → IsFine known (known.type_seen_in home so_far p.ty) → is_wrong_number (in_type o n) ≡ false → Found known home so_far p (in_type o n)
 number_in_type known home so_far p k n None q fine right = untyped known home so_far p k q fine
 number_in_type known home so_far p k n (Some t) q fine right = by_value (number_value t number) refl right
   where
@@ -93,31 +93,29 @@ number_in_type known home so_far p k n (Some t) q fine right = by_value (number_
         let d = k.declared t (declared_is known home so_far p.ty t q) in
         record { value = v; is = refl; ty = t; typed = q; gives = subst (GivesOf known.items.type_named t) r (number_given known.items.type_named t number (ap is_there r) d) }
 
-found_default : (known : Known) (home : List ℕ) (so_far : List Given) (p : Parameter) → IsParameterKnown known home so_far p → (o : Option DslxType) → declared_type known home so_far p.ty ≡ o → (e : Option Expr) → p.default ≡ e
-    → IsFine known (type_without_value known home so_far [] p (default_value known home so_far [] o e).value) → (default_value known home so_far [] o e).faults ≡ []
-    → list_all known.is_sound (default_value known home so_far [] o e).reached ≡ true → is_wrong_number (default_value known home so_far [] o e).value ≡ false
-    → Found known home so_far p (default_value known home so_far [] o e).value
+found_default : (known : Known) (home : List ℕ) (so_far : List Given) (p : Parameter) → IsParameterKnown known home so_far p → (o : Option DslxType) → declared_type known home (known_before so_far) p.ty ≡ o → (e : Option Expr) → p.default ≡ e
+    → IsFine known (known.type_seen_in home so_far p.ty) → (default_value known home (known_before so_far) o e).judged.faults ≡ []
+    → list_all known.is_sound (default_value known home (known_before so_far) o e).judged.reached ≡ true → is_wrong_number (default_value known home (known_before so_far) o e).value ≡ false
+    → Found known home so_far p (default_value known home (known_before so_far) o e).value
 found_default known home so_far p k o q None is fine f r right = absurd (true≢false right)
 found_default known home so_far p k o q (Some e) is fine f r right =
-    let seen = known.default_in home so_far [] e in
+    let seen = known.default_in home so_far e in
     let span = (out-Expr e).span in
     let s = none_in seen.judgement.faults (wanted_faults span o seen.judgement.ty) f in
     let d = k.default e is (record { faults = s.0; reached = r }) in
-    let found = resolved_given known home so_far p k span d.value d.own o q
-    (subst (λ v. IsFine known (type_without_value known home so_far [] p (resolved_value (of_type o v)))) d.is fine) (ap (wanted_faults span o) (sym d.typed) ∙ s.1) in
+    let found = resolved_given known home so_far p k span d.value d.own o q fine (ap (wanted_faults span o) (sym d.typed) ∙ s.1) in
     record { value = found.value; is = ap (λ v. resolved_value (of_type o v)) d.is ∙ found.is; ty = found.ty; typed = found.typed; gives = found.gives }
 
-found_otherwise : (known : Known) (home : List ℕ) (so_far : List Given) (p : Parameter) → IsParameterKnown known home so_far p → (o : Option DslxType) → declared_type known home so_far p.ty ≡ o → (ns : List ℕ)
-    → IsFine known (type_without_value known home so_far [] p (not_given known home so_far [] p o false ns).value) → (not_given known home so_far [] p o false ns).faults ≡ []
-    → list_all known.is_sound (not_given known home so_far [] p o false ns).reached ≡ true → is_wrong_number (not_given known home so_far [] p o false ns).value ≡ false
-    → Found known home so_far p (not_given known home so_far [] p o false ns).value
+found_otherwise : (known : Known) (home : List ℕ) (so_far : List Given) (p : Parameter) → IsParameterKnown known home so_far p → (o : Option DslxType) → declared_type known home (known_before so_far) p.ty ≡ o → (ns : List ℕ)
+    → IsFine known (known.type_seen_in home so_far p.ty) → (not_given known home (known_before so_far) p o false ns).judged.faults ≡ []
+    → list_all known.is_sound (not_given known home (known_before so_far) p o false ns).judged.reached ≡ true → is_wrong_number (not_given known home (known_before so_far) p o false ns).value ≡ false
+    → Found known home so_far p (not_given known home (known_before so_far) p o false ns).value
 found_otherwise known home so_far p k o q [] fine f r right = found_default known home so_far p k o q p.default refl fine f r right
-found_otherwise known home so_far p k o q (n ∷ ns) fine f r right = by_one (list_all (λ k. k == n) ns) fine right
+found_otherwise known home so_far p k o q (n ∷ ns) fine f r right = by_one (list_all (λ k. k == n) ns) right
   where
-    by_one : (b : Bool) → IsFine known (type_without_value known home so_far [] p (if b then in_type o n else Wrong)) → is_wrong_number (if b then in_type o n else Wrong) ≡ false
-        → Found known home so_far p (if b then in_type o n else Wrong)
-    by_one true g e = number_in_type known home so_far p k n o q g e
-    by_one false g e = absurd (true≢false e)
+    by_one : (b : Bool) → is_wrong_number (if b then in_type o n else Wrong) ≡ false → Found known home so_far p (if b then in_type o n else Wrong)
+    by_one true e = number_in_type known home so_far p k n o q fine e
+    by_one false e = absurd (true≢false e)
 
 -- ---- all parameters
 
@@ -136,60 +134,69 @@ pub record NumbersKnown (known : Known) (home : List ℕ) (n : NumbersSeen) (so_
   pub numbers : List DslxValue
   pub fit : FitNumbers known home so_far ps numbers
   pub all : n.values ≡ Some numbers
-  pub shown : n.bound ≡ numbers_bound so_far ps numbers
+  pub shown : n.bound ≡ known_before (numbers_bound so_far ps numbers)
+
+-- what is given breaks no rule, nor does what is judged of the other declaration, and all that it reaches is sound
+pub record NumbersFine (known : Known) (n : NumbersSeen) : Type 0 where
+  pub given : n.faults ≡ []
+  pub declared : n.declared.faults ≡ []
+  pub reached : list_all known.is_sound n.declared.reached ≡ true
+  pub right : n.is_wrong ≡ false
+
+-- where neither rule 3 nor rule 10 is broken, all that is judged of the other declaration is
+pub judged_right : (cyclic : List Fault) (n : NumbersSeen) → cyclic ≡ [] → n.is_wrong ≡ false → judged_there cyclic n ≡ n.declared
+judged_right cyclic n no_cycle right = λ i. if (has_broken (no_cycle i) || right i) then nothing_there else n.declared
 
 -- a parameter that has a value, and those behind it
-behind_number : (known : Known) (home : List ℕ) (inferred : List Inferred) (so_far : List Given) (p : Parameter) (ps : List Parameter) (gs : List GivenNumber) (r : Resolved) (v : DslxValue) (t : DslxType) (faults : List Fault) (reached : List Instance)
-    → r ≡ Number v → declared_type known home so_far p.ty ≡ Some t → GivesOf known.items.type_named t (Some v)
-    → ((numbers_seen known home inferred [] (with_number so_far p v) [] ps gs).faults ≡ [] → list_all known.is_sound (numbers_seen known home inferred [] (with_number so_far p v) [] ps gs).reached ≡ true
-    → (numbers_seen known home inferred [] (with_number so_far p v) [] ps gs).is_wrong ≡ false → NumbersKnown known home (numbers_seen known home inferred [] (with_number so_far p v) [] ps gs) (with_number so_far p v) ps)
-    → (faults ++ (numbers_seen known home inferred [] (bound_by_number so_far p r) (unknown_behind [] p r) ps gs).faults) ≡ []
-    → list_all known.is_sound (reached ++ (numbers_seen known home inferred [] (bound_by_number so_far p r) (unknown_behind [] p r) ps gs).reached) ≡ true
-    → (is_wrong_number r || (numbers_seen known home inferred [] (bound_by_number so_far p r) (unknown_behind [] p r) ps gs).is_wrong) ≡ false
-    → NumbersKnown known home (number_before r faults reached (numbers_seen known home inferred [] (bound_by_number so_far p r) (unknown_behind [] p r) ps gs)) so_far (p ∷ ps)
-behind_number known home inferred so_far p ps gs r v t faults reached e typed gives more = subst Behind (sym e) at_number
+behind_number : (known : Known) (home : List ℕ) (inferred : List Inferred) (so_far : List Given) (p : Parameter) (ps : List Parameter) (gs : List GivenNumber) (r : Resolved) (v : DslxValue) (t : DslxType) (faults : List Fault) (judged : JudgedThere)
+    → r ≡ Number v → declared_type known home (known_before so_far) p.ty ≡ Some t → GivesOf known.items.type_named t (Some v)
+    → (NumbersFine known (numbers_seen known home inferred [] (known_before (with_number so_far p v)) ps gs) → NumbersKnown known home (numbers_seen known home inferred [] (known_before (with_number so_far p v)) ps gs) (with_number so_far p v) ps)
+    → NumbersFine known (number_before r faults judged (numbers_seen known home inferred [] (and_parameter (known_before so_far) p r) ps gs))
+    → NumbersKnown known home (number_before r faults judged (numbers_seen known home inferred [] (and_parameter (known_before so_far) p r) ps gs)) so_far (p ∷ ps)
+behind_number known home inferred so_far p ps gs r v t faults judged e typed gives more = subst Behind (sym e) at_number
   where
     rest : Resolved → NumbersSeen
-    rest r = numbers_seen known home inferred [] (bound_by_number so_far p r) (unknown_behind [] p r) ps gs
+    rest r = numbers_seen known home inferred [] (and_parameter (known_before so_far) p r) ps gs
 
     Behind : Resolved → Type 0
-    Behind r = (faults ++ (rest r).faults) ≡ [] → list_all known.is_sound (reached ++ (rest r).reached) ≡ true → (is_wrong_number r || (rest r).is_wrong) ≡ false
-        → NumbersKnown known home (number_before r faults reached (rest r)) so_far (p ∷ ps)
+    Behind r = NumbersFine known (number_before r faults judged (rest r)) → NumbersKnown known home (number_before r faults judged (rest r)) so_far (p ∷ ps)
 
     at_number : Behind (Number v)
-    at_number f s w =
-        let k = more (none_in faults (rest (Number v)).faults f).1 (all_in known.is_sound reached (rest (Number v)).reached s).1 w in
+    at_number f =
+        let n = rest (Number v) in
+        let k = more (record {
+          given = (none_in faults n.faults f.given).1;
+          declared = (none_in judged.faults n.declared.faults f.declared).1;
+          reached = (all_in known.is_sound judged.reached n.declared.reached f.reached).1;
+          right = f.right;
+        }) in
         record { numbers = v ∷ k.numbers; fit = ((t, typed, gives), k.fit); all = ap (value_before (Number v)) k.all; shown = k.shown }
 
 pub numbers_known : (known : Known) (home : List ℕ) (inferred : List Inferred) (so_far : List Given) (ps : List Parameter) (gs : List GivenNumber) → EachParameterKnown known home so_far ps → EachGiven known.items.type_named gs
-    → (numbers_seen known home inferred [] so_far [] ps gs).faults ≡ [] → list_all known.is_sound (numbers_seen known home inferred [] so_far [] ps gs).reached ≡ true
-    → (numbers_seen known home inferred [] so_far [] ps gs).is_wrong ≡ false → NumbersKnown known home (numbers_seen known home inferred [] so_far [] ps gs) so_far ps
-numbers_known known home inferred so_far [] [] c k f r w = record { numbers = []; fit = tt; all = refl; shown = refl }
-numbers_known known home inferred so_far [] (g ∷ gs) c k f r w = absurd (true≢false w)
-numbers_known known home inferred so_far (p ∷ ps) (g ∷ gs) c k f r w =
-    let t = declared_type known home so_far p.ty in
+    → NumbersFine known (numbers_seen known home inferred [] (known_before so_far) ps gs) → NumbersKnown known home (numbers_seen known home inferred [] (known_before so_far) ps gs) so_far ps
+numbers_known known home inferred so_far [] [] c k f = record { numbers = []; fit = tt; all = refl; shown = refl }
+numbers_known known home inferred so_far [] (g ∷ gs) c k f = absurd (true≢false f.right)
+numbers_known known home inferred so_far (p ∷ ps) (g ∷ gs) c k f =
+    let t = declared_type known home (known_before so_far) p.ty in
     let v = resolved_value (of_type t g.seen.value) in
-    let written = type_without_value known home so_far [] p v in
-    let rest = numbers_seen known home inferred [] (bound_by_number so_far p v) (unknown_behind [] p v) ps gs in
+    let written = known.type_seen_in home so_far p.ty in
+    let rest = numbers_seen known home inferred [] (and_parameter (known_before so_far) p v) ps gs in
     let wanted = wanted_faults g.span t g.seen.judgement.ty in
-    let q = none_in written.faults wanted (none_in (written.faults ++ wanted) rest.faults f).0 in
-    let s = all_in known.is_sound written.reached rest.reached r in
-    let fine : IsFine known written = record { faults = q.0; reached = s.0 } in
-    let found = resolved_given known home so_far p c.0 g.span k.0.value k.0.own t refl
-    (subst (λ o. IsFine known (type_without_value known home so_far [] p (resolved_value (of_type t o)))) k.0.is fine) (ap (wanted_faults g.span t) (sym k.0.typed) ∙ q.1) in
-    behind_number known home inferred so_far p ps gs v found.value found.ty (written.faults ++ wanted) written.reached (ap (λ o. resolved_value (of_type t o)) k.0.is ∙ found.is) found.typed found.gives
-    (numbers_known known home inferred (with_number so_far p found.value) ps gs (c.1 found.ty found.value found.typed found.gives) k.1) f r w
-numbers_known known home inferred so_far (p ∷ ps) [] c k f r w =
-    let t = declared_type known home so_far p.ty in
-    let v = not_given known home so_far [] p t false (numbers_for p.name.name inferred) in
-    let written = type_without_value known home so_far [] p v.value in
-    let rest = numbers_seen known home inferred [] (bound_by_number so_far p v.value) (unknown_behind [] p v.value) ps [] in
-    let q = none_in written.faults v.faults (none_in (written.faults ++ v.faults) rest.faults f).0 in
-    let s = all_in known.is_sound written.reached v.reached (all_in known.is_sound (written.reached ++ v.reached) rest.reached r).0 in
-    let right = or_false (is_wrong_number v.value) rest.is_wrong w in
+    let fine : IsFine known written = record { faults = (none_in written.faults rest.declared.faults f.declared).0; reached = (all_in known.is_sound written.reached rest.declared.reached f.reached).0 } in
+    let found = resolved_given known home so_far p c.0 g.span k.0.value k.0.own t refl fine (ap (wanted_faults g.span t) (sym k.0.typed) ∙ (none_in wanted rest.faults f.given).0) in
+    behind_number known home inferred so_far p ps gs v found.value found.ty wanted (type_there known home (known_before so_far) p) (ap (λ o. resolved_value (of_type t o)) k.0.is ∙ found.is) found.typed found.gives
+    (numbers_known known home inferred (with_number so_far p found.value) ps gs (c.1 found.ty found.value found.typed found.gives) k.1) f
+numbers_known known home inferred so_far (p ∷ ps) [] c k f =
+    let t = declared_type known home (known_before so_far) p.ty in
+    let v = not_given known home (known_before so_far) p t false (numbers_for p.name.name inferred) in
+    let written = known.type_seen_in home so_far p.ty in
+    let rest = numbers_seen known home inferred [] (and_parameter (known_before so_far) p v.value) ps [] in
+    let q = none_in written.faults v.judged.faults (none_in (written.faults ++ v.judged.faults) rest.declared.faults f.declared).0 in
+    let s = all_in known.is_sound written.reached v.judged.reached (all_in known.is_sound (written.reached ++ v.judged.reached) rest.declared.reached f.reached).0 in
+    let right = or_false (is_wrong_number v.value) rest.is_wrong f.right in
     let found = found_otherwise known home so_far p c.0 t refl (numbers_for p.name.name inferred) (record { faults = q.0; reached = s.0 }) q.1 s.1 right.0 in
-    behind_number known home inferred so_far p ps [] v.value found.value found.ty (written.faults ++ v.faults) (written.reached ++ v.reached) found.is found.typed found.gives
-    (numbers_known known home inferred (with_number so_far p found.value) ps [] (c.1 found.ty found.value found.typed found.gives) tt) f r w
+    behind_number known home inferred so_far p ps [] v.value found.value found.ty [] (and_there (type_there known home (known_before so_far) p) v.judged) found.is found.typed found.gives
+    (numbers_known known home inferred (with_number so_far p found.value) ps [] (c.1 found.ty found.value found.typed found.gives) tt) f
 
 -- ---- number arguments that are written
 

@@ -17,7 +17,7 @@ use Rattle.dslx_meaning.specs.Items.{with_number, numbers_bound, inferred_value,
 use Rattle.dslx_meaning.specs.declared.ty.DslxType.{DslxType}
 use Rattle.dslx_meaning.specs.declared.value.DslxValue.{DslxValue}
 use Rattle.dslx_meaning.specs.Rules.Judging.{Known}
-use Rattle.dslx_meaning.specs.Rules.CallRules.{GivenNumber, Resolved, Number, Unknown, Wrong, resolved_value, in_type, of_type, declared_type, default_value, not_given, numbers_for, inferred_by, bound_by_number, unknown_behind, value_before, numbers_seen}
+use Rattle.dslx_meaning.specs.Rules.CallRules.{GivenNumber, Resolved, Number, Unknown, Wrong, resolved_value, in_type, of_type, declared_type, default_value, not_given, numbers_for, inferred_by, known_before, and_parameter, value_before, numbers_seen}
 use Rattle.dslx_typing.specs.Typed.Declared.{Declarations, IsDeclared}
 use Rattle.dslx_typing.specs.Typed.Given.{GivesOf}
 use Rattle.dslx_typing.specs.Typed.Kinds.{is_of}
@@ -61,9 +61,9 @@ of_its_type (Some t) (Some w) v e = by_test (same_type t (type_of_value w)) e
     by_test true h = h
     by_test false h = none_some v h
 
-pub declared_is : (known : Known) (home : List ℕ) (so_far : List Given) (p : TypeExpr) (t : DslxType) → declared_type known home so_far p ≡ Some t → known.type_in home so_far p ≡ Some t
+pub declared_is : (known : Known) (home : List ℕ) (so_far : List Given) (p : TypeExpr) (t : DslxType) → declared_type known home (known_before so_far) p ≡ Some t → known.type_in home so_far [] p ≡ Some t
 declared_is known home so_far p t e =
-    let q = and_then_type (known.type_in home so_far p) (λ t. if is_unit t then None else Some t) t e in
+    let q = and_then_type (known.type_in home so_far [] p) (λ t. if is_unit t then None else Some t) t e in
     q.1 ∙ by_test q.0 (is_unit q.0) q.2
   where
     by_test : (u : DslxType) (b : Bool) → (if b then None else Some u) ≡ Some t → Some u ≡ Some t
@@ -110,34 +110,34 @@ number_or_wrong (Some v) = refl
 
 -- a parameter that isn't given
 found_otherwise : (known : Known) (items : Meanings) (home : List ℕ) (inferred : List Inferred) (so_far : List Given) (p : Parameter) (maybe : Bool) (v : DslxValue) → ParameterMeans known items home so_far p
-    → number_of (not_given known home so_far [] p (declared_type known home so_far p.ty) maybe (numbers_for p.name.name inferred)).value ≡ Some v
+    → number_of (not_given known home (known_before so_far) p (declared_type known home (known_before so_far) p.ty) maybe (numbers_for p.name.name inferred)).value ≡ Some v
     → inferred_value (record { items = items; bound = so_far }) p (inferred_for p.name.name inferred) ≡ Some v
 found_otherwise known items home inferred so_far p maybe v means e =
     ap (inferred_value (record { items = items; bound = so_far }) p) (first_for p.name.name inferred (numbers_for p.name.name inferred) refl) ∙ by_numbers (numbers_for p.name.name inferred) e
   where
-    by_default : (o : Option Expr) → p.default ≡ o → number_of (default_value known home so_far [] (declared_type known home so_far p.ty) o).value ≡ Some v
+    by_default : (o : Option Expr) → p.default ≡ o → number_of (default_value known home (known_before so_far) (declared_type known home (known_before so_far) p.ty) o).value ≡ Some v
         → and_then o (λ e. value_of e (record { items = items; bound = so_far })) ≡ Some v
     by_default None d h = none_some v h
-    by_default (Some x) d h = means.defaults x v d (of_its_type (declared_type known home so_far p.ty) (known.default_in home so_far [] x).value v (sym (of_resolved (of_type (declared_type known home so_far p.ty) (known.default_in home so_far [] x).value)) ∙ h))
+    by_default (Some x) d h = means.defaults x v d (of_its_type (declared_type known home (known_before so_far) p.ty) (known.default_in home so_far x).value v (sym (of_resolved (of_type (declared_type known home (known_before so_far) p.ty) (known.default_in home so_far x).value)) ∙ h))
 
-    by_maybe : (b : Bool) → number_of (not_given known home so_far [] p (declared_type known home so_far p.ty) b []).value ≡ Some v
+    by_maybe : (b : Bool) → number_of (not_given known home (known_before so_far) p (declared_type known home (known_before so_far) p.ty) b []).value ≡ Some v
         → and_then p.default (λ e. value_of e (record { items = items; bound = so_far })) ≡ Some v
     by_maybe true h = none_some v h
     by_maybe false h = by_default p.default refl h
 
-    by_type : (n : ℕ) (t : Option DslxType) → declared_type known home so_far p.ty ≡ t → number_of (in_type t n) ≡ Some v
+    by_type : (n : ℕ) (t : Option DslxType) → declared_type known home (known_before so_far) p.ty ≡ t → number_of (in_type t n) ≡ Some v
         → and_then (written_type p.ty (record { items = items; bound = so_far })) (λ t. number_value t (record { is_negative = false; value = n })) ≡ Some v
     by_type n None q h = none_some v h
     by_type n (Some t) q h =
         ap (λ o. and_then o (λ t. number_value t (record { is_negative = false; value = n }))) (means.types t (declared_is known home so_far p.ty t q))
         ∙ sym (number_or_wrong (number_value t (record { is_negative = false; value = n }))) ∙ h
 
-    by_one : (n : ℕ) (b : Bool) → number_of (if b then in_type (declared_type known home so_far p.ty) n else Wrong) ≡ Some v
+    by_one : (n : ℕ) (b : Bool) → number_of (if b then in_type (declared_type known home (known_before so_far) p.ty) n else Wrong) ≡ Some v
         → and_then (written_type p.ty (record { items = items; bound = so_far })) (λ t. number_value t (record { is_negative = false; value = n })) ≡ Some v
-    by_one n true h = by_type n (declared_type known home so_far p.ty) refl h
+    by_one n true h = by_type n (declared_type known home (known_before so_far) p.ty) refl h
     by_one n false h = none_some v h
 
-    by_numbers : (ns : List ℕ) → number_of (not_given known home so_far [] p (declared_type known home so_far p.ty) maybe ns).value ≡ Some v
+    by_numbers : (ns : List ℕ) → number_of (not_given known home (known_before so_far) p (declared_type known home (known_before so_far) p.ty) maybe ns).value ≡ Some v
         → inferred_value (record { items = items; bound = so_far }) p (first_of ns) ≡ Some v
     by_numbers [] h = by_maybe maybe h
     by_numbers (n ∷ ns) h = by_one n (list_all (λ k. k == n) ns) h
@@ -168,27 +168,27 @@ own_bound types so_far (p ∷ ps) (v ∷ vs) h k = own_bound types (with_number 
 -- ---- all parameters
 
 pub numbers_found : (known : Known) (items : Meanings) (home : List ℕ) (inferred : List Inferred) (maybe : List (List ℕ)) (so_far : List Given) (ps : List Parameter)
-    (gs : List GivenNumber) (vs ws : List DslxValue) → ParametersMean known items home so_far ps → FitNumbers known home so_far ps ws → GivenMean gs vs → (numbers_seen known home inferred maybe so_far [] ps gs).values ≡ Some ws → all_numbers items inferred so_far ps vs ≡ Some ws
+    (gs : List GivenNumber) (vs ws : List DslxValue) → ParametersMean known items home so_far ps → FitNumbers known home so_far ps ws → GivenMean gs vs → (numbers_seen known home inferred maybe (known_before so_far) ps gs).values ≡ Some ws → all_numbers items inferred so_far ps vs ≡ Some ws
 numbers_found known items home inferred maybe so_far [] [] [] ws means fit h e = e
 numbers_found known items home inferred maybe so_far [] [] (v ∷ vs) ws means fit h e = absurd h
 numbers_found known items home inferred maybe so_far [] (g ∷ gs) vs ws means fit h e = none_some ws e
 numbers_found known items home inferred maybe so_far (p ∷ ps) (g ∷ gs) [] ws means fit h e = absurd h
 numbers_found known items home inferred maybe so_far (p ∷ ps) [] (v ∷ vs) ws means fit h e = absurd h
 numbers_found known items home inferred maybe so_far (p ∷ ps) (g ∷ gs) (v ∷ vs) ws means fit h e =
-    let t = declared_type known home so_far p.ty in
+    let t = declared_type known home (known_before so_far) p.ty in
     let r = resolved_value (of_type t g.seen.value) in
-    let a = taken_apart r (numbers_seen known home inferred maybe (bound_by_number so_far p r) (unknown_behind [] p r) ps gs).values ws e in
+    let a = taken_apart r (numbers_seen known home inferred maybe (and_parameter (known_before so_far) p r) ps gs).values ws e in
     let one = of_its_type t g.seen.value a.first (sym (of_resolved (of_type t g.seen.value)) ∙ ap number_of a.known) in
     let same = h.0 a.first one in
     let fits = subst (FitNumbers known home so_far (p ∷ ps)) (sym a.all) fit in
     let more = numbers_found known items home inferred maybe (with_number so_far p a.first) ps gs vs a.rest (means.1 fits.0.0 a.first fits.0.1 fits.0.2) fits.1 h.1
-    (ap (λ r. (numbers_seen known home inferred maybe (bound_by_number so_far p r) (unknown_behind [] p r) ps gs).values) (sym a.known) ∙ a.others) in
+    (ap (λ r. (numbers_seen known home inferred maybe (and_parameter (known_before so_far) p r) ps gs).values) (sym a.known) ∙ a.others) in
     (λ i. put_first (same i) (all_numbers items inferred (with_number so_far p (same i)) ps vs)) ∙ ap (put_first a.first) more ∙ ap Some a.all
 numbers_found known items home inferred maybe so_far (p ∷ ps) [] [] ws means fit h e =
-    let r = not_given known home so_far [] p (declared_type known home so_far p.ty) (is_in p.name.name maybe) (numbers_for p.name.name inferred) in
-    let a = taken_apart r.value (numbers_seen known home inferred maybe (bound_by_number so_far p r.value) (unknown_behind [] p r.value) ps []).values ws e in
+    let r = not_given known home (known_before so_far) p (declared_type known home (known_before so_far) p.ty) (is_in p.name.name maybe) (numbers_for p.name.name inferred) in
+    let a = taken_apart r.value (numbers_seen known home inferred maybe (and_parameter (known_before so_far) p r.value) ps []).values ws e in
     let one = found_otherwise known items home inferred so_far p (is_in p.name.name maybe) a.first means.0 (ap number_of a.known) in
     let fits = subst (FitNumbers known home so_far (p ∷ ps)) (sym a.all) fit in
     let more = numbers_found known items home inferred maybe (with_number so_far p a.first) ps [] [] a.rest (means.1 fits.0.0 a.first fits.0.1 fits.0.2) fits.1 tt
-    (ap (λ r. (numbers_seen known home inferred maybe (bound_by_number so_far p r) (unknown_behind [] p r) ps []).values) (sym a.known) ∙ a.others) in
+    (ap (λ r. (numbers_seen known home inferred maybe (and_parameter (known_before so_far) p r) ps []).values) (sym a.known) ∙ a.others) in
     ap (λ o. and_then o (λ v. put_first v (all_numbers items inferred (with_number so_far p v) ps []))) one ∙ ap (put_first a.first) more ∙ ap Some a.all

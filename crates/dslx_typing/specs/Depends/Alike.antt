@@ -8,7 +8,7 @@ use Rattle.dslx_tree.specs.declared.item.Parameter.{Parameter}
 use Rattle.dslx_meaning.specs.Environment.{Given}
 use Rattle.dslx_meaning.specs.Items.{as_enum, as_function, item_named}
 use Rattle.dslx_meaning.specs.declared.value.DslxValue.{DslxValue}
-use Rattle.dslx_meaning.specs.Rules.CallRules.{result_type}
+use Rattle.dslx_meaning.specs.Rules.CallRules.{Before, result_type}
 use Rattle.dslx_meaning.specs.Rules.Judging.{Instance, Known, Sight}
 use Rattle.dslx_meaning.specs.Rules.Mentions.{Use, AsValue, AsPattern, AsType, AsFunction, AsProc, AsEnum, AsStruct, Mention, item_reaches}
 use Rattle.dslx_typing.specs.Judged.Reached.{MentionsReach}
@@ -21,9 +21,9 @@ in_known sight known = record sight { known = known }
 
 -- a number parameter: what its type and its default come to, whatever is known of the parameters before it
 pub record ParameterAlike (a b : Known) (home : List ℕ) (p : Parameter) : Type 0 where
-  pub ty : (so_far : List Given) → a.type_in home so_far p.ty ≡ b.type_in home so_far p.ty
-  pub seen : (so_far : List Given) (unknown : List (List ℕ)) → a.type_seen_in home so_far unknown p.ty ≡ b.type_seen_in home so_far unknown p.ty
-  pub default : (so_far : List Given) (unknown : List (List ℕ)) (e : Expr) → p.default ≡ Some e → a.default_in home so_far unknown e ≡ b.default_in home so_far unknown e
+  pub ty : (so_far : List Given) (unknown : List (List ℕ)) → a.type_in home so_far unknown p.ty ≡ b.type_in home so_far unknown p.ty
+  pub seen : (so_far : List Given) → a.type_seen_in home so_far p.ty ≡ b.type_seen_in home so_far p.ty
+  pub default : (so_far : List Given) (e : Expr) → p.default ≡ Some e → a.default_in home so_far e ≡ b.default_in home so_far e
 
 abbrev pub EachParameterAlike : Known → Known → List ℕ → List Parameter → Type 0
 EachParameterAlike a b home [] = Unit {0}
@@ -32,13 +32,13 @@ EachParameterAlike a b home (p ∷ ps) = ParameterAlike a b home p × EachParame
 -- the types of arguments
 abbrev pub EachArgumentAlike : Known → Known → List ℕ → List Field → Type 0
 EachArgumentAlike a b home [] = Unit {0}
-EachArgumentAlike a b home (f ∷ fs) = ((bound : List Given) → a.type_in home bound f.ty ≡ b.type_in home bound f.ty) × EachArgumentAlike a b home fs
+EachArgumentAlike a b home (f ∷ fs) = ((bound : List Given) (unknown : List (List ℕ)) → a.type_in home bound unknown f.ty ≡ b.type_in home bound unknown f.ty) × EachArgumentAlike a b home fs
 
 -- a function: its parameters, its arguments, its result, and how large its instances are
 pub record FunctionAlike (a b : Known) (f : Function) : Type 0 where
   pub parameters : EachParameterAlike a b f.name.name f.parameters
   pub arguments : EachArgumentAlike a b f.name.name f.arguments
-  pub result : (bound : List Given) → result_type a f.name.name bound f.result ≡ result_type b f.name.name bound f.result
+  pub result : (bound : Before) → result_type a f.name.name bound f.result ≡ result_type b f.name.name bound f.result
   pub size : (numbers : List DslxValue) → a.body_size (record { name = f.name.name; numbers = numbers }) ≡ b.body_size (record { name = f.name.name; numbers = numbers })
 
 -- a function by its name, and what its calls give

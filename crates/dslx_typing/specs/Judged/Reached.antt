@@ -19,8 +19,8 @@ AllNamed P (i ∷ is) = (P i.name ≡ true) × AllNamed P is
 
 -- so does that of each instance that the type and the default of a number parameter reach
 pub record ParameterReaches (P : List ℕ → Bool) (known : Known) (home : List ℕ) (p : Parameter) : Type 0 where
-  pub ty : (so_far : List Given) (unknown : List (List ℕ)) → AllNamed P (known.type_seen_in home so_far unknown p.ty).reached
-  pub default : (so_far : List Given) (unknown : List (List ℕ)) (e : Expr) → p.default ≡ Some e → AllNamed P (known.default_in home so_far unknown e).judgement.reached
+  pub ty : (so_far : List Given) → AllNamed P (known.type_seen_in home so_far p.ty).reached
+  pub default : (so_far : List Given) (e : Expr) → p.default ≡ Some e → AllNamed P (known.default_in home so_far e).judgement.reached
 
 abbrev pub EachParameterReaches : (List ℕ → Bool) → Known → List ℕ → List Parameter → Type 0
 EachParameterReaches P known home [] = Unit {0}

@@ -54,7 +54,7 @@ filled w P known = record known {
   };
   is_sound = λ i. P i.name && known.is_sound i;
   is_unbroken = λ i. P i.name && known.is_unbroken i;
-  type_in = λ home so_far t. if P home then known.type_in home so_far t else None;
-  type_seen_in = λ home so_far unknown t. if P home then known.type_seen_in home so_far unknown t else refused;
-  default_in = λ home so_far unknown e. if P home then known.default_in home so_far unknown e else record { judgement = refused; value = None };
+  type_in = λ home so_far unknown t. if P home then known.type_in home so_far unknown t else None;
+  type_seen_in = λ home so_far t. if P home then known.type_seen_in home so_far t else refused;
+  default_in = λ home so_far e. if P home then known.default_in home so_far e else record { judgement = refused; value = None };
 }

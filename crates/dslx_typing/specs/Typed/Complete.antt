@@ -14,7 +14,7 @@ use Rattle.dslx_meaning.specs.declared.ty.DslxType.{DslxType}
 use Rattle.dslx_meaning.specs.declared.ty.DslxType as ty
 use Rattle.dslx_meaning.specs.declared.value.DslxValue.{DslxValue}
 use Rattle.dslx_meaning.specs.Rules.Judging.{Known, Judgement, DefaultSeen}
-use Rattle.dslx_meaning.specs.Rules.CallRules.{declared_type, result_type}
+use Rattle.dslx_meaning.specs.Rules.CallRules.{declared_type, known_before, result_type}
 use Rattle.dslx_meaning.specs.Rules.Mentions.{is_of_use, AsType}
 use Rattle.dslx_typing.specs.Typed.Declared.{Declarations, IsDeclared, DeclaresParts}
 use Rattle.dslx_typing.specs.Typed.Given.{GivesOf, OwnTypes}
@@ -39,14 +39,14 @@ pub record IsStructKnown (types : Declarations) (s : Struct) (o : Option DslxTyp
 abbrev pub FitArguments : Known → List ℕ → List Given → List Field → List DslxValue → Type 0
 FitArguments known home bound [] [] = Unit {0}
 FitArguments known home bound (f ∷ fs) (v ∷ vs) =
-    ((t : DslxType) → declared_type known home bound f.ty ≡ Some t → GivesOf known.items.type_named t (Some v)) × FitArguments known home bound fs vs
+    ((t : DslxType) → declared_type known home (known_before bound) f.ty ≡ Some t → GivesOf known.items.type_named t (Some v)) × FitArguments known home bound fs vs
 FitArguments known home bound [] (v ∷ vs) = ⊥
 FitArguments known home bound (f ∷ fs) [] = ⊥
 
 -- an instance of a function that nothing is wrong with: calls give values of the type of its result
 pub record IsCallable (known : Known) (f : Function) (name : List ℕ) (numbers : List DslxValue) : Type 0 where
   pub result : DslxType
-  pub typed : result_type known f.name.name (numbers_bound [] f.parameters numbers) f.result ≡ Some result
+  pub typed : result_type known f.name.name (known_before (numbers_bound [] f.parameters numbers)) f.result ≡ Some result
   pub gives : (given operands : List DslxValue) → all_numbers known.items (inferred_from f.arguments (map type_of_value operands)) [] f.parameters given ≡ Some numbers
       → FitArguments known f.name.name (numbers_bound [] f.parameters numbers) f.arguments operands → GivesOf known.items.type_named result (known.items.call name given operands)
 
@@ -64,21 +64,21 @@ pub record IsDefaultKnown (types : Declarations) (seen : DefaultSeen) : Type 0 w
 -- a number parameter of a function, behind these: its type is one of the text, and where nothing is wrong with its type and its
 -- default, both are known
 pub record IsParameterKnown (known : Known) (home : List ℕ) (so_far : List Given) (p : Parameter) : Type 0 where
-  pub declared : (t : DslxType) → known.type_in home so_far p.ty ≡ Some t → IsDeclared known.items.type_named t
-  pub typed : IsFine known (known.type_seen_in home so_far [] p.ty) → IsTypeKnown (known.type_in home so_far p.ty)
-  pub default : (e : Expr) → p.default ≡ Some e → IsFine known (known.default_in home so_far [] e).judgement → IsDefaultKnown known.items.type_named (known.default_in home so_far [] e)
+  pub declared : (t : DslxType) → known.type_in home so_far [] p.ty ≡ Some t → IsDeclared known.items.type_named t
+  pub typed : IsFine known (known.type_seen_in home so_far p.ty) → IsTypeKnown (known.type_in home so_far [] p.ty)
+  pub default : (e : Expr) → p.default ≡ Some e → IsFine known (known.default_in home so_far e).judgement → IsDefaultKnown known.items.type_named (known.default_in home so_far e)
 
 -- all parameters, each behind values of the types of those before it
 abbrev pub EachParameterKnown : Known → List ℕ → List Given → List Parameter → Type 0
 EachParameterKnown known home so_far [] = Unit {0}
 EachParameterKnown known home so_far (p ∷ ps) =
     IsParameterKnown known home so_far p
-    × ((t : DslxType) (v : DslxValue) → declared_type known home so_far p.ty ≡ Some t → GivesOf known.items.type_named t (Some v) → EachParameterKnown known home (with_number so_far p v) ps)
+    × ((t : DslxType) (v : DslxValue) → declared_type known home (known_before so_far) p.ty ≡ Some t → GivesOf known.items.type_named t (Some v) → EachParameterKnown known home (with_number so_far p v) ps)
 
 -- the types of arguments, where they are known, are types of the text
 abbrev pub EachArgumentDeclared : Known → List ℕ → List Given → List Field → Type 0
 EachArgumentDeclared known home bound [] = Unit {0}
-EachArgumentDeclared known home bound (f ∷ fs) = ((t : DslxType) → known.type_in home bound f.ty ≡ Some t → IsDeclared known.items.type_named t) × EachArgumentDeclared known home bound fs
+EachArgumentDeclared known home bound (f ∷ fs) = ((t : DslxType) → known.type_in home bound [] f.ty ≡ Some t → IsDeclared known.items.type_named t) × EachArgumentDeclared known home bound fs
 
 -- a function of the text: its number parameters by their types and defaults, its arguments by their types, and what its instances
 -- give with which nothing is wrong, where the number parameters have values of their types

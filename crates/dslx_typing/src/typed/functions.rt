@@ -8,7 +8,7 @@ ghost use Rattle.dslx_meaning.specs.Items.{all_numbers, function_value, inferred
 ghost use Rattle.dslx_meaning.specs.Meaning.{value_of_block};
 ghost use Rattle.dslx_meaning.specs.declared.ty.DslxType.{DslxType};
 ghost use Rattle.dslx_meaning.specs.declared.value.DslxValue.{DslxValue};
-ghost use Rattle.dslx_meaning.specs.Rules.CallRules.{GivenNumber, inferred_by, numbers_seen};
+ghost use Rattle.dslx_meaning.specs.Rules.CallRules.{GivenNumber, inferred_by, known_before, numbers_seen};
 ghost use Rattle.dslx_meaning.specs.Rules.ItemRules.{arguments_typed, body_judged, function_sight};
 ghost use Rattle.dslx_meaning.specs.Rules.Judging.{Known, has_broken, with_typed};
 ghost use Rattle.dslx_meaning.specs.Rules.NodeRules.{block_pair};
@@ -36,6 +36,6 @@ pub fn functions_give_values_of_their_types()
 pub fn calls_find_their_number_parameters()
     ensures found { (known : Known) (items : Meanings) (home : List ℕ)
         → (inferred : List Inferred) (maybe : List (List ℕ)) (so_far : List Given) (ps : List Parameter) (gs : List GivenNumber) (vs ws : List DslxValue)
-        → ParametersMean known items home so_far ps → FitNumbers known home so_far ps ws → GivenMean gs vs → (numbers_seen known home inferred maybe so_far [] ps gs).values ≡ Some ws → all_numbers items inferred so_far ps vs ≡ Some ws }
+        → ParametersMean known items home so_far ps → FitNumbers known home so_far ps ws → GivenMean gs vs → (numbers_seen known home inferred maybe (known_before so_far) ps gs).values ≡ Some ws → all_numbers items inferred so_far ps vs ≡ Some ws }
     ensures inferred { (fs : List Field) (ts : List DslxType) → inferred_by fs (map Some ts) ≡ inferred_from fs ts }
 {}
