@@ -9,7 +9,6 @@ use Rattle.dslx_meaning.specs.Rules.NodeRules.{judged_steps, second_of, block_pa
 use Rattle.dslx_meaning.specs.Rules.Judgings.{SightJudging, judged_sorts, StatementJudging}
 use Rattle.dslx_meaning.specs.Rules.Judging.{ExprPair, Sight, alone, breaks, no_token, span_of, Instance}
 use Rattle.dslx_meaning.specs.declared.ty.DslxType as ty
-use Rattle.dslx_meaning.specs.declared.value.DslxValue.{DslxValue}
 use Rattle.dslx_total.specs.Expressions.Widths.{arm_wide, block_wide, for_wide, let_wide, node_wide, shape_wide, stmt_wide, type_wide, wide_if, all_wide, block_writes_widths, type_writes_widths, writes_widths}
 use Rattle.dslx_total.specs.Expressions.Lowers.{IsWide, IsLimited, PartLowers, PatternLowers, TypeLowers, ExprLowers, WrittenLowers, reaching, IsLoweredWhereFine, TypeIsLoweredWhereFine}
 use Rattle.dslx_total.proofs.OnExpressions.OfStructs.{FieldLowers, EachFieldLowers, struct_lowers}
@@ -26,7 +25,7 @@ use Rattle.dslx_tree.specs.declared.block.Stmt.TheOpen.{Node-F, Shape-F, TypeNod
 use Rattle.dslx_tree.specs.declared.block.Stmt.{Stmt}
 use Rattle.dslx_tree.specs.declared.block.Block.{Block}
 use Rattle.dslx_typing.specs.Sound.Sound.{EachPatternGives, acc_seen, body_seen, index_seen}
-use Rattle.dslx_typing.proofs.Lemmas.Sound.{alone_fine, block_of_text_has, expression_gives, name_has, none_in, pattern_gives, settled_fine, some_fault, type_stands, HoldOn, TreeClaims, holds_block, holds_expr, holds_pattern, holds_type_expr, own_expr, held, held_tree, paired, pairing}
+use Rattle.dslx_typing.proofs.Lemmas.Sound.{alone_fine, block_of_text_has, expression_gives, limited_fine, name_has, none_in, pattern_gives, some_fault, type_stands, unlimited_type, HoldOn, TreeClaims, holds_block, holds_expr, holds_pattern, holds_type_expr, own_expr, held, held_tree, paired, pairing}
 use Rattle.dslx_meaning.specs.Rules.TypeRules.{array_of, counted_type, inner_type}
 use Rattle.dslx_meaning.specs.Rules.OperatorRules.{slice_judged}
 use Rattle.dslx_meaning.specs.Rules.Mentions.{AsType, is_of_use}
@@ -41,12 +40,13 @@ use Rattle.dslx_total.proofs.OnExpressions.OfOperations.{binary_lowers, cast_low
 use Rattle.dslx_total.proofs.OnExpressions.OfNames.{bool_lowers, literal_typed, member_lowers, name_lowers, number_lowers}
 use Rattle.dslx_total.proofs.OnExpressions.OfAggregates.{element_lowers, tuple_lowers, typed_lowers, untyped_lowers}
 use Rattle.dslx_total.proofs.OnExpressions.Lists.{EachExprLowers}
-use Rattle.dslx_total.proofs.OnExpressions.Limited.{binary_limited, bool_limited, call_limited, cast_limited, element_limited, field_limited, if_limited, index_limited, match_limited, member_limited, name_limited, part_limited, prefix_limited, slice_limited, struct_limited, tuple_limited, typed_limited, untyped_limited, block_limited, loop_limited, number_limited}
+use Rattle.dslx_total.proofs.OnExpressions.Limits.{limited_keeps}
+use Rattle.dslx_total.proofs.OnExpressions.Limited.{binary_limited, bool_limited, call_limited, cast_limited, element_limited, field_limited, if_limited, index_limited, match_limited, name_limited, part_limited, prefix_limited, slice_limited, struct_limited, tuple_limited, typed_limited, untyped_limited, block_limited, loop_limited}
 use Rattle.dslx_core.specs.Lowering.Lowering.{slice_lowered, name_lowered}
 use Rattle.dslx_typing.proofs.Lemmas.Laws.{and_true}
 use Rattle.dslx_typing.specs.Typed.WellTyped.{types_at, IsWellTyped}
 use Rattle.dslx_tree.specs.declared.type_expr.TypeExpr.{TypeExpr}
-use Rattle.dslx_meaning.specs.Rules.NameRules.{name_judged}
+use Rattle.dslx_meaning.specs.Rules.NameRules.{member_judged, name_judged}
 use Rattle.dslx_meaning.specs.Rules.ControlRules.{same_ends, span_of_block, written_judged}
 use Rattle.dslx_meaning.specs.Rules.AggregateRules.{range_faults}
 use Rattle.dslx_meaning.specs.declared.value.Bare.{Bare}
@@ -119,10 +119,6 @@ pub record TypeClaim (j : SightJudging) (l : LowersType) : Type 0 where
   pub lowers : TypeLowers j l
   pub wide : IsWide j
 
-pub record NumberClaim (j : SightJudging) (l : CorePlace → Option DslxValue) : Type 0 where
-  pub stands : NumberStands j l
-  pub limited : IsLimited j
-
 pub record ArgClaim (e : ExprPair) (l : Expr) : Type 0 where
   pub same : e.0 ≡ l
   pub gives : ExprGivesSome e
@@ -141,7 +137,7 @@ becomes_something = record {
   expr = λ x. fold_expr wide widths x ≡ true → PartClaim ((fold_expr seen seeing x).1 false) (fold_expr become becoming x).1;
   field = λ x. fold_field wide widths x ≡ true → FieldLowers (fold_field seen seeing x).1 (fold_field become becoming x).1;
   loop = λ x. fold_loop wide widths x ≡ true → (span : Span) → PartClaim ((fold_loop seen seeing x).1 span) (fold_loop become becoming x).1;
-  number = λ x. fold_number wide widths x ≡ true → (span : Span) → NumberClaim ((fold_number seen seeing x).1 span) (fold_number become becoming x).1;
+  number = λ x. fold_number wide widths x ≡ true → (span : Span) → NumberStands ((fold_number seen seeing x).1 span) (fold_number become becoming x).1;
   pattern = λ x. fold_pattern wide widths x ≡ true → PatternLowers (fold_pattern seen seeing x).1 (fold_pattern become becoming x).1;
   type_expr = λ x. fold_type_expr wide widths x ≡ true → TypeClaim (fold_type_expr seen seeing x).1 (fold_type_expr become becoming x).1;
 }
@@ -260,7 +256,12 @@ node_claim : (y : NodeLevel Held) → node_wide (map_node trees wide (folds wide
     → PartClaim ((seeing.node (map_node trees seen (folds seen seeing) (map_node Held trees tree y))).1 span false) (becoming.node (map_node trees become (folds become becoming) (map_node Held trees tree y))).1
 node_claim (Node-F.Node::Number n) w span =
     let c = n.1 w span in
-    record { lowers = λ here sight env place h at fine. literal_typed ((fold_number become becoming n.0).1 place) ∙ c.stands.lowers here sight env place h at fine; limited = c.limited }
+    let j = (fold_number seen seeing n.0).1 span in
+    record {
+      lowers = λ here sight env place h at fine.
+          literal_typed ((fold_number become becoming n.0).1 place) ∙ c.lowers here sight env place h at (limited_fine (reaching sight.known here) span (j sight) fine);
+      limited = λ sight. limited_keeps span (j sight);
+    }
 node_claim (Node-F.Node::Bool b) w span = record { lowers = bool_lowers span b; limited = bool_limited span }
 node_claim (Node-F.Node::Array None es dots) w span = record { lowers = untyped_lowers span (exprs_seen es) dots (exprs_become es) (each_expr es w); limited = untyped_limited span (exprs_seen es) dots }
 node_claim (Node-F.Node::Array (Some t) es dots) w span =
@@ -270,7 +271,7 @@ node_claim (Node-F.Node::Array (Some t) es dots) w span =
       limited = typed_limited span (fold_type_expr seen seeing t.0).1 (exprs_seen es) dots;
     }
 node_claim (Node-F.Node::Name name) w span = record { lowers = name_lowers span name; limited = name_limited span name }
-node_claim (Node-F.Node::Member e a) w span = record { lowers = member_lowers span e a; limited = member_limited span e a }
+node_claim (Node-F.Node::Member e a) w span = record { lowers = member_lowers span e a; limited = λ sight. limited_keeps span (member_judged sight e a) }
 node_claim (Node-F.Call f numbers es) w span =
     let q = and_true (all_wide (map (fold_arg wide widths) (map (λ (p : ArgPart). p.0) numbers))) (all_wide (map (fold_expr wide widths) (map (λ (p : ExprPart). p.0) es))) w in
     let as' = map (fold_arg seen seeing) (map (λ (p : ArgPart). p.0) numbers) in
@@ -385,7 +386,7 @@ shape_claim : (y : ShapeLevel Held) → shape_wide (map_shape trees wide (folds 
     → PatternLowers ((seeing.shape (map_shape trees seen (folds seen seeing) (map_shape Held trees tree y))).1 span) (becoming.shape (map_shape trees become (folds become becoming) (map_shape Held trees tree y))).1
 shape_claim Shape-F.Wild w span = wild_lowers
 shape_claim (Shape-F.Shape::Bool b) w span = bool_pattern_lowers span b
-shape_claim (Shape-F.Shape::Number n) w span = number_pattern_lowers span ((fold_number seen seeing n.0).1 span) (fold_number become becoming n.0).1 (n.1 w span).stands
+shape_claim (Shape-F.Shape::Number n) w span = number_pattern_lowers span ((fold_number seen seeing n.0).1 span) (fold_number become becoming n.0).1 (n.1 w span)
 shape_claim (Shape-F.Shape::Name name) w span = name_pattern_lowers span name
 shape_claim (Shape-F.Shape::Member e a) w span = member_pattern_lowers span e a
 shape_claim (Shape-F.Shape::Tuple ps) w span =
@@ -492,7 +493,7 @@ loop_claim y w span =
 -- ---- numbers and fields
 
 number_claim : (y : NumberLevel Held) → wide_if (map_number trees wide (folds wide widths) (map_number Held trees tree y)).ty ≡ true → (span : Span)
-    → NumberClaim ((seeing.number (map_number trees seen (folds seen seeing) (map_number Held trees tree y))).1 span) (becoming.number (map_number trees become (folds become becoming) (map_number Held trees tree y))).1
+    → NumberStands ((seeing.number (map_number trees seen (folds seen seeing) (map_number Held trees tree y))).1 span) (becoming.number (map_number trees become (folds become becoming) (map_number Held trees tree y))).1
 number_claim y w span = by_type y.ty w
   where
     number : Bare
@@ -502,27 +503,20 @@ number_claim y w span = by_type y.ty w
     with_type o = record { ty = o; is_negative = y.is_negative; value = y.value }
 
     by_type : (o : Option TypePart) → wide_if (map_number trees wide (folds wide widths) (map_number Held trees tree (with_type o))).ty ≡ true
-        → NumberClaim ((seeing.number (map_number trees seen (folds seen seeing) (map_number Held trees tree (with_type o)))).1 span) (becoming.number (map_number trees become (folds become becoming) (map_number Held trees tree (with_type o)))).1
+        → NumberStands ((seeing.number (map_number trees seen (folds seen seeing) (map_number Held trees tree (with_type o)))).1 span) (becoming.number (map_number trees become (folds become becoming) (map_number Held trees tree (with_type o)))).1
     by_type None w = record {
-      stands = record {
-        lowers = λ here sight env place h at fine. refl;
-        known = λ here sight env place h at fine. some_fault (breaks 7 span) [] (settled_fine (reaching sight.known here) span None (breaks 7 span ∷ []) [] (Some 1) fine).faults;
-      };
-      limited = number_limited span None number;
+      lowers = λ here sight env place h at fine. refl;
+      known = λ here sight env place h at fine. some_fault (breaks 7 span) [] fine.faults;
     }
     by_type (Some t) w =
         let part = type_part t w in
         let j = (fold_type_expr seen seeing t.0).1 in
         record {
-          stands = record {
-            lowers = number_lowers span j (fold_type_expr become becoming t.0).1 number part;
-            known = λ here sight env place h at fine.
-                let wrong = range_faults span (j sight).ty number in
-                let s = settled_fine (reaching sight.known here) span (j sight).ty ((j sight).faults ++ wrong) (j sight).reached (Some 1) fine in
-                let t = type_becomes here sight env place j _ part h at (record { faults = (none_in (j sight).faults wrong s.faults).0; reached = s.reached }) in
-                (t.ty, s.ty ∙ t.typed, t.declared);
-          };
-          limited = number_limited span (Some j) number;
+          lowers = number_lowers span j (fold_type_expr become becoming t.0).1 number part;
+          known = λ here sight env place h at fine.
+              let wrong = range_faults span (j sight).ty number in
+              let t = type_becomes here sight env place j _ part h at (record { faults = (none_in (j sight).faults wrong fine.faults).0; reached = fine.reached }) in
+              (t.ty, unlimited_type (j sight).ty ((j sight).faults ++ wrong) (j sight).reached (Some 1) fine.faults ∙ t.typed, t.declared);
         }
 
 field_claim : (y : FieldValueLevel Held) → wide_if (map_field trees wide (folds wide widths) (map_field Held trees tree y)).value ≡ true
@@ -572,7 +566,7 @@ all_become = record {
   expr = λ y w. moved (λ p q. PartClaim (p.1 false) q.1) (fold_expr-roll seen seeing (map_expr Held trees tree y)) (fold_expr-roll become becoming (map_expr Held trees tree y)) (expr_claim y (sym (fold_expr-roll wide widths (map_expr Held trees tree y)) ∙ w));
   field = λ y w. moved (λ p q. FieldLowers p.1 q.1) (fold_field-roll seen seeing (map_field Held trees tree y)) (fold_field-roll become becoming (map_field Held trees tree y)) (field_claim y (sym (fold_field-roll wide widths (map_field Held trees tree y)) ∙ w));
   loop = λ y w span. moved (λ p q. PartClaim (p.1 span) q.1) (fold_loop-roll seen seeing (map_loop Held trees tree y)) (fold_loop-roll become becoming (map_loop Held trees tree y)) (loop_claim y (sym (fold_loop-roll wide widths (map_loop Held trees tree y)) ∙ w) span);
-  number = λ y w span. moved (λ p q. NumberClaim (p.1 span) q.1) (fold_number-roll seen seeing (map_number Held trees tree y)) (fold_number-roll become becoming (map_number Held trees tree y)) (number_claim y (sym (fold_number-roll wide widths (map_number Held trees tree y)) ∙ w) span);
+  number = λ y w span. moved (λ p q. NumberStands (p.1 span) q.1) (fold_number-roll seen seeing (map_number Held trees tree y)) (fold_number-roll become becoming (map_number Held trees tree y)) (number_claim y (sym (fold_number-roll wide widths (map_number Held trees tree y)) ∙ w) span);
   pattern = λ y w. moved (λ p q. PatternLowers p.1 q.1) (fold_pattern-roll seen seeing (map_pattern Held trees tree y)) (fold_pattern-roll become becoming (map_pattern Held trees tree y)) (y.shape.1 (sym (fold_pattern-roll wide widths (map_pattern Held trees tree y)) ∙ w) y.span);
   type_expr = λ y w. moved (λ p q. TypeClaim p.1 q.1) (fold_type_expr-roll seen seeing (map_type_expr Held trees tree y)) (fold_type_expr-roll become becoming (map_type_expr Held trees tree y)) (y.node.1 (sym (fold_type_expr-roll wide widths (map_type_expr Held trees tree y)) ∙ w) y.span);
 }
