@@ -13,7 +13,7 @@ use Rattle.dslx_meaning.specs.declared.ty.DslxType.{DslxType, out-DslxType}
 use Rattle.dslx_meaning.specs.declared.ty.DslxType as ty
 use Rattle.dslx_meaning.specs.declared.ty.DslxType.TheOpen.{DslxType-F}
 use Rattle.dslx_meaning.specs.Rules.Mentions.{is_cyclic}
-use Rattle.dslx_meaning.specs.Rules.Judging.{Sight, Judgement, ExprPair, breaks, breaks_if, settled, span_of, bare_of, alone, within, no_token, faults_of_all, reached_of_all, size_of_all, types_of, plus_size, one_and}
+use Rattle.dslx_meaning.specs.Rules.Judging.{Sight, Judgement, ExprPair, breaks, breaks_if, unlimited, settled, span_of, bare_of, alone, within, no_token, faults_of_all, reached_of_all, size_of_all, types_of, plus_size, one_and}
 use Rattle.dslx_meaning.specs.Rules.Judgings.{FieldSeen}
 use Rattle.dslx_meaning.specs.Rules.ConstantRules.{bare_judged, is_empty, is_unsigned}
 use Rattle.dslx_meaning.specs.Rules.NameRules.{name_judged}
@@ -31,8 +31,8 @@ range_faults span (Some t) number = breaks_if (not (is_there (number_value t num
 
 -- rule 7: without a type a number stands in few places, which judge it themselves
 abbrev pub number_judged : Span → Option Judgement → Bare → Judgement
-number_judged span None number = settled span None (breaks 7 span ∷ []) [] (Some 1)
-number_judged span (Some t) number = settled span t.ty (t.faults ++ range_faults span t.ty number) t.reached (Some 1)
+number_judged span None number = unlimited None (breaks 7 span ∷ []) [] (Some 1)
+number_judged span (Some t) number = unlimited t.ty (t.faults ++ range_faults span t.ty number) t.reached (Some 1)
 
 -- ---- arrays
 

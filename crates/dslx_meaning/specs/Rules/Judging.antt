@@ -167,11 +167,16 @@ type_limits end (Some t) = passes_widths end (leaf_widths t) ++ passes what.Leav
 abbrev pub unless_broken : {A : Type 0} → List Fault → Option A → Option A
 unless_broken faults ty = if has_broken faults then None else ty
 
--- a part of this type that ends there, with the faults and all else of it and its parts
+-- a part of this type, with the faults and all else of it and its parts, to whose type no limit applies
+abbrev pub unlimited : Option DslxType → List Fault → List Instance → Option ℕ → Judgement
+unlimited ty faults reached size = record { ty = unless_broken faults ty; faults = faults; reached = reached; size = size }
+
+-- the same with the limits on the type of a part that ends there
+abbrev pub limited : Span → Judgement → Judgement
+limited span j = record j { faults = j.faults ++ type_limits span.to j.ty }
+
 abbrev pub settled : Span → Option DslxType → List Fault → List Instance → Option ℕ → Judgement
-settled span ty faults reached size =
-    let own = unless_broken faults ty in
-    record { ty = own; faults = faults ++ type_limits span.to own; reached = reached; size = size }
+settled span ty faults reached size = limited span (unlimited ty faults reached size)
 
 -- ---- sizes
 

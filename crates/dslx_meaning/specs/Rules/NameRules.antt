@@ -5,7 +5,7 @@ use Rattle.xb_span.specs.declared.fault.Fault.{Fault}
 use Rattle.dslx_tree.specs.declared.ident.Ident.{Ident}
 use Rattle.dslx_tree.specs.declared.item.Enum.{Enum}
 use Rattle.dslx_tree.specs.declared.item.Member.{Member}
-use Rattle.dslx_meaning.specs.Lists.{is_in}
+use Rattle.dslx_meaning.specs.Lists.{is_in, and_then}
 use Rattle.dslx_meaning.specs.Callees.{is_own_name}
 use Rattle.dslx_meaning.specs.Values.{type_of_value}
 use Rattle.dslx_meaning.specs.Environment.{given_in}
@@ -13,7 +13,7 @@ use Rattle.dslx_meaning.specs.Items.{item_named, as_enum}
 use Rattle.dslx_meaning.specs.declared.ty.DslxType.{DslxType}
 use Rattle.dslx_meaning.specs.declared.value.DslxValue.{DslxValue}
 use Rattle.dslx_meaning.specs.Rules.Mentions.{is_cyclic}
-use Rattle.dslx_meaning.specs.Rules.Judging.{Sight, Judgement, breaks, breaks_if, settled, typed_in, is_item}
+use Rattle.dslx_meaning.specs.Rules.Judging.{Sight, Judgement, breaks, breaks_if, unlimited, settled, typed_in, is_item}
 
 -- ---- uses
 
@@ -42,15 +42,19 @@ name_judged span sight name = local_or_other span sight name (typed_in name sigh
 abbrev pub has_member : Enum → List ℕ → Bool
 has_member e name = is_in name (map (λ (m : Member). m.name.name) e.members)
 
-abbrev pub member_of : Span → Sight → Ident → Ident → Option Enum → Judgement
-member_of span sight e a None = settled span None (breaks 1 e.span ∷ []) [] (Some 1)
-member_of span sight e a (Some declared) =
-    settled span (sight.known.items.type_named e.name)
+-- a member without a value has no type
+abbrev pub member_type : Sight → Ident → Ident → Option DslxType
+member_type sight e a = and_then (sight.known.items.member e.name a.name) (λ v. sight.known.items.type_named e.name)
+
+abbrev pub member_of : Sight → Ident → Ident → Option Enum → Judgement
+member_of sight e a None = unlimited None (breaks 1 e.span ∷ []) [] (Some 1)
+member_of sight e a (Some declared) =
+    unlimited (member_type sight e a)
     (breaks_if (is_cyclic sight.known.whole sight.home e.name) 3 e.span ++ breaks_if (not (has_member declared a.name)) 1 a.span) [] (Some 1)
 
 -- `E::A`
-abbrev pub member_judged : Span → Sight → Ident → Ident → Judgement
-member_judged span sight e a = member_of span sight e a (as_enum (item_named e.name sight.known.whole.items))
+abbrev pub member_judged : Sight → Ident → Ident → Judgement
+member_judged sight e a = member_of sight e a (as_enum (item_named e.name sight.known.whole.items))
 
 -- ---- declarations
 

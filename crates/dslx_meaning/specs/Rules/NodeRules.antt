@@ -9,7 +9,7 @@ use Rattle.dslx_tree.specs.declared.type_expr.TypeExpr.{TypeExpr}
 use Rattle.dslx_meaning.specs.Callees.{kind_of_call}
 use Rattle.dslx_meaning.specs.Types.{bool_type}
 use Rattle.dslx_meaning.specs.Rules.Paired.{Recursion, ArmPart, FieldPart, paired_expr, paired_block, paired_type_expr, paired_arg}
-use Rattle.dslx_meaning.specs.Rules.Judging.{Judging, ExprPair, settled}
+use Rattle.dslx_meaning.specs.Rules.Judging.{Judging, ExprPair, limited, settled}
 use Rattle.dslx_meaning.specs.Rules.Judgings.{judged_sorts, ArmSeen, FieldSeen, TypePair, BlockPair, ArgPair, SightJudging, NodeSeenLayer, NumberLayer}
 use Rattle.dslx_meaning.specs.Rules.NameRules.{name_judged, member_judged}
 use Rattle.dslx_meaning.specs.Rules.PatternRules.{shape_judged}
@@ -26,11 +26,11 @@ abbrev pub second_of : {A B : Type 0} → A × B → B
 second_of p = p.1
 
 abbrev pub node_judged : NodeSeenLayer → Span → Judging
-node_judged (Node-F.Node::Number n) span on_top sight = n.1 span sight
+node_judged (Node-F.Node::Number n) span on_top sight = limited span (n.1 span sight)
 node_judged (Node-F.Node::Bool b) span on_top sight = settled span (Some bool_type) [] [] (Some 1)
 node_judged (Node-F.Node::Array ty es dots) span on_top sight = array_judged span sight (written_judged sight ty) es dots
 node_judged (Node-F.Node::Name name) span on_top sight = name_judged span sight name
-node_judged (Node-F.Node::Member e a) span on_top sight = member_judged span sight e a
+node_judged (Node-F.Node::Member e a) span on_top sight = limited span (member_judged sight e a)
 node_judged (Node-F.Call f numbers es) span on_top sight = call_judged (kind_of_call f.name) span f numbers es on_top sight
 node_judged (Node-F.Node::Tuple es) span on_top sight = tuple_judged span sight es
 node_judged (Node-F.Struct s fields rest) span on_top sight = struct_judged span sight s (map second_of fields) rest

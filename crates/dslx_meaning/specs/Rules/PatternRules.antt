@@ -9,7 +9,7 @@ use Rattle.dslx_meaning.specs.declared.ty.DslxType.{DslxType, out-DslxType}
 use Rattle.dslx_meaning.specs.declared.ty.DslxType.TheOpen.{DslxType-F}
 use Rattle.dslx_meaning.specs.declared.value.DslxValue.{DslxValue}
 use Rattle.dslx_meaning.specs.Rules.Mentions.{is_cyclic}
-use Rattle.dslx_meaning.specs.Rules.Judging.{Sight, Typed, Judgement, breaks, breaks_if, settled}
+use Rattle.dslx_meaning.specs.Rules.Judging.{Sight, Typed, Judgement, breaks, breaks_if, unlimited}
 use Rattle.dslx_meaning.specs.Rules.Judgings.{PatternSeen, PatternJudging, PatternPair, ShapeLayer}
 use Rattle.dslx_meaning.specs.Rules.NameRules.{member_judged, local_name}
 
@@ -46,8 +46,9 @@ bound_name span sight ty names locals name = record {
   is_sure = true;
 }
 
+-- no limit applies to a pattern's type
 abbrev pub constant_pattern : Span → Sight → List ℕ → Option DslxValue → Judgement
-constant_pattern span sight name v = settled span (option_map type_of_value v) (breaks_if (is_cyclic sight.known.whole sight.home name) 3 span) [] (Some 1)
+constant_pattern span sight name v = unlimited (option_map type_of_value v) (breaks_if (is_cyclic sight.known.whole sight.home name) 3 span) [] (Some 1)
 
 -- the types of the parts of a tuple, where it has as many
 abbrev pub part_types_in : ℕ → DslxType-F DslxType → Option (List DslxType)
@@ -105,13 +106,13 @@ name_pattern span may_fail sight ty names locals name true =
 
 abbrev pub shape_judged : ShapeLayer → Span → PatternJudging
 shape_judged Shape-F.Wild span may_fail sight ty names locals = record (nothing_bound names locals) { size = 1 }
-shape_judged (Shape-F.Shape::Bool b) span may_fail sight ty names locals = one_value span may_fail ty names locals (settled span (Some bool_type) [] [] (Some 1)) true
+shape_judged (Shape-F.Shape::Bool b) span may_fail sight ty names locals = one_value span may_fail ty names locals (unlimited (Some bool_type) [] [] (Some 1)) true
 shape_judged (Shape-F.Shape::Number n) span may_fail sight ty names locals =
     let own = n.1 span sight in
     one_value span may_fail ty names locals own (is_there own.ty)
 shape_judged (Shape-F.Shape::Name name) span may_fail sight ty names locals = name_pattern span may_fail sight ty names locals name (sight.known.items.is_constant name)
 shape_judged (Shape-F.Shape::Member e a) span may_fail sight ty names locals =
-    one_value span may_fail ty names locals (member_judged span sight e a) (is_there (sight.known.items.member e.name a.name))
+    one_value span may_fail ty names locals (member_judged sight e a) (is_there (sight.known.items.member e.name a.name))
 shape_judged (Shape-F.Shape::Tuple ps) span may_fail sight ty names locals =
     let types = part_types (length ps) ty in
     tuple_pattern span ty types (parts_judged may_fail sight ps types names locals)

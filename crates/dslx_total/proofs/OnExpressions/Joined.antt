@@ -9,7 +9,6 @@ use Rattle.dslx_meaning.specs.Rules.NodeRules.{judged_steps, second_of, block_pa
 use Rattle.dslx_meaning.specs.Rules.Judgings.{SightJudging, judged_sorts, StatementJudging}
 use Rattle.dslx_meaning.specs.Rules.Judging.{ExprPair, Sight, alone, breaks, no_token, span_of, Instance}
 use Rattle.dslx_meaning.specs.declared.ty.DslxType as ty
-use Rattle.dslx_meaning.specs.declared.value.DslxValue.{DslxValue}
 use Rattle.dslx_total.specs.Expressions.Lowers.{IsWide, IsLimited, PartLowers, PatternLowers, TypeLowers, ExprLowers, WrittenLowers, reaching, IsLoweredWhereFine, TypeIsLoweredWhereFine}
 use Rattle.dslx_total.proofs.OnExpressions.OfStructs.{FieldLowers, EachFieldLowers, struct_lowers}
 use Rattle.dslx_total.proofs.OnExpressions.OfPatterns.{NumberStands, EachPatternLowers, bool_pattern_lowers, member_pattern_lowers, name_pattern_lowers, number_pattern_lowers, tuple_pattern_lowers, wild_lowers}
@@ -25,7 +24,7 @@ use Rattle.dslx_tree.specs.declared.block.Stmt.TheOpen.{Node-F, Shape-F, TypeNod
 use Rattle.dslx_tree.specs.declared.block.Stmt.{Stmt}
 use Rattle.dslx_tree.specs.declared.block.Block.{Block}
 use Rattle.dslx_typing.specs.Sound.Sound.{EachPatternGives, TypeStandsIf, loop_at}
-use Rattle.dslx_typing.proofs.Lemmas.Sound.{alone_fine, block_of_text_has, expression_gives, name_has, none_in, pattern_gives, settled_fine, some_fault, type_stands, HoldOn, TreeClaims, holds_block, holds_expr, holds_pattern, holds_type_expr, own_expr, held, held_tree, paired, pairing}
+use Rattle.dslx_typing.proofs.Lemmas.Sound.{alone_fine, block_of_text_has, expression_gives, name_has, none_in, pattern_gives, some_fault, type_stands, HoldOn, TreeClaims, holds_block, holds_expr, holds_pattern, holds_type_expr, own_expr, held, held_tree, paired, pairing, limited_fine, unlimited_type}
 use Rattle.dslx_meaning.specs.Rules.TypeRules.{array_of, counted_type, inner_type}
 use Rattle.dslx_meaning.specs.Rules.OperatorRules.{slice_judged}
 use Rattle.dslx_meaning.specs.Rules.Mentions.{AsType, is_of_use}
@@ -40,11 +39,12 @@ use Rattle.dslx_total.proofs.OnExpressions.OfOperations.{binary_lowers, cast_low
 use Rattle.dslx_total.proofs.OnExpressions.OfNames.{bool_lowers, literal_typed, member_lowers, name_lowers, number_lowers}
 use Rattle.dslx_total.proofs.OnExpressions.OfAggregates.{element_lowers, tuple_lowers, typed_lowers, untyped_lowers}
 use Rattle.dslx_total.proofs.OnExpressions.Lists.{EachExprLowers}
-use Rattle.dslx_total.proofs.OnExpressions.Limited.{binary_limited, bool_limited, call_limited, cast_limited, element_limited, field_limited, if_limited, index_limited, match_limited, member_limited, name_limited, part_limited, prefix_limited, slice_limited, struct_limited, tuple_limited, typed_limited, untyped_limited, block_limited, loop_limited, number_limited}
+use Rattle.dslx_total.proofs.OnExpressions.Limits.{limited_keeps}
+use Rattle.dslx_total.proofs.OnExpressions.Limited.{binary_limited, bool_limited, call_limited, cast_limited, element_limited, field_limited, if_limited, index_limited, match_limited, name_limited, part_limited, prefix_limited, slice_limited, struct_limited, tuple_limited, typed_limited, untyped_limited, block_limited, loop_limited}
 use Rattle.dslx_core.specs.Lowering.Lowering.{slice_lowered, name_lowered}
 use Rattle.dslx_typing.specs.Typed.WellTyped.{types_at, IsWellTyped}
 use Rattle.dslx_tree.specs.declared.type_expr.TypeExpr.{TypeExpr}
-use Rattle.dslx_meaning.specs.Rules.NameRules.{name_judged}
+use Rattle.dslx_meaning.specs.Rules.NameRules.{name_judged, member_judged}
 use Rattle.dslx_meaning.specs.Rules.ControlRules.{same_ends, span_of_block}
 use Rattle.dslx_meaning.specs.Rules.AggregateRules.{range_faults}
 use Rattle.dslx_meaning.specs.declared.value.Bare.{Bare}
@@ -80,10 +80,6 @@ pub record TypeClaim (j : SightJudging) (l : LowersType) : Type 0 where
   pub lowers : TypeLowers j l
   pub wide : IsWide j
 
-pub record NumberClaim (j : SightJudging) (l : CorePlace → Option DslxValue) : Type 0 where
-  pub stands : NumberStands j l
-  pub limited : IsLimited j
-
 pub record ArgClaim (e : ExprPair) (l : Expr) : Type 0 where
   pub same : e.0 ≡ l
   pub gives : ExprGivesSome e
@@ -101,7 +97,7 @@ becomes_something = record {
   expr = λ x. PartClaim ((fold_expr seen seeing x).1 false) (fold_expr become becoming x).1;
   field = λ x. FieldLowers (fold_field seen seeing x).1 (fold_field become becoming x).1;
   loop = λ x. (span : Span) → PartClaim ((fold_loop seen seeing x).1 span) (fold_loop become becoming x).1;
-  number = λ x. (span : Span) → NumberClaim ((fold_number seen seeing x).1 span) (fold_number become becoming x).1;
+  number = λ x. (span : Span) → NumberStands ((fold_number seen seeing x).1 span) (fold_number become becoming x).1;
   pattern = λ x. PatternLowers (fold_pattern seen seeing x).1 (fold_pattern become becoming x).1;
   type_expr = λ x. TypeClaim (fold_type_expr seen seeing x).1 (fold_type_expr become becoming x).1;
 }
@@ -199,7 +195,12 @@ node_claim : (y : NodeLevel Held) → (span : Span)
     → PartClaim ((seeing.node (map_node trees seen (folds seen seeing) (map_node Held trees tree y))).1 span false) (becoming.node (map_node trees become (folds become becoming) (map_node Held trees tree y))).1
 node_claim (Node-F.Node::Number n) span =
     let c = n.1 span in
-    record { lowers = λ here sight env place h at fine. literal_typed ((fold_number become becoming n.0).1 place) ∙ c.stands.lowers here sight env place h at fine; limited = c.limited }
+    let j = (fold_number seen seeing n.0).1 span in
+    record {
+      lowers = λ here sight env place h at fine.
+          literal_typed ((fold_number become becoming n.0).1 place) ∙ c.lowers here sight env place h at (limited_fine (reaching sight.known here) span (j sight) fine);
+      limited = λ sight. limited_keeps span (j sight);
+    }
 node_claim (Node-F.Node::Bool b) span = record { lowers = bool_lowers span b; limited = bool_limited span }
 node_claim (Node-F.Node::Array None es dots) span = record { lowers = untyped_lowers span (exprs_seen es) dots (exprs_become es) (each_expr es); limited = untyped_limited span (exprs_seen es) dots }
 node_claim (Node-F.Node::Array (Some t) es dots) span =
@@ -208,7 +209,7 @@ node_claim (Node-F.Node::Array (Some t) es dots) span =
       limited = typed_limited span (fold_type_expr seen seeing t.0).1 (exprs_seen es) dots;
     }
 node_claim (Node-F.Node::Name name) span = record { lowers = name_lowers span name; limited = name_limited span name }
-node_claim (Node-F.Node::Member e a) span = record { lowers = member_lowers span e a; limited = member_limited span e a }
+node_claim (Node-F.Node::Member e a) span = record { lowers = member_lowers span e a; limited = λ sight. limited_keeps span (member_judged sight e a) }
 node_claim (Node-F.Call f numbers es) span =
     let as' = map (fold_arg seen seeing) (map (λ (p : ArgPart). p.0) numbers) in
     record {
@@ -309,7 +310,7 @@ shape_claim : (y : ShapeLevel Held) → (span : Span)
     → PatternLowers ((seeing.shape (map_shape trees seen (folds seen seeing) (map_shape Held trees tree y))).1 span) (becoming.shape (map_shape trees become (folds become becoming) (map_shape Held trees tree y))).1
 shape_claim Shape-F.Wild span = wild_lowers
 shape_claim (Shape-F.Shape::Bool b) span = bool_pattern_lowers span b
-shape_claim (Shape-F.Shape::Number n) span = number_pattern_lowers span ((fold_number seen seeing n.0).1 span) (fold_number become becoming n.0).1 (n.1 span).stands
+shape_claim (Shape-F.Shape::Number n) span = number_pattern_lowers span ((fold_number seen seeing n.0).1 span) (fold_number become becoming n.0).1 (n.1 span)
 shape_claim (Shape-F.Shape::Name name) span = name_pattern_lowers span name
 shape_claim (Shape-F.Shape::Member e a) span = member_pattern_lowers span e a
 shape_claim (Shape-F.Shape::Tuple ps) span =
@@ -403,7 +404,7 @@ loop_claim y span = by_type y.ty
 -- ---- numbers and fields
 
 number_claim : (y : NumberLevel Held) → (span : Span)
-    → NumberClaim ((seeing.number (map_number trees seen (folds seen seeing) (map_number Held trees tree y))).1 span) (becoming.number (map_number trees become (folds become becoming) (map_number Held trees tree y))).1
+    → NumberStands ((seeing.number (map_number trees seen (folds seen seeing) (map_number Held trees tree y))).1 span) (becoming.number (map_number trees become (folds become becoming) (map_number Held trees tree y))).1
 number_claim y span = by_type y.ty
   where
     number : Bare
@@ -413,27 +414,20 @@ number_claim y span = by_type y.ty
     with_type o = record { ty = o; is_negative = y.is_negative; value = y.value }
 
     by_type : (o : Option TypePart)
-        → NumberClaim ((seeing.number (map_number trees seen (folds seen seeing) (map_number Held trees tree (with_type o)))).1 span) (becoming.number (map_number trees become (folds become becoming) (map_number Held trees tree (with_type o)))).1
+        → NumberStands ((seeing.number (map_number trees seen (folds seen seeing) (map_number Held trees tree (with_type o)))).1 span) (becoming.number (map_number trees become (folds become becoming) (map_number Held trees tree (with_type o)))).1
     by_type None = record {
-      stands = record {
-        lowers = λ here sight env place h at fine. refl;
-        known = λ here sight env place h at fine. some_fault (breaks 7 span) [] (settled_fine (reaching sight.known here) span None (breaks 7 span ∷ []) [] (Some 1) fine).faults;
-      };
-      limited = number_limited span None number;
+      lowers = λ here sight env place h at fine. refl;
+      known = λ here sight env place h at fine. some_fault (breaks 7 span) [] fine.faults;
     }
     by_type (Some t) =
         let part = type_part t in
         let j = (fold_type_expr seen seeing t.0).1 in
         record {
-          stands = record {
-            lowers = number_lowers span j (fold_type_expr become becoming t.0).1 number part;
-            known = λ here sight env place h at fine.
-                let wrong = range_faults span (j sight).ty number in
-                let s = settled_fine (reaching sight.known here) span (j sight).ty ((j sight).faults ++ wrong) (j sight).reached (Some 1) fine in
-                let t = type_becomes here sight env place j _ part h at (record { faults = (none_in (j sight).faults wrong s.faults).0; reached = s.reached }) in
-                (t.ty, s.ty ∙ t.typed, t.declared);
-          };
-          limited = number_limited span (Some j) number;
+          lowers = number_lowers span j (fold_type_expr become becoming t.0).1 number part;
+          known = λ here sight env place h at fine.
+              let wrong = range_faults span (j sight).ty number in
+              let t = type_becomes here sight env place j _ part h at (record { faults = (none_in (j sight).faults wrong fine.faults).0; reached = fine.reached }) in
+              (t.ty, unlimited_type (j sight).ty ((j sight).faults ++ wrong) (j sight).reached (Some 1) fine.faults ∙ t.typed, t.declared);
         }
 
 field_claim : (y : FieldValueLevel Held)
@@ -483,7 +477,7 @@ all_become = record {
   expr = λ y. moved (λ p q. PartClaim (p.1 false) q.1) (fold_expr-roll seen seeing (map_expr Held trees tree y)) (fold_expr-roll become becoming (map_expr Held trees tree y)) (expr_claim y);
   field = λ y. moved (λ p q. FieldLowers p.1 q.1) (fold_field-roll seen seeing (map_field Held trees tree y)) (fold_field-roll become becoming (map_field Held trees tree y)) (field_claim y);
   loop = λ y span. moved (λ p q. PartClaim (p.1 span) q.1) (fold_loop-roll seen seeing (map_loop Held trees tree y)) (fold_loop-roll become becoming (map_loop Held trees tree y)) (loop_claim y span);
-  number = λ y span. moved (λ p q. NumberClaim (p.1 span) q.1) (fold_number-roll seen seeing (map_number Held trees tree y)) (fold_number-roll become becoming (map_number Held trees tree y)) (number_claim y span);
+  number = λ y span. moved (λ p q. NumberStands (p.1 span) q.1) (fold_number-roll seen seeing (map_number Held trees tree y)) (fold_number-roll become becoming (map_number Held trees tree y)) (number_claim y span);
   pattern = λ y. moved (λ p q. PatternLowers p.1 q.1) (fold_pattern-roll seen seeing (map_pattern Held trees tree y)) (fold_pattern-roll become becoming (map_pattern Held trees tree y)) (y.shape.1 y.span);
   type_expr = λ y. moved (λ p q. TypeClaim p.1 q.1) (fold_type_expr-roll seen seeing (map_type_expr Held trees tree y)) (fold_type_expr-roll become becoming (map_type_expr Held trees tree y)) (y.node.1 y.span);
 }

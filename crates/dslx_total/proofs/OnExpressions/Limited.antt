@@ -1,23 +1,22 @@
 -- Each expression is judged within the limits on its type.
-use Rattle.std.proofs.Common.{ℕ, Bool, true, false, if◌then◌else◌, List, [], ◌∷◌, Option, Some, None, length, map, not, ◌++◌, ◌-◌, ◌||◌}
+use Rattle.std.proofs.Common.{ℕ, Bool, true, false, if◌then◌else◌, List, [], ◌∷◌, Option, Some, None, length, map, ◌++◌, ◌-◌, ◌||◌}
 use Rattle.xb_span.specs.declared.span.Span.{Span}
 use Rattle.dslx_tree.specs.declared.ident.Ident.{Ident}
-use Rattle.dslx_tree.specs.declared.item.Enum.{Enum}
 use Rattle.dslx_tree.specs.declared.item.Function.{Function}
 use Rattle.dslx_tree.specs.declared.item.Struct.{Struct}
 use Rattle.dslx_meaning.specs.Callees.{AllOnes, CallKind, Calls, CountsLeading, CountsTrailing, Joins, Parity, Receives, ReceivesIf, Reverses, Sends, SendsIf, SomeOne, Updates}
 use Rattle.dslx_meaning.specs.Environment.{given_in}
-use Rattle.dslx_meaning.specs.Items.{as_enum, as_function, as_struct, item_named, name_of_field}
+use Rattle.dslx_meaning.specs.Items.{as_function, as_struct, item_named, name_of_field}
 use Rattle.dslx_meaning.specs.Lists.{is_in, all_some, and_then, where_true, with_both}
 use Rattle.dslx_meaning.specs.Types.{bool_type, same_type, unsigned}
 use Rattle.dslx_meaning.specs.declared.ty.DslxType.{DslxType}
 use Rattle.dslx_meaning.specs.declared.ty.DslxType as ty
 use Rattle.dslx_meaning.specs.declared.value.DslxValue.{DslxValue}
-use Rattle.dslx_meaning.specs.Rules.AggregateRules.{struct_if, struct_judged, array_faults, array_in, element_alone, element_in, element_type, field_judged, field_part_judged, field_type, first_type_of, has_twice, index_judged, is_array, lacks_one, like_first, number_judged, others_judged, pair_alone, part_type, range_faults, tuple_element_judged, tuple_judged, typed_array, unknown_fields, untyped_array, when_all, written_fields}
+use Rattle.dslx_meaning.specs.Rules.AggregateRules.{struct_if, struct_judged, array_faults, array_in, element_alone, element_in, element_type, field_judged, field_part_judged, field_type, first_type_of, has_twice, index_judged, is_array, lacks_one, like_first, others_judged, pair_alone, part_type, tuple_element_judged, tuple_judged, typed_array, unknown_fields, untyped_array, when_all, written_fields}
 use Rattle.dslx_meaning.specs.Rules.CallRules.{GivenNumber, builtin_judged, call_judged, counting, first_operand_type, function_call, given_numbers, has_right_count, updating, without_numbers, NumbersSeen, call_parts_faults, call_type, joining, operand_faults, right_call, token_judged, update_faults, wrong_call, call_numbers, judged_there}
 use Rattle.dslx_meaning.specs.Rules.Judging.{ExprPair, Judgement, Sight, all_alone, settled, typed_in, alone, breaks, breaks_if, faults_of_all, one_and, plus_size, span_of, types_of}
 use Rattle.dslx_meaning.specs.Rules.Judgings.{ArgPair, FieldSeen, ArmSeen, BlockPair, SightJudging, StatementJudging}
-use Rattle.dslx_meaning.specs.Rules.NameRules.{item_value, local_or_other, member_judged, member_of, name_judged, number_or_item, has_member}
+use Rattle.dslx_meaning.specs.Rules.NameRules.{item_value, local_or_other, name_judged, number_or_item}
 use Rattle.dslx_meaning.specs.Rules.OperatorRules.{binary_faults, binary_judged, binary_type, bound_number, cast_judged, is_bits, is_bits_or_enum, is_bool, part_judged, prefix_judged, slice_faults, slice_judged, unless_type, unless_types}
 use Rattle.dslx_typing.proofs.Lemmas.Typed.{none_some}
 use Rattle.dslx_total.specs.Expressions.Lowers.{IsLimited, KeepsLimits}
@@ -29,7 +28,6 @@ use Rattle.dslx_meaning.specs.Rules.PatternRules.{is_there}
 use Rattle.dslx_meaning.specs.Rules.Mentions.{is_cyclic}
 use Rattle.dslx_meaning.specs.Rules.ControlRules.{LoopSeen, all_known, arm_judged, arm_values, arms_faults, block_alone, first_of_types, if_judged, last_judged, loop_faults, loop_parts_faults, loop_type, loop_with, match_faults, match_judged, statements_judged}
 use Rattle.dslx_meaning.specs.Rules.ConstantRules.{constant_or_bare, is_empty, is_unsigned}
-use Rattle.dslx_meaning.specs.declared.value.Bare.{Bare}
 use Rattle.dslx_meaning.specs.Values.{type_of_value}
 
 -- ---- judgements
@@ -39,14 +37,6 @@ Keeps j = KeepsLimits j.faults j.ty
 
 pub bool_limited : (span : Span) → IsLimited (λ sight. settled span (Some bool_type) [] [] (Some 1))
 bool_limited span sight = settled_keeps span (Some bool_type) []
-
-abbrev pub judged_if : Option SightJudging → Sight → Option Judgement
-judged_if None sight = None
-judged_if (Some j) sight = Some (j sight)
-
-pub number_limited : (span : Span) (j : Option SightJudging) (number : Bare) → IsLimited (λ sight. number_judged span (judged_if j sight) number)
-number_limited span None number sight = settled_keeps span None (breaks 7 span ∷ [])
-number_limited span (Some j) number sight = settled_keeps span (j sight).ty ((j sight).faults ++ range_faults span (j sight).ty number)
 
 -- ---- names
 
@@ -68,13 +58,6 @@ name_limited span name sight = by_local (typed_in name sight.locals)
     by_local : (o : Option (Option DslxType)) → Keeps (local_or_other span sight name o)
     by_local None = by_number (given_in name sight.numbers)
     by_local (Some t) = settled_keeps span t []
-
-pub member_limited : (span : Span) (e a : Ident) → IsLimited (λ sight. member_judged span sight e a)
-member_limited span e a sight = by_enum (as_enum (item_named e.name sight.known.whole.items))
-  where
-    by_enum : (o : Option Enum) → Keeps (member_of span sight e a o)
-    by_enum None = settled_keeps span None (breaks 1 e.span ∷ [])
-    by_enum (Some declared) = settled_keeps span (sight.known.items.type_named e.name) (breaks_if (is_cyclic sight.known.whole sight.home e.name) 3 e.span ++ breaks_if (not (has_member declared a.name)) 1 a.span)
 
 -- ---- aggregates
 

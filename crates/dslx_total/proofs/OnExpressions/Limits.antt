@@ -13,7 +13,7 @@ use Rattle.dslx_meaning.specs.declared.ty.DslxType as ty
 use Rattle.dslx_meaning.specs.declared.ty.DslxType.TheOpen.{DslxType-F}
 use Rattle.dslx_meaning.specs.declared.ty.DslxType.TheViews as views
 use Rattle.dslx_meaning.specs.declared.ty.DslxType.TheFolds.{fold-roll-DslxType, map-DslxType}
-use Rattle.dslx_meaning.specs.Rules.Judging.{Instance, found_number, leaf_widths, passes, passes_widths, settled, type_limits, unless_broken, widths_in}
+use Rattle.dslx_meaning.specs.Rules.Judging.{Instance, Judgement, found_number, leaf_widths, passes, passes_widths, settled, type_limits, unless_broken, unlimited, widths_in}
 use Rattle.dslx_meaning.specs.Rules.OperatorRules.{width_of_type}
 use Rattle.dslx_typing.proofs.Lemmas.Sound.{none_in, none_in_three, some_fault}
 use Rattle.dslx_total.specs.Expressions.Lowers.{KeepsLimits}
@@ -58,10 +58,14 @@ settled_limits span own named found size fine =
     let q = none_in named (type_limits span.to (unless_broken named own)) fine in
     sym (λ i. type_limits span.to (unless_broken (q.0 i) own)) ∙ q.1
 
-pub settled_keeps : (span : Span) (own : Option DslxType) (named : List Fault) → KeepsLimits (named ++ type_limits span.to (unless_broken named own)) (unless_broken named own)
-settled_keeps span own named fine t e =
-    let q = none_in named (type_limits span.to (unless_broken named own)) fine in
+-- what is judged with the limits on its type keeps them
+pub limited_keeps : (span : Span) (j : Judgement) → KeepsLimits (j.faults ++ type_limits span.to j.ty) j.ty
+limited_keeps span j fine t e =
+    let q = none_in j.faults (type_limits span.to j.ty) fine in
     narrow span.to t (sym (ap (type_limits span.to) e) ∙ q.1)
+
+pub settled_keeps : (span : Span) (own : Option DslxType) (named : List Fault) → KeepsLimits (named ++ type_limits span.to (unless_broken named own)) (unless_broken named own)
+settled_keeps span own named = limited_keeps span (unlimited own named [] None)
 
 -- the width of bits
 pub bits_width : (s : Bool) (w : ℕ) → width_of_type (ty.Bits s w) ≡ w

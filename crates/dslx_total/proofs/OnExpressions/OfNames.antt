@@ -1,33 +1,29 @@
 -- Names, members of enums and numbers become something.
-use Rattle.std.proofs.Common.{◌≡◌, ◌++◌, ℕ, Bool, true, false, not, if◌then◌else◌, List, [], ◌∷◌, Option, Some, None, refl, sym, ap, subst, ◌∙◌}
+use Rattle.std.proofs.Common.{◌≡◌, ◌++◌, ℕ, Bool, true, false, if◌then◌else◌, List, [], ◌∷◌, Option, Some, None, refl, sym, ap, subst, ◌∙◌}
 use mathlib.Core.Bool.{true≢false}
 use Rattle.std.specs.Prelude.{option_map}
 use Rattle.std.specs.Str.{bytes_eq}
 use Rattle.xb_span.specs.declared.span.Span.{Span}
 use Rattle.dslx_tree.specs.declared.ident.Ident.{Ident}
-use Rattle.dslx_tree.specs.declared.item.Definition.{Definition}
-use Rattle.dslx_tree.specs.declared.item.Definition.TheVariants as d
-use Rattle.dslx_tree.specs.declared.item.Enum.{Enum}
 use Rattle.dslx_meaning.specs.Lists.{and_then, is_in, or_else}
 use Rattle.dslx_meaning.specs.Types.{bool_type}
 use Rattle.dslx_meaning.specs.Values.{bool_value, type_of_value}
 use Rattle.dslx_meaning.specs.Environment.{Env, Meanings, given_in}
-use Rattle.dslx_meaning.specs.Items.{as_enum, item_named}
 use Rattle.dslx_meaning.specs.Operators.{number_value}
 use Rattle.dslx_meaning.specs.declared.ty.DslxType.{DslxType}
 use Rattle.dslx_meaning.specs.declared.value.Bare.{Bare}
 use Rattle.dslx_meaning.specs.declared.value.DslxValue.{DslxValue}
 use Rattle.dslx_meaning.specs.Rules.AggregateRules.{number_judged, range_faults}
-use Rattle.dslx_meaning.specs.Rules.Judging.{Instance, Sight, breaks, breaks_if, settled, typed_in}
+use Rattle.dslx_meaning.specs.Rules.Judging.{Instance, Sight, breaks, breaks_if, limited, settled, typed_in}
 use Rattle.dslx_meaning.specs.Rules.Judgings.{SightJudging}
-use Rattle.dslx_meaning.specs.Rules.Mentions.{AsType, is_cyclic, is_of_use}
-use Rattle.dslx_meaning.specs.Rules.NameRules.{has_member, item_value, local_or_other, member_judged, member_of, name_judged, number_or_item}
+use Rattle.dslx_meaning.specs.Rules.Mentions.{is_cyclic}
+use Rattle.dslx_meaning.specs.Rules.NameRules.{item_value, local_or_other, member_judged, name_judged, number_or_item}
 use Rattle.dslx_typing.specs.Typed.Complete.{IsFine}
 use Rattle.dslx_typing.specs.Typed.Given.{GivesOf}
 use Rattle.dslx_typing.specs.Typed.Kinds.{is_of}
 use Rattle.dslx_typing.specs.Typed.WellTyped.{IsWellTyped, types_at}
-use Rattle.dslx_typing.proofs.Lemmas.Typed.{bool_gives, member_gives, none_some, number_gives, one_type, same_some}
-use Rattle.dslx_typing.proofs.Lemmas.Sound.{none_in, settled_fine, some_fault}
+use Rattle.dslx_typing.proofs.Lemmas.Typed.{bool_gives, member_gives, number_gives, one_type, same_some}
+use Rattle.dslx_typing.proofs.Lemmas.Sound.{limited_fine, member_known, none_in, settled_fine, some_fault, unlimited_type}
 use Rattle.dslx_core.specs.Lowering.CorePlaces.{BoundSlot, local_in}
 use Rattle.dslx_core.specs.Lowering.Lowering.{literal, name_lowered, slot_or_literal}
 use Rattle.dslx_core.specs.Lowering.Trees.{LowersType}
@@ -89,36 +85,20 @@ name_lowers span name here sight env place h at fine =
 
 -- ---- members
 
-enum_is_type : (o : Option Definition) (e : Enum) → as_enum o ≡ Some e → is_of_use AsType o ≡ true
-enum_is_type None e q = none_some e q
-enum_is_type (Some (d.Function f)) e q = none_some e q
-enum_is_type (Some (d.Proc p)) e q = none_some e q
-enum_is_type (Some (d.Constant c)) e q = none_some e q
-enum_is_type (Some (d.Alias a)) e q = none_some e q
-enum_is_type (Some (d.Struct s)) e q = none_some e q
-enum_is_type (Some (d.Enum x)) e q = refl
-
 -- the type that a member has, and its value
-pub record MemberStands (span : Span) (sight : Sight) (e a : Ident) : Type 0 where
+pub record MemberStands (sight : Sight) (e a : Ident) : Type 0 where
   pub ty : DslxType
-  pub typed : (member_judged span sight e a).ty ≡ Some ty
+  pub typed : (member_judged sight e a).ty ≡ Some ty
   pub gives : GivesOf (types_at sight) ty (sight.known.items.member e.name a.name)
 
-pub member_stands : (here : Instance → Bool) (span : Span) (sight : Sight) (e a : Ident) (env : Env) → IsWellTyped sight env → IsFine (reaching sight.known here) (member_judged span sight e a) → MemberStands span sight e a
-member_stands here span sight e a env h fine =
-    let t = by_enum (as_enum (item_named e.name sight.known.whole.items)) refl fine in
-    record { ty = t.0; typed = t.1; gives = subst (λ (items : Meanings). GivesOf (types_at sight) t.0 (items.member e.name a.name)) h.items (member_gives span sight e a env h t.0 t.1) }
-  where
-    by_enum : (o : Option Enum) → as_enum (item_named e.name sight.known.whole.items) ≡ o → IsFine (reaching sight.known here) (member_of span sight e a o) → (t : DslxType) × ((member_of span sight e a o).ty ≡ Some t)
-    by_enum None q f = some_fault (breaks 1 e.span) [] (settled_fine (reaching sight.known here) span None (breaks 1 e.span ∷ []) [] (Some 1) f).faults
-    by_enum (Some declared) q f =
-        let t = h.known.types e.name (enum_is_type (item_named e.name sight.known.whole.items) declared q) in
-        let faults = breaks_if (is_cyclic sight.known.whole sight.home e.name) 3 e.span ++ breaks_if (not (has_member declared a.name)) 1 a.span in
-        (t.0, (settled_fine (reaching sight.known here) span (types_at sight e.name) faults [] (Some 1) f).ty ∙ t.1)
+pub member_stands : (here : Instance → Bool) (sight : Sight) (e a : Ident) (env : Env) → IsWellTyped sight env → IsFine (reaching sight.known here) (member_judged sight e a) → MemberStands sight e a
+member_stands here sight e a env h fine =
+    let t = member_known sight e a env h fine.faults in
+    record { ty = t.0; typed = t.1; gives = subst (λ (items : Meanings). GivesOf (types_at sight) t.0 (items.member e.name a.name)) h.items (member_gives sight e a env h t.0 t.1) }
 
-pub member_lowers : (span : Span) (e a : Ident) → PartLowers (λ sight. member_judged span sight e a) (λ place. and_then (place.known.items.member e.name a.name) literal)
+pub member_lowers : (span : Span) (e a : Ident) → PartLowers (λ sight. limited span (member_judged sight e a)) (λ place. and_then (place.known.items.member e.name a.name) literal)
 member_lowers span e a here sight env place h at fine =
-    let m = member_stands here span sight e a env h fine in
+    let m = member_stands here sight e a env h (limited_fine (reaching sight.known here) span (member_judged sight e a) fine) in
     ap (λ (items : Meanings). type_of_lowered (and_then (items.member e.name a.name) literal)) at.items
     ∙ literal_typed (sight.known.items.member e.name a.name)
     ∙ ap (option_map type_of_value) m.gives.is ∙ ap Some (one_type m.ty m.gives.value m.gives.of) ∙ sym m.typed
@@ -135,9 +115,8 @@ pub number_lowers : (span : Span) (j : SightJudging) (l : LowersType) (number : 
 number_lowers span j l number st here sight env place h at fine =
     let written = j sight in
     let wrong = range_faults span written.ty number in
-    let s = settled_fine (reaching sight.known here) span written.ty (written.faults ++ wrong) written.reached (Some 1) fine in
-    let t = type_becomes here sight env place j l st h at (record { faults = (none_in written.faults wrong s.faults).0; reached = s.reached }) in
-    let own = s.ty ∙ t.typed in
+    let t = type_becomes here sight env place j l st h at (record { faults = (none_in written.faults wrong fine.faults).0; reached = fine.reached }) in
+    let own = unlimited_type written.ty (written.faults ++ wrong) written.reached (Some 1) fine.faults ∙ t.typed in
     let g = number_gives (types_at sight) span written (st.meaning env) number (st.stands.means sight env h) t.ty own in
     ap (λ o. option_map type_of_value (and_then o (λ t. number_value t number))) t.is
     ∙ ap (option_map type_of_value) (sym (ap (λ o. and_then o (λ t. number_value t number)) (st.stands.means sight env h t.ty t.typed).0) ∙ g.is)

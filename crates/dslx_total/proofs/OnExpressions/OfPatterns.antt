@@ -13,7 +13,7 @@ use Rattle.dslx_meaning.specs.declared.ty.DslxType.{DslxType, out-DslxType}
 use Rattle.dslx_meaning.specs.declared.ty.DslxType.TheViews as views
 use Rattle.dslx_meaning.specs.declared.value.DslxValue.{DslxValue}
 use Rattle.dslx_meaning.specs.Rules.ConstantRules.{is_empty}
-use Rattle.dslx_meaning.specs.Rules.Judging.{Instance, Judgement, Sight, Typed, breaks, breaks_if, settled, with_typed}
+use Rattle.dslx_meaning.specs.Rules.Judging.{Instance, Judgement, Sight, Typed, breaks, breaks_if, unlimited, with_typed}
 use Rattle.dslx_meaning.specs.Rules.Judgings.{PatternPair, PatternSeen, SightJudging}
 use Rattle.dslx_meaning.specs.Rules.Mentions.{is_cyclic}
 use Rattle.dslx_meaning.specs.Rules.NameRules.{member_judged}
@@ -23,7 +23,7 @@ use Rattle.dslx_typing.specs.Typed.Complete.{IsFine}
 use Rattle.dslx_typing.specs.Typed.Declared.{AllDeclared, Declarations, IsDeclared}
 use Rattle.dslx_typing.specs.Typed.WellTyped.{IsWellTyped, types_at}
 use Rattle.dslx_typing.proofs.Lemmas.Typed.{bool_gives, none_some, one_type, parts_declared, parts_of_type, same_some}
-use Rattle.dslx_typing.proofs.Lemmas.Sound.{all_in, none_in, none_in_three, passed, settled_fine, some_fault}
+use Rattle.dslx_typing.proofs.Lemmas.Sound.{all_in, none_in, none_in_three, passed, some_fault, unlimited_type}
 use Rattle.dslx_core.specs.declared.expr.Shape as shape
 use Rattle.dslx_core.specs.Lowering.CorePlaces.{CorePlace, with_local}
 use Rattle.dslx_core.specs.Lowering.Patterns.{LoweredShapes, LowersPattern, name_shape, names_of_all, parts_shaped, shaped, tuple_shape, value_shape}
@@ -81,11 +81,11 @@ own_fine : (here : Instance → Bool) (span : Span) (may_fail : Bool) (sight : S
 own_fine here span may_fail sight t names locals own known clean =
     record { faults = (none_in_three own.faults (shape_faults span (Some t) own.ty) (breaks_if (not may_fail) 8 span) clean.faults).0; reached = clean.reached }
 
-pub bool_pattern_lowers : (span : Span) (b : Bool) → PatternLowers (λ may_fail sight t names locals. one_value span may_fail t names locals (settled span (Some bool_type) [] [] (Some 1)) true)
+pub bool_pattern_lowers : (span : Span) (b : Bool) → PatternLowers (λ may_fail sight t names locals. one_value span may_fail t names locals (unlimited (Some bool_type) [] [] (Some 1)) true)
     (record { names = []; lower = λ outer place t. value_shape (Some (bool_value b)) place t })
 bool_pattern_lowers span b = record {
   lowers = λ here may_fail sight t names locals env outer place h out at d clean.
-      let own = settled span (Some bool_type) [] [] (Some 1) in
+      let own = unlimited (Some bool_type) [] [] (Some 1) in
       let g = bool_gives (types_at sight) span b bool_type refl in
       value_shaped here span may_fail sight t names locals own true place (Some (bool_value b)) at d clean.faults
       (record { value = bool_value b; is = refl; typed = ap Some (sym (bool_is span b)); declared = subst (IsDeclared (types_at sight)) (sym (bool_is span b)) g.declared });
@@ -117,13 +117,13 @@ number_pattern_lowers span j l st = record {
 }
 
 pub member_pattern_lowers : (span : Span) (e a : Ident)
-    → PatternLowers (λ may_fail sight t names locals. one_value span may_fail t names locals (member_judged span sight e a) (is_there (sight.known.items.member e.name a.name)))
+    → PatternLowers (λ may_fail sight t names locals. one_value span may_fail t names locals (member_judged sight e a) (is_there (sight.known.items.member e.name a.name)))
     (record { names = []; lower = λ outer place t. value_shape (place.known.items.member e.name a.name) place t })
 member_pattern_lowers span e a = record {
   lowers = λ here may_fail sight t names locals env outer place h out at d clean.
-      let own = member_judged span sight e a in
+      let own = member_judged sight e a in
       let known = is_there (sight.known.items.member e.name a.name) in
-      let m = member_stands here span sight e a env h (own_fine here span may_fail sight t names locals own known clean) in
+      let m = member_stands here sight e a env h (own_fine here span may_fail sight t names locals own known clean) in
       let same = one_type m.ty m.gives.value m.gives.of in
       value_shaped here span may_fail sight t names locals own known place (place.known.items.member e.name a.name) at d clean.faults
       (record {
@@ -165,13 +165,13 @@ name_pattern_lowers span name = record {
         let own = constant_pattern span sight name (sight.known.items.constant name) in
         let known = is_there (sight.known.items.constant name) in
         let fine = own_fine here span may_fail sight t names locals own known clean in
-        let s = settled_fine (reaching sight.known here) span (option_map type_of_value (sight.known.items.constant name)) (breaks_if (is_cyclic sight.known.whole sight.home name) 3 span) [] (Some 1) fine in
+        let typed = unlimited_type (option_map type_of_value (sight.known.items.constant name)) (breaks_if (is_cyclic sight.known.whole sight.home name) 3 span) [] (Some 1) fine.faults in
         subst (λ o. ShapeStands here (with_typed sight locals) o) (ap (λ b. if b then value_shape (place.known.items.constant name) place t else shaped shape.Bound (with_local name t place)) (sym (q ∙ r)))
         (value_shaped here span may_fail sight t names locals own known place (place.known.items.constant name) at d clean.faults
         (record {
           value = v.0;
           is = ap (λ (items : Meanings). items.constant name) at.items ∙ v.1;
-          typed = s.ty ∙ ap (option_map type_of_value) v.1;
+          typed = typed ∙ ap (option_map type_of_value) v.1;
           declared = at.constants name v.0 v.1;
         }))
     by_kind here may_fail sight t names locals env place h at d false q r clean = record {

@@ -22,7 +22,7 @@ use Rattle.dslx_meaning.specs.Rules.AggregateRules.{field_judged, field_part_jud
 use Rattle.dslx_meaning.specs.Rules.CallRules.{call_judged}
 use Rattle.dslx_meaning.specs.Rules.ConstantRules.{ConstantSeen, constant_of}
 use Rattle.dslx_meaning.specs.Rules.ControlRules.{bare_judged_at, behind, if_judged, last_judged, loop_with, span_of_block, statements_judged}
-use Rattle.dslx_meaning.specs.Rules.Judging.{ExprPair, Judgement, Judging, Known, Sight, alone, constant_env, faults_of_all, no_token, one_and, plus_size, reached_of_all, settled, span_of, types_of, with_typed}
+use Rattle.dslx_meaning.specs.Rules.Judging.{ExprPair, Judgement, Judging, Known, Sight, alone, constant_env, faults_of_all, no_token, one_and, plus_size, reached_of_all, settled, span_of, types_of, with_typed, limited}
 use Rattle.dslx_meaning.specs.Rules.Judgings.{PatternJudging, PatternPair, SightJudging, StatementJudging, StatementSeen}
 use Rattle.dslx_meaning.specs.Rules.Mentions.{AsFunction, AsStruct, Mention, Mentions, NamesBound, all_mentions, binders_mentions, binders_names, bound_behind, mention, mentioned, mentioned_in_block, mentioned_in_type, mentions_if, statements_mentions}
 use Rattle.dslx_meaning.specs.Rules.NodeRules.{block_pair, expr_pair, second_of, type_pair}
@@ -207,7 +207,7 @@ module _ (P : List ℕ → Bool) where
       (one_and (plus_size whole.size (plus_size from.judgement.size to.judgement.size)))
 
   node_alike : (x : NodeLevel Parts) (span : Span) → JudgedAlike P (judged_of_node x span) (mentions_of_node x)
-  node_alike (Node-F.Node::Number n) span bound on_top sight other h = n.2.2 span bound sight other h
+  node_alike (Node-F.Node::Number n) span bound on_top sight other h = ap (limited span) (n.2.2 span bound sight other h)
   node_alike (Node-F.Node::Bool bit) span bound on_top sight other h = refl
   node_alike (Node-F.Node::Array None es dots) span bound on_top sight other h = untyped_same span sight other (map (λ (p : ExprPart). p.0) es) dots (exprs_alike bound sight other es h)
   node_alike (Node-F.Node::Array (Some t) es dots) span bound on_top sight other h =
@@ -215,7 +215,7 @@ module _ (P : List ℕ → Bool) where
       array_same span sight other (t.0.1 sight) (t.0.1 (in_known sight other)) (map (λ (p : ExprPart). p.0) es) dots (t.2.2 bound sight other (one bound sight other (t.1 bound) rest h))
       (exprs_alike bound sight other es (two bound sight other (t.1 bound) rest h))
   node_alike (Node-F.Node::Name name) span bound on_top sight other h = name_same P span sight other name h.known (value_alike sight.known other bound name h.hidden h.alike)
-  node_alike (Node-F.Node::Member e a) span bound on_top sight other h = member_same P span sight other e a h.known h.alike.0
+  node_alike (Node-F.Node::Member e a) span bound on_top sight other h = ap (limited span) (member_same P sight other e a h.known h.alike.0)
   node_alike (Node-F.Call f numbers es) span bound on_top sight other h = call_alike (kind_of_call f.name) span f numbers es bound on_top sight other h
   node_alike (Node-F.Node::Tuple es) span bound on_top sight other h = tuple_same span sight other (map (λ (p : ExprPart). p.0) es) (exprs_alike bound sight other es h)
   node_alike (Node-F.Struct name fields None) span bound on_top sight other h = struct_alike span name fields None (mentions_if None) (λ bound sight other h. tt) bound sight other h
@@ -289,7 +289,7 @@ module _ (P : List ℕ → Bool) where
     names = λ bound home a b h. (h.alike.0, tt);
   }
   shape_alike (Shape-F.Shape::Member e a) span = record {
-    judged = λ bound sight other h may_fail t names locals. λ i. one_value span may_fail t names locals (member_same P span sight other e a h.known h.alike.0 i) (is_there (h.alike.0.members a.name i));
+    judged = λ bound sight other h may_fail t names locals. λ i. one_value span may_fail t names locals (member_same P sight other e a h.known h.alike.0 i) (is_there (h.alike.0.members a.name i));
     names = λ bound home a b h. tt;
   }
   shape_alike (Shape-F.Shape::Tuple ps) span = record {

@@ -19,7 +19,7 @@ use Rattle.dslx_meaning.specs.declared.value.DslxValue.{DslxValue}
 use Rattle.dslx_meaning.specs.Rules.AggregateRules.{array_faults, array_in, array_judged, element_alone, element_in, element_type, field_judged, first_type_of, has_twice, lacks_one, like_first, others_judged, pair_alone, range_faults, struct_if, struct_judged, tuple_judged, unknown_fields, wanted_faults, when_all, written_fields}
 use Rattle.dslx_meaning.specs.Rules.PatternRules.{is_there}
 use Rattle.dslx_meaning.specs.Rules.ConstantRules.{ConstantSeen, bare_judged, constant_of, constant_or_bare, count_number, count_of, count_with, is_empty, names_a_local, over_size, value_if_typed}
-use Rattle.dslx_meaning.specs.Rules.Judging.{ExprPair, Instance, Judgement, Known, Sight, all_alone, alone, bare_of, breaks, breaks_if, constant_env, faults_of_all, has_broken, no_token, one_and, plus_size, reached_of_all, settled, size_of_all, span_of, typed_in, types_of}
+use Rattle.dslx_meaning.specs.Rules.Judging.{ExprPair, Instance, Judgement, Known, Sight, all_alone, alone, bare_of, breaks, breaks_if, constant_env, faults_of_all, has_broken, no_token, one_and, plus_size, reached_of_all, settled, size_of_all, span_of, typed_in, types_of, unlimited}
 use Rattle.dslx_meaning.specs.Rules.Judgings.{FieldSeen, TypePair}
 use Rattle.dslx_meaning.specs.Rules.Mentions.{AsType, is_cyclic, is_of_use}
 use Rattle.dslx_meaning.specs.Rules.NameRules.{item_value, local_or_other, member_judged, member_of, name_judged, number_or_item, has_member}
@@ -113,14 +113,14 @@ name_same P span sight other name k same = by_local (typed_in name sight.locals)
     by_local None = by_number (given_in name sight.numbers)
     by_local (Some ty) = refl
 
-pub member_same : (P : List ℕ → Bool) (span : Span) (sight : Sight) (other : Known) (e a : Ident) → KnownAlike P sight.known other → EnumAlike sight.known other e.name
-    → member_judged span sight e a ≡ member_judged span (in_known sight other) e a
-member_same P span sight other e a k h =
-    by_enum (as_enum (item_named e.name sight.known.whole.items)) refl ∙ ap (member_of span (in_known sight other) e a) (λ i. as_enum (item_named e.name (k.whole i).items))
+pub member_same : (P : List ℕ → Bool) (sight : Sight) (other : Known) (e a : Ident) → KnownAlike P sight.known other → EnumAlike sight.known other e.name
+    → member_judged sight e a ≡ member_judged (in_known sight other) e a
+member_same P sight other e a k h =
+    by_enum (as_enum (item_named e.name sight.known.whole.items)) refl ∙ ap (member_of (in_known sight other) e a) (λ i. as_enum (item_named e.name (k.whole i).items))
   where
-    by_enum : (o : Option Enum) → as_enum (item_named e.name sight.known.whole.items) ≡ o → member_of span sight e a o ≡ member_of span (in_known sight other) e a o
+    by_enum : (o : Option Enum) → as_enum (item_named e.name sight.known.whole.items) ≡ o → member_of sight e a o ≡ member_of (in_known sight other) e a o
     by_enum None q = refl
-    by_enum (Some declared) q = λ i. settled span (h.ty declared q i) (breaks_if (is_cyclic (k.whole i) sight.home e.name) 3 e.span ++ breaks_if (not (has_member declared a.name)) 1 a.span) [] (Some 1)
+    by_enum (Some declared) q = λ i. unlimited (and_then (h.members a.name i) (λ v. h.ty declared q i)) (breaks_if (is_cyclic (k.whole i) sight.home e.name) 3 e.span ++ breaks_if (not (has_member declared a.name)) 1 a.span) [] (Some 1)
 
 pub named_same : (P : List ℕ → Bool) (span : Span) (sight : Sight) (other : Known) (name : List ℕ) → KnownAlike P sight.known other → sight.known.items.type_named name ≡ other.items.type_named name
     → named_type span sight name (is_of_use AsType (item_named name sight.known.whole.items)) ≡ named_type span (in_known sight other) name (is_of_use AsType (item_named name other.whole.items))

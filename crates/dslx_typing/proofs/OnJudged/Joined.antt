@@ -275,7 +275,7 @@ node_reaches P (Node-F.Node::Array (Some t) es dots) span bound on_top sight h =
     let wanted = element_type (and_then (t.0.1 sight).ty array_in) in
     join P (t.0.1 sight).reached (reached_of_all (map (element_in sight wanted) (map (λ (p : ExprPart P). p.0) es))) (t.2 bound sight r.0) (elements_in P sight wanted (map (λ (p : ExprPart P). p.0) es) (exprs_reach P bound sight es r.1))
 node_reaches P (Node-F.Node::Name name) span bound on_top sight h = name_reaches P span sight name
-node_reaches P (Node-F.Node::Member e a) span bound on_top sight h = member_reaches P span sight e a
+node_reaches P (Node-F.Node::Member e a) span bound on_top sight h = member_reaches P sight e a
 node_reaches P (Node-F.Call f numbers es) span bound on_top sight h = call_claim P (kind_of_call f.name) span f numbers es bound on_top sight h
 node_reaches P (Node-F.Node::Tuple es) span bound on_top sight h = elements_alone P sight (map (λ (p : ExprPart P). p.0) es) (exprs_reach P bound sight es h)
 node_reaches P (Node-F.Struct name fields None) span bound on_top sight h = struct_claim P span name fields None (mentions_if None) (λ bound sight struct h. tt) bound sight h
@@ -337,7 +337,7 @@ shape_reaches P Shape-F.Wild span bound may_fail sight t names locals h = tt
 shape_reaches P (Shape-F.Shape::Bool bit) span bound may_fail sight t names locals h = tt
 shape_reaches P (Shape-F.Shape::Number n) span bound may_fail sight t names locals h = n.2 span bound sight h
 shape_reaches P (Shape-F.Shape::Name name) span bound may_fail sight t names locals h = name_pattern_reaches P span may_fail sight t names locals name (sight.known.items.is_constant name)
-shape_reaches P (Shape-F.Shape::Member e a) span bound may_fail sight t names locals h = member_reaches P span sight e a
+shape_reaches P (Shape-F.Shape::Member e a) span bound may_fail sight t names locals h = member_reaches P sight e a
 shape_reaches P (Shape-F.Shape::Tuple ps) span bound may_fail sight t names locals h = parts_reach P bound may_fail sight (part_types (length (map (λ (p : PatternPart P). p.0) ps)) t) names locals ps h
 
 arm_reaches : (P : List ℕ → Bool) (x : ArmLevel (Parts P)) → ArmReaches P (judging.arm (map_arm (Parts P) judged (firsts judged mentions (reaching P)) x)).1

@@ -113,10 +113,10 @@ name_reaches P span sight name = by_local (typed_in name sight.locals)
     by_local None = by_number (given_in name sight.numbers)
     by_local (Some ty) = tt
 
-pub member_reaches : (P : List ℕ → Bool) (span : Span) (sight : Sight) (e a : Ident) → AllNamed P (member_judged span sight e a).reached
-member_reaches P span sight e a = by_enum (as_enum (item_named e.name sight.known.whole.items))
+pub member_reaches : (P : List ℕ → Bool) (sight : Sight) (e a : Ident) → AllNamed P (member_judged sight e a).reached
+member_reaches P sight e a = by_enum (as_enum (item_named e.name sight.known.whole.items))
   where
-    by_enum : (o : Option Enum) → AllNamed P (member_of span sight e a o).reached
+    by_enum : (o : Option Enum) → AllNamed P (member_of sight e a o).reached
     by_enum None = tt
     by_enum (Some declared) = tt
 

@@ -9,7 +9,7 @@ use Rattle.dslx_meaning.specs.Environment.{Env}
 use Rattle.dslx_meaning.specs.Meaning.{Meant}
 use Rattle.dslx_meaning.specs.declared.ty.DslxType.{DslxType}
 use Rattle.dslx_meaning.specs.declared.value.DslxValue.{DslxValue}
-use Rattle.dslx_meaning.specs.Rules.Judging.{ExprPair, Instance, Judgement, Known, Sight, alone, breaks, breaks_if, no_token, settled, span_of, type_limits, unless_broken, within}
+use Rattle.dslx_meaning.specs.Rules.Judging.{ExprPair, Instance, Judgement, Known, Sight, alone, breaks, breaks_if, limited, no_token, settled, span_of, type_limits, unless_broken, unlimited, within}
 use Rattle.dslx_typing.specs.Typed.Complete.{IsFine}
 use Rattle.dslx_typing.specs.Typed.Declared.{Declarations}
 use Rattle.dslx_typing.specs.Typed.Given.{GivesItsType, GivesOf}
@@ -65,7 +65,15 @@ all_in_three p xs ys zs e =
 
 -- ---- judgements
 
--- what is settled has its type where it and its parts break nothing
+-- nothing is wrong with what is judged without the limits on its type either
+pub limited_fine : (known : Known) (span : Span) (j : Judgement) → IsFine known (limited span j) → IsFine known j
+limited_fine known span j fine = record { faults = (none_in j.faults (type_limits span.to j.ty) fine.faults).0; reached = fine.reached }
+
+-- what no limit applies to has its type where it and its parts break nothing
+pub unlimited_type : (own : Option DslxType) (named : List Fault) (found : List Instance) (size : Option ℕ) → named ≡ [] → (unlimited own named found size).ty ≡ own
+unlimited_type own named found size none = λ i. unless_broken (none i) own
+
+-- so has what is settled
 pub record IsSettled (known : Known) (span : Span) (own : Option DslxType) (named : List Fault) (found : List Instance) (size : Option ℕ) : Type 0 where
   pub faults : named ≡ []
   pub reached : list_all known.is_sound found ≡ true

@@ -20,12 +20,12 @@ use Rattle.dslx_meaning.specs.declared.value.Bare.{Bare}
 use Rattle.dslx_meaning.specs.Rules.CallRules.{call_judged, receiving, receiving_if, sending, sending_if, unnumbered_effect}
 use Rattle.dslx_meaning.specs.Rules.ControlRules.{same_ends, span_of_block}
 use Rattle.dslx_meaning.specs.Rules.ConstantRules.{constant_of}
-use Rattle.dslx_meaning.specs.Rules.Judging.{ExprPair, Judging, Sight, alone, breaks, no_token, settled, span_of}
+use Rattle.dslx_meaning.specs.Rules.Judging.{ExprPair, Judging, Sight, alone, breaks, no_token, span_of, unlimited}
 use Rattle.dslx_meaning.specs.Rules.PatternRules.{is_there}
 use Rattle.dslx_meaning.specs.Types.{bool_type}
 use Rattle.dslx_meaning.specs.Values.{bool_value}
 use Rattle.dslx_meaning.specs.Rules.Judgings.{PatternJudging, SightJudging, StatementJudging, judged_sorts}
-use Rattle.dslx_meaning.specs.Rules.NameRules.{name_judged}
+use Rattle.dslx_meaning.specs.Rules.NameRules.{member_judged, name_judged}
 use Rattle.dslx_meaning.specs.Rules.NodeRules.{arg_pair, block_pair, expr_pair, judged_steps, second_of, type_pair}
 use Rattle.dslx_meaning.specs.Rules.Paired.{paired_pattern, paired_stmt}
 use Rattle.dslx_typing.specs.Typed.Complete.{IsFine}
@@ -33,7 +33,7 @@ use Rattle.dslx_typing.specs.Typed.WellTyped.{IsWellTyped, types_at}
 use Rattle.dslx_typing.proofs.Lemmas.Typed.{none_some}
 use Rattle.dslx_typing.specs.Sound.Places.{EachPatternSeesAlike, PatternSeesAlike, SeeAlike, TypeSeesAlike}
 use Rattle.dslx_typing.specs.Sound.Sound.{ArmHasValue, BlockGives, EachArmHasValue, EachExprGives, EachFieldGives, EachPatternGives, EachTypeStands, ExprGives, FieldGives, HasItsValue, PartGives, PatternGives, StatementGives, StatementsGive, TypeStands}
-use Rattle.dslx_typing.proofs.OnSound.Fine.{alone_fine, alone_has, none_in, settled_fine, some_fault}
+use Rattle.dslx_typing.proofs.OnSound.Fine.{alone_fine, alone_has, limited_fine, none_in, some_fault}
 use Rattle.dslx_typing.proofs.OnSound.Links.{Claims, claimed, judged, judging, meaning, meanings, link_stmt, link_node, link_shape, link_type_node, link_block, link_bind, link_arg, link_arm, link_expr, link_field, link_loop, link_number, link_pattern, link_type_expr}
 use Rattle.dslx_typing.proofs.OnSound.OfOperations.{binary_has, cast_has, field_has, index_has, part_has, prefix_has}
 use Rattle.dslx_typing.proofs.OnSound.OfConstants.{slice_has}
@@ -181,12 +181,12 @@ call_claim Calls span f numbers es sight env h fine =
     function_has span sight env f (map (λ (p : ArgPart). p.0) numbers) (map (λ (p : ArgPart). p.1) numbers) (map (λ (p : ExprPart). p.0) es) (map (λ (p : ExprPart). p.1) es) (each_arg numbers) (each_expr es) h fine
 
 node_gives : (x : NodeLevel Parts) (span : Span) → BlockGives (judged_of_node x span) (meant_of_node x).value
-node_gives (Node-F.Node::Number n) span sight env h fine = (n.2.1 span).gives sight env h fine
+node_gives (Node-F.Node::Number n) span sight env h fine = (n.2.1 span).gives sight env h (limited_fine sight.known span (n.0.1 span sight) fine)
 node_gives (Node-F.Node::Bool bit) span sight env h fine = bool_has span bit sight env h fine
 node_gives (Node-F.Node::Array None es dots) span sight env h fine = untyped_has span sight env (map (λ (p : ExprPart). p.0) es) dots (map (λ (p : ExprPart). p.1) es) (each_expr es) h fine
 node_gives (Node-F.Node::Array (Some t) es dots) span sight env h fine = typed_has span sight env t.0.1 t.1 (map (λ (p : ExprPart). p.0) es) dots (map (λ (p : ExprPart). p.1) es) t.2.1.0 (each_expr es) h fine
 node_gives (Node-F.Node::Name name) span sight env h fine = name_has span sight name env h fine
-node_gives (Node-F.Node::Member e a) span sight env h fine = member_has span sight e a env h fine
+node_gives (Node-F.Node::Member e a) span sight env h fine = member_has sight e a env h (limited_fine sight.known span (member_judged sight e a) fine)
 node_gives (Node-F.Call f numbers es) span sight env h fine = call_claim (kind_of_call f.name) span f numbers es sight env h fine
 node_gives (Node-F.Node::Tuple es) span sight env h fine = tuple_has span sight env (map (λ (p : ExprPart). p.0) es) (map (λ (p : ExprPart). p.1) es) (each_expr es) h fine
 node_gives (Node-F.Struct name fields None) span sight env h fine =
@@ -243,7 +243,7 @@ type_claim (TypeNode-F.TypeNode::Array t e) span = (array_stands span t.0 t.1 e.
 
 shape_claim : (x : ShapeLevel Parts) (span : Span) → PatternClaim ((judging.shape (map_shape Parts judged (firsts judged meanings (claimed sound)) x)).1 span) (meaning.shape (map_shape Parts meanings (seconds judged meanings (claimed sound)) x))
 shape_claim Shape-F.Wild span = (wild_gives, wild_alike)
-shape_claim (Shape-F.Shape::Bool bit) span = (bool_pattern_gives span bit, one_value_alike span (λ sight. settled span (Some bool_type) [] [] (Some 1)) (λ sight. true) (λ place env. Some (bool_value bit)) (λ sight place other a b at h fine. refl))
+shape_claim (Shape-F.Shape::Bool bit) span = (bool_pattern_gives span bit, one_value_alike span (λ sight. unlimited (Some bool_type) [] [] (Some 1)) (λ sight. true) (λ place env. Some (bool_value bit)) (λ sight place other a b at h fine. refl))
 shape_claim (Shape-F.Shape::Number n) span = (number_pattern_gives span (n.0.1 span) n.1.value (n.2.1 span).gives, one_value_alike span (n.0.1 span) (λ sight. is_there (n.0.1 span sight).ty) (λ place env. n.1.value place) (λ sight place other a b at h fine. (n.2.1 span).alike sight place other at fine))
 shape_claim (Shape-F.Shape::Name name) span = (name_pattern_gives span name, name_pattern_alike span name)
 shape_claim (Shape-F.Shape::Member e a) span = (member_pattern_gives span e a, member_alike span e a)
@@ -305,7 +305,7 @@ number_claim x span = by_type x.ty
         → NumberClaim ((judging.number (map_number Parts judged (firsts judged meanings (claimed sound)) (record { ty = o; is_negative = x.is_negative; value = x.value }))).1 span)
         (meaning.number (map_number Parts meanings (seconds judged meanings (claimed sound)) (record { ty = o; is_negative = x.is_negative; value = x.value })))
     by_type None = record {
-      gives = λ sight env h fine. some_fault (breaks 7 span) [] (settled_fine sight.known span None (breaks 7 span ∷ []) [] (Some 1) fine).faults;
+      gives = λ sight env h fine. some_fault (breaks 7 span) [] fine.faults;
       untyped = λ number e sight. refl;
       alike = λ sight a b h fine. refl;
     }

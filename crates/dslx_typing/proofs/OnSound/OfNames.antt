@@ -21,12 +21,12 @@ use Rattle.dslx_meaning.specs.Rules.AggregateRules.{number_judged, range_faults}
 use Rattle.dslx_meaning.specs.Rules.Judging.{Sight, breaks, breaks_if, settled, typed_in}
 use Rattle.dslx_meaning.specs.Rules.Judgings.{SightJudging}
 use Rattle.dslx_meaning.specs.Rules.Mentions.{AsType, is_cyclic, is_of_use}
-use Rattle.dslx_meaning.specs.Rules.NameRules.{has_member, item_value, local_or_other, member_judged, member_of, name_judged, number_or_item}
+use Rattle.dslx_meaning.specs.Rules.NameRules.{has_member, item_value, local_or_other, member_judged, member_of, member_type, name_judged, number_or_item}
 use Rattle.dslx_typing.specs.Typed.Complete.{IsFine}
 use Rattle.dslx_typing.specs.Typed.WellTyped.{IsWellTyped, types_at}
 use Rattle.dslx_typing.proofs.Lemmas.Typed.{bool_gives, member_gives, name_gives, none_some, number_gives}
 use Rattle.dslx_typing.specs.Sound.Sound.{HasItsValue, PartGives, TypeStands}
-use Rattle.dslx_typing.proofs.OnSound.Fine.{none_in, settled_fine, some_fault, whole}
+use Rattle.dslx_typing.proofs.OnSound.Fine.{none_in, passed, settled_fine, some_fault, unlimited_type}
 
 -- ---- names
 
@@ -68,16 +68,29 @@ enum_is_type (Some (d.Alias a)) e q = none_some e q
 enum_is_type (Some (d.Struct s)) e q = none_some e q
 enum_is_type (Some (d.Enum x)) e q = refl
 
-pub member_has : (span : Span) (sight : Sight) (e a : Ident) (env : Env) → IsWellTyped sight env → IsFine sight.known (member_judged span sight e a)
-    → HasItsValue (types_at sight) (member_judged span sight e a) (env.items.member e.name a.name)
-member_has span sight e a env h fine = let t = by_enum (as_enum (item_named e.name sight.known.whole.items)) refl fine in (t.0, t.1, member_gives span sight e a env h t.0 t.1)
+-- a member that is declared has a value, and with it its enum's type
+member_typed : (sight : Sight) (e a : Ident) (env : Env) → IsWellTyped sight env → (declared : Enum) → as_enum (item_named e.name sight.known.whole.items) ≡ Some declared → has_member declared a.name ≡ true
+    → (t : DslxType) × (member_type sight e a ≡ Some t)
+member_typed sight e a env h declared q is =
+    let t = h.known.types e.name (enum_is_type (item_named e.name sight.known.whole.items) declared q) in
+    let g = h.members e.name a.name declared t.0 q is t.1 in
+    let v = sym (λ i. (h.items i).member e.name a.name) ∙ g.is in
+    (t.0, ap (λ o. and_then o (λ v. types_at sight e.name)) v ∙ t.1)
+
+pub member_known : (sight : Sight) (e a : Ident) (env : Env) → IsWellTyped sight env → (member_judged sight e a).faults ≡ [] → (t : DslxType) × ((member_judged sight e a).ty ≡ Some t)
+member_known sight e a env h none = by_enum (as_enum (item_named e.name sight.known.whole.items)) refl none
   where
-    by_enum : (o : Option Enum) → as_enum (item_named e.name sight.known.whole.items) ≡ o → IsFine sight.known (member_of span sight e a o) → (t : DslxType) × ((member_of span sight e a o).ty ≡ Some t)
-    by_enum None q f = some_fault (breaks 1 e.span) [] (settled_fine sight.known span None (breaks 1 e.span ∷ []) [] (Some 1) f).faults
+    by_enum : (o : Option Enum) → as_enum (item_named e.name sight.known.whole.items) ≡ o → (member_of sight e a o).faults ≡ [] → (t : DslxType) × ((member_of sight e a o).ty ≡ Some t)
+    by_enum None q f = some_fault (breaks 1 e.span) [] f
     by_enum (Some declared) q f =
-        let t = h.known.types e.name (enum_is_type (item_named e.name sight.known.whole.items) declared q) in
-        let faults = breaks_if (is_cyclic sight.known.whole sight.home e.name) 3 e.span ++ breaks_if (not (has_member declared a.name)) 1 a.span in
-        (t.0, (settled_fine sight.known span (types_at sight e.name) faults [] (Some 1) f).ty ∙ t.1)
+        let cyclic = breaks_if (is_cyclic sight.known.whole sight.home e.name) 3 e.span in
+        let lacks = breaks_if (not (has_member declared a.name)) 1 a.span in
+        let t = member_typed sight e a env h declared q (passed (has_member declared a.name) 1 a.span (none_in cyclic lacks f).1) in
+        (t.0, unlimited_type (member_type sight e a) (cyclic ++ lacks) [] (Some 1) f ∙ t.1)
+
+pub member_has : (sight : Sight) (e a : Ident) (env : Env) → IsWellTyped sight env → IsFine sight.known (member_judged sight e a)
+    → HasItsValue (types_at sight) (member_judged sight e a) (env.items.member e.name a.name)
+member_has sight e a env h fine = let t = member_known sight e a env h fine.faults in (t.0, t.1, member_gives sight e a env h t.0 t.1)
 
 -- ---- `true`, `false` and numbers
 
@@ -90,7 +103,6 @@ pub number_has : (span : Span) (j : SightJudging) (f : Typing) (number : Bare) �
 number_has span j f number st sight env h fine =
     let written = j sight in
     let wrong = range_faults span written.ty number in
-    let s = settled_fine sight.known span written.ty (written.faults ++ wrong) written.reached (Some 1) fine in
-    let t = st.known sight env h (record { faults = (none_in written.faults wrong s.faults).0; reached = s.reached }) in
-    whole (types_at sight) sight.known span written.ty (written.faults ++ wrong) written.reached (Some 1) t.0 (and_then (f env) (λ t. number_value t number)) s t.1
-    (number_gives (types_at sight) span written (f env) number (st.means sight env h))
+    let t = st.known sight env h (record { faults = (none_in written.faults wrong fine.faults).0; reached = fine.reached }) in
+    let own = unlimited_type written.ty (written.faults ++ wrong) written.reached (Some 1) fine.faults ∙ t.1 in
+    (t.0, own, number_gives (types_at sight) span written (f env) number (st.means sight env h) t.0 own)

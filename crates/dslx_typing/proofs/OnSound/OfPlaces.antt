@@ -135,8 +135,7 @@ pub number_alike : (span : Span) (j : SightJudging) (f : Typing) (number : Bare)
 number_alike span j f number k sight a b h fine =
     let written = j sight in
     let wrong = range_faults span written.ty number in
-    let s = settled_fine sight.known span written.ty (written.faults ++ wrong) written.reached (Some 1) fine in
-    ap (λ o. and_then o (λ t. number_value t number)) (k sight a b h (record { faults = (none_in written.faults wrong s.faults).0; reached = s.reached }))
+    ap (λ o. and_then o (λ t. number_value t number)) (k sight a b h (record { faults = (none_in written.faults wrong fine.faults).0; reached = fine.reached }))
 
 -- ---- patterns
 
@@ -162,9 +161,9 @@ one_value_alike span own known value is may_fail sight t names locals place othe
     (is sight place other a b at h (record { faults = (none_in_three (own sight).faults (shape_faults span t (own sight).ty) (breaks_if (not may_fail) 8 span) fine.faults).0; reached = fine.reached }))
 
 pub member_alike : (span : Span) (e a : Ident)
-    → PatternSeesAlike (λ may_fail sight t names locals. one_value span may_fail t names locals (member_judged span sight e a) (is_there (sight.known.items.member e.name a.name)))
+    → PatternSeesAlike (λ may_fail sight t names locals. one_value span may_fail t names locals (member_judged sight e a) (is_there (sight.known.items.member e.name a.name)))
     (record { names = []; fits = λ place v env. fit_value (env.items.member e.name a.name) v env })
-member_alike span e a = one_value_alike span (λ sight. member_judged span sight e a) (λ sight. is_there (sight.known.items.member e.name a.name)) (λ place env. env.items.member e.name a.name)
+member_alike span e a = one_value_alike span (λ sight. member_judged sight e a) (λ sight. is_there (sight.known.items.member e.name a.name)) (λ place env. env.items.member e.name a.name)
     (λ sight place other x y at h fine. (λ i. (h.items i).member e.name a.name) ∙ (λ i. (sym h.others i).member e.name a.name))
 
 -- one more name, bound alike

@@ -14,7 +14,7 @@ use Rattle.dslx_meaning.specs.declared.ty.DslxType.TheOpen.{DslxType-F}
 use Rattle.dslx_meaning.specs.declared.value.DslxValue.{DslxValue}
 use Rattle.dslx_meaning.specs.Rules.AggregateRules.{is_some_tuple}
 use Rattle.dslx_meaning.specs.Rules.ConstantRules.{is_empty}
-use Rattle.dslx_meaning.specs.Rules.Judging.{Judgement, Sight, Typed, breaks_if, has_broken, settled, with_typed}
+use Rattle.dslx_meaning.specs.Rules.Judging.{Judgement, Sight, Typed, breaks_if, has_broken, unlimited, with_typed}
 use Rattle.dslx_meaning.specs.Rules.Judgings.{PatternPair, PatternSeen, SightJudging}
 use Rattle.dslx_meaning.specs.Rules.NameRules.{member_judged}
 use Rattle.dslx_meaning.specs.Rules.PatternRules.{first_part_type, is_there, name_pattern, nothing_bound, one_value, other_part_types, part_types, part_types_in, parts_judged, shape_faults, tuple_faults, tuple_pattern}
@@ -67,18 +67,18 @@ value_gives span own known value is = record {
 }
 
 pub bool_pattern_gives : (span : Span) (b : Bool)
-    → PatternGives (λ may_fail sight t names locals. one_value span may_fail t names locals (settled span (Some bool_type) [] [] (Some 1)) true) (record { names = []; fits = λ place v env. fit_value (Some (bool_value b)) v env })
-bool_pattern_gives span b = value_gives span (λ sight. settled span (Some bool_type) [] [] (Some 1)) (λ sight. true) (λ place env. Some (bool_value b)) (λ sight env h fine. refl)
+    → PatternGives (λ may_fail sight t names locals. one_value span may_fail t names locals (unlimited (Some bool_type) [] [] (Some 1)) true) (record { names = []; fits = λ place v env. fit_value (Some (bool_value b)) v env })
+bool_pattern_gives span b = value_gives span (λ sight. unlimited (Some bool_type) [] [] (Some 1)) (λ sight. true) (λ place env. Some (bool_value b)) (λ sight env h fine. refl)
 
 pub number_pattern_gives : (span : Span) (j : SightJudging) (value : Evaluates) → PartGives j value
     → PatternGives (λ may_fail sight t names locals. one_value span may_fail t names locals (j sight) (is_there (j sight).ty)) (record { names = []; fits = λ place v env. fit_value (value place) v env })
 number_pattern_gives span j value g = value_gives span j (λ sight. is_there (j sight).ty) (λ place env. value place) (λ sight env h fine. let k = g sight env h fine in there_is (j sight).ty k.0 k.1)
 
 pub member_pattern_gives : (span : Span) (e a : Ident)
-    → PatternGives (λ may_fail sight t names locals. one_value span may_fail t names locals (member_judged span sight e a) (is_there (sight.known.items.member e.name a.name)))
+    → PatternGives (λ may_fail sight t names locals. one_value span may_fail t names locals (member_judged sight e a) (is_there (sight.known.items.member e.name a.name)))
     (record { names = []; fits = λ place v env. fit_value (env.items.member e.name a.name) v env })
-member_pattern_gives span e a = value_gives span (λ sight. member_judged span sight e a) (λ sight. is_there (sight.known.items.member e.name a.name)) (λ place env. env.items.member e.name a.name)
-    (λ sight env h fine. let k = member_has span sight e a env h fine in there_is (sight.known.items.member e.name a.name) k.2.value (sym (λ i. (h.items i).member e.name a.name) ∙ k.2.is))
+member_pattern_gives span e a = value_gives span (λ sight. member_judged sight e a) (λ sight. is_there (sight.known.items.member e.name a.name)) (λ place env. env.items.member e.name a.name)
+    (λ sight env h fine. let k = member_has sight e a env h fine in there_is (sight.known.items.member e.name a.name) k.2.value (sym (λ i. (h.items i).member e.name a.name) ∙ k.2.is))
 
 -- ---- names
 

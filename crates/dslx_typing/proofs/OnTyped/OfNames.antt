@@ -17,7 +17,7 @@ use Rattle.dslx_meaning.specs.declared.value.Bare.{Bare}
 use Rattle.dslx_meaning.specs.Rules.Judging.{Sight, Judgement, breaks, breaks_if, has_broken, settled, typed_in}
 use Rattle.dslx_meaning.specs.Rules.PatternRules.{is_there}
 use Rattle.dslx_meaning.specs.Rules.AggregateRules.{number_judged, range_faults}
-use Rattle.dslx_meaning.specs.Rules.NameRules.{name_judged, local_or_other, number_or_item, item_value, has_member, member_of, member_judged}
+use Rattle.dslx_meaning.specs.Rules.NameRules.{name_judged, local_or_other, number_or_item, item_value, has_member, member_of, member_type, member_judged}
 use Rattle.dslx_meaning.specs.Rules.Mentions.{is_cyclic}
 use Rattle.dslx_typing.specs.Typed.Kinds.{is_of}
 use Rattle.dslx_typing.specs.Typed.Declared.{Declarations, IsDeclared}
@@ -26,6 +26,7 @@ use Rattle.dslx_typing.specs.Typed.WellTyped.{types_at, IsWellTyped}
 use Rattle.dslx_typing.proofs.OnTyped.Judged.{none_some, same_some, mapped_from, unbroken_parts, test_holds, settled_type}
 use Rattle.dslx_typing.proofs.OnTyped.OfTypes.{bits_of_width}
 use Rattle.dslx_typing.proofs.OnTyped.OfOperators.{bits_declared}
+use Rattle.dslx_typing.proofs.OnTyped.OfAggregates.{and_then_type}
 use Rattle.dslx_typing.proofs.OnTyped.OfArrays.{number_given}
 
 -- the same of another type and option that are these
@@ -63,16 +64,17 @@ name_gives span sight name env h t e = by_local (typed_in name sight.locals) ref
         let g = h.locals name t (q ∙ ap Some s.1) in
         moved (types_at sight) t t _ _ refl (g.is ∙ sym (ap (λ o. or_else o (env.items.constant name)) g.is)) g
 
-pub member_gives : (span : Span) (sight : Sight) (e a : Ident) (env : Env) → IsWellTyped sight env → GivesItsType (types_at sight) (member_judged span sight e a) (env.items.member e.name a.name)
-member_gives span sight e a env h t k = by_enum (as_enum (item_named e.name sight.known.whole.items)) refl k
+pub member_gives : (sight : Sight) (e a : Ident) (env : Env) → IsWellTyped sight env → GivesItsType (types_at sight) (member_judged sight e a) (env.items.member e.name a.name)
+member_gives sight e a env h t k = by_enum (as_enum (item_named e.name sight.known.whole.items)) refl k
   where
-    by_enum : (o : Option Enum) → as_enum (item_named e.name sight.known.whole.items) ≡ o → (member_of span sight e a o).ty ≡ Some t → GivesOf (types_at sight) t (env.items.member e.name a.name)
+    by_enum : (o : Option Enum) → as_enum (item_named e.name sight.known.whole.items) ≡ o → (member_of sight e a o).ty ≡ Some t → GivesOf (types_at sight) t (env.items.member e.name a.name)
     by_enum None q r = none_some t (settled_type None (breaks 1 e.span ∷ []) t r).1
     by_enum (Some declared) q r =
-        let s = settled_type (sight.known.items.type_named e.name)
+        let s = settled_type (member_type sight e a)
         (breaks_if (is_cyclic sight.known.whole sight.home e.name) 3 e.span ++ breaks_if (not (has_member declared a.name)) 1 a.span) t r in
         let f = unbroken_parts (breaks_if (is_cyclic sight.known.whole sight.home e.name) 3 e.span) (breaks_if (not (has_member declared a.name)) 1 a.span) s.0 in
-        h.members e.name a.name declared t q (test_holds (has_member declared a.name) 1 a.span f.1) s.1
+        let known = and_then_type (sight.known.items.member e.name a.name) (λ v. types_at sight e.name) t s.1 in
+        h.members e.name a.name declared t q (test_holds (has_member declared a.name) 1 a.span f.1) known.2
 
 -- ---- literals
 

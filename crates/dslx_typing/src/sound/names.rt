@@ -20,8 +20,8 @@ ghost use Rattle.xb_span.specs.declared.span.Span.{Span};
 pub fn names_have_values_of_their_types()
     ensures name { (span : Span) (sight : Sight) (name : List ℕ) (env : Env) → IsWellTyped sight env → IsFine sight.known (name_judged span sight name)
         → HasItsValue (types_at sight) (name_judged span sight name) (value_of_name name env) }
-    ensures member { (span : Span) (sight : Sight) (e a : Ident) (env : Env) → IsWellTyped sight env → IsFine sight.known (member_judged span sight e a)
-        → HasItsValue (types_at sight) (member_judged span sight e a) (env.items.member e.name a.name) }
+    ensures member { (sight : Sight) (e a : Ident) (env : Env) → IsWellTyped sight env → IsFine sight.known (member_judged sight e a)
+        → HasItsValue (types_at sight) (member_judged sight e a) (env.items.member e.name a.name) }
     ensures truth { (span : Span) (b : Bool) → PartGives (λ sight. settled span (Some bool_type) [] [] (Some 1)) (λ env. Some (bool_value b)) }
     ensures number { (span : Span) (j : SightJudging) (f : Typing) (number : Bare) → TypeStands j f → PartGives (λ sight. number_judged span (Some (j sight)) number) (λ env. and_then (f env) (λ t. number_value t number)) }
 {}

@@ -3,7 +3,7 @@ ghost use Rattle.dslx_meaning.specs.Lists.{and_then};
 ghost use Rattle.dslx_meaning.specs.Meaning.{Evaluates, PatternMeant, all_names, fit_each, fit_value};
 ghost use Rattle.dslx_meaning.specs.Types.{bool_type};
 ghost use Rattle.dslx_meaning.specs.Values.{bool_value, elements_of};
-ghost use Rattle.dslx_meaning.specs.Rules.Judging.{settled};
+ghost use Rattle.dslx_meaning.specs.Rules.Judging.{unlimited};
 ghost use Rattle.dslx_meaning.specs.Rules.Judgings.{PatternPair, SightJudging};
 ghost use Rattle.dslx_meaning.specs.Rules.NameRules.{member_judged};
 ghost use Rattle.dslx_meaning.specs.Rules.PatternRules.{is_there, name_pattern, nothing_bound, one_value, part_types, parts_judged, tuple_pattern};
@@ -16,11 +16,11 @@ ghost use Rattle.xb_span.specs.declared.span.Span.{Span};
 pub fn patterns_keep_places_typed()
     ensures wild { PatternGives (λ may_fail sight t names locals. record (nothing_bound names locals) { size = 1 }) (record { names = []; fits = λ place v env. Some env }) }
     ensures truth { (span : Span) (b : Bool)
-        → PatternGives (λ may_fail sight t names locals. one_value span may_fail t names locals (settled span (Some bool_type) [] [] (Some 1)) true) (record { names = []; fits = λ place v env. fit_value (Some (bool_value b)) v env }) }
+        → PatternGives (λ may_fail sight t names locals. one_value span may_fail t names locals (unlimited (Some bool_type) [] [] (Some 1)) true) (record { names = []; fits = λ place v env. fit_value (Some (bool_value b)) v env }) }
     ensures number { (span : Span) (j : SightJudging) (value : Evaluates) → PartGives j value
         → PatternGives (λ may_fail sight t names locals. one_value span may_fail t names locals (j sight) (is_there (j sight).ty)) (record { names = []; fits = λ place v env. fit_value (value place) v env }) }
     ensures member { (span : Span) (e a : Ident)
-        → PatternGives (λ may_fail sight t names locals. one_value span may_fail t names locals (member_judged span sight e a) (is_there (sight.known.items.member e.name a.name)))
+        → PatternGives (λ may_fail sight t names locals. one_value span may_fail t names locals (member_judged sight e a) (is_there (sight.known.items.member e.name a.name)))
         (record { names = []; fits = λ place v env. fit_value (env.items.member e.name a.name) v env }) }
     ensures name { (span : Span) (name : List ℕ)
         → PatternGives (λ may_fail sight t names locals. name_pattern span may_fail sight t names locals name (sight.known.items.is_constant name))

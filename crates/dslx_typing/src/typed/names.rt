@@ -19,8 +19,8 @@ ghost use Rattle.dslx_typing.specs.Typed.WellTyped.{IsWellTyped, types_at};
 pub fn names_give_values_of_their_types()
     ensures name { (span : Span) (sight : Sight) (name : List ℕ) (env : Env) → IsWellTyped sight env
         → GivesItsType (types_at sight) (name_judged span sight name) (value_of_name name env) }
-    ensures member { (span : Span) (sight : Sight) (e a : Ident) (env : Env) → IsWellTyped sight env
-        → GivesItsType (types_at sight) (member_judged span sight e a) (env.items.member e.name a.name) }
+    ensures member { (sight : Sight) (e a : Ident) (env : Env) → IsWellTyped sight env
+        → GivesItsType (types_at sight) (member_judged sight e a) (env.items.member e.name a.name) }
     ensures truth { (types : Declarations) (span : Span) (b : Bool) → GivesItsType types (settled span (Some bool_type) [] [] (Some 1)) (Some (bool_value b)) }
     ensures number { (types : Declarations) (span : Span) (written : Judgement) (w : Option DslxType) (number : Bare)
         → ((t : DslxType) → written.ty ≡ Some t → (w ≡ Some t) × IsDeclared types t)
