@@ -54,7 +54,7 @@ all_found (f ∷ fs) = and_found f (all_found fs)
 
 -- what is in sight in the text of an item, outside all blocks
 abbrev pub item_sight : Known → List ℕ → List Given → Sight
-item_sight known home numbers = record { known = known; home = home; numbers = numbers; unknown = []; locals = []; members = []; used = [] }
+item_sight known home numbers = record { known = known; home = home; numbers = numbers; unknown = []; ends = []; locals = []; members = []; used = [] }
 
 abbrev pub judged_type : Sight → TypeExpr → Judgement
 judged_type sight t = (type_pair t).1 sight

@@ -84,9 +84,11 @@ pub record Sight : Type 0 where
   pub known : Known
   -- the item in whose text it stands
   pub home : List ℕ
-  -- number parameters with their values, those of which no value is known, and bound names, the last one first
+  -- number parameters with their values, those of which no value is known, the ends of a `config` that are declared before,
+  -- and bound names, the last one first
   pub numbers : List Given
   pub unknown : List (List ℕ)
+  pub ends : List (List ℕ)
   pub locals : List Typed
   -- the proc's members, and which of them have a site before
   pub members : List Outlet
@@ -99,7 +101,8 @@ abbrev pub typed_in : List ℕ → List Typed → Option (Option DslxType)
 typed_in name [] = None
 typed_in name (l ∷ ls) = if bytes_eq name l.name then Some l.ty else typed_in name ls
 
--- what constants are evaluated in: the items and the number parameters that no name hides
+-- what constants are evaluated in: the items and the number parameters that no bound name hides. A constant that names an end
+-- breaks rule 1, and has no value
 abbrev pub unhidden : List Typed → List Given → List Given
 unhidden locals [] = []
 unhidden locals (g ∷ gs) = if is_in g.name (map (λ (l : Typed). l.name) locals) then unhidden locals gs else g ∷ unhidden locals gs

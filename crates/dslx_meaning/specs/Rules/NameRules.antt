@@ -30,8 +30,13 @@ number_or_item span sight name None =
     else item_value span sight name (sight.known.items.is_constant name)
 number_or_item span sight name (Some v) = settled span (Some (type_of_value v)) [] [] (Some 1)
 
+-- an end of a `config` is no value, and hides number parameters and items of its name
+abbrev pub end_or_other : Span → Sight → List ℕ → Bool → Judgement
+end_or_other span sight name true = settled span None (breaks 1 span ∷ []) [] (Some 1)
+end_or_other span sight name false = number_or_item span sight name (given_in name sight.numbers)
+
 abbrev pub local_or_other : Span → Sight → List ℕ → Option (Option DslxType) → Judgement
-local_or_other span sight name None = number_or_item span sight name (given_in name sight.numbers)
+local_or_other span sight name None = end_or_other span sight name (is_in name sight.ends)
 local_or_other span sight name (Some ty) = settled span ty [] [] (Some 1)
 
 -- a name as a value: a bound name, a number parameter or a constant. Rule 1 refuses all else, rule 3 a constant that reaches

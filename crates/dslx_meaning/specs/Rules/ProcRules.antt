@@ -82,14 +82,18 @@ depth_found sight (Some a) =
 abbrev pub string_faults : List (List ℕ) → Ident → List Fault
 string_faults before name = breaks_if (is_in name.name before) 2 name.span
 
+-- what is in sight behind these ends, which are no values
+abbrev pub behind_ends : Sight → Made → Sight
+behind_ends sight made = record sight { ends = made.names }
+
 abbrev pub channel_found : Sight → Made → Channel → Found
 channel_found sight made c =
     and_found (only_faults (local_name sight made.names c.sender ++ local_name sight (c.sender.name ∷ made.names) c.receiver ++ string_faults made.strings c.name))
-    (and_found (found_in (channel_type sight c.word)) (depth_found sight c.depth))
+    (and_found (found_in (channel_type (behind_ends sight made) c.word)) (depth_found (behind_ends sight made) c.depth))
 
 abbrev pub made_with : Sight → Made → Channel → Made
 made_with sight made c =
-    let word = (judged_inner sight c.word).ty in
+    let word = (judged_inner (behind_ends sight made) c.word).ty in
     record {
       names = c.receiver.name ∷ c.sender.name ∷ made.names;
       outlets = record { name = c.sender.name; direction = Out; word = word } ∷ record { name = c.receiver.name; direction = In; word = word } ∷ made.outlets;
@@ -145,7 +149,7 @@ spawn_of sight made s given (Some target) =
 
 abbrev pub spawn_found : Sight → Made → Spawn → Found
 spawn_found sight made s =
-    let given = given_numbers sight (map arg_pair s.arguments) in
+    let given = given_numbers (behind_ends sight made) (map arg_pair s.arguments) in
     and_found (given_found given)
     (and_found (only_faults (unknown_ends made.names s.ends)) (spawn_of sight made s given (as_proc (item_named s.target.name sight.known.whole.items))))
 

@@ -21,7 +21,7 @@ use Rattle.dslx_meaning.specs.Rules.Judging.{ExprPair, Instance, Known, Sight, a
 use Rattle.dslx_meaning.specs.Rules.Mentions.{arg_if, making_mentions, mentioned_in_type, parameter_names}
 use Rattle.dslx_meaning.specs.Rules.ModuleRules.{is_reached}
 use Rattle.dslx_meaning.specs.Rules.NodeRules.{arg_pair}
-use Rattle.dslx_meaning.specs.Rules.ProcRules.{Made, channel_found, channel_type, depth_found, ends_found, made_at_end, made_at_start, made_with, makings_found, proc_sight, spawn_found, spawn_of, unknown_ends, use_faults}
+use Rattle.dslx_meaning.specs.Rules.ProcRules.{Made, behind_ends, channel_found, channel_type, depth_found, ends_found, made_at_end, made_at_start, made_with, makings_found, proc_sight, spawn_found, spawn_of, unknown_ends, use_faults}
 use Rattle.dslx_typing.specs.Judged.Closed.{ends_within}
 use Rattle.dslx_typing.specs.Judged.Reached.{AllNamed, MentionsReach}
 use Rattle.dslx_typing.proofs.Lemmas.Judged.{argument_reaches, join, unmarked, written_type_reaches}
@@ -40,12 +40,12 @@ use Rattle.dslx_core.specs.Networks.Ends.{end_numbers, numbered_ends}
 use Rattle.dslx_total.specs.Families.Plain.{ProcsBindNoConstant}
 use Rattle.dslx_total.proofs.OnFamilies.Acts.{parts_fine}
 use Rattle.dslx_total.proofs.OnFamilies.Reached.{K, Listed, Passing, Within, all, all_sound, most, proc_there, reaching}
-use Rattle.dslx_total.proofs.OnFamilies.Spawns.{proc_named, spawn_there}
+use Rattle.dslx_total.proofs.OnFamilies.Spawns.{proc_named, spawn_there, well_behind}
 use Rattle.dslx_total.proofs.OnFamilies.There.{IsThere, well}
 use Rattle.dslx_total.specs.Configs.Becoming.{ConfigBecomes}
 use Rattle.dslx_total.specs.Configs.Spawned.{EachSpawn, HasItsInstance, SpawnsReached}
 use Rattle.dslx_total.proofs.OnConfigs.Held.{AreNumbered, NumbersThere, declared_numbered, numbers_there, stays}
-use Rattle.dslx_total.proofs.OnConfigs.Texts.{TypesAreWritten, channel_there, given_there}
+use Rattle.dslx_total.proofs.OnConfigs.Texts.{TypesAreWritten, channel_there, given_there, none_made}
 
 -- what a depth mentions
 depth_none : (o : Option Arg) (bound : List (List ℕ)) → NoProcs (arg_if o bound)
@@ -128,14 +128,15 @@ module _ (m : Module) (top : Option (List ℕ)) (s : IsAccepted m top) (procs : 
     -- a channel reaches sound instances
     channel_sound : (made : Made) (c : Channel) → Within m (most m top s) (making_mentions (making.Channel c) bound) → Listed m top s (channel_found sight made c).reached → list_all known.is_sound (channel_found sight made c).reached ≡ true
     channel_sound made c w r =
-        let word = channel_type sight c.word in
-        let depth = depth_found sight c.depth in
+        let behind = behind_ends sight made in
+        let word = channel_type behind c.word in
+        let depth = depth_found behind c.depth in
         let q = meant_parts (ends_within m (most m top s)) m (mentioned_in_type c.word bound) (arg_if c.depth bound) w in
         let P = Passing m top s in
         all_sound m top s (word.reached ++ depth.reached)
         (join P word.reached depth.reached
-        (written_type_reaches P c.word bound sight (reaching m top s (mentioned_in_type c.word bound) (no_proc_in_type c.word bound) q.0))
-        (depth_reaches P sight c.depth bound (reaching m top s (arg_if c.depth bound) (depth_none c.depth bound) q.1))) r
+        (written_type_reaches P c.word bound behind (reaching m top s (mentioned_in_type c.word bound) (no_proc_in_type c.word bound) q.0))
+        (depth_reaches P behind c.depth bound (reaching m top s (arg_if c.depth bound) (depth_none c.depth bound) q.1))) r
 
     makings_become : (made : Made) (ms : List Making) → AreNumbered held (made_at_end sight made ms).names → Within m (most m top s) (flat_map (λ (x : Making). making_mentions x bound) ms) → (makings_found sight made ms).faults ≡ []
         → Listed m top s (makings_found sight made ms).reached → MakingsBecome ms
@@ -145,7 +146,7 @@ module _ (m : Module) (top : Option (List ℕ)) (s : IsAccepted m top) (procs : 
         let v = meant_parts (ends_within m (most m top s)) m (making_mentions (making.Channel c) bound) (flat_map (λ (x : Making). making_mentions x bound) ms) w in
         let a = none_in (channel_found sight made c).faults (makings_found sight next ms).faults f in
         let b = all_in test (channel_found sight made c).reached (makings_found sight next ms).reached r in
-        let first = channel_there known p numbers sees written made c a.0 (channel_sound made c v.0 b.0) in
+        let first = channel_there known p numbers made (well_behind sight env made sees) written c a.0 (channel_sound made c v.0 b.0) in
         let rest = makings_become next ms named v.1 a.1 b.1 in
         record {
           made = first.0 ∷ rest.made;
@@ -157,12 +158,12 @@ module _ (m : Module) (top : Option (List ℕ)) (s : IsAccepted m top) (procs : 
         let v = meant_parts (ends_within m (most m top s)) m (making_mentions (making.Spawn sp) bound) (flat_map (λ (x : Making). making_mentions x bound) ms) w in
         let a = none_in (spawn_found sight made sp).faults (makings_found sight made ms).faults f in
         let b = all_in test (spawn_found sight made sp).reached (makings_found sight made ms).reached r in
-        let given = given_numbers sight (map arg_pair sp.arguments) in
+        let given = given_numbers (behind_ends sight made) (map arg_pair sp.arguments) in
         let unknown = unknown_ends made.names sp.ends in
         let spawned = spawn_of sight made sp given (as_proc (item_named sp.target.name known.whole.items)) in
         let declared = (none_in unknown spawned.faults (none_in (faults_of_all (given_judgements given)) (unknown ++ spawned.faults) a.0).1).0 in
         let t = spawn_there m top s procs complete typed p numbers sees made sp bound v.0 a.0 b.0 in
-        let gives = given_there known p numbers sees t.target sp.arguments ∙ t.given in
+        let gives = given_there known p numbers none_made sees t.target sp.arguments ∙ t.given in
         let ends = numbers_there held made.names (λ name q. named name (stays name sight made ms q)) sp.ends declared in
         let rest = makings_become made ms named v.1 a.1 b.1 in
         record {

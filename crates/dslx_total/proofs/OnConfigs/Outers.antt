@@ -31,7 +31,7 @@ use Rattle.dslx_total.proofs.OnFamilies.Reached.{K, Passing, all, all_sound, end
 use Rattle.dslx_total.proofs.OnFamilies.There.{IsThere, well}
 use Rattle.dslx_total.proofs.OnFamilies.Tops.{top_there}
 use Rattle.dslx_total.specs.Configs.Becoming.{TopBecomes}
-use Rattle.dslx_total.proofs.OnConfigs.Texts.{TypesAreWritten, word_there}
+use Rattle.dslx_total.proofs.OnConfigs.Texts.{TypesAreWritten, none_made, word_there}
 
 -- ends with which nothing is wrong, and which reach sound instances
 each_outer : TypesAreWritten → (known : Known) (p : Proc) (numbers : List DslxValue) → IsWellTyped (proc_sight known p numbers) (item_env known (numbers_bound [] p.parameters numbers)) → (before : List (List ℕ)) (es : List End)
@@ -44,7 +44,7 @@ each_outer written known p numbers h before (e ∷ es) f r =
     let rest = ends_found sight (e.name.name ∷ before) es in
     let a = none_in word.faults rest.faults (none_in (local_name sight before e.name) (word.faults ++ rest.faults) f).1 in
     let b = all_in known.is_sound word.reached rest.reached r in
-    let t = word_there known p numbers h written e.word a.0 b.0 in
+    let t = word_there known p numbers none_made h written e.word a.0 b.0 in
     let others = each_outer written known p numbers h (e.name.name ∷ before) es a.1 b.1 in
     let first : Outer = record { name = e.name.name; ty = plain_type t.ty; kind = kind_of_end e.direction } in
     (first ∷ others.0, (λ i. and_then (t.is i) (λ u. Some (record { name = e.name.name; ty = plain_type u; kind = kind_of_end e.direction })) ∷ others.1 i))

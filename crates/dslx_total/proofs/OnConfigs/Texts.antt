@@ -26,7 +26,7 @@ use Rattle.dslx_meaning.specs.Rules.Judging.{Known, Sight, found_number, passes}
 use Rattle.dslx_meaning.specs.Rules.Mentions.{free_names, mentioned_in_type, value_names}
 use Rattle.dslx_meaning.specs.Rules.NameRules.{local_name}
 use Rattle.dslx_meaning.specs.Rules.NodeRules.{arg_pair, type_pair}
-use Rattle.dslx_meaning.specs.Rules.ProcRules.{Made, channel_found, channel_type, depth_found, depth_limit, proc_sight, string_faults, word_limit}
+use Rattle.dslx_meaning.specs.Rules.ProcRules.{Made, behind_ends, channel_found, channel_type, depth_found, depth_limit, proc_sight, string_faults, word_limit}
 use Rattle.dslx_meaning.specs.Rules.TypeRules.{span_of_type, unit_faults}
 use Rattle.dslx_core.specs.declared.design.MadeChannel.{MadeChannel}
 use Rattle.dslx_typing.specs.Typed.Complete.{IsFine}
@@ -65,9 +65,13 @@ within_limit at n e = by_test (nat_lt 4096 n) refl e
 few_bits : (n : ℕ) → n ≤ 4096 → nat_lt n (2 ^ 32) ≡ true
 few_bits n few = let less : n < 2 ^ 32 = omega (arith, few) in (Decides-ltb n (2 ^ 32)).1 less
 
-module _ (known : Known) (p : Proc) (numbers : List DslxValue) (h : IsWellTyped (proc_sight known p numbers) (item_env known (numbers_bound [] p.parameters numbers))) where
+-- where no end is declared before
+abbrev pub none_made : Made
+none_made = record { names = []; outlets = []; strings = [] }
+
+module _ (known : Known) (p : Proc) (numbers : List DslxValue) (made : Made) (h : IsWellTyped (behind_ends (proc_sight known p numbers) made) (item_env known (numbers_bound [] p.parameters numbers))) where
   abbrev sight : Sight
-  sight = proc_sight known p numbers
+  sight = behind_ends (proc_sight known p numbers) made
 
   abbrev env : Env
   env = item_env known (numbers_bound [] p.parameters numbers)
@@ -126,9 +130,9 @@ module _ (known : Known) (p : Proc) (numbers : List DslxValue) (h : IsWellTyped 
       ∙ size_is_meant sight env.bound e c.0 h.place c.1 in
       (c.0, ap (λ o. and_then o (λ d. where_true (nat_lt d (2 ^ 32)) (Some d))) size ∙ ap (λ b. where_true b (Some c.0)) few)
 
-  pub channel_there : TypesAreWritten → (made : Made) (c : Channel) → (channel_found sight made c).faults ≡ [] → list_all known.is_sound (channel_found sight made c).reached ≡ true
+  pub channel_there : TypesAreWritten → (c : Channel) → (channel_found (proc_sight known p numbers) made c).faults ≡ [] → list_all known.is_sound (channel_found (proc_sight known p numbers) made c).reached ≡ true
       → (x : MadeChannel) × (channel_lowered place c ≡ Some x)
-  channel_there written made c f r =
+  channel_there written c f r =
       let word = channel_type sight c.word in
       let depth = depth_found sight c.depth in
       let names = (local_name sight made.names c.sender ++ local_name sight (c.sender.name ∷ made.names) c.receiver) ++ string_faults made.strings c.name in

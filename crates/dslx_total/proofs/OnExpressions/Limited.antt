@@ -16,7 +16,7 @@ use Rattle.dslx_meaning.specs.Rules.AggregateRules.{struct_if, struct_judged, ar
 use Rattle.dslx_meaning.specs.Rules.CallRules.{GivenNumber, builtin_judged, call_judged, counting, first_operand_type, function_call, given_numbers, has_right_count, updating, without_numbers, NumbersSeen, call_parts_faults, call_type, joining, operand_faults, right_call, token_judged, update_faults, wrong_call, call_numbers, judged_there}
 use Rattle.dslx_meaning.specs.Rules.Judging.{ExprPair, Judgement, Sight, all_alone, settled, typed_in, alone, breaks, breaks_if, faults_of_all, one_and, plus_size, span_of, types_of}
 use Rattle.dslx_meaning.specs.Rules.Judgings.{ArgPair, FieldSeen, ArmSeen, BlockPair, SightJudging, StatementJudging}
-use Rattle.dslx_meaning.specs.Rules.NameRules.{item_value, local_or_other, name_judged, number_or_item}
+use Rattle.dslx_meaning.specs.Rules.NameRules.{item_value, local_or_other, name_judged, number_or_item, end_or_other}
 use Rattle.dslx_meaning.specs.Rules.OperatorRules.{binary_faults, binary_judged, binary_type, bound_number, cast_judged, is_bits, is_bits_or_enum, is_bool, part_judged, prefix_judged, slice_faults, slice_judged, unless_type, unless_types}
 use Rattle.dslx_typing.proofs.Lemmas.Typed.{none_some}
 use Rattle.dslx_total.specs.Expressions.Lowers.{IsLimited, KeepsLimits}
@@ -55,8 +55,12 @@ name_limited span name sight = by_local (typed_in name sight.locals)
     by_number None = by_known (is_in name sight.unknown)
     by_number (Some v) = settled_keeps span (Some (type_of_value v)) []
 
+    by_end : (b : Bool) → Keeps (end_or_other span sight name b)
+    by_end true = settled_keeps span None (breaks 1 span ∷ [])
+    by_end false = by_number (given_in name sight.numbers)
+
     by_local : (o : Option (Option DslxType)) → Keeps (local_or_other span sight name o)
-    by_local None = by_number (given_in name sight.numbers)
+    by_local None = by_end (is_in name sight.ends)
     by_local (Some t) = settled_keeps span t []
 
 -- ---- aggregates

@@ -17,7 +17,7 @@ use Rattle.dslx_meaning.specs.Rules.AggregateRules.{number_judged, range_faults}
 use Rattle.dslx_meaning.specs.Rules.Judging.{Instance, Sight, breaks, breaks_if, limited, settled, typed_in}
 use Rattle.dslx_meaning.specs.Rules.Judgings.{SightJudging}
 use Rattle.dslx_meaning.specs.Rules.Mentions.{is_cyclic}
-use Rattle.dslx_meaning.specs.Rules.NameRules.{item_value, local_or_other, member_judged, name_judged, number_or_item}
+use Rattle.dslx_meaning.specs.Rules.NameRules.{item_value, local_or_other, member_judged, name_judged, number_or_item, end_or_other}
 use Rattle.dslx_typing.specs.Typed.Complete.{IsFine}
 use Rattle.dslx_typing.specs.Typed.Given.{GivesOf}
 use Rattle.dslx_typing.specs.Typed.Kinds.{is_of}
@@ -76,11 +76,16 @@ name_lowers span name here sight env place h at fine =
     by_number None f = by_known (is_in name sight.unknown) refl f
     by_number (Some v) f = refl
 
+    by_end : (b : Bool) → IsFine (reaching sight.known here) (end_or_other span sight name b)
+        → type_of_lowered (and_then (or_else (given_in name sight.numbers) (sight.known.items.constant name)) literal) ≡ (end_or_other span sight name b).ty
+    by_end true f = some_fault (breaks 1 span) [] (settled_fine (reaching sight.known here) span None (breaks 1 span ∷ []) [] (Some 1) f).faults
+    by_end false f = by_number (given_in name sight.numbers) f
+
     by_local : (o : Option BoundSlot) → IsFine (reaching sight.known here) (local_or_other span sight name (slot_type o))
         → type_of_lowered (slot_or_literal place name o) ≡ (local_or_other span sight name (slot_type o)).ty
     by_local None f =
         (λ i. type_of_lowered (and_then (or_else (given_in name (at.numbers i)) ((at.items i).constant name)) literal))
-        ∙ by_number (given_in name sight.numbers) f
+        ∙ by_end (is_in name sight.ends) f
     by_local (Some l) f = refl
 
 -- ---- members

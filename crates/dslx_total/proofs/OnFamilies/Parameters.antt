@@ -60,7 +60,7 @@ module _ (m : Module) (plain : BindsNoConstant m) (k : ℕ) (home : List ℕ) (o
       (λ name e q i. reached_in (ends_within m k) m (closed m k) (length m.items) home name own (sym (λ t. item_reaches (there.text t) home name) ∙ e) i && no_proc_enum (item_named name m.items) q i)
 
   abbrev sight_at : List Given → List (List ℕ) → Sight
-  sight_at numbers unknown = record { known = a; home = home; numbers = numbers; unknown = unknown; locals = []; members = []; used = [] }
+  sight_at numbers unknown = record { known = a; home = home; numbers = numbers; unknown = unknown; ends = []; locals = []; members = []; used = [] }
 
   pub parameters_alike : (ps : List Parameter) (bound : List (List ℕ)) → NamesAlike a b bound → NamesAlike a b (parameter_names ps) → Meant (parameters_mentions ps bound) → EachParameterAlike b (known_over b) home ps
   parameters_alike [] bound n hidden h = tt

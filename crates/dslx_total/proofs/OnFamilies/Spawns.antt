@@ -25,7 +25,7 @@ use Rattle.dslx_meaning.specs.Rules.Judgings.{ArgPair}
 use Rattle.dslx_meaning.specs.Rules.Mentions.{AsProc, is_cyclic, making_mentions, mention, mentioned_in_arg}
 use Rattle.dslx_meaning.specs.Rules.ModuleRules.{is_reached}
 use Rattle.dslx_meaning.specs.Rules.NodeRules.{arg_pair}
-use Rattle.dslx_meaning.specs.Rules.ProcRules.{Made, handed_faults, proc_numbers, proc_sight, right_spawn, spawn_found, spawn_of, unknown_ends}
+use Rattle.dslx_meaning.specs.Rules.ProcRules.{Made, behind_ends, handed_faults, proc_numbers, proc_sight, right_spawn, spawn_found, spawn_of, unknown_ends}
 use Rattle.dslx_typing.proofs.Lemmas.Laws.{and_true}
 use Rattle.dslx_typing.specs.Judged.Closed.{ends_within}
 use Rattle.dslx_typing.proofs.Lemmas.Judged.{arguments_reach, every_item, given_reach, item_so_named, numbers_reach, whole_is}
@@ -65,6 +65,21 @@ pub proc_named : (m : Module) (name : List ℕ) (p : Proc) → as_proc (item_nam
 proc_named m name p e =
     let named = proc_is (item_named name m.items) p e in
     subst (λ n. item_named n m.items ≡ Some (d.Proc p)) (sym (item_so_named m.items name (d.Proc p) named)) named
+
+-- behind these ends, which hide nothing that has a value
+pub well_behind : (sight : Sight) (env : Env) (made : Made) → IsWellTyped sight env → IsWellTyped (behind_ends sight made) env
+well_behind sight env made h = record {
+  locals = h.locals;
+  numbers = h.numbers;
+  constants = h.constants;
+  members = h.members;
+  kinds = h.kinds;
+  typed = h.typed;
+  valued = h.valued;
+  place = record { others = h.place.others; hides = h.place.hides };
+  items = h.items;
+  known = h.known;
+}
 
 each_argument : (as' : List Arg) → EachExprGives (map (λ (a : ArgPair). a.1) (map arg_pair as')) (map meant_arg as')
 each_argument [] = tt
@@ -122,22 +137,22 @@ module _ (m : Module) (top : Option (List ℕ)) (s : IsAccepted m top) (procs : 
     abbrev env : Env
     env = item_env known (numbers_bound [] p.parameters own)
 
-    abbrev gs : Spawn → List GivenNumber
-    gs sp = given_numbers sight (map arg_pair sp.arguments)
+    abbrev gs : Made → Spawn → List GivenNumber
+    gs made sp = given_numbers (behind_ends sight made) (map arg_pair sp.arguments)
 
-    abbrev seen : Spawn → Proc → NumbersSeen
-    seen sp target = proc_numbers known target (gs sp)
+    abbrev seen : Made → Spawn → Proc → NumbersSeen
+    seen made sp target = proc_numbers known target (gs made sp)
 
     abbrev cyclic : Spawn → Proc → List Fault
     cyclic sp target = breaks_if (is_cyclic known.whole p.name.name target.name.name) 3 sp.span
 
     abbrev handed : Made → Spawn → Proc → List Fault
-    handed made sp target = if (seen sp target).is_wrong then [] else handed_faults known target.name.name (seen sp target).bound made target.config.ends sp.ends
+    handed made sp target = if (seen made sp target).is_wrong then [] else handed_faults known target.name.name (seen made sp target).bound made target.config.ends sp.ends
 
-    right : (made : Made) (sp : Spawn) (bound : List (List ℕ)) (target : Proc) → as_proc (item_named sp.target.name m.items) ≡ Some target → (length sp.ends == length target.config.ends) ≡ true → AreGiven sight env (map arg_pair sp.arguments) (map meant_arg sp.arguments)
-        → (right_spawn sight made sp target (cyclic sp target) (seen sp target)).faults ≡ [] → Listed m top s (right_spawn sight made sp target (cyclic sp target) (seen sp target)).reached → SpawnThere env sp
+    right : (made : Made) (sp : Spawn) (bound : List (List ℕ)) (target : Proc) → as_proc (item_named sp.target.name m.items) ≡ Some target → (length sp.ends == length target.config.ends) ≡ true → AreGiven (behind_ends sight made) env (map arg_pair sp.arguments) (map meant_arg sp.arguments)
+        → (right_spawn sight made sp target (cyclic sp target) (seen made sp target)).faults ≡ [] → Listed m top s (right_spawn sight made sp target (cyclic sp target) (seen made sp target)).reached → SpawnThere env sp
     right made sp bound target is many g f r =
-        let n = seen sp target in
+        let n = seen made sp target in
         let wrong = breaks_if n.is_wrong 10 sp.span in
         let declared = judged_there (cyclic sp target) n in
         let a = none_in (((cyclic sp target ++ n.faults) ++ declared.faults) ++ wrong) (handed made sp target) f in
@@ -148,7 +163,7 @@ module _ (m : Module) (top : Option (List ℕ)) (s : IsAccepted m top) (procs : 
         let there = judged_right (cyclic sp target) n c.0 no_wrong in
         let listed = all_in test declared.reached (reached_by (is_refused (cyclic sp target) n) target.name.name n.values) r in
         let named = proc_named m sp.target.name target is in
-        let k = numbers_there sp.target.name target is named (gs sp) g.values g.each g.mean c.1 (ap (λ (j : JudgedThere). j.faults) (sym there) ∙ d.1) (ap (λ (j : JudgedThere). list_all test j.reached) (sym there) ∙ listed.0) no_wrong in
+        let k = numbers_there sp.target.name target is named (gs made sp) g.values g.each g.mean c.1 (ap (λ (j : JudgedThere). j.faults) (sym there) ∙ d.1) (ap (λ (j : JudgedThere). list_all test j.reached) (sym there) ∙ listed.0) no_wrong in
         let i : Instance = record { name = target.name.name; numbers = k.numbers } in
         let one = and_true (test i) true ((λ t. list_all test (reached_by (has_broken (sym c.0 t) || sym no_wrong t) target.name.name (sym k.is t))) ∙ listed.1) in
         record {
@@ -164,29 +179,29 @@ module _ (m : Module) (top : Option (List ℕ)) (s : IsAccepted m top) (procs : 
     pub spawn_there : (made : Made) (sp : Spawn) (bound : List (List ℕ)) → Within m (most m top s) (making_mentions (making.Spawn sp) bound) → (spawn_found sight made sp).faults ≡ [] → Listed m top s (spawn_found sight made sp).reached
         → SpawnThere env sp
     spawn_there made sp bound within f r =
-        let given = given_judgements (gs sp) in
+        let given = given_judgements (gs made sp) in
         let unknown = unknown_ends made.names sp.ends in
-        let spawned = spawn_of sight made sp (gs sp) (as_proc (item_named sp.target.name known.whole.items)) in
+        let spawned = spawn_of sight made sp (gs made sp) (as_proc (item_named sp.target.name known.whole.items)) in
         let a = none_in (faults_of_all given) (unknown ++ spawned.faults) f in
         let b = none_in unknown spawned.faults a.1 in
         let c = all_in test (reached_of_all given) spawned.reached r in
         let arguments = flat_map (λ (x : Arg). mentioned_in_arg x bound) sp.arguments in
         let meant = (meant_parts (ends_within m (most m top s)) m (mention AsProc sp.target.name) arguments within).1 in
-        let passing = given_reach (Passing m top s) sight (map arg_pair sp.arguments) (arguments_reach (Passing m top s) sight sp.arguments bound (reaching m top s arguments (arguments_none sp.arguments bound) meant)) in
-        let g = numbers_given sight env well (map arg_pair sp.arguments) (map meant_arg sp.arguments) (each_argument sp.arguments) a.0 (all_sound m top s (reached_of_all given) passing c.0) in
+        let passing = given_reach (Passing m top s) (behind_ends sight made) (map arg_pair sp.arguments) (arguments_reach (Passing m top s) (behind_ends sight made) sp.arguments bound (reaching m top s arguments (arguments_none sp.arguments bound) meant)) in
+        let g = numbers_given (behind_ends sight made) env (well_behind sight env made well) (map arg_pair sp.arguments) (map meant_arg sp.arguments) (each_argument sp.arguments) a.0 (all_sound m top s (reached_of_all given) passing c.0) in
         by_proc (as_proc (item_named sp.target.name known.whole.items)) refl g b.1 c.1
       where
         enough : Proc → Bool
-        enough target = length sp.ends == length target.config.ends && not (nat_lt (length target.parameters) (length (gs sp)))
+        enough target = length sp.ends == length target.config.ends && not (nat_lt (length target.parameters) (length (gs made sp)))
 
-        by_count : (target : Proc) → as_proc (item_named sp.target.name m.items) ≡ Some target → (t : Bool) → enough target ≡ t → AreGiven sight env (map arg_pair sp.arguments) (map meant_arg sp.arguments)
-            → (if t then right_spawn sight made sp target (cyclic sp target) (seen sp target) else only_faults (cyclic sp target ++ breaks 10 sp.span ∷ [])).faults ≡ []
-            → Listed m top s (if t then right_spawn sight made sp target (cyclic sp target) (seen sp target) else only_faults (cyclic sp target ++ breaks 10 sp.span ∷ [])).reached → SpawnThere env sp
+        by_count : (target : Proc) → as_proc (item_named sp.target.name m.items) ≡ Some target → (t : Bool) → enough target ≡ t → AreGiven (behind_ends sight made) env (map arg_pair sp.arguments) (map meant_arg sp.arguments)
+            → (if t then right_spawn sight made sp target (cyclic sp target) (seen made sp target) else only_faults (cyclic sp target ++ breaks 10 sp.span ∷ [])).faults ≡ []
+            → Listed m top s (if t then right_spawn sight made sp target (cyclic sp target) (seen made sp target) else only_faults (cyclic sp target ++ breaks 10 sp.span ∷ [])).reached → SpawnThere env sp
         by_count target is false q g f r = some_fault (breaks 10 sp.span) [] (none_in (cyclic sp target) (breaks 10 sp.span ∷ []) f).1
-        by_count target is true q g f r = right made sp bound target is (and_true (length sp.ends == length target.config.ends) (not (nat_lt (length target.parameters) (length (gs sp)))) q).0 g f r
+        by_count target is true q g f r = right made sp bound target is (and_true (length sp.ends == length target.config.ends) (not (nat_lt (length target.parameters) (length (gs made sp)))) q).0 g f r
 
-        by_proc : (o : Option Proc) → as_proc (item_named sp.target.name known.whole.items) ≡ o → AreGiven sight env (map arg_pair sp.arguments) (map meant_arg sp.arguments) → (spawn_of sight made sp (gs sp) o).faults ≡ []
-            → Listed m top s (spawn_of sight made sp (gs sp) o).reached → SpawnThere env sp
+        by_proc : (o : Option Proc) → as_proc (item_named sp.target.name known.whole.items) ≡ o → AreGiven (behind_ends sight made) env (map arg_pair sp.arguments) (map meant_arg sp.arguments) → (spawn_of sight made sp (gs made sp) o).faults ≡ []
+            → Listed m top s (spawn_of sight made sp (gs made sp) o).reached → SpawnThere env sp
         by_proc None q g f r = some_fault (breaks 1 sp.target.span) [] f
         by_proc (Some target) q g f r =
             by_count target ((λ t. as_proc (item_named sp.target.name (sym (whole_is m (length m.items)) t).items)) ∙ q) (enough target) refl g f r

@@ -114,7 +114,7 @@ reached_in P m closed (suc n) from to h e = any_reached P m n to (λ next p r. r
 
 -- the sight in the text of an item
 abbrev sight_at : Known → List ℕ → List Given → List (List ℕ) → List Typed → Sight
-sight_at known home numbers unknown locals = record { known = known; home = home; numbers = numbers; unknown = unknown; locals = locals; members = []; used = [] }
+sight_at known home numbers unknown locals = record { known = known; home = home; numbers = numbers; unknown = unknown; ends = []; locals = locals; members = []; used = [] }
 
 -- a default, by what it comes to
 abbrev default_by : Option DslxType → Expr → ConstantSeen → Found

@@ -22,7 +22,7 @@ use Rattle.dslx_meaning.specs.Rules.ConstantRules.{ConstantSeen, bare_judged, co
 use Rattle.dslx_meaning.specs.Rules.Judging.{ExprPair, Instance, Judgement, Known, Sight, all_alone, alone, bare_of, breaks, breaks_if, constant_env, faults_of_all, has_broken, no_token, one_and, plus_size, reached_of_all, settled, size_of_all, span_of, typed_in, types_of, unlimited}
 use Rattle.dslx_meaning.specs.Rules.Judgings.{FieldSeen, TypePair}
 use Rattle.dslx_meaning.specs.Rules.Mentions.{AsType, is_cyclic, is_of_use}
-use Rattle.dslx_meaning.specs.Rules.NameRules.{item_value, local_or_other, member_judged, member_of, name_judged, number_or_item, has_member}
+use Rattle.dslx_meaning.specs.Rules.NameRules.{end_or_other, item_value, local_or_other, member_judged, member_of, name_judged, number_or_item, has_member}
 use Rattle.dslx_meaning.specs.Rules.TypeRules.{inner_type, inner_types, named_type}
 use Rattle.dslx_typing.specs.Judged.Reached.{AllNamed}
 use Rattle.dslx_typing.specs.Depends.Alike.{EnumAlike, KnownAlike, in_known}
@@ -109,8 +109,12 @@ name_same P span sight other name k same = by_local (typed_in name sight.locals)
     by_number None = by_unknown (is_in name sight.unknown)
     by_number (Some v) = refl
 
+    by_end : (b : Bool) → end_or_other span sight name b ≡ end_or_other span (in_known sight other) name b
+    by_end true = refl
+    by_end false = by_number (given_in name sight.numbers)
+
     by_local : (o : Option (Option DslxType)) → local_or_other span sight name o ≡ local_or_other span (in_known sight other) name o
-    by_local None = by_number (given_in name sight.numbers)
+    by_local None = by_end (is_in name sight.ends)
     by_local (Some ty) = refl
 
 pub member_same : (P : List ℕ → Bool) (sight : Sight) (other : Known) (e a : Ident) → KnownAlike P sight.known other → EnumAlike sight.known other e.name

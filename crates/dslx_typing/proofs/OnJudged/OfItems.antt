@@ -25,7 +25,7 @@ use Rattle.dslx_meaning.specs.Rules.AggregateRules.{range_faults, wanted_faults}
 use Rattle.dslx_meaning.specs.Rules.CallRules.{GivenNumber, NumbersSeen, given_judgements, given_numbers, is_refused, judged_there, reached_by}
 use Rattle.dslx_meaning.specs.Rules.ConstantRules.{ConstantSeen, constant_of, is_empty}
 use Rattle.dslx_meaning.specs.Rules.Judgings.{ArgPair}
-use Rattle.dslx_meaning.specs.Rules.ProcRules.{Made, depth_found, ends_found, made_at_start, made_with, makings_found, outlet_of, proc_numbers, proc_seen, proc_sight, right_spawn, spawn_found, spawn_of}
+use Rattle.dslx_meaning.specs.Rules.ProcRules.{Made, behind_ends, depth_found, ends_found, made_at_start, made_with, makings_found, outlet_of, proc_numbers, proc_seen, proc_sight, right_spawn, spawn_found, spawn_of}
 use Rattle.dslx_typing.proofs.OnJudged.OfCalls.{EachReaches, given_reach, instance_reached, judged_reaches}
 use Rattle.dslx_tree.specs.declared.item.Function.{Function}
 use Rattle.dslx_tree.specs.declared.item.Item.{Item}
@@ -283,10 +283,10 @@ found_spawn : (P : List ℕ → Bool) (sight : Sight) (made : Made) (s : Spawn) 
     → AllNamed P (spawn_found sight made s).reached
 found_spawn P sight made s bound h =
     join P (reached_of_all (given_judgements given)) (spawn_of sight made s given (as_proc (item_named s.target.name sight.known.whole.items))).reached
-    (given_reach P sight (map arg_pair s.arguments) (arguments_reach P sight s.arguments bound r.1)) (by_proc (as_proc (item_named s.target.name sight.known.whole.items)) refl)
+    (given_reach P (behind_ends sight made) (map arg_pair s.arguments) (arguments_reach P (behind_ends sight made) s.arguments bound r.1)) (by_proc (as_proc (item_named s.target.name sight.known.whole.items)) refl)
   where
     given : List GivenNumber
-    given = given_numbers sight (map arg_pair s.arguments)
+    given = given_numbers (behind_ends sight made) (map arg_pair s.arguments)
 
     r : MentionsReach P sight.known (mention AsProc s.target.name) × MentionsReach P sight.known (flat_map (λ a. mentioned_in_arg a bound) s.arguments)
     r = parts P sight.known (mention AsProc s.target.name) (flat_map (λ a. mentioned_in_arg a bound) s.arguments) h
@@ -313,10 +313,10 @@ found_makings P sight made [] bound h = tt
 found_makings P sight made (making.Channel c ∷ ms) bound h =
     let r = parts P sight.known (mentioned_in_type c.word bound ++ arg_if c.depth bound) (flat_map (λ m. making_mentions m bound) ms) h in
     let q = parts P sight.known (mentioned_in_type c.word bound) (arg_if c.depth bound) r.0 in
-    let word = judged_inner sight c.word in
-    let depth = depth_found sight c.depth in
+    let word = judged_inner (behind_ends sight made) c.word in
+    let depth = depth_found (behind_ends sight made) c.depth in
     join P (word.reached ++ depth.reached) (makings_found sight (made_with sight made c) ms).reached
-    (join P word.reached depth.reached (inner_reaches P sight.known sight refl c.word bound q.0) (found_depth P sight c.depth bound q.1)) (found_makings P sight (made_with sight made c) ms bound r.1)
+    (join P word.reached depth.reached (inner_reaches P sight.known (behind_ends sight made) refl c.word bound q.0) (found_depth P (behind_ends sight made) c.depth bound q.1)) (found_makings P sight (made_with sight made c) ms bound r.1)
 found_makings P sight made (making.Spawn s ∷ ms) bound h =
     let r = parts P sight.known (mention AsProc s.target.name ++ flat_map (λ a. mentioned_in_arg a bound) s.arguments) (flat_map (λ m. making_mentions m bound) ms) h in
     join P (spawn_found sight made s).reached (makings_found sight made ms).reached (found_spawn P sight made s bound r.0) (found_makings P sight made ms bound r.1)

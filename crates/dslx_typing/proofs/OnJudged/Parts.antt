@@ -17,7 +17,7 @@ use Rattle.dslx_meaning.specs.Rules.Judging.{ExprPair, Instance, Judgement, Judg
 use Rattle.dslx_meaning.specs.Rules.Judgings.{ArmSeen, FieldSeen, PatternJudging, SightJudging, StatementJudging}
 use Rattle.dslx_meaning.specs.Rules.ControlRules.{arm_judged}
 use Rattle.dslx_meaning.specs.Rules.Mentions.{Mention, Mentions, NamesBound}
-use Rattle.dslx_meaning.specs.Rules.NameRules.{local_or_other, member_judged, member_of, name_judged, number_or_item, item_value}
+use Rattle.dslx_meaning.specs.Rules.NameRules.{end_or_other, local_or_other, member_judged, member_of, name_judged, number_or_item, item_value}
 use Rattle.dslx_typing.specs.Judged.Reached.{AllNamed, MentionsReach}
 
 -- ---- lists
@@ -109,8 +109,12 @@ name_reaches P span sight name = by_local (typed_in name sight.locals)
     by_number None = by_unknown (is_in name sight.unknown)
     by_number (Some v) = tt
 
+    by_end : (b : Bool) → AllNamed P (end_or_other span sight name b).reached
+    by_end true = tt
+    by_end false = by_number (given_in name sight.numbers)
+
     by_local : (o : Option (Option DslxType)) → AllNamed P (local_or_other span sight name o).reached
-    by_local None = by_number (given_in name sight.numbers)
+    by_local None = by_end (is_in name sight.ends)
     by_local (Some ty) = tt
 
 pub member_reaches : (P : List ℕ → Bool) (sight : Sight) (e a : Ident) → AllNamed P (member_judged sight e a).reached

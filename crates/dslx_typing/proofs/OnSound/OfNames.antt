@@ -21,7 +21,7 @@ use Rattle.dslx_meaning.specs.Rules.AggregateRules.{number_judged, range_faults}
 use Rattle.dslx_meaning.specs.Rules.Judging.{Sight, breaks, breaks_if, settled, typed_in}
 use Rattle.dslx_meaning.specs.Rules.Judgings.{SightJudging}
 use Rattle.dslx_meaning.specs.Rules.Mentions.{AsType, is_cyclic, is_of_use}
-use Rattle.dslx_meaning.specs.Rules.NameRules.{has_member, item_value, local_or_other, member_judged, member_of, member_type, name_judged, number_or_item}
+use Rattle.dslx_meaning.specs.Rules.NameRules.{has_member, item_value, local_or_other, member_judged, member_of, member_type, name_judged, number_or_item, end_or_other}
 use Rattle.dslx_typing.specs.Typed.Complete.{IsFine}
 use Rattle.dslx_typing.specs.Typed.WellTyped.{IsWellTyped, types_at}
 use Rattle.dslx_typing.proofs.Lemmas.Typed.{bool_gives, member_gives, name_gives, none_some, number_gives}
@@ -48,8 +48,12 @@ name_known span sight name env h fine = by_local (typed_in name sight.locals) re
     by_number None f = by_known (is_in name sight.unknown) refl f
     by_number (Some v) f = (type_of_value v, (settled_fine sight.known span (Some (type_of_value v)) [] [] (Some 1) f).ty)
 
+    by_end : (b : Bool) → IsFine sight.known (end_or_other span sight name b) → (t : DslxType) × ((end_or_other span sight name b).ty ≡ Some t)
+    by_end true f = some_fault (breaks 1 span) [] (settled_fine sight.known span None (breaks 1 span ∷ []) [] (Some 1) f).faults
+    by_end false f = by_number (given_in name sight.numbers) f
+
     by_local : (o : Option (Option DslxType)) → typed_in name sight.locals ≡ o → IsFine sight.known (local_or_other span sight name o) → (t : DslxType) × ((local_or_other span sight name o).ty ≡ Some t)
-    by_local None q f = by_number (given_in name sight.numbers) f
+    by_local None q f = by_end (is_in name sight.ends) f
     by_local (Some None) q f = absurd (h.typed name q)
     by_local (Some (Some t)) q f = (t, (settled_fine sight.known span (Some t) [] [] (Some 1) f).ty)
 

@@ -17,7 +17,7 @@ use Rattle.dslx_meaning.specs.declared.value.Bare.{Bare}
 use Rattle.dslx_meaning.specs.Rules.Judging.{Sight, Judgement, breaks, breaks_if, has_broken, settled, typed_in}
 use Rattle.dslx_meaning.specs.Rules.PatternRules.{is_there}
 use Rattle.dslx_meaning.specs.Rules.AggregateRules.{number_judged, range_faults}
-use Rattle.dslx_meaning.specs.Rules.NameRules.{name_judged, local_or_other, number_or_item, item_value, has_member, member_of, member_type, member_judged}
+use Rattle.dslx_meaning.specs.Rules.NameRules.{name_judged, local_or_other, number_or_item, item_value, has_member, member_of, member_type, member_judged, end_or_other}
 use Rattle.dslx_meaning.specs.Rules.Mentions.{is_cyclic}
 use Rattle.dslx_typing.specs.Typed.Kinds.{is_of}
 use Rattle.dslx_typing.specs.Typed.Declared.{Declarations, IsDeclared}
@@ -57,8 +57,12 @@ name_gives span sight name env h t e = by_local (typed_in name sight.locals) ref
         let known = h.numbers name v q r in
         moved (types_at sight) (type_of_value v) t _ _ (same_some (type_of_value v) t s.1) (known.is ∙ sym (ap (λ o. or_else o (env.items.constant name)) known.is)) known.gives
 
+    by_end : (b : Bool) → typed_in name sight.locals ≡ None → (end_or_other span sight name b).ty ≡ Some t → GivesOf (types_at sight) t (value_of_name name env)
+    by_end true q k = none_some t (settled_type None (breaks 1 span ∷ []) t k).1
+    by_end false q k = by_number (given_in name sight.numbers) refl q k
+
     by_local : (o : Option (Option DslxType)) → typed_in name sight.locals ≡ o → (local_or_other span sight name o).ty ≡ Some t → GivesOf (types_at sight) t (value_of_name name env)
-    by_local None q k = by_number (given_in name sight.numbers) refl q k
+    by_local None q k = by_end (is_in name sight.ends) q k
     by_local (Some ty) q k =
         let s = settled_type ty [] t k in
         let g = h.locals name t (q ∙ ap Some s.1) in
