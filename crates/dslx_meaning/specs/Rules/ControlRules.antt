@@ -52,6 +52,11 @@ abbrev pub annotation_reached : Option Judgement → List Instance
 annotation_reached None = []
 annotation_reached (Some written) = written.reached
 
+-- it counts nothing, but what has no type leaves what it stands in without a size
+abbrev pub annotation_size : Option Judgement → Option ℕ
+annotation_size None = Some 0
+annotation_size (Some written) = written.size
+
 abbrev pub written_judged : Sight → Option TypePair → Option Judgement
 written_judged sight None = None
 written_judged sight (Some t) = Some (t.1 sight)
@@ -61,7 +66,7 @@ let_with sight e span value written bound = record {
   sight = behind sight bound.locals e;
   faults = value.faults ++ annotation_faults span written value.ty ++ bound.faults;
   reached = value.reached ++ annotation_reached written ++ bound.reached;
-  size = plus_size value.size (Some bound.size);
+  size = plus_size (annotation_size written) (plus_size value.size (Some bound.size));
 }
 
 abbrev pub let_judged : LetLayer → StatementJudging

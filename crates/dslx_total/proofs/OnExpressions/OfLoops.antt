@@ -1,5 +1,5 @@
 -- Loops become something.
-use Rattle.std.proofs.Common.{◌≡◌, ◌&&◌, ◌++◌, ◌==◌, ◌^◌, ◌<◌, ◌≤◌, ℕ, Bool, true, false, if◌then◌else◌, [], ◌∷◌, Option, Some, None, refl, sym, ap, subst, ◌∙◌, arith}
+use Rattle.std.proofs.Common.{◌≡◌, ◌&&◌, ◌++◌, ◌==◌, ◌^◌, ◌<◌, ◌≤◌, ◌+◌, ℕ, Bool, true, false, if◌then◌else◌, [], ◌∷◌, Option, Some, None, refl, sym, ap, subst, ◌∙◌, arith}
 use Rattle.std.specs.Prelude.{nat_lt}
 use Rattle.std.specs.List.{list_all}
 use Rattle.std.proofs.lemmas.Bool.{ltb-false}
@@ -21,8 +21,8 @@ use Rattle.dslx_meaning.specs.declared.value.DslxValue.{DslxValue}
 use Rattle.dslx_meaning.specs.declared.value.SignedWord.{SignedWord}
 use Rattle.dslx_meaning.specs.Rules.AggregateRules.{wanted_faults}
 use Rattle.dslx_meaning.specs.Rules.ConstantRules.{constant_of, names_a_local, size_faults}
-use Rattle.dslx_meaning.specs.Rules.ControlRules.{annotation_reached, loop_annotation, loop_with, same_ends, turn_limit, turns_of, written_judged}
-use Rattle.dslx_meaning.specs.Rules.Judging.{ExprPair, Instance, Judgement, Sight, alone, breaks_if, found_number, has_broken, passes, span_of, with_typed}
+use Rattle.dslx_meaning.specs.Rules.ControlRules.{annotation_reached, loop_annotation, loop_with, same_ends, turn_limit, turns_of, written_judged, times_size}
+use Rattle.dslx_meaning.specs.Rules.Judging.{ExprPair, Instance, Judgement, Sight, alone, breaks_if, found_number, has_broken, passes, span_of, with_typed, one_and, plus_size}
 use Rattle.dslx_meaning.specs.Rules.Judgings.{BlockPair, PatternPair, PatternSeen, TypePair}
 use Rattle.dslx_meaning.specs.Rules.OperatorRules.{is_bits, one_bit_type, unless_types}
 use Rattle.dslx_typing.proofs.Lemmas.Laws.{and_true}
@@ -161,7 +161,9 @@ loop_lowers span body_span from to start x y z written index acc il al im am bod
     let ends_reached = (c.judgement.reached ++ d.judgement.reached) ++ a.reached in
     let reached = (((ends_reached ++ annotation_reached w) ++ i.reached) ++ p.reached) ++ b.reached in
     let own = and_then ends (λ i. and_then b.ty (λ t. a.ty)) in
-    let s = settled_fine (reaching sight.known here) span own ((((six ++ range) ++ annotation) ++ wanted) ++ limit) reached (loop_with span body_span c d a w i p b).size fine in
+    let turns_size = times_size (turns_of c.value d.value) (plus_size (Some ((1 + i.size) + p.size)) b.size) in
+    let size = one_and (plus_size (plus_size c.judgement.size d.judgement.size) (plus_size a.size turns_size)) in
+    let s = settled_fine (reaching sight.known here) span own ((((six ++ range) ++ annotation) ++ wanted) ++ limit) reached size fine in
     let q = none_in_three ((six ++ range) ++ annotation) wanted limit s.faults in
     let r = none_in_three six range annotation q.0 in
     let u = none_in ((three ++ i.faults) ++ p.faults) b.faults r.0 in
@@ -181,11 +183,12 @@ loop_lowers span body_span from to start x y z written index acc il al im am bod
     let gx = alone_becomes here sight env place from x sx h at alone_faults n.0 in
     let gz = alone_becomes here sight env place start z sz h at f.2 n.2 in
     let index_type = gx.expr.ty in
+    let from_typed : c.judgement.ty ≡ Some index_type = ap (λ o. and_then o (λ v. first.ty)) gc.known ∙ gx.typed in
     let acc_type = gz.expr.ty in
-    let one = and_true (is_bits index_type) (same_type index_type gd.ty) (passed (one_bit_type index_type gd.ty) 26 span ((λ e. unless_types one_bit_type 26 span (sym gx.typed e) (sym gd.typed e)) ∙ r.1)) in
-    let alike : ends ≡ Some index_type = (λ e. same_ends (gx.typed e) (gd.typed e)) ∙ (λ e. if (one.0 e && one.1 e) then Some index_type else None) in
+    let one = and_true (is_bits index_type) (same_type index_type gd.ty) (passed (one_bit_type index_type gd.ty) 26 span ((λ e. unless_types one_bit_type 26 span (sym from_typed e) (sym gd.typed e)) ∙ r.1)) in
+    let alike : ends ≡ Some index_type = (λ e. same_ends (from_typed e) (gd.typed e)) ∙ (λ e. if (one.0 e && one.1 e) then Some index_type else None) in
     let first_value : GivesOf (types_at sight) index_type (Some gc.gives.value) =
-    subst (λ t. GivesOf (types_at sight) t (Some gc.gives.value)) (same_some gc.ty index_type (sym gc.typed ∙ gx.typed)) (record { value = gc.gives.value; is = refl; of = gc.gives.of; declared = gc.gives.declared }) in
+    subst (λ t. GivesOf (types_at sight) t (Some gc.gives.value)) (same_some gc.ty index_type (sym gc.typed ∙ from_typed)) (record { value = gc.gives.value; is = refl; of = gc.gives.of; declared = gc.gives.declared }) in
     let last_value : GivesOf (types_at sight) index_type (Some gd.gives.value) =
     subst (λ t. GivesOf (types_at sight) t (Some gd.gives.value)) (sym (one_of_text (types_at sight) index_type gd.ty one.1 gx.declared gd.gives.declared)) (record { value = gd.gives.value; is = refl; of = gd.gives.of; declared = gd.gives.declared }) in
     let low = bits_there (types_at sight) index_type gc.gives.value first_value one.0 in

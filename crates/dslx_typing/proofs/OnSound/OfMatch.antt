@@ -19,12 +19,12 @@ use Rattle.dslx_meaning.specs.Rules.Judging.{ExprPair, Judgement, Sight, alone, 
 use Rattle.dslx_meaning.specs.Rules.Judgings.{ArmSeen, PatternPair, PatternSeen}
 use Rattle.dslx_meaning.specs.Rules.PatternRules.{is_there}
 use Rattle.dslx_typing.specs.Typed.Complete.{IsFine}
-use Rattle.dslx_typing.specs.Typed.Given.{GivesItsType, GivesOf}
+use Rattle.dslx_typing.specs.Typed.Given.{GivesItsType, GivesOf, IsSized}
 use Rattle.dslx_typing.specs.Typed.WellTyped.{ArmGives, EachArmGives, Fails, Fits, FitsOrFails, IsWellTyped, comes_to_an_arm, types_at}
 use Rattle.dslx_typing.proofs.Lemmas.Typed.{all_are, match_gives, none_some, not_false, or_false, same_some}
 use Rattle.dslx_typing.specs.Sound.Places.{IsFinePattern}
 use Rattle.dslx_typing.specs.Sound.Sound.{ArmHasValue, EachArmHasValue, EachPatternGives, ExprGives, HasItsValue, NarrowComes}
-use Rattle.dslx_typing.proofs.OnSound.Fine.{IsSettled, all_in, all_in_three, alone_has, given, none_in, none_in_three, not_broken, settled_fine, some_fault, whole}
+use Rattle.dslx_typing.proofs.OnSound.Fine.{IsSettled, all_in, all_in_three, alone_has, given, none_in, none_in_three, not_broken, one_sized, plus_sized, settled_fine, sized_if, some_fault, whole}
 
 -- ---- the alternatives of an arm
 
@@ -158,6 +158,7 @@ record ArmTyped (sight : Sight) (t : DslxType) (a : ArmSeen) (m : ArmMeant) (v :
   own : DslxType
   typed : (arm_judged sight (Some t) a).value.ty ≡ Some own
   gives : ArmGives sight (Some t) a m v env
+  sized : IsSized (arm_judged sight (Some t) a).value.size
 
 arm_has : (sight : Sight) (env : Env) → IsWellTyped sight env → (t : DslxType) (v : DslxValue) → GivesOf (types_at sight) t (Some v) → (a : ArmSeen) (m : ArmMeant) → ArmHasValue a m
     → AreFine sight (arm_judged sight (Some t) a).seen → (has_several a.patterns && (arm_judged sight (Some t) a).seen.binds) ≡ false → IsFine sight.known (arm_judged sight (Some t) a).value → ArmTyped sight t a m v env
@@ -179,6 +180,7 @@ arm_has sight env h t v g a m k fine b value =
             (sym (plain_alternatives sight (Some t) a.patterns m.patterns k.patterns ((λ i. list_all (sym h.items i).is_constant (all_names m.patterns)) ∙ all))) h)));
         declared = λ u e. (given (types_at sight) (arm_judged sight (Some t) a).value (k.meaning.value place.0) own u e).declared;
       };
+      sized = own.3;
     }
 
 -- ---- all arms
@@ -188,12 +190,13 @@ record ArmsTyped (sight : Sight) (t : DslxType) (arms : List ArmSeen) (ms : List
   typed : types_of (arm_values (map (arm_judged sight (Some t)) arms)) ≡ map Some types
   each : EachArmGives sight (Some t) arms ms v env
   known : all_known (map (arm_judged sight (Some t)) arms) ≡ true
+  sized : IsSized (arms_size (map (arm_judged sight (Some t)) arms))
   clean : list_all (λ (a : ArmJudged). a.seen.is_known && is_empty a.seen.faults) (map (arm_judged sight (Some t)) arms) ≡ true
 
 arms_have : (sight : Sight) (env : Env) → IsWellTyped sight env → (t : DslxType) (v : DslxValue) → GivesOf (types_at sight) t (Some v) → (arms : List ArmSeen) (ms : List ArmMeant) → EachArmHasValue arms ms
     → arms_faults (map (arm_judged sight (Some t)) arms) ≡ [] → list_all sight.known.is_sound (arms_reached (map (arm_judged sight (Some t)) arms)) ≡ true → some_binds (map (arm_judged sight (Some t)) arms) ≡ false
     → ArmsTyped sight t arms ms v env
-arms_have sight env h t v g [] [] k f r b = record { types = []; typed = refl; each = tt; known = refl; clean = refl }
+arms_have sight env h t v g [] [] k f r b = record { types = []; typed = refl; each = tt; known = refl; sized = (0, refl); clean = refl }
 arms_have sight env h t v g [] (m ∷ ms) k f r b = absurd k
 arms_have sight env h t v g (a ∷ as') [] k f r b = absurd k
 arms_have sight env h t v g (a ∷ as') (m ∷ ms) k f r b =
@@ -211,6 +214,7 @@ arms_have sight env h t v g (a ∷ as') (m ∷ ms) k f r b =
       typed = λ i. one.typed i ∷ more.typed i;
       each = (one.gives, more.each);
       known = λ i. is i && more.known i;
+      sized = plus_sized (Some j.seen.size) (plus_size j.value.size (arms_size js)) (j.seen.size, refl) (plus_sized j.value.size (arms_size js) one.sized more.sized);
       clean = λ i. (is i && is_empty (p.0 i)) && more.clean i;
     }
 
@@ -356,7 +360,7 @@ pub match_has : (span : Span) (sight : Sight) (env : Env) (e : ExprPair) (x : Me
     → ((t : DslxType) (v : DslxValue) → arms_faults (map (arm_judged sight (Some t)) arms) ≡ [] → list_all sight.known.is_sound (arms_reached (map (arm_judged sight (Some t)) arms)) ≡ true → GivesOf (types_at sight) t (Some v)
     → NarrowComes sight env t arms ms v)
     → IsFine sight.known (match_judged span sight e arms) → HasItsValue (types_at sight) (match_judged span sight e arms) (and_then (x.value env) (λ v. match_arms ms v env))
-match_has span sight env e x arms ms se k h narrow fine = (own.0, own.1, match_gives span sight e arms ms (x.value env) env (given (types_at sight) value (x.value env) g) each own.0 own.1)
+match_has span sight env e x arms ms se k h narrow fine = (own.0, own.1, match_gives span sight e arms ms (x.value env) env (given (types_at sight) value (x.value env) g) each own.0 own.1, sized)
   where
     value : Judgement
     value = alone sight e
@@ -419,3 +423,9 @@ match_has span sight env e x arms ms se k h narrow fine = (own.0, own.1, match_g
         let a = armed g.2.value (of_value g.2.value g.2.is) in
         let u = first_typed a.types a.typed (some_arms sight (Some g.0) arms kept.some) in
         (u.0, s.ty ∙ ap typed g.1 ∙ ap (λ b. where_true b (first_of_types (all_some (types_of (arm_values (at (Some g.0))))))) a.known ∙ u.1)
+
+    sized : IsSized (match_judged span sight e arms).size
+    sized =
+        let a = armed g.2.value (of_value g.2.value g.2.is) in
+        let arms_sized : IsSized (arms_size (at value.ty)) = (a.sized.0, ap (λ o. arms_size (at o)) g.1 ∙ a.sized.1) in
+        sized_if _ own.0 (one_and (plus_size value.size (arms_size (at value.ty)))) own.1 (one_sized (plus_size value.size (arms_size (at value.ty))) (plus_sized value.size (arms_size (at value.ty)) g.3 arms_sized))
