@@ -12,7 +12,7 @@ use Rattle.dslx_meaning.specs.Meaning.{value_of, some_count}
 use Rattle.dslx_meaning.specs.declared.ty.DslxType.{DslxType}
 use Rattle.dslx_meaning.specs.declared.value.DslxValue.{DslxValue}
 use Rattle.dslx_meaning.specs.Rules.Mentions.{free_names}
-use Rattle.dslx_meaning.specs.Rules.Judging.{Known, Typed, Sight, Judgement, ExprPair, breaks_if, has_broken, passes_count, span_of, bare_of, alone, constant_env}
+use Rattle.dslx_meaning.specs.Rules.Judging.{Known, Typed, Sight, Judgement, ExprPair, breaks_if, has_broken, passes_count, span_of, bare_of, alone, size_if_typed, constant_env}
 use Rattle.dslx_meaning.specs.declared.ty.BitKind.{BitKind}
 use Rattle.dslx_meaning.specs.declared.value.Bare.{Bare}
 
@@ -47,7 +47,8 @@ is_sound_here known j = is_empty j.faults && list_all known.is_sound j.reached
 abbrev pub names_a_local : Sight → ExprPair → Bool
 names_a_local sight e = list_any (λ name. is_in name (map (λ (l : Typed). l.name) sight.locals)) (free_names e.0)
 
--- a constant: its judgement, and its value if it has one. A number without a type has a value only by its place
+-- a constant: its judgement, and its value if it has one, without which it has no type either. A number without a type has a
+-- value only by its place
 pub record ConstantSeen : Type 0 where
   pub judgement : Judgement
   pub bare : Option Bare
@@ -58,15 +59,19 @@ constant_judged sight e =
     let inner = alone sight e in
     with_size_limit sight.known (span_of e).to (record inner { faults = inner.faults ++ breaks_if (names_a_local sight e) 5 (span_of e) })
 
--- what has no type has no value either: it names something that has none
-abbrev pub value_if_typed : Option DslxType → Option DslxValue → Option DslxValue
-value_if_typed None v = None
-value_if_typed (Some t) v = v
+-- where some part of it has no type, it has no value either: it names something that has none
+abbrev pub value_if_whole : Judgement → Option DslxValue → Option DslxValue
+value_if_whole j v = and_then j.ty (λ t. and_then j.size (λ n. v))
+
+abbrev pub constant_value_in : Sight → ExprPair → Judgement → Option DslxValue
+constant_value_in sight e j = if is_sound_here sight.known j then value_if_whole j (value_of e.0 (constant_env sight)) else None
 
 abbrev pub constant_of : Sight → ExprPair → ConstantSeen
 constant_of sight e =
     let j = constant_judged sight e in
-    record { judgement = j; bare = None; value = if is_sound_here sight.known j then value_if_typed j.ty (value_of e.0 (constant_env sight)) else None }
+    let v = constant_value_in sight e j in
+    let ty = and_then v (λ v. j.ty) in
+    record { judgement = record j { ty = ty; size = size_if_typed ty j.size }; bare = None; value = v }
 
 abbrev pub bare_judged : Judgement
 bare_judged = record { ty = None; faults = []; reached = []; size = Some 1 }

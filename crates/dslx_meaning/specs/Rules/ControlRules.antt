@@ -52,6 +52,11 @@ abbrev pub annotation_reached : Option Judgement → List Instance
 annotation_reached None = []
 annotation_reached (Some written) = written.reached
 
+-- it counts nothing, but what has no type leaves what it stands in without a size
+abbrev pub annotation_size : Option Judgement → Option ℕ
+annotation_size None = Some 0
+annotation_size (Some written) = written.size
+
 abbrev pub written_judged : Sight → Option TypePair → Option Judgement
 written_judged sight None = None
 written_judged sight (Some t) = Some (t.1 sight)
@@ -61,7 +66,7 @@ let_with sight e span value written bound = record {
   sight = behind sight bound.locals e;
   faults = value.faults ++ annotation_faults span written value.ty ++ bound.faults;
   reached = value.reached ++ annotation_reached written ++ bound.reached;
-  size = plus_size value.size (Some bound.size);
+  size = plus_size (annotation_size written) (plus_size value.size (Some bound.size));
 }
 
 abbrev pub let_judged : LetLayer → StatementJudging
@@ -133,21 +138,27 @@ pub record AlternativesSeen : Type 0 where
 abbrev pub no_alternative : Sight → AlternativesSeen
 no_alternative sight = record { locals = sight.locals; faults = []; reached = []; size = 0; is_known = true; is_sure = false; binds = false }
 
--- what the first one binds is bound behind the arm
+-- an alternative before others, from what those bind
+abbrev pub one_alternative : Sight → Option DslxType → PatternPair → AlternativesSeen → PatternSeen
+one_alternative sight t p rest = p.1 true sight t [] rest.locals
+
+abbrev pub with_alternative : PatternSeen → AlternativesSeen → AlternativesSeen
+with_alternative first rest = record {
+  locals = first.locals;
+  faults = first.faults ++ rest.faults;
+  reached = first.reached ++ rest.reached;
+  size = first.size + rest.size;
+  is_known = first.is_known && rest.is_known;
+  is_sure = first.is_sure || rest.is_sure;
+  binds = not (is_empty first.names) || rest.binds;
+}
+
+-- what any of them binds is in sight behind them; where several bind one name, it is the first one's
 abbrev pub alternatives_seen : Sight → Option DslxType → List PatternPair → AlternativesSeen
 alternatives_seen sight t [] = no_alternative sight
 alternatives_seen sight t (p ∷ ps) =
-    let first = pattern_alone true sight t p in
     let rest = alternatives_seen sight t ps in
-    record {
-      locals = first.locals;
-      faults = first.faults ++ rest.faults;
-      reached = first.reached ++ rest.reached;
-      size = first.size + rest.size;
-      is_known = first.is_known && rest.is_known;
-      is_sure = first.is_sure || rest.is_sure;
-      binds = not (is_empty first.names) || rest.binds;
-    }
+    with_alternative (one_alternative sight t p rest) rest
 
 -- an arm: its alternatives and its value
 pub record ArmJudged : Type 0 where

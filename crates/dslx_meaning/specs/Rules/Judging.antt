@@ -39,7 +39,8 @@ same_instance a b = bytes_eq a.name b.name && pairwise equal_value a.numbers b.n
 -- ---- what is known
 
 -- what a part comes to: its type, the rules that it and its parts break and the limits that they pass, the instances that
--- its calls and spawns reach, and how many nodes it has, loops multiplied and bodies put in the place of calls
+-- its calls and spawns reach, and how many nodes it has, loops multiplied and bodies put in the place of calls. It has no
+-- size where some part of it, or of a body that it calls, has no type
 pub record Judgement : Type 0 where
   pub ty : Option DslxType
   pub faults : List Fault
@@ -170,9 +171,16 @@ type_limits end (Some t) = passes_widths end (leaf_widths t) ++ passes what.Leav
 abbrev pub unless_broken : {A : Type 0} → List Fault → Option A → Option A
 unless_broken faults ty = if has_broken faults then None else ty
 
+-- a part without a type leaves what it stands in without a size
+abbrev pub size_if_typed : Option DslxType → Option ℕ → Option ℕ
+size_if_typed None size = None
+size_if_typed (Some t) size = size
+
 -- a part of this type, with the faults and all else of it and its parts, to whose type no limit applies
 abbrev pub unlimited : Option DslxType → List Fault → List Instance → Option ℕ → Judgement
-unlimited ty faults reached size = record { ty = unless_broken faults ty; faults = faults; reached = reached; size = size }
+unlimited ty faults reached size =
+    let own = unless_broken faults ty in
+    record { ty = own; faults = faults; reached = reached; size = size_if_typed own size }
 
 -- the same with the limits on the type of a part that ends there
 abbrev pub limited : Span → Judgement → Judgement

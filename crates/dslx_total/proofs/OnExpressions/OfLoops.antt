@@ -1,5 +1,5 @@
 -- Loops become something.
-use Rattle.std.proofs.Common.{◌≡◌, ◌&&◌, ◌++◌, ◌==◌, ◌^◌, ◌<◌, ◌≤◌, ℕ, Bool, true, false, if◌then◌else◌, [], ◌∷◌, Option, Some, None, refl, sym, ap, subst, ◌∙◌, arith}
+use Rattle.std.proofs.Common.{◌≡◌, ◌&&◌, ◌++◌, ◌==◌, ◌^◌, ◌<◌, ◌≤◌, ◌+◌, ℕ, Bool, true, false, if◌then◌else◌, [], ◌∷◌, Option, Some, None, refl, sym, ap, subst, ◌∙◌, arith}
 use Rattle.std.specs.Prelude.{nat_lt}
 use Rattle.std.specs.List.{list_all}
 use Rattle.std.proofs.lemmas.Bool.{ltb-false}
@@ -192,11 +192,12 @@ loop_lowers span body_span from to start x y z written g index acc il al im am b
     let gz = alone_becomes here sight env place start z sz h at f.2 n.2 in
     let annotated = annotation_there here sight env place h at span written g st ends a.ty gz.expr.ty gz.typed r.1 m.1 in
     let index_type = gx.expr.ty in
+    let from_typed : c.judgement.ty ≡ Some index_type = ap (λ o. and_then o (λ v. first.ty)) gc.known ∙ gx.typed in
     let acc_type = gz.expr.ty in
-    let one = and_true (is_bits index_type) (same_type index_type gd.ty) (passed (one_bit_type index_type gd.ty) 26 span ((λ e. unless_types one_bit_type 26 span (sym gx.typed e) (sym gd.typed e)) ∙ r.0)) in
-    let alike : ends ≡ Some index_type = (λ e. same_ends (gx.typed e) (gd.typed e)) ∙ (λ e. if (one.0 e && one.1 e) then Some index_type else None) in
+    let one = and_true (is_bits index_type) (same_type index_type gd.ty) (passed (one_bit_type index_type gd.ty) 26 span ((λ e. unless_types one_bit_type 26 span (sym from_typed e) (sym gd.typed e)) ∙ r.0)) in
+    let alike : ends ≡ Some index_type = (λ e. same_ends (from_typed e) (gd.typed e)) ∙ (λ e. if (one.0 e && one.1 e) then Some index_type else None) in
     let first_value : GivesOf (types_at sight) index_type (Some gc.gives.value) =
-    subst (λ t. GivesOf (types_at sight) t (Some gc.gives.value)) (same_some gc.ty index_type (sym gc.typed ∙ gx.typed)) (record { value = gc.gives.value; is = refl; of = gc.gives.of; declared = gc.gives.declared }) in
+    subst (λ t. GivesOf (types_at sight) t (Some gc.gives.value)) (same_some gc.ty index_type (sym gc.typed ∙ from_typed)) (record { value = gc.gives.value; is = refl; of = gc.gives.of; declared = gc.gives.declared }) in
     let last_value : GivesOf (types_at sight) index_type (Some gd.gives.value) =
     subst (λ t. GivesOf (types_at sight) t (Some gd.gives.value)) (sym (one_of_text (types_at sight) index_type gd.ty one.1 gx.declared gd.gives.declared)) (record { value = gd.gives.value; is = refl; of = gd.gives.of; declared = gd.gives.declared }) in
     let low = bits_there (types_at sight) index_type gc.gives.value first_value one.0 in

@@ -11,10 +11,9 @@ use Rattle.dslx_meaning.specs.Meaning.{PatternMeant}
 use Rattle.dslx_meaning.specs.declared.ty.DslxType.{DslxType}
 use Rattle.dslx_meaning.specs.declared.value.DslxValue.{DslxValue}
 use Rattle.dslx_meaning.specs.Rules.ConstantRules.{is_empty}
-use Rattle.dslx_meaning.specs.Rules.ControlRules.{AlternativesSeen, ArmJudged, all_known, all_like, alternatives_seen, arm_judged, arm_values, arms_faults, arms_reached, arms_size, differ, first_of_types, has_several, match_faults, match_judged, not_exhaustive, some_binds}
+use Rattle.dslx_meaning.specs.Rules.ControlRules.{AlternativesSeen, ArmJudged, all_known, all_like, alternatives_seen, arm_judged, arm_values, arms_faults, arms_reached, arms_size, differ, first_of_types, has_several, match_faults, match_judged, not_exhaustive, some_binds, one_alternative}
 use Rattle.dslx_meaning.specs.Rules.Judging.{ExprPair, Instance, Judgement, Sight, alone, has_broken, one_and, plus_size, types_of, with_typed}
 use Rattle.dslx_meaning.specs.Rules.Judgings.{ArmSeen, PatternPair}
-use Rattle.dslx_meaning.specs.Rules.PatternRules.{pattern_alone}
 use Rattle.dslx_typing.proofs.Lemmas.Laws.{and_true}
 use Rattle.dslx_typing.specs.Typed.Declared.{AllDeclared, Declarations, IsDeclared}
 use Rattle.dslx_typing.specs.Typed.Given.{GivesOf}
@@ -55,10 +54,10 @@ EachArmLowers (a ∷ as') [] = ⊥
 
 one_clean : (here : Instance → Bool) (sight : Sight) (t : Option DslxType) (p : PatternPair) (ps : List PatternPair)
     → IsClean here (alternatives_seen sight t (p ∷ ps)).faults (alternatives_seen sight t (p ∷ ps)).reached
-    → IsClean here (pattern_alone true sight t p).faults (pattern_alone true sight t p).reached × IsClean here (alternatives_seen sight t ps).faults (alternatives_seen sight t ps).reached
+    → IsClean here (one_alternative sight t p (alternatives_seen sight t ps)).faults (one_alternative sight t p (alternatives_seen sight t ps)).reached × IsClean here (alternatives_seen sight t ps).faults (alternatives_seen sight t ps).reached
 one_clean here sight t p ps clean =
-    let first = pattern_alone true sight t p in
     let rest = alternatives_seen sight t ps in
+    let first = one_alternative sight t p rest in
     let q = none_in first.faults rest.faults clean.faults in
     let r = all_in here first.reached rest.reached clean.reached in
     (record { faults = q.0; reached = r.0 }, record { faults = q.1; reached = r.1 })
@@ -69,20 +68,9 @@ alternatives_known here sight env place h at t [] ms k clean = refl
 alternatives_known here sight env place h at t (p ∷ ps) [] k clean = absurd k
 alternatives_known here sight env place h at t (p ∷ ps) (m ∷ ms) k clean =
     let q = one_clean here sight t p ps clean in
-    let fine : IsFinePattern sight (pattern_alone true sight t p) = record { faults = q.0.faults; reached = all_sound here sight.known.is_sound at.sound (pattern_alone true sight t p).reached q.0.reached } in
-    λ i. k.0.known true sight t [] sight.locals env h fine i && alternatives_known here sight env place h at t ps ms k.1 q.1 i
-
-alternatives_there : (here : Instance → Bool) (sight : Sight) (env : Env) (place : CorePlace) → IsWellTyped sight env → StandsBeside here sight place → (t : DslxType) → IsDeclared (types_at sight) t
-    → (ps : List PatternPair) (ls : List LowersPattern) → EachPatternLowers ps ls → IsClean here (alternatives_seen sight (Some t) ps).faults (alternatives_seen sight (Some t) ps).reached
-    → (ss : List Shape) × (alternatives_shaped ls place t ≡ Some ss)
-alternatives_there here sight env place h at t d [] [] k clean = ([], refl)
-alternatives_there here sight env place h at t d [] (l ∷ ls) k clean = absurd k
-alternatives_there here sight env place h at t d (p ∷ ps) [] k clean = absurd k
-alternatives_there here sight env place h at t d (p ∷ ps) (l ∷ ls) k clean =
-    let q = one_clean here sight (Some t) p ps clean in
-    let one = k.0.lowers here true sight t [] sight.locals env place place h at at d q.0 in
-    let more = alternatives_there here sight env place h at t d ps ls k.1 q.1 in
-    (one.shape.shape ∷ more.0, λ i. with_both (one.is i) (more.1 i) (λ s ss. Some (s.shape ∷ ss)))
+    let first = one_alternative sight t p (alternatives_seen sight t ps) in
+    let fine : IsFinePattern sight first = record { faults = q.0.faults; reached = all_sound here sight.known.is_sound at.sound first.reached q.0.reached } in
+    λ i. k.0.known true sight t [] (alternatives_seen sight t ps).locals env h fine i && alternatives_known here sight env place h at t ps ms k.1 q.1 i
 
 -- none of them binds a name
 none_binds : (sight : Sight) (t : Option DslxType) (ps : List PatternPair) (ls : List LowersPattern) → EachPatternLowers ps ls → (alternatives_seen sight t ps).binds ≡ false
@@ -91,15 +79,34 @@ none_binds sight t [] [] k e = refl
 none_binds sight t [] (l ∷ ls) k e = absurd k
 none_binds sight t (p ∷ ps) [] k e = absurd k
 none_binds sight t (p ∷ ps) (l ∷ ls) k e =
-    let first = pattern_alone true sight t p in
-    let q = or_false (not (is_empty first.names)) (alternatives_seen sight t ps).binds e in
-    list_of sight.known.items.is_constant l.names (names_of_all ls) (k.0.unbound true sight t [] sight.locals (not_false (is_empty first.names) q.0)).0 (none_binds sight t ps ls k.1 q.1)
+    let rest = alternatives_seen sight t ps in
+    let first = one_alternative sight t p rest in
+    let q = or_false (not (is_empty first.names)) rest.binds e in
+    list_of sight.known.items.is_constant l.names (names_of_all ls) (k.0.unbound true sight t [] rest.locals (not_false (is_empty first.names) q.0)).0 (none_binds sight t ps ls k.1 q.1)
 
 plain_locals : (sight : Sight) (t : Option DslxType) (ps : List PatternPair) (ls : List LowersPattern) → EachPatternLowers ps ls → list_all sight.known.items.is_constant (names_of_all ls) ≡ true
     → (alternatives_seen sight t ps).locals ≡ sight.locals
 plain_locals sight t [] ls k e = refl
 plain_locals sight t (p ∷ ps) [] k e = absurd k
-plain_locals sight t (p ∷ ps) (l ∷ ls) k e = k.0.plain true sight t [] sight.locals (all_in sight.known.items.is_constant l.names (names_of_all ls) e).0
+plain_locals sight t (p ∷ ps) (l ∷ ls) k e =
+    let q = all_in sight.known.items.is_constant l.names (names_of_all ls) e in
+    k.0.plain true sight t [] (alternatives_seen sight t ps).locals q.0 ∙ plain_locals sight t ps ls k.1 q.1
+
+-- where none of them does, each becomes a shape
+alternatives_there : (here : Instance → Bool) (sight : Sight) (env : Env) (place : CorePlace) → IsWellTyped sight env → StandsBeside here sight place → (t : DslxType) → IsDeclared (types_at sight) t
+    → (ps : List PatternPair) (ls : List LowersPattern) → EachPatternLowers ps ls → IsClean here (alternatives_seen sight (Some t) ps).faults (alternatives_seen sight (Some t) ps).reached
+    → list_all sight.known.items.is_constant (names_of_all ls) ≡ true → (ss : List Shape) × (alternatives_shaped ls place t ≡ Some ss)
+alternatives_there here sight env place h at t d [] [] k clean plain = ([], refl)
+alternatives_there here sight env place h at t d [] (l ∷ ls) k clean plain = absurd k
+alternatives_there here sight env place h at t d (p ∷ ps) [] k clean plain = absurd k
+alternatives_there here sight env place h at t d (p ∷ ps) (l ∷ ls) k clean plain =
+    let q = one_clean here sight (Some t) p ps clean in
+    let rest = (all_in sight.known.items.is_constant l.names (names_of_all ls) plain).1 in
+    let locals = (alternatives_seen sight (Some t) ps).locals in
+    let inner = subst (λ xs. StandsBeside here (with_typed sight xs) place) (sym (plain_locals sight (Some t) ps ls k.1 rest)) at in
+    let one = k.0.lowers here true sight t [] locals env place place h at inner d q.0 in
+    let more = alternatives_there here sight env place h at t d ps ls k.1 q.1 rest in
+    (one.shape.shape ∷ more.0, λ i. with_both (one.is i) (more.1 i) (λ s ss. Some (s.shape ∷ ss)))
 
 -- ---- an arm
 
@@ -124,7 +131,7 @@ binding here sight env place h at t v g (p ∷ []) (l ∷ []) (x ∷ ms) e value
     let q = (one_clean here sight (Some t) p [] clean).0 in
     let one = k.0.lowers here true sight t [] sight.locals env place place h at at g.declared q in
     let inner = m.0.behind true sight t [] sight.locals env v h g (ap has_broken q.faults) in
-    let b = alone_becomes here (with_typed sight (pattern_alone true sight (Some t) p).locals) inner.0 one.shape.place e value s inner.1 one.behind faults reached in
+    let b = alone_becomes here (with_typed sight (alternatives_seen sight (Some t) (p ∷ [])).locals) inner.0 one.shape.place e value s inner.1 one.behind faults reached in
     record {
       arm = record { arm = roll-Arm (record { shapes = one.shape.shape ∷ []; value = b.expr.core }); ty = b.expr.ty };
       is = ap (λ o. and_then o (λ s. and_then (value s.place) (arm_of (s.shape ∷ [])))) one.is ∙ ap (λ o. and_then o (arm_of (one.shape.shape ∷ []))) b.is;
@@ -152,7 +159,7 @@ arm_becomes here sight env place h at t v g a l k seen_faults faults seen_reache
         let plain = plain_locals sight (Some t) a.patterns l.patterns k.patterns (sym q ∙ r) in
         let inner = subst (λ ls. StandsBeside here (with_typed sight ls) place) (sym plain) at in
         let typed = subst (λ ls. IsWellTyped (with_typed sight ls) env) (sym plain) h in
-        let ss = alternatives_there here sight env place h at t g.declared a.patterns l.patterns k.patterns (record { faults = seen_faults; reached = seen_reached }) in
+        let ss = alternatives_there here sight env place h at t g.declared a.patterns l.patterns k.patterns (record { faults = seen_faults; reached = seen_reached }) (sym q ∙ r) in
         let b = alone_becomes here (with_typed sight seen.locals) env place a.value l.value k.value typed inner faults reached in
         record {
           arm = record { arm = roll-Arm (record { shapes = ss.0; value = b.expr.core }); ty = b.expr.ty };

@@ -8,5 +8,5 @@ pub use Rattle.dslx_typing.proofs.OnSound.OfNames.{member_known, name_has}
 pub use Rattle.dslx_typing.proofs.OnSound.OfConstants.{bound_has, constant_has, count_has}
 pub use Rattle.dslx_typing.proofs.OnSound.OfControl.{bound_known}
 pub use Rattle.dslx_typing.proofs.OnSound.Joined.{argument_gives, block_of_text_has, expression_gives, expression_has, pattern_gives, statement_gives, type_stands}
-pub use Rattle.dslx_typing.proofs.OnSound.Bodies.{function_has_value}
+pub use Rattle.dslx_typing.proofs.OnSound.Bodies.{function_has_size, function_has_value}
 pub use Rattle.dslx_typing.proofs.OnSound.Trees.{HoldOn, TreeClaims, held, held_tree, holds_block, holds_expr, holds_pattern, holds_type_expr, own_expr, paired, pairing}

@@ -20,7 +20,7 @@ use Rattle.dslx_typing.specs.Typed.Declared.{IsDeclared}
 use Rattle.dslx_typing.specs.Typed.Numbers.{AllOwn}
 use Rattle.dslx_typing.specs.Typed.WellTyped.{IsWellTyped, NameNoConstant, types_at}
 use Rattle.dslx_typing.proofs.Lemmas.Typed.{or_false, own_bound, tuple_declared}
-use Rattle.dslx_typing.proofs.Lemmas.Sound.{all_in, function_has_value, none_in, not_broken, type_stands}
+use Rattle.dslx_typing.proofs.Lemmas.Sound.{all_in, function_has_size, function_has_value, none_in, not_broken, type_stands}
 use Rattle.dslx_typing.specs.Complete.Standing.{AreTyped, InstanceStands, IsFineFound}
 use Rattle.dslx_typing.proofs.OnComplete.Places.{item_env, item_typed, none_own}
 
@@ -90,5 +90,7 @@ instance_stands known complete typed f numbers own fine =
       typed = k.typed;
       declared = k.declared;
       gives = λ operands fit. function_has_value known f numbers operands k.result place fit (plain_arguments sight complete [] f.arguments b.0) k.declared
+          (subst (λ o. IsFine known (body_judged false inner o f.body)) k.typed (record { faults = c.1; reached = r.1 }));
+      sized = λ operands fit. function_has_size known f numbers operands k.result place fit (plain_arguments sight complete [] f.arguments b.0)
           (subst (λ o. IsFine known (body_judged false inner o f.body)) k.typed (record { faults = c.1; reached = r.1 }));
     }

@@ -16,7 +16,7 @@ use Rattle.dslx_meaning.specs.declared.ty.DslxType.{DslxType, out-DslxType}
 use Rattle.dslx_meaning.specs.declared.ty.DslxType.TheOpen.{DslxType-F}
 use Rattle.dslx_meaning.specs.declared.value.DslxValue.{DslxValue}
 use Rattle.dslx_meaning.specs.Rules.ConstantRules.{ConstantSeen, is_empty}
-use Rattle.dslx_meaning.specs.Rules.ControlRules.{ArmJudged, LoopSeen, all_known, all_words_match, alternatives_seen, arm_judged, arm_values, arms_faults, arms_reached, arms_size, block_alone, bound_type, differ, first_of_types, is_exhaustive, is_exhaustive_in, is_matched, last_is_sure, let_with, match_judged, member_matches, members_match, not_exhaustive, same_ends, some_binds, values_match}
+use Rattle.dslx_meaning.specs.Rules.ControlRules.{ArmJudged, LoopSeen, all_known, all_words_match, alternatives_seen, arm_judged, arm_values, arms_faults, arms_reached, arms_size, block_alone, bound_type, differ, first_of_types, is_exhaustive, is_exhaustive_in, is_matched, last_is_sure, let_with, match_judged, member_matches, members_match, not_exhaustive, same_ends, some_binds, values_match, one_alternative, with_alternative}
 use Rattle.dslx_meaning.specs.Rules.Judging.{ExprPair, Judgement, Known, Sight, Typed, alone, breaks_if, constant_env, one_and, plus_size, settled, types_of, with_typed, unlimited}
 use Rattle.dslx_meaning.specs.Rules.Judgings.{ArmSeen, BlockPair, PatternJudging, PatternPair, PatternSeen, StatementSeen}
 use Rattle.dslx_meaning.specs.Rules.Mentions.{is_cyclic, item_reaches}
@@ -58,17 +58,9 @@ name_pattern_same P span sight other name k same may_fail t names locals = by_ki
 pub alternatives_same : (sight : Sight) (other : Known) (t : Option DslxType) (ps : List PatternPair) → EachPatternSame sight other ps → alternatives_seen sight t ps ≡ alternatives_seen (in_known sight other) t ps
 alternatives_same sight other t [] h = refl
 alternatives_same sight other t (p ∷ ps) h =
-    let first = h.0 true t [] sight.locals in
+    let before = alternatives_seen sight t ps in
     let rest = alternatives_same sight other t ps h.1 in
-    λ i. record {
-      locals = (first i).locals;
-      faults = (first i).faults ++ (rest i).faults;
-      reached = (first i).reached ++ (rest i).reached;
-      size = (first i).size + (rest i).size;
-      is_known = (first i).is_known && (rest i).is_known;
-      is_sure = (first i).is_sure || (rest i).is_sure;
-      binds = not (is_empty (first i).names) || (rest i).binds;
-    }
+    (λ i. with_alternative (h.0 true t [] before.locals i) before) ∙ (λ i. with_alternative (one_alternative (in_known sight other) t p (rest i)) (rest i))
 
 -- the patterns of an arm, where they are tried on values, and all of it against values of a type
 pub record ArmSame (sight : Sight) (other : Known) (a : ArmSeen) : Type 0 where

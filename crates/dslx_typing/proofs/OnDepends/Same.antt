@@ -18,8 +18,8 @@ use Rattle.dslx_meaning.specs.declared.value.Bare.{Bare}
 use Rattle.dslx_meaning.specs.declared.value.DslxValue.{DslxValue}
 use Rattle.dslx_meaning.specs.Rules.AggregateRules.{array_faults, array_in, array_judged, element_alone, element_in, element_type, field_judged, first_type_of, has_twice, lacks_one, like_first, others_judged, pair_alone, range_faults, struct_if, struct_judged, tuple_judged, unknown_fields, wanted_faults, when_all, written_fields}
 use Rattle.dslx_meaning.specs.Rules.PatternRules.{is_there}
-use Rattle.dslx_meaning.specs.Rules.ConstantRules.{ConstantSeen, bare_judged, constant_of, constant_or_bare, count_number, count_of, count_with, is_empty, names_a_local, over_size, value_if_typed}
-use Rattle.dslx_meaning.specs.Rules.Judging.{ExprPair, Instance, Judgement, Known, Sight, all_alone, alone, bare_of, breaks, breaks_if, constant_env, faults_of_all, has_broken, no_token, one_and, plus_size, reached_of_all, settled, size_of_all, span_of, typed_in, types_of, unlimited}
+use Rattle.dslx_meaning.specs.Rules.ConstantRules.{ConstantSeen, bare_judged, constant_of, constant_or_bare, count_number, count_of, count_with, is_empty, names_a_local, over_size, value_if_whole}
+use Rattle.dslx_meaning.specs.Rules.Judging.{ExprPair, Instance, Judgement, Known, Sight, all_alone, alone, bare_of, breaks, breaks_if, constant_env, faults_of_all, has_broken, no_token, one_and, plus_size, reached_of_all, settled, size_if_typed, size_of_all, span_of, typed_in, types_of, unlimited}
 use Rattle.dslx_meaning.specs.Rules.Judgings.{FieldSeen, TypePair}
 use Rattle.dslx_meaning.specs.Rules.Mentions.{AsType, is_cyclic, is_of_use}
 use Rattle.dslx_meaning.specs.Rules.NameRules.{end_or_other, item_value, local_or_other, member_judged, member_of, name_judged, number_or_item, has_member}
@@ -57,7 +57,9 @@ limited_by clean end j = record j { faults = j.faults ++ size_by clean end j }
 abbrev constant_by : Bool → Bool → ℕ → Judgement → Option DslxValue → ConstantSeen
 constant_by clean sound end j v =
     let limited = limited_by clean end j in
-    record { judgement = limited; bare = None; value = if is_empty limited.faults && sound then value_if_typed limited.ty v else None }
+    let known = if is_empty limited.faults && sound then value_if_whole limited v else None in
+    let ty = and_then known (λ v. j.ty) in
+    record { judgement = record limited { ty = ty; size = size_if_typed ty j.size }; bare = None; value = known }
 
 -- a constant, with what its limits come to
 abbrev with_local_fault : Sight → ExprPair → Judgement → Judgement

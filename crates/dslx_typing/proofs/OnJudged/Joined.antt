@@ -30,7 +30,7 @@ use Rattle.dslx_meaning.specs.Rules.CallRules.{call_judged}
 use Rattle.dslx_meaning.specs.Rules.EffectNames.{is_effect}
 use Rattle.dslx_meaning.specs.Rules.NameRules.{name_judged}
 use Rattle.dslx_meaning.specs.Rules.ConstantRules.{constant_of, constant_or_bare, count_of}
-use Rattle.dslx_meaning.specs.Rules.ControlRules.{alternatives_seen, arm_judged, arms_reached, block_alone, bound_type, last_judged, same_ends, statements_judged}
+use Rattle.dslx_meaning.specs.Rules.ControlRules.{alternatives_seen, arm_judged, arms_reached, block_alone, bound_type, last_judged, same_ends, statements_judged, one_alternative}
 use Rattle.dslx_meaning.specs.Rules.Judging.{ExprPair, Instance, Judgement, Judging, Sight, Typed, alone, no_token, reached_of_all, span_of, with_typed, within}
 use Rattle.dslx_meaning.specs.Rules.Judgings.{ArmSeen, FieldSeen, PatternJudging, PatternSeen, SightJudging, StatementJudging, judged_sorts}
 use Rattle.dslx_meaning.specs.Rules.Mentions as k
@@ -220,7 +220,8 @@ alternatives_reach : (P : List ℕ → Bool) (bound : List (List ℕ)) (sight : 
 alternatives_reach P bound sight t [] h = tt
 alternatives_reach P bound sight t (p ∷ ps) h =
     let r = parts P sight.known (p.1.mentions bound) (binders_mentions (map (λ (q : PatternPart P). q.1) ps) bound) h in
-    join P (pattern_alone true sight t p.0).reached (alternatives_seen sight t (map (λ (q : PatternPart P). q.0) ps)).reached (p.2 bound true sight t [] sight.locals r.0) (alternatives_reach P bound sight t ps r.1)
+    let rest = alternatives_seen sight t (map (λ (q : PatternPart P). q.0) ps) in
+    join P (one_alternative sight t p.0 rest).reached rest.reached (p.2 bound true sight t [] rest.locals r.0) (alternatives_reach P bound sight t ps r.1)
 
 parts_reach : (P : List ℕ → Bool) (bound : List (List ℕ)) (may_fail : Bool) (sight : Sight) (ts : Option (List DslxType)) (names : List (List ℕ)) (locals : List Typed) (ps : List (PatternPart P))
     → MentionsReach P sight.known (binders_mentions (map (λ (p : PatternPart P). p.1) ps) bound) → AllNamed P (parts_judged may_fail sight (map (λ (p : PatternPart P). p.0) ps) ts names locals).reached

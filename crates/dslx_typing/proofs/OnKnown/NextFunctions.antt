@@ -22,7 +22,7 @@ use Rattle.dslx_meaning.specs.Rules.ConstantRules.{is_empty}
 use Rattle.dslx_meaning.specs.Rules.ItemRules.{arguments_found, body_judged, arguments_typed, function_seen, function_sight, item_sight, judged_inner, parameters_found, result_judged}
 use Rattle.dslx_meaning.specs.Rules.Judging.{DefaultSeen, Instance, Judgement, Known}
 use Rattle.dslx_meaning.specs.Rules.Mentions.{AsFunction, Mention, expr_if, mentioned, mentioned_in_type, names_meant, parameters_mentions}
-use Rattle.dslx_meaning.specs.Rules.ModuleRules.{default_known, found_of_instance, found_of_item, known_of, known_over, sound_instance}
+use Rattle.dslx_meaning.specs.Rules.ModuleRules.{default_known, found_of_instance, found_of_item, known_of, known_over, size_known, sound_instance}
 use Rattle.dslx_meaning.specs.Rules.NameRules.{local_name}
 use Rattle.dslx_typing.specs.Laws.Recursion.{HasNoCycle}
 use Rattle.dslx_typing.proofs.Lemmas.Laws.{AllGiven, given_agree, given_here, given_more, numbers_one, value_depends, written_type_depends}
@@ -381,6 +381,12 @@ module _ (m : Module) (free : HasNoCycle m) (plain : BindsNoConstant m) (fine : 
       ∙ ap (λ o. and_then (as_function o) (λ g. call_of (F 1).items g given operands)) named
       ∙ ap (λ o. and_then o (λ ns. function_value (F 1).items f ns operands)) (sym one ∙ two ∙ h)
 
+  -- so is the size of its body
+  size_is : (numbers : List DslxValue) → G.body_size (instance_of numbers) ≡ (function_seen (F 1) f numbers).body.size
+  size_is numbers =
+      let here : item_named home K.whole.items ≡ Some (d.Function f) = of_next.named m free plain fine k stand home (d.Function f) home_named in
+      sym (((s.uses AsFunction name (λ e. q)).function f (ap as_function named)).size numbers) ∙ long.size numbers ∙ (short 1).size numbers ∙ ap (λ o. size_known (F 1) numbers (as_function o)) here
+
   callable : (numbers : List DslxValue) → FitNumbers G home [] f.parameters numbers → G.is_sound (instance_of numbers) ≡ true → IsCallable G f name numbers
   callable numbers fit e =
       let bound = numbers_bound [] f.parameters numbers in
@@ -395,6 +401,9 @@ module _ (m : Module) (free : HasNoCycle m) (plain : BindsNoConstant m) (fine : 
         gives = λ given operands h fits.
             let g = one.gives operands (operands_from bound (bound_both numbers fit) [] f.arguments arguments_alike (arguments_fine numbers e) operands fits) in
             record { value = g.value; is = call_is numbers given operands e h ∙ g.is; of = g.of; declared = declared };
+        sized = λ operands fits.
+            let n = one.sized operands (operands_from bound (bound_both numbers fit) [] f.arguments arguments_alike (arguments_fine numbers e) operands fits) in
+            (n.0, size_is numbers ∙ n.1);
       }
 
   pub function_next : IsFunctionKnown G name f

@@ -15,7 +15,7 @@ use Rattle.dslx_meaning.specs.Rules.Judging.{Known, Sight, Typed, has_broken, wi
 use Rattle.dslx_meaning.specs.Rules.NodeRules.{block_pair}
 use Rattle.dslx_typing.specs.Typed.Complete.{IsFine}
 use Rattle.dslx_typing.specs.Typed.Declared.{IsDeclared}
-use Rattle.dslx_typing.specs.Typed.Given.{GivesOf}
+use Rattle.dslx_typing.specs.Typed.Given.{GivesOf, IsSized}
 use Rattle.dslx_typing.specs.Typed.WellTyped.{AreOperandsOf, IsWellTyped, NameNoConstant}
 use Rattle.dslx_typing.proofs.Lemmas.Typed.{bound_keeps, function_gives}
 use Rattle.dslx_typing.proofs.OnSound.Fine.{given, none_in}
@@ -50,3 +50,20 @@ function_has_value known f numbers operands result h k plain declared fine =
     let g = block_of_text_has f.body inner env typed own in
     function_gives known known.items f numbers operands result g.0 h k plain declared g.1 (ap has_broken fine.faults)
     (λ at w. given known.items.type_named j (value_of_block f.body at) (block_of_text_has f.body inner at w own))
+
+-- its body has a size
+pub function_has_size : (known : Known) (f : Function) (numbers operands : List DslxValue) (result : DslxType)
+    → IsWellTyped (function_sight known f numbers) (record { items = known.items; bound = numbers_bound [] f.parameters numbers })
+    → AreOperandsOf (function_sight known f numbers) f.arguments operands → NameNoConstant (function_sight known f numbers) f.arguments
+    → IsFine known (body_judged false (with_typed (function_sight known f numbers) (arguments_typed (function_sight known f numbers) [] f.arguments)) (Some result) f.body)
+    → IsSized (body_judged false (with_typed (function_sight known f numbers) (arguments_typed (function_sight known f numbers) [] f.arguments)) (Some result) f.body).size
+function_has_size known f numbers operands result h k plain fine =
+    let sight = function_sight known f numbers in
+    let inner = with_typed sight (arguments_typed sight [] f.arguments) in
+    let env : Env = record { items = known.items; bound = operands_bound (numbers_bound [] f.parameters numbers) f.arguments operands } in
+    let typed = operands_keep sight known.items f.arguments operands [] (numbers_bound [] f.parameters numbers) k plain h in
+    let j = (block_pair f.body).1 false inner in
+    let wrong = wanted_faults (out-Block f.body).span (Some result) j.ty in
+    let size = size_faults known (out-Block f.body).span.to (record j { faults = j.faults ++ wrong }) in
+    let own : IsFine known j = record { faults = (none_in j.faults wrong (none_in (j.faults ++ wrong) size fine.faults).0).0; reached = fine.reached } in
+    (block_of_text_has f.body inner env typed own).3

@@ -1,5 +1,5 @@
 -- Judgements with which nothing is wrong: nothing is with their parts either.
-use Rattle.std.proofs.Common.{◌≡◌, ◌&&◌, ◌++◌, ℕ, Bool, true, false, not, if◌then◌else◌, List, [], ◌∷◌, Option, Some, None, refl, sym, ap, subst, ◌∙◌}
+use Rattle.std.proofs.Common.{◌≡◌, ◌&&◌, ◌++◌, ◌+◌, ℕ, Bool, true, false, not, if◌then◌else◌, List, [], ◌∷◌, Option, Some, None, refl, sym, ap, subst, ◌∙◌}
 use mathlib.Core.Bool.{true≢false}
 use Rattle.std.specs.List.{list_all}
 use Rattle.xb_span.specs.declared.span.Span.{Span}
@@ -9,10 +9,10 @@ use Rattle.dslx_meaning.specs.Environment.{Env}
 use Rattle.dslx_meaning.specs.Meaning.{Meant}
 use Rattle.dslx_meaning.specs.declared.ty.DslxType.{DslxType}
 use Rattle.dslx_meaning.specs.declared.value.DslxValue.{DslxValue}
-use Rattle.dslx_meaning.specs.Rules.Judging.{ExprPair, Instance, Judgement, Known, Sight, alone, breaks, breaks_if, limited, no_token, settled, span_of, type_limits, unless_broken, unlimited, within}
+use Rattle.dslx_meaning.specs.Rules.Judging.{ExprPair, Instance, Judgement, Known, Sight, alone, breaks, breaks_if, limited, no_token, one_and, plus_size, settled, size_if_typed, span_of, type_limits, unless_broken, unlimited, within}
 use Rattle.dslx_typing.specs.Typed.Complete.{IsFine}
 use Rattle.dslx_typing.specs.Typed.Declared.{Declarations}
-use Rattle.dslx_typing.specs.Typed.Given.{GivesItsType, GivesOf}
+use Rattle.dslx_typing.specs.Typed.Given.{GivesItsType, GivesOf, IsSized}
 use Rattle.dslx_typing.specs.Typed.WellTyped.{IsWellTyped, types_at}
 use Rattle.dslx_typing.proofs.Lemmas.Typed.{same_some}
 use Rattle.dslx_typing.specs.Sound.Sound.{HasItsValue, ExprGives}
@@ -89,6 +89,7 @@ settled_fine known span own named found size fine =
 pub record IsAlone (known : Known) (span : Span) (j : Judgement) : Type 0 where
   pub fine : IsFine known j
   pub same_type : (no_token span j).ty ≡ j.ty
+  pub same_size : (no_token span j).size ≡ j.size
 
 pub alone_fine : (known : Known) (span : Span) (j : Judgement) → IsFine known (no_token span j) → IsAlone known span j
 alone_fine known span j fine = by_type j.ty j.faults j.reached j.size fine
@@ -100,12 +101,25 @@ alone_fine known span j fine = by_type j.ty j.faults j.reached j.size fine
     by_test u faults reached size false q h = record {
       fine = record { faults = h.faults; reached = h.reached };
       same_type = ap (λ b. (if◌then◌else◌ {A = Judgement} b (record { ty = None; faults = faults ++ breaks 28 span ∷ []; reached = reached; size = size }) (record { ty = Some u; faults = faults; reached = reached; size = size })).ty) q;
+      same_size = ap (λ b. (if◌then◌else◌ {A = Judgement} b (record { ty = None; faults = faults ++ breaks 28 span ∷ []; reached = reached; size = size }) (record { ty = Some u; faults = faults; reached = reached; size = size })).size) q;
     }
 
     by_type : (ty : Option DslxType) (faults : List Fault) (reached : List Instance) (size : Option ℕ) → IsFine known (no_token span (record { ty = ty; faults = faults; reached = reached; size = size }))
         → IsAlone known span (record { ty = ty; faults = faults; reached = reached; size = size })
-    by_type None faults reached size h = record { fine = record { faults = h.faults; reached = h.reached }; same_type = refl }
+    by_type None faults reached size h = record { fine = record { faults = h.faults; reached = h.reached }; same_type = refl; same_size = refl }
     by_type (Some u) faults reached size h = by_test u faults reached size (holds_token u) refl h
+
+-- ---- sizes
+
+pub one_sized : (a : Option ℕ) → IsSized a → IsSized (one_and a)
+one_sized a s = (1 + s.0, ap one_and s.1)
+
+pub plus_sized : (a b : Option ℕ) → IsSized a → IsSized b → IsSized (plus_size a b)
+plus_sized a b s t = (s.0 + t.0, λ i. plus_size (s.1 i) (t.1 i))
+
+-- of what has a type
+pub sized_if : (own : Option DslxType) (t : DslxType) (size : Option ℕ) → own ≡ Some t → IsSized size → IsSized (size_if_typed own size)
+sized_if own t size e s = (s.0, ap (λ o. size_if_typed o size) e ∙ s.1)
 
 -- ---- values
 
@@ -119,9 +133,9 @@ pub alone_has : (sight : Sight) (env : Env) (e : ExprPair) (x : Meant) → ExprG
 alone_has sight env e x s h faults reached =
     let a = alone_fine sight.known (span_of e) (within sight e) (record { faults = faults; reached = reached }) in
     let g = s.gives sight env h a.fine in
-    (g.0, a.same_type ∙ g.1, g.2)
+    (g.0, a.same_type ∙ g.1, g.2, (g.3.0, a.same_size ∙ g.3.1))
 
--- what is settled has the type and the value that its law gives it
+-- what is settled has the type and the value that its law gives it, where its parts have sizes
 pub whole : (types : Declarations) (known : Known) (span : Span) (ty : Option DslxType) (faults : List Fault) (reached : List Instance) (size : Option ℕ) (t : DslxType) (o : Option DslxValue)
-    → IsSettled known span ty faults reached size → ty ≡ Some t → GivesItsType types (settled span ty faults reached size) o → HasItsValue types (settled span ty faults reached size) o
-whole types known span ty faults reached size t o s own law = (t, s.ty ∙ own, law t (s.ty ∙ own))
+    → IsSettled known span ty faults reached size → ty ≡ Some t → IsSized size → GivesItsType types (settled span ty faults reached size) o → HasItsValue types (settled span ty faults reached size) o
+whole types known span ty faults reached size t o s own sized law = (t, s.ty ∙ own, law t (s.ty ∙ own), sized_if (unless_broken faults ty) t size (s.ty ∙ own) sized)

@@ -266,7 +266,7 @@ bind_claim x = by_type x.ty
 
 stmt_claim : (x : StmtLevel Parts) → StatementGives (judging.stmt (map_stmt Parts judged (firsts judged meanings (claimed sound)) x)).1 (meaning.stmt (map_stmt Parts meanings (seconds judged meanings (claimed sound)) x))
 stmt_claim (Stmt-F.Let l) = l.2.1
-stmt_claim (Stmt-F.Bare e) = record { known = λ sight. refl; keeps = (bare_has e.0 e.1 (expr_gives e)).keeps }
+stmt_claim (Stmt-F.Bare e) = let b = bare_has e.0 e.1 (expr_gives e) in record { known = λ sight. refl; keeps = b.keeps; sized = b.sized }
 
 block_claim : (x : BlockLevel Parts) → BlockGives (judging.block (map_block Parts judged (firsts judged meanings (claimed sound)) x)).1 (meaning.block (map_block Parts meanings (seconds judged meanings (claimed sound)) x))
 block_claim x = by_value x.value
@@ -328,14 +328,14 @@ field_claim x = by_value x.value
           let own = no_token x.name.span j in
           let a = alone_fine sight.known x.name.span j (record { faults = (none_in own.faults _ fine.faults).0; reached = fine.reached }) in
           let g = name_has x.name.span sight x.name.name env h a.fine in
-          (g.0, a.same_type ∙ g.1, g.2);
+          (g.0, a.same_type ∙ g.1, g.2, (g.3.0, a.same_size ∙ g.3.1));
     }
     by_value (Some e) = record {
       name = refl;
       gives = λ sight struct env h fine.
           let a = alone sight e.0 in
           let g = alone_has sight env e.0 e.1 (expr_gives e) h (none_in a.faults _ fine.faults).0 fine.reached in
-          (g.0, g.1, g.2);
+          (g.0, g.1, g.2, g.3);
     }
 
 -- ---- the whole

@@ -32,7 +32,8 @@ use Rattle.dslx_typing.specs.Typed.WellTyped.{IsWellTyped, types_at}
 use Rattle.dslx_typing.proofs.Lemmas.Typed.{all_are, and_reduce_lies, clz_lies, counting_gives, ctz_lies, of_token, or_reduce_lies, reducing_gives, rev_lies, update_given, xor_reduce_lies}
 use Rattle.dslx_typing.specs.Sound.Sound.{EachExprGives, HasItsValue, IsBuiltin}
 use Rattle.dslx_typing.proofs.OnSound.OfOperations.{unless_passed}
-use Rattle.dslx_typing.proofs.OnSound.Fine.{all_in, all_in_three, alone_has, given, none_in, none_in_three, passed, settled_fine, some_fault, whole}
+use Rattle.dslx_typing.proofs.OnSound.Fine.{all_in, all_in_three, alone_has, given, none_in, none_in_three, one_sized, passed, plus_sized, settled_fine, sized_if, some_fault, whole}
+use Rattle.dslx_typing.specs.Typed.Given.{IsSized}
 
 -- ---- another number of arguments
 
@@ -75,7 +76,7 @@ counts span sight env f width within (e ∷ []) (x ∷ []) k h fine =
     let p = none_in a.faults bits s.faults in
     let g = alone_has sight env e x k.0 h p.0 s.reached in
     moved_to (types_at sight) (counting span (e ∷ []) (a ∷ []) a.ty) (and_then (x.value env) (λ v. counted f (v ∷ []))) (with_both (Some []) (values_of (x ∷ []) env) (λ (ns vs : List DslxValue). counted f vs)) (one_operand (x.value env) (λ (ns vs : List DslxValue). counted f vs))
-    (whole (types_at sight) sight.known span own (a.faults ++ bits) a.reached (one_and a.size) g.0 (and_then (x.value env) (λ v. counted f (v ∷ []))) s (λ i. and_then (g.1 i) (λ t. g.1 i))
+    (whole (types_at sight) sight.known span own (a.faults ++ bits) a.reached (one_and a.size) g.0 (and_then (x.value env) (λ v. counted f (v ∷ []))) s (λ i. and_then (g.1 i) (λ t. g.1 i)) (one_sized a.size g.3)
     (counting_gives (types_at sight) span sight e (x.value env) f width within (given (types_at sight) a (x.value env) g)))
 
 reduces : (span : Span) (sight : Sight) (env : Env) (f : Word → Word) → ((w : Word) → (f w).width ≡ 1) → ((w : Word) → lies_in w ≡ true → lies_in (f w) ≡ true) → (es : List ExprPair) (xs : List Meant) → EachExprGives es xs → IsWellTyped sight env
@@ -93,7 +94,7 @@ reduces span sight env f width within (e ∷ []) (x ∷ []) k h fine =
     let p = none_in a.faults bits s.faults in
     let g = alone_has sight env e x k.0 h p.0 s.reached in
     moved_to (types_at sight) (counting span (e ∷ []) (a ∷ []) (Some bool_type)) (and_then (x.value env) (λ v. reduced f (v ∷ []))) (with_both (Some []) (values_of (x ∷ []) env) (λ (ns vs : List DslxValue). reduced f vs)) (one_operand (x.value env) (λ (ns vs : List DslxValue). reduced f vs))
-    (whole (types_at sight) sight.known span own (a.faults ++ bits) a.reached (one_and a.size) bool_type (and_then (x.value env) (λ v. reduced f (v ∷ []))) s (ap (λ o. and_then o (λ t. Some bool_type)) g.1)
+    (whole (types_at sight) sight.known span own (a.faults ++ bits) a.reached (one_and a.size) bool_type (and_then (x.value env) (λ v. reduced f (v ∷ []))) s (ap (λ o. and_then o (λ t. Some bool_type)) g.1) (one_sized a.size g.3)
     (reducing_gives (types_at sight) span sight e (x.value env) f width within (given (types_at sight) a (x.value env) g)))
 
 -- ---- `update`
@@ -129,12 +130,14 @@ updates span sight env (e ∷ i ∷ v ∷ []) (x ∷ y ∷ z ∷ []) k h fine =
     let gd = alone_has sight env v z k.1.1.0 h r.2 m.2 in
     let is_there_array = unless_passed is_array 27 (span_of e) a.ty ga.0 ga.1 q.1 in
     let is_place = unless_passed is_unsigned 27 (span_of i) c.ty gc.0 gc.1 p.1 in
+    let typed = s.ty ∙ (λ j. and_then (gc.1 j) (λ t. and_then (gd.1 j) (λ u. ga.1 j))) in
     moved_to (types_at sight) (updating span (e ∷ i ∷ v ∷ []) (a ∷ c ∷ d ∷ [])) (and_then (x.value env) (λ v. and_then (y.value env) (λ i. and_then (z.value env) (λ new. updated (v ∷ i ∷ new ∷ [])))))
     (with_both (Some []) (values_of (x ∷ y ∷ z ∷ []) env) (λ (ns vs : List DslxValue). updated vs)) (three_operands (x.value env) (y.value env) (z.value env) (λ (ns vs : List DslxValue). updated vs)) (
       ga.0,
-      s.ty ∙ (λ j. and_then (gc.1 j) (λ t. and_then (gd.1 j) (λ u. ga.1 j))),
+      typed,
       update_given (types_at sight) ga.0 gc.0 gd.0 (x.value env) (y.value env) (z.value env) ga.2 gc.2 gd.2 is_there_array is_place
           (λ u of. passed (same_type u gd.0) 27 (span_of v) (sym (λ j. update_faults (span_of v) ((ap (λ o. element_type (and_then o array_in)) ga.1 ∙ of) j) (gd.1 j)) ∙ p.2)),
+      sized_if _ ga.0 size typed (one_sized (plus_size a.size (plus_size c.size d.size)) (plus_sized a.size (plus_size c.size d.size) ga.3 (plus_sized c.size d.size gc.3 gd.3))),
     )
 
 -- ---- `join`
@@ -144,8 +147,8 @@ token_declared types = ap (as_declared types) (sym rolls.rolls-Token) ∙ fold-r
 
 tokens_have : (sight : Sight) (env : Env) → IsWellTyped sight env → (es : List ExprPair) (xs : List Meant) → EachExprGives es xs → faults_of_all (map (token_judged sight) es) ≡ []
     → list_all sight.known.is_sound (reached_of_all (map (token_judged sight) es)) ≡ true
-    → (ts : List DslxType) × (vs : List DslxValue) × (types_of (map (token_judged sight) es) ≡ map Some ts) × (map (λ (x : Meant). x.value env) xs ≡ map Some vs)
-tokens_have sight env h [] [] k f r = ([], [], refl, refl)
+    → (ts : List DslxType) × (vs : List DslxValue) × (types_of (map (token_judged sight) es) ≡ map Some ts) × (map (λ (x : Meant). x.value env) xs ≡ map Some vs) × IsSized (size_of_all (map (token_judged sight) es))
+tokens_have sight env h [] [] k f r = ([], [], refl, refl, (0, refl))
 tokens_have sight env h [] (x ∷ xs) k f r = absurd k
 tokens_have sight env h (e ∷ es) [] k f r = absurd k
 tokens_have sight env h (e ∷ es) (x ∷ xs) k f r =
@@ -155,7 +158,7 @@ tokens_have sight env h (e ∷ es) (x ∷ xs) k f r =
     let s = all_in sight.known.is_sound a.reached (reached_of_all (map (token_judged sight) es)) r in
     let g = k.0.gives sight env h (record { faults = q.0; reached = s.0 }) in
     let more = tokens_have sight env h es xs k.1 p.1 s.1 in
-    (g.0 ∷ more.0, g.2.value ∷ more.1, (λ i. g.1 i ∷ more.2 i), (λ i. g.2.is i ∷ more.3 i))
+    (g.0 ∷ more.0, g.2.value ∷ more.1, (λ i. g.1 i ∷ more.2 i), (λ i. g.2.is i ∷ more.3 i), plus_sized a.size (size_of_all (map (token_judged sight) es)) g.3 more.4)
 
 joins : (span : Span) (sight : Sight) (env : Env) (es : List ExprPair) (xs : List Meant) → EachExprGives es xs → IsWellTyped sight env → IsFine sight.known (joining span sight es)
     → HasItsValue (types_at sight) (joining span sight es) (with_both (Some []) (values_of xs env) (λ (ns vs : List DslxValue). Some value.Token))
@@ -163,15 +166,17 @@ joins span sight env es xs k h fine =
     let js = map (token_judged sight) es in
     let own = when_all (types_of js) (Some ty.Token) in
     let s = settled_fine sight.known span own (faults_of_all js) (reached_of_all js) (one_and (size_of_all js)) fine in
-    let g = tokens_have sight env h es xs k s.faults s.reached in (
+    let g = tokens_have sight env h es xs k s.faults s.reached in
+    let typed = s.ty ∙ ap (λ os. when_all os (Some ty.Token)) g.2 ∙ ap (λ o. and_then o (λ ts. Some ty.Token)) (all_are g.0) in (
       ty.Token,
-      s.ty ∙ ap (λ os. when_all os (Some ty.Token)) g.2 ∙ ap (λ o. and_then o (λ ts. Some ty.Token)) (all_are g.0),
+      typed,
       record {
         value = value.Token;
         is = ap (λ os. with_both (Some []) (all_some os) (λ (ns vs : List DslxValue). Some value.Token)) g.3 ∙ ap (λ o. with_both (Some []) o (λ (ns vs : List DslxValue). Some value.Token)) (all_are g.1);
         of = of_token value.Token ∙ ap is_some_token views.outs-Token;
         declared = token_declared (types_at sight);
       },
+      sized_if _ ty.Token (one_and (size_of_all js)) typed (one_sized (size_of_all js) g.4),
     )
 
 -- ---- any builtin

@@ -25,7 +25,8 @@ use Rattle.dslx_typing.specs.Typed.WellTyped.{IsWellTyped, types_at}
 use Rattle.dslx_typing.proofs.Lemmas.Laws.{is_unsigned_value}
 use Rattle.dslx_typing.proofs.Lemmas.Typed.{bound_is_meant, meant_is_known, not_false, one_type, or_false, size_is_meant, slice_gives}
 use Rattle.dslx_typing.specs.Sound.Sound.{ExprGives, HasItsValue, HasKnownValue}
-use Rattle.dslx_typing.proofs.OnSound.Fine.{all_in_three, alone_has, given, none_in, none_in_three, not_broken, passed, settled_fine, whole}
+use Rattle.dslx_typing.proofs.OnSound.Fine.{all_in_three, alone_has, given, none_in, none_in_three, not_broken, one_sized, passed, plus_sized, settled_fine, sized_if, whole}
+use Rattle.dslx_typing.specs.Typed.Given.{IsSized}
 
 -- ---- places
 
@@ -45,7 +46,9 @@ constant_has sight env e x s h fine =
     let size = size_faults sight.known (span_of e).to (record a { faults = a.faults ++ local }) in
     let f = none_in_three a.faults local size fine.faults in
     let g = alone_has sight env e x s h f.0 fine.reached in
-    record { ty = g.0; typed = g.1; gives = g.2; known = meant_is_known sight env.bound e g.0 g.2.value h.place fine g.1 (value_is sight env e x s h ∙ g.2.is) }
+    let known = meant_is_known sight env.bound e g.0 g.3.0 g.2.value h.place fine g.1 g.3.1 (value_is sight env e x s h ∙ g.2.is) in
+    let typed = ap (λ o. and_then o (λ v. a.ty)) known ∙ g.1 in
+    record { ty = g.0; typed = typed; gives = g.2; known = known; sized = sized_if _ g.0 a.size typed g.3 }
 
 -- ---- widths and sizes
 
@@ -96,15 +99,18 @@ not_negative false true b e f = not_false b f
 not_negative false false b e f = absurd (true≢false (sym e))
 
 pub bound_has : (sight : Sight) (env : Env) (e : ExprPair) (x : Meant) → ExprGives e x → IsWellTyped sight env → IsFine sight.known (constant_or_bare sight e).judgement → is_negative_bound (constant_or_bare sight e) ≡ false
-    → (n : ℕ) × (bound_number (constant_or_bare sight e) ≡ Some n)
+    → (n : ℕ) × (bound_number (constant_or_bare sight e) ≡ Some n) × IsSized (constant_or_bare sight e).judgement.size
 bound_has sight env e x s h fine positive = by_bare (bare_of e) fine positive
   where
-    by_bare : (o : Option Bare) → IsFine sight.known (seen_by sight e o).judgement → is_negative_bound (seen_by sight e o) ≡ false → (n : ℕ) × (bound_number (seen_by sight e o) ≡ Some n)
+    by_bare : (o : Option Bare) → IsFine sight.known (seen_by sight e o).judgement → is_negative_bound (seen_by sight e o) ≡ false → (n : ℕ) × (bound_number (seen_by sight e o) ≡ Some n) × IsSized (seen_by sight e o).judgement.size
     by_bare None f q =
         let k = constant_has sight env e x s h (record { faults = f.faults; reached = f.reached }) in
-        bound_there (bound_number (constant_of sight e))
-        (not_negative (is_there (constant_of sight e).value) false (is_there (bound_number (constant_of sight e))) (ap (λ o. is_there o || false) k.known) q)
-    by_bare (Some number) f q = bound_there (bound_number (seen_by sight e (Some number))) (not_negative false true (is_there (bound_number (seen_by sight e (Some number)))) refl q)
+        let n = bound_there (bound_number (constant_of sight e))
+        (not_negative (is_there (constant_of sight e).value) false (is_there (bound_number (constant_of sight e))) (ap (λ o. is_there o || false) k.known) q) in
+        (n.0, n.1, k.sized)
+    by_bare (Some number) f q =
+        let n = bound_there (bound_number (seen_by sight e (Some number))) (not_negative false true (is_there (bound_number (seen_by sight e (Some number)))) refl q) in
+        (n.0, n.1, (1, refl))
 
 bound_is : (sight : Sight) (env : Env) (e : ExprPair) (x : Meant) → ExprGives e x → IsWellTyped sight env → (n : ℕ) → bound_number (constant_or_bare sight e) ≡ Some n → bound_of x env ≡ Some n
 bound_is sight env e x s h n q = sym (λ i. bound_of (s.is i) (place_is sight env h i)) ∙ bound_is_meant sight env.bound e n h.place q
@@ -134,4 +140,5 @@ slice_has span sight env e a c x y z se sa sc h fine =
     let n = bound_has sight env c z sc h (record { faults = q.2; reached = k.2 }) high.0 in
     whole (types_at sight) sight.known span ty faults reached size (unsigned (n.0 - m.0)) (and_then (x.value env) (λ v. with_both (bound_of y env) (bound_of z env) (slice_value v))) s
     (λ d. and_then (g.1 d) (λ t. with_both (m.1 d) (n.1 d) (λ i j. Some (unsigned (j - i)))))
+    (one_sized (plus_size own.size (plus_size from.judgement.size to.judgement.size)) (plus_sized own.size (plus_size from.judgement.size to.judgement.size) g.3 (plus_sized from.judgement.size to.judgement.size m.2 n.2)))
     (slice_gives (types_at sight) span sight e a c (x.value env) (bound_of y env) (bound_of z env) (given (types_at sight) own (x.value env) g) (bound_is sight env a y sa h) (bound_is sight env c z sc h))

@@ -25,7 +25,7 @@ use Rattle.dslx_meaning.specs.Rules.Judgings.{ArgPair}
 use Rattle.dslx_meaning.specs.Rules.Mentions.{is_cyclic}
 use Rattle.dslx_typing.specs.Typed.Complete.{EachArgumentDeclared, FitArguments, IsFine}
 use Rattle.dslx_typing.specs.Typed.Declared.{Declarations, IsDeclared}
-use Rattle.dslx_typing.specs.Typed.Given.{GivesOf}
+use Rattle.dslx_typing.specs.Typed.Given.{GivesOf, IsSized}
 use Rattle.dslx_typing.specs.Typed.Kinds.{is_of}
 use Rattle.dslx_typing.specs.Typed.Numbers.{AllOwn, FitNumbers, GivenMean}
 use Rattle.dslx_typing.specs.Typed.WellTyped.{IsWellTyped, types_at}
@@ -33,7 +33,7 @@ use Rattle.dslx_typing.proofs.Lemmas.Typed.{all_are, declared_is, inferred_alike
 use Rattle.dslx_typing.specs.Sound.Sound.{EachExprGives, HasItsValue}
 use Rattle.dslx_typing.proofs.OnSound.OfBuiltins.{wrongly_called}
 use Rattle.dslx_typing.proofs.OnSound.OfNumbers.{EachGiven, NumbersFine, judged_right, numbers_given, numbers_known}
-use Rattle.dslx_typing.proofs.OnSound.Fine.{all_in, all_in_three, alone_has, none_in, none_in_three, not_broken, passed, settled_fine, some_fault}
+use Rattle.dslx_typing.proofs.OnSound.Fine.{all_in, all_in_three, alone_has, none_in, none_in_three, not_broken, passed, settled_fine, some_fault, one_sized, plus_sized, sized_if}
 
 -- ---- operands
 
@@ -42,10 +42,11 @@ record AreOperands (sight : Sight) (env : Env) (es : List ExprPair) (xs : List M
   typed : types_of (all_alone sight es) ≡ map Some (map type_of_value values)
   are : map (λ (x : Meant). x.value env) xs ≡ map Some values
   own : AllOwn (types_at sight) values
+  sized : IsSized (size_of_all (all_alone sight es))
 
 operands_have : (sight : Sight) (env : Env) → IsWellTyped sight env → (es : List ExprPair) (xs : List Meant) → EachExprGives es xs → faults_of_all (all_alone sight es) ≡ []
     → list_all sight.known.is_sound (reached_of_all (all_alone sight es)) ≡ true → AreOperands sight env es xs
-operands_have sight env h [] [] k f r = record { values = []; typed = refl; are = refl; own = tt }
+operands_have sight env h [] [] k f r = record { values = []; typed = refl; are = refl; own = tt; sized = (0, refl) }
 operands_have sight env h [] (x ∷ xs) k f r = absurd k
 operands_have sight env h (e ∷ es) [] k f r = absurd k
 operands_have sight env h (e ∷ es) (x ∷ xs) k f r =
@@ -60,6 +61,7 @@ operands_have sight env h (e ∷ es) (x ∷ xs) k f r =
       typed = λ i. (g.1 ∙ ap Some (sym t)) i ∷ more.typed i;
       are = λ i. g.2.is i ∷ more.are i;
       own = (record { value = g.2.value; is = refl; of = ap (λ u. is_of u g.2.value) t ∙ g.2.of; declared = subst (IsDeclared (types_at sight)) (sym t) g.2.declared }, more.own);
+      sized = plus_sized a.size (size_of_all (all_alone sight es)) g.3 more.sized;
     }
 
 -- they are of the types of the arguments
@@ -199,12 +201,15 @@ called span sight env name f as' ns es xs cyclic kn kx h is count ts typed fine 
         let fits = fit sight home (numbers_bound [] f.parameters m.numbers) f.arguments es o.values (k.arguments m.numbers m.fit) count o.typed o.own
         (ap (λ b. operand_faults sight.known home b f.arguments es js) (sym m.shown) ∙ ap (λ b. if◌then◌else◌ {A = List Fault} b [] (operand_faults sight.known home n.bound f.arguments es js)) (sym w.right) ∙ w.operands) in
         let v = c.gives g.values o.values (ap (λ i. all_numbers sight.known.items i [] f.parameters g.values) (sym same) ∙ numbers) fits in
+        let body = c.sized o.values fits in
+        let callee = callee_size sight.known home n.values in
+        let parts = one_sized (plus_size (size_of_all js) callee) (plus_sized (size_of_all js) callee o.sized (body.0, ap (callee_size sight.known home) m.all ∙ body.1)) in
         let ty : (call []).ty ≡ Some c.result = w.own ∙ (λ i. and_then (m.all i) (λ vs. when_all (o.typed i) (result_type sight.known home n.bound f.result)))
         ∙ ap (λ a. and_then a (λ us. result_type sight.known home n.bound f.result)) (all_are (map type_of_value o.values))
         ∙ ap (λ b. result_type sight.known home b f.result) m.shown ∙ c.typed in
         let meant : with_both (values_of ns env) (values_of xs env) (env.items.call name) ≡ sight.known.items.call name g.values o.values =
         (λ i. with_both (all_some (g.are i)) (all_some (o.are i)) ((h.items i).call name)) ∙ (λ i. with_both (all_are g.values i) (all_are o.values i) (sight.known.items.call name)) in
-        (c.result, ty, record { value = v.value; is = meant ∙ v.is; of = v.of; declared = v.declared })
+        (c.result, ty, record { value = v.value; is = meant ∙ v.is; of = v.of; declared = v.declared }, sized_if _ c.result (one_and (plus_size (size_of_all js) callee)) ty parts)
 
 pub function_has : (span : Span) (sight : Sight) (env : Env) (name : Ident) (as' : List ArgPair) (ns : List Meant) (es : List ExprPair) (xs : List Meant) → EachExprGives (map (λ (a : ArgPair). a.1) as') ns → EachExprGives es xs
     → IsWellTyped sight env → IsFine sight.known (function_call span sight name (given_numbers sight as') es (all_alone sight es) (as_function (item_named name.name sight.known.whole.items)))

@@ -14,17 +14,17 @@ use Rattle.dslx_meaning.specs.declared.ty.DslxType.TheOpen.{DslxType-F}
 use Rattle.dslx_meaning.specs.declared.value.DslxValue.{DslxValue}
 use Rattle.dslx_meaning.specs.Rules.AggregateRules.{is_some_tuple}
 use Rattle.dslx_meaning.specs.Rules.ConstantRules.{is_empty}
-use Rattle.dslx_meaning.specs.Rules.ControlRules.{AlternativesSeen, ArmJudged, all_known, all_words_match, alternatives_seen, arm_judged, arm_values, arms_faults, arms_reached, arms_size, differ, first_of_types, has_several, is_exhaustive, is_exhaustive_in, last_is_sure, match_faults, match_judged, not_exhaustive, some_binds, values_match}
+use Rattle.dslx_meaning.specs.Rules.ControlRules.{AlternativesSeen, ArmJudged, all_known, all_words_match, alternatives_seen, arm_judged, arm_values, arms_faults, arms_reached, arms_size, differ, first_of_types, has_several, is_exhaustive, is_exhaustive_in, last_is_sure, match_faults, match_judged, no_alternative, not_exhaustive, one_alternative, some_binds, values_match}
 use Rattle.dslx_meaning.specs.Rules.Judging.{ExprPair, Judgement, Sight, alone, has_broken, one_and, plus_size, types_of, with_typed}
-use Rattle.dslx_meaning.specs.Rules.Judgings.{ArmSeen, PatternPair}
-use Rattle.dslx_meaning.specs.Rules.PatternRules.{is_there, pattern_alone}
+use Rattle.dslx_meaning.specs.Rules.Judgings.{ArmSeen, PatternPair, PatternSeen}
+use Rattle.dslx_meaning.specs.Rules.PatternRules.{is_there}
 use Rattle.dslx_typing.specs.Typed.Complete.{IsFine}
-use Rattle.dslx_typing.specs.Typed.Given.{GivesItsType, GivesOf}
+use Rattle.dslx_typing.specs.Typed.Given.{GivesItsType, GivesOf, IsSized}
 use Rattle.dslx_typing.specs.Typed.WellTyped.{ArmGives, EachArmGives, Fails, Fits, FitsOrFails, IsWellTyped, comes_to_an_arm, types_at}
-use Rattle.dslx_typing.proofs.Lemmas.Typed.{all_are, match_gives, none_some, or_false, same_some}
+use Rattle.dslx_typing.proofs.Lemmas.Typed.{all_are, match_gives, none_some, not_false, or_false, same_some}
 use Rattle.dslx_typing.specs.Sound.Places.{IsFinePattern}
 use Rattle.dslx_typing.specs.Sound.Sound.{ArmHasValue, EachArmHasValue, EachPatternGives, ExprGives, HasItsValue, NarrowComes}
-use Rattle.dslx_typing.proofs.OnSound.Fine.{IsSettled, all_in, all_in_three, alone_has, given, none_in, none_in_three, not_broken, settled_fine, some_fault, whole}
+use Rattle.dslx_typing.proofs.OnSound.Fine.{IsSettled, all_in, all_in_three, alone_has, given, none_in, none_in_three, not_broken, one_sized, plus_sized, settled_fine, sized_if, some_fault, whole}
 
 -- ---- the alternatives of an arm
 
@@ -34,10 +34,10 @@ pub record AreFine (sight : Sight) (seen : AlternativesSeen) : Type 0 where
   pub reached : list_all sight.known.is_sound seen.reached ≡ true
 
 pub first_fine : (sight : Sight) (t : Option DslxType) (p : PatternPair) (ps : List PatternPair) → AreFine sight (alternatives_seen sight t (p ∷ ps))
-    → IsFinePattern sight (pattern_alone true sight t p) × AreFine sight (alternatives_seen sight t ps)
+    → IsFinePattern sight (one_alternative sight t p (alternatives_seen sight t ps)) × AreFine sight (alternatives_seen sight t ps)
 first_fine sight t p ps fine =
-    let first = pattern_alone true sight t p in
     let rest = alternatives_seen sight t ps in
+    let first = one_alternative sight t p rest in
     let q = none_in first.faults rest.faults fine.faults in
     let r = all_in sight.known.is_sound first.reached rest.reached fine.reached in
     (record { faults = q.0; reached = r.0 }, record { faults = q.1; reached = r.1 })
@@ -49,7 +49,7 @@ known_alternatives sight env h t [] ms k fine = refl
 known_alternatives sight env h t (p ∷ ps) [] k fine = absurd k
 known_alternatives sight env h t (p ∷ ps) (m ∷ ms) k fine =
     let q = first_fine sight t p ps fine in
-    λ i. k.0.known true sight t [] sight.locals env h q.0 i && known_alternatives sight env h t ps ms k.1 q.1 i
+    λ i. k.0.known true sight t [] (alternatives_seen sight t ps).locals env h q.0 i && known_alternatives sight env h t ps ms k.1 q.1 i
 
 -- there is a place behind them where what is in sight is well typed
 behind_alternatives : (sight : Sight) (env : Env) → IsWellTyped sight env → (t : DslxType) (v : DslxValue) → GivesOf (types_at sight) t (Some v) → (ps : List PatternPair) (ms : List PatternMeant) → EachPatternGives ps ms
@@ -58,10 +58,42 @@ behind_alternatives sight env h t v g [] ms k fine = (env, h)
 behind_alternatives sight env h t v g (p ∷ ps) [] k fine = absurd k
 behind_alternatives sight env h t v g (p ∷ ps) (m ∷ ms) k fine =
     let q = first_fine sight (Some t) p ps fine in
-    k.0.behind true sight t [] sight.locals env v h g (ap has_broken q.0.faults)
+    let rest = behind_alternatives sight env h t v g ps ms k.1 q.1 in
+    k.0.behind true sight t [] (alternatives_seen sight (Some t) ps).locals rest.0 v rest.1 g (ap has_broken q.0.faults)
 
 no_some : {X A : Type 0} (a : A) (o : Option A) → o ≡ None → o ≡ Some a → X
 no_some a o e q = none_some a (sym e ∙ q)
+
+-- where none of them binds a name, they leave the names in sight as they are
+unbound_locals : (sight : Sight) (t : Option DslxType) (ps : List PatternPair) (ms : List PatternMeant) → EachPatternGives ps ms → (alternatives_seen sight t ps).binds ≡ false
+    → (alternatives_seen sight t ps).locals ≡ sight.locals
+unbound_locals sight t [] ms k b = refl
+unbound_locals sight t (p ∷ ps) [] k b = absurd k
+unbound_locals sight t (p ∷ ps) (m ∷ ms) k b =
+    let rest = alternatives_seen sight t ps in
+    let names = (one_alternative sight t p rest).names in
+    let q = or_false (not (is_empty names)) rest.binds b in
+    (k.0.unbound true sight t [] rest.locals (not_false (is_empty names) q.0)).0 ∙ unbound_locals sight t ps ms k.1 q.1
+
+-- what the others leave in sight is well typed where none of several binds a name
+record AreOthersTyped (sight : Sight) (t : DslxType) (ps : List PatternPair) (env : Env) : Type 0 where
+  typed : IsWellTyped (with_typed sight (alternatives_seen sight (Some t) ps).locals) env
+  binds : (has_several ps && (alternatives_seen sight (Some t) ps).binds) ≡ false
+
+others_typed : (sight : Sight) (env : Env) → IsWellTyped sight env → (t : DslxType) (p : PatternPair) (ps : List PatternPair) (ms : List PatternMeant) → EachPatternGives ps ms
+    → (has_several (p ∷ ps) && (alternatives_seen sight (Some t) (p ∷ ps)).binds) ≡ false → AreOthersTyped sight t ps env
+others_typed sight env h t p [] ms k b = record { typed = h; binds = refl }
+others_typed sight env h t p (q ∷ ps) ms k b =
+    let rest = alternatives_seen sight (Some t) (q ∷ ps) in
+    let none = (or_false (not (is_empty (one_alternative sight (Some t) p rest).names)) rest.binds b).1 in
+    record {
+      typed = subst (λ ls. IsWellTyped (with_typed sight ls) env) (sym (unbound_locals sight (Some t) (q ∷ ps) ms k none)) h;
+      binds = ap (λ c. has_several (q ∷ ps) && c) none ∙ and_none (has_several (q ∷ ps));
+    }
+  where
+    and_none : (c : Bool) → (c && false) ≡ false
+    and_none true = refl
+    and_none false = refl
 
 -- where none of them binds a name, each that fits leaves what is in sight as it is
 unbound_fit : (sight : Sight) (env : Env) → IsWellTyped sight env → (t : DslxType) (v : DslxValue) → GivesOf (types_at sight) t (Some v) → (ps : List PatternPair) (ms : List PatternMeant) → EachPatternGives ps ms
@@ -70,24 +102,25 @@ unbound_fit sight env h t v g [] [] k fine b inner e = none_some inner e
 unbound_fit sight env h t v g [] (m ∷ ms) k fine b inner e = absurd k
 unbound_fit sight env h t v g (p ∷ ps) [] k fine b inner e = absurd k
 unbound_fit sight env h t v g (p ∷ ps) (m ∷ ms) k fine b inner e =
-    by_fit (fits_at_place m v env) (k.0.keeps true sight t [] sight.locals env env v h h g (ap has_broken q.0.faults)) (λ r. unbound_fit sight env h t v g ps ms k.1 q.1 none.1 inner r) e
+    by_fit (fits_at_place m v env) (k.0.keeps true sight t [] rest.locals env env v h typed_there g (ap has_broken q.0.faults)) (λ r. unbound_fit sight env h t v g ps ms k.1 q.1 none inner r) e
   where
-    q : IsFinePattern sight (pattern_alone true sight (Some t) p) × AreFine sight (alternatives_seen sight (Some t) ps)
+    rest : AlternativesSeen
+    rest = alternatives_seen sight (Some t) ps
+
+    q : IsFinePattern sight (one_alternative sight (Some t) p rest) × AreFine sight rest
     q = first_fine sight (Some t) p ps fine
 
-    none : (not (is_empty (pattern_alone true sight (Some t) p).names) ≡ false) × ((alternatives_seen sight (Some t) ps).binds ≡ false)
-    none = or_false (not (is_empty (pattern_alone true sight (Some t) p).names)) (alternatives_seen sight (Some t) ps).binds b
+    none : rest.binds ≡ false
+    none = (or_false (not (is_empty (one_alternative sight (Some t) p rest).names)) rest.binds b).1
 
-    empty : (x : Bool) → not x ≡ false → x ≡ true
-    empty true z = refl
-    empty false z = absurd (true≢false z)
+    typed_there : IsWellTyped (with_typed sight rest.locals) env
+    typed_there = subst (λ ls. IsWellTyped (with_typed sight ls) env) (sym (unbound_locals sight (Some t) ps ms k.1 none)) h
 
-    by_fit : (o : Option Env) → FitsOrFails true sight (pattern_alone true sight (Some t) p) o → (first_fit ms v env ≡ Some inner → IsWellTyped sight inner) → or_else o (first_fit ms v env) ≡ Some inner → IsWellTyped sight inner
-    by_fit o (Fits place is typed) rest r =
+    by_fit : (o : Option Env) → FitsOrFails true sight (one_alternative sight (Some t) p rest) o → (first_fit ms v env ≡ Some inner → IsWellTyped sight inner) → or_else o (first_fit ms v env) ≡ Some inner → IsWellTyped sight inner
+    by_fit o (Fits place is typed) others r =
         let same : place ≡ inner = same_some place inner (sym (ap (λ x. or_else x (first_fit ms v env)) is) ∙ r) in
-        let kept = (k.0.unbound true sight (Some t) [] sight.locals (empty (is_empty (pattern_alone true sight (Some t) p).names) none.0)).0 in
-        subst (IsWellTyped sight) same (subst (λ ls. IsWellTyped (with_typed sight ls) place) kept typed)
-    by_fit o (Fails is may sure) rest r = rest (sym (ap (λ x. or_else x (first_fit ms v env)) is) ∙ r)
+        subst (IsWellTyped sight) same (subst (λ ls. IsWellTyped (with_typed sight ls) place) (unbound_locals sight (Some t) (p ∷ ps) (m ∷ ms) k b) typed)
+    by_fit o (Fails is may sure) others r = others (sym (ap (λ x. or_else x (first_fit ms v env)) is) ∙ r)
 
 -- behind the alternative that fits what is in sight is well typed
 fit_typed : (sight : Sight) (env : Env) → IsWellTyped sight env → (t : DslxType) (v : DslxValue) → GivesOf (types_at sight) t (Some v) → (ps : List PatternPair) (ms : List PatternMeant) → EachPatternGives ps ms
@@ -99,29 +132,24 @@ fit_typed sight env h t v g (p ∷ ps) [] k fine b inner e = absurd k
 fit_typed sight env h t v g (p ∷ []) (m ∷ n ∷ ms) k fine b inner e = absurd k.1
 fit_typed sight env h t v g (p ∷ []) (m ∷ []) k fine b inner e = by_fit (fits_at_place m v env) (k.0.keeps true sight t [] sight.locals env env v h h g (ap has_broken (first_fine sight (Some t) p [] fine).0.faults)) e
   where
-    by_fit : (o : Option Env) → FitsOrFails true sight (pattern_alone true sight (Some t) p) o → or_else o None ≡ Some inner → IsWellTyped (with_typed sight (pattern_alone true sight (Some t) p).locals) inner
-    by_fit o (Fits place is typed) r = subst (IsWellTyped (with_typed sight (pattern_alone true sight (Some t) p).locals)) (same_some place inner (sym (ap (λ x. or_else x None) is) ∙ r)) typed
+    only : PatternSeen
+    only = one_alternative sight (Some t) p (no_alternative sight)
+
+    by_fit : (o : Option Env) → FitsOrFails true sight only o → or_else o None ≡ Some inner → IsWellTyped (with_typed sight only.locals) inner
+    by_fit o (Fits place is typed) r = subst (IsWellTyped (with_typed sight only.locals)) (same_some place inner (sym (ap (λ x. or_else x None) is) ∙ r)) typed
     by_fit o (Fails is may sure) r = none_some inner (sym (ap (λ x. or_else x None) is) ∙ r)
 fit_typed sight env h t v g (p ∷ q ∷ ps) ms k fine b inner e =
     let unbound = unbound_fit sight env h t v g (p ∷ q ∷ ps) ms k fine b inner e in
-    subst (λ ls. IsWellTyped (with_typed sight ls) inner) (sym (kept ms k)) unbound
-  where
-    empty : (x : Bool) → not x ≡ false → x ≡ true
-    empty true z = refl
-    empty false z = absurd (true≢false z)
-
-    kept : (ms : List PatternMeant) → EachPatternGives (p ∷ q ∷ ps) ms → (pattern_alone true sight (Some t) p).locals ≡ sight.locals
-    kept [] k = absurd k
-    kept (m ∷ ms) k =
-        (k.0.unbound true sight (Some t) [] sight.locals
-        (empty (is_empty (pattern_alone true sight (Some t) p).names) (or_false (not (is_empty (pattern_alone true sight (Some t) p).names)) (alternatives_seen sight (Some t) (q ∷ ps)).binds b).0)).0
+    subst (λ ls. IsWellTyped (with_typed sight ls) inner) (sym (unbound_locals sight (Some t) (p ∷ q ∷ ps) ms k b)) unbound
 
 -- an arm whose names are all constants' binds nothing
 plain_alternatives : (sight : Sight) (t : Option DslxType) (ps : List PatternPair) (ms : List PatternMeant) → EachPatternGives ps ms → list_all sight.known.items.is_constant (all_names ms) ≡ true
     → (alternatives_seen sight t ps).locals ≡ sight.locals
 plain_alternatives sight t [] ms k e = refl
 plain_alternatives sight t (p ∷ ps) [] k e = absurd k
-plain_alternatives sight t (p ∷ ps) (m ∷ ms) k e = k.0.plain true sight t [] sight.locals (all_in sight.known.items.is_constant m.names (all_names ms) e).0
+plain_alternatives sight t (p ∷ ps) (m ∷ ms) k e =
+    let q = all_in sight.known.items.is_constant m.names (all_names ms) e in
+    k.0.plain true sight t [] (alternatives_seen sight t ps).locals q.0 ∙ plain_alternatives sight t ps ms k.1 q.1
 
 -- ---- an arm
 
@@ -130,6 +158,7 @@ record ArmTyped (sight : Sight) (t : DslxType) (a : ArmSeen) (m : ArmMeant) (v :
   own : DslxType
   typed : (arm_judged sight (Some t) a).value.ty ≡ Some own
   gives : ArmGives sight (Some t) a m v env
+  sized : IsSized (arm_judged sight (Some t) a).value.size
 
 arm_has : (sight : Sight) (env : Env) → IsWellTyped sight env → (t : DslxType) (v : DslxValue) → GivesOf (types_at sight) t (Some v) → (a : ArmSeen) (m : ArmMeant) → ArmHasValue a m
     → AreFine sight (arm_judged sight (Some t) a).seen → (has_several a.patterns && (arm_judged sight (Some t) a).seen.binds) ≡ false → IsFine sight.known (arm_judged sight (Some t) a).value → ArmTyped sight t a m v env
@@ -151,6 +180,7 @@ arm_has sight env h t v g a m k fine b value =
             (sym (plain_alternatives sight (Some t) a.patterns m.patterns k.patterns ((λ i. list_all (sym h.items i).is_constant (all_names m.patterns)) ∙ all))) h)));
         declared = λ u e. (given (types_at sight) (arm_judged sight (Some t) a).value (k.meaning.value place.0) own u e).declared;
       };
+      sized = own.3;
     }
 
 -- ---- all arms
@@ -160,12 +190,13 @@ record ArmsTyped (sight : Sight) (t : DslxType) (arms : List ArmSeen) (ms : List
   typed : types_of (arm_values (map (arm_judged sight (Some t)) arms)) ≡ map Some types
   each : EachArmGives sight (Some t) arms ms v env
   known : all_known (map (arm_judged sight (Some t)) arms) ≡ true
+  sized : IsSized (arms_size (map (arm_judged sight (Some t)) arms))
   clean : list_all (λ (a : ArmJudged). a.seen.is_known && is_empty a.seen.faults) (map (arm_judged sight (Some t)) arms) ≡ true
 
 arms_have : (sight : Sight) (env : Env) → IsWellTyped sight env → (t : DslxType) (v : DslxValue) → GivesOf (types_at sight) t (Some v) → (arms : List ArmSeen) (ms : List ArmMeant) → EachArmHasValue arms ms
     → arms_faults (map (arm_judged sight (Some t)) arms) ≡ [] → list_all sight.known.is_sound (arms_reached (map (arm_judged sight (Some t)) arms)) ≡ true → some_binds (map (arm_judged sight (Some t)) arms) ≡ false
     → ArmsTyped sight t arms ms v env
-arms_have sight env h t v g [] [] k f r b = record { types = []; typed = refl; each = tt; known = refl; clean = refl }
+arms_have sight env h t v g [] [] k f r b = record { types = []; typed = refl; each = tt; known = refl; sized = (0, refl); clean = refl }
 arms_have sight env h t v g [] (m ∷ ms) k f r b = absurd k
 arms_have sight env h t v g (a ∷ as') [] k f r b = absurd k
 arms_have sight env h t v g (a ∷ as') (m ∷ ms) k f r b =
@@ -183,6 +214,7 @@ arms_have sight env h t v g (a ∷ as') (m ∷ ms) k f r b =
       typed = λ i. one.typed i ∷ more.typed i;
       each = (one.gives, more.each);
       known = λ i. is i && more.known i;
+      sized = plus_sized (Some j.seen.size) (plus_size j.value.size (arms_size js)) (j.seen.size, refl) (plus_sized j.value.size (arms_size js) one.sized more.sized);
       clean = λ i. (is i && is_empty (p.0 i)) && more.clean i;
     }
 
@@ -198,13 +230,16 @@ all_joined p (x ∷ xs) ys e f = let q = first_true (p x) (list_all p xs) e in �
 
 -- of a value that is no tuple: a pattern that doesn't fit binds nothing
 other_fits : (sight : Sight) (env : Env) → IsWellTyped sight env → (t : DslxType) (v : DslxValue) → is_some_tuple (out-DslxType t) ≡ false → (ps : List PatternPair) (ms : List PatternMeant) → EachPatternGives ps ms
-    → AreFine sight (alternatives_seen sight (Some t) ps) → (is_there (first_fit ms v env) || list_all sight.known.items.is_constant (all_names ms)) ≡ true
-other_fits sight env h t v other [] [] k fine = refl
-other_fits sight env h t v other [] (m ∷ ms) k fine = absurd k
-other_fits sight env h t v other (p ∷ ps) [] k fine = absurd k
-other_fits sight env h t v other (p ∷ ps) (m ∷ ms) k fine =
+    → AreFine sight (alternatives_seen sight (Some t) ps) → (has_several ps && (alternatives_seen sight (Some t) ps).binds) ≡ false
+    → (is_there (first_fit ms v env) || list_all sight.known.items.is_constant (all_names ms)) ≡ true
+other_fits sight env h t v other [] [] k fine b = refl
+other_fits sight env h t v other [] (m ∷ ms) k fine b = absurd k
+other_fits sight env h t v other (p ∷ ps) [] k fine b = absurd k
+other_fits sight env h t v other (p ∷ ps) (m ∷ ms) k fine b =
     let q = first_fine sight (Some t) p ps fine in
-    by_fit (fits_at_place m v env) (k.0.whole true sight t [] sight.locals env env v other h (ap has_broken q.0.faults)) (is_there (first_fit ms v env)) refl (other_fits sight env h t v other ps ms k.1 q.1)
+    let others = others_typed sight env h t p ps ms k.1 b in
+    by_fit (fits_at_place m v env) (k.0.whole true sight t [] (alternatives_seen sight (Some t) ps).locals env env v other others.typed (ap has_broken q.0.faults)) (is_there (first_fit ms v env)) refl
+    (other_fits sight env h t v other ps ms k.1 q.1 others.binds)
   where
     left : (b : Bool) → (b || false) ≡ true → b ≡ true
     left true e = refl
@@ -219,14 +254,16 @@ other_fits sight env h t v other (p ∷ ps) (m ∷ ms) k fine =
 
 -- a pattern that fits each value of its type
 sure_fits : (sight : Sight) (env : Env) → IsWellTyped sight env → (t : DslxType) (v : DslxValue) → GivesOf (types_at sight) t (Some v) → (ps : List PatternPair) (ms : List PatternMeant) → EachPatternGives ps ms
-    → AreFine sight (alternatives_seen sight (Some t) ps) → (alternatives_seen sight (Some t) ps).is_sure ≡ true → is_there (first_fit ms v env) ≡ true
-sure_fits sight env h t v g [] ms k fine e = absurd (true≢false (sym e))
-sure_fits sight env h t v g (p ∷ ps) [] k fine e = absurd k
-sure_fits sight env h t v g (p ∷ ps) (m ∷ ms) k fine e =
+    → AreFine sight (alternatives_seen sight (Some t) ps) → (has_several ps && (alternatives_seen sight (Some t) ps).binds) ≡ false → (alternatives_seen sight (Some t) ps).is_sure ≡ true
+    → is_there (first_fit ms v env) ≡ true
+sure_fits sight env h t v g [] ms k fine b e = absurd (true≢false (sym e))
+sure_fits sight env h t v g (p ∷ ps) [] k fine b e = absurd k
+sure_fits sight env h t v g (p ∷ ps) (m ∷ ms) k fine b e =
     let q = first_fine sight (Some t) p ps fine in
-    by_fit (fits_at_place m v env) (k.0.keeps true sight t [] sight.locals env env v h h g (ap has_broken q.0.faults)) (sure_fits sight env h t v g ps ms k.1 q.1)
+    let others = others_typed sight env h t p ps ms k.1 b in
+    by_fit (fits_at_place m v env) (k.0.keeps true sight t [] (alternatives_seen sight (Some t) ps).locals env env v h others.typed g (ap has_broken q.0.faults)) (sure_fits sight env h t v g ps ms k.1 q.1 others.binds)
   where
-    by_fit : (o : Option Env) → FitsOrFails true sight (pattern_alone true sight (Some t) p) o → ((alternatives_seen sight (Some t) ps).is_sure ≡ true → is_there (first_fit ms v env) ≡ true)
+    by_fit : (o : Option Env) → FitsOrFails true sight (one_alternative sight (Some t) p (alternatives_seen sight (Some t) ps)) o → ((alternatives_seen sight (Some t) ps).is_sure ≡ true → is_there (first_fit ms v env) ≡ true)
         → is_there (or_else o (first_fit ms v env)) ≡ true
     by_fit o (Fits place is typed) rest = ap (λ x. is_there (or_else x (first_fit ms v env))) is
     by_fit o (Fails is may sure) rest = ap (λ x. is_there (or_else x (first_fit ms v env))) is ∙ rest (sym (ap (λ b. b || (alternatives_seen sight (Some t) ps).is_sure) sure) ∙ e)
@@ -237,21 +274,24 @@ or_right false b e = e
 
 -- where the last arm is taken in any case
 comes_last : (sight : Sight) (env : Env) → IsWellTyped sight env → (t : DslxType) (v : DslxValue) → (arms : List ArmSeen) (ms : List ArmMeant) → EachArmHasValue arms ms → arms_faults (map (arm_judged sight (Some t)) arms) ≡ []
-    → list_all sight.known.is_sound (arms_reached (map (arm_judged sight (Some t)) arms)) ≡ true → is_empty arms ≡ false
-    → ((a : ArmSeen) (m : ArmMeant) → last_of arms ≡ Some a → ArmHasValue a m → AreFine sight (arm_judged sight (Some t) a).seen → (is_there (first_fit m.patterns v env) || list_all env.items.is_constant (all_names m.patterns)) ≡ true)
+    → list_all sight.known.is_sound (arms_reached (map (arm_judged sight (Some t)) arms)) ≡ true → is_empty arms ≡ false → some_binds (map (arm_judged sight (Some t)) arms) ≡ false
+    → ((a : ArmSeen) (m : ArmMeant) → last_of arms ≡ Some a → ArmHasValue a m → AreFine sight (arm_judged sight (Some t) a).seen → (has_several a.patterns && (arm_judged sight (Some t) a).seen.binds) ≡ false
+    → (is_there (first_fit m.patterns v env) || list_all env.items.is_constant (all_names m.patterns)) ≡ true)
     → comes_to_an_arm ms v env ≡ true
-comes_last sight env h t v [] ms k f r some last = absurd (true≢false some)
-comes_last sight env h t v (a ∷ as') [] k f r some last = absurd k
-comes_last sight env h t v (a ∷ []) (m ∷ n ∷ ms) k f r some last = absurd k.1
-comes_last sight env h t v (a ∷ b ∷ as') (m ∷ []) k f r some last = absurd k.1
-comes_last sight env h t v (a ∷ []) (m ∷ []) k f r some last =
+comes_last sight env h t v [] ms k f r some binds last = absurd (true≢false some)
+comes_last sight env h t v (a ∷ as') [] k f r some binds last = absurd k
+comes_last sight env h t v (a ∷ []) (m ∷ n ∷ ms) k f r some binds last = absurd k.1
+comes_last sight env h t v (a ∷ b ∷ as') (m ∷ []) k f r some binds last = absurd k.1
+comes_last sight env h t v (a ∷ []) (m ∷ []) k f r some binds last =
     let j = arm_judged sight (Some t) a in
     last a m refl k.0 (record { faults = (none_in_three j.seen.faults j.value.faults [] f).0; reached = (all_in_three sight.known.is_sound j.seen.reached j.value.reached [] r).0 })
-comes_last sight env h t v (a ∷ b ∷ as') (m ∷ n ∷ ms) k f r some last =
+    (or_false (has_several a.patterns && j.seen.binds) false binds).0
+comes_last sight env h t v (a ∷ b ∷ as') (m ∷ n ∷ ms) k f r some binds last =
     let j = arm_judged sight (Some t) a in
     let js = map (arm_judged sight (Some t)) (b ∷ as') in
     or_right (is_there (first_fit m.patterns v env)) (comes_to_an_arm (n ∷ ms) v env)
-    (comes_last sight env h t v (b ∷ as') (n ∷ ms) k.1 (none_in_three j.seen.faults j.value.faults (arms_faults js) f).2 (all_in_three sight.known.is_sound j.seen.reached j.value.reached (arms_reached js) r).2 refl last)
+    (comes_last sight env h t v (b ∷ as') (n ∷ ms) k.1 (none_in_three j.seen.faults j.value.faults (arms_faults js) f).2 (all_in_three sight.known.is_sound j.seen.reached j.value.reached (arms_reached js) r).2 refl
+    (or_false (has_several a.patterns && j.seen.binds) (some_binds js) binds).1 last)
 
 last_judged_is : (sight : Sight) (t : Option DslxType) (arms : List ArmSeen) (a : ArmSeen) → last_of arms ≡ Some a → last_of (map (arm_judged sight t) arms) ≡ Some (arm_judged sight t a)
 last_judged_is sight t [] a e = none_some a e
@@ -262,23 +302,23 @@ last_judged_is sight t (b ∷ c ∷ as') a e = last_judged_is sight t (c ∷ as'
 
 -- a value comes to an arm
 comes : (sight : Sight) (env : Env) → IsWellTyped sight env → (t : DslxType) (v : DslxValue) → GivesOf (types_at sight) t (Some v) → (arms : List ArmSeen) (ms : List ArmMeant) → EachArmHasValue arms ms
-    → arms_faults (map (arm_judged sight (Some t)) arms) ≡ [] → list_all sight.known.is_sound (arms_reached (map (arm_judged sight (Some t)) arms)) ≡ true → is_empty arms ≡ false
+    → arms_faults (map (arm_judged sight (Some t)) arms) ≡ [] → list_all sight.known.is_sound (arms_reached (map (arm_judged sight (Some t)) arms)) ≡ true → is_empty arms ≡ false → some_binds (map (arm_judged sight (Some t)) arms) ≡ false
     → is_exhaustive sight (map (arm_judged sight (Some t)) arms) t ≡ true → NarrowComes sight env t arms ms v → comes_to_an_arm ms v env ≡ true
-comes sight env h t v g arms ms k f r some exhaustive narrow = by_level (out-DslxType t) refl exhaustive
+comes sight env h t v g arms ms k f r some binds exhaustive narrow = by_level (out-DslxType t) refl exhaustive
   where
     js : List ArmJudged
     js = map (arm_judged sight (Some t)) arms
 
     plain : (b : Bool) → is_some_tuple (out-DslxType t) ≡ b → b ≡ false → comes_to_an_arm ms v env ≡ true
     plain b q e =
-        comes_last sight env h t v arms ms k f r some
-        (λ a m last w fine. (λ i. is_there (first_fit m.patterns v env) || list_all ((h.items i).is_constant) (all_names m.patterns)) ∙ other_fits sight env h t v (q ∙ e) a.patterns m.patterns w.patterns fine)
+        comes_last sight env h t v arms ms k f r some binds
+        (λ a m last w fine none. (λ i. is_there (first_fit m.patterns v env) || list_all ((h.items i).is_constant) (all_names m.patterns)) ∙ other_fits sight env h t v (q ∙ e) a.patterns m.patterns w.patterns fine none)
 
     sure : last_is_sure (last_of js) ≡ true → comes_to_an_arm ms v env ≡ true
     sure e =
-        comes_last sight env h t v arms ms k f r some
-        (λ a m last w fine. ap (λ b. b || list_all env.items.is_constant (all_names m.patterns))
-        (sure_fits sight env h t v g a.patterns m.patterns w.patterns fine (ap last_is_sure (sym (last_judged_is sight (Some t) arms a last)) ∙ e)))
+        comes_last sight env h t v arms ms k f r some binds
+        (λ a m last w fine none. ap (λ b. b || list_all env.items.is_constant (all_names m.patterns))
+        (sure_fits sight env h t v g a.patterns m.patterns w.patterns fine none (ap last_is_sure (sym (last_judged_is sight (Some t) arms a last)) ∙ e)))
 
     by_width : (b : Bool) → nat_le (flat_bits t) 8 ≡ b → is_some_tuple (out-DslxType t) ≡ true → values_match sight js t ≡ true → is_exhaustive sight js t ≡ true → comes_to_an_arm ms v env ≡ true
     by_width true q tuple e whole = narrow tuple q whole
@@ -320,7 +360,7 @@ pub match_has : (span : Span) (sight : Sight) (env : Env) (e : ExprPair) (x : Me
     → ((t : DslxType) (v : DslxValue) → arms_faults (map (arm_judged sight (Some t)) arms) ≡ [] → list_all sight.known.is_sound (arms_reached (map (arm_judged sight (Some t)) arms)) ≡ true → GivesOf (types_at sight) t (Some v)
     → NarrowComes sight env t arms ms v)
     → IsFine sight.known (match_judged span sight e arms) → HasItsValue (types_at sight) (match_judged span sight e arms) (and_then (x.value env) (λ v. match_arms ms v env))
-match_has span sight env e x arms ms se k h narrow fine = (own.0, own.1, match_gives span sight e arms ms (x.value env) env (given (types_at sight) value (x.value env) g) each own.0 own.1)
+match_has span sight env e x arms ms se k h narrow fine = (own.0, own.1, match_gives span sight e arms ms (x.value env) env (given (types_at sight) value (x.value env) g) each own.0 own.1, sized)
   where
     value : Judgement
     value = alone sight e
@@ -366,7 +406,7 @@ match_has span sight env e x arms ms se k h narrow fine = (own.0, own.1, match_g
         let w = of_value v is in
         let a = armed v w in (
           subst (λ o. EachArmGives sight o arms ms v env) (sym g.1) a.each,
-          comes sight env h g.0 v w arms ms k f q (some_arms sight (Some g.0) arms kept.some)
+          comes sight env h g.0 v w arms ms k f q (some_arms sight (Some g.0) arms kept.some) kept.binds
               (exhausted (list_all (λ (a : ArmJudged). a.seen.is_known && is_empty a.seen.faults) (at (Some g.0))) (is_exhaustive sight (at (Some g.0)) g.0) a.clean kept.complete) (narrow g.0 v f q w),
         )
 
@@ -383,3 +423,9 @@ match_has span sight env e x arms ms se k h narrow fine = (own.0, own.1, match_g
         let a = armed g.2.value (of_value g.2.value g.2.is) in
         let u = first_typed a.types a.typed (some_arms sight (Some g.0) arms kept.some) in
         (u.0, s.ty ∙ ap typed g.1 ∙ ap (λ b. where_true b (first_of_types (all_some (types_of (arm_values (at (Some g.0))))))) a.known ∙ u.1)
+
+    sized : IsSized (match_judged span sight e arms).size
+    sized =
+        let a = armed g.2.value (of_value g.2.value g.2.is) in
+        let arms_sized : IsSized (arms_size (at value.ty)) = (a.sized.0, ap (λ o. arms_size (at o)) g.1 ∙ a.sized.1) in
+        sized_if _ own.0 (one_and (plus_size value.size (arms_size (at value.ty)))) own.1 (one_sized (plus_size value.size (arms_size (at value.ty))) (plus_sized value.size (arms_size (at value.ty)) g.3 arms_sized))

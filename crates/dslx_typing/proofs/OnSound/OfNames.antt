@@ -18,7 +18,7 @@ use Rattle.dslx_meaning.specs.declared.ty.DslxType.{DslxType}
 use Rattle.dslx_meaning.specs.declared.value.Bare.{Bare}
 use Rattle.dslx_meaning.specs.declared.value.DslxValue.{DslxValue}
 use Rattle.dslx_meaning.specs.Rules.AggregateRules.{number_judged, range_faults}
-use Rattle.dslx_meaning.specs.Rules.Judging.{Sight, breaks, breaks_if, settled, typed_in}
+use Rattle.dslx_meaning.specs.Rules.Judging.{Sight, breaks, breaks_if, settled, size_if_typed, typed_in}
 use Rattle.dslx_meaning.specs.Rules.Judgings.{SightJudging}
 use Rattle.dslx_meaning.specs.Rules.Mentions.{AsType, is_cyclic, is_of_use}
 use Rattle.dslx_meaning.specs.Rules.NameRules.{has_member, item_value, local_or_other, member_judged, member_of, member_type, name_judged, number_or_item, end_or_other}
@@ -26,7 +26,8 @@ use Rattle.dslx_typing.specs.Typed.Complete.{IsFine}
 use Rattle.dslx_typing.specs.Typed.WellTyped.{IsWellTyped, types_at}
 use Rattle.dslx_typing.proofs.Lemmas.Typed.{bool_gives, member_gives, name_gives, none_some, number_gives}
 use Rattle.dslx_typing.specs.Sound.Sound.{HasItsValue, PartGives, TypeStands}
-use Rattle.dslx_typing.proofs.OnSound.Fine.{none_in, passed, settled_fine, some_fault, unlimited_type}
+use Rattle.dslx_typing.proofs.OnSound.Fine.{none_in, passed, settled_fine, sized_if, some_fault, unlimited_type}
+use Rattle.dslx_typing.specs.Typed.Given.{IsSized}
 
 -- ---- names
 
@@ -57,9 +58,33 @@ name_known span sight name env h fine = by_local (typed_in name sight.locals) re
     by_local (Some None) q f = absurd (h.typed name q)
     by_local (Some (Some t)) q f = (t, (settled_fine sight.known span (Some t) [] [] (Some 1) f).ty)
 
+-- what is one part counts 1
+one_part : (own : Option DslxType) (t : DslxType) → own ≡ Some t → IsSized (size_if_typed own (Some 1))
+one_part own t e = sized_if own t (Some 1) e (1, refl)
+
+name_sized : (span : Span) (sight : Sight) (name : List ℕ) (t : DslxType) → (name_judged span sight name).ty ≡ Some t → IsSized (name_judged span sight name).size
+name_sized span sight name t e = by_local (typed_in name sight.locals) e
+  where
+    by_item : (b : Bool) → (item_value span sight name b).ty ≡ Some t → IsSized (item_value span sight name b).size
+    by_item true q = one_part _ t q
+    by_item false q = one_part _ t q
+
+    by_known : (b : Bool) → (if b then settled span None [] [] (Some 1) else item_value span sight name (sight.known.items.is_constant name)).ty ≡ Some t
+        → IsSized (if b then settled span None [] [] (Some 1) else item_value span sight name (sight.known.items.is_constant name)).size
+    by_known true q = one_part _ t q
+    by_known false q = by_item (sight.known.items.is_constant name) q
+
+    by_number : (o : Option DslxValue) → (number_or_item span sight name o).ty ≡ Some t → IsSized (number_or_item span sight name o).size
+    by_number None q = by_known (is_in name sight.unknown) q
+    by_number (Some v) q = one_part _ t q
+
+    by_local : (o : Option (Option DslxType)) → (local_or_other span sight name o).ty ≡ Some t → IsSized (local_or_other span sight name o).size
+    by_local None q = by_number (given_in name sight.numbers) q
+    by_local (Some ty) q = one_part _ t q
+
 pub name_has : (span : Span) (sight : Sight) (name : List ℕ) (env : Env) → IsWellTyped sight env → IsFine sight.known (name_judged span sight name)
     → HasItsValue (types_at sight) (name_judged span sight name) (value_of_name name env)
-name_has span sight name env h fine = let t = name_known span sight name env h fine in (t.0, t.1, name_gives span sight name env h t.0 t.1)
+name_has span sight name env h fine = let t = name_known span sight name env h fine in (t.0, t.1, name_gives span sight name env h t.0 t.1, name_sized span sight name t.0 t.1)
 
 -- ---- members
 
@@ -94,14 +119,18 @@ member_known sight e a env h none = by_enum (as_enum (item_named e.name sight.kn
 
 pub member_has : (sight : Sight) (e a : Ident) (env : Env) → IsWellTyped sight env → IsFine sight.known (member_judged sight e a)
     → HasItsValue (types_at sight) (member_judged sight e a) (env.items.member e.name a.name)
-member_has sight e a env h fine = let t = member_known sight e a env h fine.faults in (t.0, t.1, member_gives sight e a env h t.0 t.1)
+member_has sight e a env h fine = let t = member_known sight e a env h fine.faults in (t.0, t.1, member_gives sight e a env h t.0 t.1, by_enum (as_enum (item_named e.name sight.known.whole.items)) t.0 t.1)
+  where
+    by_enum : (o : Option Enum) (t : DslxType) → (member_of sight e a o).ty ≡ Some t → IsSized (member_of sight e a o).size
+    by_enum None t q = one_part _ t q
+    by_enum (Some declared) t q = one_part _ t q
 
 -- ---- `true`, `false` and numbers
 
 pub bool_has : (span : Span) (b : Bool) → PartGives (λ sight. settled span (Some bool_type) [] [] (Some 1)) (λ env. Some (bool_value b))
 bool_has span b sight env h fine =
     let own = (settled_fine sight.known span (Some bool_type) [] [] (Some 1) fine).ty in
-    (bool_type, own, bool_gives (types_at sight) span b bool_type own)
+    (bool_type, own, bool_gives (types_at sight) span b bool_type own, one_part _ bool_type own)
 
 pub number_has : (span : Span) (j : SightJudging) (f : Typing) (number : Bare) → TypeStands j f → PartGives (λ sight. number_judged span (Some (j sight)) number) (λ env. and_then (f env) (λ t. number_value t number))
 number_has span j f number st sight env h fine =
@@ -109,4 +138,4 @@ number_has span j f number st sight env h fine =
     let wrong = range_faults span written.ty number in
     let t = st.known sight env h (record { faults = (none_in written.faults wrong fine.faults).0; reached = fine.reached }) in
     let own = unlimited_type written.ty (written.faults ++ wrong) written.reached (Some 1) fine.faults ∙ t.1 in
-    (t.0, own, number_gives (types_at sight) span written (f env) number (st.means sight env h) t.0 own)
+    (t.0, own, number_gives (types_at sight) span written (f env) number (st.means sight env h) t.0 own, one_part _ t.0 own)

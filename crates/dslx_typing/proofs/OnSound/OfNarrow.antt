@@ -59,7 +59,7 @@ any_fits sight env h t v (p ∷ ps) (m ∷ ms) k fine e =
     let q = first_fine sight (Some t) p ps fine in
     by_first (is_there (fitted p.0 v (constant_env sight))) refl e
     (λ fits. there_alike sight (fits_at_place m v (constant_env sight)) (fits_at_place m v env)
-    (k.0.1 true sight (Some t) [] sight.locals (constant_env sight) env (constant_env sight) env v (see_alike sight env h) (see_alike sight env h) q.0)
+    (k.0.1 true sight (Some t) [] (alternatives_seen sight (Some t) ps).locals (constant_env sight) env (constant_env sight) env v (see_alike sight env h) (see_alike sight env h) q.0)
     (sym (ap (λ (x : PatternMeant). is_there (fits_at_place x v (constant_env sight))) k.0.0) ∙ fits))
     (any_fits sight env h t v ps ms k.1 q.1)
   where

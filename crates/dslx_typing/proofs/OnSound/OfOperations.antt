@@ -22,7 +22,7 @@ use Rattle.dslx_typing.specs.Typed.Complete.{IsFine}
 use Rattle.dslx_typing.specs.Typed.WellTyped.{IsWellTyped, types_at}
 use Rattle.dslx_typing.proofs.Lemmas.Typed.{binary_gives, cast_gives, field_gives, index_gives, part_gives, prefix_gives}
 use Rattle.dslx_typing.specs.Sound.Sound.{HasItsValue, ExprGives, TypeStands}
-use Rattle.dslx_typing.proofs.OnSound.Fine.{all_in, all_in_three, alone_has, given, none_in, none_in_three, passed, settled_fine, whole}
+use Rattle.dslx_typing.proofs.OnSound.Fine.{all_in, all_in_three, alone_has, given, none_in, none_in_three, one_sized, passed, plus_sized, settled_fine, whole}
 
 -- ---- operators
 
@@ -60,7 +60,7 @@ binary_has span sight env o l r x y sl sr h fine =
     let gc = alone_has sight env r y sr h f.1 k.1 in
     let w = binary_known o ga.0 gc.0 in
     whole (types_at sight) sight.known span (binary_type o a.ty c.ty) ((a.faults ++ c.faults) ++ wrong) (a.reached ++ c.reached) (one_and (plus_size a.size c.size)) w.0
-    (with_both (x.value env) (y.value env) (binary_value o)) s ((λ i. binary_type o (ga.1 i) (gc.1 i)) ∙ w.1)
+    (with_both (x.value env) (y.value env) (binary_value o)) s ((λ i. binary_type o (ga.1 i) (gc.1 i)) ∙ w.1) (one_sized (plus_size a.size c.size) (plus_sized a.size c.size ga.3 gc.3))
     (binary_gives (types_at sight) span sight o l r (x.value env) (y.value env) (given (types_at sight) a (x.value env) ga) (given (types_at sight) c (y.value env) gc))
 
 pub prefix_has : (span : Span) (sight : Sight) (env : Env) (o : Prefix) (e : ExprPair) (x : Meant) → ExprGives e x → IsWellTyped sight env → IsFine sight.known (prefix_judged span sight e)
@@ -71,7 +71,7 @@ prefix_has span sight env o e x se h fine =
     let s = settled_fine sight.known span a.ty (a.faults ++ wrong) a.reached (one_and a.size) fine in
     let f = none_in a.faults wrong s.faults in
     let g = alone_has sight env e x se h f.0 s.reached in
-    whole (types_at sight) sight.known span a.ty (a.faults ++ wrong) a.reached (one_and a.size) g.0 (and_then (x.value env) (prefix_value o)) s g.1
+    whole (types_at sight) sight.known span a.ty (a.faults ++ wrong) a.reached (one_and a.size) g.0 (and_then (x.value env) (prefix_value o)) s g.1 (one_sized a.size g.3)
     (prefix_gives (types_at sight) span sight o e (x.value env) (given (types_at sight) a (x.value env) g))
 
 -- ---- casts
@@ -90,7 +90,7 @@ cast_has span sight env e j x f se st h fine =
     let g = alone_has sight env e x se h q.0 k.0 in
     let t = st.known sight env h (record { faults = q.1; reached = k.1 }) in
     whole (types_at sight) sight.known span (and_then a.ty (λ t. target.ty)) (((a.faults ++ target.faults) ++ from) ++ to) (a.reached ++ target.reached) (one_and a.size) t.0
-    (with_both (f env) (x.value env) cast_value) s (ap (λ o. and_then o (λ t. target.ty)) g.1 ∙ t.1)
+    (with_both (f env) (x.value env) cast_value) s (ap (λ o. and_then o (λ t. target.ty)) g.1 ∙ t.1) (one_sized a.size g.3)
     (cast_gives (types_at sight) span sight e target (x.value env) (f env) (given (types_at sight) a (x.value env) g) (λ u q. (st.means sight env h u q).0))
 
 -- ---- indices, parts of bits and fields
@@ -121,7 +121,7 @@ index_has span sight env e i x y se si h fine =
     let gc = alone_has sight env i y si h q.1 k.1 in
     let u = element_known ga.0 (unless_passed is_array 19 span a.ty ga.0 ga.1 p.1) in
     whole (types_at sight) sight.known span ty (((a.faults ++ c.faults) ++ array) ++ place) (a.reached ++ c.reached) (one_and (plus_size a.size c.size)) u.0
-    (with_both (x.value env) (y.value env) index_value) s ((λ d. and_then (gc.1 d) (λ k. element_type (and_then (ga.1 d) array_in))) ∙ u.1)
+    (with_both (x.value env) (y.value env) index_value) s ((λ d. and_then (gc.1 d) (λ k. element_type (and_then (ga.1 d) array_in))) ∙ u.1) (one_sized (plus_size a.size c.size) (plus_sized a.size c.size ga.3 gc.3))
     (index_gives (types_at sight) span sight e i (x.value env) (y.value env) (given (types_at sight) a (x.value env) ga) (given (types_at sight) c (y.value env) gc))
 
 pub part_has : (span : Span) (sight : Sight) (env : Env) (e i : ExprPair) (j : SightJudging) (x y : Meant) (f : Typing) → ExprGives e x → ExprGives i y → TypeStands j f → IsWellTyped sight env
@@ -147,7 +147,7 @@ part_has span sight env e i j x y f se si st h fine =
     let t = st.known sight env h (record { faults = r.2; reached = k.2 }) in
     whole (types_at sight) sight.known span ty (((own ++ bits) ++ start) ++ width) ((a.reached ++ c.reached) ++ target.reached) (one_and (plus_size a.size c.size)) t.0
     (with_both (x.value env) (y.value env) (λ v k. and_then (and_then (f env) bits_in) (λ kind. where_true (not kind.signed) (part_value v k kind.width)))) s
-    ((λ d. and_then (ga.1 d) (λ t. and_then (gc.1 d) (λ u. target.ty))) ∙ t.1)
+    ((λ d. and_then (ga.1 d) (λ t. and_then (gc.1 d) (λ u. target.ty))) ∙ t.1) (one_sized (plus_size a.size c.size) (plus_sized a.size c.size ga.3 gc.3))
     (part_gives (types_at sight) span sight e i target (x.value env) (y.value env) (f env) (given (types_at sight) a (x.value env) ga) (given (types_at sight) c (y.value env) gc)
     (λ u q. (st.means sight env h u q).0))
 
@@ -165,5 +165,5 @@ field_has span sight env e name x se h fine =
     let g = alone_has sight env e x se h f.0 s.reached in
     let t = there_known (field_type (Some g.0) name.name) (unless_passed (λ t. is_there (field_type (Some t) name.name)) 19 span a.ty g.0 g.1 f.1) in
     whole (types_at sight) sight.known span (field_type a.ty name.name) (a.faults ++ wrong) a.reached (one_and a.size) t.0 (and_then (x.value env) (λ v. field_of v name.name)) s
-    (ap (λ o. field_type o name.name) g.1 ∙ t.1)
+    (ap (λ o. field_type o name.name) g.1 ∙ t.1) (one_sized a.size g.3)
     (field_gives (types_at sight) h.known.parts span sight e name (x.value env) (given (types_at sight) a (x.value env) g))

@@ -1,5 +1,5 @@
 -- Written types: they mean what is known of them, and where nothing is wrong with them they are known.
-use Rattle.std.proofs.Common.{◌≡◌, ◌++◌, ℕ, Bool, true, false, List, [], ◌∷◌, map, Some, None, refl, ap, ◌∙◌}
+use Rattle.std.proofs.Common.{◌≡◌, ◌++◌, ℕ, Bool, true, false, List, [], ◌∷◌, map, Option, Some, None, refl, ap, ◌∙◌}
 use Rattle.std.specs.List.{list_all}
 use Rattle.xb_span.specs.declared.span.Span.{Span}
 use Rattle.dslx_meaning.specs.Lists.{all_some, and_then, with_both}
@@ -9,7 +9,7 @@ use Rattle.dslx_meaning.specs.Meaning.{Meant, Typing, size_of}
 use Rattle.dslx_meaning.specs.declared.ty.DslxType as ty
 use Rattle.dslx_meaning.specs.declared.ty.DslxType.{DslxType}
 use Rattle.dslx_meaning.specs.Rules.ConstantRules.{count_faults, count_of}
-use Rattle.dslx_meaning.specs.Rules.Judging.{ExprPair, Sight, breaks, breaks_if, faults_of_all, reached_of_all, settled, types_of}
+use Rattle.dslx_meaning.specs.Rules.Judging.{ExprPair, Sight, breaks, breaks_if, faults_of_all, reached_of_all, settled, types_of, size_if_typed}
 use Rattle.dslx_meaning.specs.Rules.Judgings.{TypePair}
 use Rattle.dslx_meaning.specs.Rules.Mentions.{AsType, is_cyclic, is_of_use}
 use Rattle.dslx_meaning.specs.Rules.TypeRules.{array_of, counted_type, inner_type, inner_types, named_bits, named_type, span_of_type, unit_faults}
@@ -21,10 +21,15 @@ use Rattle.dslx_typing.specs.Sound.Sound.{EachTypeStands, ExprGives, TypeStands}
 use Rattle.dslx_typing.proofs.OnSound.Fine.{all_in, none_in, settled_fine, some_fault}
 use Rattle.dslx_typing.proofs.OnSound.OfConstants.{count_has, count_is}
 
+-- a written type that has a type counts nothing
+counts_nothing : (own : Option DslxType) (t : DslxType) → own ≡ Some t → size_if_typed own (Some 0) ≡ Some 0
+counts_nothing own t e = ap (λ o. size_if_typed o (Some 0)) e
+
 pub plain_stands : (span : Span) (s : Bool) (w : ℕ) → TypeStands (λ sight. named_bits span s w) (λ env. Some (ty.Bits s w))
 plain_stands span s w = record {
   means = λ sight env h. bits_mean (types_at sight) span s w;
   known = λ sight env h fine. (ty.Bits s w, (settled_fine sight.known span (Some (ty.Bits s w)) (count_faults span (Some w)) [] (Some 0) fine).ty);
+  sized = λ sight t e. counts_nothing _ t e;
 }
 
 pub wide_stands : (span : Span) (s : Bool) (e : ExprPair) (x : Meant) → ExprGives e x
@@ -36,6 +41,7 @@ wide_stands span s e x g = record {
       let q = settled_fine sight.known span (and_then n.count (λ w. Some (ty.Bits s w))) n.judgement.faults n.judgement.reached (Some 0) fine in
       let k = count_has sight env e x g h (record { faults = q.faults; reached = q.reached }) in
       (ty.Bits s k.0, q.ty ∙ ap (λ o. and_then o (λ w. Some (ty.Bits s w))) k.1);
+  sized = λ sight t e. counts_nothing _ t e;
 }
 
 pub name_stands : (span : Span) (name : List ℕ) → TypeStands (λ sight. named_type span sight name (is_of_use AsType (item_named name sight.known.whole.items))) (λ env. env.items.type_named name)
@@ -44,8 +50,13 @@ name_stands span name = record {
       let r = name_means span sight name (is_of_use AsType (item_named name sight.known.whole.items)) (h.known.declared name) t q in
       ((λ i. (h.items i).type_named name) ∙ r.0, r.1);
   known = λ sight env h fine. by_use sight env h (is_of_use AsType (item_named name sight.known.whole.items)) refl fine;
+  sized = λ sight t e. by_kind sight t (is_of_use AsType (item_named name sight.known.whole.items)) e;
 }
   where
+    by_kind : (sight : Sight) (t : DslxType) (b : Bool) → (named_type span sight name b).ty ≡ Some t → (named_type span sight name b).size ≡ Some 0
+    by_kind sight t true e = counts_nothing _ t e
+    by_kind sight t false e = counts_nothing _ t e
+
     by_use : (sight : Sight) (env : Env) → IsWellTyped sight env → (b : Bool) → is_of_use AsType (item_named name sight.known.whole.items) ≡ b → IsFine sight.known (named_type span sight name b)
         → (t : DslxType) × ((named_type span sight name b).ty ≡ Some t)
     by_use sight env h false q fine = some_fault (breaks 1 span) [] (settled_fine sight.known span None (breaks 1 span ∷ []) [] (Some 0) fine).faults
@@ -90,6 +101,7 @@ tuple_stands span ps fs k = record {
       let q = settled_fine sight.known span (and_then (all_some (types_of js)) (λ ts. Some (ty.Tuple ts))) (faults_of_all js) (reached_of_all js) (Some 0) fine in
       let ts = each_known sight env h ps fs k q.faults q.reached in
       (ty.Tuple ts.0, q.ty ∙ ap (λ o. and_then o (λ ts. Some (ty.Tuple ts))) (ap all_some ts.1 ∙ all_are ts.0));
+  sized = λ sight t e. counts_nothing _ t e;
 }
 
 -- ---- arrays
@@ -108,4 +120,5 @@ array_stands span p f e x k g = record {
       let t = inner_known sight env h p f k (record { faults = s.0; reached = r.0 }) in
       let m = count_has sight env e x g h (record { faults = s.1; reached = r.1 }) in
       (ty.Array t.0 m.0, q.ty ∙ (λ i. with_both (t.1 i) (m.1 i) (λ t n. Some (ty.Array t n))));
+  sized = λ sight t e. counts_nothing _ t e;
 }

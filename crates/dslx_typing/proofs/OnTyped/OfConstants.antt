@@ -7,7 +7,7 @@ use Rattle.std.proofs.lemmas.Slice.Eq.{bytes_eq-Decides}
 use Rattle.xb_span.specs.declared.span.Span.{Span}
 use Rattle.xb_span.specs.declared.fault.Fault.{Fault}
 use Rattle.dslx_tree.specs.declared.expr.Expr.{Expr}
-use Rattle.dslx_meaning.specs.Lists.{is_in, and_then}
+use Rattle.dslx_meaning.specs.Lists.{and_then, is_in}
 use Rattle.dslx_meaning.specs.Values.{unsigned_of}
 use Rattle.dslx_meaning.specs.Operators.{index_number}
 use Rattle.dslx_meaning.specs.Environment.{Given, given_in}
@@ -17,7 +17,7 @@ use Rattle.dslx_meaning.specs.declared.value.DslxValue.{DslxValue}
 use Rattle.dslx_meaning.specs.declared.value.Bare.{Bare}
 use Rattle.dslx_meaning.specs.Rules.Mentions.{mentioned, free_names}
 use Rattle.dslx_meaning.specs.Rules.Judging.{Sight, Typed, Judgement, ExprPair, breaks_if, alone, span_of, bare_of, constant_env, unhidden, with_typed}
-use Rattle.dslx_meaning.specs.Rules.ConstantRules.{is_empty, is_sound_here, names_a_local, ConstantSeen, constant_judged, value_if_typed, constant_of, bare_judged, constant_or_bare, size_faults, number_of_value, bare_count, count_of}
+use Rattle.dslx_meaning.specs.Rules.ConstantRules.{is_empty, is_sound_here, names_a_local, ConstantSeen, constant_judged, value_if_whole, constant_of, bare_judged, constant_or_bare, size_faults, number_of_value, bare_count, count_of}
 use Rattle.dslx_meaning.specs.Rules.OperatorRules.{bound_number}
 use Rattle.dslx_typing.specs.Laws.Agreement.{AreBoundAlike}
 use Rattle.dslx_typing.proofs.Lemmas.Laws.{and_true}
@@ -93,29 +93,30 @@ constant_is_meant sight bound e v h k = by_test (is_sound_here sight.known j) re
     j : Judgement
     j = constant_judged sight e
 
-    typed : (o : Option DslxType) → value_if_typed o (value_of e.0 (constant_env sight)) ≡ Some v → value_of e.0 (constant_env sight) ≡ Some v
-    typed None q = none_some v q
-    typed (Some t) q = q
+    whole : (o : Option DslxType) (size : Option ℕ) → and_then o (λ t. and_then size (λ n. value_of e.0 (constant_env sight))) ≡ Some v → value_of e.0 (constant_env sight) ≡ Some v
+    whole None size q = none_some v q
+    whole (Some t) None q = none_some v q
+    whole (Some t) (Some n) q = q
 
-    by_test : (b : Bool) → is_sound_here sight.known j ≡ b → (if b then value_if_typed j.ty (value_of e.0 (constant_env sight)) else None) ≡ Some v → value_of e.0 (place_of sight bound) ≡ Some v
+    by_test : (b : Bool) → is_sound_here sight.known j ≡ b → (if b then value_if_whole j (value_of e.0 (constant_env sight)) else None) ≡ Some v → value_of e.0 (place_of sight bound) ≡ Some v
     by_test false q r = none_some v r
     by_test true q r =
         let own = (alone sight e).faults ++ breaks_if (names_a_local sight e) 5 (span_of e) in
         let none = and_true (is_empty j.faults) (list_all sight.known.is_sound j.reached) q in
         let first = empty_parts own (size_faults sight.known (span_of e).to (record (alone sight e) { faults = own })) none.0 in
         let names = no_rule (names_a_local sight e) 5 (span_of e) (empty_parts (alone sight e).faults (breaks_if (names_a_local sight e) 5 (span_of e)) first.0).1 in
-        sym (same_at_place sight bound e.0 h names) ∙ typed j.ty r
+        sym (same_at_place sight bound e.0 h names) ∙ whole j.ty j.size r
 
--- what breaks nothing and has a type and a value at its place is known
-pub meant_is_known : (sight : Sight) (bound : List Given) (e : ExprPair) (t : DslxType) (v : DslxValue) → IsInSight sight bound → IsFine sight.known (constant_of sight e).judgement
-    → (constant_of sight e).judgement.ty ≡ Some t → value_of e.0 (place_of sight bound) ≡ Some v → (constant_of sight e).value ≡ Some v
-meant_is_known sight bound e t v h fine own k =
+-- what breaks nothing and has a type, a size and a value at its place is known
+pub meant_is_known : (sight : Sight) (bound : List Given) (e : ExprPair) (t : DslxType) (n : ℕ) (v : DslxValue) → IsInSight sight bound → IsFine sight.known (constant_of sight e).judgement
+    → (constant_judged sight e).ty ≡ Some t → (constant_judged sight e).size ≡ Some n → value_of e.0 (place_of sight bound) ≡ Some v → (constant_of sight e).value ≡ Some v
+meant_is_known sight bound e t n v h fine own size k =
     let j = constant_judged sight e in
     let faults = (alone sight e).faults ++ breaks_if (names_a_local sight e) 5 (span_of e) in
     let more = size_faults sight.known (span_of e).to (record (alone sight e) { faults = faults }) in
     let empty = ap is_empty fine.faults in
     let names = no_rule (names_a_local sight e) 5 (span_of e) (empty_parts (alone sight e).faults (breaks_if (names_a_local sight e) 5 (span_of e)) (empty_parts faults more empty).0).1 in
-    (λ i. if (empty i && fine.reached i) then value_if_typed (own i) (same_at_place sight bound e.0 h names i) else None) ∙ k
+    (λ i. if (empty i && fine.reached i) then and_then (own i) (λ t. and_then (size i) (λ n. same_at_place sight bound e.0 h names i)) else None) ∙ k
 
 -- ---- sizes and bounds
 

@@ -16,13 +16,13 @@ use Rattle.dslx_meaning.specs.Values.{type_of_value}
 use Rattle.dslx_meaning.specs.declared.ty.DslxType.{DslxType}
 use Rattle.dslx_meaning.specs.declared.ty.DslxType as ty
 use Rattle.dslx_meaning.specs.declared.value.DslxValue.{DslxValue}
-use Rattle.dslx_meaning.specs.Rules.ItemRules.{Found, alias_seen, constant_seen, enum_member_value, enum_seen, function_sight, item_sight, judged_inner, judged_type, result_judged, struct_seen}
+use Rattle.dslx_meaning.specs.Rules.ItemRules.{Found, alias_seen, constant_seen, enum_member_value, enum_seen, function_seen, function_sight, item_sight, judged_inner, judged_type, result_judged, struct_seen}
 use Rattle.dslx_meaning.specs.Rules.Judging.{Known}
 use Rattle.dslx_meaning.specs.Rules.ModuleRules.{default_known}
 use Rattle.dslx_meaning.specs.Rules.NameRules.{has_member}
 use Rattle.dslx_typing.specs.Typed.Complete.{IsDefaultKnown, IsFine, IsTypeKnown}
 use Rattle.dslx_typing.specs.Typed.Declared.{AllDeclared, Declarations, IsDeclared}
-use Rattle.dslx_typing.specs.Typed.Given.{GivesOf, OwnTypes}
+use Rattle.dslx_typing.specs.Typed.Given.{GivesOf, IsSized, OwnTypes}
 use Rattle.dslx_typing.specs.Typed.Kinds.{is_of}
 use Rattle.dslx_typing.specs.Typed.Numbers.{AreOwn}
 use Rattle.dslx_typing.specs.Typed.WellTyped.{AreOperandsOf}
@@ -85,12 +85,13 @@ pub record ParameterStands (known : Known) (home : List ℕ) (p : Parameter) : T
   pub default : (so_far : List Given) (e : Expr) → AreOwn known.items.type_named so_far → IsFine known (default_known known home so_far e).judgement → IsDefaultKnown known.items.type_named (default_known known home so_far e)
 
 -- an instance of a function has a type of its result, one of the text, and gives a value of it for operands of the types of its
--- arguments
+-- arguments, where its body has a size
 pub record InstanceStands (known : Known) (f : Function) (numbers : List DslxValue) : Type 0 where
   pub result : DslxType
   pub typed : (result_judged (function_sight known f numbers) f.result).ty ≡ Some result
   pub declared : IsDeclared known.items.type_named result
   pub gives : (operands : List DslxValue) → AreOperandsOf (function_sight known f numbers) f.arguments operands → GivesOf known.items.type_named result (function_value known.items f numbers operands)
+  pub sized : (operands : List DslxValue) → AreOperandsOf (function_sight known f numbers) f.arguments operands → IsSized (function_seen known f numbers).body.size
 
 -- what the one declares the other declares alike
 abbrev pub DeclareMore : Declarations → Declarations → Type 0

@@ -18,13 +18,13 @@ use Rattle.dslx_meaning.specs.Rules.Judgings.{ArmSeen, BlockPair, FieldSeen, Pat
 use Rattle.dslx_meaning.specs.Rules.PatternRules.{is_there, pattern_alone}
 use Rattle.dslx_typing.specs.Typed.Complete.{IsFine}
 use Rattle.dslx_typing.specs.Typed.Declared.{Declarations}
-use Rattle.dslx_typing.specs.Typed.Given.{GivesOf, TypeMeans}
+use Rattle.dslx_typing.specs.Typed.Given.{GivesOf, IsSized, TypeMeans}
 use Rattle.dslx_typing.specs.Sound.Places.{EachPatternSeesAlike, IsFinePattern}
 use Rattle.dslx_typing.specs.Typed.WellTyped.{GoesOnTyped, IsWellTyped, PatternKeeps, comes_to_an_arm, types_at}
 
--- a type, and a value of it
+-- a type, a value of it, and a size
 abbrev pub HasItsValue : Declarations → Judgement → Option DslxValue → Type 0
-HasItsValue types j o = (t : DslxType) × (j.ty ≡ Some t) × GivesOf types t o
+HasItsValue types j o = (t : DslxType) × (j.ty ≡ Some t) × GivesOf types t o × IsSized j.size
 
 -- an expression that means this, and has a value of its type in each place where nothing is wrong with it
 pub record ExprGives (e : ExprPair) (meaning : Meant) : Type 0 where
@@ -56,6 +56,8 @@ PartGives j f = (sight : Sight) (env : Env) → IsWellTyped sight env → IsFine
 pub record TypeStands (j : SightJudging) (f : Typing) : Type 0 where
   pub means : (sight : Sight) (env : Env) → IsWellTyped sight env → TypeMeans (types_at sight) (j sight) (f env)
   pub known : (sight : Sight) (env : Env) → IsWellTyped sight env → IsFine sight.known (j sight) → (t : DslxType) × ((j sight).ty ≡ Some t)
+  -- it counts nothing
+  pub sized : (sight : Sight) (t : DslxType) → (j sight).ty ≡ Some t → (j sight).size ≡ Some 0
 
 abbrev pub EachTypeStands : List TypePair → List Typing → Type 0
 EachTypeStands [] [] = Unit {0}
@@ -69,11 +71,12 @@ TypeStandsIf (Some p) (Some f) = TypeStands p.1 f
 TypeStandsIf None (Some f) = ⊥
 TypeStandsIf (Some p) None = ⊥
 
--- a statement: behind it what is in sight is well typed
+-- a statement: behind it what is in sight is well typed, and it has a size
 pub record StatementGives (s : StatementJudging) (going : Going) : Type 0 where
   pub known : (sight : Sight) → (s false sight).sight.known ≡ sight.known
   pub keeps : (sight : Sight) (env : Env) → IsWellTyped sight env → (s false sight).faults ≡ [] → list_all sight.known.is_sound (s false sight).reached ≡ true
       → GoesOnTyped (s false sight) env going
+  pub sized : (sight : Sight) (env : Env) → IsWellTyped sight env → (s false sight).faults ≡ [] → list_all sight.known.is_sound (s false sight).reached ≡ true → IsSized (s false sight).size
 
 abbrev pub StatementsGive : List StatementJudging → List Going → Type 0
 StatementsGive [] [] = Unit {0}
@@ -150,6 +153,7 @@ pub record HasKnownValue (sight : Sight) (env : Env) (e : ExprPair) (x : Meant) 
   pub typed : (constant_of sight e).judgement.ty ≡ Some ty
   pub gives : GivesOf (types_at sight) ty (x.value env)
   pub known : (constant_of sight e).value ≡ Some gives.value
+  pub sized : IsSized (constant_of sight e).judgement.size
 
 -- what the patterns of a loop come to, against values of these types, and its body behind them
 abbrev pub index_seen : Sight → PatternPair → Option DslxType → PatternSeen

@@ -17,7 +17,7 @@ use Rattle.dslx_meaning.specs.Rules.Judging.{Known, Judgement, DefaultSeen}
 use Rattle.dslx_meaning.specs.Rules.CallRules.{declared_type, known_before, result_type}
 use Rattle.dslx_meaning.specs.Rules.Mentions.{is_of_use, AsType}
 use Rattle.dslx_typing.specs.Typed.Declared.{Declarations, IsDeclared, DeclaresParts}
-use Rattle.dslx_typing.specs.Typed.Given.{GivesOf, OwnTypes}
+use Rattle.dslx_typing.specs.Typed.Given.{GivesOf, IsSized, OwnTypes}
 use Rattle.dslx_typing.specs.Typed.Numbers.{FitNumbers, ParametersMean}
 
 -- nothing that a part breaks or passes, and nothing that it reaches does
@@ -49,6 +49,7 @@ pub record IsCallable (known : Known) (f : Function) (name : List ℕ) (numbers 
   pub typed : result_type known f.name.name (known_before (numbers_bound [] f.parameters numbers)) f.result ≡ Some result
   pub gives : (given operands : List DslxValue) → all_numbers known.items (inferred_from f.arguments (map type_of_value operands)) [] f.parameters given ≡ Some numbers
       → FitArguments known f.name.name (numbers_bound [] f.parameters numbers) f.arguments operands → GivesOf known.items.type_named result (known.items.call name given operands)
+  pub sized : (operands : List DslxValue) → FitArguments known f.name.name (numbers_bound [] f.parameters numbers) f.arguments operands → IsSized (known.body_size (record { name = f.name.name; numbers = numbers }))
 
 -- a type that may stand for a number parameter
 abbrev pub IsTypeKnown : Option DslxType → Type 0

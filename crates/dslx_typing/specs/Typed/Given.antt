@@ -18,6 +18,10 @@ pub record GivesOf (types : Declarations) (t : DslxType) (o : Option DslxValue) 
   pub of : is_of t value ≡ true
   pub declared : IsDeclared types t
 
+-- a size is there
+abbrev pub IsSized : Option ℕ → Type 0
+IsSized o = (n : ℕ) × (o ≡ Some n)
+
 -- where the judgement has a type, a value of that type is given
 abbrev pub GivesItsType : Declarations → Judgement → Option DslxValue → Type 0
 GivesItsType types j o = (t : DslxType) → j.ty ≡ Some t → GivesOf types t o

@@ -3,7 +3,7 @@ ghost use Rattle.dslx_meaning.specs.Environment.{Given};
 ghost use Rattle.dslx_meaning.specs.Meaning.{bound_of, meant, size_of, value_of};
 ghost use Rattle.dslx_meaning.specs.declared.ty.DslxType.{DslxType};
 ghost use Rattle.dslx_meaning.specs.declared.value.DslxValue.{DslxValue};
-ghost use Rattle.dslx_meaning.specs.Rules.ConstantRules.{constant_of, constant_or_bare, count_of};
+ghost use Rattle.dslx_meaning.specs.Rules.ConstantRules.{constant_judged, constant_of, constant_or_bare, count_of};
 ghost use Rattle.dslx_meaning.specs.Rules.Judging.{Sight, ExprPair, Typed, with_typed};
 ghost use Rattle.dslx_meaning.specs.Rules.OperatorRules.{bound_number};
 ghost use Rattle.dslx_typing.specs.Typed.Complete.{IsFine};
@@ -15,8 +15,9 @@ ghost use Rattle.dslx_typing.specs.Typed.InSight.{IsInSight, place_of};
 pub fn what_is_known_of_constants_is_meant()
     ensures value { (sight : Sight) (bound : List Given) (e : ExprPair) (v : DslxValue) → IsInSight sight bound
         → (constant_of sight e).value ≡ Some v → value_of e.0 (place_of sight bound) ≡ Some v }
-    ensures known { (sight : Sight) (bound : List Given) (e : ExprPair) (t : DslxType) (v : DslxValue) → IsInSight sight bound
-        → IsFine sight.known (constant_of sight e).judgement → (constant_of sight e).judgement.ty ≡ Some t → value_of e.0 (place_of sight bound) ≡ Some v
+    ensures known { (sight : Sight) (bound : List Given) (e : ExprPair) (t : DslxType) (n : ℕ) (v : DslxValue) → IsInSight sight bound
+        → IsFine sight.known (constant_of sight e).judgement → (constant_judged sight e).ty ≡ Some t → (constant_judged sight e).size ≡ Some n
+        → value_of e.0 (place_of sight bound) ≡ Some v
         → (constant_of sight e).value ≡ Some v }
     ensures binding { (sight : Sight) (locals : List Typed) (bound : List Given) (name : List ℕ) (t : Option DslxType) (v : DslxValue)
         → sight.known.items.is_constant name ≡ false → IsInSight (with_typed sight locals) bound
