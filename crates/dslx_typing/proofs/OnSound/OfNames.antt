@@ -78,8 +78,12 @@ name_sized span sight name t e = by_local (typed_in name sight.locals) e
     by_number None q = by_known (is_in name sight.unknown) q
     by_number (Some v) q = one_part _ t q
 
+    by_end : (b : Bool) → (end_or_other span sight name b).ty ≡ Some t → IsSized (end_or_other span sight name b).size
+    by_end true q = one_part _ t q
+    by_end false q = by_number (given_in name sight.numbers) q
+
     by_local : (o : Option (Option DslxType)) → (local_or_other span sight name o).ty ≡ Some t → IsSized (local_or_other span sight name o).size
-    by_local None q = by_number (given_in name sight.numbers) q
+    by_local None q = by_end (is_in name sight.ends) q
     by_local (Some ty) q = one_part _ t q
 
 pub name_has : (span : Span) (sight : Sight) (name : List ℕ) (env : Env) → IsWellTyped sight env → IsFine sight.known (name_judged span sight name)
