@@ -98,7 +98,7 @@ fn by_workers<R: Threads + Wait + Sync, G: Gate + Sync>(
     workers: u32,
     gate: &G,
 ) -> Result<Share<u32, Counter>, AllocError>
-    requires { (0 < count) × (workers ≤ 16) }
+    requires { (0 < count) × (1 ≤ workers) × (workers ≤ 16) }
     ensures { IfOk result (λ share. AreAll (λ task. task.number) count share.parked.items) }
 {
     let (queue, pass) = waiting(rt, alloc, count)?;

@@ -41,7 +41,7 @@ pub(crate) fn run_to_end<
     requires depths { ((H.run home.now).depths ≡ depths.now) × (length depths.now ≡ length net.now.chans) }
     requires pass { IsTaskPass queue.now pass × HoldsNone (knows pass) }
     requires tasks { ((knows pass).parts ≡ 1024) × ((knows pass).count ≡ length (H.run home.now).procs) × ((knows pass).run ≡ Some home.now) }
-    requires workers { workers ≤ 16 }
+    requires workers { (1 ≤ workers) × (workers ≤ 16) }
     ensures { IfOk result (λ outcome. outcome ≡ outcome_of (H.run home.now) (final_cut (H.run home.now))) }
 {
     for _ in rt.forever() {

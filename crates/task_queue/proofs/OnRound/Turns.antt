@@ -10,7 +10,7 @@ use Rattle.task_queue.specs.declared.hand.Hand.{Hand}
 use Rattle.task_queue.specs.declared.queue.TaskQueue.{TaskQueue}
 use Rattle.task_queue.specs.declared.queue.TaskPass.{TaskPass}
 use Rattle.task_queue.specs.declared.round.share.Share.{Share}
-use Rattle.task_queue.specs.Round.Shares.{IsShareOf, HoldsNone, AreAll, sum_numbers}
+use Rattle.task_queue.specs.Round.Shares.{IsShareOf, IsStill, AllWait, HoldsNone, AreAll, sum_numbers}
 use Rattle.task_queue.specs.Round.Inner.Jobs.{AreShares}
 use Rattle.std.specs.declared.alloc.AllocError.{AllocError}
 
@@ -213,21 +213,39 @@ fresh {N} {T} number run fact queue share pass none empty = record {
     nothing : (k : ℕ) (x : T) → slice_get [] k ≡ Some x → ⊥
     nothing k x e = cc
 
+-- what holds of the parked tasks, unless one has moved
+module _ {T : Type 0} (waits : T → Type 0) where
+  -- none is parked
+  pub still_none : (moved : Bool) (tasks : List T) → tasks ≡ [] → moved ≡ false → AllWait waits tasks
+  still_none moved tasks empty none k task e = absurd (nothing k task (ap (λ (xs : List T). slice_get xs k) (sym empty) ∙ e))
+    where
+      nothing : (k : ℕ) (x : T) → slice_get [] k ≡ Some x → ⊥
+      nothing k x e = cc
+
+  -- one more is parked, which waits unless one has moved
+  pub still_more : (moved now : Bool) (tasks more : List T) (task : T) → (moved ≡ false → AllWait waits tasks) → more ≡ tasks ++ task ∷ []
+      → (now ≡ false → (moved ≡ false) × waits task) → now ≡ false → AllWait waits more
+  still_more moved now tasks more task is parked none m k x e = one (at_end tasks task k x (ap (λ (xs : List T). slice_get xs k) (sym parked) ∙ e))
+    where
+      one : (slice_get tasks k ≡ Some x) ⊎ (task ≡ x) → waits x
+      one (inl there) = is (none m).0 k x there
+      one (inr same) = subst waits same (none m).1
+
 -- the last of the shares that workers bring back
-pub last_share : {N T : Type 0} (number : T → ℕ) (run : T → N) (fact : T → Type 0) (queue : TaskQueue N T) (given : Hand N) (shares left : List (Result (Share N T) AllocError)) (other : Result (Share N T) AllocError) (share : Share N T)
-    → AreShares number run fact queue given shares → shares ≡ left ++ other ∷ [] → other ≡ Ok share → IsShareOf number run fact queue given share
-last_share {N} {T} number run fact queue given shares left other share are split ok =
-    ok_given other share (λ s. IsShareOf number run fact queue given s) ok
+pub last_share : {N T : Type 0} (number : T → ℕ) (run : T → N) (fact waits : T → Type 0) (queue : TaskQueue N T) (given : Hand N) (shares left : List (Result (Share N T) AllocError)) (other : Result (Share N T) AllocError) (share : Share N T)
+    → AreShares number run fact waits queue given shares → shares ≡ left ++ other ∷ [] → other ≡ Ok share → IsShareOf number run fact queue given share × IsStill waits share
+last_share {N} {T} number run fact waits queue given shares left other share are split ok =
+    ok_given other share (λ s. IsShareOf number run fact queue given s × IsStill waits s) ok
     (are (length left) other (ap (λ (xs : List (Result (Share N T) AllocError)). slice_get xs (length left)) split ∙ last_there left other))
 
 -- the rest of them
-pub fewer_shares : {N T : Type 0} (number : T → ℕ) (run : T → N) (fact : T → Type 0) (queue : TaskQueue N T) (given : Hand N) (shares left : List (Result (Share N T) AllocError)) (other : Result (Share N T) AllocError)
-    → AreShares number run fact queue given shares → shares ≡ left ++ other ∷ [] → AreShares number run fact queue given left
-fewer_shares {N} {T} number run fact queue given shares left other are split k share e =
+pub fewer_shares : {N T : Type 0} (number : T → ℕ) (run : T → N) (fact waits : T → Type 0) (queue : TaskQueue N T) (given : Hand N) (shares left : List (Result (Share N T) AllocError)) (other : Result (Share N T) AllocError)
+    → AreShares number run fact waits queue given shares → shares ≡ left ++ other ∷ [] → AreShares number run fact waits queue given left
+fewer_shares {N} {T} number run fact waits queue given shares left other are split k share e =
     are k share (ap (λ (xs : List (Result (Share N T) AllocError)). slice_get xs k) split ∙ in_front left (other ∷ []) k share e)
 
 -- the same answer, by a view that is the same
-pub same_share : {N T : Type 0} (number : T → ℕ) (run : T → N) (fact : T → Type 0) (queue : TaskQueue N T) (r s : Result (Share N T) AllocError) (v w : Hand N) → r ≡ s → v ≡ w
-    → IfOk r (λ x. IsShareOf number run fact queue v x) → IfOk s (λ x. IsShareOf number run fact queue w x)
-same_share {N} {T} number run fact queue r s v w e f h =
-    subst (λ (u : Result (Share N T) AllocError × Hand N). IfOk u.0 (λ x. IsShareOf number run fact queue u.1 x)) (λ i. (e i, f i)) h
+pub same_share : {N T : Type 0} (number : T → ℕ) (run : T → N) (fact waits : T → Type 0) (queue : TaskQueue N T) (r s : Result (Share N T) AllocError) (v w : Hand N) → r ≡ s → v ≡ w
+    → IfOk r (λ x. IsShareOf number run fact queue v x × IsStill waits x) → IfOk s (λ x. IsShareOf number run fact queue w x × IsStill waits x)
+same_share {N} {T} number run fact waits queue r s v w e f h =
+    subst (λ (u : Result (Share N T) AllocError × Hand N). IfOk u.0 (λ x. IsShareOf number run fact queue u.1 x × IsStill waits x)) (λ i. (e i, f i)) h

@@ -1,5 +1,5 @@
 -- What a worker brings back from a round, and all tasks of a run.
-use Rattle.std.specs.Prelude.{◌≡◌, ℕ, List, Option, Some, slice_get, sum_by}
+use Rattle.std.specs.Prelude.{◌≡◌, ℕ, false, List, Option, Some, slice_get, sum_by}
 use Rattle.task_queue.specs.Tasks.{sum_below}
 use Rattle.task_queue.specs.Passes.{IsTaskPass, knows}
 use Rattle.task_queue.specs.declared.hand.Hand.{Hand}
@@ -33,3 +33,12 @@ module _ {N T : Type 0} (number : T → ℕ) (run : T → N) (fact : T → Type 
     pub run_is : (knows share.pass).run ≡ old.run
     pub held : (h : ℕ → ℕ) → sum_by h (knows share.pass).held ≡ sum_by (λ (task : T). h (number task)) share.parked.items
     pub each : AreTasks old.run share.parked.items
+
+module _ {T : Type 0} (waits : T → Type 0) where
+  -- each of these tasks waits
+  abbrev pub AllWait : List T → Type 0
+  AllWait tasks = (k : ℕ) (task : T) → slice_get tasks k ≡ Some task → waits task
+
+  -- if no task has moved, all that are parked wait
+  abbrev pub IsStill : {N : Type 0} → Share N T → Type 0
+  IsStill share = share.moved ≡ false → AllWait share.parked.items

@@ -1,8 +1,8 @@
-ghost use Rattle.std.specs.Prelude.{◌≡◌, ◌<◌, ◌≤◌, ◌+◌, ◌-◌, ℕ, IfOk, OnOk, length};
+ghost use Rattle.std.specs.Prelude.{◌≡◌, ◌<◌, ◌≤◌, ◌+◌, ◌-◌, ℕ, false, IfOk, OnOk, length};
 ghost use Rattle.task_queue.specs.declared.hand.Hand.{Hand};
 ghost use Rattle.task_queue.specs.Tasks.{giving};
 ghost use Rattle.task_queue.specs.Passes.{IsTaskPass, knows};
-ghost use Rattle.task_queue.specs.Round.Shares.{IsShareOf, HoldsNone, AreAll};
+ghost use Rattle.task_queue.specs.Round.Shares.{IsShareOf, IsStill, AllWait, HoldsNone, AreAll};
 ghost use Rattle.task_queue.specs.Round.Inner.Jobs.{AreJobs, AreShares};
 
 use crate::round::pulse::Pulse;
@@ -23,7 +23,8 @@ pub(crate) struct Job<N, T: Steps<N>> {
     worker: u32,
 }
 
-/// One round: each worker takes tasks from the queue until its turns are used up, and then all tasks are in one hand.
+/// One round: each worker takes tasks from the queue until its turns are used up, and then all tasks are in one hand. If no
+/// task has moved, each of them waits, as far as it knows.
 ///
 /// Each worker has a thread of its own, but one worker alone takes none.
 pub fn round<N: Send + Sync, T: Steps<N> + Send, R: Threads + Wait + Sync, G: Gate + Sync>(
@@ -36,8 +37,9 @@ pub fn round<N: Send + Sync, T: Steps<N> + Send, R: Threads + Wait + Sync, G: Ga
 ) -> Result<Share<N, T>, AllocError>
     requires pass { IsTaskPass queue.now pass × HoldsNone (knows pass) }
     requires parts { (knows pass).parts ≡ 1024 }
-    requires workers { workers ≤ 16 }
-    ensures { IfOk result (λ share. IsShareOf T.number_of T.run_of T.fact queue.now (knows pass) share × AreAll T.number_of (knows pass).count share.parked.items) }
+    requires workers { (1 ≤ workers) × (workers ≤ 16) }
+    ensures { IfOk result (λ share. IsShareOf T.number_of T.run_of T.fact queue.now (knows pass) share × AreAll T.number_of (knows pass).count share.parked.items
+        × (share.moved ≡ false → AllWait T.waits share.parked.items)) }
 {
     let mut share = Share {
         pass,
@@ -51,14 +53,14 @@ pub fn round<N: Send + Sync, T: Steps<N> + Send, R: Threads + Wait + Sync, G: Ga
         jobs,
         &|job: Job<N, T>| -> Result<Share<N, T>, AllocError>
             requires { IsTaskPass queue.now job.pass × HoldsNone (knows job.pass) }
-            ensures { IfOk result (λ share. IsShareOf T.number_of T.run_of T.fact queue.entry.now (knows job.pass) share) }
+            ensures { IfOk result (λ share. IsShareOf T.number_of T.run_of T.fact queue.entry.now (knows job.pass) share × IsStill T.waits share) }
         {
             let Job { pass, worker } = job;
             work(rt, alloc, queue, pass, &pulse, gate, worker)
         },
     )?;
     gather(queue, &mut share, shares)?;
-    drain(rt, queue, &mut share)?;
+    drain(rt, alloc, queue, &mut share)?;
     Ok(share)
 }
 
@@ -89,9 +91,10 @@ fn gather<N, T: Steps<N>>(
     mut shares: Vec<Result<Share<N, T>, AllocError>>,
 ) -> Result<(), AllocError>
     requires mine { IsTaskPass queue.now share.old.pass }
-    requires theirs { AreShares T.number_of T.run_of T.fact queue.now (giving (knows share.old.pass)) shares.items }
-    ensures { OnOk result (IsShareOf T.number_of T.run_of T.fact queue.now (knows share.old.pass) share.old →
+    requires theirs { AreShares T.number_of T.run_of T.fact T.waits queue.now (giving (knows share.old.pass)) shares.items }
+    ensures share { OnOk result (IsShareOf T.number_of T.run_of T.fact queue.now (knows share.old.pass) share.old →
         IsShareOf T.number_of T.run_of T.fact queue.now (record (knows share.old.pass) { parts = (knows share.old.pass).parts + length shares.items }) share.new) }
+    ensures still { OnOk result (IsStill T.waits share.old → IsStill T.waits share.new) }
 {
     while let Some(other) = shares.pop() {
         share.absorb(queue, other?)?;
@@ -99,24 +102,47 @@ fn gather<N, T: Steps<N>>(
     Ok(())
 }
 
-/// The tasks that wait in the queue come into the hand too.
+/// The tasks that wait in the queue come into the hand too. As long as no task has moved, each of them is tried.
 fn drain<N, T: Steps<N>, R: Wait>(
     rt: &R,
+    alloc: Global,
     queue: &TaskQueue<N, T>,
     share: &mut Share<N, T>,
 ) -> Result<(), AllocError>
     requires pass { IsTaskPass queue.now share.old.pass }
     requires parts { (knows share.old.pass).parts ≡ 1024 }
-    ensures { OnOk result ((old : Hand N) → IsShareOf T.number_of T.run_of T.fact queue.now old share.old →
+    ensures share { OnOk result ((old : Hand N) → IsShareOf T.number_of T.run_of T.fact queue.now old share.old →
         IsShareOf T.number_of T.run_of T.fact queue.now old share.new × AreAll T.number_of old.count share.new.parked.items) }
+    ensures still { OnOk result (IsStill T.waits share.old → IsStill T.waits share.new) }
 {
     for _ in rt.forever() {
         match queue.take(rt, &mut share.pass) {
-            Some(task) => share.parked.push(task)?,
+            Some(mut task) => {
+                share.moved = has_moved(rt, alloc, &mut task, share.moved)?;
+                share.parked.push(task)?;
+            }
             None => return Ok(()),
         }
     }
     unreachable!()
+}
+
+/// Whether a task has moved: if none has so far, this one is tried.
+fn has_moved<N, T: Steps<N>, R: Wait>(
+    rt: &R,
+    alloc: Global,
+    task: &mut T,
+    moved: bool,
+) -> Result<bool, AllocError>
+    requires { T.fact task.old }
+    ensures fact { T.fact task.new }
+    ensures same { (T.number_of task.new ≡ T.number_of task.old) × (T.run_of task.new ≡ T.run_of task.old) }
+    ensures waits { IfOk result (λ now. now ≡ false → (moved ≡ false) × T.waits task.new) }
+{
+    if moved {
+        return Ok(true);
+    }
+    Ok(task.make_events(rt, alloc, 1)? > 0)
 }
 
 /// All tasks go back into the queue.

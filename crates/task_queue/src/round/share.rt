@@ -1,7 +1,7 @@
 ghost use Rattle.std.specs.Prelude.{◌≡◌, ◌+◌, [], OnOk};
 ghost use Rattle.task_queue.specs.declared.hand.Hand.{Hand};
 ghost use Rattle.task_queue.specs.Passes.{IsTaskPass, knows};
-ghost use Rattle.task_queue.specs.Round.Shares.{IsShareOf};
+ghost use Rattle.task_queue.specs.Round.Shares.{IsShareOf, IsStill};
 
 use crate::round::steps::Steps;
 use crate::{TaskPass, TaskQueue};
@@ -27,6 +27,7 @@ impl<N, T: Steps<N>> Share<N, T> {
         ensures pass { OnOk result (IsTaskPass queue.now self.new.pass) }
         ensures share { OnOk result ((mine theirs : Hand N) → IsShareOf T.number_of T.run_of T.fact queue.now mine self.old → IsShareOf T.number_of T.run_of T.fact queue.now theirs other →
             theirs.run ≡ mine.run → IsShareOf T.number_of T.run_of T.fact queue.now (record mine { parts = mine.parts + theirs.parts }) self.new) }
+        ensures still { OnOk result (IsStill T.waits self.old → IsStill T.waits other → IsStill T.waits self.new) }
     {
         let Share {
             pass,

@@ -1,7 +1,7 @@
 ghost use Rattle.std.specs.Prelude.{◌≡◌, ℕ, sum_by, IfOk, OnOk};
 ghost use Rattle.task_queue.specs.declared.hand.Hand.{Hand};
 ghost use Rattle.task_queue.specs.Passes.{IsTaskPass, knows};
-ghost use Rattle.task_queue.specs.Round.Shares.{IsShareOf, HoldsNone};
+ghost use Rattle.task_queue.specs.Round.Shares.{IsShareOf, IsStill, HoldsNone};
 
 use crate::round::pulse::Pulse;
 use crate::round::share::Share;
@@ -29,7 +29,7 @@ pub(crate) fn work<N, T: Steps<N>, R: Wait, G: Gate>(
     worker: u32,
 ) -> Result<Share<N, T>, AllocError>
     requires { IsTaskPass queue.now pass × HoldsNone (knows pass) }
-    ensures { IfOk result (λ share. IsShareOf T.number_of T.run_of T.fact queue.now (knows pass) share) }
+    ensures { IfOk result (λ share. IsShareOf T.number_of T.run_of T.fact queue.now (knows pass) share × IsStill T.waits share) }
 {
     let mut share = Share {
         pass,
@@ -63,7 +63,8 @@ fn turn<N, T: Steps<N>, R: Wait, G: Gate>(
     seen: &mut u32,
 ) -> Result<bool, AllocError>
     requires { IsShareOf T.number_of T.run_of T.fact queue.now (knows share.old.pass) share.old }
-    ensures { OnOk result ((old : Hand N) → IsShareOf T.number_of T.run_of T.fact queue.now old share.old → IsShareOf T.number_of T.run_of T.fact queue.now old share.new) }
+    ensures share { OnOk result ((old : Hand N) → IsShareOf T.number_of T.run_of T.fact queue.now old share.old → IsShareOf T.number_of T.run_of T.fact queue.now old share.new) }
+    ensures still { OnOk result (IsStill T.waits share.old → IsStill T.waits share.new) }
 {
     match queue.take(rt, &mut share.pass) {
         None => Ok(wait(rt, queue, share, pulse, seen)),
@@ -94,7 +95,8 @@ fn wait<N, T: Steps<N>, R: Wait>(
     seen: &mut u32,
 ) -> bool
     requires { IsShareOf T.number_of T.run_of T.fact queue.now (knows share.old.pass) share.old }
-    ensures { (old : Hand N) → IsShareOf T.number_of T.run_of T.fact queue.now old share.old → IsShareOf T.number_of T.run_of T.fact queue.now old share.new }
+    ensures share { (old : Hand N) → IsShareOf T.number_of T.run_of T.fact queue.now old share.old → IsShareOf T.number_of T.run_of T.fact queue.now old share.new }
+    ensures still { IsStill T.waits share.old → IsStill T.waits share.new }
 {
     let moves = pulse.moves();
     let before = *seen;

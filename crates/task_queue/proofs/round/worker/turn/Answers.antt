@@ -8,17 +8,17 @@ wait-requires g c =
     by_itself _ _ _ c.args.queue.now _ _
     (rest _ _ _ c.args.queue.now (knows c.args.share.now.pass) c.args.share.now c.requires _ c.in-None.ensures.pass c.in-None.ensures.taken.0 refl)
 
-pub returns-in-None : goal.returns-in-None
-returns-in-None g c old is =
-    c.wait.ensures old (rest _ _ _ c.args.queue.now old c.args.share.now is _ c.in-None.ensures.pass c.in-None.ensures.taken.0 refl)
+pub returns-in-None-clause-share : goal.returns-in-None-clause-share
+returns-in-None-clause-share g c old is =
+    c.wait.ensures.share old (rest _ _ _ c.args.queue.now old c.args.share.now is _ c.in-None.ensures.pass c.in-None.ensures.taken.0 refl)
 
-pub returns-then-made-gt0 : goal.returns-then-made-gt0
-returns-then-made-gt0 g c old is =
+pub returns-then-made-gt0-clause-share : goal.returns-then-made-gt0-clause-share
+returns-then-made-gt0-clause-share g c old is =
     put_again _ _ _ c.args.queue.now old c.args.share.now is c.take.new.pass _ _ _ c.put.ensures.pass
     c.in-Some.ensures.taken.0 c.make_events.ensures.same.0 c.put.ensures.put refl
 
-pub returns-in_ok-push-in-Some : goal.returns-in_ok-push-in-Some
-returns-in_ok-push-in-Some g c old is =
+pub returns-in_ok-push-in-Some-clause-share : goal.returns-in_ok-push-in-Some-clause-share
+returns-in_ok-push-in-Some-clause-share g c old is =
     park _ _ _ c.args.queue.now old c.args.share.now is _ c.make_events.new.self _ c.take.ensures.pass
     c.in-Some.ensures.taken.0 c.make_events.ensures.same.0 (c.in-Some.ensures.taken.1 ∙ sym (ap Some c.make_events.ensures.same.1)) c.make_events.ensures.fact
     c.in_ok-push-in-Some.ensures.items
