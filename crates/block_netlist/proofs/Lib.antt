@@ -1,0 +1,4 @@
+-- lists of wires
+pub mod OnWires
+-- operators
+pub mod OnGates
