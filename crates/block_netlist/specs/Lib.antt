@@ -1,4 +1,14 @@
--- wires in the order of their drivers, and what they carry
+-- wires, and what they carry
 pub mod Wires
--- the wires that make larger expressions
+-- wires of one bit
 pub mod Gates
+-- the wires of a stage's sites
+pub mod Handshakes
+-- what they show of the machine
+pub mod Walks
+-- the wires of a pipeline's stages
+pub mod Stages
+-- the words of receives
+pub mod Receives
+-- what an activation does by the words on signals
+pub mod Turns

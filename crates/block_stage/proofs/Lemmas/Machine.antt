@@ -9,3 +9,5 @@ pub use Rattle.block_stage.proofs.OnMachine.Exact.{always_fed_words_move_in_thei
 pub use Rattle.block_stage.proofs.OnMachine.Handshakes.{sent_words_go_where_there_is_room, received_words_go_where_they_are_asked, nothing_is_received_without_a_site}
 -- sums over lists of events
 pub use Rattle.block_stage.proofs.OnMachine.Lefts.{words_sent-append, count_received-append}
+-- the places of a stage
+pub use Rattle.block_stage.proofs.OnMachine.Stages.{stage_at, first_grows}
