@@ -10,3 +10,9 @@ pub mod OnReceives
 pub mod OnStages
 -- what an activation does by the words on signals
 pub mod OnTurns
+-- what an IR proc does by them
+pub mod OnProcs
+-- what a verifier asks of wires
+pub mod OnOrder
+-- the words that it has received by a stage
+pub mod OnGathered

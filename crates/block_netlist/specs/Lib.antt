@@ -12,3 +12,7 @@ pub mod Stages
 pub mod Receives
 -- what an activation does by the words on signals
 pub mod Turns
+-- what an IR proc does by them
+pub mod Procs
+-- what a verifier asks of wires
+pub mod Order
