@@ -16,3 +16,7 @@ pub mod OnProcs
 pub mod OnOrder
 -- the words that it has received by a stage
 pub mod OnGathered
+-- which values stages carry on
+pub mod OnLayout
+-- the wires of a FIFO
+pub mod OnFifos

@@ -16,3 +16,7 @@ pub mod Turns
 pub mod Procs
 -- what a verifier asks of wires
 pub mod Order
+-- which values stages carry on
+pub mod Layout
+-- the wires of a FIFO
+pub mod Fifos

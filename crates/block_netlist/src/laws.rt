@@ -1,6 +1,6 @@
 //! Laws of netlists, each the contract of a function without a body.
 
-ghost use Rattle.std.specs.Prelude.{◌≡◌, ◌<◌, ◌≤◌, ◌+◌, ℕ, suc, Bool, true, false, List, length, slice_get, Some, None};
+ghost use Rattle.std.specs.Prelude.{◌≡◌, ◌<◌, ◌≤◌, ◌+◌, ℕ, suc, Bool, true, false, List, length, slice_get, Option, Some, None};
 ghost use Rattle.xb_bits.specs.Word.{Word};
 ghost use Rattle.xb_value.specs.declared.value.Value.{Value};
 ghost use Rattle.net_core.specs.declared.net.Site.{Site};
@@ -15,6 +15,10 @@ ghost use Rattle.block_netlist.specs.Wires.{Wire, AreWired, ReadEarlier, carried
 ghost use Rattle.block_netlist.specs.Handshakes.{SiteNets, site_wires, go_net};
 ghost use Rattle.block_netlist.specs.Order.{IsBelow, IsBit, AreSized, AreSound, SiteReads};
 ghost use Rattle.block_netlist.specs.Walks.{goes_at, AreRead};
+ghost use Rattle.ir_tree.specs.declared.node.Operand.{Operand};
+ghost use Rattle.block_stage.specs.Fifo.Row.{Row, row_after};
+ghost use Rattle.block_netlist.specs.Fifos.{FifoNets, IsFifo, FifoHeld, CountShown, slot_net};
+ghost use Rattle.block_netlist.specs.Layout.{StageReader, is_carried, ServesAll};
 ghost use Rattle.ir_tree.specs.declared.package.Channel.{Channel};
 ghost use Rattle.ir_tree.specs.declared.package.Proc.{Proc};
 ghost use Rattle.ir_tree.specs.Activations.{activation};
@@ -119,4 +123,21 @@ pub fn stages_go_by_the_words_on_their_signals()
         walk.waits ≡ None → walk.got ≡ gathered turns words (first q j + length sites) }
     ensures agree { (channels : List Channel) (proc : Proc) (s : Value) (words others : ℕ → Word) (i : ℕ) → ((k : ℕ) → k < i → words k ≡ others k) →
         gathered (turns_by_words channels proc.nodes s words) words i ≡ gathered (turns_by_words channels proc.nodes s others) others i }
+{}
+
+/// The copies of values that stages carry on serve each stage with what it reads of earlier ones; and whatever does so has them
+/// all.
+pub fn the_layout_is_the_least_that_serves_all()
+    ensures serves { (stage : Operand → ℕ) (readers : List StageReader) → ServesAll stage readers (is_carried stage readers) }
+    ensures least { (stage : Operand → ℕ) (readers : List StageReader) (carried_over : Operand → ℕ → Bool) → ServesAll stage readers carried_over →
+        (o : Operand) (j : ℕ) → is_carried stage readers o j ≡ true → carried_over o j ≡ true }
+{}
+
+/// The wires of a FIFO are its row's: whether a word is there, whether there is room, and what the count and the slots hold
+/// next.
+pub fn fifo_wires_are_the_rows()
+    ensures count { (v : Values) (fifo : FifoNets) (row : Row Word) (asked : Bool) (offered : Option Word) → IsFifo v fifo → FifoHeld v fifo row offered →
+        atom_value v fifo.asked ≡ bit asked → CountShown v fifo row asked offered }
+    ensures slots { (v : Values) (fifo : FifoNets) (row : Row Word) (asked : Bool) (offered : Option Word) → IsFifo v fifo → FifoHeld v fifo row offered →
+        atom_value v fifo.asked ≡ bit asked → (x : ℕ) → x < fifo.depth → v (slot_net fifo x) ≡ (row_after fifo.depth row asked offered).slot x }
 {}
