@@ -1,3 +1,5 @@
 pub mod Words
 pub mod Standing
+pub mod Resets
 pub mod Prefixes
+pub mod Driven

@@ -21,8 +21,9 @@ use Rattle.block_stage.specs.Machine.Since.{at_reset, after_cycles}
 use Rattle.block_stage.proofs.Lemmas.Machine.{sent_words_are_a_front, received_words_are_the_traces, nothing_is_received_without_a_site}
 use Rattle.block_stage.specs.Fifo.Fifo.{given_in}
 use Rattle.block_build.specs.Block.{Block, IsBlock, run_of, receiver_of}
-use Rattle.block_build.specs.Rows.{Machine, State, reset_state, ports_in, sender_of, is_asked, machine_after, one_row, after_rows, received_of, sent_of, moved_in, moved_out}
-use Rattle.block_build.proofs.Words.{input_words, output_words, inner_words, sent_grow, received_grow, none_passes, one_passes}
+use Rattle.block_build.specs.Rows.{Machine, State, InputRow, HasReset, reset_state, ports_in, sender_of, is_asked, machine_after, one_row, after_rows, state_after, since_reset, received_of, sent_of, moved_in, moved_out}
+use Rattle.block_build.proofs.Words.{cases, input_words, output_words, inner_words, sent_grow, received_grow, none_passes, one_passes}
+use Rattle.block_build.proofs.Resets.{since_the_last_reset}
 use Rattle.block_build.proofs.Standing.{machine_of, Stands, reads_next, there, sites_there, stands_next, stands_at_reset}
 
 -- a proc's events in the unbounded cut are its trace over the words there
@@ -101,10 +102,6 @@ receives_nowhere q c h i site here sends chan =
 
     eq-eqb : (a d : ℕ) → a ≡ d → eqb a d ≡ true
     eq-eqb a d e = grind (arith, nat_tests)
-
-cases : (x : Bool) → (x ≡ true) ⊎ (x ≡ false)
-cases true = inl refl
-cases false = inr refl
 
 kinds : (k : Kind) → (k ≡ Input) ⊎ ((k ≡ Output) ⊎ (k ≡ Inner))
 kinds Input = inl refl
@@ -208,7 +205,7 @@ the_end block is rows inputs n l moved =
     (λ p c q e. tt)
     (λ c chan here kind. subst (IsFront (moved_in block (after_rows block (reset_state block) rows) c)) (sym (moved c chan here kind)) (IsFront-refl (moved_in block (after_rows block (reset_state block) rows) c)))
 
-pub outputs_are_fronts : (block : Block) → IsBlock block → (rows : List Ports) (inputs : List (List Word)) (n : ℕ) → length rows ≤ n → AreMoved block inputs (after_rows block (reset_state block) rows)
+outputs_are_fronts : (block : Block) → IsBlock block → (rows : List Ports) (inputs : List (List Word)) (n : ℕ) → length rows ≤ n → AreMoved block inputs (after_rows block (reset_state block) rows)
     → (c : ℕ) (chan : Chan) → slice_get block.chans c ≡ Some chan → chan.kind ≡ Output
     → IsFront (moved_out block (after_rows block (reset_state block) rows) c) (words_at (run_of block inputs n) (unbounded_cut (run_of block inputs n)) c)
 outputs_are_fronts block is rows inputs n l moved c chan here kind =
@@ -248,8 +245,25 @@ received_by block is inputs n state end c chan here kind moved (Some q) e =
     let mine : length (moved_in block state c) ≡ length (received c) = ap (λ m. length (received_of m c)) (there block state end.past end.stands r q e) in
     omega (arith, counted, least, own, most, all, mine)
 
-pub inputs_are_received : (block : Block) → IsBlock block → (rows : List Ports) (inputs : List (List Word)) (n : ℕ) → length rows ≤ n → AreMoved block inputs (after_rows block (reset_state block) rows)
+inputs_are_received : (block : Block) → IsBlock block → (rows : List Ports) (inputs : List (List Word)) (n : ℕ) → length rows ≤ n → AreMoved block inputs (after_rows block (reset_state block) rows)
     → (c : ℕ) (chan : Chan) → slice_get block.chans c ≡ Some chan → chan.kind ≡ Input
     → received_at (run_of block inputs n) (unbounded_cut (run_of block inputs n)) c ≡ length (moved_in block (after_rows block (reset_state block) rows) c)
 inputs_are_received block is rows inputs n l moved c chan here kind =
     received_by block is inputs n (after_rows block (reset_state block) rows) (the_end block is rows inputs n l moved) c chan here kind (moved c chan here kind) (slice_get block.pipelines (receiver_of block c)) refl
+
+-- rows with resets among them
+pub outputs_are_the_networks : (block : Block) → IsBlock block → (power : State) (rows : List InputRow) → HasReset rows → (inputs : List (List Word)) (n : ℕ) → length (since_reset [] rows) ≤ n
+    → AreMoved block inputs (state_after block power rows) → (c : ℕ) (chan : Chan) → slice_get block.chans c ≡ Some chan → chan.kind ≡ Output
+    → IsFront (moved_out block (state_after block power rows) c) (words_at (run_of block inputs n) (unbounded_cut (run_of block inputs n)) c)
+outputs_are_the_networks block is power rows h inputs n l moved c chan here kind =
+    let e = since_the_last_reset block power [] rows h in
+    subst (λ s. IsFront (moved_out block s c) (words_at (run_of block inputs n) (unbounded_cut (run_of block inputs n)) c)) (sym e)
+    (outputs_are_fronts block is (since_reset [] rows) inputs n l (subst (AreMoved block inputs) e moved) c chan here kind)
+
+pub inputs_are_the_networks : (block : Block) → IsBlock block → (power : State) (rows : List InputRow) → HasReset rows → (inputs : List (List Word)) (n : ℕ) → length (since_reset [] rows) ≤ n
+    → AreMoved block inputs (state_after block power rows) → (c : ℕ) (chan : Chan) → slice_get block.chans c ≡ Some chan → chan.kind ≡ Input
+    → received_at (run_of block inputs n) (unbounded_cut (run_of block inputs n)) c ≡ length (moved_in block (state_after block power rows) c)
+inputs_are_the_networks block is power rows h inputs n l moved c chan here kind =
+    let e = since_the_last_reset block power [] rows h in
+    subst (λ s. received_at (run_of block inputs n) (unbounded_cut (run_of block inputs n)) c ≡ length (moved_in block s c)) (sym e)
+    (inputs_are_received block is (since_reset [] rows) inputs n l (subst (AreMoved block inputs) e moved) c chan here kind)

@@ -42,7 +42,7 @@ pub there : (block : Block) (state : State) (past : List Ports) → Stands block
     → slice_get state.machines p ≡ Some (machine_of past q)
 there block state past st p q e = machine_at block state past st p ∙ ap (option_map (machine_of past)) e
 
-none_there : (block : Block) (state : State) (past : List Ports) → Stands block state past → (p : ℕ) → slice_get block.pipelines p ≡ None → slice_get state.machines p ≡ None
+pub none_there : (block : Block) (state : State) (past : List Ports) → Stands block state past → (p : ℕ) → slice_get block.pipelines p ≡ None → slice_get state.machines p ≡ None
 none_there block state past st p e = machine_at block state past st p ∙ ap (option_map (machine_of past)) e
 
 pub sites_there : (block : Block) (inputs : List (List Word)) (n p : ℕ) (q : Pipeline) → slice_get block.pipelines p ≡ Some q → sites_at (run_of block inputs n) p ≡ q.proc.behavior.sites
@@ -54,65 +54,81 @@ short_list [] l = refl
 short_list (x ∷ []) l = refl
 short_list (x ∷ y ∷ xs) l = absurd (omega (arith, l))
 
-asked_gives : (t : Bool) (xs : List Word) → cond t [] (option_to_list (next_word xs)) ≡ given_in xs (not t)
-asked_gives true xs = refl
-asked_gives false [] = refl
-asked_gives false (x ∷ xs) = refl
+-- what the reader of a channel receives in a row, and what its writer sends
+not_cond : {A : Type 0} (t : Bool) (x y : A) → cond t x y ≡ cond (not t) y x
+not_cond true x y = refl
+not_cond false x y = refl
 
--- at an inner channel its reader receives what the FIFO gives
-reads : (block : Block) (state : State) (past : List Ports) (row : Ports) → IsBlock block → Stands block state past → (c : ℕ) (chan : Chan) → slice_get block.chans c ≡ Some chan → chan.kind ≡ Inner
+reads : (block : Block) (state : State) (past : List Ports) (row : Ports) → IsBlock block → Stands block state past → (c : ℕ)
     → (reader : Option Pipeline) → slice_get block.pipelines (receiver_of block c) ≡ reader
     → received_of (option_map (λ (m : Machine). machine_after (ports_in block state row) m) (slice_get state.machines (receiver_of block c))) c
-    ≡ moved_in block state c ++ given_in (state.queues c) (is_asked block state (ports_in block state row) c)
-reads block state past row is st c chan here kind None e =
+    ≡ moved_in block state c ++ cond (is_asked block state (ports_in block state row) c) (option_to_list ((ports_in block state row).offer c)) []
+reads block state past row is st c None e =
     let none = none_there block state past st (receiver_of block c) e in
-    let sites = ap sites_of (proc_at block [] 0 (receiver_of block c) ∙ ap (option_map (λ (x : Pipeline). x.proc)) e) in
     rw none (unfold count_received in refl)
-reads block state past row is st c chan here kind (Some q) e =
+reads block state past row is st c (Some q) e =
     let m = there block state past st (receiver_of block c) q e in
     let sites = sites_there block [] 0 (receiver_of block c) q e in
     let ports = ports_in block state row in
-    let shown : ports.offer c ≡ next_word (state.queues c) = rw here (rw kind refl) in
     let taken = received_words_go_where_they_are_asked q (is.legal (receiver_of block c) q e) past ports c in
     let asked = count_received q.proc.behavior.sites c (asked_in q (after_cycles q (at_reset q) past).contents ports) in
-    rw (m, sites) (ap (λ z. (after_cycles q (at_reset q) past).received c ++ z)
-    (taken ∙ ap (λ z. cond (eqb asked 0) [] (option_to_list z)) shown ∙ asked_gives (eqb asked 0) (state.queues c)))
+    rw (m, sites) (ap (λ z. (after_cycles q (at_reset q) past).received c ++ z) (taken ∙ not_cond (eqb asked 0) [] (option_to_list (ports.offer c))))
 
--- and its writer sends what is put into it
-writes : (block : Block) (state : State) (past : List Ports) (row : Ports) → IsBlock block → Stands block state past → (c : ℕ) (chan : Chan) → slice_get block.chans c ≡ Some chan → chan.kind ≡ Inner
+writes : (block : Block) (state : State) (past : List Ports) (row : Ports) → IsBlock block → Stands block state past → (c : ℕ)
     → (writer : Option Pipeline) → slice_get block.pipelines (sender_of block c) ≡ writer
     → sent_of (option_map (λ (m : Machine). machine_after (ports_in block state row) m) (slice_get state.machines (sender_of block c))) c
-    ≡ moved_out block state c ++ put_in (depth_of block c) (state.queues c) (offered block state (ports_in block state row) c)
-writes block state past row is st c chan here kind None e =
+    ≡ moved_out block state c ++ cond ((ports_in block state row).room c) (option_to_list (offered block state (ports_in block state row) c)) []
+writes block state past row is st c None e =
     let none = none_there block state past st (sender_of block c) e in
-    rw none (unfold words_sent in nothing (has_room (depth_of block c) (state.queues c)))
+    rw none (unfold words_sent in nothing ((ports_in block state row).room c))
   where
     nothing : (t : Bool) → ◌≡◌ {A = List Word} [] (cond t [] [])
     nothing true = refl
     nothing false = refl
-writes block state past row is st c chan here kind (Some q) e =
+writes block state past row is st c (Some q) e =
     let m = there block state past st (sender_of block c) q e in
     let sites = sites_there block [] 0 (sender_of block c) q e in
     let ports = ports_in block state row in
     let legal = is.legal (sender_of block c) q e in
-    let shown : ports.room c ≡ has_room (depth_of block c) (state.queues c) = rw here (rw kind refl) in
     let given = sent_words_go_where_there_is_room q legal past ports c in
     let words = words_sent q.proc.behavior.sites c (asked_in q (after_cycles q (at_reset q) past).contents ports) in
     let short = short_list words (one_site_is_asked_to_send q legal past ports c) in
-    rw (m, sites) (ap (λ z. (after_cycles q (at_reset q) past).sent c ++ z)
-    (given ∙ ap (λ t. cond t words []) shown ∙ ap (λ z. cond (has_room (depth_of block c) (state.queues c)) z []) (sym short)))
+    rw (m, sites) (ap (λ z. (after_cycles q (at_reset q) past).sent c ++ z) (given ∙ ap (λ z. cond (ports.room c) z []) (sym short)))
 
-writes_next : (block : Block) (state : State) (past : List Ports) (row : Ports) → IsBlock block → Stands block state past → (c : ℕ) (chan : Chan) → slice_get block.chans c ≡ Some chan → chan.kind ≡ Inner
-    → moved_out block (one_row block state row) c ≡ moved_out block state c ++ put_in (depth_of block c) (state.queues c) (offered block state (ports_in block state row) c)
-writes_next block state past row is st c chan here kind =
+pub words_received : (block : Block) (state : State) (past : List Ports) (row : Ports) → IsBlock block → Stands block state past → (c : ℕ)
+    → moved_in block (one_row block state row) c
+    ≡ moved_in block state c ++ cond (is_asked block state (ports_in block state row) c) (option_to_list ((ports_in block state row).offer c)) []
+words_received block state past row is st c =
+    ap (λ m. received_of m c) (slice_get-map (machine_after (ports_in block state row)) state.machines (receiver_of block c))
+    ∙ reads block state past row is st c (slice_get block.pipelines (receiver_of block c)) refl
+
+pub words_written : (block : Block) (state : State) (past : List Ports) (row : Ports) → IsBlock block → Stands block state past → (c : ℕ)
+    → moved_out block (one_row block state row) c
+    ≡ moved_out block state c ++ cond ((ports_in block state row).room c) (option_to_list (offered block state (ports_in block state row) c)) []
+words_written block state past row is st c =
     ap (λ m. sent_of m c) (slice_get-map (machine_after (ports_in block state row)) state.machines (sender_of block c))
-    ∙ writes block state past row is st c chan here kind (slice_get block.pipelines (sender_of block c)) refl
+    ∙ writes block state past row is st c (slice_get block.pipelines (sender_of block c)) refl
+
+-- of an inner channel: what its FIFO gives, and what is put into it
+given_is : (t : Bool) (xs : List Word) → cond t (option_to_list (next_word xs)) [] ≡ given_in xs t
+given_is true [] = refl
+given_is true (x ∷ xs) = refl
+given_is false xs = refl
 
 pub reads_next : (block : Block) (state : State) (past : List Ports) (row : Ports) → IsBlock block → Stands block state past → (c : ℕ) (chan : Chan) → slice_get block.chans c ≡ Some chan → chan.kind ≡ Inner
     → moved_in block (one_row block state row) c ≡ moved_in block state c ++ given_in (state.queues c) (is_asked block state (ports_in block state row) c)
 reads_next block state past row is st c chan here kind =
-    ap (λ m. received_of m c) (slice_get-map (machine_after (ports_in block state row)) state.machines (receiver_of block c))
-    ∙ reads block state past row is st c chan here kind (slice_get block.pipelines (receiver_of block c)) refl
+    let shown : (ports_in block state row).offer c ≡ next_word (state.queues c) = rw here (rw kind refl) in
+    words_received block state past row is st c
+    ∙ ap (λ o. moved_in block state c ++ cond (is_asked block state (ports_in block state row) c) (option_to_list o) []) shown
+    ∙ ap (λ z. moved_in block state c ++ z) (given_is (is_asked block state (ports_in block state row) c) (state.queues c))
+
+writes_next : (block : Block) (state : State) (past : List Ports) (row : Ports) → IsBlock block → Stands block state past → (c : ℕ) (chan : Chan) → slice_get block.chans c ≡ Some chan → chan.kind ≡ Inner
+    → moved_out block (one_row block state row) c ≡ moved_out block state c ++ put_in (depth_of block c) (state.queues c) (offered block state (ports_in block state row) c)
+writes_next block state past row is st c chan here kind =
+    let shown : (ports_in block state row).room c ≡ has_room (depth_of block c) (state.queues c) = rw here (rw kind refl) in
+    words_written block state past row is st c
+    ∙ ap (λ t. moved_out block state c ++ cond t (option_to_list (offered block state (ports_in block state row) c)) []) shown
 
 -- one row more
 pub stands_next : (block : Block) (state : State) (past : List Ports) (row : Ports) → IsBlock block → Stands block state past → Stands block (one_row block state row) (past ++ ports_in block state row ∷ [])

@@ -58,6 +58,10 @@ received_grow sites c xs ys f =
     let s = count_received-append sites c xs r.0 in
     omega (arith, e, s)
 
+pub cases : (x : Bool) → (x ≡ true) ⊎ (x ≡ false)
+cases true = inl refl
+cases false = inr refl
+
 -- a test that no element passes
 or_none : (x y : Bool) → (x || y) ≡ false → (x ≡ false) × (y ≡ false)
 or_none true y e = cc

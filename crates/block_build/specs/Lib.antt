@@ -1,4 +1,4 @@
 -- a pipeline for each proc and a FIFO for each inner channel
 pub mod Block
--- what a block does in the clock cycles since reset
+-- what a block does in the rows of a simulation
 pub mod Rows

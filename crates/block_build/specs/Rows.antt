@@ -1,5 +1,6 @@
--- What a block does in the clock cycles since reset.
-use Rattle.std.specs.Prelude.{ℕ, false, not, Bool, List, [], ◌∷◌, map, slice_get, get_or, ◌==◌, Option, Some, None}
+-- What a block does in the rows of a simulation: clock cycles, in each of which it may be reset.
+use Rattle.std.specs.Prelude.{◌≡◌, ℕ, true, false, not, Bool, ◌&&◌, List, [], ◌∷◌, ◌++◌, map, slice_get, get_or, if◌then◌else◌, ◌==◌, Option, Some, None}
+use Rattle.std.specs.List.{list_any}
 use Rattle.xb_bits.specs.Word.{Word}
 use Rattle.net_core.specs.declared.net.Chan.{Chan}
 use Rattle.net_core.specs.declared.net.Kind.{Kind}
@@ -7,7 +8,7 @@ use Rattle.net_core.specs.declared.net.Kind.TheVariants.{Input, Output, Inner}
 use Rattle.net_core.specs.declared.event.Event.{Event}
 use Rattle.net_core.specs.Cuts.{words_sent, count_received, sites_at, sender}
 use Rattle.block_stage.specs.Machine.Pipeline.{Pipeline}
-use Rattle.block_stage.specs.Machine.Cycle.{Ports, asked_in}
+use Rattle.block_stage.specs.Machine.Cycle.{Ports, Registers, asked_in}
 use Rattle.block_stage.specs.Machine.Since.{Since, at_reset, one_more}
 use Rattle.block_stage.specs.Fifo.Fifo.{next_word, has_room, after_cycle}
 use Rattle.block_build.specs.Block.{Block, run_of, receiver_of}
@@ -89,9 +90,52 @@ one_row block state row =
       queues = λ c. after_cycle (depth_of block c) (state.queues c) (is_asked block state ports c) (offered block state ports c);
     }
 
+-- after these rows without reset
 abbrev pub after_rows : Block → State → List Ports → State
 after_rows block state [] = state
 after_rows block state (row ∷ more) = after_rows block (one_row block state row) more
+
+-- a row: whether it resets, and what stands at the block's own ports
+pub record InputRow : Type 0 where
+  pub rst : Bool
+  pub ports : Ports
+
+-- in a row with reset no stage acts, whatever stands in the registers
+abbrev pub acting : Bool → Registers → Registers
+acting rst c = record { full = λ j. not rst && c.full j; state = c.state; held = c.held; done = c.done; kept = c.kept }
+
+abbrev pub asks_if : Bool → Option Machine → Ports → List Event
+asks_if rst None ports = []
+asks_if rst (Some machine) ports = asked_in machine.pipeline (acting rst machine.since.contents) ports
+
+-- what a proc asks in a row
+abbrev pub asked_in_row : Block → State → InputRow → ℕ → List Event
+asked_in_row block state row p = asks_if row.rst (slice_get state.machines p) (ports_in block state row.ports)
+
+-- what the block drives: whether it is ready for a word of an input, and the word that it offers at an output
+abbrev pub is_ready : Block → State → InputRow → ℕ → Bool
+is_ready block state row c =
+    not (count_received (sites_at (run_of block [] 0) (receiver_of block c)) c (asked_in_row block state row (receiver_of block c)) == 0)
+
+abbrev pub offers : Block → State → InputRow → ℕ → Option Word
+offers block state row c = next_word (words_sent (sites_at (run_of block [] 0) (sender_of block c)) c (asked_in_row block state row (sender_of block c)))
+
+abbrev pub after_row : Block → State → InputRow → State
+after_row block state row = if row.rst then reset_state block else one_row block state row.ports
+
+-- after these rows more, whatever stood in the registers before
+abbrev pub state_after : Block → State → List InputRow → State
+state_after block state [] = state
+state_after block state (row ∷ more) = state_after block (after_row block state row) more
+
+-- some row resets
+abbrev pub HasReset : List InputRow → Type 0
+HasReset rows = list_any (λ (row : InputRow). row.rst) rows ≡ true
+
+-- what stood at the block's ports since the last reset, or since these rows where there was none
+abbrev pub since_reset : List Ports → List InputRow → List Ports
+since_reset before [] = before
+since_reset before (row ∷ more) = since_reset (if row.rst then [] else before ++ row.ports ∷ []) more
 
 -- the words that went through the block's own ports since reset: those received from an input, those sent on an output
 abbrev pub received_of : Option Machine → ℕ → List Word

@@ -1,30 +1,63 @@
-//! The law of blocks, the contract of a function without a body.
+//! The laws of blocks, each the contract of a function without a body. They speak of any rows of a simulation among which
+//! one resets, from any contents of the registers on, as they come up with power.
 
-ghost use Rattle.std.specs.Prelude.{◌≡◌, ◌≤◌, ℕ, List, [], length, get_or, slice_get, Some};
+ghost use Rattle.std.specs.Prelude.{◌≡◌, ◌≤◌, ℕ, true, false, List, [], ◌++◌, length, get_or, slice_get, if◌then◌else◌, option_to_list, Some, None};
 ghost use Rattle.base.specs.Lists.Front.{IsFront};
 ghost use Rattle.xb_bits.specs.Word.{Word};
 ghost use Rattle.net_core.specs.declared.net.Chan.{Chan};
 ghost use Rattle.net_core.specs.declared.net.Kind.TheVariants.{Input, Output};
 ghost use Rattle.net_core.specs.Cuts.{words_at, received_at, unbounded_cut};
-ghost use Rattle.block_stage.specs.Machine.Cycle.{Ports};
 ghost use Rattle.block_build.specs.Block.{Block, IsBlock, run_of};
-ghost use Rattle.block_build.specs.Rows.{reset_state, after_rows, moved_in, moved_out};
+ghost use Rattle.block_build.specs.Rows.{State, InputRow, HasReset, state_after, after_row, since_reset, is_ready, offers, moved_in, moved_out};
 
-/// Whatever stands at a block's ports in each cycle since reset: take the words that its inputs received as all that the
-/// outside ever sends, and let the network run on them with channels of any depth, each proc for as many activations as
-/// there were cycles, or more. Then each output has sent a front of its words there, and each input has received its
+/// Whatever stands at a block's ports in each row since the last reset: take the words that its inputs received as all that
+/// the outside ever sends, and let the network run on them with channels of any depth, each proc for as many activations as
+/// there were rows, or more. Then each output has sent a front of its words there, and each input has received its
 /// words there.
 pub fn block_words_are_the_networks()
-    ensures outputs { (block : Block) → IsBlock block → (rows : List Ports) (inputs : List (List Word)) (n : ℕ) → length rows ≤ n →
-        let state = after_rows block (reset_state block) rows in
+    ensures outputs { (block : Block) → IsBlock block → (power : State) (rows : List InputRow) → HasReset rows →
+        (inputs : List (List Word)) (n : ℕ) → length (since_reset [] rows) ≤ n →
+        let state = state_after block power rows in
         let run = run_of block inputs n in
         ((c : ℕ) (chan : Chan) → slice_get block.chans c ≡ Some chan → chan.kind ≡ Input → get_or inputs c [] ≡ moved_in block state c) →
         (c : ℕ) (chan : Chan) → slice_get block.chans c ≡ Some chan → chan.kind ≡ Output →
         IsFront (moved_out block state c) (words_at run (unbounded_cut run) c) }
-    ensures inputs { (block : Block) → IsBlock block → (rows : List Ports) (inputs : List (List Word)) (n : ℕ) → length rows ≤ n →
-        let state = after_rows block (reset_state block) rows in
+    ensures inputs { (block : Block) → IsBlock block → (power : State) (rows : List InputRow) → HasReset rows →
+        (inputs : List (List Word)) (n : ℕ) → length (since_reset [] rows) ≤ n →
+        let state = state_after block power rows in
         let run = run_of block inputs n in
         ((c : ℕ) (chan : Chan) → slice_get block.chans c ≡ Some chan → chan.kind ≡ Input → get_or inputs c [] ≡ moved_in block state c) →
         (c : ℕ) (chan : Chan) → slice_get block.chans c ≡ Some chan → chan.kind ≡ Input →
         received_at run (unbounded_cut run) c ≡ length (moved_in block state c) }
+{}
+
+/// A word moves through a port of the block in a row without reset in which both sides are ready: one that is offered at an
+/// output where the outside has room, and one that is there at an input where the block is ready. So what moved is what the
+/// rows show.
+pub fn words_move_where_both_sides_are_ready()
+    ensures outputs { (block : Block) → IsBlock block → (power : State) (rows : List InputRow) → HasReset rows → (row : InputRow) → row.rst ≡ false →
+        let state = state_after block power rows in
+        (c : ℕ) (chan : Chan) → slice_get block.chans c ≡ Some chan → chan.kind ≡ Output →
+        moved_out block (after_row block state row) c
+        ≡ moved_out block state c ++ (if row.ports.room c then option_to_list (offers block state row c) else []) }
+    ensures inputs { (block : Block) → IsBlock block → (power : State) (rows : List InputRow) → HasReset rows → (row : InputRow) → row.rst ≡ false →
+        let state = state_after block power rows in
+        (c : ℕ) (chan : Chan) → slice_get block.chans c ≡ Some chan → chan.kind ≡ Input →
+        moved_in block (after_row block state row) c
+        ≡ moved_in block state c ++ (if is_ready block state row c then option_to_list (row.ports.offer c) else []) }
+{}
+
+/// A word that is offered at an output and not taken stands offered, unchanged, in the next row, unless that resets.
+pub fn offers_stand()
+    ensures { (block : Block) → IsBlock block → (power : State) (rows : List InputRow) → HasReset rows →
+        let state = state_after block power rows in
+        (row next : InputRow) (c : ℕ) (chan : Chan) (w : Word) → slice_get block.chans c ≡ Some chan → chan.kind ≡ Output →
+        offers block state row c ≡ Some w → row.ports.room c ≡ false → next.rst ≡ false →
+        offers block (after_row block state row) next c ≡ Some w }
+{}
+
+/// In a row with reset the block is ready for nothing and offers nothing, whatever stands in its registers.
+pub fn nothing_is_driven_in_reset()
+    ensures inputs { (block : Block) (state : State) (row : InputRow) (c : ℕ) → row.rst ≡ true → is_ready block state row c ≡ false }
+    ensures outputs { (block : Block) (state : State) (row : InputRow) (c : ℕ) → row.rst ≡ true → offers block state row c ≡ None }
 {}

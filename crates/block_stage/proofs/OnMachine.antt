@@ -14,6 +14,7 @@ pub mod Prefixes
 pub mod Offers
 pub mod Asks
 pub mod Offered
+pub mod Meeting
 pub mod Exact
 pub mod Handshakes
 pub mod Circuits

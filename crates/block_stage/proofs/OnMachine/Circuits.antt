@@ -1,5 +1,5 @@
 -- The right circuit keeps the laws.
-use Rattle.std.proofs.Common.{◌≡◌, ℕ, ◌≤◌, ◌-◌, List, [], ◌∷◌, length, refl, ap, ◌∙◌, subst, cond, false, Some}
+use Rattle.std.proofs.Common.{◌≡◌, ℕ, ◌≤◌, ◌-◌, List, [], ◌∷◌, length, refl, ap, ◌∙◌, subst, cond, true, false, suc, ◌<◌, Some}
 use Rattle.std.specs.Prelude.{◌==◌, option_to_list}
 use Rattle.xb_bits.specs.Word.{Word}
 use Rattle.base.specs.Lists.Front.{IsFront}
@@ -9,11 +9,13 @@ use Rattle.net_core.specs.Cuts.{words_sent, count_received}
 use Rattle.block_stage.specs.Machine.Pipeline.{Pipeline}
 use Rattle.block_stage.specs.Machine.Cycle.{Ports, Registers, circuit, in_stage, walk, moves, after_cycle, deeds_in, asked_in, asked_by}
 use Rattle.block_stage.specs.Machine.Since.{Since, took, gave, at_reset, one_more, after_cycles}
-use Rattle.block_stage.specs.Machine.Circuits.{stage_by, cycle_by, deeds_by, asks_by, one_by, cycles_by, IsLawful}
+use Rattle.block_stage.specs.Machine.Circuits.{stage_by, moves_by, cycle_by, deeds_by, asks_by, one_by, cycles_by, IsLawful}
+use Rattle.block_stage.specs.Machine.Steady.{IsStageMet}
 use Rattle.block_stage.proofs.OnMachine.Prefixes.{sent_words_are_a_front, received_words_are_the_traces}
 use Rattle.block_stage.proofs.OnMachine.Offers.{what_waits_stands}
 use Rattle.block_stage.proofs.OnMachine.Offered.{untaken_words_stand}
 use Rattle.block_stage.proofs.OnMachine.Asks.{one_site_is_asked_to_send, one_site_is_asked_to_receive}
+use Rattle.block_stage.proofs.OnMachine.Meeting.{a_stage_moves_where_it_can, a_moved_activation_stands_in_the_next_stage, the_turn_comes_back}
 use Rattle.block_stage.proofs.OnMachine.Exact.{always_fed_words_move_in_their_cycle}
 use Rattle.block_stage.proofs.OnMachine.Handshakes.{sent_words_go_where_there_is_room, received_words_go_where_they_are_asked}
 
@@ -103,6 +105,31 @@ few_received_by : (q : Pipeline) (ports : Ports) (chan : ℕ) (c : Registers)
 unfolding asked_in in_stage walk
 few_received_by q ports chan c h = h
 
+abbrev MovesWhereItCan : Pipeline → Ports → ℕ → Registers → Type 0
+MovesWhereItCan q ports j c =
+    c.full j ≡ true → IsStageMet q j ports → (suc j < q.stages → c.full (suc j) ≡ true → moves_by circuit q c ports (suc j) ≡ true)
+    → moves_by circuit q c ports j ≡ true
+
+moves_where_by : (q : Pipeline) (ports : Ports) (j : ℕ) (c : Registers)
+    → (c.full j ≡ true → IsStageMet q j ports → (suc j < q.stages → c.full (suc j) ≡ true → moves q c ports (suc j) ≡ true) → moves q c ports j ≡ true)
+    → MovesWhereItCan q ports j c
+unfolding moves in_stage walk
+moves_where_by q ports j c h = h
+
+abbrev StandsNext : Pipeline → Ports → ℕ → Registers → Type 0
+StandsNext q ports j c = moves_by circuit q c ports j ≡ true → (cycle_by circuit q c ports).full (suc j) ≡ true
+
+stands_next_by : (q : Pipeline) (ports : Ports) (j : ℕ) (c : Registers) → (moves q c ports j ≡ true → (after_cycle q c ports).full (suc j) ≡ true) → StandsNext q ports j c
+unfolding after_cycle moves in_stage walk
+stands_next_by q ports j c h = h
+
+abbrev TurnComesBack : Pipeline → Ports → Registers → Type 0
+TurnComesBack q ports c = moves_by circuit q c ports q.last ≡ true → (cycle_by circuit q c ports).full 0 ≡ true
+
+turn_by : (q : Pipeline) (ports : Ports) (c : Registers) → (moves q c ports q.last ≡ true → (after_cycle q c ports).full 0 ≡ true) → TurnComesBack q ports c
+unfolding after_cycle moves in_stage walk
+turn_by q ports c h = h
+
 -- a law of the registers after any cycles
 after_any : (q : Pipeline) (law : Registers → Type 0) (cycles : List Ports) → law (after_cycles q (at_reset q) cycles).contents → law (cycles_by circuit q (at_reset q) cycles).contents
 after_any q law cycles h = subst (λ s. law s.contents) (same_cycles q cycles (at_reset q)) h
@@ -129,6 +156,14 @@ lawful = record {
       after_any q (SentGo q ports chan) cycles (sent_by q ports chan (after_cycles q (at_reset q) cycles).contents (sent_words_go_where_there_is_room q is cycles ports chan));
   received_words_go_where_they_are_asked = λ q is cycles ports chan.
       after_any q (ReceivedGo q ports chan) cycles (received_by q ports chan (after_cycles q (at_reset q) cycles).contents (received_words_go_where_they_are_asked q is cycles ports chan));
+  a_stage_moves_where_it_can = λ q is cycles ports j l.
+      after_any q (MovesWhereItCan q ports j) cycles
+      (moves_where_by q ports j (after_cycles q (at_reset q) cycles).contents (a_stage_moves_where_it_can q is (after_cycles q (at_reset q) cycles).contents ports j l));
+  a_moved_activation_stands_in_the_next_stage = λ q is cycles ports j.
+      after_any q (StandsNext q ports j) cycles
+      (stands_next_by q ports j (after_cycles q (at_reset q) cycles).contents (a_moved_activation_stands_in_the_next_stage q (after_cycles q (at_reset q) cycles).contents ports j));
+  the_turn_comes_back = λ q is cycles ports.
+      after_any q (TurnComesBack q ports) cycles (turn_by q ports (after_cycles q (at_reset q) cycles).contents (the_turn_comes_back q (after_cycles q (at_reset q) cycles).contents ports));
   always_fed_words_move_in_their_cycle = λ q is zero_is chan place once cycles fed.
       subst (λ (s : Since). length (s.sent chan) ≡ length cycles - q.stage place) (same_cycles q cycles (at_reset q))
       (always_fed_words_move_in_their_cycle q is zero_is chan place once cycles fed);

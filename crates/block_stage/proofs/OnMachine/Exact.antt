@@ -19,7 +19,7 @@ use Rattle.block_stage.proofs.OnMachine.Choices.{eqb-eq, eq-eqb, eq_apart, if_no
 use Rattle.block_stage.proofs.OnMachine.Walks.{Goes, IsGoing, ends, skips, takes, gives, no_word, no_room, walk_goes}
 use Rattle.block_stage.proofs.OnMachine.Rests.{site_at}
 use Rattle.block_stage.proofs.OnMachine.Stages.{stage_at, stands_before, stands_behind, first_within, first_grows}
-use Rattle.block_stage.proofs.OnMachine.Moves.{idle}
+use Rattle.block_stage.proofs.OnMachine.Meeting.{stage_meets}
 use Rattle.block_stage.proofs.OnMachine.Holding.{IsClean, stage_walk, cleared_by_moving, clean_stays}
 use Rattle.block_stage.proofs.OnMachine.Turns.{cases, full_zero, full_suc}
 use Rattle.block_stage.proofs.OnMachine.Gathering.{all_only}
@@ -31,16 +31,6 @@ fresh_goes : (q : Pipeline) (c : Registers) (ports : Ports) (j : ℕ) → c.full
 fresh_goes q c ports j f clean l =
     subst (IsGoing q.proc.behavior ports (brought c j).state (brought c j).got (first q j) (first q (suc j) - first q j)) (sym (stage_walk q c ports j f))
     (walk_goes q.proc.behavior c.done c.kept ports (brought c j).state (brought c j).got (first q j) (first q (suc j) - first q j) (λ k x y. clean k x (omega arith)))
-
--- a walk whose ports are open passes
-fed_passes : (b : Behavior) (ports : Ports) → IsFed ports → (s : Value) (got got' : List Word) (i n p : ℕ) (deeds : List Deed) (waits : Option Event)
-    → Goes b ports s got i n p got' deeds waits → waits ≡ None
-fed_passes b ports fed s got got' i n p deeds waits ends = refl
-fed_passes b ports fed s got got' i n p deeds waits (skips {n = m} t g) = fed_passes b ports fed s _ got' (suc i) m p deeds waits g
-fed_passes b ports fed s got got' i n p deeds waits (takes {n = m} {deeds = ds} w t o g) = fed_passes b ports fed s _ got' (suc i) m p ds waits g
-fed_passes b ports fed s got got' i n p deeds waits (gives {n = m} {deeds = ds} w t o g) = fed_passes b ports fed s _ got' (suc i) m p ds waits g
-fed_passes b ports fed s got got' i n p deeds waits (no_word t o) = absurd (let w = fed.word (chan_at b.sites i) in let x = w.1 in cc)
-fed_passes b ports fed s got got' i n p deeds waits (no_room w t o) = absurd (let x = fed.room (chan_at b.sites i) in cc)
 
 -- at no site of a stretch does a proc send on a channel
 abbrev SendsNothing : Behavior → ℕ → ℕ → ℕ → Type 0
@@ -108,28 +98,22 @@ record Runs (q : Pipeline) (c : Registers) (k : ℕ) : Type 0 where
   full : (j : ℕ) → j < q.stages → c.full j ≡ nat_le j k
   clean : (j : ℕ) → j < q.stages → IsClean q c j
 
-stage_passes : (q : Pipeline) → IsPipeline q → (c : Registers) (ports : Ports) → IsFed ports → (j : ℕ) → IsClean q c j → is_some (in_stage q c ports j).waits ≡ false
-stage_passes q is c ports fed j clean = go (cases (c.full j))
-  where
-    none_is : (waits : Option Event) → waits ≡ None → is_some waits ≡ false
-    none_is waits e = rw e refl
+-- no stage of a pipeline that is fed waits
+fed_passes : (q : Pipeline) → IsPipeline q → (c : Registers) (ports : Ports) → IsFed q ports → (j : ℕ) → (in_stage q c ports j).waits ≡ None
+fed_passes q is c ports fed j = stage_meets q is c ports j (λ i site here at. fed i site here)
 
-    go : (c.full j ≡ true) ⊎ (c.full j ≡ false) → is_some (in_stage q c ports j).waits ≡ false
-    go (inr f) = let e = idle q c ports j f in rw e refl
-    go (inl f) =
-        let w = in_stage q c ports j in
-        none_is w.waits (fed_passes q.proc.behavior ports fed (brought c j).state (brought c j).got w.got (first q j) (first q (suc j) - first q j) w.place w.deeds w.waits
-        (fresh_goes q c ports j f clean (first_grows q is j (suc j) (omega arith))))
+stage_passes : (q : Pipeline) → IsPipeline q → (c : Registers) (ports : Ports) → IsFed q ports → (j : ℕ) → is_some (in_stage q c ports j).waits ≡ false
+stage_passes q is c ports fed j = ap is_some (fed_passes q is c ports fed j)
 
-all_move : (q : Pipeline) → IsPipeline q → (c : Registers) (ports : Ports) → IsFed ports → ((j : ℕ) → j < q.stages → IsClean q c j) → (n j : ℕ) → j + n < q.stages → moves_before q c ports n j ≡ c.full j
-all_move q is c ports fed clean zero j l = let e = stage_passes q is c ports fed j (clean j (omega arith)) in rw e (and_true (c.full j))
+all_move : (q : Pipeline) → IsPipeline q → (c : Registers) (ports : Ports) → IsFed q ports → (n j : ℕ) → j + n < q.stages → moves_before q c ports n j ≡ c.full j
+all_move q is c ports fed zero j l = let e = stage_passes q is c ports fed j in rw e (and_true (c.full j))
   where
     and_true : (x : Bool) → (x && true) ≡ x
     and_true true = refl
     and_true false = refl
-all_move q is c ports fed clean (suc n) j l =
-    let e = stage_passes q is c ports fed j (clean j (omega arith)) in
-    let ih = all_move q is c ports fed clean n (suc j) (omega arith) in
+all_move q is c ports fed (suc n) j l =
+    let e = stage_passes q is c ports fed j in
+    let ih = all_move q is c ports fed n (suc j) (omega arith) in
     rw (e, ih) (free (c.full j) (c.full (suc j)))
   where
     free : (x y : Bool) → ((x && true) && (not y || y)) ≡ x
@@ -137,15 +121,15 @@ all_move q is c ports fed clean (suc n) j l =
     free true false = refl
     free false y = refl
 
-all_moves : (q : Pipeline) → IsPipeline q → (c : Registers) (ports : Ports) → IsFed ports → ((j : ℕ) → j < q.stages → IsClean q c j) → (j : ℕ) → j < q.stages → moves q c ports j ≡ c.full j
+all_moves : (q : Pipeline) → IsPipeline q → (c : Registers) (ports : Ports) → IsFed q ports → (j : ℕ) → j < q.stages → moves q c ports j ≡ c.full j
 unfolding moves
-all_moves q is c ports fed clean j l = all_move q is c ports fed clean (q.stages - suc j) j (omega arith)
+all_moves q is c ports fed j l = all_move q is c ports fed (q.stages - suc j) j (omega arith)
 
-runs_on : (q : Pipeline) → IsPipeline q → q.last ≡ 0 → (c : Registers) (k : ℕ) (ports : Ports) → IsFed ports → Runs q c k → Runs q (after_cycle q c ports) (suc k)
+runs_on : (q : Pipeline) → IsPipeline q → q.last ≡ 0 → (c : Registers) (k : ℕ) (ports : Ports) → IsFed q ports → Runs q c k → Runs q (after_cycle q c ports) (suc k)
 runs_on q is last c k ports fed runs = record { full = full; clean = clean }
   where
     moved : (j : ℕ) → j < q.stages → moves q c ports j ≡ c.full j
-    moved = all_moves q is c ports fed runs.clean
+    moved = all_moves q is c ports fed
 
     le_zero : (k : ℕ) → nat_le 0 k ≡ true
     le_zero k = grind (arith, nat_tests)
@@ -198,7 +182,7 @@ chan_of (x ∷ xs) zero site e = let h : x ≡ site = cc in ap (λ (y : Site). y
 chan_of (x ∷ xs) (suc i) site e = chan_of xs i site e
 
 -- the words that a cycle sends on the channel
-given_once : (q : Pipeline) → IsPipeline q → (ch place : ℕ) → SendsOnce q ch place → (c : Registers) (k : ℕ) (ports : Ports) → IsFed ports → Runs q c k
+given_once : (q : Pipeline) → IsPipeline q → (ch place : ℕ) → SendsOnce q ch place → (c : Registers) (k : ℕ) (ports : Ports) → IsFed q ports → Runs q c k
     → length (gave q.proc.behavior.sites ch (deeds_in q c ports)) ≡ cond (nat_le (q.stage place) k) 1 0
 unfolding deeds_in
 given_once q is ch place once c k ports fed runs =
@@ -242,7 +226,7 @@ given_once q is ch place once c k ports fed runs =
         let e = sym (runs.full s within) ∙ f in
         gives_one q.proc.behavior ch place ports (chan_of q.proc.behavior.sites place once.site once.here ∙ once.chan_is) once.on
         (brought c s).state (brought c s).got w.got (first q s) (first q (suc s) - first q s) w.place w.deeds w.waits goes
-        (fed_passes q.proc.behavior ports fed (brought c s).state (brought c s).got w.got (first q s) (first q (suc s) - first q s) w.place w.deeds w.waits goes)
+        (fed_passes q is c ports fed s)
         from (omega arith)
         (λ i x y a s' got w' t. once_at q is ch place once i (omega arith) a s' got w' t)
         ∙ (rw e refl)
@@ -260,7 +244,7 @@ one_later s k n e = go (cases_lt k s)
     go (inl l) = let h = le_false s k l in rw h (omega arith)
     go (inr l) = let h = le_true s k l in rw h (omega arith)
 
-exact_from : (q : Pipeline) → IsPipeline q → q.last ≡ 0 → (ch place : ℕ) → SendsOnce q ch place → (cycles : List Ports) → AreFed cycles → (since : Since) (k : ℕ) → Runs q since.contents k
+exact_from : (q : Pipeline) → IsPipeline q → q.last ≡ 0 → (ch place : ℕ) → SendsOnce q ch place → (cycles : List Ports) → AreFed q cycles → (since : Since) (k : ℕ) → Runs q since.contents k
     → length (since.sent ch) ≡ k - q.stage place → length ((after_cycles q since cycles).sent ch) ≡ (length cycles + k) - q.stage place
 exact_from q is last ch place once [] fed since k runs e = let h : 0 + k ≡ k = omega arith in rw h e
 exact_from q is last ch place once (ports ∷ more) fed since k runs e =
@@ -282,7 +266,7 @@ runs_at_reset q = record { full = full; clean = λ j l k x y. refl }
         le_none : (j : ℕ) → nat_le (suc j) 0 ≡ false
         le_none j = grind (arith, nat_tests)
 
-pub always_fed_words_move_in_their_cycle : (q : Pipeline) → IsPipeline q → q.last ≡ 0 → (chan place : ℕ) → SendsOnce q chan place → (cycles : List Ports) → AreFed cycles
+pub always_fed_words_move_in_their_cycle : (q : Pipeline) → IsPipeline q → q.last ≡ 0 → (chan place : ℕ) → SendsOnce q chan place → (cycles : List Ports) → AreFed q cycles
     → length ((after_cycles q (at_reset q) cycles).sent chan) ≡ length cycles - q.stage place
 always_fed_words_move_in_their_cycle q is last chan place once cycles fed =
     let h : length cycles + 0 ≡ length cycles = omega arith in

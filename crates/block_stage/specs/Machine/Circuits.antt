@@ -1,6 +1,6 @@
 -- A pipeline whose registers have this circuit between them: what it does in the cycles since reset, and the laws that it
 -- keeps where the circuit is right.
-use Rattle.std.specs.Prelude.{◌≡◌, ◌≤◌, ◌<◌, ℕ, suc, ◌-◌, false, Bool, List, [], ◌∷◌, ◌++◌, length, if◌then◌else◌, ◌==◌, option_to_list, Some}
+use Rattle.std.specs.Prelude.{◌≡◌, ◌≤◌, ◌<◌, ℕ, suc, ◌-◌, true, false, Bool, List, [], ◌∷◌, ◌++◌, length, if◌then◌else◌, ◌==◌, option_to_list, Some}
 use Rattle.xb_bits.specs.Word.{Word}
 use Rattle.base.specs.Lists.Front.{IsFront}
 use Rattle.net_core.specs.declared.event.Event.{Event}
@@ -9,7 +9,7 @@ use Rattle.net_core.specs.Cuts.{words_sent, count_received}
 use Rattle.block_stage.specs.Machine.Pipeline.{Pipeline, IsPipeline, first}
 use Rattle.block_stage.specs.Machine.Cycle.{Ports, Registers, Circuit, Walk, Deed, brought, walk_by, if_full, moves_through, contents_after, deeds_through, asked_by, asked_through}
 use Rattle.block_stage.specs.Machine.Since.{Since, took, gave, at_reset}
-use Rattle.block_stage.specs.Machine.Steady.{AreFed, SendsOnce}
+use Rattle.block_stage.specs.Machine.Steady.{IsStageMet, AreFed, SendsOnce}
 
 abbrev pub stage_by : Circuit → Pipeline → Registers → Ports → ℕ → Walk
 stage_by x q c ports j =
@@ -74,8 +74,22 @@ pub record IsLawful (x : Circuit) : Type 0 where
       let now = (cycles_by x q (at_reset q) cycles).contents in
       took q.proc.behavior.sites chan (deeds_by x q now ports)
       ≡ (if count_received q.proc.behavior.sites chan (asks_by x q now ports) == 0 then [] else option_to_list (ports.offer chan))
+  -- an activation moves where the partners of all its stage's sites are there and the next stage is free or moves
+  pub a_stage_moves_where_it_can : (q : Pipeline) → IsPipeline q → (cycles : List Ports) (ports : Ports) (j : ℕ) → j < q.stages →
+      let now = (cycles_by x q (at_reset q) cycles).contents in
+      now.full j ≡ true → IsStageMet q j ports →
+      (suc j < q.stages → now.full (suc j) ≡ true → moves_by x q now ports (suc j) ≡ true) →
+      moves_by x q now ports j ≡ true
+  -- where it moves it stands in the next stage
+  pub a_moved_activation_stands_in_the_next_stage : (q : Pipeline) → IsPipeline q → (cycles : List Ports) (ports : Ports) (j : ℕ) →
+      let now = (cycles_by x q (at_reset q) cycles).contents in
+      moves_by x q now ports j ≡ true → (cycle_by x q now ports).full (suc j) ≡ true
+  -- where it leaves the stage in which it gives the turn back, the next may begin in the next cycle
+  pub the_turn_comes_back : (q : Pipeline) → IsPipeline q → (cycles : List Ports) (ports : Ports) →
+      let now = (cycles_by x q (at_reset q) cycles).contents in
+      moves_by x q now ports q.last ≡ true → (cycle_by x q now ports).full 0 ≡ true
   -- one that keeps the turn in stage 0, is always fed and whose words are always taken, sends word i in cycle i + s, s the
   -- stage of its sending site
   pub always_fed_words_move_in_their_cycle : (q : Pipeline) → IsPipeline q → q.last ≡ 0 → (chan place : ℕ) → SendsOnce q chan place →
-      (cycles : List Ports) → AreFed cycles →
+      (cycles : List Ports) → AreFed q cycles →
       length ((cycles_by x q (at_reset q) cycles).sent chan) ≡ length cycles - q.stage place

@@ -230,11 +230,3 @@ asked_of q c ports k n = asked_through (in_stage q c ports) k n
 
 unfoldable pub asked_in : Pipeline → Registers → Ports → List Event
 asked_in q c ports = asked_of q c ports 0 q.stages
-
--- a cycle of the clock with its reset, as a row of a simulation has it: with reset nothing is asked, and what the registers
--- hold afterwards is what they hold after reset
-abbrev pub asked_in_row : Pipeline → Registers → Bool → Ports → List Event
-asked_in_row q c rst ports = if rst then [] else asked_in q c ports
-
-abbrev pub after_row : Pipeline → Registers → Bool → Ports → Registers
-after_row q c rst ports = if rst then opened q else after_cycle q c ports

@@ -1,16 +1,16 @@
 //! Laws of pipelined hardware, each the contract of a function without a body. For proofs of other crates they are lemmas
 //! of the same names in `proofs/Lemmas.antt`.
 
-ghost use Rattle.std.specs.Prelude.{◌≡◌, ◌≤◌, ◌<◌, ◌-◌, ℕ, true, List, [], ◌∷◌, length, false, Some, ◌==◌, if◌then◌else◌, option_to_list};
+ghost use Rattle.std.specs.Prelude.{◌≡◌, ◌≤◌, ◌<◌, ◌-◌, ℕ, suc, true, List, [], ◌∷◌, length, false, Some, ◌==◌, if◌then◌else◌, option_to_list};
 ghost use Rattle.xb_bits.specs.Word.{Word};
 ghost use Rattle.net_core.specs.declared.event.Event.{Event};
 ghost use Rattle.net_core.specs.Trace.{trace};
 ghost use Rattle.base.specs.Lists.Front.{IsFront};
 ghost use Rattle.net_core.specs.Cuts.{words_sent, count_received};
 ghost use Rattle.block_stage.specs.Machine.Pipeline.{Pipeline, IsPipeline, ReceivesNowhere};
-ghost use Rattle.block_stage.specs.Machine.Cycle.{Ports, Registers, in_stage, asked_by, asked_in, asked_in_row, after_cycle, after_row, deeds_in, opened};
+ghost use Rattle.block_stage.specs.Machine.Cycle.{Ports, Registers, in_stage, moves, asked_by, asked_in, after_cycle, deeds_in};
 ghost use Rattle.block_stage.specs.Machine.Since.{took, gave, at_reset, after_cycles};
-ghost use Rattle.block_stage.specs.Machine.Steady.{AreFed, SendsOnce};
+ghost use Rattle.block_stage.specs.Machine.Steady.{IsStageMet, AreFed, SendsOnce};
 
 /// Whatever stands at the ports in each cycle since reset: the words sent on a channel are a front of those that the
 /// proc's trace sends there over the words received. The trace may be of as many activations as cycles, or more.
@@ -71,17 +71,32 @@ pub fn nothing_is_received_without_a_site()
         (after_cycles q (at_reset q) cycles).received chan ≡ [] }
 {}
 
-/// In a cycle with reset nothing is asked, and afterwards the registers hold what they hold after reset.
-pub fn nothing_is_asked_in_reset()
-    ensures asked { (q : Pipeline) (now : Registers) (ports : Ports) → asked_in_row q now true ports ≡ [] }
-    ensures after { (q : Pipeline) (now : Registers) (ports : Ports) → after_row q now true ports ≡ opened q }
+/// An activation moves where the partners of all its stage's sites are there, a word for each that receives and room for
+/// each that sends, and where the next stage is free or moves. Of the final stage it leaves so.
+pub fn a_stage_moves_where_it_can()
+    ensures { (q : Pipeline) → IsPipeline q → (now : Registers) (ports : Ports) (j : ℕ) → j < q.stages →
+        now.full j ≡ true → IsStageMet q j ports →
+        (suc j < q.stages → now.full (suc j) ≡ true → moves q now ports (suc j) ≡ true) →
+        moves q now ports j ≡ true }
 {}
 
-/// A pipeline that keeps the turn in stage 0, is always fed and whose words are always taken: where each activation
-/// sends one word on a channel, word `i` moves exactly in cycle `i + s`, `s` the stage of the sending site. So in the
-/// first `k` cycles `k - s` words move, or none while `k` is less.
+/// One that moves stands in the next stage in the next cycle, and where one leaves the stage in which it gives the turn
+/// back, the next may begin.
+pub fn moved_activations_go_on()
+    ensures stands { (q : Pipeline) (now : Registers) (ports : Ports) (j : ℕ) → moves q now ports j ≡ true → (after_cycle q now ports).full (suc j) ≡ true }
+    ensures turn { (q : Pipeline) (now : Registers) (ports : Ports) → moves q now ports q.last ≡ true → (after_cycle q now ports).full 0 ≡ true }
+{}
+
+/// A stage in which no activation stands asks for nothing.
+pub fn nothing_is_asked_without_an_activation()
+    ensures { (q : Pipeline) (now : Registers) (ports : Ports) → ((j : ℕ) → now.full j ≡ false) → asked_in q now ports ≡ [] }
+{}
+
+/// A pipeline that keeps the turn in stage 0, and in each cycle finds a word at each end at which it receives and room at
+/// each at which it sends: where each activation sends one word on a channel, word `i` moves exactly in cycle `i + s`,
+/// `s` the stage of the sending site. So in the first `k` cycles `k - s` words move, or none while `k` is less.
 pub fn always_fed_words_move_in_their_cycle()
     ensures { (q : Pipeline) → IsPipeline q → q.last ≡ 0 → (chan place : ℕ) → SendsOnce q chan place →
-        (cycles : List Ports) → AreFed cycles →
+        (cycles : List Ports) → AreFed q cycles →
         length ((after_cycles q (at_reset q) cycles).sent chan) ≡ length cycles - q.stage place }
 {}

@@ -1,0 +1,5 @@
+use Rattle.block_build.proofs.Driven.{offers_stand}
+use Rattle.block_build.proofs.laws.offers_stand.Goals as goal
+
+pub returns : goal.returns
+returns c = offers_stand

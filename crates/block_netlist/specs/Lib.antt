@@ -1,0 +1,22 @@
+-- wires, and what they carry
+pub mod Wires
+-- wires of one bit
+pub mod Gates
+-- the wires of a stage's sites
+pub mod Handshakes
+-- what they show of the machine
+pub mod Walks
+-- the wires of a pipeline's stages
+pub mod Stages
+-- the words of receives
+pub mod Receives
+-- what an activation does by the words on signals
+pub mod Turns
+-- what an IR proc does by them
+pub mod Procs
+-- what a verifier asks of wires
+pub mod Order
+-- which values stages carry on
+pub mod Layout
+-- the wires of a FIFO
+pub mod Fifos
