@@ -1,5 +1,5 @@
 -- How many nodes there are after the passes.
-use Rattle.std.proofs.Common.{◌≡◌, inl, inr, ℕ, zero, suc, ◌*◌, ◌≤◌, List, [], ◌∷◌, ◌++◌, length, Bool, Some, refl, sym, ap, subst, ◌∙◌, arith, length-append}
+use Rattle.std.proofs.Common.{◌≡◌, ℕ, zero, suc, ◌*◌, ◌≤◌, List, [], ◌∷◌, ◌++◌, length, Bool, Some, refl, sym, ap, subst, ◌∙◌, arith, length-append}
 use Rattle.std.specs.Prelude.{slice_get}
 use Rattle.ir_tree.specs.declared.ir_type.IrType.{IrType}
 use Rattle.ir_tree.specs.declared.node.Operand.{Operand}
@@ -10,7 +10,7 @@ use Rattle.ir_rebuild.specs.Moves.{moved, moved_node}
 use Rattle.ir_rebuild.specs.Walks.{NodeRelation, RebuildsTo, none_read, dropped, copied, rewritten, Becomes, EachBecomes}
 use Rattle.ir_rebuild.specs.Normal.Normal.{AreNeeded, AreNormal, IsNormalProc}
 use Rattle.pass_dead.specs.Stays.{Stays}
-use Rattle.pass_fold.specs.Settled.{IsFolded, literal_node}
+use Rattle.pass_fold.specs.Settled.{IsFolded, settled_node}
 use Rattle.ir_passes.specs.Simplifies.{Simplifies}
 use Rattle.ir_passes.proofs.Walk.{walk_normal, walk_few}
 use Rattle.ir_passes.proofs.Moved.{normal_proc}
@@ -20,18 +20,17 @@ one_more xs n = omega (arith, length-append xs (n ∷ []))
 
 -- a node that is settled is one more
 pub settled_count : (old new : List Node) (n : Node) (o : Operand) → IsFolded old new n o → length new ≡ suc (length old)
-settled_count old new n o (inl is) = ap length is.1.0 ∙ one_more old (numbered (length old) n)
-settled_count old new n o (inr is) = ap length is.1.0 ∙ one_more old (numbered (length old) (literal_node n.ty is.0))
+settled_count old new n o is = ap length is.0 ∙ one_more old (numbered (length old) (settled_node old n))
 
 no_more : (state : IrType) (kept : List Bool) (old new : List Node) (places : List Operand) → RebuildsTo state Stays kept old new places → length new ≤ length old
 no_more state kept _ _ _ none_read = omega arith
-no_more state kept _ _ _ (dropped old new places n o w unmarked) =
+no_more state kept _ _ _ (dropped old new places n w unmarked) =
     let before = no_more state kept old new places w in
     omega (arith, before, length-append old (n ∷ []))
 no_more state kept _ _ _ (copied old new places n w marked fixed built) =
     let before = no_more state kept old new places w in
     omega (arith, before, length-append old (n ∷ []), length-append new (numbered (length new) (moved_node (moved places) n) ∷ []))
-no_more state kept _ _ _ (rewritten old new all places n o w marked free rewrites given) =
+no_more state kept _ _ _ (rewritten old new all places n o w marked free behind placed rewrites given) =
     let before = no_more state kept old new places w in
     let one = ap length given.0 in
     omega (arith, before, one, length-append old (n ∷ []), length-append new (numbered (length new) (moved_node (moved places) n) ∷ []))

@@ -46,7 +46,7 @@ none_kept kept = record {
   apart = λ j k i h. absurd (omega (arith, h));
 }
 
-front_ordered : (old : List Node) (n : Node) → AreOrdered (old ++ n ∷ []) → AreOrdered old
+pub front_ordered : (old : List Node) (n : Node) → AreOrdered (old ++ n ∷ []) → AreOrdered old
 front_ordered old n h j m e = h j m (before_more old (n ∷ []) j m e)
 
 -- one more operand changes nothing for nodes before
@@ -60,7 +60,7 @@ image_longer new more places o j n less there h = record {
     same : moved_node (moved (places ++ o ∷ [])) n ≡ moved_node (moved places) n
     same = moved_two (is_there j) (moved (places ++ o ∷ [])) (moved places) (λ q e. moved_longer places o q (there_more j (length places) (omega (arith, less)) q e)) n there
 
-last_place : (places : List Operand) (o : Operand) (j : ℕ) → j ≡ length places → get_or (places ++ o ∷ []) j operand.State ≡ o
+pub last_place : (places : List Operand) (o : Operand) (j : ℕ) → j ≡ length places → get_or (places ++ o ∷ []) j operand.State ≡ o
 last_place [] o zero e = refl
 last_place [] o (suc j) e = absurd (omega (arith, e))
 last_place (p ∷ ps) o zero e = absurd (omega (arith, e))
@@ -175,11 +175,11 @@ keep_one kept old new places n ordered h marked = record {
 -- what the walk of the pass that drops says
 pub kept_as : (state : IrType) (kept : List Bool) (old new : List Node) (places : List Operand) → RebuildsTo state Stays kept old new places → AreOrdered old → AreKeptAs kept old new places
 kept_as state kept _ _ _ none_read ordered = none_kept kept
-kept_as state kept _ _ _ (dropped old new places n o w unmarked) ordered =
-    drop_one kept old new places n o ordered (kept_as state kept old new places w (front_ordered old n ordered)) unmarked
+kept_as state kept _ _ _ (dropped old new places n w unmarked) ordered =
+    drop_one kept old new places n operand.State ordered (kept_as state kept old new places w (front_ordered old n ordered)) unmarked
 kept_as state kept _ _ _ (copied old new places n w marked fixed built) ordered =
     keep_one kept old new places n ordered (kept_as state kept old new places w (front_ordered old n ordered)) marked
-kept_as state kept _ _ _ (rewritten old new all places n o w marked free rewrites given) ordered =
+kept_as state kept _ _ _ (rewritten old new all places n o w marked free before placed rewrites given) ordered =
     subst (λ ns. AreKeptAs kept (old ++ n ∷ []) ns (places ++ o ∷ [])) (sym given.0)
     (subst (λ p. AreKeptAs kept (old ++ n ∷ []) (new ++ numbered (length new) (moved_node (moved places) n) ∷ []) (places ++ p ∷ [])) (sym given.1)
     (keep_one kept old new places n ordered (kept_as state kept old new places w (front_ordered old n ordered)) marked))

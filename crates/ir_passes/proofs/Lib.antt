@@ -4,3 +4,7 @@ pub mod Walk
 pub mod Selects
 pub mod Simplifying
 pub mod Counting
+pub mod Exact
+pub mod Unchanged
+pub mod GivenBack
+pub mod Determined

@@ -43,10 +43,10 @@ below : (i n : ℕ) → nat_lt i n ≡ true → i < n
 below i n h = grind (arith, nat_tests, h)
 
 -- an operand that stands before a place and was kept
-abbrev is_ready : ℕ → List Bool → Operand → Bool
+abbrev pub is_ready : ℕ → List Bool → Operand → Bool
 is_ready k kept o = is_there k o && is_kept kept o
 
-all_ready : (k : ℕ) (kept : List Bool) (os : List Operand) → list_all (is_there k) os ≡ true → list_all (is_kept kept) os ≡ true → list_all (is_ready k kept) os ≡ true
+pub all_ready : (k : ℕ) (kept : List Bool) (os : List Operand) → list_all (is_there k) os ≡ true → list_all (is_kept kept) os ≡ true → list_all (is_ready k kept) os ≡ true
 all_ready k kept [] h c = refl
 all_ready k kept (o ∷ os) h c =
     let a = both (is_there k o) (list_all (is_there k) os) h in
@@ -199,10 +199,9 @@ module _ (state : IrType) (kept : List Bool) (old new : List Node) (places : Lis
   operands_moved : (n : Node) → operands_in (moved_node (moved places) n) ≡ map (moved places) (operands_in n)
   operands_moved n = ap (λ os. map (moved places) n.operands ++ os) (attributes_map (moved places) n.attributes) ∙ map_append n.operands (attribute_operands n.attributes)
 
-  -- a normal node that was kept is normal where it stands
-  normal_there : (j : ℕ) (n : Node) → slice_get old j ≡ Some n → get_or kept j false ≡ true → IsNormalNode state old n → IsNormalNode state new (moved_node (moved places) n)
-  normal_there j n e k is =
-      let ready = ready_of j n e k in
+  -- a node over operands that were kept is normal over what stands for them
+  pub normal_over : (n : Node) → list_all (is_ready (length old) kept) (operands_in n) ≡ true → IsNormalNode state old n → IsNormalNode state new (moved_node (moved places) n)
+  normal_over n ready is =
       let parts = all_parts (is_ready (length old) kept) n.operands (attribute_operands n.attributes) ready in
       record {
         folded = ap (all_literals new) (operands_moved n) ∙ literals_same (operands_in n) ready ∙ is.folded;
@@ -211,6 +210,10 @@ module _ (state : IrType) (kept : List Bool) (old new : List Node) (places : Lis
             ap₂ (left_side n.op (bits_width n.ty)) (bit_same n.attributes) (map_moved (is_ready (length old) kept) (moved places) (origin state new) (origin state old) origin_same n.operands parts.0)
             ∙ is.narrowed;
       }
+
+  -- a normal node that was kept is normal where it stands
+  normal_there : (j : ℕ) (n : Node) → slice_get old j ≡ Some n → get_or kept j false ≡ true → IsNormalNode state old n → IsNormalNode state new (moved_node (moved places) n)
+  normal_there j n e k = normal_over n (ready_of j n e k)
 
   pub all_normal : AreNormal state old → AreNormal state new
   all_normal normal = record { each = each }
@@ -248,7 +251,7 @@ site_same f o (attributes.Channel predicate c) = by_op o
     by_op op.Send = refl
     by_op _ = refl
 
-operand_there : (p : Operand → Bool) (os : List Operand) (k : ℕ) (o : Operand) → list_all p os ≡ true → slice_get os k ≡ Some o → p o ≡ true
+pub operand_there : (p : Operand → Bool) (os : List Operand) (k : ℕ) (o : Operand) → list_all p os ≡ true → slice_get os k ≡ Some o → p o ≡ true
 operand_there p [] k o h e = absurd (cc)
 operand_there p (x ∷ xs) zero o h e = let same : x ≡ o = cc in subst (λ y. p y ≡ true) same (both (p x) (list_all p xs) h).0
 operand_there p (x ∷ xs) (suc k) o h e = operand_there p xs k o (both (p x) (list_all p xs) h).1 e

@@ -100,7 +100,7 @@ some_chosen cs (Some d) k w counted range e = chosen_some cs d k e
 
 -- ---- one operand all over
 
-same_itself : (c : Operand) → same_operand c c ≡ true
+pub same_itself : (c : Operand) → same_operand c c ≡ true
 same_itself operand.State = refl
 same_itself (operand.Node i) = grind (arith, nat_tests)
 
@@ -132,7 +132,7 @@ record IsOpen (nodes : List Node) (s : Operand) (cases : List Operand) (default 
   selector : names_literal nodes s ≡ false
   cases_differ : are_one (cases ++ optional_operand default) ≡ false
 
-no_number : (x : Option Node) → is_literal_node x ≡ false → number_in x ≡ None
+pub no_number : (x : Option Node) → is_literal_node x ≡ false → number_in x ≡ None
 no_number None h = refl
 no_number (Some n) h = by_op n.op h
   where

@@ -1,10 +1,9 @@
 -- What is appended for a node behind normal nodes is normal.
-use Rattle.std.proofs.Common.{◌≡◌, inl, inr, ℕ, ◌+◌, ◌<◌, ◌≤◌, List, [], ◌∷◌, ◌++◌, map, length, Bool, true, false, ◌&&◌, Option, Some, None, refl, sym, ap, ap₂, subst, ◌∙◌, arith, Result, Ok, Err, IfOk}
-use Rattle.std.specs.Prelude.{nat_eq, ◌||◌}
+use Rattle.std.proofs.Common.{◌≡◌, ℕ, ◌<◌, List, [], ◌∷◌, ◌++◌, map, length, Bool, true, false, ◌&&◌, Option, Some, None, refl, sym, ap, ap₂, subst, ◌∙◌, arith, Result, Ok, Err, IfOk}
+use Rattle.std.specs.Prelude.{nat_eq, ◌||◌, if◌then◌else◌}
 use Rattle.std.specs.List.{list_all}
 use Rattle.std.proofs.lemmas.Bool.Decides.{nat_tests}
 use Rattle.std.proofs.lemmas.List.{append-nil}
-use Rattle.std.proofs.lemmas.Result.{IfOk-weaker}
 use Rattle.std.proofs.lemmas.List.Folds.{list_all-append}
 use Rattle.delay_model.specs.declared.op.Op.{Op}
 use Rattle.delay_model.specs.declared.op.Op.TheVariants as op
@@ -27,15 +26,15 @@ use Rattle.ir_rebuild.specs.Normal.Origins.{made_by}
 use Rattle.ir_rebuild.specs.Normal.LeftSides.{is_literal_op as is_normal_literal_op, is_extension, width_if, extended_in, is_some, has_left_side}
 use Rattle.ir_rebuild.specs.Normal.Normal.{is_literal_node, names_literal, all_literals, is_cases, chooses_one, IsNormalNode, AreNormal}
 use Rattle.ir_rebuild.proofs.Lemmas.Normal.{AreOrdered, normal_more, literals_more, chooses_more}
-use Rattle.pass_fold.specs.Folds.{is_literal_op, is_literal as is_literal_operand, are_folded, is_foldable, is_foldable_by}
-use Rattle.pass_fold.specs.Settled.{IsAppended, IsFolded, literal_node}
+use Rattle.pass_fold.specs.Folds.{is_literal_op, is_literal as is_literal_operand, are_folded, is_foldable, is_foldable_by, folded_value}
+use Rattle.pass_fold.specs.Constants.{constant_of}
+use Rattle.pass_fold.specs.Settled.{IsAppended, IsFolded, literal_node, settled_node}
 use Rattle.pass_fold.specs.Folds as folds
 use Rattle.pass_narrow.specs.Nodes.{extension_node}
 use Rattle.pass_narrow.specs.Narrowing.{Narrows}
 use Rattle.pass_narrow.specs.KeepsNormal.{IsNarrow, IsNarrowInside}
 use Rattle.pass_narrow.specs.declared.stand_in.StandIn.TheVariants as stand_in
 use Rattle.ir_passes.specs.Undecided.{IsUndecided}
-use Rattle.ir_passes.specs.Simplifies.{Simplifies}
 
 both : (a b : Bool) → a && b ≡ true → (a ≡ true) × (b ≡ true)
 both true true h = (refl, refl)
@@ -112,6 +111,21 @@ unfolded state nodes n placed plain h c =
     let parts = both (is_met (count_of n.op) (length n.operands)) (types_fit [] (types_behind state nodes) n n.attributes) placed.fits in
     unfolded_by state nodes n n.attributes plain parts.0 parts.1 h c
 
+-- and the other way round
+not_foldable_by : (nodes : List Node) (os : List Operand) (a : Attributes) → all_literals nodes (os ++ attribute_operands a) ≡ false → is_foldable_by nodes os a ≡ false
+not_foldable_by nodes os attributes.None h = same_folded nodes os ∙ sym (ap (all_literals nodes) (append-nil os)) ∙ h
+not_foldable_by nodes os (attributes.StartAndWidth start width) h = same_folded nodes os ∙ sym (ap (all_literals nodes) (append-nil os)) ∙ h
+not_foldable_by nodes os (attributes.Width width) h = same_folded nodes os ∙ sym (ap (all_literals nodes) (append-nil os)) ∙ h
+not_foldable_by nodes os (attributes.NewBitCount width) h = same_folded nodes os ∙ sym (ap (all_literals nodes) (append-nil os)) ∙ h
+not_foldable_by nodes os (attributes.Cases cases default) h = refl
+not_foldable_by nodes os (attributes.Index i) h = same_folded nodes os ∙ sym (ap (all_literals nodes) (append-nil os)) ∙ h
+not_foldable_by nodes os (attributes.Indices i) h = ap₂ (λ a b. a && b) (same_literal nodes i) (same_literals nodes os) ∙ sym (with_index nodes os i) ∙ h
+not_foldable_by nodes os (attributes.Value x) h = refl
+not_foldable_by nodes os (attributes.Channel predicate x) h = refl
+
+pub not_foldable : (nodes : List Node) (n : Node) → all_literals nodes (operands_in n) ≡ false → is_foldable nodes n ≡ false
+not_foldable nodes n h = not_foldable_by nodes n.operands n.attributes h
+
 no_cases_chosen : (nodes : List Node) (os : List Operand) (a : Attributes) → is_cases a ≡ false → chooses_one nodes os a ≡ false
 no_cases_chosen nodes os (attributes.Cases cases default) h = absurd (cc)
 no_cases_chosen nodes os a h = refl
@@ -149,11 +163,19 @@ more_normal state nodes n built h placed own = normal_more state nodes n built.b
 
 -- ---- what is settled
 
+settled_literal : (nodes : List Node) (m : Node) → is_foldable nodes m ≡ true → settled_node nodes m ≡ literal_node m.ty (constant_of (folded_value nodes m))
+settled_literal nodes m h = ap (λ b. if b then literal_node m.ty (constant_of (folded_value nodes m)) else m) h
+
+pub settled_itself : (nodes : List Node) (m : Node) → is_foldable nodes m ≡ false → settled_node nodes m ≡ m
+settled_itself nodes m h = ap (λ b. if b then literal_node m.ty (constant_of (folded_value nodes m)) else m) h
+
 pub settled_normal : (state : IrType) (nodes new : List Node) (m : Node) (o : Operand) → AreBuilt state nodes → AreNormal state nodes → IsPlaced state nodes (length nodes) m → (is_foldable nodes m ≡ false → IsNormalNode state nodes m) → IsFolded nodes new m o → AreNormal state new
-settled_normal state nodes new m o built h placed own (inl is) =
-    subst (AreNormal state) (sym is.1.0) (more_normal state nodes m built h placed (own is.0))
-settled_normal state nodes new m o built h placed own (inr is) =
-    subst (AreNormal state) (sym is.1.0) (literal_normal state nodes m.ty is.0 built h)
+settled_normal state nodes new m o built h placed own is =
+    either (is_foldable nodes m)
+    (λ yes.
+    subst (AreNormal state) (sym (is.0 ∙ ap (λ x. nodes ++ numbered (length nodes) x ∷ []) (settled_literal nodes m yes)))
+    (literal_normal state nodes m.ty (constant_of (folded_value nodes m)) built h))
+    (λ no. subst (AreNormal state) (sym (is.0 ∙ ap (λ x. nodes ++ numbered (length nodes) x ∷ []) (settled_itself nodes m no))) (more_normal state nodes m built h placed (own no)))
 
 -- a node that narrowing gave
 node_normal : (state : IrType) (old mid : List Node) (n m : Node) → IsPlaced state old (length old) n → IsUndecided old n → Narrows state old mid n (stand_in.Node m) → IsNarrow state mid n m → is_foldable mid m ≡ false → IsNormalNode state mid m
@@ -199,8 +221,10 @@ extension_side state mid one y o w own is no_ext t less =
     ∙ not_extended state (mid ++ numbered (length mid) y ∷ []) (numbered (length mid) y) no_ext)))
 
 folded_side : (state : IrType) (mid one : List Node) (m : Node) (o : Operand) (w own : ℕ) → IsFolded mid one m o → is_extension extend.Zero m.op ≡ false → m.ty ≡ Bits own [] → own < w → has_left_side state one (extension_node extend.Zero o w) ≡ false
-folded_side state mid one m o w own (inl is) no_ext t less = extension_side state mid one m o w own is.1 no_ext t less
-folded_side state mid one m o w own (inr is) no_ext t less = extension_side state mid one (literal_node m.ty is.0) o w own is.1 refl t less
+folded_side state mid one m o w own is no_ext t less =
+    either (is_foldable mid m)
+    (λ yes. extension_side state mid one (literal_node m.ty (constant_of (folded_value mid m))) o w own (subst (λ x. IsAppended mid one x o) (settled_literal mid m yes) is) refl t less)
+    (λ no. extension_side state mid one m o w own (subst (λ x. IsAppended mid one x o) (settled_itself mid m no) is) no_ext t less)
 
 pub longer_simplifies : (state : IrType) (old mid one new : List Node) (n m : Node) (w : ℕ) (o p : Operand) → Narrows state old mid n (stand_in.Extended m w) → (AreNormal state old → AreNormal state mid × IsNarrowInside state mid m) → AreBuilt state one →
     IsPlaced state one (length one) (extension_node extend.Zero o w) → IsFolded mid one m o → IsFolded one new (extension_node extend.Zero o w) p → AreNormal state old → AreNormal state new
@@ -214,15 +238,6 @@ longer_simplifies state old mid one new n m w o p narrows keeps built placed fir
 
 -- ---- what was appended for a node with zeros before it
 
-under : {A B E : Type 0} (P : B → Type 0) (r : Result B E) → (A → IfOk r P) → IfOk r (λ x. A → P x)
-under P (Ok x) f = f
-under P (Err e) f = tt
-
-both_if : {B E : Type 0} (P Q : B → Type 0) (r : Result B E) → IfOk r P → IfOk r Q → IfOk r (λ x. P x × Q x)
-both_if P Q (Ok x) p q = (p, q)
-both_if P Q (Err e) p q = tt
-
-pub simplifies_longer : {E : Type 0} (state : IrType) (old mid new : List Node) (n : Node) (r : Result Operand E) → length mid ≤ length old + 2 → (AreNormal state old → IfOk r (λ o. AreNormal state new)) → IfOk r (λ o. length new ≤ length mid + 2) → IfOk r (λ o. Simplifies state old new n o)
-simplifies_longer state old mid new n r few normal more =
-    IfOk-weaker r _ _ (λ o both_parts. record { normal = both_parts.0; few = let a = both_parts.1 in omega (arith, few, a) })
-    (both_if (λ o. AreNormal state old → AreNormal state new) (λ o. length new ≤ length mid + 2) r (under (λ o. AreNormal state new) r normal) more)
+pub with_premise : {A B E : Type 0} (P Q : B → Type 0) (r : Result B E) → IfOk r P → (A → IfOk r Q) → IfOk r (λ x. P x × (A → Q x))
+with_premise P Q (Ok x) p f = (p, f)
+with_premise P Q (Err e) p f = tt

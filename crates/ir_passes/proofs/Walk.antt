@@ -20,7 +20,10 @@ use Rattle.ir_rebuild.specs.Normal.Origins.{made_by}
 use Rattle.ir_rebuild.specs.Normal.LeftSides.{is_literal_op, is_tuple_op, is_made}
 use Rattle.ir_rebuild.specs.Normal.Normal.{is_literal_node, IsNormalNode, AreNormal}
 use Rattle.ir_rebuild.proofs.Lemmas.Normal.{normal_more}
+use Rattle.pass_narrow.specs.RightSides.{right_side_of}
+use Rattle.pass_select.specs.Choices.{choice_of}
 use Rattle.ir_passes.specs.Simplifies.{Simplifies}
+use Rattle.ir_passes.proofs.Exact.{at_most_four}
 
 both : (a b : Bool) → a && b ≡ true → (a ≡ true) × (b ≡ true)
 both true true h = (refl, refl)
@@ -93,22 +96,24 @@ fixed_normal state new n built fixed plain =
 
 pub walk_normal : (state : IrType) (kept : List Bool) (old new : List Node) (places : List Operand) → RebuildsTo state Simplifies kept old new places → AreNormal state new
 walk_normal state kept _ _ _ none_read = record { each = λ i n e. absurd (cc) }
-walk_normal state kept _ _ _ (dropped old new places n o w unmarked) = walk_normal state kept old new places w
+walk_normal state kept _ _ _ (dropped old new places n w unmarked) = walk_normal state kept old new places w
 walk_normal state kept _ _ _ (copied old new places n w marked fixed built) =
     let x = moved_node (moved places) n in
     normal_more state new x (λ j m e. built.before j m (before_more new (numbered (length new) x ∷ []) j m e)) (walk_normal state kept old new places w)
     (built.before (length new) (numbered (length new) x) (last_there new (numbered (length new) x))) (λ plain. fixed_normal state new x built fixed plain)
-walk_normal state kept _ _ _ (rewritten old new all places n o w marked free rewrites given) = given.normal (walk_normal state kept old new places w)
+walk_normal state kept _ _ _ (rewritten old new all places n o w marked free behind placed rewrites given) = given.normal (walk_normal state kept old new places w)
 
 pub walk_few : (state : IrType) (kept : List Bool) (old new : List Node) (places : List Operand) → RebuildsTo state Simplifies kept old new places → length new ≤ 4 * length old
 walk_few state kept _ _ _ none_read = omega arith
-walk_few state kept _ _ _ (dropped old new places n o w unmarked) =
+walk_few state kept _ _ _ (dropped old new places n w unmarked) =
     let before = walk_few state kept old new places w in
     omega (arith, before, length-append old (n ∷ []))
 walk_few state kept _ _ _ (copied old new places n w marked fixed built) =
     let before = walk_few state kept old new places w in
     omega (arith, before, length-append old (n ∷ []), length-append new (numbered (length new) (moved_node (moved places) n) ∷ []))
-walk_few state kept _ _ _ (rewritten old new all places n o w marked free rewrites given) =
+walk_few state kept _ _ _ (rewritten old new all places n o w marked free behind placed rewrites given) =
     let before = walk_few state kept old new places w in
+    let m = moved_node (moved places) n in
     let more = given.few in
-    omega (arith, before, more, length-append old (n ∷ []))
+    let most = at_most_four (choice_of new m) (right_side_of state new m) in
+    omega (arith, before, more, most, length-append old (n ∷ []))

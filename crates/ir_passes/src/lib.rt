@@ -4,7 +4,9 @@
 //! dropped. It takes time as there are nodes and operands, but for a factor of the operands' widths.
 #![tactic(auto)]
 
+mod laws;
 mod optimising;
 mod rules;
 
+pub use laws::{optimised_is_given_back, optimised_is_one};
 pub use optimising::optimise;

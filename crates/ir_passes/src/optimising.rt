@@ -8,7 +8,8 @@ use ir_tree::Package;
 use ir_verify::same::same_behavior_is_an_equivalence;
 use std::alloc::{AllocError, Global};
 
-/// The package in its normal form: it means the same, and no proc has more than four times its nodes.
+/// The package in its normal form: it means the same, each node is what the rules make of it, and no proc has more than four times
+/// its nodes. One that is normal is given back, with ids that count from 1.
 pub fn optimise(alloc: Global, ir: Package) -> Result<Package, AllocError>
     requires { IsVerified ir }
     ensures { IfOk result (λ new. IsOptimised ir new) }

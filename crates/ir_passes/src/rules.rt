@@ -1,6 +1,6 @@
 //! The rules of all passes at one node.
 
-ghost use Rattle.std.specs.Prelude.{◌≡◌, ◌+◌, ◌≤◌, true, length, List, IfOk};
+ghost use Rattle.std.specs.Prelude.{◌≡◌, true, length, List, None, IfOk};
 ghost use Rattle.ir_tree.specs.declared.ir_type.IrType.{IrType};
 ghost use Rattle.ir_tree.specs.declared.node.Node.{Node};
 ghost use Rattle.ir_rebuild.specs.Built.{AreBuilt, IsPlaced, Rewrites, is_plain_op};
@@ -8,6 +8,8 @@ ghost use Rattle.pass_narrow.specs.Narrowing.{Narrows};
 ghost use Rattle.pass_narrow.specs.KeepsNormal.{IsNarrowInside};
 ghost use Rattle.pass_narrow.specs.declared.stand_in.StandIn.TheVariants.{Extended};
 ghost use Rattle.ir_rebuild.specs.Normal.Normal.{AreNormal};
+ghost use Rattle.pass_select.specs.Choices.{choice_of};
+ghost use Rattle.ir_passes.specs.Simplified.{settle_answer, IsGrown};
 ghost use Rattle.ir_passes.specs.Simplifies.{Simplifies};
 ghost use Rattle.ir_passes.specs.Undecided.{IsUndecided};
 
@@ -24,7 +26,10 @@ use std::alloc::{AllocError, Global};
 pub struct AllRules;
 
 impl Rewrite for AllRules {
+    ghost use Rattle.ir_rebuild.specs.Kept.{AreAllKept};
     ghost use Rattle.ir_passes.specs.Simplifies.{Simplifies};
+
+    ghost marks = { AreAllKept };
 
     ghost gives = { Simplifies };
 
@@ -58,7 +63,7 @@ fn simplified(
     requires plain { is_plain_op node.op ≡ true }
     requires undecided { IsUndecided nodes.old.items node }
     ensures rewrites { IfOk result (λ o. Rewrites state.now nodes.old.items nodes.new.items node o) }
-    ensures simplifies { IfOk result (λ o. Simplifies state.now nodes.old.items nodes.new.items node o) }
+    ensures simplifies { choice_of nodes.old.items node ≡ None → IfOk result (λ o. Simplifies state.now nodes.old.items nodes.new.items node o) }
 {
     match narrowed(alloc, state, nodes, node)? {
         StandIn::Operand(operand) => Ok(operand),
@@ -79,7 +84,7 @@ fn settled_longer(
     ensures normal { (state : IrType) (old : List Node) (n : Node) → Narrows state old nodes.old.items n (Extended node width) →
         (AreNormal state old → AreNormal state nodes.old.items × IsNarrowInside state nodes.old.items node) → AreNormal state old →
         IfOk result (λ o. AreNormal state nodes.new.items) }
-    ensures few { IfOk result (λ o. length nodes.new.items ≤ length nodes.old.items + 2) }
+    ensures is { IfOk result (λ o. IsGrown nodes.new.items o (settle_answer nodes.old.items (Extended node width))) }
 {
     let operand = settled(alloc, nodes, node)?;
     let longer = extension(alloc, Extend::Zero, operand, width)?;

@@ -1,5 +1,5 @@
 -- Which nodes are kept.
-use Rattle.std.specs.Prelude.{◌≡◌, ℕ, Bool, true, false, List, length, get_or, slice_get, Some}
+use Rattle.std.specs.Prelude.{◌≡◌, ℕ, Bool, true, false, List, length, replicate, get_or, slice_get, Some}
 use Rattle.std.specs.List.{list_all}
 use Rattle.ir_tree.specs.declared.node.Operand.{Operand}
 use Rattle.ir_tree.specs.declared.node.Operand.TheVariants as operand
@@ -30,3 +30,7 @@ pub record AreKept (proc : Proc) (kept : List Bool) : Type 0 where
   pub next : is_kept kept proc.next ≡ true
   pub sites : (j : ℕ) (n : Node) → slice_get proc.nodes j ≡ Some n → is_site (role_of n) ≡ true → get_or kept j false ≡ true
   pub operands : (j : ℕ) (n : Node) → slice_get proc.nodes j ≡ Some n → get_or kept j false ≡ true → list_all (is_kept kept) (operands_in n) ≡ true
+
+-- all nodes are kept
+abbrev pub AreAllKept : Proc → List Bool → Type 0
+AreAllKept proc kept = kept ≡ replicate (length proc.nodes) true

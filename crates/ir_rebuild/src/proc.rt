@@ -2,6 +2,7 @@
 
 ghost use Rattle.std.specs.Prelude.{◌≡◌, true, false, get_or, length, IfOk, List};
 ghost use Rattle.ir_tree.specs.declared.package.Channel.{Channel};
+ghost use Rattle.ir_tree.specs.declared.node.Operand.TheVariants as operands;
 ghost use Rattle.ir_tree.specs.SameBehavior.{SameBehavior};
 ghost use Rattle.ir_verify.specs.Verified.{IsVerified};
 ghost use Rattle.ir_rebuild.specs.Operands.{node_of};
@@ -10,7 +11,7 @@ ghost use Rattle.ir_rebuild.specs.Built.{is_plain_op, AreBuilt, IsPlaced};
 ghost use Rattle.ir_rebuild.specs.Fixed.{is_receive_op, is_receive, is_one_receive, is_part_of_receive, is_fixed};
 ghost use Rattle.ir_rebuild.specs.Inner.Appended.{StandsIn};
 ghost use Rattle.ir_rebuild.specs.Inner.Rebuilt.{IsCheckedProc, IsRebuilt};
-ghost use Rattle.ir_rebuild.specs.Walks.{Becomes, EachBecomes};
+ghost use Rattle.ir_rebuild.specs.Walks.{Becomes, EachBecomes, SameHead};
 
 use crate::copies::{constant_copy, name_copy, type_copy};
 use crate::moves::{moved, moved_node};
@@ -27,6 +28,7 @@ pub fn rebuild<R: Rewrite>(alloc: Global, pass: &R, ir: Package) -> Result<Packa
     requires { IsVerified ir }
     ensures verified { IfOk result (λ new. IsVerified new) }
     ensures same { IfOk result (λ new. SameBehavior ir new) }
+    ensures head { IfOk result (λ new. SameHead ir new) }
     ensures became { IfOk result (λ new. EachBecomes R.marks R.gives ir.procs new.procs) }
 {
     let mut all = Vec::new(alloc);
@@ -87,7 +89,7 @@ fn is_kept(kept: &[bool], place: usize) -> bool
 }
 
 /// What stands for a node that is read, over what stands for the nodes before. For one that isn't kept nothing is appended, and
-/// the answer counts for nothing.
+/// the state is answered, for which nobody asks.
 fn read_one<R: Rewrite>(
     alloc: Global,
     pass: &R,
@@ -102,6 +104,7 @@ fn read_one<R: Rewrite>(
         IsPlaced state.now nodes.old.items (length nodes.old.items) (moved_node (moved places.now) node.now) }
     ensures kept { is_kept ≡ true → IfOk result (λ o. StandsIn state.now nodes.old.items nodes.new.items (moved_node (moved places.now) node.now) o) }
     ensures dropped { is_kept ≡ false → nodes.new.items ≡ nodes.old.items }
+    ensures nothing { is_kept ≡ false → IfOk result (λ o. o ≡ operands.State) }
     ensures gives { is_kept ≡ true → is_fixed nodes.old.items (moved_node (moved places.now) node.now) ≡ false →
         IfOk result (λ o. R.gives state.now nodes.old.items nodes.new.items (moved_node (moved places.now) node.now) o) }
 {

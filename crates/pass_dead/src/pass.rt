@@ -1,7 +1,7 @@
 ghost use Rattle.std.specs.Prelude.{◌≡◌, IfOk};
 ghost use Rattle.ir_tree.specs.SameBehavior.{SameBehavior};
 ghost use Rattle.ir_verify.specs.Verified.{IsVerified};
-ghost use Rattle.ir_rebuild.specs.Walks.{EachBecomes};
+ghost use Rattle.ir_rebuild.specs.Walks.{EachBecomes, SameHead};
 ghost use Rattle.ir_rebuild.specs.Normal.Normal.{AreNeeded};
 ghost use Rattle.pass_dead.specs.Stays.{Stays};
 
@@ -42,6 +42,7 @@ pub fn run(alloc: Global, ir: Package) -> Result<Package, AllocError>
     requires { IsVerified ir }
     ensures verified { IfOk result (λ new. IsVerified new) }
     ensures same { IfOk result (λ new. SameBehavior ir new) }
+    ensures head { IfOk result (λ new. SameHead ir new) }
     ensures became { IfOk result (λ new. EachBecomes AreNeeded Stays ir.procs new.procs) }
 {
     rebuild(alloc, &Dead, ir)

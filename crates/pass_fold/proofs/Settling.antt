@@ -1,6 +1,6 @@
 -- What stands for a node that is appended, or folded.
-use Rattle.std.specs.Prelude.{not}
-use Rattle.std.proofs.Common.{◌≡◌, inl, inr, List, [], ◌∷◌, ◌++◌, length, Bool, true, false, ◌&&◌, refl, sym, ap, subst, ◌∙◌, Result, Ok, Err, IfOk}
+use Rattle.std.specs.Prelude.{not, if◌then◌else◌}
+use Rattle.std.proofs.Common.{◌≡◌, List, [], ◌∷◌, ◌++◌, length, Bool, true, false, ◌&&◌, refl, sym, ap, subst, ◌∙◌, Result, Ok, Err, IfOk}
 use Rattle.ir_tree.specs.declared.ir_type.IrType.{IrType}
 use Rattle.ir_tree.specs.declared.constant.Constant.{Constant}
 use Rattle.ir_tree.specs.declared.node.Operand.{Operand}
@@ -15,7 +15,7 @@ use Rattle.ir_tree.specs.Constants.{constant_value}
 use Rattle.ir_verify.specs.Lines.{is_value_of}
 use Rattle.pass_fold.specs.Constants.{constant_of}
 use Rattle.pass_fold.specs.Folds.{is_foldable, folded_value}
-use Rattle.pass_fold.specs.Settled.{IsFolded, IsAppended, literal_node}
+use Rattle.pass_fold.specs.Settled.{IsFolded, IsAppended, literal_node, settled_node}
 use Rattle.pass_fold.proofs.Values.{value_folded}
 use Rattle.pass_fold.proofs.Written.{is_written}
 use Rattle.pass_fold.proofs.Typed.{typed_value}
@@ -76,8 +76,14 @@ pub kept_if : {E : Type 0} (r : Result Operand E) (old new : List Node) (n : Nod
 kept_if (Ok o) old new n e f = λ state built placed plain. moved_to state old new n n o (e, f) (appended state old n built placed plain)
 kept_if (Err x) old new n e f = tt
 
+itself : (old : List Node) (n : Node) → is_foldable old n ≡ false → n ≡ settled_node old n
+itself old n free = sym (ap (λ b. if b then literal_node n.ty (constant_of (folded_value old n)) else n) free)
+
+its_literal : (old : List Node) (n : Node) → is_foldable old n ≡ true → literal_node n.ty (constant_of (folded_value old n)) ≡ settled_node old n
+its_literal old n h = sym (ap (λ b. if b then literal_node n.ty (constant_of (folded_value old n)) else n) h)
+
 pub kept_folds : {E : Type 0} (r : Result Operand E) (old new : List Node) (n : Node) → is_foldable old n ≡ false → IfOk r (λ o. new ≡ old ++ numbered (length old) n ∷ []) → IfOk r (λ o. o ≡ operand.Node (length old)) → IfOk r (IsFolded old new n)
-kept_folds (Ok o) old new n free e f = inl (free, (e, f))
+kept_folds (Ok o) old new n free e f = subst (λ m. IsAppended old new m o) (itself old n free) (e, f)
 kept_folds (Err x) old new n free e f = tt
 
 pub folded_if : {E : Type 0} (r : Result Operand E) (old new : List Node) (n : Node) (c : Constant) → is_foldable old n ≡ true → c ≡ constant_of (folded_value old n) → IfOk r (λ o. new ≡ old ++ numbered (length old) (literal_node n.ty c) ∷ []) → IfOk r (λ o. o ≡ operand.Node (length old)) → IfOk r (RewritesAt old new n)
@@ -85,6 +91,6 @@ folded_if (Ok o) old new n c h is e f = λ state built placed plain.
     moved_to state old new n (literal_node n.ty c) o (e, f) (folded state old n c built placed (subst (IsConstantOf old n) (sym is) (constant_is state old n built placed plain h)))
 folded_if (Err x) old new n c h is e f = tt
 
-pub folded_folds : {E : Type 0} (r : Result Operand E) (old new : List Node) (n : Node) (c : Constant) → IfOk r (λ o. new ≡ old ++ numbered (length old) (literal_node n.ty c) ∷ []) → IfOk r (λ o. o ≡ operand.Node (length old)) → IfOk r (IsFolded old new n)
-folded_folds (Ok o) old new n c e f = inr (c, (e, f))
-folded_folds (Err x) old new n c e f = tt
+pub folded_folds : {E : Type 0} (r : Result Operand E) (old new : List Node) (n : Node) (c : Constant) → is_foldable old n ≡ true → c ≡ constant_of (folded_value old n) → IfOk r (λ o. new ≡ old ++ numbered (length old) (literal_node n.ty c) ∷ []) → IfOk r (λ o. o ≡ operand.Node (length old)) → IfOk r (IsFolded old new n)
+folded_folds (Ok o) old new n c h is e f = subst (λ m. IsAppended old new m o) (ap (literal_node n.ty) is ∙ its_literal old n h) (e, f)
+folded_folds (Err x) old new n c h is e f = tt

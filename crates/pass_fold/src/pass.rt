@@ -3,7 +3,8 @@ ghost use Rattle.ir_tree.specs.declared.ir_type.IrType.{IrType};
 ghost use Rattle.ir_tree.specs.SameBehavior.{SameBehavior};
 ghost use Rattle.ir_verify.specs.Verified.{IsVerified};
 ghost use Rattle.ir_rebuild.specs.Built.{AreBuilt, IsPlaced, Rewrites, is_plain_op};
-ghost use Rattle.ir_rebuild.specs.Walks.{EachBecomes};
+ghost use Rattle.ir_rebuild.specs.Kept.{AreAllKept};
+ghost use Rattle.ir_rebuild.specs.Walks.{EachBecomes, SameHead};
 ghost use Rattle.pass_fold.specs.Settled.{IsFolded, literal_node};
 
 use crate::constant::constant_of;
@@ -19,7 +20,10 @@ use std::alloc::{AllocError, Global};
 pub struct Fold;
 
 impl Rewrite for Fold {
+    ghost use Rattle.ir_rebuild.specs.Kept.{AreAllKept};
     ghost use Rattle.pass_fold.specs.Settled.{IsFolded};
+
+    ghost marks = { AreAllKept };
 
     ghost gives = { λ _ old new n o. IsFolded old new n o };
 
@@ -70,7 +74,8 @@ pub fn run(alloc: Global, ir: Package) -> Result<Package, AllocError>
     requires { IsVerified ir }
     ensures verified { IfOk result (λ new. IsVerified new) }
     ensures same { IfOk result (λ new. SameBehavior ir new) }
-    ensures became { IfOk result (λ new. EachBecomes (λ _ _. Unit {0}) (λ _ old new n o. IsFolded old new n o) ir.procs new.procs) }
+    ensures head { IfOk result (λ new. SameHead ir new) }
+    ensures became { IfOk result (λ new. EachBecomes AreAllKept (λ _ old new n o. IsFolded old new n o) ir.procs new.procs) }
 {
     rebuild(alloc, &Fold, ir)
 }

@@ -1,5 +1,5 @@
 -- What stands for a node once what narrowing says is appended.
-use Rattle.std.proofs.Common.{◌≡◌, ℕ, List, [], ◌∷◌, ◌++◌, length, true, Result, Ok, Err, IfOk, refl, sym, ap, subst, ◌∙◌, arith}
+use Rattle.std.proofs.Common.{◌≡◌, ℕ, List, [], ◌∷◌, ◌++◌, length, true, false, None, Result, Ok, Err, IfOk, refl, sym, ap, subst, ◌∙◌, arith}
 use Rattle.delay_model.specs.declared.op.Extend.TheVariants as extend
 use Rattle.ir_tree.specs.declared.ir_type.IrType.{IrType}
 use Rattle.ir_tree.specs.declared.node.Operand.{Operand}
@@ -8,11 +8,14 @@ use Rattle.ir_tree.specs.declared.node.Node.{Node}
 use Rattle.ir_tree.specs.Operations.{on_word, extend_value}
 use Rattle.ir_rebuild.specs.Built.{AreBuilt, IsPlaced, Rewrites, is_plain_op, numbered}
 use Rattle.ir_rebuild.proofs.Lemmas.{appended}
+use Rattle.ir_rebuild.specs.Normal.LeftSides.{has_left_side}
 use Rattle.pass_narrow.specs.declared.stand_in.StandIn.{StandIn}
 use Rattle.pass_narrow.specs.declared.stand_in.StandIn.TheVariants as stand_in
 use Rattle.pass_narrow.specs.Numbers.{number, IsNumber}
 use Rattle.pass_narrow.specs.Narrowing.{Narrows}
 use Rattle.pass_narrow.specs.Nodes.{extension_node}
+use Rattle.pass_narrow.specs.RightSides.{right_side_of}
+use Rattle.pass_narrow.proofs.HasSide as sides
 use Rattle.pass_narrow.proofs.Numbers.{IsMade, values_earlier, extends_twice}
 use Rattle.pass_narrow.proofs.Made.{made_extension}
 
@@ -80,3 +83,7 @@ extended_rewrites (Ok p) state old mid new newer n m longer w o x h e f g l i j 
     let second = appended_as state new newer (extension_node extend.Zero o w) p first.built (extension_placed state old mid new n m w o k first) refl (i ∙ ap (λ z. new ++ numbered (length new) z ∷ []) l) j in
     extension_follows state old mid new newer n m w o p k first second
 extended_rewrites (Err y) state old mid new newer n m longer w o x h e f g l i j = tt
+
+-- a node without a left side has no right side
+pub no_right_side : (state : IrType) (nodes : List Node) (n : Node) → AreBuilt state nodes → IsPlaced state nodes (length nodes) n → has_left_side state nodes n ≡ false → right_side_of state nodes n ≡ None
+no_right_side = sides.no_right_side

@@ -10,3 +10,5 @@ pub mod Lemmas
 pub mod NoSide
 pub mod NormalSides
 pub mod Put
+pub mod Determined
+pub mod HasSide

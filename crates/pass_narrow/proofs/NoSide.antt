@@ -32,10 +32,10 @@ use Rattle.ir_rebuild.specs.Normal.Origins.{Origin, made_by, origin}
 use Rattle.ir_rebuild.specs.Normal.LeftSides as left
 use Rattle.ir_rebuild.specs.Normal.LeftSides.{is_extension, width_if, extended_in, extended_from, is_made, is_slice_op, is_tuple_op, lie_in_one, has_left_side}
 use Rattle.pass_narrow.specs.declared.operands.Part.{Part}
-use Rattle.pass_narrow.specs.Inner.Views.{width_at, width_in, same_kind, extension_in, extension_at, extended, slice_in, slice_at, sliced, part_inside, part_from, part_of, parts_in, parts_at, element_of, element_in, element_at as tuple_at}
+use Rattle.pass_narrow.specs.Views.{width_at, width_in, same_kind, extension_in, extension_at, extended, slice_in, slice_at, sliced, part_inside, part_from, part_of, parts_in, parts_at, element_of, element_in, element_at as tuple_at}
 use Rattle.pass_narrow.specs.declared.left_side.RightSide.TheVariants as right
-use Rattle.pass_narrow.specs.Inner.RightSides as sides
-use Rattle.pass_narrow.specs.Inner.RightSides.{narrower, least_width, is_unsigned, right_side_of}
+use Rattle.pass_narrow.specs.RightSides as sides
+use Rattle.pass_narrow.specs.RightSides.{narrower, least_width, is_unsigned, right_side_of}
 use Rattle.pass_narrow.specs.Inner.Bare.{row_test}
 use Rattle.pass_narrow.proofs.Numbers.{width_is, number_width}
 use Rattle.pass_narrow.proofs.Shown.{HasParts, says_extension, says_slice, fitting}
@@ -518,10 +518,10 @@ lie_past start w (p ∷ ps) some h =
     and_false true b e = e
     and_false false b e = refl
 
-abbrev widths : IrType → List Node → List Operand → List ℕ
+abbrev pub widths : IrType → List Node → List Operand → List ℕ
 widths state nodes os = map bits_width (map (type_in (types_behind state nodes)) os)
 
-widths_sum : (state : IrType) (nodes : List Node) (place : ℕ) (os : List Operand) (total : ℕ) → AreNumbers state nodes place os total → sum (widths state nodes os) ≡ total
+pub widths_sum : (state : IrType) (nodes : List Node) (place : ℕ) (os : List Operand) (total : ℕ) → AreNumbers state nodes place os total → sum (widths state nodes os) ≡ total
 widths_sum state nodes place [] total h = sym h
 widths_sum state nodes place (o ∷ os) total h =
     let own = width_by_type state nodes o ∙ number_width state nodes o h.0 h.2 in

@@ -35,10 +35,11 @@ use Rattle.pass_narrow.specs.declared.stand_in.LongSlice.{LongSlice}
 use Rattle.pass_narrow.specs.Numbers.{number, IsNumber}
 use Rattle.pass_narrow.specs.Nodes.{extension_node, slice_node, operation_node, comparison_node}
 use Rattle.pass_narrow.specs.KeepsNormal.{IsNarrow, IsNarrowInside, HasNoLeftSide, KeepsNormal}
-use Rattle.pass_narrow.specs.Inner.Views.{width_at, width_in, extension_at, extended, element_of}
-use Rattle.pass_narrow.specs.Inner.RightSides as sides
-use Rattle.pass_narrow.specs.Inner.RightSides.{narrower, least_width, is_unsigned, slice_of, right_side_of}
-use Rattle.pass_narrow.specs.Inner.Meant.{GivesNumber, HasLonger, IsOperation, IsComparison, IsSliceOf, IsWhole, IsRightSide, IsInnermost, SaysOfSlice, slice_at, inner_part}
+use Rattle.pass_narrow.specs.Views.{width_at, width_in, extension_at, extended, element_of}
+use Rattle.pass_narrow.specs.RightSides as sides
+use Rattle.pass_narrow.specs.RightSides.{narrower, least_width, is_unsigned, slice_of, right_side_of}
+use Rattle.pass_narrow.specs.Inner.Meant.{GivesNumber, HasLonger, IsOperation, IsComparison, IsSliceOf, IsWhole, IsRightSide, IsInnermost, SaysOfSlice, slice_at}
+use Rattle.pass_narrow.specs.Slices.{inner_part}
 use Rattle.pass_narrow.specs.Inner.Bare.{row_test, IsBare, AreBare, IsNormalSide, IsLonger}
 use Rattle.pass_narrow.proofs.Numbers.{width_is, number_width, number_later, extends_twice}
 use Rattle.pass_narrow.proofs.Shown.{says_extension, says_slice}

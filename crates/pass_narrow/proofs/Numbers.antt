@@ -29,7 +29,7 @@ use Rattle.ir_rebuild.specs.Built.{IsPlaced, AreBuilt, AreValues, StandsFor, Ext
 use Rattle.ir_rebuild.proofs.Lemmas.{node_there, has_type, appended, values_before, there_more, type_more}
 use Rattle.pass_narrow.specs.Numbers.{number_there, number_of, number, IsNumber}
 use Rattle.pass_narrow.specs.Narrowing.{IsLike, IsLikeLonger}
-use Rattle.pass_narrow.specs.Inner.Views.{width_at, width_in}
+use Rattle.pass_narrow.specs.Views.{width_at, width_in}
 use Rattle.pass_narrow.specs.Inner.Meant.{IsResult, GivesNumber}
 
 -- ---- values that are numbers

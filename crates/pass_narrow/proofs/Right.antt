@@ -31,9 +31,9 @@ use Rattle.ir_rebuild.proofs.Lemmas.{there_more}
 use Rattle.pass_narrow.specs.declared.left_side.RightSide.{RightSide}
 use Rattle.pass_narrow.specs.declared.left_side.RightSide.TheVariants as right
 use Rattle.pass_narrow.specs.Numbers.{number, IsNumber}
-use Rattle.pass_narrow.specs.Inner.Views.{element_by, element_in, element_at as tuple_at, element_of}
-use Rattle.pass_narrow.specs.Inner.RightSides as sides
-use Rattle.pass_narrow.specs.Inner.RightSides.{right_side_of}
+use Rattle.pass_narrow.specs.Views.{element_by, element_in, element_at as tuple_at, element_of}
+use Rattle.pass_narrow.specs.RightSides as sides
+use Rattle.pass_narrow.specs.RightSides.{right_side_of}
 use Rattle.pass_narrow.specs.Inner.Meant.{IsRightSide, IsSliceOf, SaysOfSlice, slice_at}
 use Rattle.pass_narrow.proofs.Numbers.{width_is, stands_of, result_as}
 use Rattle.pass_narrow.proofs.Shown.{HasParts, IsWide, says_extension, SaysSlice, says_slice, says_operation, says_comparison, fitting, value_by_parts, is_named, named_value}

@@ -20,10 +20,11 @@ use Rattle.pass_narrow.specs.declared.left_side.RightSide.{RightSide}
 use Rattle.pass_narrow.specs.declared.left_side.RightSide.TheVariants as right
 use Rattle.pass_narrow.specs.declared.stand_in.LongSlice.{LongSlice}
 use Rattle.pass_narrow.specs.Numbers.{number, IsNumber}
-use Rattle.pass_narrow.specs.Inner.Views.{width_in, extended, sliced, part_of}
-use Rattle.pass_narrow.specs.Inner.RightSides as sides
-use Rattle.pass_narrow.specs.Inner.RightSides.{narrower, least_width, is_unsigned, right_side_of}
-use Rattle.pass_narrow.specs.Inner.Meant.{IsResult, SaysOfSlice, slice_at, IsExtension, IsOperation, IsComparison, IsSliceOf, IsRightSide, extend_number, binary_number, compare_number, depth}
+use Rattle.pass_narrow.specs.Views.{width_in, extended, sliced, part_of}
+use Rattle.pass_narrow.specs.RightSides as sides
+use Rattle.pass_narrow.specs.RightSides.{narrower, least_width, is_unsigned, right_side_of}
+use Rattle.pass_narrow.specs.Inner.Meant.{IsResult, SaysOfSlice, slice_at, IsExtension, IsOperation, IsComparison, IsSliceOf, IsRightSide, extend_number, binary_number, compare_number}
+use Rattle.pass_narrow.specs.Slices.{depth}
 use Rattle.pass_narrow.proofs.Arithmetic.{sum_narrows, product_narrows, slice_twice, slice_past, slice_to_end, slice_whole, sign_of_zero, sign_same, sign_twice}
 use Rattle.pass_narrow.proofs.Numbers.{operand_bits, number_width, some_bits, stands_of, result_as}
 use Rattle.pass_narrow.proofs.Shown.{SaysExtension, SaysOperation, SaysComparison}

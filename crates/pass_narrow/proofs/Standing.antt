@@ -20,10 +20,11 @@ use Rattle.pass_narrow.specs.declared.stand_in.StandIn.TheVariants as stand_in
 use Rattle.pass_narrow.specs.declared.stand_in.LongSlice.{LongSlice}
 use Rattle.pass_narrow.specs.Numbers.{number, IsNumber}
 use Rattle.pass_narrow.specs.Narrowing.{IsLike, IsLikeLonger, IsStandIn, Narrows}
-use Rattle.pass_narrow.specs.Inner.Views.{width_in, extended}
-use Rattle.pass_narrow.specs.Inner.RightSides.{slice_of, right_side_of}
+use Rattle.pass_narrow.specs.Views.{width_in, extended}
+use Rattle.pass_narrow.specs.RightSides.{slice_of, right_side_of}
 use Rattle.pass_narrow.specs.Nodes.{extension_node, slice_node, operation_node, comparison_node, zero_node}
-use Rattle.pass_narrow.specs.Inner.Meant.{IsResult, SaysOfSlice, GivesNumber, HasLonger, IsExtension, IsOperation, IsComparison, IsZero, IsSliceOf, IsWhole, IsRightSide, binary_number, compare_number, extend_number, inner_part, depth}
+use Rattle.pass_narrow.specs.Inner.Meant.{IsResult, SaysOfSlice, GivesNumber, HasLonger, IsExtension, IsOperation, IsComparison, IsZero, IsSliceOf, IsWhole, IsRightSide, binary_number, compare_number, extend_number}
+use Rattle.pass_narrow.specs.Slices.{inner_part, depth}
 use Rattle.pass_narrow.proofs.Numbers.{IsMade, number_width, number_later, values_earlier, extends_none, extends_twice, gives, gives_itself, like_of, like_longer, stands_of, result_as}
 use Rattle.pass_narrow.proofs.Made.{made_extension, made_slice, made_operation, made_comparison, made_zero}
 use Rattle.pass_narrow.proofs.Views.{shows_extension}

@@ -32,8 +32,9 @@ use Rattle.ir_verify.proofs.Lemmas.Typed.Scopes as scopes
 use Rattle.ir_rebuild.specs.Built.{IsPlaced, AreBuilt, AreValues, is_plain_op}
 use Rattle.pass_narrow.specs.declared.operands.Part.{Part}
 use Rattle.pass_narrow.specs.Numbers.{number, IsNumber}
-use Rattle.pass_narrow.specs.Inner.Views.{width_in, only, same_kind, extension_by, extension_in, extension_at, extended, slice_over, slice_by, slice_in, slice_at, sliced, part_inside, part_from, parts_by, parts_in, parts_at, part_of}
-use Rattle.pass_narrow.specs.Inner.Meant.{IsResult, extend_number, depth}
+use Rattle.pass_narrow.specs.Views.{width_in, only, same_kind, extension_by, extension_in, extension_at, extended, slice_over, slice_by, slice_in, slice_at, sliced, part_inside, part_from, parts_by, parts_in, parts_at, part_of}
+use Rattle.pass_narrow.specs.Inner.Meant.{IsResult, extend_number}
+use Rattle.pass_narrow.specs.Slices.{depth}
 use Rattle.pass_narrow.proofs.Arithmetic.{slice_high, slice_low}
 use Rattle.pass_narrow.proofs.Numbers.{number_is, operand_bits, width_is, number_width}
 use Rattle.pass_narrow.proofs.Shown.{HasParts, IsWide, says_extension, says_slice, fitting, value_by_parts, limited_node, wide_where, number_where as number_before, is_named, named_value, named_number}

@@ -1,4 +1,2 @@
-pub mod Views
-pub mod RightSides
 pub mod Meant
 pub mod Bare

@@ -2,6 +2,14 @@
 pub mod Numbers
 -- the nodes on right sides
 pub mod Nodes
+-- what the nodes that operands name show
+pub mod Views
+-- the right side for each left side
+pub mod RightSides
+-- the slice that a slice comes to
+pub mod Slices
+-- what stands for a node, and what it needs
+pub mod Narrowings
 -- what narrowing promises of what stands for a node
 pub mod Narrowing
 -- that what stands for a node has no left side behind normal nodes

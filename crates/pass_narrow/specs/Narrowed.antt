@@ -1,20 +1,16 @@
 -- What stands for a node once what narrowing answers is appended.
-use Rattle.std.specs.Prelude.{◌≡◌, List, [], ◌∷◌, ◌++◌, length}
+use Rattle.std.specs.Prelude.{◌≡◌, List, length}
 use Rattle.delay_model.specs.declared.op.Extend.TheVariants as extend
 use Rattle.ir_tree.specs.declared.ir_type.IrType.{IrType}
 use Rattle.ir_tree.specs.declared.node.Operand.{Operand}
 use Rattle.ir_tree.specs.declared.node.Operand.TheVariants as operand
 use Rattle.ir_tree.specs.declared.node.Node.{Node}
-use Rattle.ir_rebuild.specs.Built.{numbered}
 use Rattle.pass_narrow.specs.declared.stand_in.StandIn.{StandIn}
 use Rattle.pass_narrow.specs.declared.stand_in.StandIn.TheVariants as stand_in
 use Rattle.pass_narrow.specs.Narrowing.{Narrows}
+use Rattle.pass_narrow.specs.Narrowings.{and_node, narrowing_of}
 use Rattle.pass_narrow.specs.Nodes.{extension_node}
 use Rattle.pass_narrow.specs.KeepsNormal.{KeepsNormal}
-
--- a node more
-abbrev pub and_node : List Node → Node → List Node
-and_node nodes n = nodes ++ numbered (length nodes) n ∷ []
 
 -- the answer was appended, if it is no operand, and the operand names it
 abbrev pub IsPut : List Node → StandIn → List Node → Operand → Type 0
@@ -23,10 +19,9 @@ IsPut nodes (stand_in.Node m) new o = (new ≡ and_node nodes m) × (o ≡ opera
 IsPut nodes (stand_in.Extended m w) new o =
     (new ≡ and_node (and_node nodes m) (extension_node extend.Zero (operand.Node (length nodes)) w)) × (o ≡ operand.Node (length (and_node nodes m)))
 
--- what narrowing answers for the node, which has no left side behind normal nodes, was put behind what it needs
+-- what stands for the node, the right side of its left side or the node itself, was put behind what it needs. Behind normal nodes it
+-- has no left side.
 pub record IsNarrowed (state : IrType) (old new : List Node) (n : Node) (o : Operand) : Type 0 where
-  pub nodes : List Node
-  pub answer : StandIn
-  pub narrows : Narrows state old nodes n answer
-  pub normal : KeepsNormal state old nodes n answer
-  pub put : IsPut nodes answer new o
+  pub put : IsPut (narrowing_of state old n).nodes (narrowing_of state old n).answer new o
+  pub narrows : Narrows state old (narrowing_of state old n).nodes n (narrowing_of state old n).answer
+  pub normal : KeepsNormal state old (narrowing_of state old n).nodes n (narrowing_of state old n).answer

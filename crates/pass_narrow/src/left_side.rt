@@ -2,7 +2,7 @@
 
 ghost use Rattle.std.specs.Prelude.{◌≡◌, ◌+◌, max};
 ghost use Rattle.ir_tree.specs.NodeTypes.Types.{bits_width};
-ghost use Rattle.pass_narrow.specs.Inner.RightSides.{narrower, least_width, operation_by, operation_of, is_unsigned, comparison_by, comparison_of, concat_of, element_right_side, sign_of_longer, longer_of, extension_of, slice_of_longer, slice_inside, slice_over, slice_of, slice_of_one, plain_right_side, right_side_of};
+ghost use Rattle.pass_narrow.specs.RightSides.{narrower, least_width, operation_by, operation_of, is_unsigned, comparison_by, comparison_of, concat_of, element_right_side, sign_of_longer, longer_of, extension_of, slice_of_longer, slice_inside, slice_over, slice_of, slice_of_one, plain_right_side, right_side_of};
 
 use crate::operands::{bits_width, element_of, extended, part_of, sliced, width_of};
 use delay_model::{Binary, Compare, Extend, Op};

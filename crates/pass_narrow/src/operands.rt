@@ -2,7 +2,7 @@
 
 ghost use Rattle.std.specs.Prelude.{◌≡◌, slice_get};
 ghost use Rattle.ir_tree.specs.NodeTypes.Types.{bits_width};
-ghost use Rattle.pass_narrow.specs.Inner.Views.{width_in, only, same_kind, extension_by, extension_in, extended, slice_over, slice_in, sliced, part_inside, part_from, parts_in, part_of, element_in, element_of};
+ghost use Rattle.pass_narrow.specs.Views.{width_in, only, same_kind, extension_by, extension_in, extended, slice_over, slice_in, sliced, part_inside, part_from, parts_in, part_of, element_in, element_of};
 
 use delay_model::{Extend, Op};
 use ir_rebuild::node_of;

@@ -1,7 +1,8 @@
 ghost use Rattle.std.specs.Prelude.{◌≡◌, IfOk};
 ghost use Rattle.ir_tree.specs.SameBehavior.{SameBehavior};
 ghost use Rattle.ir_verify.specs.Verified.{IsVerified};
-ghost use Rattle.ir_rebuild.specs.Walks.{EachBecomes};
+ghost use Rattle.ir_rebuild.specs.Kept.{AreAllKept};
+ghost use Rattle.ir_rebuild.specs.Walks.{EachBecomes, SameHead};
 ghost use Rattle.pass_narrow.specs.Narrowed.{IsNarrowed};
 
 use crate::nodes::extension;
@@ -16,7 +17,10 @@ use std::alloc::{AllocError, Global};
 pub struct Narrow;
 
 impl Rewrite for Narrow {
+    ghost use Rattle.ir_rebuild.specs.Kept.{AreAllKept};
     ghost use Rattle.pass_narrow.specs.Narrowed.{IsNarrowed};
+
+    ghost marks = { AreAllKept };
 
     ghost gives = { IsNarrowed };
 
@@ -48,7 +52,8 @@ pub fn run(alloc: Global, ir: Package) -> Result<Package, AllocError>
     requires { IsVerified ir }
     ensures verified { IfOk result (λ new. IsVerified new) }
     ensures same { IfOk result (λ new. SameBehavior ir new) }
-    ensures became { IfOk result (λ new. EachBecomes (λ _ _. Unit {0}) IsNarrowed ir.procs new.procs) }
+    ensures head { IfOk result (λ new. SameHead ir new) }
+    ensures became { IfOk result (λ new. EachBecomes AreAllKept IsNarrowed ir.procs new.procs) }
 {
     rebuild(alloc, &Narrow, ir)
 }

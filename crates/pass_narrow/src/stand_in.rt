@@ -1,17 +1,20 @@
 //! What stands for a node.
 
-ghost use Rattle.std.specs.Prelude.{◌≡◌, ◌+◌, ◌<◌, ◌≤◌, max, nat_lt, true, List, length, None, IfOk, IfSome, MatchOption};
+ghost use Rattle.std.specs.Prelude.{◌≡◌, ℕ, ◌+◌, ◌<◌, ◌≤◌, max, nat_lt, true, List, length, None, IfOk, IfSome, MatchOption};
 ghost use Rattle.ir_tree.specs.declared.ir_type.IrType.{IrType};
 ghost use Rattle.ir_tree.specs.declared.node.Node.{Node};
 ghost use Rattle.ir_rebuild.specs.Built.{AreBuilt, IsPlaced, is_plain_op};
 ghost use Rattle.pass_narrow.specs.declared.stand_in.StandIn.TheVariants as stand_in;
+ghost use Rattle.pass_narrow.specs.declared.left_side.RightSide.TheVariants as right;
 ghost use Rattle.pass_narrow.specs.Numbers.{number};
 ghost use Rattle.pass_narrow.specs.Narrowing.{IsStandIn, Narrows};
 ghost use Rattle.pass_narrow.specs.Nodes.{zero_node, extension_node};
-ghost use Rattle.pass_narrow.specs.Inner.Meant.{GivesNumber, IsRightSide, IsOperation, IsComparison, IsSliceOf, SaysOfSlice, IsInnermost, IsWhole, HasLonger, inner_part, depth};
+ghost use Rattle.pass_narrow.specs.Inner.Meant.{GivesNumber, IsRightSide, IsOperation, IsComparison, IsSliceOf, SaysOfSlice, IsInnermost, IsWhole, HasLonger};
 ghost use Rattle.ir_rebuild.specs.Normal.Normal.{AreNormal};
 ghost use Rattle.pass_narrow.specs.KeepsNormal.{HasNoLeftSide, KeepsNormal};
-ghost use Rattle.pass_narrow.specs.Inner.RightSides.{slice_of};
+ghost use Rattle.pass_narrow.specs.RightSides.{slice_of};
+ghost use Rattle.pass_narrow.specs.Slices.{inner_part, depth, inner_of, slice_itself, whole, last_part, last_slice, narrowed_slice};
+ghost use Rattle.pass_narrow.specs.Narrowings.{narrowing_of, made_of, IsNarrowing, IsMadeLonger};
 ghost use Rattle.pass_narrow.specs.Inner.Bare.{IsBare, AreBare, IsLonger, IsNormalSide, row_test};
 
 use crate::left_side::{RightSide, right_side, slice_of};
@@ -56,6 +59,7 @@ pub fn narrowed(
     ensures narrows { IfOk result (λ x. Narrows state.now nodes.old.items nodes.new.items node x) }
     ensures normal { IfOk result (λ x. KeepsNormal state.now nodes.old.items nodes.new.items node x) }
     ensures few { IfOk result (λ _. length nodes.new.items ≤ length nodes.old.items + 2) }
+    ensures is { IfOk result (λ x. IsNarrowing nodes.new.items x (narrowing_of state.now nodes.old.items node)) }
 {
     match right_side(state, nodes.as_slice(), &node) {
         None => Ok(StandIn::Node(node)),
@@ -75,6 +79,7 @@ fn made(
     ensures narrows { IfOk result (λ x. (n : Node) → IsRightSide state.now nodes.old.items n total right → Narrows state.now nodes.old.items nodes.new.items n x) }
     ensures normal { IfOk result (λ x. (n : Node) → IsRightSide state.now nodes.old.items n total right → (AreNormal state.now nodes.old.items → IsNormalSide state.now nodes.old.items total right) → KeepsNormal state.now nodes.old.items nodes.new.items n x) }
     ensures few { IfOk result (λ _. length nodes.new.items ≤ length nodes.old.items + 2) }
+    ensures made { IfOk result (λ x. IsNarrowing nodes.new.items x (made_of state.now nodes.old.items total right)) }
 {
     match right {
         RightSide::Operand(operand) => Ok(StandIn::Operand(operand)),
@@ -122,6 +127,7 @@ fn operation_of(
     ensures narrows { IfOk result (λ x. (n : Node) → IsOperation state.now nodes.old.items n op a b least total → Narrows state.now nodes.old.items nodes.new.items n x) }
     ensures normal { IfOk result (λ x. (n : Node) → IsOperation state.now nodes.old.items n op a b least total → AreBare state.now nodes.old.items a b (row_test op least) → KeepsNormal state.now nodes.old.items nodes.new.items n x) }
     ensures few { IfOk result (λ _. length nodes.new.items ≤ length nodes.old.items + 2) }
+    ensures made { IfOk result (λ x. IsNarrowing nodes.new.items x (made_of state.now nodes.old.items total (right.Operation op a b least))) }
 {
     let a = longer(alloc, state, nodes, a, least)?;
     let b = longer(alloc, state, nodes, b, least)?;
@@ -142,6 +148,7 @@ fn comparison_of(
     ensures narrows { IfOk result (λ x. (n : Node) → IsComparison state.now nodes.old.items n op a b least → Narrows state.now nodes.old.items nodes.new.items n x) }
     ensures normal { IfOk result (λ x. (n : Node) → IsComparison state.now nodes.old.items n op a b least → AreBare state.now nodes.old.items a b (λ p q. nat_lt (max p q) least) → KeepsNormal state.now nodes.old.items nodes.new.items n x) }
     ensures few { IfOk result (λ _. length nodes.new.items ≤ length nodes.old.items + 2) }
+    ensures made { (total : ℕ) → IfOk result (λ x. IsNarrowing nodes.new.items x (made_of state.now nodes.old.items total (right.Comparison op a b least))) }
 {
     let a = longer(alloc, state, nodes, a, least)?;
     let b = longer(alloc, state, nodes, b, least)?;
@@ -159,6 +166,7 @@ fn longer(
     ensures gives { IfOk result (λ o. AreBuilt state.now nodes.old.items → HasLonger state.now nodes.old.items operand width → GivesNumber state.now nodes.old.items nodes.new.items o width (λ s values. number s values operand)) }
     ensures normal { IfOk result (λ o. AreBuilt state.now nodes.old.items → AreNormal state.now nodes.old.items → HasLonger state.now nodes.old.items operand width → IsBare state.now nodes.old.items operand → IsLonger state.now nodes.new.items operand o) }
     ensures few { IfOk result (λ _. length nodes.new.items ≤ length nodes.old.items + 1) }
+    ensures made { IfOk result (λ o. IsMadeLonger state.now nodes.old.items nodes.new.items operand width o) }
 {
     if width_of(state, nodes.as_slice(), operand) == width {
         return Ok(operand);
@@ -180,6 +188,7 @@ fn slice_within(
     requires { AreBuilt state.now nodes.now }
     ensures stands { IfOk result (λ x. (n : Node) → IsSliceOf state.now nodes.now n (record { operand = operand; start = start; width = width; total = total }) → IsStandIn state.now nodes.now n x) }
     ensures normal { IfOk result (λ x. (n : Node) → IsSliceOf state.now nodes.now n (record { operand = operand; start = start; width = width; total = total }) → AreNormal state.now nodes.now → HasNoLeftSide state.now nodes.now n x) }
+    ensures is { IfOk result (λ x. x ≡ narrowed_slice state.now nodes.now (record { operand = operand; start = start; width = width; total = total })) }
 {
     let part = LongSlice {
         operand,
@@ -200,6 +209,7 @@ fn narrowed_slice(
     requires { AreBuilt state.now nodes.now }
     ensures stands { IfOk result (λ x. (n : Node) → IsSliceOf state.now nodes.now n part → IsStandIn state.now nodes.now n x) }
     ensures normal { IfOk result (λ x. (n : Node) → IsSliceOf state.now nodes.now n part → AreNormal state.now nodes.now → HasNoLeftSide state.now nodes.now n x) }
+    ensures is { IfOk result (λ x. x ≡ narrowed_slice state.now nodes.now part) }
 {
     let mut within = part;
     'parts: while let Some(inner) = inner_slice(state, nodes, within) {
@@ -214,6 +224,7 @@ fn inner_slice(state: &IrType, nodes: &[Node], part: LongSlice) -> Option<LongSl
     ensures before { IfSome result (λ inner. depth inner.operand < depth part.operand) }
     ensures within { IfSome result (λ inner. (n : Node) → IsSliceOf state.now nodes.now n part → IsSliceOf state.now nodes.now n inner) }
     ensures last { MatchOption result (IsInnermost state.now nodes.now part) (λ _. Unit {0}) }
+    ensures is { result ≡ inner_of state.now nodes.now part }
 {
     match slice_of(state, nodes, part.start, part.width, part.operand) {
         None => None,
@@ -252,6 +263,7 @@ fn last_slice(
     requires { AreBuilt state.now nodes.now }
     ensures stands { IfOk result (λ x. (n : Node) → IsSliceOf state.now nodes.now n part → IsStandIn state.now nodes.now n x) }
     ensures normal { IfOk result (λ x. (n : Node) → IsInnermost state.now nodes.now part → IsSliceOf state.now nodes.now n part → AreNormal state.now nodes.now → HasNoLeftSide state.now nodes.now n x) }
+    ensures is { IfOk result (λ x. x ≡ last_slice state.now nodes.now part) }
 {
     match slice_of(state, nodes, part.start, part.width, part.operand) {
         None => slice_itself(alloc, part),
@@ -268,6 +280,7 @@ fn last_part(
 ) -> Result<StandIn, AllocError>
     ensures stands { IfOk result (λ x. (state : IrType) (n : Node) → AreBuilt state nodes.now → IsSliceOf state nodes.now n part → SaysOfSlice state nodes.now n part right → IsStandIn state nodes.now n x) }
     ensures normal { IfOk result (λ x. (state : IrType) (n : Node) → AreBuilt state nodes.now → IsSliceOf state nodes.now n part → SaysOfSlice state nodes.now n part right → inner_part right part ≡ None → AreNormal state nodes.now → HasNoLeftSide state nodes.now n x) }
+    ensures is { IfOk result (λ x. x ≡ last_part nodes.now part right) }
 {
     match right {
         RightSide::Operand(_) => whole(alloc, nodes, part.operand, part.width, part.total),
@@ -284,6 +297,7 @@ fn last_part(
 fn slice_itself(alloc: Global, part: LongSlice) -> Result<StandIn, AllocError>
     ensures stands { IfOk result (λ x. (state : IrType) (nodes : List Node) (n : Node) → IsSliceOf state nodes n part → IsStandIn state nodes n x) }
     ensures normal { IfOk result (λ x. (state : IrType) (nodes : List Node) (n : Node) → AreBuilt state nodes → IsSliceOf state nodes n part → slice_of state nodes part.start part.width part.operand ≡ None → HasNoLeftSide state nodes n x) }
+    ensures is { IfOk result (λ x. x ≡ slice_itself part) }
 {
     let node = slice(alloc, part.operand, part.start, part.width)?;
     if part.width == part.total {
@@ -303,6 +317,7 @@ fn whole(
 ) -> Result<StandIn, AllocError>
     ensures stands { IfOk result (λ x. (state : IrType) (n : Node) → AreBuilt state nodes.now → IsWhole state nodes.now n operand width total → IsStandIn state nodes.now n x) }
     ensures normal { IfOk result (λ x. (state : IrType) (n : Node) → AreBuilt state nodes.now → IsWhole state nodes.now n operand width total → AreNormal state nodes.now → HasNoLeftSide state nodes.now n x) }
+    ensures is { IfOk result (λ x. x ≡ whole nodes.now operand width total) }
 {
     if width == total {
         return Ok(StandIn::Operand(operand));

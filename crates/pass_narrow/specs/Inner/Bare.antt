@@ -11,7 +11,7 @@ use Rattle.ir_rebuild.specs.Normal.Normal.{names_literal, AreNormal}
 use Rattle.pass_narrow.specs.declared.left_side.RightSide.{RightSide}
 use Rattle.pass_narrow.specs.declared.left_side.RightSide.TheVariants as right
 use Rattle.pass_narrow.specs.Nodes.{extension_node}
-use Rattle.pass_narrow.specs.Inner.Views.{width_in, extended}
+use Rattle.pass_narrow.specs.Views.{width_in, extended}
 
 -- an operand that is no literal and no extension by zeros
 pub record IsBare (state : IrType) (nodes : List Node) (o : Operand) : Type 0 where

@@ -1,5 +1,5 @@
 -- What right sides say of a node.
-use Rattle.std.specs.Prelude.{◌≡◌, ℕ, suc, ◌+◌, ◌<◌, ◌≤◌, List, [], Option, Some, None}
+use Rattle.std.specs.Prelude.{◌≡◌, ℕ, ◌+◌, ◌<◌, ◌≤◌, List, [], Some, None}
 use Rattle.xb_bits.specs.Word.{word}
 use Rattle.xb_bits.specs.Parts.{slice_bits}
 use Rattle.xb_value.specs.declared.value.Value.{Value}
@@ -9,7 +9,6 @@ use Rattle.delay_model.specs.declared.op.Compare.{Compare}
 use Rattle.delay_model.specs.declared.op.Extend.{Extend}
 use Rattle.ir_tree.specs.declared.ir_type.IrType.{IrType, Bits}
 use Rattle.ir_tree.specs.declared.node.Operand.{Operand}
-use Rattle.ir_tree.specs.declared.node.Operand.TheVariants as operand
 use Rattle.ir_tree.specs.declared.node.Node.{Node}
 use Rattle.ir_tree.specs.Operations.{binary_word, holds, bit, extend_word}
 use Rattle.ir_tree.specs.NodeValues.{pure_value}
@@ -18,7 +17,8 @@ use Rattle.pass_narrow.specs.declared.left_side.RightSide.{RightSide}
 use Rattle.pass_narrow.specs.declared.left_side.RightSide.TheVariants as right
 use Rattle.pass_narrow.specs.declared.stand_in.LongSlice.{LongSlice}
 use Rattle.pass_narrow.specs.Numbers.{number, IsNumber}
-use Rattle.pass_narrow.specs.Inner.RightSides.{slice_of}
+use Rattle.pass_narrow.specs.RightSides.{slice_of}
+use Rattle.pass_narrow.specs.Slices.{inner_part}
 
 -- ---- what operations give for numbers of so many bits
 
@@ -45,11 +45,6 @@ pub record GivesNumber (state : IrType) (old new : List Node) (o : Operand) (w :
   pub extends : Extends old new
   pub is : IsNumber state new o w
   pub value : (s : Value) (values : List Value) → AreValues state new s values → number s values o ≡ f s values
-
--- how far back an operand stands
-abbrev pub depth : Operand → ℕ
-depth operand.State = 0
-depth (operand.Node i) = suc i
 
 -- the operand is a number that can be made so long
 pub record HasLonger (state : IrType) (nodes : List Node) (o : Operand) (w : ℕ) : Type 0 where
@@ -110,16 +105,7 @@ IsRightSide state nodes n total (right.LongerSlice x start width) = IsSliceOf st
 IsRightSide state nodes n total (right.Operation o a b least) = IsOperation state nodes n o a b least total
 IsRightSide state nodes n total (right.Comparison o a b least) = IsComparison state nodes n o a b least
 
--- ---- the slice that a right side is
-
-abbrev pub inner_part : RightSide → LongSlice → Option LongSlice
-inner_part (right.Operand o) part = None
-inner_part right.Zero part = None
-inner_part (right.Extension kind a) part = None
-inner_part (right.Slice x start) part = Some (record { operand = x; start = start; width = part.width; total = part.total })
-inner_part (right.LongerSlice x start width) part = Some (record { operand = x; start = start; width = width; total = part.total })
-inner_part (right.Operation o a b least) part = None
-inner_part (right.Comparison o a b least) part = None
+-- ---- slices
 
 abbrev pub slice_at : Operand → ℕ → ℕ → ℕ → LongSlice
 slice_at x start width total = record { operand = x; start = start; width = width; total = total }

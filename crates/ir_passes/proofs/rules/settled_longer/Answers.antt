@@ -1,4 +1,4 @@
-use Rattle.std.proofs.Common.{◌≡◌, length, sym, ap, subst, arith}
+use Rattle.std.proofs.Common.{◌≡◌, length, sym, ap, subst}
 use Rattle.std.proofs.lemmas.Result.{IfOk-weaker}
 use Rattle.delay_model.specs.declared.op.Extend.TheVariants as extend
 use Rattle.ir_tree.specs.declared.node.Node.{Node}
@@ -6,8 +6,8 @@ use Rattle.ir_rebuild.specs.Built.{Rewrites, IsPlaced, is_plain_op}
 use Rattle.pass_fold.specs.Settled.{IsFolded}
 use Rattle.pass_narrow.specs.Nodes.{extension_node}
 use Rattle.pass_narrow.proofs.Lemmas.{extension_placed, extension_follows}
-use Rattle.ir_passes.proofs.Counting.{settled_count}
 use Rattle.ir_passes.proofs.Simplifying.{longer_simplifies}
+use Rattle.ir_passes.proofs.Exact.{extended_grown}
 use Rattle.ir_passes.proofs.rules.settled_longer.Goals as goal
 
 pub returns-clause-rewrites : goal.returns-clause-rewrites
@@ -43,10 +43,9 @@ returns-clause-normal c = λ state old n narrows keeps h.
     (λ p folded. longer_simplifies state old mid one all n m w o p narrows keeps first.built placed c.in_ok-operand.ensures.folded (subst (λ y. IsFolded one all y p) c.in_ok-longer.ensures folded) h)
     c.settled-2.ensures.folded
 
-pub returns-clause-few : goal.returns-clause-few
-returns-clause-few c =
-    let mid = c.args.nodes.now.items in
-    let one = c.settled.new.nodes.items in
-    let all = c.settled-2.new.nodes.items in
-    let first = settled_count mid one c.args.node c.in_ok-operand.operand c.in_ok-operand.ensures.folded in
-    IfOk-weaker c.settled-2.result _ _ (λ p r. let second = settled_count one all c.in_ok-longer.longer p r in omega (arith, first, second)) c.settled-2.ensures.folded
+pub returns-clause-is : goal.returns-clause-is
+returns-clause-is c =
+    IfOk-weaker c.settled-2.result _ _
+    (λ p second.
+    extended_grown c.args.nodes.now.items c.settled.new.nodes.items c.settled-2.new.nodes.items c.args.node c.in_ok-longer.longer c.args.width c.in_ok-operand.operand p c.in_ok-operand.ensures.folded c.in_ok-longer.ensures second)
+    c.settled-2.ensures.folded

@@ -57,11 +57,13 @@ nodes-preserved g c =
     flag stands c.in_ok-place.ensures.dropped c.in_ok-push.ensures.items (c.nodes.invariant.0 channels checked) in (
       read,
       walked proc.state g.R.Rewrite.gives kept old c.nodes.i n new all c.nodes.places.items c.push.new.self.items c.is_kept-is_kept.result o c.nodes-test.true c.index-old-i.is flag
-          (read c.requires.0 c.requires.1).stand.built stands
+          (c.nodes.invariant.0 c.requires.0 c.requires.1).stand.built (read c.requires.0 c.requires.1).stand.built
+          (λ marked plain. asked c.requires.0 proc kept old c.nodes.i n new c.nodes.places.items c.is_kept-is_kept.result c.as_slice-old.ensures c.nodes-test.true c.index-old-i.is c.in_ok-kept.ensures.kept c.requires.1 flag (c.nodes.invariant.0 c.requires.0 c.requires.1) marked plain)
+          stands
           (λ marked free.
           subst (λ ps. g.R.Rewrite.gives proc.state new all (moved_node (moved ps) n) o) c.as_slice-in-nodes.ensures.value
           (c.in_ok-place.ensures.gives marked (subst (λ ps. is_fixed new (moved_node (moved ps) n) ≡ false) (sym c.as_slice-in-nodes.ensures.value) free)))
-          c.in_ok-place.ensures.dropped c.in_ok-push.ensures.items c.nodes.invariant.1,
+          c.in_ok-place.ensures.dropped c.in_ok-place.ensures.nothing c.in_ok-push.ensures.items c.nodes.invariant.1,
     )
 
 pub returns-clause-rebuilt : goal.returns-clause-rebuilt

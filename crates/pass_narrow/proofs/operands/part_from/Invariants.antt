@@ -1,5 +1,5 @@
 use Rattle.std.proofs.Common.{◌≡◌, drop}
-use Rattle.pass_narrow.specs.Inner.Views.{part_from}
+use Rattle.pass_narrow.specs.Views.{part_from}
 use Rattle.pass_narrow.proofs.operands.part_from.Given as goal
 
 abbrev pub invariant-parts : goal.invariant-parts

@@ -6,6 +6,7 @@ use Rattle.ir_rebuild.specs.Normal.Normal.{AreNormal}
 use Rattle.pass_narrow.specs.KeepsNormal.{KeepsNormal}
 use Rattle.pass_narrow.specs.Inner.Meant.{IsRightSide, IsOperation, IsComparison}
 use Rattle.pass_narrow.specs.Inner.Bare.{AreBare, IsNormalSide, row_test}
+use Rattle.pass_narrow.specs.Narrowings.{made_of, IsNarrowing}
 use Rattle.pass_narrow.proofs.Standing.{zero_stands, extension_stands}
 use Rattle.pass_narrow.proofs.NormalSides.{pair_keeps}
 use Rattle.pass_narrow.proofs.stand_in.made.Goals as goal
@@ -51,3 +52,8 @@ returns-in-Comparison-clause-normal c =
     let p = c.in-Comparison in
     subst (λ r. IfOk c.comparison_of.result (λ x. (n : Node) → IsRightSide state nodes n c.args.total r → (AreNormal state nodes → IsNormalSide state nodes c.args.total r) → KeepsNormal state nodes new n x)) (sym c.in-Comparison.is)
     (pair_keeps c.comparison_of.result state nodes new (λ n. IsComparison state nodes n p.op p.a p.b p.least) (AreBare state nodes p.a p.b (λ u v. nat_lt (max u v) p.least)) c.comparison_of.ensures.normal)
+
+pub returns-in-Comparison-clause-made : goal.returns-in-Comparison-clause-made
+returns-in-Comparison-clause-made c =
+    subst (λ r. IfOk c.comparison_of.result (λ x. IsNarrowing c.comparison_of.new.nodes.items x (made_of c.args.state.now c.args.nodes.now.items c.args.total r))) (sym c.in-Comparison.is)
+    (c.comparison_of.ensures.made c.args.total)

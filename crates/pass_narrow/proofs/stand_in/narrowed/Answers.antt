@@ -1,5 +1,5 @@
 use Rattle.std.proofs.Common.{sym, ap, ◌∙◌}
-use Rattle.pass_narrow.specs.Inner.RightSides.{right_side_of}
+use Rattle.pass_narrow.specs.RightSides.{right_side_of}
 use Rattle.pass_narrow.proofs.Standing.{right_narrows}
 use Rattle.pass_narrow.proofs.NormalSides.{stays_normal, right_keeps}
 use Rattle.pass_narrow.proofs.stand_in.narrowed.Goals as goal

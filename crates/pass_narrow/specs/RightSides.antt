@@ -17,7 +17,7 @@ use Rattle.ir_tree.specs.NodeTypes.Types.{bits_width}
 use Rattle.pass_narrow.specs.declared.operands.Part.{Part}
 use Rattle.pass_narrow.specs.declared.left_side.RightSide.{RightSide}
 use Rattle.pass_narrow.specs.declared.left_side.RightSide.TheVariants as right
-use Rattle.pass_narrow.specs.Inner.Views.{width_in, extended, sliced, part_of, element_of}
+use Rattle.pass_narrow.specs.Views.{width_in, extended, sliced, part_of, element_of}
 
 -- a number of bits, if it is smaller than the width
 abbrev pub narrower : ℕ → ℕ → Option ℕ
