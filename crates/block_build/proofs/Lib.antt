@@ -3,3 +3,4 @@ pub mod Standing
 pub mod Resets
 pub mod Prefixes
 pub mod Driven
+pub mod Exact

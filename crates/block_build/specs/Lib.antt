@@ -2,3 +2,5 @@
 pub mod Block
 -- what a block does in the rows of a simulation
 pub mod Rows
+-- a block that is always fed, and whose words are always taken
+pub mod Fed

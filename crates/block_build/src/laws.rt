@@ -1,14 +1,17 @@
 //! The laws of blocks, each the contract of a function without a body. They speak of any rows of a simulation among which
 //! one resets, from any contents of the registers on, as they come up with power.
 
-ghost use Rattle.std.specs.Prelude.{◌≡◌, ◌≤◌, ℕ, true, false, List, [], ◌++◌, length, get_or, slice_get, if◌then◌else◌, option_to_list, Some, None};
+ghost use Rattle.std.specs.Prelude.{◌≡◌, ◌≤◌, ◌-◌, ℕ, true, false, List, [], ◌++◌, length, get_or, slice_get, if◌then◌else◌, option_to_list, Some, None};
 ghost use Rattle.base.specs.Lists.Front.{IsFront};
 ghost use Rattle.xb_bits.specs.Word.{Word};
 ghost use Rattle.net_core.specs.declared.net.Chan.{Chan};
 ghost use Rattle.net_core.specs.declared.net.Kind.TheVariants.{Input, Output};
 ghost use Rattle.net_core.specs.Cuts.{words_at, received_at, unbounded_cut};
+ghost use Rattle.block_stage.specs.Machine.Pipeline.{Pipeline};
+ghost use Rattle.block_stage.specs.Machine.Steady.{SendsOnce};
+ghost use Rattle.block_build.specs.Fed.{IsOuter, AreRowsFed};
 ghost use Rattle.block_build.specs.Block.{Block, IsBlock, run_of};
-ghost use Rattle.block_build.specs.Rows.{State, InputRow, HasReset, state_after, after_row, since_reset, is_ready, offers, moved_in, moved_out};
+ghost use Rattle.block_build.specs.Rows.{State, InputRow, sender_of, HasReset, state_after, after_row, since_reset, is_ready, offers, moved_in, moved_out};
 
 /// Whatever stands at a block's ports in each row since the last reset: take the words that its inputs received as all that
 /// the outside ever sends, and let the network run on them with channels of any depth, each proc for as many activations as
@@ -60,4 +63,14 @@ pub fn offers_stand()
 pub fn nothing_is_driven_in_reset()
     ensures inputs { (block : Block) (state : State) (row : InputRow) (c : ℕ) → row.rst ≡ true → is_ready block state row c ≡ false }
     ensures outputs { (block : Block) (state : State) (row : InputRow) (c : ℕ) → row.rst ≡ true → offers block state row c ≡ None }
+{}
+
+/// The words of a pipeline that keeps its turn in stage 0 and has no inner channel, where in each row since the last reset every
+/// input offers a word and every output is ready: where each activation sends one word on a channel, word `i` moves exactly in
+/// row `i + s` since the reset, `s` the stage of the sending site.
+pub fn always_fed_words_move_in_their_row()
+    ensures { (block : Block) → IsBlock block → (chan place : ℕ) (q : Pipeline) → slice_get block.pipelines (sender_of block chan) ≡ Some q →
+        q.last ≡ 0 → IsOuter block q → SendsOnce q chan place →
+        (power : State) (rows : List InputRow) → HasReset rows → AreRowsFed block (since_reset [] rows) →
+        length (moved_out block (state_after block power rows) chan) ≡ length (since_reset [] rows) - q.stage place }
 {}

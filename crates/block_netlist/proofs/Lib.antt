@@ -20,3 +20,5 @@ pub mod OnGathered
 pub mod OnLayout
 -- the wires of a FIFO
 pub mod OnFifos
+-- the wires of a channel's end
+pub mod OnEnds

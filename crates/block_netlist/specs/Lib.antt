@@ -20,3 +20,5 @@ pub mod Order
 pub mod Layout
 -- the wires of a FIFO
 pub mod Fifos
+-- the wires of a channel's end
+pub mod Ends

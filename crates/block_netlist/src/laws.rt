@@ -18,6 +18,7 @@ ghost use Rattle.block_netlist.specs.Walks.{goes_at, AreRead};
 ghost use Rattle.ir_tree.specs.declared.node.Operand.{Operand};
 ghost use Rattle.block_stage.specs.Fifo.Row.{Row, row_after};
 ghost use Rattle.block_netlist.specs.Fifos.{FifoNets, IsFifo, FifoHeld, CountShown, slot_net};
+ghost use Rattle.block_netlist.specs.Ends.{AskNets, AskSaid, AreSaid, some_wires, some_net, some_asked, word_wires, word_net, asked_word};
 ghost use Rattle.block_netlist.specs.Layout.{StageReader, is_carried, ServesAll};
 ghost use Rattle.ir_tree.specs.declared.package.Channel.{Channel};
 ghost use Rattle.ir_tree.specs.declared.package.Proc.{Proc};
@@ -140,4 +141,12 @@ pub fn fifo_wires_are_the_rows()
         atom_value v fifo.asked ≡ bit asked → CountShown v fifo row asked offered }
     ensures slots { (v : Values) (fifo : FifoNets) (row : Row Word) (asked : Bool) (offered : Option Word) → IsFifo v fifo → FifoHeld v fifo row offered →
         atom_value v fifo.asked ≡ bit asked → (x : ℕ) → x < fifo.depth → v (slot_net fifo x) ≡ (row_after fifo.depth row asked offered).slot x }
+{}
+
+/// The wires of a channel's end say whether one of its sites is asked, and have the word of the last that is.
+pub fn ends_say_what_is_asked()
+    ensures some { (v : Values) (asks : List AskNets) (said : List AskSaid) (k : ℕ) (so_far : Atom) (t : Bool) → AreWired v k (some_wires k so_far asks) →
+        atom_value v so_far ≡ bit t → AreSaid v asks said → atom_value v (some_net k so_far asks) ≡ bit (some_asked t said) }
+    ensures word { (v : Values) (width : ℕ) (asks : List AskNets) (said : List AskSaid) (k : ℕ) (so_far : Atom) (w : Word) → AreWired v k (word_wires width k so_far asks) →
+        atom_value v so_far ≡ w → AreSaid v asks said → atom_value v (word_net k so_far asks) ≡ asked_word w said }
 {}
