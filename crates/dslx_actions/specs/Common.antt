@@ -3,7 +3,7 @@ use Rattle.std.specs.Prelude.{ℕ, suc, List, [], ◌∷◌, ◌-◌, drop, None
 use Rattle.xb_span.specs.declared.span.Span.{Span}
 use Rattle.dslx_actions.specs.declared.parts.Parts.{Parts}
 use Rattle.dslx_actions.specs.Empty.{join, no_expr, no_type, nowhere}
-use Rattle.dslx_actions.specs.Tops.{top_or}
+use Rattle.base.specs.Stacks.Tops.{top_or}
 
 -- the place of the last so many tokens
 abbrev pub across : ℕ → List Span → Span

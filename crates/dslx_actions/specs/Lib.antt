@@ -4,7 +4,5 @@ pub mod Common
 pub mod Empty
 -- what a token adds
 pub mod Tokens
--- the top of a stack
-pub mod Tops
 -- types
 pub mod Types

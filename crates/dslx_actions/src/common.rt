@@ -16,7 +16,7 @@ impl Parts {
     {
         let last = self.marks.peek_or(0, NOWHERE);
         let first = self.marks.peek_or(count.saturating_sub(1), NOWHERE);
-        self.marks.take_off(count);
+        self.marks.drop_top(count);
         join(first, last)
     }
 
@@ -24,7 +24,7 @@ impl Parts {
     pub fn skip(&mut self, count: usize)
         ensures { self.new ≡ skip count self.old }
     {
-        self.marks.take_off(count);
+        self.marks.drop_top(count);
     }
 
     /// Of so many tokens only the place of the last one matters.
@@ -32,7 +32,7 @@ impl Parts {
         ensures { OnOk result (self.new ≡ last_mark count self.old) }
     {
         let last = self.marks.peek_or(0, NOWHERE);
-        self.marks.take_off(count);
+        self.marks.drop_top(count);
         self.marks.push(last)
     }
 

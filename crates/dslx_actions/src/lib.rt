@@ -9,13 +9,12 @@ mod absent;
 mod common;
 mod parts;
 mod shift;
-mod stack;
 pub mod types;
 
 pub use absent::{
     NO_DIGITS, NOWHERE, join, no_arg, no_block, no_config, no_definition, no_expr, no_ident,
     no_next, no_pattern, no_type,
 };
+pub use base::stacks::Stack;
 pub use common::one_more;
 pub use parts::{Digits, Parts};
-pub use stack::Stack;

@@ -3,7 +3,7 @@
 ghost use Rattle.std.specs.Prelude.{◌≡◌};
 ghost use Rattle.dslx_actions.specs.Empty.{empty};
 
-use crate::stack::Stack;
+use base::stacks::Stack;
 use dslx_tree::{
     Arg, Arm, Binary, Block, Config, Definition, Direction, End, Expr, Field, FieldValue, Ident,
     Item, Making, Member, Next, Parameter, Pattern, Stmt, TypeExpr,

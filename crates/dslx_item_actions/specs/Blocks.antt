@@ -6,7 +6,7 @@ use Rattle.dslx_tree.specs.declared.block.Stmt as stmts
 use Rattle.dslx_actions.specs.declared.parts.Parts.{Parts}
 use Rattle.dslx_actions.specs.Common.{across}
 use Rattle.dslx_actions.specs.Empty.{no_expr, no_pattern}
-use Rattle.dslx_actions.specs.Tops.{top_or}
+use Rattle.base.specs.Stacks.Tops.{top_or}
 
 -- `let pattern : type = expr ;`
 abbrev pub let_stmt : Parts → Parts

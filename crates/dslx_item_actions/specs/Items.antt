@@ -5,7 +5,7 @@ use Rattle.dslx_tree.specs.declared.item.Definition.TheVariants as definitions
 use Rattle.dslx_actions.specs.declared.parts.Parts.{Parts}
 use Rattle.dslx_actions.specs.Common.{across}
 use Rattle.dslx_actions.specs.Empty.{join, no_block, no_definition, no_expr, no_ident, no_type}
-use Rattle.dslx_actions.specs.Tops.{top_or}
+use Rattle.base.specs.Stacks.Tops.{top_or}
 
 -- `name : type = { expr }` between `<` and `>`
 abbrev pub parameter : Parts → Parts

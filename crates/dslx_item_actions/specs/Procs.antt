@@ -8,7 +8,7 @@ use Rattle.dslx_tree.specs.declared.process.Making.TheVariants as makings
 use Rattle.dslx_actions.specs.declared.parts.Parts.{Parts}
 use Rattle.dslx_actions.specs.Common.{across}
 use Rattle.dslx_actions.specs.Empty.{join, no_arg, no_block, no_config, no_ident, no_next, no_type}
-use Rattle.dslx_actions.specs.Tops.{top_or}
+use Rattle.base.specs.Stacks.Tops.{top_or}
 
 -- `in` or `out`
 abbrev pub direction : Direction → Parts → Parts

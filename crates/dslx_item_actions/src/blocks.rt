@@ -6,7 +6,7 @@ ghost use Rattle.dslx_item_actions.specs.Blocks.{bare_stmt, block, last_value, l
 use dslx_actions::{NOWHERE, Parts, no_expr, no_pattern};
 use dslx_tree::{Block, Let, Stmt};
 use std::alloc::{AllocError, Global};
-use xb_value::Boxed;
+use xb_value::{Boxed, Seq};
 
 /// `let pattern : type = expr ;`
 pub fn let_stmt(parts: &mut Parts, alloc: Global) -> Result<(), AllocError>
@@ -58,7 +58,7 @@ pub fn block(parts: &mut Parts, alloc: Global) -> Result<(), AllocError>
         None => None,
     };
     let count = parts.counts.pop_or(0);
-    let statements = parts.statements.take_top(count)?;
+    let statements = Seq::from_vec(parts.statements.take_top(count)?);
     parts.blocks.push(Block {
         span,
         statements,

@@ -8,6 +8,7 @@ use dslx_tree::{
     Alias, Constant, Definition, Enum, Field, Function, Item, Member, Parameter, Struct,
 };
 use std::alloc::{AllocError, Global};
+use xb_value::Seq;
 
 /// `name : type = { expr }` between `<` and `>`
 pub fn parameter(parts: &mut Parts, alloc: Global) -> Result<(), AllocError>
@@ -54,8 +55,8 @@ pub fn function(parts: &mut Parts, alloc: Global) -> Result<(), AllocError>
     let marks = parts.take_marks(3);
     let arguments = parts.counts.pop_or(0);
     let parameters = parts.counts.pop_or(0);
-    let arguments = parts.fields.take_top(arguments)?;
-    let parameters = parts.parameters.take_top(parameters)?;
+    let arguments = Seq::from_vec(parts.fields.take_top(arguments)?);
+    let parameters = Seq::from_vec(parts.parameters.take_top(parameters)?);
     let body = parts.blocks.pop_or(no_block(alloc));
     let function = Function {
         span: join(marks, body.span),
@@ -102,7 +103,7 @@ pub fn structure(parts: &mut Parts, alloc: Global) -> Result<(), AllocError>
 {
     let span = parts.take_marks(3);
     let count = parts.counts.pop_or(0);
-    let fields = parts.fields.take_top(count)?;
+    let fields = Seq::from_vec(parts.fields.take_top(count)?);
     let structure = Struct {
         span,
         name: parts.idents.pop_or(no_ident(alloc)),
@@ -117,7 +118,7 @@ pub fn enumeration(parts: &mut Parts, alloc: Global) -> Result<(), AllocError>
 {
     let span = parts.take_marks(4);
     let count = parts.counts.pop_or(0);
-    let members = parts.members.take_top(count)?;
+    let members = Seq::from_vec(parts.members.take_top(count)?);
     let enumeration = Enum {
         span,
         name: parts.idents.pop_or(no_ident(alloc)),

@@ -6,6 +6,7 @@ ghost use Rattle.dslx_item_actions.specs.Procs.{channel, config, depth, directio
 use dslx_actions::{Parts, join, no_arg, no_block, no_config, no_ident, no_next, no_type};
 use dslx_tree::{Channel, Config, Definition, Direction, End, Making, Next, Proc, Spawn};
 use std::alloc::{AllocError, Global};
+use xb_value::Seq;
 
 /// `in` or `out`
 pub fn direction(parts: &mut Parts, way: Direction) -> Result<(), AllocError>
@@ -69,8 +70,8 @@ pub fn spawn(parts: &mut Parts, alloc: Global) -> Result<(), AllocError>
     let span = parts.take_marks(4);
     let names = parts.counts.pop_or(0);
     let args = parts.counts.pop_or(0);
-    let ends = parts.idents.take_top(names)?;
-    let arguments = parts.args.take_top(args)?;
+    let ends = Seq::from_vec(parts.idents.take_top(names)?);
+    let arguments = Seq::from_vec(parts.args.take_top(args)?);
     let spawn = Spawn {
         span,
         target: parts.idents.pop_or(no_ident(alloc)),
@@ -88,9 +89,9 @@ pub fn config(parts: &mut Parts) -> Result<(), AllocError>
     let names = parts.counts.pop_or(0);
     let makings = parts.counts.pop_or(0);
     let ends = parts.counts.pop_or(0);
-    let result = parts.idents.take_top(names)?;
-    let ends = parts.ends.take_top(ends)?;
-    let makings = parts.makings.take_top(makings)?;
+    let result = Seq::from_vec(parts.idents.take_top(names)?);
+    let ends = Seq::from_vec(parts.ends.take_top(ends)?);
+    let makings = Seq::from_vec(parts.makings.take_top(makings)?);
     parts.configs.push(Config {
         span,
         ends,
@@ -121,8 +122,8 @@ pub fn proc(parts: &mut Parts, alloc: Global) -> Result<(), AllocError>
     let span = parts.take_marks(3);
     let members = parts.counts.pop_or(0);
     let parameters = parts.counts.pop_or(0);
-    let members = parts.ends.take_top(members)?;
-    let parameters = parts.parameters.take_top(parameters)?;
+    let members = Seq::from_vec(parts.ends.take_top(members)?);
+    let parameters = Seq::from_vec(parts.parameters.take_top(parameters)?);
     let proc = Proc {
         span,
         name: parts.idents.pop_or(no_ident(alloc)),

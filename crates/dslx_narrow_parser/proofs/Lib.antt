@@ -1,3 +1,2 @@
 mod OneTree
 mod Stepping
-mod Tails

@@ -8,5 +8,3 @@ pub mod Reads
 pub mod Roles
 -- what each rule makes of the parts of its symbols
 pub mod Rules
--- contracts of this crate's private functions
-pub mod Inner

@@ -10,7 +10,7 @@ use Rattle.dslx_narrow_tree.specs.declared.proc.Stmt.TheVariants as stmts
 use Rattle.dslx_narrow_tree.specs.declared.type_expr.TypeExpr.TheVariants as types
 use Rattle.dslx_narrow_parser.specs.declared.state.State.{State}
 use Rattle.dslx_narrow_parser.specs.Empty.{nowhere, no_block, no_config, no_expr, no_ident, no_next, no_pattern, no_type, no_width, join}
-use Rattle.dslx_narrow_parser.specs.Inner.Tops.{top_or}
+use Rattle.base.specs.Stacks.Tops.{top_or}
 
 -- the place of the mark, or of the expression, with none and with one on top of it
 abbrev pub first_of : List Span → Span

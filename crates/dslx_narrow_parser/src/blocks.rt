@@ -6,6 +6,7 @@ ghost use Rattle.dslx_narrow_parser.specs.Rules.{bits_type, block_of, config_of,
 use crate::state::{NOWHERE, State, join, no_block, no_config, no_ident, no_next, no_width};
 use dslx_narrow_tree::{Block, Config, Direction, End, Expr, Next, Pattern, Proc, Stmt, TypeExpr};
 use std::alloc::{AllocError, Global};
+use xb_value::Seq;
 
 impl State {
     /// A mark that says nothing.
@@ -112,7 +113,7 @@ impl State {
         let close = self.marks.pop_or(NOWHERE);
         let open = self.marks.pop_or(NOWHERE);
         let count = self.counts.pop_or(0);
-        let statements = self.statements.take_top(count)?;
+        let statements = Seq::from_vec(self.statements.take_top(count)?);
         let value = self.values.pop_or(None);
         self.blocks.push(Block {
             span: join(open, close),
@@ -132,8 +133,8 @@ impl State {
         let word = self.marks.pop_or(NOWHERE);
         let names = self.counts.pop_or(0);
         let count = self.counts.pop_or(0);
-        let result = self.idents.take_top(names)?;
-        let ends = self.ends.take_top(count)?;
+        let result = Seq::from_vec(self.idents.take_top(names)?);
+        let ends = Seq::from_vec(self.ends.take_top(count)?);
         self.configs.push(Config {
             span: join(word, close),
             ends,
@@ -165,7 +166,7 @@ impl State {
         self.skip();
         let word = self.marks.pop_or(NOWHERE);
         let count = self.counts.pop_or(0);
-        let members = self.ends.take_top(count)?;
+        let members = Seq::from_vec(self.ends.take_top(count)?);
         let proc = Proc {
             span: join(word, close),
             name: self.idents.pop_or(no_ident(alloc)),

@@ -12,6 +12,7 @@ use dslx_narrow_tree::Module;
 use dslx_token::Token;
 use grammar::Step;
 use std::alloc::{AllocError, Global};
+use xb_value::Seq;
 
 /// The tree that the steps make of the tokens.
 pub fn build(alloc: Global, steps: &[Step], tokens: &[Token]) -> Result<Module, AllocError>
@@ -86,6 +87,6 @@ fn procs_of(state: State) -> Module
     ensures { result ≡ module_of state }
 {
     Module {
-        procs: state.procs.into_items(),
+        procs: Seq::from_vec(state.procs.into_items()),
     }
 }

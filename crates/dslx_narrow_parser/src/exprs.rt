@@ -7,7 +7,7 @@ use crate::state::{NOWHERE, State, join, no_ident, no_width};
 use dslx_narrow_tree::{Expr, Pattern};
 use std::alloc::{AllocError, Global};
 use xb_span::Span;
-use xb_value::Boxed;
+use xb_value::{Boxed, Seq};
 
 impl State {
     /// `+ atom`
@@ -77,8 +77,8 @@ impl State {
         let close = self.marks.pop_or(NOWHERE);
         let _open = self.marks.pop_or(NOWHERE);
         let count = self.counts.pop_or(0);
-        let _places = self.places.take_top(count)?;
-        let arguments = self.exprs.take_top(count)?;
+        self.places.drop_top(count);
+        let arguments = Seq::from_vec(self.exprs.take_top(count)?);
         let ident = self.idents.pop_or(no_ident(alloc));
         let span = join(ident.span, close);
         self.exprs.push(Expr::Call(span, ident, arguments))?;

@@ -13,7 +13,6 @@ mod laws;
 mod reader;
 mod rule;
 mod shift;
-mod stack;
 mod state;
 
 pub use laws::one_reading;

@@ -3,7 +3,7 @@
 ghost use Rattle.std.specs.Prelude.{◌≡◌};
 ghost use Rattle.dslx_narrow_parser.specs.Empty.{empty, join, no_block, no_config, no_end, no_ident, no_next, no_width};
 
-use crate::stack::Stack;
+use base::stacks::Stack;
 use base::texts::Name;
 use dslx_narrow_tree::{
     Block, Config, Direction, End, Expr, Ident, Next, Pattern, Proc, Stmt, TypeExpr, Width,

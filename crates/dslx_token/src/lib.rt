@@ -19,6 +19,8 @@ mod spelling;
 mod token;
 mod word;
 
+pub use blank::skip_blank;
+pub use characters::byte_at;
 pub use kinds::tokens;
 pub use laws::one_reading;
 pub use token::Token;

@@ -1,3 +1,2 @@
 pub mod Lemmas
 mod Stepping
-mod Tails

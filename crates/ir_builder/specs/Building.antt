@@ -12,7 +12,7 @@ use Rattle.ir_builder.specs.declared.rule.Rule.TheVariants.{Keep, Skip, Start, M
 use Rattle.ir_builder.specs.declared.rule.TheConstants.{RULES}
 use Rattle.ir_builder.specs.declared.state.State.{State}
 use Rattle.ir_builder.specs.Empty.{nowhere}
-use Rattle.ir_builder.specs.Inner.Tops.{top_or}
+use Rattle.base.specs.Stacks.Tops.{top_or}
 use Rattle.ir_builder.specs.Rules as rules
 
 -- what a token adds

@@ -6,5 +6,3 @@ pub mod Empty
 pub mod Named
 -- what each rule makes of the parts of its symbols
 pub mod Rules
--- contracts of this crate's private functions
-pub mod Inner

@@ -23,7 +23,7 @@ use Rattle.ir_builder.specs.declared.state.Call.{Call}
 use Rattle.ir_builder.specs.declared.state.State.{State}
 use Rattle.ir_builder.specs.Empty.{nowhere, no_token, no_type, no_constant, no_call, join}
 use Rattle.ir_builder.specs.Named.{place_in, numbered}
-use Rattle.ir_builder.specs.Inner.Tops.{top_or}
+use Rattle.base.specs.Stacks.Tops.{top_or}
 
 -- ---- tokens and lists
 

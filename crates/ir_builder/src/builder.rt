@@ -8,7 +8,7 @@ ghost use Rattle.ir_builder.specs.Empty.{empty};
 
 use crate::lines::name_of;
 use crate::rule::rule_of;
-use crate::stack::Stack;
+use base::stacks::Stack;
 use crate::state::{NOWHERE, State};
 use grammar::Step;
 use ir_token::Token;
@@ -131,5 +131,5 @@ fn placed_of(alloc: Global, state: &mut State) -> Result<Placed, AllocError>
 fn take_all<T: Drop>(alloc: Global, stack: &mut Stack<T>) -> Seq<T>
     ensures { result ≡ reverse stack.old }
 {
-    std::mem::replace(stack, Stack::new(alloc)).into_items()
+    Seq::from_vec(std::mem::replace(stack, Stack::new(alloc)).into_items())
 }

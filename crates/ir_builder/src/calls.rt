@@ -1,7 +1,7 @@
 //! What the rules of calls make.
 
 ghost use Rattle.std.specs.Prelude.{◌≡◌, drop, reverse, take, IfOk, OnOk};
-ghost use Rattle.ir_builder.specs.Inner.Tops.{top_or};
+ghost use Rattle.base.specs.Stacks.Tops.{top_or};
 ghost use Rattle.ir_builder.specs.Rules.{plain_call, slice_call, dynamic_call, extend_call, sel_call, index_call, indices_call, literal_call, site_channel, site_call};
 
 use crate::parts::numbered;
@@ -9,6 +9,7 @@ use crate::state::{Call, State};
 use ir_token::Token;
 use ir_tree::{Attributes, Constant, Operand, Operands};
 use std::alloc::{AllocError, Global};
+use xb_value::Seq;
 
 impl State<'_> {
     /// Takes the operands of the list on top.
@@ -20,7 +21,7 @@ impl State<'_> {
         }) }
     {
         let count = self.counts.pop_or(0);
-        let list = self.operands.take_top(count)?;
+        let list = Seq::from_vec(self.operands.take_top(count)?);
         Operands::from_slice(alloc, list.as_slice())
     }
 

@@ -12,7 +12,6 @@ mod lines;
 mod names;
 mod parts;
 mod rule;
-mod stack;
 mod state;
 
 pub use builder::{Placed, build};

@@ -149,10 +149,10 @@ impl<'a> State<'a> {
     {
         let close = self.tokens.pop_or(Token::nothing());
         let count = self.counts.pop_or(0);
-        let spans = self.node_spans.take_top(count)?;
+        let spans = Seq::from_vec(self.node_spans.take_top(count)?);
         self.places_of(spans, close.span().to)?;
         let name = self.take_name(alloc)?;
-        let nodes = self.nodes.take_top(count)?;
+        let nodes = Seq::from_vec(self.nodes.take_top(count)?);
         let proc = self.proc_made(alloc, name, nodes);
         self.procs.push(proc)?;
         self.node_names.clear(alloc);

@@ -69,7 +69,7 @@ impl State<'_> {
     {
         self.skip(2);
         let count = self.counts.pop_or(0);
-        let parts = self.types.take_top(count)?;
+        let parts = Seq::from_vec(self.types.take_top(count)?);
         self.types.push(IrType::Tuple(parts, Seq::new(alloc)))
     }
 
@@ -78,7 +78,7 @@ impl State<'_> {
         ensures { OnOk result (self.new ≡ type_of self.old) }
     {
         let count = self.counts.pop_or(0);
-        let sizes = self.numbers.take_down(count)?;
+        let sizes = Seq::from_vec(self.numbers.take_down(count)?);
         let element = self.types.pop_or(IrType::Token(Seq::new(alloc)));
         self.types.push(sized(element, sizes))
     }
@@ -97,7 +97,7 @@ impl State<'_> {
     {
         self.skip(2);
         let count = self.counts.pop_or(0);
-        let parts = self.constants.take_top(count)?;
+        let parts = Seq::from_vec(self.constants.take_top(count)?);
         self.constants.push(Constant::Tuple(parts))
     }
 
@@ -107,7 +107,7 @@ impl State<'_> {
     {
         self.skip(2);
         let count = self.counts.pop_or(0);
-        let parts = self.constants.take_top(count)?;
+        let parts = Seq::from_vec(self.constants.take_top(count)?);
         self.constants.push(Constant::Array(parts))
     }
 

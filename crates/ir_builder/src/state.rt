@@ -5,7 +5,7 @@ ghost use Rattle.ir_builder.specs.Empty.{empty, join};
 ghost use Rattle.ir_builder.specs.Rules.{skip, start, more};
 
 use crate::names::Names;
-use crate::stack::Stack;
+use base::stacks::Stack;
 use ir_token::Token;
 use ir_tree::{Attributes, Channel, Constant, Ends, IrType, Node, Operand, Operands, Proc};
 use ir_verify::ProcPlaces;

@@ -4,7 +4,8 @@ ghost use Rattle.std.specs.Prelude.{◌≡◌, ◌≤◌, length, None, IfSome, 
 ghost use Rattle.ir_token.specs.Inner.Entries.{HasFront};
 ghost use Rattle.ir_token.specs.Fronts.{word_goes_on, name_len, number_front, token_front};
 
-use crate::characters::{byte_at, mark_kind};
+use crate::characters::mark_kind;
+use dslx_token::byte_at;
 use crate::number::{digits_len, value_of_number};
 use crate::rules::kind::END;
 use base::texts::{begins_word, is_word_byte};

@@ -6,11 +6,11 @@ ghost use Rattle.dslx_token.specs.Lexeme.{Lexeme};
 ghost use Rattle.ir_token.specs.Kinds.{Context, kind_in, begins_node, context_behind, no_context, settled_in};
 ghost use Rattle.ir_token.specs.Tokens.{IsCutInto, AreIrTokens, IsCutOffAt, IsTokenRefusal};
 
-use crate::blank::skip_blank;
 use crate::front::token_len;
 use crate::kind::{class_of, id_part, op_named, op_part};
 use crate::rules::kind::{ASSIGN, END, ID, LARGE, LBRACE, NAME, OPID, OWN, RPAREN, SMALL};
 use crate::token::Token;
+use dslx_token::skip_blank;
 use std::alloc::Global;
 use xb_span::ReadError;
 

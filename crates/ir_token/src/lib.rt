@@ -6,7 +6,6 @@
 //! Cost: linear in the text's length.
 #![tactic(auto)]
 
-mod blank;
 mod characters;
 mod front;
 mod kind;

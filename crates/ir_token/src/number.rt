@@ -5,7 +5,7 @@ ghost use Rattle.std.specs.List.{prefix_len};
 ghost use Rattle.std.specs.Char.{is_ascii_digit, is_ascii_hexdigit};
 ghost use Rattle.ir_token.specs.Fronts.{begins_hexadecimal, digits_len, value_of_number};
 
-use crate::characters::byte_at;
+use dslx_token::byte_at;
 
 pub fn begins_hexadecimal(text: &[u8]) -> bool
     ensures { result ≡ begins_hexadecimal text.now }

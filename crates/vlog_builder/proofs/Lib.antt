@@ -1,3 +1,2 @@
 mod Stepping
-mod Tails
 mod Tabling

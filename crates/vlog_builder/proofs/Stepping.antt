@@ -9,7 +9,7 @@ use Rattle.vlog_tree.specs.declared.module.VModule.{VModule}
 use Rattle.vlog_tree.specs.declared.verifier.places.Places.{Places}
 use Rattle.vlog_builder.specs.Building.{built, design_by, parsed_of, places_by, reduced, rule_of, shifted}
 use Rattle.vlog_builder.specs.Empty.{no_ident}
-use Rattle.vlog_builder.specs.Inner.Tops.{top_or}
+use Rattle.base.specs.Stacks.Tops.{top_or}
 use Rattle.vlog_builder.specs.declared.parsed.Parsed.{Parsed}
 use Rattle.vlog_builder.specs.declared.state.State.{State}
 

@@ -13,7 +13,7 @@ use Rattle.vlog_builder.specs.declared.rule.Rule.TheVariants.{Keep, RangeOf, NoR
 use Rattle.vlog_builder.specs.declared.rule.TheConstants.{RULES}
 use Rattle.vlog_builder.specs.declared.state.State.{State}
 use Rattle.vlog_builder.specs.Empty.{no_ident}
-use Rattle.vlog_builder.specs.Inner.Tops.{top_or}
+use Rattle.base.specs.Stacks.Tops.{top_or}
 use Rattle.vlog_builder.specs.Parts.{literal_of, most, name_text}
 use Rattle.vlog_builder.specs.Rules as rules
 

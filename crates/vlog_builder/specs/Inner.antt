@@ -1,3 +1,2 @@
-pub mod Tops
 pub mod Literals
 pub mod Tabled

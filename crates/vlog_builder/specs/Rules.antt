@@ -24,7 +24,7 @@ use Rattle.vlog_builder.specs.declared.state.State.{State}
 use Rattle.vlog_builder.specs.declared.tail.Tail.{Tail}
 use Rattle.vlog_builder.specs.declared.tail.Tail.TheVariants as tail
 use Rattle.vlog_builder.specs.Empty.{no_ident, no_literal, no_atom, no_simple, no_expr}
-use Rattle.vlog_builder.specs.Inner.Tops.{top_or}
+use Rattle.base.specs.Stacks.Tops.{top_or}
 use Rattle.vlog_builder.specs.Parts.{most, range_width, range_some, signal_of}
 
 -- from there to the end of the last token

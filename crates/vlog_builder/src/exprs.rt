@@ -7,6 +7,7 @@ ghost use Rattle.vlog_builder.specs.Rules.{binary_is, binary_tail, choice_tail, 
 use crate::literal::no_literal;
 use crate::state::{State, no_atom, no_simple};
 use crate::tail::Tail;
+use sqlite_items::Items;
 use std::alloc::AllocError;
 use vlog_tree::{Atom, Binary, Expr, Order, Signal, Simple, Unary};
 
@@ -70,7 +71,7 @@ impl<'a> State<'a> {
         ensures { OnOk result (self.new ≡ concat_of self.old) }
     {
         let count = self.counts.pop_or(0).saturating_add(1);
-        let atoms = self.atoms.take_top(count)?;
+        let atoms = Items::from_vec(self.atoms.take_top(count)?);
         self.simples.push(Simple::Concat(atoms))
     }
 

@@ -16,7 +16,6 @@ mod parsed;
 mod rule;
 mod shift;
 mod signals;
-mod stack;
 mod state;
 mod tail;
 

@@ -7,7 +7,7 @@ ghost use Rattle.vlog_builder.specs.Rules.{skip_ident, span_from, top_signal};
 use crate::ident::Ident;
 use crate::literal::no_literal;
 use crate::signals::Signals;
-use crate::stack::Stack;
+use base::stacks::Stack;
 use crate::tail::Tail;
 use sqlite_items::Items;
 use std::alloc::Global;

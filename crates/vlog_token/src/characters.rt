@@ -1,7 +1,6 @@
 //! Which characters tokens are made of.
 
-ghost use Rattle.std.specs.Prelude.{◌≡◌, slice_index};
-ghost use Rattle.dslx_token.specs.Characters.{is_white};
+ghost use Rattle.std.specs.Prelude.{◌≡◌};
 ghost use Rattle.vlog_token.specs.Fronts.{single_kind, double_kind, is_triple};
 
 use crate::rules::kind::{
@@ -9,19 +8,6 @@ use crate::rules::kind::{
     NE, PERCENT, PIPE, PLUS, QUESTION, RBRACE, RBRACKET, RPAREN, SEMI, SHL, SHR, SLASH, STAR,
     TILDE,
 };
-
-pub fn is_white(byte: u8) -> bool
-    ensures { result ≡ is_white byte }
-{
-    matches!(byte, b' ' | b'\t' | b'\r' | b'\n')
-}
-
-/// The byte at that place, or 0 past the end: no token has that byte.
-pub fn byte_at(text: &[u8], at: usize) -> u8
-    ensures { result ≡ slice_index text.now at }
-{
-    text.get(at).copied().unwrap_or(0)
-}
 
 /// The kind of a mark of one character; of what is none that of the end.
 pub fn single_kind(byte: u8) -> u8

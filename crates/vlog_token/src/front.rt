@@ -5,7 +5,8 @@ ghost use Rattle.std.specs.Str.Parse.{AllDigits};
 ghost use Rattle.vlog_token.specs.Inner.Entries.{HasTokenOf};
 ghost use Rattle.vlog_token.specs.Fronts.{digit_run, front_digits, value_digits, begins_value, begins_literal, is_in_range, number_len, mark_len, signed_len, word_run, front_len};
 
-use crate::characters::{byte_at, double_kind, is_triple, single_kind};
+use crate::characters::{double_kind, is_triple, single_kind};
+use dslx_token::byte_at;
 use crate::power::is_below;
 use crate::rules::kind::END;
 use base::texts::{begins_word, is_word_byte};

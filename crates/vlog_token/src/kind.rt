@@ -5,7 +5,8 @@ ghost use Rattle.dslx_token.specs.Spelling.{kind_among};
 ghost use Rattle.vlog_token.specs.Inner.Entries.{entry_of};
 ghost use Rattle.vlog_token.specs.Kinds.{verilog_words, digits_kind, mark_kind, verilog_kind};
 
-use crate::characters::{byte_at, double_kind, single_kind};
+use crate::characters::{double_kind, single_kind};
+use dslx_token::byte_at;
 use crate::front::{begins_literal, front_digits};
 use crate::rules::kind::{
     ALWAYS, ASHR, ASSIGN, BEGIN, CLK, ELSE, END, ENDBLOCK, ENDMODULE, IF, INPUT, LITERAL, MODULE,

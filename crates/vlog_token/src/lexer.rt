@@ -5,9 +5,9 @@ ghost use Rattle.xb_span.specs.declared.read_error.ReadError.TheVariants.{OutOfM
 ghost use Rattle.dslx_token.specs.Lexeme.{Lexeme};
 ghost use Rattle.vlog_token.specs.Tokens.{HasTokens, BreaksAt, IsBroken};
 
-use crate::blank::skip_blank;
 use crate::front::token_len;
 use crate::token::Token;
+use dslx_token::skip_blank;
 use std::alloc::Global;
 use xb_span::ReadError;
 

@@ -7,7 +7,6 @@
 //! the square of its length.
 #![tactic(auto)]
 
-mod blank;
 mod characters;
 mod front;
 mod kind;

@@ -10,7 +10,7 @@ use Rattle.dslx_actions.specs.declared.parts.Digits.{Digits}
 use Rattle.dslx_actions.specs.declared.parts.Parts.{Parts}
 use Rattle.dslx_actions.specs.Common.{across}
 use Rattle.dslx_actions.specs.Empty.{join, no_digits, no_ident, no_type}
-use Rattle.dslx_actions.specs.Tops.{top_or}
+use Rattle.base.specs.Stacks.Tops.{top_or}
 
 abbrev pub pattern_at : Span → Shape → Pattern
 pattern_at span shape = roll-Pattern (record { span = span; shape = shape })

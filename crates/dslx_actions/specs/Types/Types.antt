@@ -7,7 +7,7 @@ use Rattle.dslx_tree.specs.declared.type_expr.TypeNode as types
 use Rattle.dslx_actions.specs.declared.parts.Parts.{Parts}
 use Rattle.dslx_actions.specs.Common.{across}
 use Rattle.dslx_actions.specs.Empty.{join, no_digits, no_expr, no_ident, no_type}
-use Rattle.dslx_actions.specs.Tops.{top_or}
+use Rattle.base.specs.Stacks.Tops.{top_or}
 
 abbrev pub type_at : Span → TypeNode → TypeExpr
 type_at span node = roll-TypeExpr (record { span = span; node = node })

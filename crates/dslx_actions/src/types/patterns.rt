@@ -6,7 +6,7 @@ ghost use Rattle.dslx_actions.specs.Types.Patterns.{bool_pattern, member_pattern
 use crate::{NO_DIGITS, Parts, join, no_ident, no_type};
 use dslx_tree::{Number, Pattern, Shape};
 use std::alloc::{AllocError, Global};
-use xb_value::Boxed;
+use xb_value::{Boxed, Seq};
 
 /// `_`
 pub fn wild_pattern(parts: &mut Parts) -> Result<(), AllocError>
@@ -79,7 +79,7 @@ pub fn tuple_pattern(parts: &mut Parts) -> Result<(), AllocError>
 {
     let span = parts.take_marks(2);
     let count = parts.counts.pop_or(0);
-    let patterns = parts.patterns.take_top(count)?;
+    let patterns = Seq::from_vec(parts.patterns.take_top(count)?);
     parts.patterns.push(Pattern {
         span,
         shape: Shape::Tuple(patterns),

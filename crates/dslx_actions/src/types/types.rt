@@ -6,7 +6,7 @@ ghost use Rattle.dslx_actions.specs.Types.Types.{array_type, named_type, negativ
 use crate::{Digits, NO_DIGITS, NOWHERE, Parts, join, no_expr, no_ident, no_type};
 use dslx_tree::{TypeExpr, TypeNode};
 use std::alloc::{AllocError, Global};
-use xb_value::Boxed;
+use xb_value::{Boxed, Seq};
 
 /// `- number`
 pub fn negative(parts: &mut Parts) -> Result<(), AllocError>
@@ -52,7 +52,7 @@ pub fn tuple_type(parts: &mut Parts) -> Result<(), AllocError>
 {
     let span = parts.take_marks(2);
     let count = parts.counts.pop_or(0);
-    let types = parts.types.take_top(count)?;
+    let types = Seq::from_vec(parts.types.take_top(count)?);
     parts.types.push(TypeExpr {
         span,
         node: TypeNode::Tuple(types),

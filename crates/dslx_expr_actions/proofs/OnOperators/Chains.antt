@@ -4,7 +4,7 @@ use Rattle.std.proofs.lemmas.List.{append_assoc, drop-drop, reverse-append}
 use Rattle.dslx_tree.specs.declared.operator.Binary.TheVariants.{Mul}
 use Rattle.dslx_tree.specs.declared.operators.chain.Link.{Link}
 use Rattle.dslx_actions.specs.declared.parts.Parts.{Parts}
-use Rattle.dslx_actions.specs.Tops.{top_or}
+use Rattle.base.specs.Stacks.Tops.{top_or}
 use Rattle.dslx_expr_actions.specs.Operators.Operators.{links_of, operand_of}
 
 abbrev pub link_on_top : Parts → Link

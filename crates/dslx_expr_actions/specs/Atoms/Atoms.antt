@@ -7,7 +7,7 @@ use Rattle.dslx_tree.specs.declared.type_expr.TypeExpr.{TypeExpr, out-TypeExpr}
 use Rattle.dslx_actions.specs.declared.parts.Parts.{Parts}
 use Rattle.dslx_actions.specs.Common.{across, skip}
 use Rattle.dslx_actions.specs.Empty.{join, no_digits, no_expr, no_ident, no_type}
-use Rattle.dslx_actions.specs.Tops.{top_or}
+use Rattle.base.specs.Stacks.Tops.{top_or}
 use Rattle.dslx_actions.specs.Types.Patterns.{number_of, number_place}
 use Rattle.dslx_expr_actions.specs.Atoms.Exprs.{expr_at, first_expr}
 

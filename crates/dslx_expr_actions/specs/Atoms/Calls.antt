@@ -5,7 +5,7 @@ use Rattle.dslx_tree.specs.declared.expr.Node as nodes
 use Rattle.dslx_actions.specs.declared.parts.Parts.{Parts}
 use Rattle.dslx_actions.specs.Common.{across}
 use Rattle.dslx_actions.specs.Empty.{join, no_ident}
-use Rattle.dslx_actions.specs.Tops.{top_or}
+use Rattle.base.specs.Stacks.Tops.{top_or}
 use Rattle.dslx_expr_actions.specs.Atoms.Exprs.{expr_at, first_expr, first_place}
 
 -- `( exprs )` behind a name

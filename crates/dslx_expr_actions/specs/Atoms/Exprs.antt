@@ -5,7 +5,7 @@ use Rattle.dslx_tree.specs.declared.expr.Expr.{Expr, roll-Expr}
 use Rattle.dslx_tree.specs.declared.expr.Node.{Node}
 use Rattle.dslx_actions.specs.declared.parts.Parts.{Parts}
 use Rattle.dslx_actions.specs.Empty.{no_expr, nowhere}
-use Rattle.dslx_actions.specs.Tops.{top_or}
+use Rattle.base.specs.Stacks.Tops.{top_or}
 
 abbrev pub expr_at : Span → Node → Expr
 expr_at span node = roll-Expr (record { span = span; node = node })

@@ -8,7 +8,7 @@ use Rattle.dslx_tree.specs.declared.type_expr.TypeExpr.{TypeExpr}
 use Rattle.dslx_actions.specs.declared.parts.Parts.{Parts}
 use Rattle.dslx_actions.specs.Common.{across}
 use Rattle.dslx_actions.specs.Empty.{join, no_block, no_pattern}
-use Rattle.dslx_actions.specs.Tops.{top_or}
+use Rattle.base.specs.Stacks.Tops.{top_or}
 use Rattle.dslx_expr_actions.specs.Atoms.Exprs.{expr_at, first_expr, first_place, second_expr, third_expr}
 
 -- a block where an expression stands

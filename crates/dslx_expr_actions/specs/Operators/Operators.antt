@@ -13,7 +13,7 @@ use Rattle.dslx_tree.specs.Operators.Levels.{tree_of}
 use Rattle.dslx_actions.specs.declared.parts.Parts.{Parts}
 use Rattle.dslx_actions.specs.Common.{across}
 use Rattle.dslx_actions.specs.Empty.{join, no_digits, no_expr, no_ident, no_type, nowhere}
-use Rattle.dslx_actions.specs.Tops.{top_or}
+use Rattle.base.specs.Stacks.Tops.{top_or}
 use Rattle.dslx_expr_actions.specs.Atoms.Exprs.{expr_at, first_expr, first_place, second_expr, second_place, third_expr, third_place}
 
 -- the sign of an operator

@@ -3,7 +3,7 @@
 ghost use Rattle.std.specs.Prelude.{◌≡◌, ◌∷◌, drop, take, reverse, IfOk, OnOk};
 ghost use Rattle.dslx_expr_actions.specs.Atoms.Atoms.{array_at, array_expr, bare_number, bool_expr, grouped, last_element, member_expr, name_expr, repeated, tuple_expr, typed_array, typed_number, unit_expr};
 ghost use Rattle.dslx_actions.specs.Empty.{no_expr as absent_expr};
-ghost use Rattle.dslx_actions.specs.Tops.{top_or};
+ghost use Rattle.base.specs.Stacks.Tops.{top_or};
 
 use crate::atoms::exprs::{pop_expr, push_expr};
 use dslx_actions::{NO_DIGITS, NOWHERE, Parts, join, no_expr, no_ident, no_type};
@@ -92,8 +92,8 @@ fn array_at(parts: &mut Parts, span: Span, ty: Option<Boxed<TypeExpr>>) -> Resul
 {
     let is_repeated = parts.flags.pop_or(false);
     let count = parts.counts.pop_or(0);
-    parts.places.take_off(count);
-    let elements = parts.exprs.take_top(count)?;
+    parts.places.drop_top(count);
+    let elements = Seq::from_vec(parts.exprs.take_top(count)?);
     push_expr(parts, span, Node::Array(ty, elements, is_repeated))
 }
 
@@ -155,7 +155,9 @@ fn take_values(parts: &mut Parts, count: usize) -> Result<Seq<Expr>, AllocError>
       exprs = drop 1 (drop count parts.old.exprs);
     }) }
 {
-    parts.places.take_off(count);
+    parts.places.drop_top(count);
     let _place = parts.places.pop_or(NOWHERE);
-    parts.exprs.take_top_and_one(count, no_expr())
+    Ok(Seq::from_vec(
+        parts.exprs.take_top_and_one(count, no_expr())?,
+    ))
 }

@@ -15,8 +15,8 @@ pub fn call_expr(parts: &mut Parts, alloc: Global) -> Result<(), AllocError>
 {
     let marks = parts.take_marks(2);
     let count = parts.counts.pop_or(0);
-    parts.places.take_off(count);
-    let values = parts.exprs.take_top(count)?;
+    parts.places.drop_top(count);
+    let values = Seq::from_vec(parts.exprs.take_top(count)?);
     let ident = parts.idents.pop_or(no_ident(alloc));
     let span = join(ident.span, marks);
     push_expr(parts, span, Node::Call(ident, Seq::new(alloc), values))
@@ -29,9 +29,9 @@ pub fn call_with_args(parts: &mut Parts, alloc: Global) -> Result<(), AllocError
     let marks = parts.take_marks(4);
     let count = parts.counts.pop_or(0);
     let args = one_more(parts.counts.pop_or(0))?;
-    parts.places.take_off(count);
-    let values = parts.exprs.take_top(count)?;
-    let args = parts.args.take_top(args)?;
+    parts.places.drop_top(count);
+    let values = Seq::from_vec(parts.exprs.take_top(count)?);
+    let args = Seq::from_vec(parts.args.take_top(args)?);
     let ident = parts.idents.pop_or(no_ident(alloc));
     let span = join(ident.span, marks);
     push_expr(parts, span, Node::Call(ident, args, values))

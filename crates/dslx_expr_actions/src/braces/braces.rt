@@ -1,14 +1,14 @@
 //! What the rules of blocks where an expression stands, of `if`, `match` and `for` make.
 
 ghost use Rattle.std.specs.Prelude.{◌≡◌, None, drop, IfOk, OnOk};
-ghost use Rattle.dslx_actions.specs.Tops.{top_or};
+ghost use Rattle.base.specs.Stacks.Tops.{top_or};
 ghost use Rattle.dslx_expr_actions.specs.Braces.Braces.{arm, block_expr, for_expr, if_expr, loop_of, match_expr, without_loop};
 
 use crate::atoms::{pop_boxed, pop_expr, push_expr};
 use dslx_actions::{Parts, join, no_block, no_pattern, one_more};
 use dslx_tree::{Arm, For, Node, TypeExpr};
 use std::alloc::{AllocError, Global};
-use xb_value::Boxed;
+use xb_value::{Boxed, Seq};
 
 /// A block where an expression stands.
 pub fn block_expr(parts: &mut Parts, alloc: Global) -> Result<(), AllocError>
@@ -37,7 +37,7 @@ pub fn arm(parts: &mut Parts) -> Result<(), AllocError>
 {
     parts.skip(1);
     let count = one_more(parts.counts.pop_or(0))?;
-    let patterns = parts.patterns.take_top(count)?;
+    let patterns = Seq::from_vec(parts.patterns.take_top(count)?);
     let (_, value) = pop_expr(parts);
     parts.arms.push(Arm { patterns, value })
 }
@@ -49,7 +49,7 @@ pub fn match_expr(parts: &mut Parts, alloc: Global) -> Result<(), AllocError>
     let span = parts.take_marks(3);
     let (_, value) = pop_boxed(parts, alloc)?;
     let count = parts.counts.pop_or(0);
-    let arms = parts.arms.take_top(count)?;
+    let arms = Seq::from_vec(parts.arms.take_top(count)?);
     push_expr(parts, span, Node::Match(value, arms))
 }
 

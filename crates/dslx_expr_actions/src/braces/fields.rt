@@ -7,7 +7,7 @@ use crate::atoms::push_expr;
 use dslx_actions::{NOWHERE, Parts, join, no_expr, no_ident};
 use dslx_tree::{FieldValue, Node};
 use std::alloc::{AllocError, Global};
-use xb_value::Boxed;
+use xb_value::{Boxed, Seq};
 
 /// `name : expr` in a struct value
 pub fn field_value(parts: &mut Parts, alloc: Global) -> Result<(), AllocError>
@@ -38,7 +38,7 @@ pub fn struct_expr(parts: &mut Parts, alloc: Global) -> Result<(), AllocError>
         None => None,
     };
     let count = parts.counts.pop_or(0);
-    let fields = parts.field_values.take_top(count)?;
+    let fields = Seq::from_vec(parts.field_values.take_top(count)?);
     let ident = parts.idents.pop_or(no_ident(alloc));
     let span = join(ident.span, marks);
     push_expr(parts, span, Node::Struct(ident, fields, others))

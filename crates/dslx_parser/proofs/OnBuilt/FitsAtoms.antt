@@ -8,7 +8,7 @@ use Rattle.dslx_tree.specs.declared.type_expr.TypeExpr.{out-TypeExpr}
 use Rattle.dslx_tree.specs.declared.expr.Node as nodes
 use Rattle.dslx_actions.specs.declared.parts.Parts.{Parts}
 use Rattle.dslx_actions.specs.Empty.{no_expr, no_ident, no_type, nowhere}
-use Rattle.dslx_actions.specs.Tops.{top_or}
+use Rattle.base.specs.Stacks.Tops.{top_or}
 use Rattle.dslx_parser.specs.Builder.Building.{reduced, rule_of}
 use Rattle.dslx_parser.specs.Builder.Table.{table}
 use Rattle.dslx_parser.specs.Syntax.Nodes.{from_to}

@@ -3,7 +3,7 @@ use Rattle.std.proofs.Common.{refl, ◌∷◌, drop}
 use Rattle.dslx_tree.specs.declared.item.Definition.TheVariants as definitions
 use Rattle.dslx_tree.specs.declared.process.Making.TheVariants as makings
 use Rattle.dslx_actions.specs.Empty.{no_ident}
-use Rattle.dslx_actions.specs.Tops.{top_or}
+use Rattle.base.specs.Stacks.Tops.{top_or}
 use Rattle.dslx_parser.specs.Builder.Building.{rule_of}
 use Rattle.dslx_parser.specs.Builder.Table.{table}
 use Rattle.dslx_parser.specs.Syntax.Nodes.{from_to}

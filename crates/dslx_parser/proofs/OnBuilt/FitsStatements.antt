@@ -6,7 +6,7 @@ use Rattle.dslx_token.specs.declared.rules.generated.nonterminal.TheConstants as
 use Rattle.dslx_tree.specs.declared.pattern.Shape as shapes
 use Rattle.dslx_actions.specs.declared.parts.Parts.{Parts}
 use Rattle.dslx_actions.specs.Empty.{no_ident}
-use Rattle.dslx_actions.specs.Tops.{top_or}
+use Rattle.base.specs.Stacks.Tops.{top_or}
 use Rattle.dslx_parser.specs.Builder.Building.{reduced, rule_of}
 use Rattle.dslx_parser.specs.Builder.Table.{table}
 use Rattle.dslx_parser.specs.Syntax.Nodes.{block_at, from_to, pattern_at}

@@ -6,7 +6,7 @@ use Rattle.dslx_token.specs.declared.rules.generated.nonterminal.TheConstants as
 use Rattle.dslx_tree.specs.declared.type_expr.TypeNode as types
 use Rattle.dslx_actions.specs.declared.parts.Parts.{Parts}
 use Rattle.dslx_actions.specs.Empty.{no_ident}
-use Rattle.dslx_actions.specs.Tops.{top_or}
+use Rattle.base.specs.Stacks.Tops.{top_or}
 use Rattle.dslx_parser.specs.Builder.Building.{reduced, rule_of}
 use Rattle.dslx_parser.specs.Builder.Table.{table}
 use Rattle.dslx_parser.specs.Syntax.Nodes.{from_to, type_at}

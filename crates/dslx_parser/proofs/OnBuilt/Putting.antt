@@ -13,7 +13,7 @@ use Rattle.dslx_tree.specs.declared.operators.chain.Operand.{Operand}
 use Rattle.dslx_actions.specs.declared.parts.Parts.{Parts}
 use Rattle.dslx_actions.specs.Empty.{no_expr, no_ident, no_type, nowhere}
 use Rattle.dslx_actions.specs.Tokens.{shifted}
-use Rattle.dslx_actions.specs.Tops.{top_or}
+use Rattle.base.specs.Stacks.Tops.{top_or}
 use Rattle.dslx_parser.specs.Syntax.Nodes.{in_turn, operand_at}
 use Rattle.dslx_parser.specs.Syntax.Sorts.{OfSort, Sort, sort_of}
 use Rattle.dslx_parser.specs.Syntax.SymbolParts.{PartsOf}

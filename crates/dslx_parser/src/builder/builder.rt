@@ -13,6 +13,7 @@ use dslx_token::Token;
 use dslx_tree::Module;
 use grammar::Step;
 use std::alloc::{AllocError, Global};
+use xb_value::Seq;
 
 /// The tree that the steps make of the tokens.
 pub fn build(alloc: Global, steps: &[Step], tokens: &[Token]) -> Result<Module, AllocError>
@@ -88,6 +89,6 @@ fn take_items(alloc: Global, parts: &mut Parts) -> Module
 {
     let items = std::mem::replace(&mut parts.items, Stack::new(alloc));
     Module {
-        items: items.into_items(),
+        items: Seq::from_vec(items.into_items()),
     }
 }

@@ -1,7 +1,7 @@
 use Rattle.std.proofs.Common.{◌≡◌, ◌∙◌, ◌-◌, ℕ, List, ap, sym, drop, reverse, length, get_or, arith}
-use Rattle.dslx_actions.specs.Tops.{top_or}
-use Rattle.dslx_actions.proofs.Tails.{peeked_past, peeked_within}
-use Rattle.dslx_actions.proofs.stack.Stack.peek_or.Goals as goal
+use Rattle.base.specs.Stacks.Tops.{top_or}
+use Rattle.base.proofs.OnStacks.Tails.{peeked_past, peeked_within}
+use Rattle.base.proofs.stacks.stack.Stack.peek_or.Goals as goal
 
 pub returns-then-below-count : goal.returns-then-below-count
 returns-then-below-count g c =

@@ -1,6 +1,0 @@
-use Rattle.std.proofs.Common.{◌∙◌, ap, sym, reverse}
-use Rattle.std.proofs.lemmas.List.{reverse-reverse}
-use Rattle.dslx_narrow_parser.proofs.stack.Stack.into_items.Goals as goal
-
-pub returns : goal.returns
-returns g c = c.from_vec.ensures ∙ sym (reverse-reverse c.self.inside.items.items) ∙ ap reverse c.self.view_is
