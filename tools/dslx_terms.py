@@ -510,7 +510,7 @@ class Reader:
                 result = self.listed(')', self.ident)
                 break
         self.take('}')
-        return '(record { span = %s; ends = %s; makings = %s; result = %s })' % (self.span(start), ends, items(makings), result)
+        return '(record { span = %s; ends = %s; config_statements = %s; result = %s })' % (self.span(start), ends, items(makings), result)
 
     def proc(self, start):
         name = self.ident()
@@ -536,7 +536,7 @@ class Reader:
                 body = self.block()
                 parts['next'] = '(record { span = %s; state = %s; ty = %s; body = %s })' % (self.span(at), state, ty, body)
         self.take('}')
-        return 'd.Proc (record { span = %s; name = %s; parameters = %s; members = %s; config = %s; init = %s; next = %s })' % (
+        return 'd.Proc (record { span = %s; name = %s; parametrics = %s; members = %s; config = %s; init = %s; next = %s })' % (
             self.span(start), name, parameters, items(members), parts['config'], parts['init'], parts['next'])
 
     def item(self):
@@ -550,7 +550,7 @@ class Reader:
             arguments = self.listed(')', self.field)
             result = 'Some %s' % self.type() if self.eat('->') else 'None'
             body = self.block()
-            d = 'd.Function (record { span = %s; name = %s; parameters = %s; arguments = %s; result = %s; body = %s })' % (
+            d = 'd.Function (record { span = %s; name = %s; parametrics = %s; arguments = %s; result = %s; body = %s })' % (
                 self.span(start), name, parameters, arguments, result, body)
         elif word == 'proc':
             d = self.proc(start)

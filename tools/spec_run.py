@@ -776,7 +776,7 @@ def show(x):
 def tree_module():
     m = Scope('tree')
     m.modules = {'s': 'x.declared.Stmt', 'n': 'x.declared.Node', 'p': 'x.declared.Shape', 't': 'x.declared.TypeNode',
-                 'd': 'x.declared.Definition', 'm': 'x.declared.Making', 'o': 'x.declared.Binary'}
+                 'd': 'x.declared.Definition', 'm': 'x.declared.ConfigStatement', 'o': 'x.declared.Binary'}
     for w in ('Minus', 'Not', 'In', 'Out'):
         m.names[w] = ('constructor',)
     for sort in ORDER:
@@ -807,7 +807,7 @@ def answer(module, wanted):
         b = force(v.args[0]).args
         return 'value %s %d %d' % (str(force(b[0])).lower(), force(force(b[1])['width']), force(force(b[1])['value']))
     if kind == 'height':
-        return 'height %d' % force(apply(lookup(load('dslx_parser.specs.Depths.Heights'), 'height_of'), (module,)))
+        return 'height %d' % force(apply(lookup(load('dslx_parser.specs.Depths.TreeDepths'), 'tree_depth'), (module,)))
     if kind == 'core':
         return core_text(module, wanted)
     if kind == 'steps':
@@ -855,12 +855,12 @@ def made_text(module, wanted):
     items = apply(lookup(load('dslx_meaning.specs.Items'), 'meanings_of'), (module,))
     procs, _, functions = given.partition(' ')[2].partition(';')
     functions = instances_of(module, items, [i for i in functions.split(',') if i.strip()])
-    named = [{'name': list(i.split()[0].encode()), 'numbers': numbers_of(i)} for i in procs.split(',')]
+    named = [{'name': list(i.split()[0].encode()), 'parametric_args': parametric_args_of(i)} for i in procs.split(',')]
     table = force(apply(lookup(load('dslx_core.specs.Networks.Procs'), 'procs_from'), (module, items, functions, [], named)))
     proc = force(apply(lookup(load('dslx_meaning.specs.Network'), 'as_proc'),
                        (apply(lookup(load('dslx_meaning.specs.Items'), 'item_named'), (named[-1]['name'], force(module)['items'])),))).args[0]
-    making = load('dslx_core.specs.Networks.Making')
-    outer = force(apply(lookup(making, 'outers_lowered'), (items, proc)))
+    making = load('dslx_core.specs.Networks.Assembly')
+    outer = force(apply(lookup(making, 'lower_outers'), (items, proc)))
     if 'None' in (table.name, outer.name):
         return given + ' | none'
     design = {'name': named[-1]['name'], 'outer': outer.args[0], 'functions': [], 'procs': apply(lookup(making, 'instances_alone'), (table.args[0],))}
@@ -869,12 +869,12 @@ def made_text(module, wanted):
 
 def instances_of(module, items, words):
     """The instances of functions of these names and number arguments, or None."""
-    instances = [{'name': list(i.split()[0].encode()), 'numbers': numbers_of(i)} for i in words]
+    instances = [{'name': list(i.split()[0].encode()), 'parametric_args': parametric_args_of(i)} for i in words]
     table = force(apply(lookup(load('dslx_core.specs.Lowering.Functions'), 'instances_from'), (module, items, [], instances)))
     return None if table.name == 'None' else table.args[0]
 
 
-def numbers_of(words):
+def parametric_args_of(words):
     return [Con('Bits', [False, {'width': 32, 'value': int(n)}]) for n in words.split()[1:]]
 
 
@@ -897,8 +897,8 @@ def steps_text(module, wanted):
     proc = [force(force(i)['definition']).args[0] for i in force(force(module)['items']) if force(force(i)['definition']).name == 'Proc']
     proc = [p for p in proc if deep(force(force(p)['name'])['name']) == name][0]
     steps = load('dslx_core.specs.Lowering.Steps')
-    known = apply(lookup(steps, 'proc_known'), (module, items, table, proc, numbers_of(first)))
-    got = force(apply(lookup(steps, 'next_lowered'), (known, proc)))
+    known = apply(lookup(steps, 'proc_globals'), (module, items, table, proc, parametric_args_of(first)))
+    got = force(apply(lookup(steps, 'lower_next'), (known, proc)))
     if got.name == 'None':
         return given + ' | none'
     got = force(got.args[0])

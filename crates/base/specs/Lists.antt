@@ -1,5 +1,5 @@
 -- one list stands at the front of another
-pub mod Front
+pub mod Prefix
 -- the first place at which a list leaves a language
 pub mod Fault
 -- a function of each element and its place

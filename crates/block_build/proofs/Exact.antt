@@ -10,7 +10,7 @@ use Rattle.block_stage.specs.Machine.Steady.{IsFed, AreFed, SendsOnce}
 use Rattle.block_stage.proofs.Lemmas.Machine.{always_fed_words_move_in_their_cycle}
 use Rattle.block_build.specs.Block.{Block, IsBlock}
 use Rattle.block_build.specs.Fed.{IsOuter, IsRowFed, AreRowsFed}
-use Rattle.block_build.specs.Rows.{State, InputRow, offer_by, room_by, offer_at, room_at, depth_of, HasReset, reset_state, ports_in, sender_of, one_row, after_rows, state_after, since_reset, sent_of, moved_out}
+use Rattle.block_build.specs.Rows.{State, InputRow, valid_word_by, room_by, valid_word_at, room_at, depth_of, HasReset, reset_state, ports_in, sender_of, one_row, after_rows, state_after, since_reset, sent_of, moved_out}
 use Rattle.block_build.proofs.Standing.{Stands, there, stands_next, stands_at_reset}
 use Rattle.block_build.proofs.Resets.{since_the_last_reset}
 
@@ -23,7 +23,7 @@ pipeline_is_fed block q outer state row fed i site here =
       word = λ s.
           let kind : o.0.kind ≡ Input = o.2 ∙ ap (λ t. cond t Output Input) s in
           let w = fed.offers site.chan o.0 at kind in
-          (w.0, ap (λ x. offer_at x (row.offer site.chan) (state.queues site.chan)) at ∙ ap (λ k. offer_by k (row.offer site.chan) (state.queues site.chan)) kind ∙ w.1);
+          (w.0, ap (λ x. valid_word_at x (row.valid_word site.chan) (state.queues site.chan)) at ∙ ap (λ k. valid_word_by k (row.valid_word site.chan) (state.queues site.chan)) kind ∙ w.1);
       room = λ s.
           let kind : o.0.kind ≡ Output = o.2 ∙ ap (λ t. cond t Output Input) s in
           let r = fed.ready site.chan o.0 at kind in

@@ -5,8 +5,8 @@ use Rattle.std.proofs.Common.{inl, inr}
 use Rattle.std.proofs.lemmas.Bool.Decides.{nat_tests}
 use Rattle.std.proofs.lemmas.List.{length-append}
 use Rattle.std.proofs.lemmas.Option.{slice_get-map}
-use Rattle.base.specs.Lists.Front.{IsFront}
-use Rattle.base.proofs.Lemmas.Lists.Fronts.{IsFront-trans, IsFront-append, IsFront-append_both, IsFront-refl}
+use Rattle.base.specs.Lists.Prefix.{IsPrefix}
+use Rattle.base.proofs.Lemmas.Lists.Prefixes.{IsPrefix-trans, IsPrefix-append, IsPrefix-append_both, IsPrefix-refl}
 use Rattle.xb_bits.specs.Word.{Word}
 use Rattle.net_core.specs.declared.net.Site.{Site}
 use Rattle.net_core.specs.declared.net.Chan.{Chan}
@@ -18,10 +18,10 @@ use Rattle.net_core.proofs.Lemmas.{traces_grow, only_words_are_received, unbound
 use Rattle.block_stage.specs.Machine.Pipeline.{Pipeline, ReceivesNowhere}
 use Rattle.block_stage.specs.Machine.Cycle.{Ports}
 use Rattle.block_stage.specs.Machine.Since.{at_reset, after_cycles}
-use Rattle.block_stage.proofs.Lemmas.Machine.{sent_words_are_a_front, received_words_are_the_traces, nothing_is_received_without_a_site}
+use Rattle.block_stage.proofs.Lemmas.Machine.{sent_words_are_a_prefix, received_words_are_the_traces, nothing_is_received_without_a_site}
 use Rattle.block_stage.specs.Fifo.Fifo.{given_in}
 use Rattle.block_build.specs.Block.{Block, IsBlock, run_of, receiver_of}
-use Rattle.block_build.specs.Rows.{Machine, State, InputRow, HasReset, reset_state, ports_in, sender_of, is_asked, machine_after, one_row, after_rows, state_after, since_reset, received_of, sent_of, moved_in, moved_out}
+use Rattle.block_build.specs.Rows.{Machine, State, InputRow, HasReset, reset_state, ports_in, sender_of, is_reader_ready, machine_after, one_row, after_rows, state_after, since_reset, received_of, sent_of, moved_in, moved_out}
 use Rattle.block_build.proofs.Words.{cases, input_words, output_words, inner_words, sent_grow, received_grow, none_passes, one_passes}
 use Rattle.block_build.proofs.Resets.{since_the_last_reset}
 use Rattle.block_build.proofs.Standing.{machine_of, Stands, reads_next, there, sites_there, stands_next, stands_at_reset}
@@ -49,34 +49,34 @@ at_reader run cut c = refl
 -- each pipeline received only words of the unbounded cut
 abbrev IsFed : Block → List (List Word) → ℕ → List Ports → Type 0
 IsFed block inputs n past = (p c : ℕ) (q : Pipeline) → slice_get block.pipelines p ≡ Some q
-    → IsFront ((after_cycles q (at_reset q) past).received c) (words_at (run_of block inputs n) (unbounded_cut (run_of block inputs n)) c)
+    → IsPrefix ((after_cycles q (at_reset q) past).received c) (words_at (run_of block inputs n) (unbounded_cut (run_of block inputs n)) c)
 
--- then what it sent is a front of what its proc sends there
-sends_front : (block : Block) → IsBlock block → (inputs : List (List Word)) (n : ℕ) (past : List Ports) → length past ≤ n → IsFed block inputs n past
+-- then what it sent is a prefix of what its proc sends there
+sends_prefix : (block : Block) → IsBlock block → (inputs : List (List Word)) (n : ℕ) (past : List Ports) → length past ≤ n → IsFed block inputs n past
     → (p c : ℕ) (q : Pipeline) → slice_get block.pipelines p ≡ Some q
-    → IsFront ((after_cycles q (at_reset q) past).sent c) (words_sent q.proc.behavior.sites c (unbounded_cut (run_of block inputs n) p))
-sends_front block is inputs n past l fed p c q e =
+    → IsPrefix ((after_cycles q (at_reset q) past).sent c) (words_sent q.proc.behavior.sites c (unbounded_cut (run_of block inputs n) p))
+sends_prefix block is inputs n past l fed p c q e =
     let run = run_of block inputs n in
     let received = (after_cycles q (at_reset q) past).received in
-    IsFront-trans _ _ _ (sent_words_are_a_front q (is.legal p q e) past n c l)
+    IsPrefix-trans _ _ _ (sent_words_are_a_prefix q (is.legal p q e) past n c l)
     (sent_grow q.proc.behavior.sites c (trace q.proc.behavior n q.proc.opening received) (unbounded_cut run p)
-    (subst (IsFront (trace q.proc.behavior n q.proc.opening received)) (sym (settled block inputs n p q e))
+    (subst (IsPrefix (trace q.proc.behavior n q.proc.opening received)) (sym (settled block inputs n p q e))
     (traces_grow q.proc.behavior n q.proc.opening received (words_at run (unbounded_cut run)) (λ ch. fed p ch q e))))
 
 -- so a channel moved a front of its words there
-moved_front : (block : Block) → IsBlock block → (inputs : List (List Word)) (n : ℕ) (state : State) (past : List Ports) → Stands block state past → length past ≤ n → IsFed block inputs n past
+moved_prefix : (block : Block) → IsBlock block → (inputs : List (List Word)) (n : ℕ) (state : State) (past : List Ports) → Stands block state past → length past ≤ n → IsFed block inputs n past
     → (c : ℕ) (writer : Option Pipeline) → slice_get block.pipelines (sender_of block c) ≡ writer
-    → IsFront (moved_out block state c) (words_sent (sites_at (run_of block inputs n) (sender_of block c)) c (unbounded_cut (run_of block inputs n) (sender_of block c)))
-moved_front block is inputs n state past st l fed c None e =
+    → IsPrefix (moved_out block state c) (words_sent (sites_at (run_of block inputs n) (sender_of block c)) c (unbounded_cut (run_of block inputs n) (sender_of block c)))
+moved_prefix block is inputs n state past st l fed c None e =
     let m = ap (λ ms. slice_get ms (sender_of block c)) st.machines ∙ slice_get-map (machine_of past) block.pipelines (sender_of block c) ∙ ap (option_map (machine_of past)) e in
     let none : moved_out block state c ≡ [] = ap (λ x. sent_of x c) m in
-    subst (λ xs. IsFront xs (words_sent (sites_at (run_of block inputs n) (sender_of block c)) c (unbounded_cut (run_of block inputs n) (sender_of block c)))) (sym none) tt
-moved_front block is inputs n state past st l fed c (Some q) e =
+    subst (λ xs. IsPrefix xs (words_sent (sites_at (run_of block inputs n) (sender_of block c)) c (unbounded_cut (run_of block inputs n) (sender_of block c)))) (sym none) tt
+moved_prefix block is inputs n state past st l fed c (Some q) e =
     let is_sent : moved_out block state c ≡ (after_cycles q (at_reset q) past).sent c = ap (λ x. sent_of x c) (there block state past st (sender_of block c) q e) in
     let sites = sites_there block inputs n (sender_of block c) q e in
-    subst (λ xs. IsFront xs (words_sent (sites_at (run_of block inputs n) (sender_of block c)) c (unbounded_cut (run_of block inputs n) (sender_of block c)))) (sym is_sent)
-    (subst (λ ss. IsFront ((after_cycles q (at_reset q) past).sent c) (words_sent ss c (unbounded_cut (run_of block inputs n) (sender_of block c)))) (sym sites)
-    (sends_front block is inputs n past l fed (sender_of block c) c q e))
+    subst (λ xs. IsPrefix xs (words_sent (sites_at (run_of block inputs n) (sender_of block c)) c (unbounded_cut (run_of block inputs n) (sender_of block c)))) (sym is_sent)
+    (subst (λ ss. IsPrefix ((after_cycles q (at_reset q) past).sent c) (words_sent ss c (unbounded_cut (run_of block inputs n) (sender_of block c)))) (sym sites)
+    (sends_prefix block is inputs n past l fed (sender_of block c) c q e))
 
 -- where a test over sites finds one that receives from a channel
 receives_here : (q : Pipeline) (c : ℕ) → receives_on c q.proc ≡ true → (i : ℕ) × (site : Site) × (slice_get q.proc.behavior.sites i ≡ Some site) × (site.sends ≡ false) × (site.chan ≡ c)
@@ -110,12 +110,12 @@ kinds Inner = inr (inr refl)
 
 -- the inputs' words are all that was received from them in the end
 abbrev AreInputs : Block → List (List Word) → State → Type 0
-AreInputs block inputs state = (c : ℕ) (chan : Chan) → slice_get block.chans c ≡ Some chan → chan.kind ≡ Input → IsFront (moved_in block state c) (get_or inputs c [])
+AreInputs block inputs state = (c : ℕ) (chan : Chan) → slice_get block.chans c ≡ Some chan → chan.kind ≡ Input → IsPrefix (moved_in block state c) (get_or inputs c [])
 
-given_front : (words : List Word) (asked : Bool) → IsFront (given_in words asked) words
-given_front [] true = tt
-given_front (w ∷ ws) true = (refl, tt)
-given_front words false = tt
+given_prefix : (words : List Word) (asserted : Bool) → IsPrefix (given_in words asserted) words
+given_prefix [] true = tt
+given_prefix (w ∷ ws) true = (refl, tt)
+given_prefix words false = tt
 
 -- a row keeps it
 fed_next : (block : Block) → IsBlock block → (inputs : List (List Word)) (n : ℕ) (state : State) (past : List Ports) (row : Ports) → Stands block state past → length past ≤ n → IsFed block inputs n past
@@ -131,31 +131,31 @@ fed_next block is inputs n state past row st l fed ends p c q e = go (cases (rec
     st' : Stands block (one_row block state row) past'
     st' = stands_next block state past row is st
 
-    no_site : receives_on c q.proc ≡ false → IsFront ((after_cycles q (at_reset q) past').received c) (words_at run (unbounded_cut run) c)
+    no_site : receives_on c q.proc ≡ false → IsPrefix ((after_cycles q (at_reset q) past').received c) (words_at run (unbounded_cut run) c)
     no_site h =
         let none = nothing_is_received_without_a_site q (is.legal p q e) past' c (receives_nowhere q c h) in
-        subst (λ xs. IsFront xs (words_at run (unbounded_cut run) c)) (sym none) tt
+        subst (λ xs. IsPrefix xs (words_at run (unbounded_cut run) c)) (sym none) tt
 
     is_moved : p ≡ receiver_of block c → moved_in block (one_row block state row) c ≡ (after_cycles q (at_reset q) past').received c
     is_moved same = ap (λ x. received_of (slice_get (one_row block state row).machines x) c) (sym same) ∙ ap (λ x. received_of x c) (there block (one_row block state row) past' st' p q e)
 
     by_kind : (chan : Chan) → slice_get block.chans c ≡ Some chan → (chan.kind ≡ Output → ⊥) → p ≡ receiver_of block c → (chan.kind ≡ Input) ⊎ ((chan.kind ≡ Output) ⊎ (chan.kind ≡ Inner))
-        → IsFront ((after_cycles q (at_reset q) past').received c) (words_at run (unbounded_cut run) c)
+        → IsPrefix ((after_cycles q (at_reset q) past').received c) (words_at run (unbounded_cut run) c)
     by_kind chan here never same (inl k) =
-        subst (IsFront ((after_cycles q (at_reset q) past').received c)) (sym (input_words run (unbounded_cut run) c chan here k))
-        (subst (λ xs. IsFront xs (get_or inputs c [])) (is_moved same) (ends c chan here k))
+        subst (IsPrefix ((after_cycles q (at_reset q) past').received c)) (sym (input_words run (unbounded_cut run) c chan here k))
+        (subst (λ xs. IsPrefix xs (get_or inputs c [])) (is_moved same) (ends c chan here k))
     by_kind chan here never same (inr (inl k)) = absurd (never k)
     by_kind chan here never same (inr (inr k)) =
-        subst (IsFront ((after_cycles q (at_reset q) past').received c)) (sym (inner_words run (unbounded_cut run) c chan here k))
-        (IsFront-trans _ _ _ given_was_put (moved_front block is inputs n state past st l fed c (slice_get block.pipelines (sender_of block c)) refl))
+        subst (IsPrefix ((after_cycles q (at_reset q) past').received c)) (sym (inner_words run (unbounded_cut run) c chan here k))
+        (IsPrefix-trans _ _ _ given_was_put (moved_prefix block is inputs n state past st l fed c (slice_get block.pipelines (sender_of block c)) refl))
       where
-        given_was_put : IsFront ((after_cycles q (at_reset q) past').received c) (moved_out block state c)
+        given_was_put : IsPrefix ((after_cycles q (at_reset q) past').received c) (moved_out block state c)
         given_was_put =
-            subst (λ xs. IsFront xs (moved_out block state c)) (sym (reads_next block state past row is st c chan here k) ∙ is_moved same)
-            (subst (IsFront (moved_in block state c ++ given_in (state.queues c) (is_asked block state (ports_in block state row) c))) (sym (st.queues c chan here k))
-            (IsFront-append_both (moved_in block state c) _ _ (given_front (state.queues c) (is_asked block state (ports_in block state row) c))))
+            subst (λ xs. IsPrefix xs (moved_out block state c)) (sym (reads_next block state past row is st c chan here k) ∙ is_moved same)
+            (subst (IsPrefix (moved_in block state c ++ given_in (state.queues c) (is_reader_ready block state (ports_in block state row) c))) (sym (st.queues c chan here k))
+            (IsPrefix-append_both (moved_in block state c) _ _ (given_prefix (state.queues c) (is_reader_ready block state (ports_in block state row) c))))
 
-    go : (receives_on c q.proc ≡ true) ⊎ (receives_on c q.proc ≡ false) → IsFront ((after_cycles q (at_reset q) past').received c) (words_at run (unbounded_cut run) c)
+    go : (receives_on c q.proc ≡ true) ⊎ (receives_on c q.proc ≡ false) → IsPrefix ((after_cycles q (at_reset q) past').received c) (words_at run (unbounded_cut run) c)
     go (inr h) = no_site h
     go (inl h) =
         let r = receives_here q c h in
@@ -164,18 +164,18 @@ fed_next block is inputs n state past row st l fed ends p c q e = go (cases (rec
         by_kind source.0 (ap (slice_get block.chans) (sym r.4) ∙ source.1) source.2 (reader ∙ ap (receiver_of block) r.4) (kinds source.0.kind)
 
 -- what an input received grows
-received_more : (machine : Option Machine) (ports : Ports) (c : ℕ) → IsFront (received_of machine c) (received_of (option_map (λ (m : Machine). machine_after ports m) machine) c)
+received_more : (machine : Option Machine) (ports : Ports) (c : ℕ) → IsPrefix (received_of machine c) (received_of (option_map (λ (m : Machine). machine_after ports m) machine) c)
 received_more None ports c = tt
-received_more (Some m) ports c = IsFront-append (m.since.received c) _
+received_more (Some m) ports c = IsPrefix-append (m.since.received c) _
 
-moved_more : (block : Block) (state : State) (row : Ports) (c : ℕ) → IsFront (moved_in block state c) (moved_in block (one_row block state row) c)
+moved_more : (block : Block) (state : State) (row : Ports) (c : ℕ) → IsPrefix (moved_in block state c) (moved_in block (one_row block state row) c)
 moved_more block state row c =
-    subst (λ m. IsFront (moved_in block state c) (received_of m c)) (sym (slice_get-map (machine_after (ports_in block state row)) state.machines (receiver_of block c)))
+    subst (λ m. IsPrefix (moved_in block state c) (received_of m c)) (sym (slice_get-map (machine_after (ports_in block state row)) state.machines (receiver_of block c)))
     (received_more (slice_get state.machines (receiver_of block c)) (ports_in block state row) c)
 
-moved_grow : (block : Block) (rows : List Ports) (state : State) (c : ℕ) → IsFront (moved_in block state c) (moved_in block (after_rows block state rows) c)
-moved_grow block [] state c = IsFront-refl (moved_in block state c)
-moved_grow block (row ∷ rows) state c = IsFront-trans _ _ _ (moved_more block state row c) (moved_grow block rows (one_row block state row) c)
+moved_grow : (block : Block) (rows : List Ports) (state : State) (c : ℕ) → IsPrefix (moved_in block state c) (moved_in block (after_rows block state rows) c)
+moved_grow block [] state c = IsPrefix-refl (moved_in block state c)
+moved_grow block (row ∷ rows) state c = IsPrefix-trans _ _ _ (moved_more block state row c) (moved_grow block rows (one_row block state row) c)
 
 -- after any rows
 record Ends (block : Block) (inputs : List (List Word)) (n : ℕ) (state : State) : Type 0 where
@@ -191,7 +191,7 @@ ends_after block is inputs n (row ∷ rows) state past st l fed ends =
     let long = length-append past (ports_in block state row ∷ []) in
     ends_after block is inputs n rows (one_row block state row) (past ++ ports_in block state row ∷ []) (stands_next block state past row is st) (omega (arith, long))
     (fed_next block is inputs n state past row st (omega arith) fed
-    (λ c chan here kind. IsFront-trans _ _ _ (moved_grow block rows (one_row block state row) c) (ends c chan here kind)))
+    (λ c chan here kind. IsPrefix-trans _ _ _ (moved_grow block rows (one_row block state row) c) (ends c chan here kind)))
     ends
 
 -- the words that the outside sends are those that the inputs received
@@ -203,16 +203,16 @@ the_end : (block : Block) → IsBlock block → (rows : List Ports) (inputs : Li
 the_end block is rows inputs n l moved =
     ends_after block is inputs n rows (reset_state block) [] (stands_at_reset block) (omega arith)
     (λ p c q e. tt)
-    (λ c chan here kind. subst (IsFront (moved_in block (after_rows block (reset_state block) rows) c)) (sym (moved c chan here kind)) (IsFront-refl (moved_in block (after_rows block (reset_state block) rows) c)))
+    (λ c chan here kind. subst (IsPrefix (moved_in block (after_rows block (reset_state block) rows) c)) (sym (moved c chan here kind)) (IsPrefix-refl (moved_in block (after_rows block (reset_state block) rows) c)))
 
-outputs_are_fronts : (block : Block) → IsBlock block → (rows : List Ports) (inputs : List (List Word)) (n : ℕ) → length rows ≤ n → AreMoved block inputs (after_rows block (reset_state block) rows)
+outputs_are_prefixes : (block : Block) → IsBlock block → (rows : List Ports) (inputs : List (List Word)) (n : ℕ) → length rows ≤ n → AreMoved block inputs (after_rows block (reset_state block) rows)
     → (c : ℕ) (chan : Chan) → slice_get block.chans c ≡ Some chan → chan.kind ≡ Output
-    → IsFront (moved_out block (after_rows block (reset_state block) rows) c) (words_at (run_of block inputs n) (unbounded_cut (run_of block inputs n)) c)
-outputs_are_fronts block is rows inputs n l moved c chan here kind =
+    → IsPrefix (moved_out block (after_rows block (reset_state block) rows) c) (words_at (run_of block inputs n) (unbounded_cut (run_of block inputs n)) c)
+outputs_are_prefixes block is rows inputs n l moved c chan here kind =
     let state = after_rows block (reset_state block) rows in
     let end = the_end block is rows inputs n l moved in
-    subst (IsFront (moved_out block state c)) (sym (output_words (run_of block inputs n) (unbounded_cut (run_of block inputs n)) c chan here kind))
-    (moved_front block is inputs n state end.past end.stands end.long end.fed c (slice_get block.pipelines (sender_of block c)) refl)
+    subst (IsPrefix (moved_out block state c)) (sym (output_words (run_of block inputs n) (unbounded_cut (run_of block inputs n)) c chan here kind))
+    (moved_prefix block is inputs n state end.past end.stands end.long end.fed c (slice_get block.pipelines (sender_of block c)) refl)
 
 none_counted : (sites : List Site) (c : ℕ) → count_received sites c [] ≡ 0
 unfolding count_received
@@ -240,7 +240,7 @@ received_by block is inputs n state end c chan here kind moved (Some q) e =
     let least = received_grow q.proc.behavior.sites c (trace q.proc.behavior n q.proc.opening received) (trace q.proc.behavior n q.proc.opening words)
     (traces_grow q.proc.behavior n q.proc.opening received words (λ ch. end.fed r ch q e)) in
     let own = received_words_are_the_traces q (is.legal r q e) end.past n c end.long in
-    let most = only_words_are_received q.proc n words (trace q.proc.behavior n q.proc.opening words) (IsFront-refl (trace q.proc.behavior n q.proc.opening words)) c in
+    let most = only_words_are_received q.proc n words (trace q.proc.behavior n q.proc.opening words) (IsPrefix-refl (trace q.proc.behavior n q.proc.opening words)) c in
     let all : length (words c) ≡ length (moved_in block state c) = ap length (input_words run cut c chan here kind ∙ moved) in
     let mine : length (moved_in block state c) ≡ length (received c) = ap (λ m. length (received_of m c)) (there block state end.past end.stands r q e) in
     omega (arith, counted, least, own, most, all, mine)
@@ -254,11 +254,11 @@ inputs_are_received block is rows inputs n l moved c chan here kind =
 -- rows with resets among them
 pub outputs_are_the_networks : (block : Block) → IsBlock block → (power : State) (rows : List InputRow) → HasReset rows → (inputs : List (List Word)) (n : ℕ) → length (since_reset [] rows) ≤ n
     → AreMoved block inputs (state_after block power rows) → (c : ℕ) (chan : Chan) → slice_get block.chans c ≡ Some chan → chan.kind ≡ Output
-    → IsFront (moved_out block (state_after block power rows) c) (words_at (run_of block inputs n) (unbounded_cut (run_of block inputs n)) c)
+    → IsPrefix (moved_out block (state_after block power rows) c) (words_at (run_of block inputs n) (unbounded_cut (run_of block inputs n)) c)
 outputs_are_the_networks block is power rows h inputs n l moved c chan here kind =
     let e = since_the_last_reset block power [] rows h in
-    subst (λ s. IsFront (moved_out block s c) (words_at (run_of block inputs n) (unbounded_cut (run_of block inputs n)) c)) (sym e)
-    (outputs_are_fronts block is (since_reset [] rows) inputs n l (subst (AreMoved block inputs) e moved) c chan here kind)
+    subst (λ s. IsPrefix (moved_out block s c) (words_at (run_of block inputs n) (unbounded_cut (run_of block inputs n)) c)) (sym e)
+    (outputs_are_prefixes block is (since_reset [] rows) inputs n l (subst (AreMoved block inputs) e moved) c chan here kind)
 
 pub inputs_are_the_networks : (block : Block) → IsBlock block → (power : State) (rows : List InputRow) → HasReset rows → (inputs : List (List Word)) (n : ℕ) → length (since_reset [] rows) ≤ n
     → AreMoved block inputs (state_after block power rows) → (c : ℕ) (chan : Chan) → slice_get block.chans c ≡ Some chan → chan.kind ≡ Input

@@ -7,13 +7,13 @@ use Rattle.net_core.specs.declared.net.Chan.{Chan}
 use Rattle.net_core.specs.declared.net.Kind.TheVariants.{Inner}
 use Rattle.net_core.specs.Cuts.{sites_at, sites_of, words_sent, count_received}
 use Rattle.block_stage.specs.Machine.Pipeline.{Pipeline}
-use Rattle.block_stage.specs.Machine.Cycle.{Ports, asked_in}
+use Rattle.block_stage.specs.Machine.Cycle.{Ports, asserted_in}
 use Rattle.block_stage.specs.Machine.Since.{Since, at_reset, one_more, after_cycles}
-use Rattle.block_stage.proofs.Lemmas.Machine.{one_site_is_asked_to_send, sent_words_go_where_there_is_room, received_words_go_where_they_are_asked}
+use Rattle.block_stage.proofs.Lemmas.Machine.{one_site_asserts_valid, sent_words_go_where_there_is_room, received_words_go_where_ready}
 use Rattle.block_stage.specs.Fifo.Fifo.{next_word, has_room, given_in, put_in}
 use Rattle.block_stage.proofs.Lemmas.Fifo.{put_is_all}
 use Rattle.block_build.specs.Block.{Block, IsBlock, run_of, receiver_of}
-use Rattle.block_build.specs.Rows.{Machine, State, reset_machine, reset_state, ports_in, sender_of, is_asked, offered, machine_after, one_row, received_of, sent_of, moved_in, moved_out, depth_of}
+use Rattle.block_build.specs.Rows.{Machine, State, reset_machine, reset_state, ports_in, sender_of, is_reader_ready, valid_data, machine_after, one_row, received_of, sent_of, moved_in, moved_out, depth_of}
 use Rattle.block_build.proofs.Words.{map-twice, map-same}
 
 -- a pipeline after these ports, which all pipelines had
@@ -62,7 +62,7 @@ not_cond false x y = refl
 reads : (block : Block) (state : State) (past : List Ports) (row : Ports) → IsBlock block → Stands block state past → (c : ℕ)
     → (reader : Option Pipeline) → slice_get block.pipelines (receiver_of block c) ≡ reader
     → received_of (option_map (λ (m : Machine). machine_after (ports_in block state row) m) (slice_get state.machines (receiver_of block c))) c
-    ≡ moved_in block state c ++ cond (is_asked block state (ports_in block state row) c) (option_to_list ((ports_in block state row).offer c)) []
+    ≡ moved_in block state c ++ cond (is_reader_ready block state (ports_in block state row) c) (option_to_list ((ports_in block state row).valid_word c)) []
 reads block state past row is st c None e =
     let none = none_there block state past st (receiver_of block c) e in
     rw none (unfold count_received in refl)
@@ -70,14 +70,14 @@ reads block state past row is st c (Some q) e =
     let m = there block state past st (receiver_of block c) q e in
     let sites = sites_there block [] 0 (receiver_of block c) q e in
     let ports = ports_in block state row in
-    let taken = received_words_go_where_they_are_asked q (is.legal (receiver_of block c) q e) past ports c in
-    let asked = count_received q.proc.behavior.sites c (asked_in q (after_cycles q (at_reset q) past).contents ports) in
-    rw (m, sites) (ap (λ z. (after_cycles q (at_reset q) past).received c ++ z) (taken ∙ not_cond (eqb asked 0) [] (option_to_list (ports.offer c))))
+    let taken = received_words_go_where_ready q (is.legal (receiver_of block c) q e) past ports c in
+    let asserted = count_received q.proc.behavior.sites c (asserted_in q (after_cycles q (at_reset q) past).contents ports) in
+    rw (m, sites) (ap (λ z. (after_cycles q (at_reset q) past).received c ++ z) (taken ∙ not_cond (eqb asserted 0) [] (option_to_list (ports.valid_word c))))
 
 writes : (block : Block) (state : State) (past : List Ports) (row : Ports) → IsBlock block → Stands block state past → (c : ℕ)
     → (writer : Option Pipeline) → slice_get block.pipelines (sender_of block c) ≡ writer
     → sent_of (option_map (λ (m : Machine). machine_after (ports_in block state row) m) (slice_get state.machines (sender_of block c))) c
-    ≡ moved_out block state c ++ cond ((ports_in block state row).room c) (option_to_list (offered block state (ports_in block state row) c)) []
+    ≡ moved_out block state c ++ cond ((ports_in block state row).room c) (option_to_list (valid_data block state (ports_in block state row) c)) []
 writes block state past row is st c None e =
     let none = none_there block state past st (sender_of block c) e in
     rw none (unfold words_sent in nothing ((ports_in block state row).room c))
@@ -91,20 +91,20 @@ writes block state past row is st c (Some q) e =
     let ports = ports_in block state row in
     let legal = is.legal (sender_of block c) q e in
     let given = sent_words_go_where_there_is_room q legal past ports c in
-    let words = words_sent q.proc.behavior.sites c (asked_in q (after_cycles q (at_reset q) past).contents ports) in
-    let short = short_list words (one_site_is_asked_to_send q legal past ports c) in
+    let words = words_sent q.proc.behavior.sites c (asserted_in q (after_cycles q (at_reset q) past).contents ports) in
+    let short = short_list words (one_site_asserts_valid q legal past ports c) in
     rw (m, sites) (ap (λ z. (after_cycles q (at_reset q) past).sent c ++ z) (given ∙ ap (λ z. cond (ports.room c) z []) (sym short)))
 
 pub words_received : (block : Block) (state : State) (past : List Ports) (row : Ports) → IsBlock block → Stands block state past → (c : ℕ)
     → moved_in block (one_row block state row) c
-    ≡ moved_in block state c ++ cond (is_asked block state (ports_in block state row) c) (option_to_list ((ports_in block state row).offer c)) []
+    ≡ moved_in block state c ++ cond (is_reader_ready block state (ports_in block state row) c) (option_to_list ((ports_in block state row).valid_word c)) []
 words_received block state past row is st c =
     ap (λ m. received_of m c) (slice_get-map (machine_after (ports_in block state row)) state.machines (receiver_of block c))
     ∙ reads block state past row is st c (slice_get block.pipelines (receiver_of block c)) refl
 
 pub words_written : (block : Block) (state : State) (past : List Ports) (row : Ports) → IsBlock block → Stands block state past → (c : ℕ)
     → moved_out block (one_row block state row) c
-    ≡ moved_out block state c ++ cond ((ports_in block state row).room c) (option_to_list (offered block state (ports_in block state row) c)) []
+    ≡ moved_out block state c ++ cond ((ports_in block state row).room c) (option_to_list (valid_data block state (ports_in block state row) c)) []
 words_written block state past row is st c =
     ap (λ m. sent_of m c) (slice_get-map (machine_after (ports_in block state row)) state.machines (sender_of block c))
     ∙ writes block state past row is st c (slice_get block.pipelines (sender_of block c)) refl
@@ -116,19 +116,19 @@ given_is true (x ∷ xs) = refl
 given_is false xs = refl
 
 pub reads_next : (block : Block) (state : State) (past : List Ports) (row : Ports) → IsBlock block → Stands block state past → (c : ℕ) (chan : Chan) → slice_get block.chans c ≡ Some chan → chan.kind ≡ Inner
-    → moved_in block (one_row block state row) c ≡ moved_in block state c ++ given_in (state.queues c) (is_asked block state (ports_in block state row) c)
+    → moved_in block (one_row block state row) c ≡ moved_in block state c ++ given_in (state.queues c) (is_reader_ready block state (ports_in block state row) c)
 reads_next block state past row is st c chan here kind =
-    let shown : (ports_in block state row).offer c ≡ next_word (state.queues c) = rw here (rw kind refl) in
+    let shown : (ports_in block state row).valid_word c ≡ next_word (state.queues c) = rw here (rw kind refl) in
     words_received block state past row is st c
-    ∙ ap (λ o. moved_in block state c ++ cond (is_asked block state (ports_in block state row) c) (option_to_list o) []) shown
-    ∙ ap (λ z. moved_in block state c ++ z) (given_is (is_asked block state (ports_in block state row) c) (state.queues c))
+    ∙ ap (λ o. moved_in block state c ++ cond (is_reader_ready block state (ports_in block state row) c) (option_to_list o) []) shown
+    ∙ ap (λ z. moved_in block state c ++ z) (given_is (is_reader_ready block state (ports_in block state row) c) (state.queues c))
 
 writes_next : (block : Block) (state : State) (past : List Ports) (row : Ports) → IsBlock block → Stands block state past → (c : ℕ) (chan : Chan) → slice_get block.chans c ≡ Some chan → chan.kind ≡ Inner
-    → moved_out block (one_row block state row) c ≡ moved_out block state c ++ put_in (depth_of block c) (state.queues c) (offered block state (ports_in block state row) c)
+    → moved_out block (one_row block state row) c ≡ moved_out block state c ++ put_in (depth_of block c) (state.queues c) (valid_data block state (ports_in block state row) c)
 writes_next block state past row is st c chan here kind =
     let shown : (ports_in block state row).room c ≡ has_room (depth_of block c) (state.queues c) = rw here (rw kind refl) in
     words_written block state past row is st c
-    ∙ ap (λ t. moved_out block state c ++ cond t (option_to_list (offered block state (ports_in block state row) c)) []) shown
+    ∙ ap (λ t. moved_out block state c ++ cond t (option_to_list (valid_data block state (ports_in block state row) c)) []) shown
 
 -- one row more
 pub stands_next : (block : Block) (state : State) (past : List Ports) (row : Ports) → IsBlock block → Stands block state past → Stands block (one_row block state row) (past ++ ports_in block state row ∷ [])
@@ -137,7 +137,7 @@ stands_next block state past row is st = record {
       ∙ map-same (λ q. machine_after ports (machine_of past q)) (machine_of (past ++ ports ∷ [])) block.pipelines (λ i q e. again q);
   queues = λ c chan here kind.
       writes_next block state past row is st c chan here kind
-      ∙ put_is_all (moved_out block state c) (moved_in block state c) (state.queues c) (is_asked block state ports c) (put_in (depth_of block c) (state.queues c) (offered block state ports c)) (st.queues c chan here kind)
+      ∙ put_is_all (moved_out block state c) (moved_in block state c) (state.queues c) (is_reader_ready block state ports c) (put_in (depth_of block c) (state.queues c) (valid_data block state ports c)) (st.queues c chan here kind)
       ∙ ap (λ z. z ++ (one_row block state row).queues c) (sym (reads_next block state past row is st c chan here kind));
 }
   where

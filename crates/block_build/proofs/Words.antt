@@ -3,8 +3,8 @@ use Rattle.std.proofs.Common.{◌≡◌, ℕ, zero, suc, ◌≤◌, List, [], �
 use Rattle.std.specs.Prelude.{slice_get, get_or, ◌⊎◌, ◌||◌}
 use Rattle.std.proofs.Common.{inl, inr}
 use Rattle.std.specs.List.{list_any}
-use Rattle.base.specs.Lists.Front.{IsFront}
-use Rattle.base.proofs.Lemmas.Lists.Fronts.{IsFront-append, rest_of}
+use Rattle.base.specs.Lists.Prefix.{IsPrefix}
+use Rattle.base.proofs.Lemmas.Lists.Prefixes.{IsPrefix-append, rest_of}
 use Rattle.xb_bits.specs.Word.{Word}
 use Rattle.net_core.specs.declared.net.Site.{Site}
 use Rattle.net_core.specs.declared.net.Chan.{Chan}
@@ -46,12 +46,12 @@ unfolding words_kind
 inner_words run cut c chan e k = words_are run cut c chan e ∙ ap (words_kind run cut c) k
 
 -- more events send and receive more
-pub sent_grow : (sites : List Site) (c : ℕ) (xs ys : List Event) → IsFront xs ys → IsFront (words_sent sites c xs) (words_sent sites c ys)
+pub sent_grow : (sites : List Site) (c : ℕ) (xs ys : List Event) → IsPrefix xs ys → IsPrefix (words_sent sites c xs) (words_sent sites c ys)
 sent_grow sites c xs ys f =
     let r = rest_of xs ys f in
-    subst (IsFront (words_sent sites c xs)) (sym (ap (words_sent sites c) r.1 ∙ words_sent-append sites c xs r.0)) (IsFront-append (words_sent sites c xs) (words_sent sites c r.0))
+    subst (IsPrefix (words_sent sites c xs)) (sym (ap (words_sent sites c) r.1 ∙ words_sent-append sites c xs r.0)) (IsPrefix-append (words_sent sites c xs) (words_sent sites c r.0))
 
-pub received_grow : (sites : List Site) (c : ℕ) (xs ys : List Event) → IsFront xs ys → count_received sites c xs ≤ count_received sites c ys
+pub received_grow : (sites : List Site) (c : ℕ) (xs ys : List Event) → IsPrefix xs ys → count_received sites c xs ≤ count_received sites c ys
 received_grow sites c xs ys f =
     let r = rest_of xs ys f in
     let e = ap (count_received sites c) r.1 in

@@ -15,7 +15,7 @@ IsOuter block q = (i : ℕ) (site : Site) → slice_get q.proc.behavior.sites i 
 
 -- in a row
 pub record IsRowFed (block : Block) (row : Ports) : Type 0 where
-  pub offers : (c : ℕ) (chan : Chan) → slice_get block.chans c ≡ Some chan → chan.kind ≡ Input → (w : Word) × (row.offer c ≡ Some w)
+  pub offers : (c : ℕ) (chan : Chan) → slice_get block.chans c ≡ Some chan → chan.kind ≡ Input → (w : Word) × (row.valid_word c ≡ Some w)
   pub ready : (c : ℕ) (chan : Chan) → slice_get block.chans c ≡ Some chan → chan.kind ≡ Output → row.room c ≡ true
 
 abbrev pub AreRowsFed : Block → List Ports → Type 0

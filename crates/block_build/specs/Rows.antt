@@ -8,7 +8,7 @@ use Rattle.net_core.specs.declared.net.Kind.TheVariants.{Input, Output, Inner}
 use Rattle.net_core.specs.declared.event.Event.{Event}
 use Rattle.net_core.specs.Cuts.{words_sent, count_received, sites_at, sender}
 use Rattle.block_stage.specs.Machine.Pipeline.{Pipeline}
-use Rattle.block_stage.specs.Machine.Cycle.{Ports, Registers, asked_in}
+use Rattle.block_stage.specs.Machine.Cycle.{Ports, Registers, asserted_in}
 use Rattle.block_stage.specs.Machine.Since.{Since, at_reset, one_more}
 use Rattle.block_stage.specs.Fifo.Fifo.{next_word, has_room, after_cycle}
 use Rattle.block_build.specs.Block.{Block, run_of, receiver_of}
@@ -31,19 +31,19 @@ reset_state block = record { machines = map reset_machine block.pipelines; queue
 
 -- what a pipeline finds at a channel, by the channel's kind: at an input and an output what stands at the block's own
 -- ports, at an inner channel what its FIFO shows
-abbrev pub offer_by : Kind → Option Word → List Word → Option Word
-offer_by Input outside queue = outside
-offer_by Output outside queue = None
-offer_by Inner outside queue = next_word queue
+abbrev pub valid_word_by : Kind → Option Word → List Word → Option Word
+valid_word_by Input outside queue = outside
+valid_word_by Output outside queue = None
+valid_word_by Inner outside queue = next_word queue
 
 abbrev pub room_by : Kind → ℕ → Bool → List Word → Bool
 room_by Input depth outside queue = false
 room_by Output depth outside queue = outside
 room_by Inner depth outside queue = has_room depth queue
 
-abbrev pub offer_at : Option Chan → Option Word → List Word → Option Word
-offer_at None outside queue = None
-offer_at (Some chan) outside queue = offer_by chan.kind outside queue
+abbrev pub valid_word_at : Option Chan → Option Word → List Word → Option Word
+valid_word_at None outside queue = None
+valid_word_at (Some chan) outside queue = valid_word_by chan.kind outside queue
 
 abbrev pub room_at : Option Chan → ℕ → Bool → List Word → Bool
 room_at None depth outside queue = false
@@ -55,28 +55,28 @@ depth_of block c = get_or block.depths c 0
 -- in a cycle with this at the block's own ports
 abbrev pub ports_in : Block → State → Ports → Ports
 ports_in block state row = record {
-  offer = λ c. offer_at (slice_get block.chans c) (row.offer c) (state.queues c);
+  valid_word = λ c. valid_word_at (slice_get block.chans c) (row.valid_word c) (state.queues c);
   room = λ c. room_at (slice_get block.chans c) (depth_of block c) (row.room c) (state.queues c);
 }
 
-abbrev pub asks : Option Machine → Ports → List Event
-asks None ports = []
-asks (Some machine) ports = asked_in machine.pipeline machine.since.contents ports
+abbrev pub asserts : Option Machine → Ports → List Event
+asserts None ports = []
+asserts (Some machine) ports = asserted_in machine.pipeline machine.since.contents ports
 
-abbrev pub asked_at : State → Ports → ℕ → List Event
-asked_at state ports p = asks (slice_get state.machines p) ports
+abbrev pub asserted_at : State → Ports → ℕ → List Event
+asserted_at state ports p = asserts (slice_get state.machines p) ports
 
 -- the proc that sends on a channel
 abbrev pub sender_of : Block → ℕ → ℕ
 sender_of block c = sender (run_of block [] 0) c
 
--- whether a FIFO's reader asks for a word, and what its writer offers
-abbrev pub is_asked : Block → State → Ports → ℕ → Bool
-is_asked block state ports c =
-    not (count_received (sites_at (run_of block [] 0) (receiver_of block c)) c (asked_at state ports (receiver_of block c)) == 0)
+-- whether a FIFO's reader is ready for a word, and what its writer has valid
+abbrev pub is_reader_ready : Block → State → Ports → ℕ → Bool
+is_reader_ready block state ports c =
+    not (count_received (sites_at (run_of block [] 0) (receiver_of block c)) c (asserted_at state ports (receiver_of block c)) == 0)
 
-abbrev pub offered : Block → State → Ports → ℕ → Option Word
-offered block state ports c = next_word (words_sent (sites_at (run_of block [] 0) (sender_of block c)) c (asked_at state ports (sender_of block c)))
+abbrev pub valid_data : Block → State → Ports → ℕ → Option Word
+valid_data block state ports c = next_word (words_sent (sites_at (run_of block [] 0) (sender_of block c)) c (asserted_at state ports (sender_of block c)))
 
 abbrev pub machine_after : Ports → Machine → Machine
 machine_after ports machine = record { pipeline = machine.pipeline; since = one_more machine.pipeline machine.since ports }
@@ -87,7 +87,7 @@ one_row block state row =
     let ports = ports_in block state row in
     record {
       machines = map (machine_after ports) state.machines;
-      queues = λ c. after_cycle (depth_of block c) (state.queues c) (is_asked block state ports c) (offered block state ports c);
+      queues = λ c. after_cycle (depth_of block c) (state.queues c) (is_reader_ready block state ports c) (valid_data block state ports c);
     }
 
 -- after these rows without reset
@@ -102,23 +102,23 @@ pub record InputRow : Type 0 where
 
 -- in a row with reset no stage acts, whatever stands in the registers
 abbrev pub acting : Bool → Registers → Registers
-acting rst c = record { full = λ j. not rst && c.full j; state = c.state; held = c.held; done = c.done; kept = c.kept }
+acting rst c = record { full = λ j. not rst && c.full j; state = c.state; stage_regs = c.stage_regs; done = c.done; kept = c.kept }
 
 abbrev pub asks_if : Bool → Option Machine → Ports → List Event
 asks_if rst None ports = []
-asks_if rst (Some machine) ports = asked_in machine.pipeline (acting rst machine.since.contents) ports
+asks_if rst (Some machine) ports = asserted_in machine.pipeline (acting rst machine.since.contents) ports
 
 -- what a proc asks in a row
-abbrev pub asked_in_row : Block → State → InputRow → ℕ → List Event
-asked_in_row block state row p = asks_if row.rst (slice_get state.machines p) (ports_in block state row.ports)
+abbrev pub asserted_in_row : Block → State → InputRow → ℕ → List Event
+asserted_in_row block state row p = asks_if row.rst (slice_get state.machines p) (ports_in block state row.ports)
 
 -- what the block drives: whether it is ready for a word of an input, and the word that it offers at an output
 abbrev pub is_ready : Block → State → InputRow → ℕ → Bool
 is_ready block state row c =
-    not (count_received (sites_at (run_of block [] 0) (receiver_of block c)) c (asked_in_row block state row (receiver_of block c)) == 0)
+    not (count_received (sites_at (run_of block [] 0) (receiver_of block c)) c (asserted_in_row block state row (receiver_of block c)) == 0)
 
 abbrev pub offers : Block → State → InputRow → ℕ → Option Word
-offers block state row c = next_word (words_sent (sites_at (run_of block [] 0) (sender_of block c)) c (asked_in_row block state row (sender_of block c)))
+offers block state row c = next_word (words_sent (sites_at (run_of block [] 0) (sender_of block c)) c (asserted_in_row block state row (sender_of block c)))
 
 abbrev pub after_row : Block → State → InputRow → State
 after_row block state row = if row.rst then reset_state block else one_row block state row.ports

@@ -2,7 +2,7 @@
 //! one resets, from any contents of the registers on, as they come up with power.
 
 ghost use Rattle.std.specs.Prelude.{◌≡◌, ◌≤◌, ◌-◌, ℕ, true, false, List, [], ◌++◌, length, get_or, slice_get, if◌then◌else◌, option_to_list, Some, None};
-ghost use Rattle.base.specs.Lists.Front.{IsFront};
+ghost use Rattle.base.specs.Lists.Prefix.{IsPrefix};
 ghost use Rattle.xb_bits.specs.Word.{Word};
 ghost use Rattle.net_core.specs.declared.net.Chan.{Chan};
 ghost use Rattle.net_core.specs.declared.net.Kind.TheVariants.{Input, Output};
@@ -24,7 +24,7 @@ pub fn block_words_are_the_networks()
         let run = run_of block inputs n in
         ((c : ℕ) (chan : Chan) → slice_get block.chans c ≡ Some chan → chan.kind ≡ Input → get_or inputs c [] ≡ moved_in block state c) →
         (c : ℕ) (chan : Chan) → slice_get block.chans c ≡ Some chan → chan.kind ≡ Output →
-        IsFront (moved_out block state c) (words_at run (unbounded_cut run) c) }
+        IsPrefix (moved_out block state c) (words_at run (unbounded_cut run) c) }
     ensures inputs { (block : Block) → IsBlock block → (power : State) (rows : List InputRow) → HasReset rows →
         (inputs : List (List Word)) (n : ℕ) → length (since_reset [] rows) ≤ n →
         let state = state_after block power rows in
@@ -34,7 +34,7 @@ pub fn block_words_are_the_networks()
         received_at run (unbounded_cut run) c ≡ length (moved_in block state c) }
 {}
 
-/// A word moves through a port of the block in a row without reset in which both sides are ready: one that is offered at an
+/// A word moves through a port of the block in a row without reset in which both sides are ready: one that is valid at an
 /// output where the outside has room, and one that is there at an input where the block is ready. So what moved is what the
 /// rows show.
 pub fn words_move_where_both_sides_are_ready()
@@ -47,10 +47,10 @@ pub fn words_move_where_both_sides_are_ready()
         let state = state_after block power rows in
         (c : ℕ) (chan : Chan) → slice_get block.chans c ≡ Some chan → chan.kind ≡ Input →
         moved_in block (after_row block state row) c
-        ≡ moved_in block state c ++ (if is_ready block state row c then option_to_list (row.ports.offer c) else []) }
+        ≡ moved_in block state c ++ (if is_ready block state row c then option_to_list (row.ports.valid_word c) else []) }
 {}
 
-/// A word that is offered at an output and not taken stands offered, unchanged, in the next row, unless that resets.
+/// A word that is valid at an output and not taken stands offered, unchanged, in the next row, unless that resets.
 pub fn offers_stand()
     ensures { (block : Block) → IsBlock block → (power : State) (rows : List InputRow) → HasReset rows →
         let state = state_after block power rows in

@@ -4,4 +4,4 @@
 pub mod laws;
 mod ports;
 
-pub use ports::{offer, room};
+pub use ports::{valid_word, room};

@@ -10,8 +10,8 @@ use xb_bits::Bits;
 
 /// The word that is there to be received, by the channel's kind: at an input the one at the block's own port, at an inner
 /// channel the one that its FIFO shows.
-pub fn offer(kind: Kind, outside: Option<Bits>, shown: Option<Bits>) -> Option<Bits>
-    ensures { (queue : List Word) → shown ≡ next_word queue → result ≡ rows.offer_by kind outside queue }
+pub fn valid_word(kind: Kind, outside: Option<Bits>, shown: Option<Bits>) -> Option<Bits>
+    ensures { (queue : List Word) → shown ≡ next_word queue → result ≡ rows.valid_word_by kind outside queue }
 {
     match kind {
         Kind::Input => outside,

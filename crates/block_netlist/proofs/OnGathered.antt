@@ -43,38 +43,38 @@ gathered_on : (turns : ℕ → Turn) (words : ℕ → Word) (i n : ℕ) → grow
 gathered_on turns words i zero = let e : i + 0 ≡ i = omega arith in ap (gathered turns words) (sym e)
 gathered_on turns words i (suc n) = let e : suc i + n ≡ i + suc n = omega arith in gathered_on turns words (suc i) n ∙ ap (gathered turns words) e
 
-step_grows : (i : ℕ) (got : List Word) (turn : Turn) (done : Bool) (kept : Word) (offer : Option Word) (room : Bool) (word : Word) (next : List Word → Walk) (goal : List Word)
-    → ((w : Word) → received_by (step_of turn done kept offer room) ≡ Some w → word ≡ w)
-    → ((next (grown turn word got)).waits ≡ None → (next (grown turn word got)).got ≡ goal)
-    → (follow i got next (step_of turn done kept offer room)).waits ≡ None → (follow i got next (step_of turn done kept offer room)).got ≡ goal
-step_grows i got Skip done kept offer room word next goal h ih none = ih none
-step_grows i got Receive true kept offer room word next goal h ih none =
-    subst (λ w. (next (got ++ w ∷ [])).waits ≡ None → (next (got ++ w ∷ [])).got ≡ goal) (h kept refl) ih none
+step_grows : (i : ℕ) (got : List Word) (turn : Turn) (done : Bool) (kept : Word) (valid_word : Option Word) (room : Bool) (word : Word) (next : List Word → Walk) (goal : List Word)
+    → ((w : Word) → received_by (step_of turn done kept valid_word room) ≡ Some w → word ≡ w)
+    → ((next (grown turn word got)).stall ≡ None → (next (grown turn word got)).got ≡ goal)
+    → (follow i got next (step_of turn done kept valid_word room)).stall ≡ None → (follow i got next (step_of turn done kept valid_word room)).got ≡ goal
+step_grows i got Skip done kept valid_word room word next goal h ih none = ih none
+step_grows i got Receive true kept valid_word room word next goal h ih none =
+    subst (λ w. (next (got ++ w ∷ [])).stall ≡ None → (next (got ++ w ∷ [])).got ≡ goal) (h kept refl) ih none
 step_grows i got Receive false kept (Some w) room word next goal h ih none =
-    subst (λ u. (next (got ++ u ∷ [])).waits ≡ None → (next (got ++ u ∷ [])).got ≡ goal) (h w refl) ih none
+    subst (λ u. (next (got ++ u ∷ [])).stall ≡ None → (next (got ++ u ∷ [])).got ≡ goal) (h w refl) ih none
 step_grows i got Receive false kept None room word next goal h ih none = cc
-step_grows i got (Give w) true kept offer room word next goal h ih none = ih none
-step_grows i got (Give w) false kept offer true word next goal h ih none = ih none
-step_grows i got (Give w) false kept offer false word next goal h ih none = cc
+step_grows i got (Give w) true kept valid_word room word next goal h ih none = ih none
+step_grows i got (Give w) false kept valid_word true word next goal h ih none = ih none
+step_grows i got (Give w) false kept valid_word false word next goal h ih none = cc
 
 walk_grows : (v : Values) (b : Behavior) (turns : ℕ → Turn) (words : ℕ → Word) (done : ℕ → Bool) (kept : ℕ → Word) (ports : Ports) (s : Value) (sites : List SiteNets) (got : List Word) (i : ℕ)
     → AreTurns v b.sites turns words done kept ports i sites → DoesTurns b s turns words got i (length sites)
-    → (walk_by circuit b done kept ports s got i (length sites)).waits ≡ None → (walk_by circuit b done kept ports s got i (length sites)).got ≡ grown_on turns words i (length sites) got
+    → (walk_by circuit b done kept ports s got i (length sites)).stall ≡ None → (walk_by circuit b done kept ports s got i (length sites)).got ≡ grown_on turns words i (length sites) got
 walk_grows v b turns words done kept ports s [] got i are does none = refl
 walk_grows v b turns words done kept ports s (site ∷ sites) got i are does none =
-    let offer = ports.offer (chan_at b.sites i) in
+    let valid_word = ports.valid_word (chan_at b.sites i) in
     let room = ports.room (chan_at b.sites i) in
     let next = λ (got' : List Word). walk_by circuit b done kept ports s got' (suc i) (length sites) in
     let goal = grown_on turns words (suc i) (length sites) (grown (turns i) (words i) got) in
-    subst (λ turn. (follow i got next (step_of turn (done i) (kept i) offer room)).waits ≡ None → (follow i got next (step_of turn (done i) (kept i) offer room)).got ≡ goal) (sym does.0)
-    (step_grows i got (turns i) (done i) (kept i) offer room (words i) next goal are.2
+    subst (λ turn. (follow i got next (step_of turn (done i) (kept i) valid_word room)).stall ≡ None → (follow i got next (step_of turn (done i) (kept i) valid_word room)).got ≡ goal) (sym does.0)
+    (step_grows i got (turns i) (done i) (kept i) valid_word room (words i) next goal are.2
     (walk_grows v b turns words done kept ports s sites (grown (turns i) (words i) got) (suc i) are.3 does.1)) none
 
 -- it has the words of its sites too
 pub stages_gather_their_words : (v : Values) (q : Pipeline) (channels : List Channel) (proc : Proc) → activation channels proc ≡ q.proc.behavior → (c : Registers) (ports : Ports) (j : ℕ) (words : ℕ → Word) (sites : List SiteNets)
     → (brought c j).got ≡ gathered (turns_by_words channels proc.nodes (brought c j).state words) words (first q j)
     → AreTurns v q.proc.behavior.sites (turns_by_words channels proc.nodes (brought c j).state words) words c.done c.kept ports (first q j) sites
-    → (walk_by circuit q.proc.behavior c.done c.kept ports (brought c j).state (brought c j).got (first q j) (length sites)).waits ≡ None
+    → (walk_by circuit q.proc.behavior c.done c.kept ports (brought c j).state (brought c j).got (first q j) (length sites)).stall ≡ None
     → (walk_by circuit q.proc.behavior c.done c.kept ports (brought c j).state (brought c j).got (first q j) (length sites)).got
     ≡ gathered (turns_by_words channels proc.nodes (brought c j).state words) words (first q j + length sites)
 stages_gather_their_words v q channels proc e c ports j words sites g are none =

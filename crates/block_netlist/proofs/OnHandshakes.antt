@@ -12,13 +12,13 @@ use Rattle.vlog_tree.specs.declared.expression.Atom.{Atom}
 use Rattle.vlog_tree.specs.Value.{Values, bit, atom_value}
 use Rattle.block_netlist.specs.Wires.{AreWired}
 use Rattle.block_netlist.specs.Gates.{net}
-use Rattle.block_netlist.specs.Handshakes.{SiteNets, site_wires, ask_net, go_net, ready_net, AreSites, chain_ready}
+use Rattle.block_netlist.specs.Handshakes.{SiteNets, site_wires, assert_net, go_net, ready_net, AreSites, chain_ready}
 use Rattle.block_netlist.proofs.OnGates.{complement, conjunction, disjunction, nothing}
-use Rattle.block_netlist.specs.Walks.{asks_at, goes_at, TurnIs, AfterStep, AreRead, ShowWalk, ShowNothing}
+use Rattle.block_netlist.specs.Walks.{asserts_at, goes_at, TurnIs, AfterStep, AreRead, ShowWalk, ShowNothing}
 
 -- the wires of one site
 record SiteShows (v : Values) (site : SiteNets) (pending partner : Bool) : Type 0 where
-  ask : v (ask_net site) ≡ bit pending
+  ask : v (assert_net site) ≡ bit pending
   go : v (go_net site) ≡ bit (pending && partner)
   ready : v (ready_net site) ≡ bit (not pending || (pending && partner))
 
@@ -29,7 +29,7 @@ site_shows v ready site on done partner h r o d p =
     let k = site.first in
     let undone = complement (v k) _ done h.0 d in
     let pending = conjunction (v (suc k)) _ _ on (not done) h.1.0 o undone in
-    let ask = conjunction (v (ask_net site)) _ _ true (on && not done) h.1.1.0 r pending in
+    let ask = conjunction (v (assert_net site)) _ _ true (on && not done) h.1.1.0 r pending in
     let go = conjunction (v (go_net site)) _ _ (on && not done) partner h.1.1.1.0 ask p in
     let rest = complement (v (suc (suc (suc (suc k))))) _ (on && not done) h.1.1.1.1.0 pending in
     let passed = disjunction (v (suc (suc (suc (suc (suc k)))))) _ _ (not (on && not done)) ((on && not done) && partner) h.1.1.1.1.1.0 rest go in
@@ -40,12 +40,12 @@ site_shows v ready site on done partner h r o d p =
     }
 
 site_quiet : (v : Values) (ready : Atom) (site : SiteNets) → AreWired v site.first (site_wires site.first ready site) → atom_value v ready ≡ bit false
-    → (v (ask_net site) ≡ bit false) × (v (go_net site) ≡ bit false) × (v (ready_net site) ≡ bit false)
+    → (v (assert_net site) ≡ bit false) × (v (go_net site) ≡ bit false) × (v (ready_net site) ≡ bit false)
 site_quiet v ready site h r =
     let k = site.first in
-    let ask = nothing (v (ask_net site)) (atom_value v ready) (v (suc k)) h.1.1.0 r in (
+    let ask = nothing (v (assert_net site)) (atom_value v ready) (v (suc k)) h.1.1.0 r in (
       ask,
-      nothing (v (go_net site)) (v (ask_net site)) (atom_value v site.partner) h.1.1.1.0 ask,
+      nothing (v (go_net site)) (v (assert_net site)) (atom_value v site.partner) h.1.1.1.0 ask,
       nothing (v (ready_net site)) (atom_value v ready) (v (suc (suc (suc (suc (suc k)))))) h.1.1.1.1.1.1.0 r,
     )
 
@@ -85,7 +85,7 @@ step_passes (AwaitRoom w) = false
 
 -- by the wires of a site whose signals are right
 record StepShown (v : Values) (site : SiteNets) (step : Step) : Type 0 where
-  ask : v (ask_net site) ≡ bit (step_asks step)
+  ask : v (assert_net site) ≡ bit (step_asks step)
   go : v (go_net site) ≡ bit (step_goes step)
   ready : v (ready_net site) ≡ bit (step_passes step)
 
@@ -93,16 +93,16 @@ shown_by : (v : Values) (site : SiteNets) (step : Step) (pending partner : Bool)
     → SiteShows v site pending partner → StepShown v site step
 shown_by v site step pending partner a g p s = record { ask = s.ask ∙ ap bit a; go = s.go ∙ ap bit g; ready = s.ready ∙ ap bit p }
 
-step_shown : (v : Values) (ready : Atom) (site : SiteNets) (turn : Turn) (done : Bool) (kept : Word) (offer : Option Word) (room : Bool)
-    → AreWired v site.first (site_wires site.first ready site) → atom_value v ready ≡ bit true → atom_value v site.done ≡ bit done → TurnIs v site offer room turn
-    → StepShown v site (step_of turn done kept offer room)
-step_shown v ready site Skip done kept offer room h r d is = shown_by v site _ _ _ refl refl refl (site_shows v ready site false done is.1 h r is.0 d is.2)
-step_shown v ready site Receive true kept offer room h r d is = shown_by v site _ _ _ refl refl refl (site_shows v ready site true true (is_some offer) h r is.0 d is.1)
+step_shown : (v : Values) (ready : Atom) (site : SiteNets) (turn : Turn) (done : Bool) (kept : Word) (valid_word : Option Word) (room : Bool)
+    → AreWired v site.first (site_wires site.first ready site) → atom_value v ready ≡ bit true → atom_value v site.done ≡ bit done → TurnIs v site valid_word room turn
+    → StepShown v site (step_of turn done kept valid_word room)
+step_shown v ready site Skip done kept valid_word room h r d is = shown_by v site _ _ _ refl refl refl (site_shows v ready site false done is.1 h r is.0 d is.2)
+step_shown v ready site Receive true kept valid_word room h r d is = shown_by v site _ _ _ refl refl refl (site_shows v ready site true true (is_some valid_word) h r is.0 d is.1)
 step_shown v ready site Receive false kept (Some w) room h r d is = shown_by v site _ _ _ refl refl refl (site_shows v ready site true false true h r is.0 d is.1)
 step_shown v ready site Receive false kept None room h r d is = shown_by v site _ _ _ refl refl refl (site_shows v ready site true false false h r is.0 d is.1)
-step_shown v ready site (Give w) true kept offer room h r d is = shown_by v site _ _ _ refl refl refl (site_shows v ready site true true room h r is.0 d is.1)
-step_shown v ready site (Give w) false kept offer true h r d is = shown_by v site _ _ _ refl refl refl (site_shows v ready site true false true h r is.0 d is.1)
-step_shown v ready site (Give w) false kept offer false h r d is = shown_by v site _ _ _ refl refl refl (site_shows v ready site true false false h r is.0 d is.1)
+step_shown v ready site (Give w) true kept valid_word room h r d is = shown_by v site _ _ _ refl refl refl (site_shows v ready site true true room h r is.0 d is.1)
+step_shown v ready site (Give w) false kept valid_word true h r d is = shown_by v site _ _ _ refl refl refl (site_shows v ready site true false true h r is.0 d is.1)
+step_shown v ready site (Give w) false kept valid_word false h r d is = shown_by v site _ _ _ refl refl refl (site_shows v ready site true false false h r is.0 d is.1)
 
 -- of a walk from a place on, what it does at earlier ones
 apart : (i k : ℕ) → (i ≡ k → ⊥) → eqb i k ≡ false
@@ -112,7 +112,7 @@ same : (i : ℕ) → eqb i i ≡ true
 same i = grind (arith, nat_tests)
 
 abbrev pub DoesNothing : ℕ → Walk → Type 0
-DoesNothing k walk = (asks_at k walk ≡ false) × (goes_at k walk ≡ false)
+DoesNothing k walk = (asserts_at k walk ≡ false) × (goes_at k walk ≡ false)
 
 or_false : (x y : Bool) → x ≡ false → y ≡ false → (x || y) ≡ false
 or_false x y e f = rw (e, f)
@@ -134,14 +134,14 @@ nothing_followed k i got (AwaitRoom w) next l h = (or_false (eqb i k) false (apa
 nothing_before : (x : Circuit) (b : Behavior) (done : ℕ → Bool) (kept : ℕ → Word) (ports : Ports) (s : Value) (got : List Word) (i n k : ℕ) → k < i → DoesNothing k (walk_by x b done kept ports s got i n)
 nothing_before x b done kept ports s got i zero k l = (refl, refl)
 nothing_before x b done kept ports s got i (suc n) k l =
-    nothing_followed k i got (x.step (b.turn s got i) (done i) (kept i) (ports.offer (chan_at b.sites i)) (ports.room (chan_at b.sites i))) (λ got'. walk_by x b done kept ports s got' (suc i) n) l
+    nothing_followed k i got (x.step (b.turn s got i) (done i) (kept i) (ports.valid_word (chan_at b.sites i)) (ports.room (chan_at b.sites i))) (λ got'. walk_by x b done kept ports s got' (suc i) n) l
     (λ got'. nothing_before x b done kept ports s got' (suc i) n k (omega arith))
 
 -- at the place itself
 or_true : (x y : Bool) → x ≡ true → (x || y) ≡ true
 or_true x y e = rw e
 
-here_asks : (i : ℕ) (got : List Word) (step : Step) (next : List Word → Walk) → ((got' : List Word) → DoesNothing i (next got')) → asks_at i (follow i got next step) ≡ step_asks step
+here_asks : (i : ℕ) (got : List Word) (step : Step) (next : List Word → Walk) → ((got' : List Word) → DoesNothing i (next got')) → asserts_at i (follow i got next step) ≡ step_asks step
 here_asks i got Pass next h = (h got).0
 here_asks i got (Recall w) next h = (h (got ++ w ∷ [])).0
 here_asks i got (Take w) next h = or_true (eqb i i) _ (same i)
@@ -162,7 +162,7 @@ pass_by : (x y : Bool) → x ≡ false → (x || y) ≡ y
 pass_by x y e = rw e
 
 later_shown : (v : Values) (j : ℕ) (sites : List SiteNets) (walk other : Walk)
-    → ((m : ℕ) → j ≤ m → asks_at m walk ≡ asks_at m other) → ((m : ℕ) → j ≤ m → goes_at m walk ≡ goes_at m other)
+    → ((m : ℕ) → j ≤ m → asserts_at m walk ≡ asserts_at m other) → ((m : ℕ) → j ≤ m → goes_at m walk ≡ goes_at m other)
     → ShowWalk v j sites other → ShowWalk v j sites walk
 later_shown v j [] walk other a g h = tt
 later_shown v j (site ∷ sites) walk other a g h = (
@@ -179,7 +179,7 @@ quiet_shown v j (site ∷ sites) walk n h =
 
 -- the sites behind the one at which this happens
 abbrev Shown : Values → ℕ → Atom → List SiteNets → Walk → Type 0
-Shown v i ready sites walk = ShowWalk v i sites walk × (atom_value v (chain_ready ready sites) ≡ bit (not (is_some walk.waits)))
+Shown v i ready sites walk = ShowWalk v i sites walk × (atom_value v (chain_ready ready sites) ≡ bit (not (is_some walk.stall)))
 
 behind_shown : (v : Values) (i : ℕ) (ready : Atom) (sites : List SiteNets) (got : List Word) (step : Step) (next : List Word → Walk) (P : List Word → Type 0)
     → AreSites v ready sites → atom_value v ready ≡ bit (step_passes step) → AfterStep step got P
@@ -210,15 +210,15 @@ behind_shown v i ready sites got (AwaitRoom w) next P h r is ih =
 pub chain_shows_the_walk : (v : Values) (b : Behavior) (done : ℕ → Bool) (kept : ℕ → Word) (ports : Ports) (s : Value) (sites : List SiteNets) (got : List Word) (i : ℕ) (ready : Atom)
     → AreSites v ready sites → atom_value v ready ≡ bit true → AreRead v b done kept ports s got i sites
     → ShowWalk v i sites (walk_by circuit b done kept ports s got i (length sites))
-    × (atom_value v (chain_ready ready sites) ≡ bit (not (is_some (walk_by circuit b done kept ports s got i (length sites)).waits)))
+    × (atom_value v (chain_ready ready sites) ≡ bit (not (is_some (walk_by circuit b done kept ports s got i (length sites)).stall)))
 chain_shows_the_walk v b done kept ports s [] got i ready h r is = (tt, r)
 chain_shows_the_walk v b done kept ports s (site ∷ sites) got i ready h r is =
-    let offer = ports.offer (chan_at b.sites i) in
+    let valid_word = ports.valid_word (chan_at b.sites i) in
     let room = ports.room (chan_at b.sites i) in
-    let step = step_of (b.turn s got i) (done i) (kept i) offer room in
+    let step = step_of (b.turn s got i) (done i) (kept i) valid_word room in
     let next = λ (got' : List Word). walk_by circuit b done kept ports s got' (suc i) (length sites) in
     let before = λ (got' : List Word). nothing_before circuit b done kept ports s got' (suc i) (length sites) i (omega arith) in
-    let here = step_shown v ready site (b.turn s got i) (done i) (kept i) offer room h.0 r is.0 is.1 in
+    let here = step_shown v ready site (b.turn s got i) (done i) (kept i) valid_word room h.0 r is.0 is.1 in
     let rest = behind_shown v i (net (ready_net site)) sites got step next (λ got'. AreRead v b done kept ports s got' (suc i) sites) h.1 here.ready is.2
     (λ got' t p. chain_shows_the_walk v b done kept ports s sites got' (suc i) (net (ready_net site)) h.1 t p) in
     ((here.ask ∙ ap bit (sym (here_asks i got step next before)), here.go ∙ ap bit (sym (here_goes i got step next before)), rest.0), rest.1)

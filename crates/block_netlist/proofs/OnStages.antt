@@ -19,7 +19,7 @@ use Rattle.block_netlist.proofs.OnHandshakes.{chain_is_quiet, quiet_shown, chain
 -- a stage's sites, and whether it passes
 record StageShown (v : Values) (q : Pipeline) (c : Registers) (ports : Ports) (j : ℕ) (stage : StageNets) : Type 0 where
   sites : ShowWalk v (first q j) stage.sites (stage_by circuit q c ports j)
-  passes : atom_value v (passed stage) ≡ bit (c.full j && not (is_some (stage_by circuit q c ports j).waits))
+  passes : atom_value v (passed stage) ≡ bit (c.full j && not (is_some (stage_by circuit q c ports j).stall))
 
 abbrev whole_walk : Pipeline → Registers → Ports → ℕ → ℕ → Walk
 whole_walk q c ports j n = walk_by circuit q.proc.behavior c.done c.kept ports (brought c j).state (brought c j).got (first q j) n
@@ -28,35 +28,35 @@ stage_shown_by : (v : Values) (run : Atom) (q : Pipeline) (c : Registers) (ports
     → AreWired v stage.first (and_gate run stage.full ∷ []) → AreSites v (net stage.first) stage.sites → atom_value v run ≡ bit true → StageHeld v q c ports j stage
     → (t : Bool) → c.full j ≡ t
     → ShowWalk v (first q j) stage.sites (if_full t (first q j) (whole_walk q c ports j (first q (suc j) - first q j)))
-    × (atom_value v (passed stage) ≡ bit (t && not (is_some (if_full t (first q j) (whole_walk q c ports j (first q (suc j) - first q j))).waits)))
-stage_shown_by v run q c ports j stage wire sites r held true f =
-    let acts = conjunction (v stage.first) (atom_value v run) (atom_value v stage.full) true true wire.0 r (held.full ∙ ap bit f) in
-    subst (λ n. ShowWalk v (first q j) stage.sites (whole_walk q c ports j n) × (atom_value v (passed stage) ≡ bit (not (is_some (whole_walk q c ports j n).waits)))) held.count
-    (chain_shows_the_walk v q.proc.behavior c.done c.kept ports (brought c j).state stage.sites (brought c j).got (first q j) (net stage.first) sites acts (held.read f))
-stage_shown_by v run q c ports j stage wire sites r held false f =
-    let idle = conjunction (v stage.first) (atom_value v run) (atom_value v stage.full) true false wire.0 r (held.full ∙ ap bit f) in
+    × (atom_value v (passed stage) ≡ bit (t && not (is_some (if_full t (first q j) (whole_walk q c ports j (first q (suc j) - first q j))).stall)))
+stage_shown_by v run q c ports j stage wire sites r stage_regs true f =
+    let acts = conjunction (v stage.first) (atom_value v run) (atom_value v stage.full) true true wire.0 r (stage_regs.full ∙ ap bit f) in
+    subst (λ n. ShowWalk v (first q j) stage.sites (whole_walk q c ports j n) × (atom_value v (passed stage) ≡ bit (not (is_some (whole_walk q c ports j n).stall)))) stage_regs.count
+    (chain_shows_the_walk v q.proc.behavior c.done c.kept ports (brought c j).state stage.sites (brought c j).got (first q j) (net stage.first) sites acts (stage_regs.read f))
+stage_shown_by v run q c ports j stage wire sites r stage_regs false f =
+    let idle = conjunction (v stage.first) (atom_value v run) (atom_value v stage.full) true false wire.0 r (stage_regs.full ∙ ap bit f) in
     let quiet = chain_is_quiet v (net stage.first) stage.sites sites idle in
     (quiet_shown v (first q j) stage.sites (stopped (first q j) [] None) (λ m l. (refl, refl)) quiet.0, quiet.1)
 
 stage_shown : (v : Values) (run : Atom) (q : Pipeline) (c : Registers) (ports : Ports) (j : ℕ) (stage : StageNets)
     → AreWired v stage.first (and_gate run stage.full ∷ []) → AreSites v (net stage.first) stage.sites → atom_value v run ≡ bit true → StageHeld v q c ports j stage
     → StageShown v q c ports j stage
-stage_shown v run q c ports j stage wire sites r held =
-    let s = stage_shown_by v run q c ports j stage wire sites r held (c.full j) refl in
+stage_shown v run q c ports j stage wire sites r stage_regs =
+    let s = stage_shown_by v run q c ports j stage wire sites r stage_regs (c.full j) refl in
     record { sites = s.0; passes = s.1 }
 
 -- which stages move, from the final one back
 stage_moves : (v : Values) (run : Atom) (q : Pipeline) (c : Registers) (ports : Ports) (more : List StageNets) (j : ℕ) (stage : StageNets)
     → AreStages v run (stage ∷ more) → atom_value v run ≡ bit true → AreHeld v q c ports j (stage ∷ more)
     → atom_value v (move_net stage more) ≡ bit (moves_through circuit c.full (stage_by circuit q c ports) (length more) j)
-stage_moves v run q c ports [] j stage wired r held = (stage_shown v run q c ports j stage wired.0 wired.1 r held.0).passes
-stage_moves v run q c ports (behind ∷ more) j stage wired r held =
-    let here = (stage_shown v run q c ports j stage wired.0 wired.1 r held.0).passes in
-    let next = stage_moves v run q c ports more (suc j) behind wired.3 r held.1 in
+stage_moves v run q c ports [] j stage wired r stage_regs = (stage_shown v run q c ports j stage wired.0 wired.1 r stage_regs.0).passes
+stage_moves v run q c ports (behind ∷ more) j stage wired r stage_regs =
+    let here = (stage_shown v run q c ports j stage wired.0 wired.1 r stage_regs.0).passes in
+    let next = stage_moves v run q c ports more (suc j) behind wired.3 r stage_regs.1 in
     let w = wired.2 in
-    let free = complement (v stage.moving) _ (c.full (suc j)) w.0 held.1.0.full in
+    let free = complement (v stage.moving) _ (c.full (suc j)) w.0 stage_regs.1.0.full in
     let clear = disjunction (v (suc stage.moving)) _ _ (not (c.full (suc j))) (moves_through circuit c.full (stage_by circuit q c ports) (length more) (suc j)) w.1.0 free next in
-    conjunction (v (suc (suc stage.moving))) _ _ (c.full j && not (is_some (stage_by circuit q c ports j).waits)) _ w.1.1.0 here clear
+    conjunction (v (suc (suc stage.moving))) _ _ (c.full j && not (is_some (stage_by circuit q c ports j).stall)) _ w.1.1.0 here clear
 
 moves_of : (q : Pipeline) (c : Registers) (ports : Ports) (j n : ℕ) → q.stages - suc j ≡ n → moves_through circuit c.full (stage_by circuit q c ports) n j ≡ moves_by circuit q c ports j
 moves_of q c ports j n e = ap (λ k. moves_through circuit c.full (stage_by circuit q c ports) k j) (sym e)
@@ -64,17 +64,17 @@ moves_of q c ports j n e = ap (λ k. moves_through circuit c.full (stage_by circ
 -- all stages from one on
 stages_shown : (v : Values) (run : Atom) (q : Pipeline) (c : Registers) (ports : Ports) (stages : List StageNets) (j : ℕ) → j + length stages ≡ q.stages
     → AreStages v run stages → atom_value v run ≡ bit true → AreHeld v q c ports j stages → ShowStages v q c ports j stages
-stages_shown v run q c ports [] j e wired r held = tt
-stages_shown v run q c ports (stage ∷ more) j e wired r held = (
-  (stage_shown v run q c ports j stage wired.0 wired.1 r held.0).sites,
-  stage_moves v run q c ports more j stage wired r held ∙ ap bit (moves_of q c ports j (length more) (omega arith)),
-  stages_shown v run q c ports more (suc j) (omega arith) wired.3 r held.1,
+stages_shown v run q c ports [] j e wired r stage_regs = tt
+stages_shown v run q c ports (stage ∷ more) j e wired r stage_regs = (
+  (stage_shown v run q c ports j stage wired.0 wired.1 r stage_regs.0).sites,
+  stage_moves v run q c ports more j stage wired r stage_regs ∙ ap bit (moves_of q c ports j (length more) (omega arith)),
+  stages_shown v run q c ports more (suc j) (omega arith) wired.3 r stage_regs.1,
 )
 
 pub control_shows_the_cycle : (v : Values) (run : Atom) (q : Pipeline) (stages : List StageNets) (c : Registers) (ports : Ports) → IsControl v run q stages
     → atom_value v run ≡ bit true → AreHeld v q c ports 0 stages → ShowStages v q c ports 0 stages
-control_shows_the_cycle v run q stages c ports is r held =
-    let n = is.count in stages_shown v run q c ports stages 0 (omega arith) is.now r held
+control_shows_the_cycle v run q stages c ports is r stage_regs =
+    let n = is.count in stages_shown v run q c ports stages 0 (omega arith) is.now r stage_regs
 
 -- in reset, whatever stands in the registers
 pub nothing_shows_in_reset : (v : Values) (run : Atom) (stages : List StageNets) → AreStages v run stages → atom_value v run ≡ bit false → ShowReset v stages
@@ -105,7 +105,7 @@ dones_shown v q is c ports j moves [] i l r wired bits shown m = tt
 dones_shown v q is c ports j moves (site ∷ sites) i l r wired bits shown m =
     let at = stage_at q is i j l (omega arith) in
     let here = done_bit v site.next site moves (c.done i) (goes_at i (stage_by circuit q c ports j)) (moves_by circuit q c ports j) wired.0 bits.0 shown.1 m in (
-      here ∙ ap (λ k. bit ((c.done i || list_any (is_at i) (stage_by circuit q c ports k).deeds) && not (moves_by circuit q c ports k))) (sym at),
+      here ∙ ap (λ k. bit ((c.done i || list_any (is_at i) (stage_by circuit q c ports k).transfers) && not (moves_by circuit q c ports k))) (sym at),
       dones_shown v q is c ports j moves sites (suc i) (omega arith) (omega arith) wired.1 bits.1 shown.2 m,
     )
 
@@ -113,13 +113,13 @@ dones_shown v q is c ports j moves (site ∷ sites) i l r wired bits shown m =
 nexts_shown : (v : Values) (q : Pipeline) → IsPipeline q → (c : Registers) (ports : Ports) (stages : List StageNets) (j : ℕ) (comes : Atom)
     → AreNext v comes stages → atom_value v comes ≡ bit (moves_by circuit q c ports j) → AreHeld v q c ports (suc j) stages → AreAllDoneBits v q c (suc j) stages → ShowStages v q c ports (suc j) stages
     → ShowNext v q (cycle_by circuit q c ports) (suc j) stages
-nexts_shown v q is c ports [] j comes wired e held bits shown = tt
-nexts_shown v q is c ports (stage ∷ more) j comes wired e held bits shown =
-    let n = held.0.count in
+nexts_shown v q is c ports [] j comes wired e stage_regs bits shown = tt
+nexts_shown v q is c ports (stage ∷ more) j comes wired e stage_regs bits shown =
+    let n = stage_regs.0.count in
     let g = first_grows q is (suc j) (suc (suc j)) (omega arith) in (
-      keep_bit v stage.next comes stage.full (move_net stage more) (moves_by circuit q c ports j) (c.full (suc j)) (moves_by circuit q c ports (suc j)) wired.0 e held.0.full shown.1,
+      keep_bit v stage.next comes stage.full (move_net stage more) (moves_by circuit q c ports j) (c.full (suc j)) (moves_by circuit q c ports (suc j)) wired.0 e stage_regs.0.full shown.1,
       dones_shown v q is c ports (suc j) (move_net stage more) stage.sites (first q (suc j)) (omega arith) (omega (arith, n, g)) wired.1 bits.0 shown.0 shown.1,
-      nexts_shown v q is c ports more (suc j) (move_net stage more) wired.2 shown.1 held.1 bits.1 shown.2,
+      nexts_shown v q is c ports more (suc j) (move_net stage more) wired.2 shown.1 stage_regs.1 bits.1 shown.2,
     )
 
 -- what the move of a stage says
@@ -133,19 +133,19 @@ move_shown v q c ports (stage ∷ more) j (suc k) l shown =
 
 pub control_shows_the_next_bits : (v : Values) (run : Atom) (q : Pipeline) → IsPipeline q → (stages : List StageNets) (c : Registers) (ports : Ports) → IsControl v run q stages
     → atom_value v run ≡ bit true → AreHeld v q c ports 0 stages → AreAllDoneBits v q c 0 stages → ShowNext v q (cycle_by circuit q c ports) 0 stages
-control_shows_the_next_bits v run q is stages c ports control r held bits =
-    go stages control.count control.next held bits (control_shows_the_cycle v run q stages c ports control r held)
+control_shows_the_next_bits v run q is stages c ports control r stage_regs bits =
+    go stages control.count control.next stage_regs bits (control_shows_the_cycle v run q stages c ports control r stage_regs)
   where
     go : (all : List StageNets) → length all ≡ q.stages → AreNext v (move_at all q.last) all → AreHeld v q c ports 0 all → AreAllDoneBits v q c 0 all → ShowStages v q c ports 0 all
         → ShowNext v q (cycle_by circuit q c ports) 0 all
-    go [] n wired held bits shown = tt
-    go (stage ∷ more) n wired held bits shown =
+    go [] n wired stage_regs bits shown = tt
+    go (stage ∷ more) n wired stage_regs bits shown =
         let last = is.last in
         let zero_on : q.last + 0 ≡ q.last = omega arith in
         let ends = move_shown v q c ports (stage ∷ more) 0 q.last (omega arith) shown ∙ ap (λ i. bit (moves_by circuit q c ports i)) zero_on in
-        let count = held.0.count in
+        let count = stage_regs.0.count in
         let g = first_grows q is 0 1 (omega arith) in (
-          keep_bit v stage.next (move_at (stage ∷ more) q.last) stage.full (move_net stage more) (moves_by circuit q c ports q.last) (c.full 0) (moves_by circuit q c ports 0) wired.0 ends held.0.full shown.1,
+          keep_bit v stage.next (move_at (stage ∷ more) q.last) stage.full (move_net stage more) (moves_by circuit q c ports q.last) (c.full 0) (moves_by circuit q c ports 0) wired.0 ends stage_regs.0.full shown.1,
           dones_shown v q is c ports 0 (move_net stage more) stage.sites (first q 0) (omega arith) (omega (arith, count, g)) wired.1 bits.0 shown.0 shown.1,
-          nexts_shown v q is c ports more 0 (move_net stage more) wired.2 shown.1 held.1 bits.1 shown.2,
+          nexts_shown v q is c ports more 0 (move_net stage more) wired.2 shown.1 stage_regs.1 bits.1 shown.2,
         )

@@ -7,42 +7,42 @@ use Rattle.block_netlist.specs.Wires.{Wire}
 use Rattle.block_netlist.specs.Gates.{net, or_gate, choice_gate}
 
 -- a site's ask, and the word that it sends
-pub record AskNets : Type 0 where
+pub record RequestNets : Type 0 where
   pub ask : Atom
   pub word : Atom
 
-pub record AskSaid : Type 0 where
+pub record RequestValues : Type 0 where
   pub ask : Bool
   pub word : Word
 
-abbrev pub AreSaid : Values → List AskNets → List AskSaid → Type 0
-AreSaid v [] [] = Unit {0}
-AreSaid v [] (said ∷ saids) = ⊥
-AreSaid v (nets ∷ rest) [] = ⊥
-AreSaid v (nets ∷ rest) (said ∷ saids) = (atom_value v nets.ask ≡ bit said.ask) × (atom_value v nets.word ≡ said.word) × AreSaid v rest saids
+abbrev pub RequestsAre : Values → List RequestNets → List RequestValues → Type 0
+RequestsAre v [] [] = Unit {0}
+RequestsAre v [] (said ∷ saids) = ⊥
+RequestsAre v (nets ∷ rest) [] = ⊥
+RequestsAre v (nets ∷ rest) (said ∷ saids) = (atom_value v nets.ask ≡ bit said.ask) × (atom_value v nets.word ≡ said.word) × RequestsAre v rest saids
 
 -- one of them is asked, or what is said so far
-abbrev pub some_wires : ℕ → Atom → List AskNets → List Wire
+abbrev pub some_wires : ℕ → Atom → List RequestNets → List Wire
 some_wires k so_far [] = []
 some_wires k so_far (nets ∷ rest) = or_gate so_far nets.ask ∷ some_wires (suc k) (net k) rest
 
-abbrev pub some_net : ℕ → Atom → List AskNets → Atom
+abbrev pub some_net : ℕ → Atom → List RequestNets → Atom
 some_net k so_far [] = so_far
 some_net k so_far (nets ∷ rest) = some_net (suc k) (net k) rest
 
-abbrev pub some_asked : Bool → List AskSaid → Bool
-some_asked so_far [] = so_far
-some_asked so_far (said ∷ saids) = some_asked (so_far || said.ask) saids
+abbrev pub some_asserted : Bool → List RequestValues → Bool
+some_asserted so_far [] = so_far
+some_asserted so_far (said ∷ saids) = some_asserted (so_far || said.ask) saids
 
 -- the word of the last that is asked, or this
-abbrev pub word_wires : ℕ → ℕ → Atom → List AskNets → List Wire
+abbrev pub word_wires : ℕ → ℕ → Atom → List RequestNets → List Wire
 word_wires width k so_far [] = []
 word_wires width k so_far (nets ∷ rest) = choice_gate width nets.ask nets.word so_far ∷ word_wires width (suc k) (net k) rest
 
-abbrev pub word_net : ℕ → Atom → List AskNets → Atom
+abbrev pub word_net : ℕ → Atom → List RequestNets → Atom
 word_net k so_far [] = so_far
 word_net k so_far (nets ∷ rest) = word_net (suc k) (net k) rest
 
-abbrev pub asked_word : Word → List AskSaid → Word
-asked_word so_far [] = so_far
-asked_word so_far (said ∷ saids) = asked_word (if said.ask then said.word else so_far) saids
+abbrev pub asserted_word : Word → List RequestValues → Word
+asserted_word so_far [] = so_far
+asserted_word so_far (said ∷ saids) = asserted_word (if said.ask then said.word else so_far) saids

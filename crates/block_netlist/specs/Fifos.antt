@@ -8,15 +8,15 @@ use Rattle.block_stage.specs.Fifo.Row.{Row, has_word, has_room, gives, takes, be
 use Rattle.block_netlist.specs.Wires.{Wire, AreWired}
 use Rattle.block_netlist.specs.Gates.{net, and_gate, choice_gate, binary_gate}
 
--- a FIFO: the width of its count; its registers, of which the one behind the last slot is any signal; whether its reader asks,
--- whether its writer offers a word, and which; the numbers 0, 1 and its depth as wide as the count, and those of the slots; the
+-- a FIFO: the width of its count; its registers, of which the one behind the last slot is any signal; whether its reader is ready,
+-- whether its writer has valid a word, and which; the numbers 0, 1 and its depth as wide as the count, and those of the slots; the
 -- number of its first wire, and for each slot that of the first of those by which it goes on
 pub record FifoNets : Type 0 where
   pub count_width : ℕ
   pub width : ℕ
   pub count : Atom
   pub slot : ℕ → Atom
-  pub asked : Atom
+  pub asserted : Atom
   pub offers : Atom
   pub word : Atom
   pub number : ℕ → Atom
@@ -48,7 +48,7 @@ abbrev pub fifo_wires : FifoNets → List Wire
 fifo_wires fifo =
     binary_gate 1 binary.NotEqual fifo.count (fifo.number 0)
     ∷ binary_gate 1 binary.NotEqual fifo.count (fifo.number fifo.depth)
-    ∷ and_gate fifo.asked (net (there_net fifo))
+    ∷ and_gate fifo.asserted (net (there_net fifo))
     ∷ and_gate fifo.offers (net (room_net fifo))
     ∷ binary_gate fifo.count_width binary.Subtract fifo.count (fifo.number 1)
     ∷ choice_gate fifo.count_width (net (gives_net fifo)) (net (suc (takes_net fifo))) fifo.count
@@ -73,7 +73,7 @@ pub record IsFifo (v : Values) (fifo : FifoNets) : Type 0 where
   pub slots : (x : ℕ) → x < fifo.depth → AreWired v (fifo.next x) (slot_wires fifo x)
 
 -- what it reads: its registers hold this row, of at most as many words as slots, and the count is wide enough
-pub record FifoHeld (v : Values) (fifo : FifoNets) (row : Row Word) (offered : Option Word) : Type 0 where
+pub record FifoHeld (v : Values) (fifo : FifoNets) (row : Row Word) (valid_data : Option Word) : Type 0 where
   pub wide : fifo.depth < 2 ^ fifo.count_width
   pub one : 1 < 2 ^ fifo.count_width
   pub numbers : (x : ℕ) → x ≤ fifo.depth → atom_value v (fifo.number x) ≡ word fifo.count_width x
@@ -81,14 +81,14 @@ pub record FifoHeld (v : Values) (fifo : FifoNets) (row : Row Word) (offered : O
   pub few : row.count ≤ fifo.depth
   pub count : atom_value v fifo.count ≡ word fifo.count_width row.count
   pub slots : (x : ℕ) → x ≤ fifo.depth → atom_value v (fifo.slot x) ≡ row.slot x
-  pub offers : atom_value v fifo.offers ≡ bit (is_some offered)
-  pub offered_word : (w : Word) → offered ≡ Some w → atom_value v fifo.word ≡ w
+  pub offers : atom_value v fifo.offers ≡ bit (is_some valid_data)
+  pub offered_word : (w : Word) → valid_data ≡ Some w → atom_value v fifo.word ≡ w
 
 -- what its wires say of the count
-pub record CountShown (v : Values) (fifo : FifoNets) (row : Row Word) (asked : Bool) (offered : Option Word) : Type 0 where
+pub record CountShown (v : Values) (fifo : FifoNets) (row : Row Word) (asserted : Bool) (valid_data : Option Word) : Type 0 where
   pub there : v (there_net fifo) ≡ bit (has_word row)
   pub room : v (room_net fifo) ≡ bit (has_room fifo.depth row)
-  pub given : v (gives_net fifo) ≡ bit (gives row asked)
-  pub taken : v (takes_net fifo) ≡ bit (takes fifo.depth row offered)
-  pub left : v (between_net fifo) ≡ word fifo.count_width (between row asked)
-  pub count : v (count_net fifo) ≡ word fifo.count_width (row_after fifo.depth row asked offered).count
+  pub given : v (gives_net fifo) ≡ bit (gives row asserted)
+  pub taken : v (takes_net fifo) ≡ bit (takes fifo.depth row valid_data)
+  pub left : v (between_net fifo) ≡ word fifo.count_width (between row asserted)
+  pub count : v (count_net fifo) ≡ word fifo.count_width (row_after fifo.depth row asserted valid_data).count

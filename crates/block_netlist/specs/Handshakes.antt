@@ -28,8 +28,8 @@ site_wires k ready site =
     ∷ and_gate ready (net (suc (suc (suc (suc (suc k))))))
     ∷ []
 
-abbrev pub ask_net : SiteNets → ℕ
-ask_net site = suc (suc site.first)
+abbrev pub assert_net : SiteNets → ℕ
+assert_net site = suc (suc site.first)
 
 abbrev pub go_net : SiteNets → ℕ
 go_net site = suc (suc (suc site.first))

@@ -27,7 +27,7 @@ pub record ReceiveWired (v : Values) (receive : ReceiveNets) : Type 0 where
 -- what it reads is right: the register where the site is done, the channel's word where one is there
 pub record WordsHeld (v : Values) (c : Registers) (ports : Ports) (chan i : ℕ) (receive : ReceiveNets) : Type 0 where
   pub kept : c.done i ≡ true → atom_value v receive.kept ≡ c.kept i
-  pub word : (w : Word) → ports.offer chan ≡ Some w → atom_value v receive.word ≡ w
+  pub word : (w : Word) → ports.valid_word chan ≡ Some w → atom_value v receive.word ≡ w
 
 -- the word with which an activation goes past a receive
 abbrev pub received_by : Step → Option Word

@@ -28,6 +28,6 @@ abbrev pub AreTurns : Values → List Site → (ℕ → Turn) → (ℕ → Word)
 AreTurns v all turns words done kept ports i [] = Unit {0}
 AreTurns v all turns words done kept ports i (site ∷ sites) =
     (atom_value v site.done ≡ bit (done i))
-    × TurnIs v site (ports.offer (chan_at all i)) (ports.room (chan_at all i)) (turns i)
-    × ((w : Word) → received_by (step_of (turns i) (done i) (kept i) (ports.offer (chan_at all i)) (ports.room (chan_at all i))) ≡ Some w → words i ≡ w)
+    × TurnIs v site (ports.valid_word (chan_at all i)) (ports.room (chan_at all i)) (turns i)
+    × ((w : Word) → received_by (step_of (turns i) (done i) (kept i) (ports.valid_word (chan_at all i)) (ports.room (chan_at all i))) ≡ Some w → words i ≡ w)
     × AreTurns v all turns words done kept ports (suc i) sites

@@ -18,7 +18,7 @@ ghost use Rattle.block_netlist.specs.Walks.{goes_at, AreRead};
 ghost use Rattle.ir_tree.specs.declared.node.Operand.{Operand};
 ghost use Rattle.block_stage.specs.Fifo.Row.{Row, row_after};
 ghost use Rattle.block_netlist.specs.Fifos.{FifoNets, IsFifo, FifoHeld, CountShown, slot_net};
-ghost use Rattle.block_netlist.specs.Ends.{AskNets, AskSaid, AreSaid, some_wires, some_net, some_asked, word_wires, word_net, asked_word};
+ghost use Rattle.block_netlist.specs.Ends.{RequestNets, RequestValues, RequestsAre, some_wires, some_net, some_asserted, word_wires, word_net, asserted_word};
 ghost use Rattle.block_netlist.specs.Layout.{StageReader, is_carried, ServesAll};
 ghost use Rattle.ir_tree.specs.declared.package.Channel.{Channel};
 ghost use Rattle.ir_tree.specs.declared.package.Proc.{Proc};
@@ -48,8 +48,8 @@ pub fn control_is_the_machines()
         ShowNext v q (cycle_by circuit q c ports) 0 stages }
 {}
 
-/// In reset no site is asked and none goes, whatever stands in the registers.
-pub fn nothing_is_asked_in_reset()
+/// In reset no site is asserted and none goes, whatever stands in the registers.
+pub fn nothing_is_asserted_in_reset()
     ensures { (v : Values) (run : Atom) (stages : List StageNets) → AreStages v run stages → atom_value v run ≡ bit false → ShowReset v stages }
 {}
 
@@ -58,7 +58,7 @@ pub fn nothing_is_asked_in_reset()
 pub fn words_are_the_machines()
     ensures received { (v : Values) (c : Registers) (ports : Ports) (chan i : ℕ) (receive : ReceiveNets) → ReceiveWired v receive →
         atom_value v receive.site.done ≡ bit (c.done i) → WordsHeld v c ports chan i receive →
-        (room : Bool) (w : Word) → received_by (step_of Receive (c.done i) (c.kept i) (ports.offer chan) room) ≡ Some w →
+        (room : Bool) (w : Word) → received_by (step_of Receive (c.done i) (c.kept i) (ports.valid_word chan) room) ≡ Some w →
         v receive.has ≡ w }
     ensures kept { (v : Values) (q : Pipeline) → IsPipeline q → (c : Registers) (ports : Ports) (j i : ℕ) (site : Site) (receive : ReceiveNets) →
         first q j ≤ i → i < first q (suc j) → slice_get q.proc.behavior.sites i ≡ Some site → site.sends ≡ false →
@@ -109,19 +109,19 @@ pub fn control_wires_are_sound()
 pub fn stages_go_by_the_words_on_their_signals()
     ensures read { (v : Values) (q : Pipeline) (channels : List Channel) (proc : Proc) → activation channels proc ≡ q.proc.behavior →
         (c : Registers) (ports : Ports) (j : ℕ) (words : ℕ → Word) (sites : List SiteNets) →
-        let begun = brought c j in
-        let turns = turns_by_words channels proc.nodes begun.state words in
-        begun.got ≡ gathered turns words (first q j) →
+        let stage_entry = brought c j in
+        let turns = turns_by_words channels proc.nodes stage_entry.state words in
+        stage_entry.got ≡ gathered turns words (first q j) →
         AreTurns v q.proc.behavior.sites turns words c.done c.kept ports (first q j) sites →
-        AreRead v q.proc.behavior c.done c.kept ports begun.state begun.got (first q j) sites }
+        AreRead v q.proc.behavior c.done c.kept ports stage_entry.state stage_entry.got (first q j) sites }
     ensures gathered { (v : Values) (q : Pipeline) (channels : List Channel) (proc : Proc) → activation channels proc ≡ q.proc.behavior →
         (c : Registers) (ports : Ports) (j : ℕ) (words : ℕ → Word) (sites : List SiteNets) →
-        let begun = brought c j in
-        let turns = turns_by_words channels proc.nodes begun.state words in
-        let walk = walk_by circuit q.proc.behavior c.done c.kept ports begun.state begun.got (first q j) (length sites) in
-        begun.got ≡ gathered turns words (first q j) →
+        let stage_entry = brought c j in
+        let turns = turns_by_words channels proc.nodes stage_entry.state words in
+        let walk = walk_by circuit q.proc.behavior c.done c.kept ports stage_entry.state stage_entry.got (first q j) (length sites) in
+        stage_entry.got ≡ gathered turns words (first q j) →
         AreTurns v q.proc.behavior.sites turns words c.done c.kept ports (first q j) sites →
-        walk.waits ≡ None → walk.got ≡ gathered turns words (first q j + length sites) }
+        walk.stall ≡ None → walk.got ≡ gathered turns words (first q j + length sites) }
     ensures agree { (channels : List Channel) (proc : Proc) (s : Value) (words others : ℕ → Word) (i : ℕ) → ((k : ℕ) → k < i → words k ≡ others k) →
         gathered (turns_by_words channels proc.nodes s words) words i ≡ gathered (turns_by_words channels proc.nodes s others) others i }
 {}
@@ -137,16 +137,16 @@ pub fn the_layout_is_the_least_that_serves_all()
 /// The wires of a FIFO are its row's: whether a word is there, whether there is room, and what the count and the slots hold
 /// next.
 pub fn fifo_wires_are_the_rows()
-    ensures count { (v : Values) (fifo : FifoNets) (row : Row Word) (asked : Bool) (offered : Option Word) → IsFifo v fifo → FifoHeld v fifo row offered →
-        atom_value v fifo.asked ≡ bit asked → CountShown v fifo row asked offered }
-    ensures slots { (v : Values) (fifo : FifoNets) (row : Row Word) (asked : Bool) (offered : Option Word) → IsFifo v fifo → FifoHeld v fifo row offered →
-        atom_value v fifo.asked ≡ bit asked → (x : ℕ) → x < fifo.depth → v (slot_net fifo x) ≡ (row_after fifo.depth row asked offered).slot x }
+    ensures count { (v : Values) (fifo : FifoNets) (row : Row Word) (asserted : Bool) (valid_data : Option Word) → IsFifo v fifo → FifoHeld v fifo row valid_data →
+        atom_value v fifo.asserted ≡ bit asserted → CountShown v fifo row asserted valid_data }
+    ensures slots { (v : Values) (fifo : FifoNets) (row : Row Word) (asserted : Bool) (valid_data : Option Word) → IsFifo v fifo → FifoHeld v fifo row valid_data →
+        atom_value v fifo.asserted ≡ bit asserted → (x : ℕ) → x < fifo.depth → v (slot_net fifo x) ≡ (row_after fifo.depth row asserted valid_data).slot x }
 {}
 
 /// The wires of a channel's end say whether one of its sites is asked, and have the word of the last that is.
 pub fn ends_say_what_is_asked()
-    ensures some { (v : Values) (asks : List AskNets) (said : List AskSaid) (k : ℕ) (so_far : Atom) (t : Bool) → AreWired v k (some_wires k so_far asks) →
-        atom_value v so_far ≡ bit t → AreSaid v asks said → atom_value v (some_net k so_far asks) ≡ bit (some_asked t said) }
-    ensures word { (v : Values) (width : ℕ) (asks : List AskNets) (said : List AskSaid) (k : ℕ) (so_far : Atom) (w : Word) → AreWired v k (word_wires width k so_far asks) →
-        atom_value v so_far ≡ w → AreSaid v asks said → atom_value v (word_net k so_far asks) ≡ asked_word w said }
+    ensures some { (v : Values) (asserts : List RequestNets) (said : List RequestValues) (k : ℕ) (so_far : Atom) (t : Bool) → AreWired v k (some_wires k so_far asserts) →
+        atom_value v so_far ≡ bit t → RequestsAre v asserts said → atom_value v (some_net k so_far asserts) ≡ bit (some_asserted t said) }
+    ensures word { (v : Values) (width : ℕ) (asserts : List RequestNets) (said : List RequestValues) (k : ℕ) (so_far : Atom) (w : Word) → AreWired v k (word_wires width k so_far asserts) →
+        atom_value v so_far ≡ w → RequestsAre v asserts said → atom_value v (word_net k so_far asserts) ≡ asserted_word w said }
 {}

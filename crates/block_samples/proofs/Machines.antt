@@ -7,16 +7,16 @@ use Rattle.xb_bits.specs.Word.{Word}
 use Rattle.net_core.specs.declared.net.Site.{Site}
 use Rattle.block_stage.specs.Machine.Pipeline.{Pipeline, first, count_before}
 use Rattle.block_stage.specs.Machine.Cycle as cycle
-use Rattle.block_stage.specs.Machine.Cycle.{Circuit, Registers, Deed, Takes, Gives, stopped, brought, walk_by, if_full, moves_through, held_after, full_after, kept_after, asked_by, asked_through}
+use Rattle.block_stage.specs.Machine.Cycle.{Circuit, Registers, Transfer, Takes, Gives, stopped, brought, walk_by, if_full, moves_through, stage_regs_after, full_after, kept_after, asserted_by, asserted_through}
 use Rattle.block_stage.specs.Machine.Circuits.{stage_by}
 use Rattle.block_stage.specs.Machine.Logic.{at2, takes_at}
 use Rattle.block_stage.specs.declared.machine.table.Table2.{Table2}
-use Rattle.block_samples.specs.declared.machine.Asked.{Asked}
+use Rattle.block_samples.specs.declared.machine.Asserted.{Asserted}
 use Rattle.block_samples.specs.declared.machine.Walk.{Walk}
 use Rattle.block_samples.specs.declared.machine.Ports.{Ports}
 use Rattle.block_samples.specs.declared.sample.Sample.{Sample}
 use Rattle.block_samples.specs.Samples.{site_of, stage_at, behavior_of, pipeline_of, ports_of}
-use Rattle.block_samples.specs.Shows.{ShowsAsked, ShowsWalk, first_some, taken_at}
+use Rattle.block_samples.specs.Shows.{ShowsAsserted, ShowsWalk, first_some, taken_at}
 
 first_is : (sample : Sample) (opening : Word) (j : ℕ) → count_before (λ i. stage_at (slice_get sample.sites.now i)) j (length sample.sites.now) ≡ first (pipeline_of sample opening) j
 unfolding first
@@ -50,51 +50,51 @@ stage_idle x sample opening ports c j walk f shows =
     subst (λ t. ShowsWalk (map site_of sample.sites.now) walk (if_full t (first q j) (walk_by x (behavior_of sample) c.done c.kept (ports_of ports) b.state b.got (first q j) (first q (suc j) - first q j)))) (sym f)
     (shows (first q j))
 
-pub more_asked : (sites : List Site) (stage_of : ℕ → cycle.Walk) (stage left : ℕ) (asked : Asked) → (left ≡ 0 → ⊥)
-    → ShowsAsked sites asked (asked_by (stage_of stage) ++ asked_through stage_of (stage + 1) (left - 1)) → ShowsAsked sites asked (asked_through stage_of stage left)
-more_asked sites stage_of stage zero asked ne shows = absurd (ne refl)
-more_asked sites stage_of stage (suc n) asked ne shows =
+pub more_asserted : (sites : List Site) (stage_of : ℕ → cycle.Walk) (stage left : ℕ) (asserted : Asserted) → (left ≡ 0 → ⊥)
+    → ShowsAsserted sites asserted (asserted_by (stage_of stage) ++ asserted_through stage_of (stage + 1) (left - 1)) → ShowsAsserted sites asserted (asserted_through stage_of stage left)
+more_asserted sites stage_of stage zero asserted ne shows = absurd (ne refl)
+more_asserted sites stage_of stage (suc n) asserted ne shows =
     let one : stage + 1 ≡ suc stage = omega arith in
     let less : suc n - 1 ≡ n = omega arith in
-    subst (λ k. ShowsAsked sites asked (asked_by (stage_of stage) ++ asked_through stage_of (suc stage) k)) less
-    (subst (λ k. ShowsAsked sites asked (asked_by (stage_of stage) ++ asked_through stage_of k (suc n - 1))) one shows)
+    subst (λ k. ShowsAsserted sites asserted (asserted_by (stage_of stage) ++ asserted_through stage_of (suc stage) k)) less
+    (subst (λ k. ShowsAsserted sites asserted (asserted_by (stage_of stage) ++ asserted_through stage_of k (suc n - 1))) one shows)
 
-pub none_asked : (sites : List Site) (stage_of : ℕ → cycle.Walk) (stage left : ℕ) (asked : Asked) → left ≡ 0
-    → ShowsAsked sites asked [] → ShowsAsked sites asked (asked_through stage_of stage left)
-none_asked sites stage_of stage zero asked e shows = shows
-none_asked sites stage_of stage (suc n) asked e shows = absurd (omega (arith, e))
+pub none_asserted : (sites : List Site) (stage_of : ℕ → cycle.Walk) (stage left : ℕ) (asserted : Asserted) → left ≡ 0
+    → ShowsAsserted sites asserted [] → ShowsAsserted sites asserted (asserted_through stage_of stage left)
+none_asserted sites stage_of stage zero asserted e shows = shows
+none_asserted sites stage_of stage (suc n) asserted e shows = absurd (omega (arith, e))
 
 pub moves_more : (x : Circuit) (full : ℕ → Bool) (stage_of : ℕ → cycle.Walk) (behind stage : ℕ) → (behind ≡ 0 → ⊥)
     → moves_through x full stage_of behind stage
-    ≡ x.moves_on (full stage) (is_some (stage_of stage).waits) (full (stage + 1)) (moves_through x full stage_of (behind - 1) (stage + 1))
+    ≡ x.moves_on (full stage) (is_some (stage_of stage).stall) (full (stage + 1)) (moves_through x full stage_of (behind - 1) (stage + 1))
 moves_more x full stage_of zero stage ne = absurd (ne refl)
 moves_more x full stage_of (suc n) stage ne =
     let one : suc stage ≡ stage + 1 = omega arith in
     let less : n ≡ suc n - 1 = omega arith in
-    ap (λ k. x.moves_on (full stage) (is_some (stage_of stage).waits) (full k) (moves_through x full stage_of n k)) one
-    ∙ ap (λ k. x.moves_on (full stage) (is_some (stage_of stage).waits) (full (stage + 1)) (moves_through x full stage_of k (stage + 1))) less
+    ap (λ k. x.moves_on (full stage) (is_some (stage_of stage).stall) (full k) (moves_through x full stage_of n k)) one
+    ∙ ap (λ k. x.moves_on (full stage) (is_some (stage_of stage).stall) (full (stage + 1)) (moves_through x full stage_of k (stage + 1))) less
 
 pub moves_last : (x : Circuit) (full : ℕ → Bool) (stage_of : ℕ → cycle.Walk) (behind stage : ℕ) → behind ≡ 0
-    → moves_through x full stage_of behind stage ≡ x.leaves (full stage) (is_some (stage_of stage).waits)
+    → moves_through x full stage_of behind stage ≡ x.leaves (full stage) (is_some (stage_of stage).stall)
 moves_last x full stage_of zero stage e = refl
 moves_last x full stage_of (suc n) stage e = absurd (omega (arith, e))
 
 pub held_stays : (c : Registers) (stage_of : ℕ → cycle.Walk) (moves : ℕ → Bool) (stage : ℕ) → 0 < stage → moves (stage - 1) ≡ false
-    → held_after c stage_of moves stage ≡ c.held stage
+    → stage_regs_after c stage_of moves stage ≡ c.stage_regs stage
 held_stays c stage_of moves zero l e = absurd (omega (arith, l))
 held_stays c stage_of moves (suc j) l e =
     let less : suc j - 1 ≡ j = omega arith in
     let f = ap moves (sym less) ∙ e in rw f refl
 
 pub held_comes : (c : Registers) (stage_of : ℕ → cycle.Walk) (moves : ℕ → Bool) (stage : ℕ) → 0 < stage → moves (stage - 1) ≡ true
-    → held_after c stage_of moves stage ≡ record { state = (brought c (stage - 1)).state; got = (stage_of (stage - 1)).got }
+    → stage_regs_after c stage_of moves stage ≡ record { state = (brought c (stage - 1)).state; got = (stage_of (stage - 1)).got }
 held_comes c stage_of moves zero l e = absurd (omega (arith, l))
 held_comes c stage_of moves (suc j) l e =
     let less : j ≡ suc j - 1 = omega arith in
     let f = ap moves less ∙ e in
     (rw f refl) ∙ same j (suc j - 1) less
   where
-    same : (i k : ℕ) → i ≡ k → ◌≡◌ {A = cycle.Begun} (record { state = (brought c i).state; got = (stage_of i).got }) (record { state = (brought c k).state; got = (stage_of k).got })
+    same : (i k : ℕ) → i ≡ k → ◌≡◌ {A = cycle.StageEntry} (record { state = (brought c i).state; got = (stage_of i).got }) (record { state = (brought c k).state; got = (stage_of k).got })
     same i k e = ap (λ (n : ℕ). record { state = (brought c n).state; got = (stage_of n).got }) e
 
 pub full_past : (x : Circuit) (q : Pipeline) (c : Registers) (moves : ℕ → Bool) (stage : ℕ) → 0 < stage
@@ -105,31 +105,31 @@ full_past x q c moves (suc j) l =
     ap (λ k. x.full_next (moves k) (c.full (suc j)) (moves (suc j))) less
 
 -- the word that a receive keeps
-some_taken : (i : ℕ) (deeds : List Deed) → is_some (taken_at i deeds) ≡ list_any (takes_at i) deeds
+some_taken : (i : ℕ) (transfers : List Transfer) → is_some (taken_at i transfers) ≡ list_any (takes_at i) transfers
 some_taken i [] = refl
-some_taken i (Takes k w ∷ deeds) = go (eqb k i) (some_taken i deeds)
+some_taken i (Takes k w ∷ transfers) = go (eqb k i) (some_taken i transfers)
   where
-    go : (t : Bool) → is_some (taken_at i deeds) ≡ list_any (takes_at i) deeds → is_some (cond t (Some w) (taken_at i deeds)) ≡ (t || list_any (takes_at i) deeds)
+    go : (t : Bool) → is_some (taken_at i transfers) ≡ list_any (takes_at i) transfers → is_some (cond t (Some w) (taken_at i transfers)) ≡ (t || list_any (takes_at i) transfers)
     go true e = refl
     go false e = e
-some_taken i (Gives k w ∷ deeds) = some_taken i deeds
+some_taken i (Gives k w ∷ transfers) = some_taken i transfers
 
-kept_is : (kept : Word) (i : ℕ) (deeds : List Deed) → kept_after kept i deeds ≡ unwrap_or (taken_at i deeds) kept
+kept_is : (kept : Word) (i : ℕ) (transfers : List Transfer) → kept_after kept i transfers ≡ unwrap_or (taken_at i transfers) kept
 kept_is kept i [] = refl
-kept_is kept i (Takes k w ∷ deeds) = go (eqb k i) (kept_is kept i deeds)
+kept_is kept i (Takes k w ∷ transfers) = go (eqb k i) (kept_is kept i transfers)
   where
-    go : (t : Bool) → kept_after kept i deeds ≡ unwrap_or (taken_at i deeds) kept → cond t w (kept_after kept i deeds) ≡ unwrap_or (cond t (Some w) (taken_at i deeds)) kept
+    go : (t : Bool) → kept_after kept i transfers ≡ unwrap_or (taken_at i transfers) kept → cond t w (kept_after kept i transfers) ≡ unwrap_or (cond t (Some w) (taken_at i transfers)) kept
     go true e = refl
     go false e = e
-kept_is kept i (Gives k w ∷ deeds) = kept_is kept i deeds
+kept_is kept i (Gives k w ∷ transfers) = kept_is kept i transfers
 
-either_is : (took offer : Option Word) (kept : Word) → unwrap_or took (unwrap_or offer kept) ≡ unwrap_or (first_some took offer) kept
-either_is None offer kept = refl
-either_is (Some w) offer kept = refl
+either_is : (took valid_word : Option Word) (kept : Word) → unwrap_or took (unwrap_or valid_word kept) ≡ unwrap_or (first_some took valid_word) kept
+either_is None valid_word kept = refl
+either_is (Some w) valid_word kept = refl
 
-pub keep_is : (keeps : Table2) (kept : Word) (offer : Option Word) (i : ℕ) (deeds : List Deed)
-    → cond (at2 keeps (is_some (taken_at i deeds)) (is_some offer)) (unwrap_or (first_some (taken_at i deeds) offer) kept) kept
-    ≡ cond (at2 keeps (list_any (takes_at i) deeds) (is_some offer)) (kept_after (unwrap_or offer kept) i deeds) kept
-keep_is keeps kept offer i deeds =
-    ap (λ t. cond (at2 keeps t (is_some offer)) (unwrap_or (first_some (taken_at i deeds) offer) kept) kept) (some_taken i deeds)
-    ∙ ap (λ w. cond (at2 keeps (list_any (takes_at i) deeds) (is_some offer)) w kept) (sym (kept_is (unwrap_or offer kept) i deeds ∙ either_is (taken_at i deeds) offer kept))
+pub keep_is : (keeps : Table2) (kept : Word) (valid_word : Option Word) (i : ℕ) (transfers : List Transfer)
+    → cond (at2 keeps (is_some (taken_at i transfers)) (is_some valid_word)) (unwrap_or (first_some (taken_at i transfers) valid_word) kept) kept
+    ≡ cond (at2 keeps (list_any (takes_at i) transfers) (is_some valid_word)) (kept_after (unwrap_or valid_word kept) i transfers) kept
+keep_is keeps kept valid_word i transfers =
+    ap (λ t. cond (at2 keeps t (is_some valid_word)) (unwrap_or (first_some (taken_at i transfers) valid_word) kept) kept) (some_taken i transfers)
+    ∙ ap (λ w. cond (at2 keeps (list_any (takes_at i) transfers) (is_some valid_word)) w kept) (sym (kept_is (unwrap_or valid_word kept) i transfers ∙ either_is (taken_at i transfers) valid_word kept))

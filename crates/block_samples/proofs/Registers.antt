@@ -4,10 +4,10 @@ use Rattle.std.specs.Prelude.{◌==◌}
 use Rattle.xb_bits.specs.Word.{Word}
 use Rattle.xb_value.specs.declared.value.Value.TheViews.{outs-Bits}
 use Rattle.block_stage.specs.Machine.Cycle.{opened}
-use Rattle.block_samples.specs.declared.sample.Begun.{Begun}
+use Rattle.block_samples.specs.declared.sample.StageEntry.{StageEntry}
 use Rattle.block_samples.specs.declared.sample.Sample.{Sample}
 use Rattle.block_samples.specs.Samples.{bits_in, bits_of, pipeline_of, FitsMachine}
-use Rattle.block_samples.specs.Shows.{no_word, no_begun, ShowsBegun, ShowsMachine}
+use Rattle.block_samples.specs.Shows.{no_word, no_stage_entry, ShowsStageEntry, ShowsMachine}
 use Rattle.block_samples.proofs.Tables.{four, eq_apart}
 
 pub reset_shows : (sample : Sample) → FitsMachine sample → (state kept : Word) → kept ≡ no_word
@@ -16,7 +16,7 @@ pub reset_shows : (sample : Sample) → FitsMachine sample → (state kept : Wor
       full = true ∷ false ∷ false ∷ false ∷ [];
       done = false ∷ false ∷ false ∷ false ∷ [];
       state = state;
-      held = record { state = state; got = None } ∷ record { state = state; got = None } ∷ record { state = state; got = None } ∷ record { state = state; got = None } ∷ [];
+      stage_regs = record { state = state; got = None } ∷ record { state = state; got = None } ∷ record { state = state; got = None } ∷ record { state = state; got = None } ∷ [];
       kept = kept ∷ kept ∷ kept ∷ kept ∷ [];
     })
     (opened (pipeline_of sample state))
@@ -24,7 +24,7 @@ unfolding opened
 reset_shows sample small state kept e = record {
   full = λ j l. four (λ (i : ℕ) (b : Bool). b ≡ (i == 0)) true false false false false refl (apart 1 (omega arith)) (apart 2 (omega arith)) (apart 3 (omega arith)) j (let s = small.stages in omega arith);
   state = the_state;
-  held = λ j z l. four (λ (i : ℕ) (b : Begun). ShowsBegun b (record { state = (pipeline_of sample state).proc.opening; got = [] })) _ _ _ _ no_begun begins begins begins begins j (let s = small.stages in omega arith);
+  stage_regs = λ j z l. four (λ (i : ℕ) (b : StageEntry). ShowsStageEntry b (record { state = (pipeline_of sample state).proc.opening; got = [] })) _ _ _ _ no_stage_entry begins begins begins begins j (let s = small.stages in omega arith);
   done = λ i l. four (λ (k : ℕ) (b : Bool). b ≡ false) false false false false false refl refl refl refl i (let s = small.sites in omega arith);
   kept = λ i l. four (λ (k : ℕ) (w : Word). w ≡ no_word) kept kept kept kept no_word e e e e i (let s = small.sites in omega arith);
 }
@@ -35,5 +35,5 @@ reset_shows sample small state kept e = record {
     the_state : state ≡ bits_of (pipeline_of sample state).proc.opening
     the_state = sym (ap bits_in (outs-Bits state))
 
-    begins : ShowsBegun (record { state = state; got = None }) (record { state = (pipeline_of sample state).proc.opening; got = [] })
+    begins : ShowsStageEntry (record { state = state; got = None }) (record { state = (pipeline_of sample state).proc.opening; got = [] })
     begins = record { state = the_state; got = refl }

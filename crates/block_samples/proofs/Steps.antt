@@ -10,28 +10,28 @@ use Rattle.block_stage.specs.Machine.Logic.{turn_of}
 use Rattle.block_samples.specs.declared.machine.Machine.{Machine}
 use Rattle.block_samples.specs.declared.machine.Ports.{Ports}
 use Rattle.block_samples.specs.declared.machine.Walk.{Walk}
-use Rattle.block_samples.specs.declared.sample.Begun.{Begun}
+use Rattle.block_samples.specs.declared.sample.StageEntry.{StageEntry}
 use Rattle.block_samples.specs.declared.sample.Sample.{Sample}
 use Rattle.block_samples.specs.Samples.{last_word, site_of, behavior_of, ports_of, bits_of, turn_at}
 use Rattle.block_samples.specs.Shows.{Keeps, ShowsWalk, no_word, site_step}
 use Rattle.block_samples.proofs.Tables.{chan_is}
 
 -- a walk over one site and more, by what happens there
-pub unwinds : (x : Circuit) (sample : Sample) (machine : Machine) (ports : Ports) (begun : Begun) (done : ℕ → Bool) (kept : ℕ → Word) (s : Value) (got : List Word) (place left : ℕ) (step : Step)
-    → place + left ≤ length sample.sites.now → (left ≡ 0 → ⊥) → Keeps sample machine done kept → begun.state ≡ bits_of s → begun.got ≡ last_word got
-    → step ≡ site_step x sample ports begun (get_or machine.done place false) (get_or machine.kept place no_word) place
+pub unwinds : (x : Circuit) (sample : Sample) (machine : Machine) (ports : Ports) (stage_entry : StageEntry) (done : ℕ → Bool) (kept : ℕ → Word) (s : Value) (got : List Word) (place left : ℕ) (step : Step)
+    → place + left ≤ length sample.sites.now → (left ≡ 0 → ⊥) → Keeps sample machine done kept → stage_entry.state ≡ bits_of s → stage_entry.got ≡ last_word got
+    → step ≡ site_step x sample ports stage_entry (get_or machine.done place false) (get_or machine.kept place no_word) place
     → follow place got (λ got'. walk_by x (behavior_of sample) done kept (ports_of ports) s got' (place + 1) (left - 1)) step
     ≡ walk_by x (behavior_of sample) done kept (ports_of ports) s got place left
-unwinds x sample machine ports begun done kept s got place zero step l some keeps st g e = absurd (some refl)
-unwinds x sample machine ports begun done kept s got place (suc n) step l some keeps st g e =
+unwinds x sample machine ports stage_entry done kept s got place zero step l some keeps st g e = absurd (some refl)
+unwinds x sample machine ports stage_entry done kept s got place (suc n) step l some keeps st g e =
     let one : place + 1 ≡ suc place = omega arith in
     let less : suc n - 1 ≡ n = omega arith in
     ap (follow place got (λ got'. walk_by x (behavior_of sample) done kept (ports_of ports) s got' (place + 1) (suc n - 1)))
-    (e ∙ ap (λ (v : Word). site_of_turn v begun.got (get_or machine.done place false) (get_or machine.kept place no_word)) st
+    (e ∙ ap (λ (v : Word). site_of_turn v stage_entry.got (get_or machine.done place false) (get_or machine.kept place no_word)) st
     ∙ ap (λ v. site_of_turn (bits_of s) v (get_or machine.done place false) (get_or machine.kept place no_word)) g
     ∙ ap (λ v. site_of_turn (bits_of s) (last_word got) v (get_or machine.kept place no_word)) (keeps.is_done place (omega arith))
     ∙ ap (λ v. site_of_turn (bits_of s) (last_word got) (done place) v) (keeps.is_kept place (omega arith))
-    ∙ ap (λ c. x.step (turn_of (turn_at (slice_get sample.sites.now place) (bits_of s) (last_word got))) (done place) (kept place) ((ports_of ports).offer c) ((ports_of ports).room c)) (chan_is sample.sites.now place))
+    ∙ ap (λ c. x.step (turn_of (turn_at (slice_get sample.sites.now place) (bits_of s) (last_word got))) (done place) (kept place) ((ports_of ports).valid_word c) ((ports_of ports).room c)) (chan_is sample.sites.now place))
     ∙ ap (λ p. follow place got (λ got'. walk_by x (behavior_of sample) done kept (ports_of ports) s got' p (suc n - 1)) (step_at (chan_at (map site_of sample.sites.now) place))) one
     ∙ ap (λ p. follow place got (λ got'. walk_by x (behavior_of sample) done kept (ports_of ports) s got' (suc place) p) (step_at (chan_at (map site_of sample.sites.now) place))) less
   where
@@ -39,16 +39,16 @@ unwinds x sample machine ports begun done kept s got place (suc n) step l some k
     site_of_turn v g d k = site_step x sample ports (record { state = v; got = g }) d k place
 
     step_at : ℕ → Step
-    step_at c = x.step (turn_of (turn_at (slice_get sample.sites.now place) (bits_of s) (last_word got))) (done place) (kept place) ((ports_of ports).offer c) ((ports_of ports).room c)
+    step_at c = x.step (turn_of (turn_at (slice_get sample.sites.now place) (bits_of s) (last_word got))) (done place) (kept place) ((ports_of ports).valid_word c) ((ports_of ports).room c)
 
 -- so what shows the walk from what happens there on shows all of it
-pub shown : (x : Circuit) (sample : Sample) (machine : Machine) (ports : Ports) (begun : Begun) (done : ℕ → Bool) (kept : ℕ → Word) (s : Value) (got : List Word) (place left : ℕ) (step : Step)
-    → place + left ≤ length sample.sites.now → (left ≡ 0 → ⊥) → Keeps sample machine done kept → begun.state ≡ bits_of s → begun.got ≡ last_word got
-    → step ≡ site_step x sample ports begun (get_or machine.done place false) (get_or machine.kept place no_word) place → (walk : Walk)
+pub shown : (x : Circuit) (sample : Sample) (machine : Machine) (ports : Ports) (stage_entry : StageEntry) (done : ℕ → Bool) (kept : ℕ → Word) (s : Value) (got : List Word) (place left : ℕ) (step : Step)
+    → place + left ≤ length sample.sites.now → (left ≡ 0 → ⊥) → Keeps sample machine done kept → stage_entry.state ≡ bits_of s → stage_entry.got ≡ last_word got
+    → step ≡ site_step x sample ports stage_entry (get_or machine.done place false) (get_or machine.kept place no_word) place → (walk : Walk)
     → ShowsWalk (map site_of sample.sites.now) walk (follow place got (λ got'. walk_by x (behavior_of sample) done kept (ports_of ports) s got' (place + 1) (left - 1)) step)
     → ShowsWalk (map site_of sample.sites.now) walk (walk_by x (behavior_of sample) done kept (ports_of ports) s got place left)
-shown x sample machine ports begun done kept s got place left step l some keeps st g e walk shows =
-    subst (ShowsWalk (map site_of sample.sites.now) walk) (unwinds x sample machine ports begun done kept s got place left step l some keeps st g e) shows
+shown x sample machine ports stage_entry done kept s got place left step l some keeps st g e walk shows =
+    subst (ShowsWalk (map site_of sample.sites.now) walk) (unwinds x sample machine ports stage_entry done kept s got place left step l some keeps st g e) shows
 
 pub shown_end : (x : Circuit) (sample : Sample) (ports : Ports) (done : ℕ → Bool) (kept : ℕ → Word) (s : Value) (got : List Word) (place left : ℕ) → left ≡ 0 → (walk : Walk)
     → ShowsWalk (map site_of sample.sites.now) walk (stopped place got None)

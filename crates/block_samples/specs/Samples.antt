@@ -96,7 +96,7 @@ pipeline_of sample opening = record {
 
 -- what stands at its ports
 abbrev pub ports_of : Ports → cycle.Ports
-ports_of ports = record { offer = λ c. get_or ports.offer c None; room = λ c. get_or ports.room c false }
+ports_of ports = record { valid_word = λ c. get_or ports.valid_word c None; room = λ c. get_or ports.room c false }
 
 -- at most four sites and stages, each site and the end of the turn in one of the stages
 pub record FitsMachine (sample : Sample) : Type 0 where

@@ -8,11 +8,11 @@ use Rattle.net_core.specs.Cuts.{words_sent, count_received}
 use Rattle.block_stage.specs.declared.machine.logic.Step.{Step}
 use Rattle.block_stage.specs.declared.machine.logic.Step.TheVariants.{Pass, Recall, Take, Put, AwaitWord, AwaitRoom}
 use Rattle.block_stage.specs.Machine.Cycle as cycle
-use Rattle.block_stage.specs.Machine.Cycle.{Circuit, Registers, Deed, Takes, Gives, brought, is_at, asked_by}
-use Rattle.block_samples.specs.declared.machine.Asked.{Asked}
+use Rattle.block_stage.specs.Machine.Cycle.{Circuit, Registers, Transfer, Takes, Gives, brought, is_at, asserted_by}
+use Rattle.block_samples.specs.declared.machine.Asserted.{Asserted}
 use Rattle.block_samples.specs.declared.machine.Walk.{Walk}
 use Rattle.block_samples.specs.declared.machine.Machine.{Machine}
-use Rattle.block_samples.specs.declared.sample.Begun.{Begun}
+use Rattle.block_samples.specs.declared.sample.StageEntry.{StageEntry}
 use Rattle.block_samples.specs.declared.sample.Sample.{Sample}
 use Rattle.block_stage.specs.Machine.Logic.{turn_of}
 use Rattle.block_samples.specs.declared.machine.Ports.{Ports}
@@ -22,17 +22,17 @@ use Rattle.block_samples.specs.Samples.{bits_of, last_word, turn_at, chan_of, po
 abbrev pub no_word : Word
 no_word = word 1 0
 
-abbrev pub no_begun : Begun
-no_begun = record { state = no_word; got = None }
+abbrev pub no_stage_entry : StageEntry
+no_stage_entry = record { state = no_word; got = None }
 
 abbrev pub first_some : Option Word → Option Word → Option Word
 first_some None other = other
 first_some (Some w) other = Some w
 
 -- an activation
-pub record ShowsBegun (begun : Begun) (of : cycle.Begun) : Type 0 where
-  pub state : begun.state ≡ bits_of of.state
-  pub got : begun.got ≡ last_word of.got
+pub record ShowsStageEntry (stage_entry : StageEntry) (of : cycle.StageEntry) : Type 0 where
+  pub state : stage_entry.state ≡ bits_of of.state
+  pub got : stage_entry.got ≡ last_word of.got
 
 -- the last word received behind a site where this happens
 abbrev pub got_behind : Step → Option Word → Option Word
@@ -43,39 +43,39 @@ got_behind (Put w) got = got
 got_behind AwaitWord got = got
 got_behind (AwaitRoom w) got = got
 
--- the first word that is offered, if one is
+-- the first word that is valid, if one is
 abbrev pub first_of : List Word → Option Word
 first_of [] = None
 first_of (w ∷ ws) = Some w
 
 -- what is driven at each channel
-pub record ShowsAsked (sites : List Site) (asked : Asked) (events : List Event) : Type 0 where
-  pub ready : (c : ℕ) → c < 4 → get_or asked.ready c false ≡ not (count_received sites c events == 0)
-  pub words : (c : ℕ) → c < 4 → get_or asked.words c None ≡ first_of (words_sent sites c events)
-  pub ready_size : length asked.ready ≡ 4
-  pub words_size : length asked.words ≡ 4
+pub record ShowsAsserted (sites : List Site) (asserted : Asserted) (events : List Event) : Type 0 where
+  pub ready : (c : ℕ) → c < 4 → get_or asserted.ready c false ≡ not (count_received sites c events == 0)
+  pub words : (c : ℕ) → c < 4 → get_or asserted.words c None ≡ first_of (words_sent sites c events)
+  pub ready_size : length asserted.ready ≡ 4
+  pub words_size : length asserted.words ≡ 4
 
 -- the word that a receive of a place receives
-abbrev pub taken_at : ℕ → List Deed → Option Word
+abbrev pub taken_at : ℕ → List Transfer → Option Word
 taken_at i [] = None
-taken_at i (Takes k w ∷ deeds) = if k == i then Some w else taken_at i deeds
-taken_at i (Gives k w ∷ deeds) = taken_at i deeds
+taken_at i (Takes k w ∷ transfers) = if k == i then Some w else taken_at i transfers
+taken_at i (Gives k w ∷ transfers) = taken_at i transfers
 
 -- a walk
 pub record ShowsWalk (sites : List Site) (walk : Walk) (of : cycle.Walk) : Type 0 where
-  pub got : walk.begun.got ≡ last_word of.got
-  pub waits : walk.waits ≡ is_some of.waits
-  pub went : (i : ℕ) → i < 4 → get_or walk.went i false ≡ list_any (is_at i) of.deeds
-  pub took : (i : ℕ) → i < 4 → get_or walk.took i None ≡ taken_at i of.deeds
+  pub got : walk.stage_entry.got ≡ last_word of.got
+  pub stall : walk.stall ≡ is_some of.stall
+  pub went : (i : ℕ) → i < 4 → get_or walk.went i false ≡ list_any (is_at i) of.transfers
+  pub took : (i : ℕ) → i < 4 → get_or walk.took i None ≡ taken_at i of.transfers
   pub went_size : length walk.went ≡ 4
   pub took_size : length walk.took ≡ 4
-  pub asked : ShowsAsked sites walk.asked (asked_by of)
+  pub asserted : ShowsAsserted sites walk.asserted (asserted_by of)
 
 -- the registers, as far as they are in use
 pub record ShowsMachine (sample : Sample) (machine : Machine) (c : Registers) : Type 0 where
   pub full : (j : ℕ) → j < sample.stages → get_or machine.full j false ≡ c.full j
   pub state : machine.state ≡ bits_of c.state
-  pub held : (j : ℕ) → 0 < j → j < sample.stages → ShowsBegun (get_or machine.held j no_begun) (c.held j)
+  pub stage_regs : (j : ℕ) → 0 < j → j < sample.stages → ShowsStageEntry (get_or machine.stage_regs j no_stage_entry) (c.stage_regs j)
   pub done : (i : ℕ) → i < length sample.sites.now → get_or machine.done i false ≡ c.done i
   pub kept : (i : ℕ) → i < length sample.sites.now → get_or machine.kept i no_word ≡ c.kept i
 
@@ -85,7 +85,7 @@ pub record Keeps (sample : Sample) (machine : Machine) (done : ℕ → Bool) (ke
   pub is_kept : (i : ℕ) → i < length sample.sites.now → get_or machine.kept i no_word ≡ kept i
 
 -- what happens at the site of a place
-abbrev pub site_step : Circuit → Sample → Ports → Begun → Bool → Word → ℕ → Step
-site_step x sample ports begun done kept place =
+abbrev pub site_step : Circuit → Sample → Ports → StageEntry → Bool → Word → ℕ → Step
+site_step x sample ports stage_entry done kept place =
     let site = slice_get sample.sites.now place in
-    x.step (turn_of (turn_at site begun.state begun.got)) done kept ((ports_of ports).offer (chan_of site)) ((ports_of ports).room (chan_of site))
+    x.step (turn_of (turn_at site stage_entry.state stage_entry.got)) done kept ((ports_of ports).valid_word (chan_of site)) ((ports_of ports).room (chan_of site))

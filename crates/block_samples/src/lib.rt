@@ -5,5 +5,5 @@
 mod machine;
 mod sample;
 
-pub use machine::{Asked, Machine, Ports};
-pub use sample::{Action, Begun, Next, Sample, SampleSite, word};
+pub use machine::{Asserted, Machine, Ports};
+pub use sample::{Action, StageEntry, Next, Sample, SampleSite, word};

@@ -6,26 +6,26 @@ ghost use Rattle.net_core.specs.declared.event.Event.TheVariants.{Recv, Send};
 ghost use Rattle.net_core.specs.Behavior.{chan_at};
 ghost use Rattle.net_core.specs.declared.event.Event.{Event};
 ghost use Rattle.block_stage.specs.Machine.Cycle as cycle;
-ghost use Rattle.block_stage.specs.Machine.Cycle.{Registers, Takes, Gives, opened, brought, stopped, behind_deed, walk_by, moves_through, asked_through};
-ghost use Rattle.block_stage.specs.Machine.Circuits.{stage_by, moves_by, cycle_by, asks_by};
+ghost use Rattle.block_stage.specs.Machine.Cycle.{Registers, Takes, Gives, opened, brought, stopped, behind_transfer, walk_by, moves_through, asserted_through};
+ghost use Rattle.block_stage.specs.Machine.Circuits.{stage_by, moves_by, cycle_by, asserts_by};
 ghost use Rattle.block_stage.specs.Machine.Logic.{circuit_of, at2};
 ghost use Rattle.block_samples.specs.Samples.{bits_of, last_word, site_of, behavior_of, pipeline_of, ports_of, FitsMachine};
-ghost use Rattle.block_samples.specs.Shows.{no_word, no_begun, first_some, site_step, ShowsBegun, ShowsAsked, ShowsWalk, ShowsMachine, Keeps};
+ghost use Rattle.block_samples.specs.Shows.{no_word, no_stage_entry, first_some, site_step, ShowsStageEntry, ShowsAsserted, ShowsWalk, ShowsMachine, Keeps};
 
-use crate::sample::{Begun, Sample};
+use crate::sample::{StageEntry, Sample};
 use block_stage::machine::{Logic, Step};
 use xb_bits::Bits;
 
 /// What stands at the ports in a cycle, by channel.
 #[derive(Clone, Copy)]
 pub struct Ports {
-    pub offer: [Option<Bits>; 4],
+    pub valid_word: [Option<Bits>; 4],
     pub room: [bool; 4],
 }
 
 /// What a pipeline drives in a cycle, by channel: whether it asks for a word, and the word that it offers.
 #[derive(Clone, Copy)]
-pub struct Asked {
+pub struct Asserted {
     pub ready: [bool; 4],
     pub words: [Option<Bits>; 4],
 }
@@ -34,11 +34,11 @@ pub struct Asked {
 /// what it drives.
 #[derive(Clone, Copy)]
 struct Walk {
-    begun: Begun,
+    stage_entry: StageEntry,
     went: [bool; 4],
     took: [Option<Bits>; 4],
-    waits: bool,
-    asked: Asked,
+    stall: bool,
+    asserted: Asserted,
 }
 
 /// The registers of a sample's pipeline.
@@ -47,7 +47,7 @@ pub struct Machine {
     pub full: [bool; 4],
     pub done: [bool; 4],
     state: Bits,
-    held: [Begun; 4],
+    stage_regs: [StageEntry; 4],
     kept: [Bits; 4],
 }
 
@@ -69,11 +69,11 @@ fn set(flags: &mut [bool], i: usize)
     }
 }
 
-fn offer_at(offers: &[Option<Bits>], i: usize) -> Option<Bits>
+fn valid_word_at(offers: &[Option<Bits>], i: usize) -> Option<Bits>
     ensures { result ≡ get_or offers.now i None }
 {
     match offers.get(i) {
-        Some(offer) => *offer,
+        Some(valid_word) => *valid_word,
         None => None,
     }
 }
@@ -95,12 +95,12 @@ fn kept_at(kept: &[Bits], i: usize) -> Bits
     }
 }
 
-fn begun_at(held: &[Begun], i: usize) -> Begun
-    ensures { result ≡ get_or held.now i no_begun }
+fn stage_entry_at(stage_regs: &[StageEntry], i: usize) -> StageEntry
+    ensures { result ≡ get_or stage_regs.now i no_stage_entry }
 {
-    match held.get(i) {
-        Some(begun) => *begun,
-        None => Begun {
+    match stage_regs.get(i) {
+        Some(stage_entry) => *stage_entry,
+        None => StageEntry {
             state: Bits::new(1, 0),
             got: None,
         },
@@ -125,34 +125,34 @@ fn either(one: Option<Bits>, other: Option<Bits>) -> Option<Bits>
 }
 
 /// The word that a site keeps, by the one that it has, the one that it receives, and the one that is there.
-fn keep(logic: &Logic, kept: Bits, took: Option<Bits>, offer: Option<Bits>) -> Bits
-    ensures { result ≡ (if at2 logic.now.keeps (is_some took) (is_some offer) then unwrap_or (first_some took offer) kept else kept) }
+fn keep(logic: &Logic, kept: Bits, took: Option<Bits>, valid_word: Option<Bits>) -> Bits
+    ensures { result ≡ (if at2 logic.now.keeps (is_some took) (is_some valid_word) then unwrap_or (first_some took valid_word) kept else kept) }
 {
-    if !logic.keeps.at(took.is_some(), offer.is_some()) {
+    if !logic.keeps.at(took.is_some(), valid_word.is_some()) {
         return kept;
     }
-    match either(took, offer) {
+    match either(took, valid_word) {
         Some(word) => word,
         None => kept,
     }
 }
 
-impl Asked {
-    /// Nothing is asked.
-    pub fn nothing() -> Asked
-        ensures { (sites : List Site) → ShowsAsked sites result [] }
+impl Asserted {
+    /// Nothing is asserted.
+    pub fn nothing() -> Asserted
+        ensures { (sites : List Site) → ShowsAsserted sites result [] }
     {
-        Asked {
+        Asserted {
             ready: [false; 4],
             words: [None; 4],
         }
     }
 
     /// This, and what is asked further on.
-    fn and(self, other: Asked) -> Asked
-        ensures { (sites : List Site) (es fs : List Event) → ShowsAsked sites self es → ShowsAsked sites other fs → ShowsAsked sites result (es ++ fs) }
+    fn and(self, other: Asserted) -> Asserted
+        ensures { (sites : List Site) (es fs : List Event) → ShowsAsserted sites self es → ShowsAsserted sites other fs → ShowsAsserted sites result (es ++ fs) }
     {
-        Asked {
+        Asserted {
             ready: [
                 any_flag(&self.ready, &other.ready, 0),
                 any_flag(&self.ready, &other.ready, 1),
@@ -160,68 +160,68 @@ impl Asked {
                 any_flag(&self.ready, &other.ready, 3),
             ],
             words: [
-                either(offer_at(&self.words, 0), offer_at(&other.words, 0)),
-                either(offer_at(&self.words, 1), offer_at(&other.words, 1)),
-                either(offer_at(&self.words, 2), offer_at(&other.words, 2)),
-                either(offer_at(&self.words, 3), offer_at(&other.words, 3)),
+                either(valid_word_at(&self.words, 0), valid_word_at(&other.words, 0)),
+                either(valid_word_at(&self.words, 1), valid_word_at(&other.words, 1)),
+                either(valid_word_at(&self.words, 2), valid_word_at(&other.words, 2)),
+                either(valid_word_at(&self.words, 3), valid_word_at(&other.words, 3)),
             ],
         }
     }
 }
 
 impl Walk {
-    fn stopped(begun: Begun) -> Walk
-        ensures begun { result.begun ≡ begun }
-        ensures shows { (sites : List Site) (i : ℕ) (got : List Word) → begun.got ≡ last_word got → ShowsWalk sites result (stopped i got None) }
+    fn stopped(stage_entry: StageEntry) -> Walk
+        ensures stage_entry { result.stage_entry ≡ stage_entry }
+        ensures shows { (sites : List Site) (i : ℕ) (got : List Word) → stage_entry.got ≡ last_word got → ShowsWalk sites result (stopped i got None) }
     {
         Walk {
-            begun,
+            stage_entry,
             went: [false; 4],
             took: [None; 4],
-            waits: false,
-            asked: Asked::nothing(),
+            stall: false,
+            asserted: Asserted::nothing(),
         }
     }
 
     /// It asks for a word, and waits.
-    fn awaiting_word(begun: Begun, chan: usize) -> Walk
-        ensures begun { result.begun ≡ begun }
-        ensures shows { (sites : List Site) (i : ℕ) (got : List Word) → chan ≡ chan_at sites i → begun.got ≡ last_word got → ShowsWalk sites result (stopped i got (Some (Recv i))) }
+    fn awaiting_word(stage_entry: StageEntry, chan: usize) -> Walk
+        ensures stage_entry { result.stage_entry ≡ stage_entry }
+        ensures shows { (sites : List Site) (i : ℕ) (got : List Word) → chan ≡ chan_at sites i → stage_entry.got ≡ last_word got → ShowsWalk sites result (stopped i got (Some (Recv i))) }
     {
-        let mut walk = Walk::stopped(begun);
-        walk.waits = true;
-        set(&mut walk.asked.ready, chan);
+        let mut walk = Walk::stopped(stage_entry);
+        walk.stall = true;
+        set(&mut walk.asserted.ready, chan);
         walk
     }
 
     /// It offers this word, and waits.
-    fn awaiting_room(begun: Begun, chan: usize, word: Bits) -> Walk
-        ensures begun { result.begun ≡ begun }
-        ensures shows { (sites : List Site) (i : ℕ) (got : List Word) → chan ≡ chan_at sites i → begun.got ≡ last_word got → ShowsWalk sites result (stopped i got (Some (Send i word))) }
+    fn awaiting_room(stage_entry: StageEntry, chan: usize, word: Bits) -> Walk
+        ensures stage_entry { result.stage_entry ≡ stage_entry }
+        ensures shows { (sites : List Site) (i : ℕ) (got : List Word) → chan ≡ chan_at sites i → stage_entry.got ≡ last_word got → ShowsWalk sites result (stopped i got (Some (Send i word))) }
     {
-        let mut walk = Walk::stopped(begun);
-        walk.waits = true;
-        set_word(&mut walk.asked.words, chan, word);
+        let mut walk = Walk::stopped(stage_entry);
+        walk.stall = true;
+        set_word(&mut walk.asserted.words, chan, word);
         walk
     }
 
     /// The same, behind a word that is received at a place.
     fn take(&mut self, place: usize, chan: usize, word: Bits)
-        ensures begun { self.new.begun ≡ self.old.begun }
-        ensures shows { (sites : List Site) (of : cycle.Walk) → chan ≡ chan_at sites place → ShowsWalk sites self.old of → ShowsWalk sites self.new (behind_deed (Takes place word) of) }
+        ensures stage_entry { self.new.stage_entry ≡ self.old.stage_entry }
+        ensures shows { (sites : List Site) (of : cycle.Walk) → chan ≡ chan_at sites place → ShowsWalk sites self.old of → ShowsWalk sites self.new (behind_transfer (Takes place word) of) }
     {
         set(&mut self.went, place);
         set_word(&mut self.took, place, word);
-        set(&mut self.asked.ready, chan);
+        set(&mut self.asserted.ready, chan);
     }
 
     /// The same, behind one that is sent.
     fn give(&mut self, place: usize, chan: usize, word: Bits)
-        ensures begun { self.new.begun ≡ self.old.begun }
-        ensures shows { (sites : List Site) (of : cycle.Walk) → chan ≡ chan_at sites place → ShowsWalk sites self.old of → ShowsWalk sites self.new (behind_deed (Gives place word) of) }
+        ensures stage_entry { self.new.stage_entry ≡ self.old.stage_entry }
+        ensures shows { (sites : List Site) (of : cycle.Walk) → chan ≡ chan_at sites place → ShowsWalk sites self.old of → ShowsWalk sites self.new (behind_transfer (Gives place word) of) }
     {
         set(&mut self.went, place);
-        set_word(&mut self.asked.words, chan, word);
+        set_word(&mut self.asserted.words, chan, word);
     }
 }
 
@@ -230,31 +230,31 @@ impl Machine {
     pub fn reset(state: Bits) -> Machine
         ensures { (sample : Sample) → FitsMachine sample → ShowsMachine sample result (opened (pipeline_of sample state)) }
     {
-        let begun = Begun { state, got: None };
+        let stage_entry = StageEntry { state, got: None };
         Machine {
             full: [true, false, false, false],
             done: [false; 4],
             state,
-            held: [begun; 4],
+            stage_regs: [stage_entry; 4],
             kept: [Bits::new(1, 0); 4],
         }
     }
 
     /// One clock cycle by this logic: what it drives.
-    pub fn cycle(&mut self, logic: &Logic, sample: &Sample, ports: &Ports) -> Asked
+    pub fn cycle(&mut self, logic: &Logic, sample: &Sample, ports: &Ports) -> Asserted
         ensures registers { (opening : Word) (c : Registers) → FitsMachine sample.now → ShowsMachine sample.now self.old c → ShowsMachine sample.now self.new (cycle_by (circuit_of logic.now) (pipeline_of sample.now opening) c (ports_of ports.now)) }
-        ensures asked { (opening : Word) (c : Registers) → FitsMachine sample.now → ShowsMachine sample.now self.old c → ShowsAsked (map site_of sample.now.sites.now) result (asks_by (circuit_of logic.now) (pipeline_of sample.now opening) c (ports_of ports.now)) }
+        ensures asserted { (opening : Word) (c : Registers) → FitsMachine sample.now → ShowsMachine sample.now self.old c → ShowsAsserted (map site_of sample.now.sites.now) result (asserts_by (circuit_of logic.now) (pipeline_of sample.now opening) c (ports_of ports.now)) }
     {
-        let asked = self.asked(logic, sample, ports);
+        let asserted = self.asserted(logic, sample, ports);
         let next = Machine {
             full: self.next_full(logic, sample, ports),
             done: self.next_done(logic, sample, ports),
             state: self.next_state(logic, sample, ports),
-            held: self.next_held(logic, sample, ports),
+            stage_regs: self.next_stage_regs(logic, sample, ports),
             kept: self.next_kept(logic, sample, ports),
         };
         *self = next;
-        asked
+        asserted
     }
 
     /// What happens at a site to which an activation has come.
@@ -263,18 +263,18 @@ impl Machine {
         logic: &Logic,
         sample: &Sample,
         ports: &Ports,
-        begun: &Begun,
+        stage_entry: &StageEntry,
         place: usize,
     ) -> Step
-        ensures { result ≡ site_step (circuit_of logic.now) sample.now ports.now begun.now (get_or self.now.done place false) (get_or self.now.kept place no_word) place }
+        ensures { result ≡ site_step (circuit_of logic.now) sample.now ports.now stage_entry.now (get_or self.now.done place false) (get_or self.now.kept place no_word) place }
     {
-        let turn = sample.turn(begun, place);
+        let turn = sample.turn(stage_entry, place);
         let chan = sample.chan(place);
         logic.step(
             &turn,
             flag(&self.done, place),
             kept_at(&self.kept, place),
-            offer_at(&ports.offer, chan),
+            valid_word_at(&ports.valid_word, chan),
             flag(&ports.room, chan),
         )
     }
@@ -285,55 +285,55 @@ impl Machine {
         logic: &Logic,
         sample: &Sample,
         ports: &Ports,
-        begun: &Begun,
+        stage_entry: &StageEntry,
         place: usize,
         left: usize,
     ) -> Walk
         requires { place + left ≤ length sample.now.sites.now }
-        ensures state { result.begun.state ≡ begun.now.state }
-        ensures shows { (done : ℕ → Bool) (kept : ℕ → Word) (s : Value) (got : List Word) → Keeps sample.now self.now done kept → begun.now.state ≡ bits_of s → begun.now.got ≡ last_word got → ShowsWalk (map site_of sample.now.sites.now) result (walk_by (circuit_of logic.now) (behavior_of sample.now) done kept (ports_of ports.now) s got place left) }
+        ensures state { result.stage_entry.state ≡ stage_entry.now.state }
+        ensures shows { (done : ℕ → Bool) (kept : ℕ → Word) (s : Value) (got : List Word) → Keeps sample.now self.now done kept → stage_entry.now.state ≡ bits_of s → stage_entry.now.got ≡ last_word got → ShowsWalk (map site_of sample.now.sites.now) result (walk_by (circuit_of logic.now) (behavior_of sample.now) done kept (ports_of ports.now) s got place left) }
     {
         if left == 0 {
-            return Walk::stopped(*begun);
+            return Walk::stopped(*stage_entry);
         }
         let chan = sample.chan(place);
-        let step = self.step(logic, sample, ports, begun, place);
-        let then = begun.behind(&step);
+        let step = self.step(logic, sample, ports, stage_entry, place);
+        let then = stage_entry.behind(&step);
         let mut walk = self.walk(logic, sample, ports, &then, place + 1, left - 1);
         match step {
             Step::Pass => {}
             Step::Recall(_word) => {}
             Step::Take(word) => walk.take(place, chan, word),
             Step::Put(word) => walk.give(place, chan, word),
-            Step::AwaitWord => walk = Walk::awaiting_word(*begun, chan),
-            Step::AwaitRoom(word) => walk = Walk::awaiting_room(*begun, chan, word),
+            Step::AwaitWord => walk = Walk::awaiting_word(*stage_entry, chan),
+            Step::AwaitRoom(word) => walk = Walk::awaiting_room(*stage_entry, chan, word),
         }
         walk
     }
 
     /// What came into a stage.
-    fn brought(&self, stage: usize) -> Begun
-        ensures { (sample : Sample) (c : Registers) → ShowsMachine sample self.now c → stage < sample.stages → ShowsBegun result (brought c stage) }
+    fn brought(&self, stage: usize) -> StageEntry
+        ensures { (sample : Sample) (c : Registers) → ShowsMachine sample self.now c → stage < sample.stages → ShowsStageEntry result (brought c stage) }
     {
         if stage == 0 {
-            Begun {
+            StageEntry {
                 state: self.state,
                 got: None,
             }
         } else {
-            begun_at(&self.held, stage)
+            stage_entry_at(&self.stage_regs, stage)
         }
     }
 
     /// What a stage does.
     fn in_stage(&self, logic: &Logic, sample: &Sample, ports: &Ports, stage: usize) -> Walk
-        ensures state { (c : Registers) → ShowsMachine sample.now self.now c → stage < sample.now.stages → result.begun.state ≡ bits_of (brought c stage).state }
+        ensures state { (c : Registers) → ShowsMachine sample.now self.now c → stage < sample.now.stages → result.stage_entry.state ≡ bits_of (brought c stage).state }
         ensures shows { (opening : Word) (c : Registers) → FitsMachine sample.now → ShowsMachine sample.now self.now c → stage < sample.now.stages → ShowsWalk (map site_of sample.now.sites.now) result (stage_by (circuit_of logic.now) (pipeline_of sample.now opening) c (ports_of ports.now) stage) }
     {
-        let begun = self.brought(stage);
+        let stage_entry = self.brought(stage);
         if stage >= 4 || !flag(&self.full, stage) {
-            return Walk::stopped(Begun {
-                state: begun.state,
+            return Walk::stopped(StageEntry {
+                state: stage_entry.state,
                 got: None,
             });
         }
@@ -343,7 +343,7 @@ impl Machine {
             logic,
             sample,
             ports,
-            &begun,
+            &stage_entry,
             from,
             until.saturating_sub(from),
         )
@@ -362,13 +362,13 @@ impl Machine {
         ensures { (opening : Word) (c : Registers) → FitsMachine sample.now → ShowsMachine sample.now self.now c → stage + behind < sample.now.stages → result ≡ moves_through (circuit_of logic.now) c.full (stage_by (circuit_of logic.now) (pipeline_of sample.now opening) c (ports_of ports.now)) behind stage }
     {
         let full = flag(&self.full, stage);
-        let waits = self.in_stage(logic, sample, ports, stage).waits;
+        let stall = self.in_stage(logic, sample, ports, stage).stall;
         if behind == 0 {
-            return logic.leaves(full, waits);
+            return logic.leaves(full, stall);
         }
         let next_full = flag(&self.full, stage + 1);
         let next_moves = self.moves_before(logic, sample, ports, behind - 1, stage + 1);
-        logic.moves_on(full, waits, next_full, next_moves)
+        logic.moves_on(full, stall, next_full, next_moves)
     }
 
     /// Whether a stage's activation goes on.
@@ -383,32 +383,32 @@ impl Machine {
     }
 
     /// What so many stages ask, from one on.
-    fn asked_from(
+    fn asserted_from(
         &self,
         logic: &Logic,
         sample: &Sample,
         ports: &Ports,
         stage: usize,
         left: usize,
-    ) -> Asked
+    ) -> Asserted
         requires { stage + left ≤ 4 }
-        ensures { (opening : Word) (c : Registers) → FitsMachine sample.now → ShowsMachine sample.now self.now c → stage + left ≤ sample.now.stages → ShowsAsked (map site_of sample.now.sites.now) result (asked_through (stage_by (circuit_of logic.now) (pipeline_of sample.now opening) c (ports_of ports.now)) stage left) }
+        ensures { (opening : Word) (c : Registers) → FitsMachine sample.now → ShowsMachine sample.now self.now c → stage + left ≤ sample.now.stages → ShowsAsserted (map site_of sample.now.sites.now) result (asserted_through (stage_by (circuit_of logic.now) (pipeline_of sample.now opening) c (ports_of ports.now)) stage left) }
     {
         if left == 0 {
-            return Asked::nothing();
+            return Asserted::nothing();
         }
-        let here = self.in_stage(logic, sample, ports, stage).asked;
-        here.and(self.asked_from(logic, sample, ports, stage + 1, left - 1))
+        let here = self.in_stage(logic, sample, ports, stage).asserted;
+        here.and(self.asserted_from(logic, sample, ports, stage + 1, left - 1))
     }
 
     /// What all stages ask.
-    fn asked(&self, logic: &Logic, sample: &Sample, ports: &Ports) -> Asked
-        ensures { (opening : Word) (c : Registers) → FitsMachine sample.now → ShowsMachine sample.now self.now c → ShowsAsked (map site_of sample.now.sites.now) result (asks_by (circuit_of logic.now) (pipeline_of sample.now opening) c (ports_of ports.now)) }
+    fn asserted(&self, logic: &Logic, sample: &Sample, ports: &Ports) -> Asserted
+        ensures { (opening : Word) (c : Registers) → FitsMachine sample.now → ShowsMachine sample.now self.now c → ShowsAsserted (map site_of sample.now.sites.now) result (asserts_by (circuit_of logic.now) (pipeline_of sample.now opening) c (ports_of ports.now)) }
     {
         if sample.stages <= 4 {
-            self.asked_from(logic, sample, ports, 0, sample.stages)
+            self.asserted_from(logic, sample, ports, 0, sample.stages)
         } else {
-            Asked::nothing()
+            Asserted::nothing()
         }
     }
 
@@ -418,7 +418,7 @@ impl Machine {
     {
         if self.moves(logic, sample, ports, sample.last) {
             let walk = self.in_stage(logic, sample, ports, sample.last);
-            sample.next.state(&walk.begun)
+            sample.next.state(&walk.stage_entry)
         } else {
             self.state
         }
@@ -446,14 +446,14 @@ impl Machine {
     }
 
     /// What comes into a stage past 0, or stays there.
-    fn comes_in(&self, logic: &Logic, sample: &Sample, ports: &Ports, stage: usize) -> Begun
+    fn comes_in(&self, logic: &Logic, sample: &Sample, ports: &Ports, stage: usize) -> StageEntry
         requires { 0 < stage }
-        ensures { (opening : Word) (c : Registers) → FitsMachine sample.now → ShowsMachine sample.now self.now c → stage < sample.now.stages → ShowsBegun result ((cycle_by (circuit_of logic.now) (pipeline_of sample.now opening) c (ports_of ports.now)).held stage) }
+        ensures { (opening : Word) (c : Registers) → FitsMachine sample.now → ShowsMachine sample.now self.now c → stage < sample.now.stages → ShowsStageEntry result ((cycle_by (circuit_of logic.now) (pipeline_of sample.now opening) c (ports_of ports.now)).stage_regs stage) }
     {
         if self.moves(logic, sample, ports, stage - 1) {
-            self.in_stage(logic, sample, ports, stage - 1).begun
+            self.in_stage(logic, sample, ports, stage - 1).stage_entry
         } else {
-            begun_at(&self.held, stage)
+            stage_entry_at(&self.stage_regs, stage)
         }
     }
 
@@ -472,9 +472,9 @@ impl Machine {
         ensures { (opening : Word) (c : Registers) → FitsMachine sample.now → ShowsMachine sample.now self.now c → place < length sample.now.sites.now → result ≡ (cycle_by (circuit_of logic.now) (pipeline_of sample.now opening) c (ports_of ports.now)).kept place }
     {
         let kept = kept_at(&self.kept, place);
-        let offer = offer_at(&ports.offer, sample.chan(place));
+        let valid_word = valid_word_at(&ports.valid_word, sample.chan(place));
         let walk = self.in_stage(logic, sample, ports, sample.stage(place));
-        keep(logic, kept, offer_at(&walk.took, place), offer)
+        keep(logic, kept, valid_word_at(&walk.took, place), valid_word)
     }
 
     fn next_full(&self, logic: &Logic, sample: &Sample, ports: &Ports) -> [bool; 4]
@@ -488,11 +488,11 @@ impl Machine {
         ]
     }
 
-    fn next_held(&self, logic: &Logic, sample: &Sample, ports: &Ports) -> [Begun; 4]
-        ensures { (opening : Word) (c : Registers) → FitsMachine sample.now → ShowsMachine sample.now self.now c → (j : ℕ) → 0 < j → j < sample.now.stages → ShowsBegun (get_or result j no_begun) ((cycle_by (circuit_of logic.now) (pipeline_of sample.now opening) c (ports_of ports.now)).held j) }
+    fn next_stage_regs(&self, logic: &Logic, sample: &Sample, ports: &Ports) -> [StageEntry; 4]
+        ensures { (opening : Word) (c : Registers) → FitsMachine sample.now → ShowsMachine sample.now self.now c → (j : ℕ) → 0 < j → j < sample.now.stages → ShowsStageEntry (get_or result j no_stage_entry) ((cycle_by (circuit_of logic.now) (pipeline_of sample.now opening) c (ports_of ports.now)).stage_regs j) }
     {
         [
-            begun_at(&self.held, 0),
+            stage_entry_at(&self.stage_regs, 0),
             self.comes_in(logic, sample, ports, 1),
             self.comes_in(logic, sample, ports, 2),
             self.comes_in(logic, sample, ports, 3),

@@ -23,7 +23,7 @@ fn sum(word: Bits, more: u128) -> Bits
 
 /// An activation: the state in which it began, and the last word that it received.
 #[derive(Clone, Copy)]
-pub struct Begun {
+pub struct StageEntry {
     pub state: Bits,
     pub got: Option<Bits>,
 }
@@ -66,14 +66,14 @@ pub struct Sample<'a> {
     pub next: Next,
 }
 
-impl Begun {
+impl StageEntry {
     /// The same activation behind a site where this happens.
-    pub fn behind(&self, step: &Step) -> Begun
+    pub fn behind(&self, step: &Step) -> StageEntry
         ensures state { result.state ≡ self.now.state }
         ensures got { result.got ≡ got_behind step.now self.now.got }
     {
         match step {
-            Step::Recall(word) | Step::Take(word) => Begun {
+            Step::Recall(word) | Step::Take(word) => StageEntry {
                 state: self.state,
                 got: Some(*word),
             },
@@ -119,11 +119,11 @@ impl Sample<'_> {
     }
 
     /// What an activation does at the site of a place.
-    pub fn turn(&self, begun: &Begun, place: usize) -> SiteTurn
-        ensures { result ≡ turn_at (slice_get self.now.sites.now place) begun.now.state begun.now.got }
+    pub fn turn(&self, stage_entry: &StageEntry, place: usize) -> SiteTurn
+        ensures { result ≡ turn_at (slice_get self.now.sites.now place) stage_entry.now.state stage_entry.now.got }
     {
         match self.sites.get(place) {
-            Some(site) => site.action.turn(begun),
+            Some(site) => site.action.turn(stage_entry),
             None => SiteTurn::Skip,
         }
     }
@@ -141,15 +141,15 @@ impl Sample<'_> {
 
 impl Action {
     /// What an activation does at a site of this kind.
-    pub fn turn(&self, begun: &Begun) -> SiteTurn
-        ensures { result ≡ turn_by self.now begun.now.state begun.now.got }
+    pub fn turn(&self, stage_entry: &StageEntry) -> SiteTurn
+        ensures { result ≡ turn_by self.now stage_entry.now.state stage_entry.now.got }
     {
         match self {
             Action::Receive => SiteTurn::Receive,
-            Action::SendState(more) => SiteTurn::Give(sum(begun.state, *more)),
-            Action::SendWord(more) => SiteTurn::Give(sum(begun.last(), *more)),
+            Action::SendState(more) => SiteTurn::Give(sum(stage_entry.state, *more)),
+            Action::SendWord(more) => SiteTurn::Give(sum(stage_entry.last(), *more)),
             Action::ReceiveIfOdd => {
-                if begun.state.value() % 2 == 1 {
+                if stage_entry.state.value() % 2 == 1 {
                     SiteTurn::Receive
                 } else {
                     SiteTurn::Skip
@@ -161,12 +161,12 @@ impl Action {
 
 impl Next {
     /// The state after this activation.
-    pub fn state(&self, begun: &Begun) -> Bits
-        ensures { result ≡ next_by self.now begun.now.state begun.now.got }
+    pub fn state(&self, stage_entry: &StageEntry) -> Bits
+        ensures { result ≡ next_by self.now stage_entry.now.state stage_entry.now.got }
     {
         match self {
-            Next::Add(more) => sum(begun.state, *more),
-            Next::Word => begun.last(),
+            Next::Add(more) => sum(stage_entry.state, *more),
+            Next::Word => stage_entry.last(),
         }
     }
 }

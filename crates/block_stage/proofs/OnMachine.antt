@@ -12,7 +12,7 @@ pub mod Standing
 pub mod Steps
 pub mod Prefixes
 pub mod Offers
-pub mod Asks
+pub mod Asserts
 pub mod Offered
 pub mod Meeting
 pub mod Exact

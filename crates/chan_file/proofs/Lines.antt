@@ -6,7 +6,7 @@ use Rattle.net_core.specs.WellFormed.{IsNet}
 use Rattle.xb_bits.specs.Word.{Word}
 use Rattle.base.specs.Lists.Indexed.{indexed}
 use Rattle.base.proofs.Lemmas.Lists.Indexed.{length-indexed}
-use Rattle.base.specs.Texts.Lines.{lines_of, placed}
+use Rattle.base.specs.Texts.Lines.{lines_of, positioned}
 use Rattle.base.proofs.Lemmas.Texts.Lines.{EndWithin}
 use Rattle.net_core.specs.declared.net.Net.{Net}
 use Rattle.net_core.specs.declared.net.Chan.{Chan}
@@ -148,7 +148,7 @@ so_far_word net all rest next end at line c w named words more s e says room pus
 -- ---- what the whole file says
 
 pub reads_fault : (net : Net) (text : List ℕ) (rest next : List (ℕ × List ℕ)) (end at : ℕ) (line : List ℕ) (cause : Cause) (named : Named) (words : List (List Word))
-    → (s : IsSoFar net (placed 0 (lines_of text)) rest end named words) → rest ≡ (at, line) ∷ next → SaysLine net s.before line (Fault cause) → Reads net text (Err (cause, at))
+    → (s : IsSoFar net (positioned 0 (lines_of text)) rest end named words) → rest ≡ (at, line) ∷ next → SaysLine net s.before line (Fault cause) → Reads net text (Err (cause, at))
 reads_fault net text rest next end at line cause named words s e says = record {
   words = Err (cause, at);
   says = s.goes (Err (cause, at)) (subst (λ ls. SaysLines net s.before ls (Err (cause, at))) (sym e) (at_fault s.before at line next cause says));
@@ -156,7 +156,7 @@ reads_fault net text rest next end at line cause named words s e says = record {
 }
 
 pub reads_all : (net : Net) (text : List ℕ) (rest : List (ℕ × List ℕ)) (end : ℕ) (named : Named) (words : List (List Word))
-    → IsSoFar net (placed 0 (lines_of text)) rest end named words → rest ≡ [] → Reads net text (Ok (record { words = words }))
+    → IsSoFar net (positioned 0 (lines_of text)) rest end named words → rest ≡ [] → Reads net text (Ok (record { words = words }))
 reads_all net text rest end named words s e = record {
   words = Ok (s.done ++ []);
   says = s.goes (Ok []) (subst (λ ls. SaysLines net s.before ls (Ok [])) (sym e) (at_end s.before));

@@ -4,7 +4,7 @@
 -- next such line, is one of its words. The first line at fault is named.
 use Rattle.std.specs.Prelude.{◌≡◌, ◌==◌, ◌&&◌, ℕ, suc, Bool, true, false, List, [], ◌∷◌, bytes_eq, slice_get, Option, Some, None, Result, Ok, Err, if◌then◌else◌}
 use Rattle.std.specs.List.{list_any}
-use Rattle.base.specs.Texts.Lines.{lines_of, placed}
+use Rattle.base.specs.Texts.Lines.{lines_of, positioned}
 use Rattle.base.specs.Lists.Indexed.{indexed}
 use Rattle.xb_bits.specs.Word.{Word}
 use Rattle.xb_value.specs.declared.token.Token.{Token}
@@ -112,7 +112,7 @@ with_inputs net (Err e) = Err e
 -- the text says these inputs, or its first line at fault has this cause and begins at this place
 pub record Reads (net : Net) (text : List ℕ) (r : Result Inputs (Cause × ℕ)) : Type 0 where
   pub words : Words
-  pub says : SaysLines net [] (placed 0 (lines_of text)) words
+  pub says : SaysLines net [] (positioned 0 (lines_of text)) words
   pub is : r ≡ with_inputs net words
 
 -- why a text is refused

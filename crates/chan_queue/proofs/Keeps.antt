@@ -11,7 +11,7 @@ use Rattle.chan_queue.specs.Stream.{Stream}
 use Rattle.chan_queue.specs.declared.view.View.{View}
 use Rattle.chan_queue.specs.declared.item.Item.{Item}
 use Rattle.chan_queue.specs.declared.item.Item.TheVariants as item
-use Rattle.chan_queue.specs.Channel.{Standing, KnowsSending, KnowsReceiving, IsOpening, Lies, IsChannel, unopened, opened, sending, receiving, both, spent, between, MaySend, MayReceive, IsTold}
+use Rattle.chan_queue.specs.Channel.{ChannelState, KnowsSending, KnowsReceiving, IsOpening, Lies, IsChannel, unopened, opened, sending, receiving, both, spent, between, MaySend, MayReceive, IsTold}
 use Rattle.chan_queue.specs.Steps.{IsItemOf, Sends}
 use Rattle.chan_queue.proofs.Lies.{none_lie, count_lies, lies_sent, IsFirst, first_lies}
 
@@ -31,16 +31,16 @@ all_set F views pass w mine others j u e = ⊎_elim (λ (x : (j ≡ pass) × (w 
 all_one : (F : ℕ → View → Type 0) (a : View) → F 0 a → All F (a ∷ [])
 all_one F a mine = all_set F (a ∷ []) 0 a mine (λ j u other e. absurd (other (at_end [] _ u j (λ x. some-ne-none u (sym x)) e)))
 
-abbrev Sender : Standing → ℕ → View → Type 0
+abbrev Sender : ChannelState → ℕ → View → Type 0
 Sender at pass v = v.sends ≡ true → KnowsSending at pass v
 
-abbrev Receiver : Standing → ℕ → View → Type 0
+abbrev Receiver : ChannelState → ℕ → View → Type 0
 Receiver at pass v = v.receives ≡ true → KnowsReceiving at pass v
 
 module _ {S : Type 0} where
   pub begins : IsChannel {S = S} [] (unopened ∷ [])
   begins =
-      let at : Standing = record { words = []; limit = 0; depth = 0; opens = false; sent = 0; received = 0; sender = 0; receiver = 0 } in
+      let at : ChannelState = record { words = []; limit = 0; depth = 0; opens = false; sent = 0; received = 0; sender = 0; receiver = 0 } in
       record {
         at = at;
         lies = refl;
@@ -82,7 +82,7 @@ module _ {S : Type 0} where
       let shut : h.at.opens ≡ false = sym mine.opens ∙ ap (λ (u : View). u.opens) fresh in
       let none : h.at.sent ≡ 0 = sym mine.sent ∙ ap (λ (u : View). u.sent) fresh in
       let empty = lies_words h.at.opens h.at.words h.at.received h.at.sent items shut h.lies ∙ none_lie S h.at.words h.at.received h.at.sent none in
-      let now : Standing = record { words = stream.words; limit = stream.received; depth = depth; opens = true; sent = 0; received = 0; sender = pass; receiver = pass } in
+      let now : ChannelState = record { words = stream.words; limit = stream.received; depth = depth; opens = true; sent = 0; received = 0; sender = pass; receiver = pass } in
       let w : View = opened stream depth in (
         w,
         record {
@@ -115,7 +115,7 @@ module _ {S : Type 0} where
       let theirs = h.receiver pass v at receives in
       let here = lies_opening h.at.opens h.at.words h.at.received h.at.sent (x ∷ items) (sym mine.opens ∙ open_now) h.lies in
       let empty : items ≡ [] = (let e = here.1 in cc) in
-      let now : Standing = record h.at { opens = false } in
+      let now : ChannelState = record h.at { opens = false } in
       let w : View = record v { opens = false } in (
         w,
         record {
@@ -159,7 +159,7 @@ module _ {S : Type 0} where
       go here count all (inl next) =
           let mine = h.sender pass v at sends in
           let there : slice_get h.at.words h.at.sent ≡ Some word = ap (λ ws. slice_get ws h.at.sent) (sym mine.words) ∙ (ap (λ k. slice_get v.words k) (sym mine.sent) ∙ next) in
-          let now : Standing = record h.at { sent = suc h.at.sent } in
+          let now : ChannelState = record h.at { sent = suc h.at.sent } in
           let w : View = record v { sent = suc v.sent } in
           let lies = ap (λ (xs : List (Item S)). xs ++ item.Word word ∷ []) here ∙ sym (lies_sent S h.at.words h.at.received h.at.sent word h.received there) in (
             w,
@@ -203,7 +203,7 @@ module _ {S : Type 0} where
           absurd (omega (arith, first.within, all.0, all.1, mine.received, mine.limit, ap length mine.words, h.sent))
       go (inl more) =
           let mine = h.receiver pass v at receives in
-          let now : Standing = record h.at { received = suc h.at.received } in
+          let now : ChannelState = record h.at { received = suc h.at.received } in
           let w : View = record v { received = suc v.received } in (
             w,
             record {
@@ -238,7 +238,7 @@ module _ {S : Type 0} where
       let left : View = sending v in
       let right : View = receiving v in
       let vs : List View = set views pass left in
-      let now : Standing = record h.at { receiver = length vs } in
+      let now : ChannelState = record h.at { receiver = length vs } in
       let NoReceiver : ℕ → View → Type 0 = λ j u. u.receives ≢ true in
       let none : All NoReceiver vs = all_set NoReceiver views pass left (λ p. true≢false (sym p)) (λ j u other e t. one_receiver items views h pass v at receives j u other e t) in
       let old : All (Sender now) vs = all_set (Sender now) views pass left (λ _. record { only = mine.only; opens = mine.opens; words = mine.words; limit = mine.limit; depth = mine.depth; sent = mine.sent; told = omega (arith, theirs.received) })
@@ -264,7 +264,7 @@ module _ {S : Type 0} where
       let vs : List View = set views pass (both v u) in
       let was : get_elem? views other ≡ some u = ⊎_elim (λ x. absurd (two x.0)) (λ x. x.1) (at_set views pass other (both v u) u at') in
       let theirs = h.receiver other u was receives in
-      let now : Standing = record h.at { receiver = pass } in
+      let now : ChannelState = record h.at { receiver = pass } in
       let Send : ℕ → View → Type 0 = λ j y. j ≢ other → Sender now j y in
       let Receive : ℕ → View → Type 0 = λ j y. j ≢ other → Receiver now j y in
       let senders : All Send vs = all_set Send views pass (both v u) (λ _ _. record { only = mine.only; opens = mine.opens; words = mine.words; limit = mine.limit; depth = mine.depth; sent = mine.sent; told = mine.told })

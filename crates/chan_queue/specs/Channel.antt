@@ -10,7 +10,7 @@ use Rattle.chan_queue.specs.declared.item.Item.TheVariants as item
 
 -- a channel at a moment: its stream and depth, whether its opening lies in the queue, how many words were sent and
 -- received, and the numbers of the passes that may send and receive
-pub record Standing : Type 0 where
+pub record ChannelState : Type 0 where
   pub words : List Word
   pub limit : ℕ
   pub depth : ℕ
@@ -21,7 +21,7 @@ pub record Standing : Type 0 where
   pub receiver : ℕ
 
 -- what the sender's pass knows
-pub record KnowsSending (at : Standing) (pass : ℕ) (v : View) : Type 0 where
+pub record KnowsSending (at : ChannelState) (pass : ℕ) (v : View) : Type 0 where
   pub only : pass ≡ at.sender
   pub opens : v.opens ≡ at.opens
   pub words : v.words ≡ at.words
@@ -31,7 +31,7 @@ pub record KnowsSending (at : Standing) (pass : ℕ) (v : View) : Type 0 where
   pub told : v.told_received ≤ at.received
 
 -- what the receiver's pass knows
-pub record KnowsReceiving (at : Standing) (pass : ℕ) (v : View) : Type 0 where
+pub record KnowsReceiving (at : ChannelState) (pass : ℕ) (v : View) : Type 0 where
   pub only : pass ≡ at.receiver
   pub opens : v.opens ≡ at.opens
   pub words : v.words ≡ at.words
@@ -55,7 +55,7 @@ module _ {S : Type 0} where
 
   -- the rule of a channel
   pub record IsChannel (items : List (Item S)) (views : List View) : Type 0 where
-    pub at : Standing
+    pub at : ChannelState
     pub lies : Lies at.opens at.words at.received at.sent items
     -- only what was sent is received, the stream is all that is sent, and no more is received than in the end
     pub received : at.received ≤ at.sent

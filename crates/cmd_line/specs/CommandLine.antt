@@ -104,8 +104,8 @@ xls = with_subcommand (with_subcommand (with_subcommand (with_subcommand (with_s
 abbrev pub number_in : ℕ → ℕ → Text → Option ℕ
 number_in least most text = if is_unsigned_in least most text then Some (digits_value 10 (without_leading_plus text)) else None
 
-abbrev pub said_by_check : List Row → Option (Check Text)
-said_by_check rows = option_map (λ design. record { design = design }) (first_of (codes "design") rows)
+abbrev pub check_arguments : List Row → Option (Check Text)
+check_arguments rows = option_map (λ design. record { design = design }) (first_of (codes "design") rows)
 
 -- the number of workers: 1 where no word says it
 abbrev pub workers_in : Option Text → Option ℕ
@@ -125,19 +125,19 @@ source_in (Some text) =
     else if bytes_eq text (codes "ir") then Some Ir
     else None
 
-abbrev pub said_of_how : List Row → Option How
-said_of_how rows =
+abbrev pub how_arguments : List Row → Option How
+how_arguments rows =
     option_and_then (λ n. option_and_then (λ w. option_and_then (λ d. option_map (λ f. record { activations = n; workers = w; depth = d; source = f })
     (source_in (first_of (codes "from") rows))) (depth_in (first_of (codes "depth") rows))) (workers_in (first_of (codes "workers") rows)))
     (option_and_then (number_in 1 1048576) (first_of (codes "activations") rows))
 
-abbrev pub said_by_run : List Row → Option (Run Text)
-said_by_run rows =
+abbrev pub run_arguments : List Row → Option (Run Text)
+run_arguments rows =
     option_and_then (λ design. option_and_then (λ inputs. option_map (λ how. record { design = design; inputs = inputs; how = how })
-    (said_of_how rows)) (first_of (codes "inputs") rows)) (first_of (codes "design") rows)
+    (how_arguments rows)) (first_of (codes "inputs") rows)) (first_of (codes "design") rows)
 
-abbrev pub said_by_sim : List Row → Option (Sim Text)
-said_by_sim rows =
+abbrev pub sim_arguments : List Row → Option (Sim Text)
+sim_arguments rows =
     option_and_then (λ design. option_map (λ inputs. record { design = design; rows = inputs }) (first_of (codes "rows") rows)) (first_of (codes "design") rows)
 
 -- how many stages or cycles there may be: 64 where no word says it
@@ -145,36 +145,36 @@ abbrev pub most_in : Option Text → Option ℕ
 most_in None = Some 64
 most_in (Some text) = number_in 1 64 text
 
-abbrev pub said_of_timing : List Row → Option Timing
-said_of_timing rows =
+abbrev pub timing_arguments : List Row → Option Timing
+timing_arguments rows =
     option_and_then (λ c. option_and_then (λ s. option_map (λ i. record { clock = c; stages = s; interval = i })
     (most_in (first_of (codes "ii") rows))) (most_in (first_of (codes "stages") rows)))
     (option_and_then (number_in 1 1000000) (first_of (codes "clock") rows))
 
-abbrev pub said_by_schedule : List Row → Option (Schedule Text)
-said_by_schedule rows =
+abbrev pub schedule_arguments : List Row → Option (Schedule Text)
+schedule_arguments rows =
     option_and_then (λ design. option_and_then (λ timing. option_map (λ source. record { design = design; timing = timing; source = source })
-    (source_in (first_of (codes "from") rows))) (said_of_timing rows)) (first_of (codes "design") rows)
+    (source_in (first_of (codes "from") rows))) (timing_arguments rows)) (first_of (codes "design") rows)
 
-abbrev pub said_by_opt : List Row → Option (Opt Text)
-said_by_opt rows =
+abbrev pub opt_arguments : List Row → Option (Opt Text)
+opt_arguments rows =
     option_and_then (λ design. option_map (λ source. record { design = design; source = source }) (source_in (first_of (codes "from") rows))) (first_of (codes "design") rows)
 
 -- what the matches of a subcommand say
-abbrev pub said_by_subcommand : Text × List Row → Option (Request Text)
-said_by_subcommand found =
-    if bytes_eq found.0 (codes "check") then option_map request.Check (said_by_check found.1)
-    else if bytes_eq found.0 (codes "run") then option_map request.Run (said_by_run found.1)
-    else if bytes_eq found.0 (codes "sim") then option_map request.Sim (said_by_sim found.1)
-    else if bytes_eq found.0 (codes "schedule") then option_map request.Schedule (said_by_schedule found.1)
-    else if bytes_eq found.0 (codes "opt") then option_map request.Opt (said_by_opt found.1)
+abbrev pub subcommand_arguments : Text × List Row → Option (Request Text)
+subcommand_arguments found =
+    if bytes_eq found.0 (codes "check") then option_map request.Check (check_arguments found.1)
+    else if bytes_eq found.0 (codes "run") then option_map request.Run (run_arguments found.1)
+    else if bytes_eq found.0 (codes "sim") then option_map request.Sim (sim_arguments found.1)
+    else if bytes_eq found.0 (codes "schedule") then option_map request.Schedule (schedule_arguments found.1)
+    else if bytes_eq found.0 (codes "opt") then option_map request.Opt (opt_arguments found.1)
     else None
 
 -- where `clap` finds no fault in the words, what the matches of their subcommand say
-abbrev pub said_where : Kinds → Option (Text × List Row) → Option (Request Text)
-said_where [] found = option_and_then said_by_subcommand found
-said_where (fault ∷ faults) found = None
+abbrev pub arguments_where : Kinds → Option (Text × List Row) → Option (Request Text)
+arguments_where [] found = option_and_then subcommand_arguments found
+arguments_where (fault ∷ faults) found = None
 
 -- what the words say; None where they say nothing
-unfoldable pub said_by : List Text → Option (Request Text)
-said_by words = said_where (fault_of xls words) (subcommand_of xls words)
+unfoldable pub arguments_of : List Text → Option (Request Text)
+arguments_of words = arguments_where (fault_of xls words) (subcommand_of xls words)

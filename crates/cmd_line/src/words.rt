@@ -1,6 +1,6 @@
 ghost use Rattle.std.specs.Prelude.{◌≡◌, ◌≤◌, IfOk, IfSome, Option, map, option_map, option_and_then, string_bytes};
 ghost use Rattle.clap.specs.Words.{first_of, found_of, rows_of, subcommand_rows_of};
-ghost use Rattle.cmd_line.specs.CommandLine.{depth_in, most_in, said_by, said_by_check, said_by_opt, said_by_run, said_by_schedule, said_by_sim, said_by_subcommand, said_of_how, said_of_timing, source_in, workers_in};
+ghost use Rattle.cmd_line.specs.CommandLine.{depth_in, most_in, arguments_of, check_arguments, opt_arguments, run_arguments, schedule_arguments, sim_arguments, subcommand_arguments, how_arguments, timing_arguments, source_in, workers_in};
 ghost use Rattle.cmd_line.specs.Named.{named, named_check, named_opt, named_run, named_schedule, named_sim};
 ghost use Rattle.cmd_line.specs.Bounds.{IsInBounds, IsWorkerCount};
 
@@ -16,7 +16,7 @@ pub fn read_words<'a>(
     alloc: Global,
     words: &'a [String],
 ) -> Result<Option<Request<&'a str>>, AllocError>
-    ensures said { IfOk result (λ said. option_map named said ≡ said_by (map string_bytes words.entry.now)) }
+    ensures said { IfOk result (λ said. option_map named said ≡ arguments_of (map string_bytes words.entry.now)) }
     ensures bounds { IfOk result (λ said. IfSome said IsInBounds) }
 {
     match command(alloc)?.try_get_matches_from(words) {
@@ -29,7 +29,7 @@ pub fn read_words<'a>(
 }
 
 fn request<'a>(matches: &ArgMatches<'a>) -> Option<Request<&'a str>>
-    ensures said { option_map named result ≡ option_and_then said_by_subcommand (subcommand_rows_of matches.now) }
+    ensures said { option_map named result ≡ option_and_then subcommand_arguments (subcommand_rows_of matches.now) }
     ensures bounds { IfSome result IsInBounds }
 {
     match matches.subcommand() {
@@ -43,7 +43,7 @@ fn request<'a>(matches: &ArgMatches<'a>) -> Option<Request<&'a str>>
 }
 
 fn check<'a>(matches: &ArgMatches<'a>) -> Option<Check<&'a str>>
-    ensures { option_map named_check result ≡ said_by_check (rows_of (found_of matches.now)) }
+    ensures { option_map named_check result ≡ check_arguments (rows_of (found_of matches.now)) }
 {
     match text(matches, "design") {
         Some(design) => Some(Check { design }),
@@ -52,7 +52,7 @@ fn check<'a>(matches: &ArgMatches<'a>) -> Option<Check<&'a str>>
 }
 
 fn run<'a>(matches: &ArgMatches<'a>) -> Option<Run<&'a str>>
-    ensures said { option_map named_run result ≡ said_by_run (rows_of (found_of matches.now)) }
+    ensures said { option_map named_run result ≡ run_arguments (rows_of (found_of matches.now)) }
     ensures bounds { IfSome result (λ said. IsWorkerCount said.how.workers) }
 {
     let Some(design) = text(matches, "design") else {
@@ -72,7 +72,7 @@ fn run<'a>(matches: &ArgMatches<'a>) -> Option<Run<&'a str>>
 }
 
 fn how(matches: &ArgMatches<'_>) -> Option<How>
-    ensures said { result ≡ said_of_how (rows_of (found_of matches.now)) }
+    ensures said { result ≡ how_arguments (rows_of (found_of matches.now)) }
     ensures bounds { IfSome result (λ how. IsWorkerCount how.workers) }
 {
     let Some(number) = text(matches, "activations") else {
@@ -132,7 +132,7 @@ fn source(text: Option<&str>) -> Option<Source>
 }
 
 fn sim<'a>(matches: &ArgMatches<'a>) -> Option<Sim<&'a str>>
-    ensures { option_map named_sim result ≡ said_by_sim (rows_of (found_of matches.now)) }
+    ensures { option_map named_sim result ≡ sim_arguments (rows_of (found_of matches.now)) }
 {
     let Some(design) = text(matches, "design") else {
         return None;
@@ -144,7 +144,7 @@ fn sim<'a>(matches: &ArgMatches<'a>) -> Option<Sim<&'a str>>
 }
 
 fn schedule<'a>(matches: &ArgMatches<'a>) -> Option<Schedule<&'a str>>
-    ensures said { option_map named_schedule result ≡ said_by_schedule (rows_of (found_of matches.now)) }
+    ensures said { option_map named_schedule result ≡ schedule_arguments (rows_of (found_of matches.now)) }
     ensures bounds { IfSome result (λ said. 1 ≤ said.timing.stages) }
 {
     let Some(design) = text(matches, "design") else {
@@ -164,7 +164,7 @@ fn schedule<'a>(matches: &ArgMatches<'a>) -> Option<Schedule<&'a str>>
 }
 
 fn opt<'a>(matches: &ArgMatches<'a>) -> Option<Opt<&'a str>>
-    ensures { option_map named_opt result ≡ said_by_opt (rows_of (found_of matches.now)) }
+    ensures { option_map named_opt result ≡ opt_arguments (rows_of (found_of matches.now)) }
 {
     let Some(design) = text(matches, "design") else {
         return None;
@@ -176,7 +176,7 @@ fn opt<'a>(matches: &ArgMatches<'a>) -> Option<Opt<&'a str>>
 }
 
 fn timing(matches: &ArgMatches<'_>) -> Option<Timing>
-    ensures said { result ≡ said_of_timing (rows_of (found_of matches.now)) }
+    ensures said { result ≡ timing_arguments (rows_of (found_of matches.now)) }
     ensures bounds { IfSome result (λ timing. 1 ≤ timing.stages) }
 {
     let Some(number) = text(matches, "clock") else {

@@ -19,7 +19,7 @@ use Rattle.vlog_tree.specs.declared.row.Drive.{Drive}
 use Rattle.vlog_tree.specs.declared.row.Drive.TheVariants.{Offer, Ready}
 use Rattle.vlog_tree.specs.Signals.{Declared, IsSignal, signals, declared_port, declared_own, port_role, storage_role, channels_at, channels_of, channel_of}
 use Rattle.vlog_tree.specs.declared.signal.Role.{Role}
-use Rattle.vlog_tree.specs.declared.signal.Role.TheVariants.{Given, Driven, Held}
+use Rattle.vlog_tree.specs.declared.signal.Role.TheVariants.{InputSignal, WireSignal, RegisterSignal}
 use Rattle.vlog_tree.specs.declared.module.Storage.{Storage}
 use Rattle.vlog_tree.specs.declared.module.Storage.TheVariants as storage
 use Rattle.vlog_tree.specs.Value.{Values, bit, atom_value, expr_value}
@@ -33,7 +33,7 @@ use Rattle.vlog_tree.specs.declared.row.Shown.TheVariants as shown
 use Rattle.vlog_tree.specs.Rows.{given, given_at, AreDrivesOf, IsDriveOf, IsRowOf, is_one, shown_channel, shown_at, outs_of, Runs, cycle, start}
 use Rattle.vlog_tree.proofs.Lemmas.Settling.{values_of-set_same, values_of-set_other, order_means, order_only, each_other, atom_same}
 use Rattle.cycle_sim.specs.Ordered.{taken}
-use Rattle.cycle_sim.specs.Sim.{SimState, IsOrder, IsRunning, SameHeld, StandsAfter}
+use Rattle.cycle_sim.specs.Sim.{SimState, IsOrder, IsRunning, SameRegisters, StandsAfter}
 use Rattle.cycle_sim.specs.Stored.{driven, all_driven, stored, evaluated, cycled}
 use Rattle.cycle_sim.proofs.Settling.{widths_of-set, take_keeps, sound_still}
 use Rattle.cycle_sim.proofs.Storing.{length-stored, stored_is, taken_by_same, stored_elsewhere, stored_widths}
@@ -101,11 +101,11 @@ settled_widths (a ∷ later) words sound =
     (rest.0 ∙ first, rest.1 ∙ same)
 
 -- the steps that are taken are among the module's assignments: what holds of all of those holds of them
-pub taken_all : (P : Assignment → Type 0) (assignments : List Assignment) (places : List ℕ) → All P assignments → AllByRecursion P (taken assignments places)
+pub taken_all : (P : Assignment → Type 0) (assignments : List Assignment) (indices : List ℕ) → All P assignments → AllByRecursion P (taken assignments indices)
 taken_all P assignments [] all = tt
-taken_all P assignments (i ∷ places) all = at (slice_get assignments i) refl (taken_all P assignments places all)
+taken_all P assignments (i ∷ indices) all = at (slice_get assignments i) refl (taken_all P assignments indices all)
   where
-    at : (o : Option Assignment) → slice_get assignments i ≡ o → AllByRecursion P (taken assignments places) → AllByRecursion P (taken assignments (i ∷ places))
+    at : (o : Option Assignment) → slice_get assignments i ≡ o → AllByRecursion P (taken assignments indices) → AllByRecursion P (taken assignments (i ∷ indices))
     at None e rest = rw e rest
     at (Some a) e rest = rw e (subst P (get_or_from_slice_get assignments i a a e) (all i a (slice_get_within assignments i a e)), rest)
 
@@ -126,12 +126,12 @@ length-signals m =
     omega arith
 
 -- a register stands behind the ports
-pub held_behind_ports : (m : VModule) (s : ℕ) (d : Declared) → IsSignal m s d → d.role ≡ Held → length m.ports ≤ s
+pub held_behind_ports : (m : VModule) (s : ℕ) (d : Declared) → IsSignal m s d → d.role ≡ RegisterSignal → length m.ports ≤ s
 held_behind_ports m s d is_s role = go m.ports s is_s
   where
     not_held : (p : Port) → (e : Direction) → p.direction ≡ e → declared_port p ≡ d → ⊥
-    not_held p Input is same = let wrong : Given ≡ Held = sym (ap port_role is) ∙ ap (λ x. x.role) same ∙ role in cc
-    not_held p Output is same = let wrong : Driven ≡ Held = sym (ap port_role is) ∙ ap (λ x. x.role) same ∙ role in cc
+    not_held p Input is same = let wrong : InputSignal ≡ RegisterSignal = sym (ap port_role is) ∙ ap (λ x. x.role) same ∙ role in cc
+    not_held p Output is same = let wrong : WireSignal ≡ RegisterSignal = sym (ap port_role is) ∙ ap (λ x. x.role) same ∙ role in cc
 
     go : (ports : List Port) (k : ℕ) → slice_get (map declared_port ports ++ map declared_own m.declarations) k ≡ Some d → length ports ≤ k
     go [] k h = omega arith
@@ -139,20 +139,20 @@ held_behind_ports m s d is_s role = go m.ports s is_s
     go (p ∷ ports) (suc k) h = let rest = go ports k h in omega arith
 
 -- a signal in the outside's hands is an input port
-pub given_is_port : (m : VModule) (s : ℕ) (d : Declared) → IsSignal m s d → d.role ≡ Given → (p : Port) × (slice_get m.ports s ≡ Some p) × (p.direction ≡ Input)
+pub given_is_port : (m : VModule) (s : ℕ) (d : Declared) → IsSignal m s d → d.role ≡ InputSignal → (p : Port) × (slice_get m.ports s ≡ Some p) × (p.direction ≡ Input)
 given_is_port m s d is_s role = go m.ports s is_s
   where
     by_direction : (p : Port) → (e : Direction) → p.direction ≡ e → declared_port p ≡ d → p.direction ≡ Input
     by_direction p Input is same = is
-    by_direction p Output is same = let wrong : Driven ≡ Given = sym (ap port_role is) ∙ ap (λ x. x.role) same ∙ role in cc
+    by_direction p Output is same = let wrong : WireSignal ≡ InputSignal = sym (ap port_role is) ∙ ap (λ x. x.role) same ∙ role in cc
 
     own : (ds : List Declaration) (k : ℕ) → slice_get (map declared_own ds) k ≡ Some d → ⊥
     own [] k h = cc
     own (o ∷ ds) zero h = let same : declared_own o ≡ d = cc in by_storage o.storage refl same
       where
         by_storage : (t : Storage) → o.storage ≡ t → declared_own o ≡ d → ⊥
-        by_storage storage.Wire is same = let wrong : Driven ≡ Given = sym (ap storage_role is) ∙ ap (λ x. x.role) same ∙ role in cc
-        by_storage storage.Register is same = let wrong : Held ≡ Given = sym (ap storage_role is) ∙ ap (λ x. x.role) same ∙ role in cc
+        by_storage storage.Wire is same = let wrong : WireSignal ≡ InputSignal = sym (ap storage_role is) ∙ ap (λ x. x.role) same ∙ role in cc
+        by_storage storage.Register is same = let wrong : RegisterSignal ≡ InputSignal = sym (ap storage_role is) ∙ ap (λ x. x.role) same ∙ role in cc
     own (o ∷ ds) (suc k) h = own ds k h
 
     go : (ports : List Port) (k : ℕ) → slice_get (map declared_port ports ++ map declared_own m.declarations) k ≡ Some d → (p : Port) × (slice_get ports k ≡ Some p) × (p.direction ≡ Input)
@@ -171,8 +171,8 @@ pub record AreHanded (m : VModule) (row : Row) (words : List Word) : Type 0 wher
   pub widths : widths_of (handed row words) ≡ widths_of words
   pub ready : AreReady m (values_of words) (given m row) (handed row words)
 
-pub handing : (m : VModule) (places : List ℕ) (words before : List Word) (row : Row) → IsRunning m places words before → IsRowOf m row → AreHanded m row words
-handing m places words before row running fits = record { count = count; size = size; widths = widths; ready = record { covers = size ∙ running.covers; inputs = inputs; registers = registers } }
+pub handing : (m : VModule) (indices : List ℕ) (words before : List Word) (row : Row) → IsRunning m indices words before → IsRowOf m row → AreHanded m row words
+handing m indices words before row running fits = record { count = count; size = size; widths = widths; ready = record { covers = size ∙ running.covers; inputs = inputs; registers = registers } }
   where
     start : List Word
     start = slice_set words 1 (bit row.reset)
@@ -234,48 +234,48 @@ handing m places words before row running fits = record { count = count; size = 
         gives running.wired.ports.channels row.channels 2 start running.wired.ports.rest by room channel_widths k (suc (suc k)) p (omega arith) at input
         ∙ ap (λ channels. given_at channels row.channels k) (sym same_channels)
 
-    inputs : (s : ℕ) (d : Declared) → IsSignal m s d → d.role ≡ Given → values_of (handed row words) s ≡ given m row s
+    inputs : (s : ℕ) (d : Declared) → IsSignal m s d → d.role ≡ InputSignal → values_of (handed row words) s ≡ given m row s
     inputs s d is_s role = let port = given_is_port m s d is_s role in port_given s port.0 port.1 port.2
 
-    registers : (s : ℕ) (d : Declared) → IsSignal m s d → d.role ≡ Held → values_of (handed row words) s ≡ values_of words s
+    registers : (s : ℕ) (d : Declared) → IsSignal m s d → d.role ≡ RegisterSignal → values_of (handed row words) s ≡ values_of words s
     registers s d is_s role =
         let behind = held_behind_ports m s d is_s role in
         all_driven_above 2 s row.channels start (omega (arith, three, ports_size, behind))
         ∙ values_of-set_other words 1 s (bit row.reset) (omega (arith, ports_size, behind))
 
 -- each assignment can be taken once the outside has given its own
-pub handed_sound : (m : VModule) (places : List ℕ) (words before : List Word) (row : Row) → IsRunning m places words before → IsRowOf m row
+pub handed_sound : (m : VModule) (indices : List ℕ) (words before : List Word) (row : Row) → IsRunning m indices words before → IsRowOf m row
     → All (IsSoundAssignment (length (handed row words)) (widths_of (handed row words))) m.assignments
-handed_sound m places words before row running fits =
-    let handed_is = handing m places words before row running fits in
+handed_sound m indices words before row running fits =
+    let handed_is = handing m indices words before row running fits in
     subst (λ n. All (IsSoundAssignment n (widths_of (handed row words))) m.assignments) (sym (handed_is.size ∙ running.covers))
     (subst (λ w. All (IsSoundAssignment (length (signals m)) w) m.assignments) (sym (handed_is.widths ∙ running.widths)) running.wired.assignments)
 
 -- what is known of the numbers once the assignments were taken
-pub record AreEvaluated (m : VModule) (places : List ℕ) (row : Row) (words : List Word) : Type 0 where
-  pub size : length (evaluated m places row words) ≡ length words
-  pub widths : widths_of (evaluated m places row words) ≡ widths_of words
-  pub now : IsNow m (values_of words) (given m row) (values_of (evaluated m places row words))
+pub record AreEvaluated (m : VModule) (indices : List ℕ) (row : Row) (words : List Word) : Type 0 where
+  pub size : length (evaluated m indices row words) ≡ length words
+  pub widths : widths_of (evaluated m indices row words) ≡ widths_of words
+  pub now : IsNow m (values_of words) (given m row) (values_of (evaluated m indices row words))
 
-pub evaluating : (m : VModule) (places : List ℕ) (words before : List Word) (row : Row) → IsRunning m places words before → IsRowOf m row → AreEvaluated m places row words
-evaluating m places words before row running fits = record { size = kept.1 ∙ handed_is.size; widths = kept.0 ∙ handed_is.widths; now = now }
+pub evaluating : (m : VModule) (indices : List ℕ) (words before : List Word) (row : Row) → IsRunning m indices words before → IsRowOf m row → AreEvaluated m indices row words
+evaluating m indices words before row running fits = record { size = kept.1 ∙ handed_is.size; widths = kept.0 ∙ handed_is.widths; now = now }
   where
     handed_is : AreHanded m row words
-    handed_is = handing m places words before row running fits
+    handed_is = handing m indices words before row running fits
 
     sound : All (IsSoundAssignment (length (handed row words)) (widths_of (handed row words))) m.assignments
-    sound = handed_sound m places words before row running fits
+    sound = handed_sound m indices words before row running fits
 
-    kept : (widths_of (evaluated m places row words) ≡ widths_of (handed row words)) × (length (evaluated m places row words) ≡ length (handed row words))
-    kept = settled_widths (taken m.assignments places) (handed row words) (taken_all (IsSoundAssignment (length (handed row words)) (widths_of (handed row words))) m.assignments places sound)
+    kept : (widths_of (evaluated m indices row words) ≡ widths_of (handed row words)) × (length (evaluated m indices row words) ≡ length (handed row words))
+    kept = settled_widths (taken m.assignments indices) (handed row words) (taken_all (IsSoundAssignment (length (handed row words)) (widths_of (handed row words))) m.assignments indices sound)
 
-    wires : DrivesWires m (taken m.assignments places)
-    wires = taken_all (λ a. (d : Declared) × IsSignal m a.target.0 d × (d.role ≡ Driven)) m.assignments places
-        (All-from_recursion (λ a. (d : Declared) × IsSignal m a.target.0 d × (d.role ≡ Driven)) m.assignments running.wired.wires)
+    wires : DrivesWires m (taken m.assignments indices)
+    wires = taken_all (λ a. (d : Declared) × IsSignal m a.target.0 d × (d.role ≡ WireSignal)) m.assignments indices
+        (All-from_recursion (λ a. (d : Declared) × IsSignal m a.target.0 d × (d.role ≡ WireSignal)) m.assignments running.wired.wires)
 
-    now : IsNow m (values_of words) (given m row) (values_of (evaluated m places row words))
-    now = order_means m (values_of words) (given m row) (handed row words) (taken m.assignments places) running.order.ordered wires
-        (running.order.covers (values_of (evaluated m places row words))) handed_is.ready
+    now : IsNow m (values_of words) (given m row) (values_of (evaluated m indices row words))
+    now = order_means m (values_of words) (given m row) (handed row words) (taken m.assignments indices) running.order.ordered wires
+        (running.order.covers (values_of (evaluated m indices row words))) handed_is.ready
 
 -- the sets of a row
 abbrev pub sets_by : VModule → Bool → List Set
@@ -286,23 +286,23 @@ sets_sound m true wired = wired.resets
 sets_sound m false wired = wired.clocks
 
 -- what is known behind a cycle
-pub record AreCycled (m : VModule) (places : List ℕ) (row : Row) (words : List Word) : Type 0 where
-  pub targets : All (λ set. set.target.0 < length (evaluated m places row words)) (sets_by m row.reset)
-  pub size : length (cycled m places row words) ≡ length words
-  pub widths : widths_of (cycled m places row words) ≡ widths_of words
+pub record AreCycled (m : VModule) (indices : List ℕ) (row : Row) (words : List Word) : Type 0 where
+  pub targets : All (λ set. set.target.0 < length (evaluated m indices row words)) (sets_by m row.reset)
+  pub size : length (cycled m indices row words) ≡ length words
+  pub widths : widths_of (cycled m indices row words) ≡ widths_of words
   -- a signal that is no register keeps its number
-  pub others : (s : ℕ) (d : Declared) → IsSignal m s d → d.role ≢ Held → values_of (cycled m places row words) s ≡ values_of (evaluated m places row words) s
-  pub registers : (s : ℕ) (d : Declared) → IsSignal m s d → d.role ≡ Held
-      → values_of (cycled m places row words) s ≡ taken_by (sets_by m row.reset) (values_of (evaluated m places row words)) (values_of words) s
+  pub others : (s : ℕ) (d : Declared) → IsSignal m s d → d.role ≢ RegisterSignal → values_of (cycled m indices row words) s ≡ values_of (evaluated m indices row words) s
+  pub registers : (s : ℕ) (d : Declared) → IsSignal m s d → d.role ≡ RegisterSignal
+      → values_of (cycled m indices row words) s ≡ taken_by (sets_by m row.reset) (values_of (evaluated m indices row words)) (values_of words) s
 
-pub cycling : (m : VModule) (places : List ℕ) (words before : List Word) (row : Row) → IsRunning m places words before → IsRowOf m row → AreCycled m places row words
-cycling m places words before row running fits = record { targets = targets; size = length-stored sets values words_now ∙ now.size; widths = stored_widths sets values words_now fit ∙ now.widths; others = others; registers = registers }
+pub cycling : (m : VModule) (indices : List ℕ) (words before : List Word) (row : Row) → IsRunning m indices words before → IsRowOf m row → AreCycled m indices row words
+cycling m indices words before row running fits = record { targets = targets; size = length-stored sets values words_now ∙ now.size; widths = stored_widths sets values words_now fit ∙ now.widths; others = others; registers = registers }
   where
-    now : AreEvaluated m places row words
-    now = evaluating m places words before row running fits
+    now : AreEvaluated m indices row words
+    now = evaluating m indices words before row running fits
 
     words_now : List Word
-    words_now = evaluated m places row words
+    words_now = evaluated m indices row words
 
     values : Values
     values = values_of words_now
@@ -331,40 +331,40 @@ cycling m places words before row running fits = record { targets = targets; siz
     fit : AllByRecursion (λ set. (set.target.0 < length words_now) × ((atom_value values set.value).width ≡ widths_of words_now set.target.0)) sets
     fit = each_other (IsSoundSet m) (λ set. (set.target.0 < length words_now) × ((atom_value values set.value).width ≡ widths_of words_now set.target.0)) one sets by_recursion
 
-    others : (s : ℕ) (d : Declared) → IsSignal m s d → d.role ≢ Held → values_of (cycled m places row words) s ≡ values_of words_now s
+    others : (s : ℕ) (d : Declared) → IsSignal m s d → d.role ≢ RegisterSignal → values_of (cycled m indices row words) s ≡ values_of words_now s
     others s d is_s other = stored_elsewhere sets values words_now s
         (each_other (IsSoundSet m) (λ set. set.target.0 ≢ s) (λ set is_sound e.
         let same : Some is_sound.target.0 ≡ Some d = sym is_sound.target.1 ∙ ap (slice_get (signals m)) e ∙ is_s in
         let equal : is_sound.target.0 ≡ d = cc in
         other (sym (ap (λ x. x.role) equal) ∙ is_sound.target.2)) sets by_recursion)
 
-    registers : (s : ℕ) (d : Declared) → IsSignal m s d → d.role ≡ Held → values_of (cycled m places row words) s ≡ taken_by sets values (values_of words) s
+    registers : (s : ℕ) (d : Declared) → IsSignal m s d → d.role ≡ RegisterSignal → values_of (cycled m indices row words) s ≡ taken_by sets values (values_of words) s
     registers s d is_s role =
         ap (λ f. f s) (stored_is sets values words_now (each_other (IsSoundSet m) (λ set. set.target.0 < length words_now) target_inside sets by_recursion))
         ∙ taken_by_same sets values values (values_of words) s (now.now.registers s d is_s role)
 
 -- a cycle leaves the simulator running
-pub runs_on : (m : VModule) (places : List ℕ) (words before after : List Word) (row : Row) → IsRunning m places words before → IsRowOf m row
-    → length after ≡ length before → IsRunning m places (cycled m places row words) after
-runs_on m places words before after row running fits same =
+pub runs_on : (m : VModule) (indices : List ℕ) (words before after : List Word) (row : Row) → IsRunning m indices words before → IsRowOf m row
+    → length after ≡ length before → IsRunning m indices (cycled m indices row words) after
+runs_on m indices words before after row running fits same =
     record { wired = running.wired; driven = running.driven; order = running.order; covers = known.size ∙ running.covers; widths = known.widths ∙ running.widths; clock = clock; room = same ∙ running.room ∙ sym known.size }
   where
-    known : AreCycled m places row words
-    known = cycling m places words before row running fits
+    known : AreCycled m indices row words
+    known = cycling m indices words before row running fits
 
-    now : AreEvaluated m places row words
-    now = evaluating m places words before row running fits
+    now : AreEvaluated m indices row words
+    now = evaluating m indices words before row running fits
 
     first : IsSignal m 0 (declared_port running.wired.ports.clock)
     first = port_signal m 0 running.wired.ports.clock (ap (λ ports. slice_get ports 0) running.wired.ports.are)
 
-    role : (declared_port running.wired.ports.clock).role ≡ Given
+    role : (declared_port running.wired.ports.clock).role ≡ InputSignal
     role = ap port_role running.wired.ports.clock_in
 
-    not_held : Given ≢ Held
+    not_held : InputSignal ≢ RegisterSignal
     not_held e = cc
 
-    clock : values_of (cycled m places row words) 0 ≡ bit false
+    clock : values_of (cycled m indices row words) 0 ≡ bit false
     clock = known.others 0 (declared_port running.wired.ports.clock) first (λ e. not_held (sym role ∙ e)) ∙ now.now.inputs 0 (declared_port running.wired.ports.clock) first role
 
 -- what is shown at ports is by the numbers of the ports alone
@@ -388,38 +388,38 @@ shown_same values other at count (d ∷ v ∷ r ∷ rest) room same =
 -- ---- the module can do nothing else
 
 -- what a module does in a cycle is what the simulator does
-now_only : (m : VModule) (places : List ℕ) (words before : List Word) (row : Row) (held values : Values) → IsRunning m places words before → IsRowOf m row
-    → SameHeld m (values_of words) held → IsNow m held (given m row) values
-    → (s : ℕ) → s < length (signals m) → values s ≡ values_of (evaluated m places row words) s
-now_only m places words before row held values running fits same now =
-    order_only (record m { assignments = taken m.assignments places }) held (given m row) values (handed row words) running.order.ordered wires reading driven ready taken_now
+now_only : (m : VModule) (indices : List ℕ) (words before : List Word) (row : Row) (held values : Values) → IsRunning m indices words before → IsRowOf m row
+    → SameRegisters m (values_of words) held → IsNow m held (given m row) values
+    → (s : ℕ) → s < length (signals m) → values s ≡ values_of (evaluated m indices row words) s
+now_only m indices words before row held values running fits same now =
+    order_only (record m { assignments = taken m.assignments indices }) held (given m row) values (handed row words) running.order.ordered wires reading driven ready taken_now
   where
     handed_is : AreHanded m row words
-    handed_is = handing m places words before row running fits
+    handed_is = handing m indices words before row running fits
 
-    wires : DrivesWires m (taken m.assignments places)
-    wires = taken_all (λ a. (d : Declared) × IsSignal m a.target.0 d × (d.role ≡ Driven)) m.assignments places
-        (All-from_recursion (λ a. (d : Declared) × IsSignal m a.target.0 d × (d.role ≡ Driven)) m.assignments running.wired.wires)
+    wires : DrivesWires m (taken m.assignments indices)
+    wires = taken_all (λ a. (d : Declared) × IsSignal m a.target.0 d × (d.role ≡ WireSignal)) m.assignments indices
+        (All-from_recursion (λ a. (d : Declared) × IsSignal m a.target.0 d × (d.role ≡ WireSignal)) m.assignments running.wired.wires)
 
-    reading : ReadsSignals (length (signals m)) (taken m.assignments places)
-    reading = taken_all (λ a. AllByRecursion (λ s. s < length (signals m)) (reads a.value)) m.assignments places
+    reading : ReadsSignals (length (signals m)) (taken m.assignments indices)
+    reading = taken_all (λ a. AllByRecursion (λ s. s < length (signals m)) (reads a.value)) m.assignments indices
         (λ k d h. reads_below (length (signals m)) (slice_index_or m.assignments k d).value (running.wired.assignments k d h).value.known)
 
-    driven : (s : ℕ) (d : Declared) → IsSignal m s d → d.role ≡ Driven → ¬ (IsUndriven (taken m.assignments places) s)
+    driven : (s : ℕ) (d : Declared) → IsSignal m s d → d.role ≡ WireSignal → ¬ (IsUndriven (taken m.assignments indices) s)
     driven s d is role undriven = running.driven s d is role (running.order.drives s undriven)
 
-    ready : AreReady (record m { assignments = taken m.assignments places }) held (given m row) (handed row words)
+    ready : AreReady (record m { assignments = taken m.assignments indices }) held (given m row) (handed row words)
     ready = record {
       covers = handed_is.ready.covers;
       inputs = handed_is.ready.inputs;
       registers = λ s d is role. handed_is.ready.registers s d is role ∙ same s d is role;
     }
 
-    taken_now : IsNow (record m { assignments = taken m.assignments places }) held (given m row) values
+    taken_now : IsNow (record m { assignments = taken m.assignments indices }) held (given m row) values
     taken_now = record {
       inputs = now.inputs;
       registers = now.registers;
-      wires = taken_all (λ a. values a.target.0 ≡ expr_value values a.value) m.assignments places
+      wires = taken_all (λ a. values a.target.0 ≡ expr_value values a.value) m.assignments indices
           (All-from_recursion (λ a. values a.target.0 ≡ expr_value values a.value) m.assignments now.wires);
     }
 
@@ -472,43 +472,43 @@ taken_by_values (set ∷ sets) values other held s h =
     ∙ taken_by_values sets values other (λ r. if set.target.0 == r then atom_value other set.value else held r) s h.1
 
 -- behind a cycle the simulator stands where the module does
-pub stands_on : (m : VModule) (places : List ℕ) (words before : List Word) (row : Row) → IsRunning m places words before → IsRowOf m row
+pub stands_on : (m : VModule) (indices : List ℕ) (words before : List Word) (row : Row) → IsRunning m indices words before → IsRowOf m row
     → (rows : List Row) (outs : List Outs) → StandsAfter (record { design = m; words = words }) rows outs
-    → StandsAfter (record { design = m; words = cycled m places row words }) (rows ++ row ∷ []) (outs ++ outs_of m (values_of (cycled m places row words)) ∷ [])
-stands_on m places words before row running fits rows outs stood = record { held = registers_next m values stood.held; runs = runs; only = only; registers = registers }
+    → StandsAfter (record { design = m; words = cycled m indices row words }) (rows ++ row ∷ []) (outs ++ outs_of m (values_of (cycled m indices row words)) ∷ [])
+stands_on m indices words before row running fits rows outs stood = record { held = registers_next m values stood.held; runs = runs; only = only; registers = registers }
   where
-    known : AreCycled m places row words
-    known = cycling m places words before row running fits
+    known : AreCycled m indices row words
+    known = cycling m indices words before row running fits
 
-    evaluated_is : AreEvaluated m places row words
-    evaluated_is = evaluating m places words before row running fits
+    evaluated_is : AreEvaluated m indices row words
+    evaluated_is = evaluating m indices words before row running fits
 
     values : Values
-    values = values_of (evaluated m places row words)
+    values = values_of (evaluated m indices row words)
 
     now : IsNow m stood.held (given m row) values
     now = record { inputs = evaluated_is.now.inputs; registers = λ s d is_s role. evaluated_is.now.registers s d is_s role ∙ stood.registers s d is_s role; wires = evaluated_is.now.wires }
 
     -- the numbers of ports are those of the cycle
-    at_port : (s : ℕ) → s < length m.ports → values_of (cycled m places row words) s ≡ values s
+    at_port : (s : ℕ) → s < length m.ports → values_of (cycled m indices row words) s ≡ values s
     at_port s inside = go (slice_get m.ports s) refl
       where
-        not_held : (p : Port) (e : Direction) → p.direction ≡ e → (declared_port p).role ≢ Held
-        not_held p Input is h = let wrong : Given ≡ Held = sym (ap port_role is) ∙ h in cc
-        not_held p Output is h = let wrong : Driven ≡ Held = sym (ap port_role is) ∙ h in cc
+        not_held : (p : Port) (e : Direction) → p.direction ≡ e → (declared_port p).role ≢ RegisterSignal
+        not_held p Input is h = let wrong : InputSignal ≡ RegisterSignal = sym (ap port_role is) ∙ h in cc
+        not_held p Output is h = let wrong : WireSignal ≡ RegisterSignal = sym (ap port_role is) ∙ h in cc
 
-        go : (o : Option Port) → slice_get m.ports s ≡ o → values_of (cycled m places row words) s ≡ values s
+        go : (o : Option Port) → slice_get m.ports s ≡ o → values_of (cycled m indices row words) s ≡ values s
         go (Some p) is = known.others s (declared_port p) (port_signal m s p is) (not_held p p.direction refl)
         go None missing = let there = slice_get-get_or m.ports s running.wired.ports.clock inside in absurd (cc)
 
-    same_outs : outs_of m (values_of (cycled m places row words)) ≡ outs_of m values
+    same_outs : outs_of m (values_of (cycled m indices row words)) ≡ outs_of m values
     same_outs =
         let ports_size = ap length running.wired.ports.are in
         let channels = ap (drop 2) running.wired.ports.are in
         ap (λ list. record { channels = list })
-        (rw channels (shown_same (values_of (cycled m places row words)) values 2 (length m.ports) running.wired.ports.channels (omega (arith, ports_size)) at_port))
+        (rw channels (shown_same (values_of (cycled m indices row words)) values 2 (length m.ports) running.wired.ports.channels (omega (arith, ports_size)) at_port))
 
-    runs : Runs m (rows ++ row ∷ []) (outs ++ outs_of m (values_of (cycled m places row words)) ∷ []) (registers_next m values stood.held)
+    runs : Runs m (rows ++ row ∷ []) (outs ++ outs_of m (values_of (cycled m indices row words)) ∷ []) (registers_next m values stood.held)
     runs = subst (λ shown_now. Runs m (rows ++ row ∷ []) (outs ++ shown_now ∷ []) (registers_next m values stood.held)) (sym same_outs)
         (cycle rows outs stood.held values row stood.runs now)
 
@@ -522,29 +522,29 @@ stands_on m places words before row running fits rows outs stood = record { held
     sets_same : sets_by m row.reset ≡ (if (values 1).value == 0 then m.at_clock else m.at_reset)
     sets_same = chosen row.reset ∙ ap (λ w. if w.value == 0 then m.at_clock else m.at_reset) (sym reset_is)
 
-    registers : (s : ℕ) (d : Declared) → IsSignal m s d → d.role ≡ Held → values_of (cycled m places row words) s ≡ registers_next m values stood.held s
+    registers : (s : ℕ) (d : Declared) → IsSignal m s d → d.role ≡ RegisterSignal → values_of (cycled m indices row words) s ≡ registers_next m values stood.held s
     registers s d is_s role =
         known.registers s d is_s role
         ∙ taken_by_same (sets_by m row.reset) values (values_of words) stood.held s (stood.registers s d is_s role)
         ∙ ap (λ sets. taken_by sets values stood.held s) sets_same
 
     only : (shown_now : List Outs) (other : Values) → Runs m (rows ++ row ∷ []) shown_now other
-        → (shown_now ≡ outs ++ outs_of m (values_of (cycled m places row words)) ∷ []) × SameHeld m other (registers_next m values stood.held)
+        → (shown_now ≡ outs ++ outs_of m (values_of (cycled m indices row words)) ∷ []) × SameRegisters m other (registers_next m values stood.held)
     only shown_now other run = (shown_same_now, held_same)
       where
         end : IsLastCycle m rows row shown_now other
         end = last_cycle m rows row (rows ++ row ∷ []) shown_now other run refl
 
-        before_it : (end.outs ≡ outs) × SameHeld m end.held stood.held
+        before_it : (end.outs ≡ outs) × SameRegisters m end.held stood.held
         before_it = stood.only end.outs end.held end.run
 
         same_values : (s : ℕ) → s < length (signals m) → end.values s ≡ values s
-        same_values = now_only m places words before row end.held end.values running fits (λ s d is role. stood.registers s d is role ∙ sym (before_it.1 s d is role)) end.now
+        same_values = now_only m indices words before row end.held end.values running fits (λ s d is role. stood.registers s d is role ∙ sym (before_it.1 s d is role)) end.now
 
         ports_fit : length m.ports ≤ length (signals m)
         ports_fit = omega (arith, length-signals m)
 
-        same_shown : outs_of m end.values ≡ outs_of m (values_of (cycled m places row words))
+        same_shown : outs_of m end.values ≡ outs_of m (values_of (cycled m indices row words))
         same_shown =
             let ports_size = ap length running.wired.ports.are in
             let channels = ap (drop 2) running.wired.ports.are in
@@ -552,7 +552,7 @@ stands_on m places words before row running fits rows outs stood = record { held
             (rw channels (shown_same end.values values 2 (length m.ports) running.wired.ports.channels (omega (arith, ports_size)) (λ s h. same_values s (omega (arith, h, ports_fit)))))
             ∙ sym same_outs
 
-        shown_same_now : shown_now ≡ outs ++ outs_of m (values_of (cycled m places row words)) ∷ []
+        shown_same_now : shown_now ≡ outs ++ outs_of m (values_of (cycled m indices row words)) ∷ []
         shown_same_now = end.shown_is ∙ ap (λ xs. xs ++ outs_of m end.values ∷ []) before_it.0 ∙ ap (λ o. outs ++ o ∷ []) same_shown
 
         reset_there : 1 < length (signals m)
@@ -566,7 +566,7 @@ stands_on m places words before row running fits rows outs stood = record { held
         sets_alike true = each_other (IsSoundSet m) (λ set. atom_value end.values set.value ≡ atom_value values set.value) set_same m.at_clock (recursion_from_All (IsSoundSet m) m.at_clock running.wired.clocks)
         sets_alike false = each_other (IsSoundSet m) (λ set. atom_value end.values set.value ≡ atom_value values set.value) set_same m.at_reset (recursion_from_All (IsSoundSet m) m.at_reset running.wired.resets)
 
-        held_same : SameHeld m other (registers_next m values stood.held)
+        held_same : SameRegisters m other (registers_next m values stood.held)
         held_same s d is role =
             ap (λ f. f s) end.other_is
             ∙ ap (λ w. taken_by (if w.value == 0 then m.at_clock else m.at_reset) end.values end.held s) (same_values 1 reset_there)

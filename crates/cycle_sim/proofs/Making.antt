@@ -12,7 +12,7 @@ use Rattle.vlog_tree.specs.WellFormed as wired
 use Rattle.vlog_tree.specs.Rows.{zeros, Runs, cycle, start}
 use Rattle.vlog_tree.specs.declared.row.Row.{Row}
 use Rattle.vlog_tree.specs.declared.row.Outs.{Outs}
-use Rattle.cycle_sim.specs.Sim.{SimState, IsOrder, IsRunning, SameHeld, StandsAfter}
+use Rattle.cycle_sim.specs.Sim.{SimState, IsOrder, IsRunning, SameRegisters, StandsAfter}
 use Rattle.cycle_sim.proofs.Cycling.{port_signal}
 
 -- a 0 for each signal
@@ -24,8 +24,8 @@ zero_at [] s = refl
 zero_at (d ∷ ds) zero = refl
 zero_at (d ∷ ds) (suc s) = zero_at ds s
 
-pub new_runs : (m : VModule) (places : List ℕ) (before : List Word) → wired.CanRun m → IsOrder m places → length before ≡ length (zero_words m) → IsRunning m places (zero_words m) before
-new_runs m places before runs order room = record {
+pub new_runs : (m : VModule) (indices : List ℕ) (before : List Word) → wired.CanRun m → IsOrder m indices → length before ≡ length (zero_words m) → IsRunning m indices (zero_words m) before
+new_runs m indices before runs order room = record {
   wired = runs.wired;
   driven = runs.driven;
   order = order;
@@ -36,7 +36,7 @@ new_runs m places before runs order room = record {
 }
 
 -- before any row nothing is shown, and registers hold 0
-before_rows : (m : VModule) (rows : List Row) (shown : List Outs) (other : Values) → Runs m rows shown other → rows ≡ [] → (shown ≡ []) × SameHeld m other (zeros m)
+before_rows : (m : VModule) (rows : List Row) (shown : List Outs) (other : Values) → Runs m rows shown other → rows ≡ [] → (shown ≡ []) × SameRegisters m other (zeros m)
 before_rows m _ _ _ start e = (refl, λ s d is_s role. refl)
 before_rows m _ _ _ (cycle rows outs held values row run now) e = absurd (some_row rows row e)
   where

@@ -6,7 +6,7 @@ use Rattle.std.proofs.lemmas.List.Elements.{recursion_from_All}
 use Rattle.std.specs.Prelude.{slice_get, slice_set, filter_map, unwrap_or, option_map, replicate}
 use Rattle.std.specs.List.{AllByRecursion}
 use Rattle.std.proofs.lemmas.Option.{slice_get_within, slice_get-get_or, get_or_from_slice_get, slice_get-map}
-use Rattle.base.proofs.Lemmas.Lists.Places.{slice_get-set, slice_get-set_other}
+use Rattle.base.proofs.Lemmas.Lists.Indices.{slice_get-set, slice_get-set_other}
 use Rattle.topo_order.specs.Needs.{Needs, needs_of, IsOrderOf, AreClosed}
 use Rattle.topo_order.specs.Needs as graph
 use Rattle.vlog_tree.specs.declared.module.VModule.{VModule}
@@ -113,12 +113,12 @@ cycle_depends m drivers i j a b are inside (graph.by_way _ l _ need rest) is_a i
     (cycle_depends m drivers l j read.1 b are inside rest read.2 is_b)
 
 -- elements of a front with one more
-get_front_more : (xs : List Assignment) (i j : ℕ) (y : Assignment) → slice_get (take i xs) j ≡ Some y → slice_get (take (suc i) xs) j ≡ Some y
-get_front_more [] zero j y h = cc
-get_front_more [] (suc i) j y h = cc
-get_front_more (x ∷ xs) zero j y h = cc
-get_front_more (x ∷ xs) (suc i) zero y h = h
-get_front_more (x ∷ xs) (suc i) (suc j) y h = get_front_more xs i j y h
+get_prefix_more : (xs : List Assignment) (i j : ℕ) (y : Assignment) → slice_get (take i xs) j ≡ Some y → slice_get (take (suc i) xs) j ≡ Some y
+get_prefix_more [] zero j y h = cc
+get_prefix_more [] (suc i) j y h = cc
+get_prefix_more (x ∷ xs) zero j y h = cc
+get_prefix_more (x ∷ xs) (suc i) zero y h = h
+get_prefix_more (x ∷ xs) (suc i) (suc j) y h = get_prefix_more xs i j y h
 
 get_last_taken : (xs : List Assignment) (i : ℕ) (y : Assignment) → slice_get xs i ≡ Some y → slice_get (take (suc i) xs) i ≡ Some y
 get_last_taken [] zero y h = cc
@@ -142,7 +142,7 @@ one_more_driver assignments i drivers a are is_a inside = record { found = found
     size = slice_get_within assignments i a is_a
 
     front : (j : ℕ) (b : Assignment) → slice_get (take i assignments) j ≡ Some b → slice_get (take (suc i) assignments) j ≡ Some b
-    front j b h = get_front_more assignments i j b h
+    front j b h = get_prefix_more assignments i j b h
 
     here : slice_get (take (suc i) assignments) i ≡ Some a
     here = get_last_taken assignments i a is_a

@@ -31,12 +31,12 @@ take_keeps words a sound =
     widths_of-set words a.target.0 (expr_value (values_of words) a.value) sound.target (expr_wide (values_of words) (widths_of words a.target.0) a.value sound.value.fit)
 
 -- the assignments at the places from one on are the one there and those at the later places
-pub taken-drop : (assignments : List Assignment) (places : List ℕ) (i place : ℕ) (a : Assignment)
-    → slice_get places i ≡ Some place → slice_get assignments place ≡ Some a
-    → taken assignments (drop i places) ≡ a ∷ taken assignments (drop (suc i) places)
+pub taken-drop : (assignments : List Assignment) (indices : List ℕ) (i place : ℕ) (a : Assignment)
+    → slice_get indices i ≡ Some place → slice_get assignments place ≡ Some a
+    → taken assignments (drop i indices) ≡ a ∷ taken assignments (drop (suc i) indices)
 taken-drop assignments [] i place a at there = cc
-taken-drop assignments (p ∷ places) zero place a at there = let e : p ≡ place = cc in rw (e, there)
-taken-drop assignments (p ∷ places) (suc i) place a at there = taken-drop assignments places i place a at there
+taken-drop assignments (p ∷ indices) zero place a at there = let e : p ≡ place = cc in rw (e, there)
+taken-drop assignments (p ∷ indices) (suc i) place a at there = taken-drop assignments indices i place a at there
 
 -- what is sound among numbers is sound among others of the same widths
 pub sound_still : (before after : List Word) (a : Assignment) → length after ≡ length before → widths_of after ≡ widths_of before
@@ -52,11 +52,11 @@ sound_at assignments words place a all inside is =
     subst (IsSoundAssignment (length words) (widths_of words)) (sym is) (all place a inside)
 
 -- one turn of the walk
-pub turn : (assignments : List Assignment) (places : List ℕ) (i : ℕ) (a : Assignment) (before after : List Word) → i < length places
-    → get_or places i 0 < length assignments → a ≡ get_or assignments (get_or places i 0) a → after ≡ settled (a ∷ []) before
-    → settled (taken assignments (drop (i + 1) places)) after ≡ settled (taken assignments (drop i places)) before
-turn assignments places i a before after inside known is made =
-    let at : slice_get places i ≡ Some (get_or places i 0) = slice_get-get_or places i 0 inside in
-    let there : slice_get assignments (get_or places i 0) ≡ Some a = slice_get-get_or assignments (get_or places i 0) a known ∙ ap Some (sym is) in
-    let opened = taken-drop assignments places i (get_or places i 0) a at there in
+pub turn : (assignments : List Assignment) (indices : List ℕ) (i : ℕ) (a : Assignment) (before after : List Word) → i < length indices
+    → get_or indices i 0 < length assignments → a ≡ get_or assignments (get_or indices i 0) a → after ≡ settled (a ∷ []) before
+    → settled (taken assignments (drop (i + 1) indices)) after ≡ settled (taken assignments (drop i indices)) before
+turn assignments indices i a before after inside known is made =
+    let at : slice_get indices i ≡ Some (get_or indices i 0) = slice_get-get_or indices i 0 inside in
+    let there : slice_get assignments (get_or indices i 0) ≡ Some a = slice_get-get_or assignments (get_or indices i 0) a known ∙ ap Some (sym is) in
+    let opened = taken-drop assignments indices i (get_or indices i 0) a at there in
     rw (add-one, made, opened)

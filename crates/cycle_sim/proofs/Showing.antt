@@ -42,8 +42,8 @@ pub record HasPort (m : VModule) (words : List Word) (channel : ℕ) : Type 0 wh
   pub shows : (p : Port) → slice_get m.ports (2 + 3 * channel) ≡ Some p
       → slice_get (shown_at (values_of words) 2 (channels_of m)) channel ≡ Some (shown_channel (values_of words) (2 + 3 * channel) p.direction)
 
-pub has_port : (m : VModule) (places : List ℕ) (words before : List Word) (channel : ℕ) → IsRunning m places words before → channel < length (channels_of m) → HasPort m words channel
-has_port m places words before channel running inside = record { in_ports = omega (arith, three, known, ports_size); in_words = omega (arith, three, known, ports_size, fits); shows = shows }
+pub has_port : (m : VModule) (indices : List ℕ) (words before : List Word) (channel : ℕ) → IsRunning m indices words before → channel < length (channels_of m) → HasPort m words channel
+has_port m indices words before channel running inside = record { in_ports = omega (arith, three, known, ports_size); in_words = omega (arith, three, known, ports_size, fits); shows = shows }
   where
     same_channels : channels_of m ≡ channels_at running.wired.ports.channels
     same_channels = ap (λ ports. channels_at (drop 2 ports)) running.wired.ports.are

@@ -5,4 +5,4 @@ use Rattle.vlog_tree.specs.declared.module.Assignment.{Assignment}
 
 -- the assignments at these places, in this order
 abbrev pub taken : List Assignment → List ℕ → List Assignment
-taken assignments places = filter_map (slice_get assignments) places
+taken assignments indices = filter_map (slice_get assignments) indices

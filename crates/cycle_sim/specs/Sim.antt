@@ -6,7 +6,7 @@ use Rattle.vlog_tree.specs.declared.row.Row.{Row}
 use Rattle.vlog_tree.specs.declared.row.Outs.{Outs}
 use Rattle.vlog_tree.specs.Value.{Values, bit}
 use Rattle.vlog_tree.specs.Signals.{Declared, IsSignal, signals}
-use Rattle.vlog_tree.specs.declared.signal.Role.TheVariants.{Held}
+use Rattle.vlog_tree.specs.declared.signal.Role.TheVariants.{RegisterSignal}
 use Rattle.vlog_tree.specs.Meaning.{AreDriven}
 use Rattle.vlog_tree.specs.Settled.{values_of, widths_of, AreAllDriven, IsOrdered, IsUndriven}
 use Rattle.vlog_tree.specs.WellFormed.{IsWired}
@@ -21,30 +21,30 @@ pub record SimState : Type 0 where
   pub words : List Word
 
 -- these places are an order in which each assignment reads only what is there before it, and all of them
-pub record IsOrder (m : VModule) (places : List ℕ) : Type 0 where
-  pub within : All (λ place. place < length m.assignments) places
-  pub ordered : IsOrdered (taken m.assignments places)
-  pub covers : (values : Values) → AreDriven values (taken m.assignments places) → AreDriven values m.assignments
-  pub drives : (s : ℕ) → IsUndriven (taken m.assignments places) s → IsUndriven m.assignments s
+pub record IsOrder (m : VModule) (indices : List ℕ) : Type 0 where
+  pub within : All (λ place. place < length m.assignments) indices
+  pub ordered : IsOrdered (taken m.assignments indices)
+  pub covers : (values : Values) → AreDriven values (taken m.assignments indices) → AreDriven values m.assignments
+  pub drives : (s : ℕ) → IsUndriven (taken m.assignments indices) s → IsUndriven m.assignments s
 
 -- what a simulator keeps true
-pub record IsRunning (m : VModule) (places : List ℕ) (words before : List Word) : Type 0 where
+pub record IsRunning (m : VModule) (indices : List ℕ) (words before : List Word) : Type 0 where
   pub wired : IsWired m
   pub driven : AreAllDriven m
-  pub order : IsOrder m places
+  pub order : IsOrder m indices
   pub covers : length words ≡ length (signals m)
   pub widths : widths_of words ≡ declared_widths m
   pub clock : values_of words 0 ≡ bit (false)
   pub room : length before ≡ length words
 
 -- registers hold the same
-abbrev pub SameHeld : VModule → Values → Values → Type 0
-SameHeld m held other = (s : ℕ) (d : Declared) → IsSignal m s d → d.role ≡ Held → held s ≡ other s
+abbrev pub SameRegisters : VModule → Values → Values → Type 0
+SameRegisters m held other = (s : ℕ) (d : Declared) → IsSignal m s d → d.role ≡ RegisterSignal → held s ≡ other s
 
 -- the simulator stands where the module stands after these rows, over which it has shown these, and the module can show
 -- nothing else
 pub record StandsAfter (now : SimState) (rows : List Row) (outs : List Outs) : Type 0 where
   pub held : Values
   pub runs : Runs now.design rows outs held
-  pub only : (shown : List Outs) (other : Values) → Runs now.design rows shown other → (shown ≡ outs) × SameHeld now.design other held
-  pub registers : (s : ℕ) (d : Declared) → IsSignal now.design s d → d.role ≡ Held → values_of now.words s ≡ held s
+  pub only : (shown : List Outs) (other : Values) → Runs now.design rows shown other → (shown ≡ outs) × SameRegisters now.design other held
+  pub registers : (s : ℕ) (d : Declared) → IsSignal now.design s d → d.role ≡ RegisterSignal → values_of now.words s ≡ held s

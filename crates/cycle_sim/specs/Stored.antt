@@ -28,9 +28,9 @@ all_driven at (drive ∷ drives) words = all_driven (at + 3) drives (driven at d
 
 -- the numbers in a cycle, before the registers take theirs
 abbrev pub evaluated : VModule → List ℕ → Row → List Word → List Word
-evaluated m places row words = settled (taken m.assignments places) (all_driven 2 row.channels (slice_set words 1 (bit row.reset)))
+evaluated m indices row words = settled (taken m.assignments indices) (all_driven 2 row.channels (slice_set words 1 (bit row.reset)))
 
 -- the numbers behind a cycle
 abbrev pub cycled : VModule → List ℕ → Row → List Word → List Word
-cycled m places row words =
-    stored (if row.reset then m.at_reset else m.at_clock) (values_of (evaluated m places row words)) (evaluated m places row words)
+cycled m indices row words =
+    stored (if row.reset then m.at_reset else m.at_clock) (values_of (evaluated m indices row words)) (evaluated m indices row words)

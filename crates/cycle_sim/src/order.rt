@@ -15,13 +15,13 @@ use vlog_tree::{Assignment, VModule};
 pub fn order_of(alloc: Global, design: &VModule, signals: usize) -> Result<Vec<u32>, AllocError>
     requires runs { CanRun design.now }
     requires signals { signals ≡ length (module_signals design.now) }
-    ensures { IfOk result (λ places. IsOrder design.now places.items) }
+    ensures { IfOk result (λ indices. IsOrder design.now indices.items) }
 {
     let assignments = design.assignments.as_slice();
     let drivers = drivers_of(alloc, signals, assignments)?;
     let needs = needs_of(alloc, assignments, &drivers)?;
     match sort(alloc, &needs)? {
-        Sorted::Order(places) => Ok(places),
+        Sorted::Order(indices) => Ok(indices),
         Sorted::Cycle(_) => unreachable!(),
     }
 }

@@ -9,12 +9,12 @@ use vlog_tree::Assignment;
 use xb_bits::Bits;
 
 /// Gives the target of each assignment its driver's value, in the order of the places.
-pub fn settle(values: &mut [Bits], assignments: &[Assignment], places: &[u32])
-    requires places { All (λ place. place < length assignments.now) places.now }
+pub fn settle(values: &mut [Bits], assignments: &[Assignment], indices: &[u32])
+    requires indices { All (λ place. place < length assignments.now) indices.now }
     requires sound { All (IsSoundAssignment (length values.old) (widths_of values.old)) assignments.now }
-    ensures { values.new ≡ settled (taken assignments.now places.now) values.old }
+    ensures { values.new ≡ settled (taken assignments.now indices.now) values.old }
 {
-    for place in places {
+    for place in indices {
         take(values, &assignments[*place as usize]);
     }
 }

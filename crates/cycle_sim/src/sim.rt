@@ -24,7 +24,7 @@ use xb_bits::Bits;
 pub struct Sim {
     design: VModule,
     /// The assignments' places in an order in which each reads only what is there before it.
-    places: Vec<u32>,
+    indices: Vec<u32>,
     /// A number for each signal.
     values: Vec<Bits>,
     /// Room for the numbers as they were before the registers took theirs.
@@ -39,7 +39,7 @@ impl Model for Sim {
 
     ghost view = { λ sim. record { design = sim.design; words = sim.values.items } };
 
-    ghost invariant = { λ sim. IsRunning sim.design sim.places.items sim.values.items sim.before.items };
+    ghost invariant = { λ sim. IsRunning sim.design sim.indices.items sim.values.items sim.before.items };
 }
 
 impl Sim {
@@ -52,11 +52,11 @@ impl Sim {
         ensures stands { IfOk result (λ sim. StandsAfter sim [] []) }
     {
         let values = zeros_of(alloc, &design)?;
-        let places = order_of(alloc, &design, values.len())?;
+        let indices = order_of(alloc, &design, values.len())?;
         let before = Vec::from_slice(alloc, values.as_slice())?;
         Ok(Sim {
             design,
-            places,
+            indices,
             values,
             before,
         })
@@ -85,22 +85,22 @@ impl Sim {
             &mut self.values,
             &mut self.before,
             &self.design,
-            &self.places,
+            &self.indices,
             row,
         );
     }
 }
 
 /// Takes the numbers of a module's signals through one cycle. `before` is room for them.
-fn advance(values: &mut [Bits], before: &mut [Bits], design: &VModule, places: &[u32], row: &Row)
-    requires running { IsRunning design.now places.now values.old before.old }
+fn advance(values: &mut [Bits], before: &mut [Bits], design: &VModule, indices: &[u32], row: &Row)
+    requires running { IsRunning design.now indices.now values.old before.old }
     requires row { IsRowOf design.now row.now }
-    ensures values { values.new ≡ cycled design.now places.now row.now values.old }
+    ensures values { values.new ≡ cycled design.now indices.now row.now values.old }
     ensures room { length before.new ≡ length before.old }
 {
     values[1] = of_bool(row.reset);
     give(values, 2, row.channels.as_slice());
-    settle(values, design.assignments.as_slice(), places);
+    settle(values, design.assignments.as_slice(), indices);
     before.copy_from_slice(values);
     clock(before, values, sets_of(design, row.reset));
 }

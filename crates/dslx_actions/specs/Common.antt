@@ -1,55 +1,55 @@
 -- What rules of several sorts make of the parts that their symbols left.
 use Rattle.std.specs.Prelude.{ℕ, suc, List, [], ◌∷◌, ◌-◌, drop, None, Some}
 use Rattle.xb_span.specs.declared.span.Span.{Span}
-use Rattle.dslx_actions.specs.declared.parts.Parts.{Parts}
+use Rattle.dslx_actions.specs.declared.parts.SemanticStacks.{SemanticStacks}
 use Rattle.dslx_actions.specs.Empty.{join, no_expr, no_type, nowhere}
 use Rattle.base.specs.Stacks.Tops.{top_or}
 
 -- the place of the last so many tokens
 abbrev pub across : ℕ → List Span → Span
-across count marks = join (top_or nowhere (drop (count - 1) marks)) (top_or nowhere (drop 0 marks))
+across count token_spans = join (top_or nowhere (drop (count - 1) token_spans)) (top_or nowhere (drop 0 token_spans))
 
 -- so many tokens say nothing
-abbrev pub skip : ℕ → Parts → Parts
-skip count s = record s { marks = drop count s.marks }
+abbrev pub skip : ℕ → SemanticStacks → SemanticStacks
+skip count s = record s { token_spans = drop count s.token_spans }
 
 -- of so many tokens only the place of the last one matters
-abbrev pub last_mark : ℕ → Parts → Parts
-last_mark count s = record s { marks = top_or nowhere (drop 0 s.marks) ∷ drop count s.marks }
+abbrev pub last_mark : ℕ → SemanticStacks → SemanticStacks
+last_mark count s = record s { token_spans = top_or nowhere (drop 0 s.token_spans) ∷ drop count s.token_spans }
 
 -- a list ends, and so far has no element
-abbrev pub start : Parts → Parts
+abbrev pub start : SemanticStacks → SemanticStacks
 start s = record s { counts = 0 ∷ s.counts }
 
 -- the list has one element more
-abbrev pub more : Parts → Parts
+abbrev pub more : SemanticStacks → SemanticStacks
 more s = record s { counts = suc (top_or 0 s.counts) ∷ drop 1 s.counts }
 
 -- a list ends, and nothing stands behind it
-abbrev pub nothing_more : Parts → Parts
+abbrev pub nothing_more : SemanticStacks → SemanticStacks
 nothing_more s = record s { values = None ∷ s.values; counts = 0 ∷ s.counts }
 
 -- a token and a type
-abbrev pub annotation : Parts → Parts
+abbrev pub annotation : SemanticStacks → SemanticStacks
 annotation s = record s {
-  marks = drop 1 s.marks;
+  token_spans = drop 1 s.token_spans;
   types = drop 1 s.types;
   annotations = Some (top_or no_type s.types) ∷ s.annotations;
 }
 
 -- a type is left out
-abbrev pub no_annotation : Parts → Parts
+abbrev pub no_annotation : SemanticStacks → SemanticStacks
 no_annotation s = record s { annotations = None ∷ s.annotations }
 
 -- so many tokens and an expression
-abbrev pub given : ℕ → Parts → Parts
+abbrev pub given : ℕ → SemanticStacks → SemanticStacks
 given count s = record s {
-  marks = drop count s.marks;
-  places = drop 1 s.places;
+  token_spans = drop count s.token_spans;
+  expr_spans = drop 1 s.expr_spans;
   exprs = drop 1 s.exprs;
   values = Some (top_or no_expr s.exprs) ∷ s.values;
 }
 
 -- an expression is left out
-abbrev pub left_out : Parts → Parts
+abbrev pub left_out : SemanticStacks → SemanticStacks
 left_out s = record s { values = None ∷ s.values }

@@ -15,7 +15,7 @@ use Rattle.dslx_tree.specs.declared.process.Next.{Next}
 use Rattle.dslx_tree.specs.declared.type_expr.TypeExpr.{TypeExpr, roll-TypeExpr}
 use Rattle.dslx_tree.specs.declared.type_expr.TypeNode as types
 use Rattle.dslx_actions.specs.declared.parts.Digits.{Digits}
-use Rattle.dslx_actions.specs.declared.parts.Parts.{Parts}
+use Rattle.dslx_actions.specs.declared.parts.SemanticStacks.{SemanticStacks}
 
 abbrev pub nowhere : Span
 nowhere = record { from = 0; to = 0 }
@@ -42,7 +42,7 @@ abbrev pub no_block : Block
 no_block = roll-Block (record { span = nowhere; statements = []; value = None })
 
 abbrev pub no_config : Config
-no_config = record { span = nowhere; ends = []; makings = []; result = [] }
+no_config = record { span = nowhere; ends = []; config_statements = []; result = [] }
 
 abbrev pub no_next : Next
 no_next = record { span = nowhere; state = no_ident; ty = no_type; body = no_block }
@@ -54,9 +54,9 @@ no_definition = definitions.Alias (record { span = nowhere; name = no_ident; ty 
 abbrev pub join : Span → Span → Span
 join first last = record { from = first.from; to = last.to }
 
-abbrev pub empty : Parts
+abbrev pub empty : SemanticStacks
 empty = record {
-  marks = [];
+  token_spans = [];
   idents = [];
   numbers = [];
   flags = [];
@@ -66,7 +66,7 @@ empty = record {
   types = [];
   annotations = [];
   patterns = [];
-  places = [];
+  expr_spans = [];
   exprs = [];
   values = [];
   args = [];
@@ -76,10 +76,10 @@ empty = record {
   statements = [];
   blocks = [];
   fields = [];
-  parameters = [];
+  parametrics = [];
   members = [];
   ends = [];
-  makings = [];
+  config_statements = [];
   configs = [];
   nexts = [];
   definitions = [];

@@ -6,7 +6,7 @@ use Rattle.dslx_tree.specs.declared.type_expr.TypeExpr.{roll-TypeExpr}
 use Rattle.dslx_tree.specs.declared.type_expr.TypeNode as types
 use Rattle.dslx_token.specs.Lexeme.{Lexeme}
 use Rattle.dslx_token.specs.Lexical.{number_value, width_of}
-use Rattle.dslx_actions.specs.declared.parts.Parts.{Parts}
+use Rattle.dslx_actions.specs.declared.parts.SemanticStacks.{SemanticStacks}
 
 abbrev pub is_name : ℕ → Bool
 is_name kind = (kind == NAME) || ((kind == TYPENAME) || ((kind == FUNNAME) || ((kind == STRUCTNAME) || (kind == BOTHNAME))))
@@ -19,25 +19,25 @@ is_signed_word bytes = bytes_eq bytes (codes "sN")
 abbrev pub unquoted : List ℕ → List ℕ
 unquoted bytes = drop 1 (take (length bytes - 1) bytes)
 
-abbrev pub shifted_name : Span → List ℕ → Parts → Parts
+abbrev pub shifted_name : Span → List ℕ → SemanticStacks → SemanticStacks
 shifted_name span bytes s = record s { idents = record { span = span; name = bytes } ∷ s.idents }
 
-abbrev pub shifted_number : Span → ℕ → Parts → Parts
+abbrev pub shifted_number : Span → ℕ → SemanticStacks → SemanticStacks
 shifted_number span value s = record s { numbers = record { span = span; is_negative = false; value = value } ∷ s.numbers }
 
 -- `u8` and its kin
-abbrev pub shifted_bits : Span → Bool → ℕ → Parts → Parts
+abbrev pub shifted_bits : Span → Bool → ℕ → SemanticStacks → SemanticStacks
 shifted_bits span is_signed width s = record s { types = roll-TypeExpr (record { span = span; node = types.Bits is_signed width }) ∷ s.types }
 
-abbrev pub shifted_bool : Span → Parts → Parts
+abbrev pub shifted_bool : Span → SemanticStacks → SemanticStacks
 shifted_bool span s = record s { types = roll-TypeExpr (record { span = span; node = types.Bool }) ∷ s.types }
 
 -- `uN`, `bits` and `sN`
-abbrev pub shifted_wide : Span → Bool → Parts → Parts
-shifted_wide span is_signed s = record s { marks = span ∷ s.marks; flags = is_signed ∷ s.flags }
+abbrev pub shifted_wide : Span → Bool → SemanticStacks → SemanticStacks
+shifted_wide span is_signed s = record s { token_spans = span ∷ s.token_spans; flags = is_signed ∷ s.flags }
 
 -- what a token adds
-abbrev pub shifted : Lexeme → Parts → Parts
+abbrev pub shifted : Lexeme → SemanticStacks → SemanticStacks
 shifted l s =
     if is_name l.kind then shifted_name l.span l.bytes s
     else if l.kind == STRING then shifted_name l.span (unquoted l.bytes) s
@@ -46,4 +46,4 @@ shifted l s =
     else if l.kind == SIGNED then shifted_bits l.span true (width_of l.bytes) s
     else if l.kind == BOOL then shifted_bool l.span s
     else if l.kind == WIDE then shifted_wide l.span (is_signed_word l.bytes) s
-    else record s { marks = l.span ∷ s.marks }
+    else record s { token_spans = l.span ∷ s.token_spans }

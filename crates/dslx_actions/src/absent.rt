@@ -94,7 +94,7 @@ pub fn no_config(alloc: Global) -> Config
     Config {
         span: NOWHERE,
         ends: Seq::new(alloc),
-        makings: Seq::new(alloc),
+        config_statements: Seq::new(alloc),
         result: Seq::new(alloc),
     }
 }

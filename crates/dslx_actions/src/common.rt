@@ -4,19 +4,19 @@ ghost use Rattle.std.specs.Prelude.{◌≡◌, suc, drop, IfOk, OnOk};
 ghost use Rattle.dslx_actions.specs.Common.{across, annotation, given, last_mark, left_out, more, no_annotation, nothing_more, skip, start};
 
 use crate::absent::{NOWHERE, join, no_expr, no_type};
-use crate::parts::Parts;
+use crate::parts::SemanticStacks;
 use std::alloc::AllocError;
 use xb_span::Span;
 
-impl Parts {
+impl SemanticStacks {
     /// Takes so many places of tokens, and gives the place of all of them.
-    pub fn take_marks(&mut self, count: usize) -> Span
-        ensures span { result ≡ across count self.old.marks }
-        ensures rest { self.new ≡ record self.old { marks = drop count self.old.marks } }
+    pub fn take_token_spans(&mut self, count: usize) -> Span
+        ensures span { result ≡ across count self.old.token_spans }
+        ensures rest { self.new ≡ record self.old { token_spans = drop count self.old.token_spans } }
     {
-        let last = self.marks.peek_or(0, NOWHERE);
-        let first = self.marks.peek_or(count.saturating_sub(1), NOWHERE);
-        self.marks.drop_top(count);
+        let last = self.token_spans.peek_or(0, NOWHERE);
+        let first = self.token_spans.peek_or(count.saturating_sub(1), NOWHERE);
+        self.token_spans.drop_top(count);
         join(first, last)
     }
 
@@ -24,16 +24,16 @@ impl Parts {
     pub fn skip(&mut self, count: usize)
         ensures { self.new ≡ skip count self.old }
     {
-        self.marks.drop_top(count);
+        self.token_spans.drop_top(count);
     }
 
     /// Of so many tokens only the place of the last one matters.
     pub fn last_mark(&mut self, count: usize) -> Result<(), AllocError>
         ensures { OnOk result (self.new ≡ last_mark count self.old) }
     {
-        let last = self.marks.peek_or(0, NOWHERE);
-        self.marks.drop_top(count);
-        self.marks.push(last)
+        let last = self.token_spans.peek_or(0, NOWHERE);
+        self.token_spans.drop_top(count);
+        self.token_spans.push(last)
     }
 
     /// A list ends, and so far has no element.
@@ -80,7 +80,7 @@ impl Parts {
         ensures { OnOk result (self.new ≡ given count self.old) }
     {
         self.skip(count);
-        let _place = self.places.pop_or(NOWHERE);
+        let _place = self.expr_spans.pop_or(NOWHERE);
         let value = self.exprs.pop_or(no_expr());
         self.values.push(Some(value))
     }

@@ -17,4 +17,4 @@ pub use absent::{
 };
 pub use base::stacks::Stack;
 pub use common::one_more;
-pub use parts::{Digits, Parts};
+pub use parts::{Digits, SemanticStacks};

@@ -6,15 +6,15 @@ ghost use Rattle.dslx_actions.specs.Empty.{empty};
 use base::stacks::Stack;
 use dslx_tree::{
     Arg, Arm, Binary, Block, Config, Definition, Direction, End, Expr, Field, FieldValue, Ident,
-    Item, Making, Member, Next, Parameter, Pattern, Stmt, TypeExpr,
+    Item, ConfigStatement, Member, Next, Parametric, Pattern, Stmt, TypeExpr,
 };
 use std::alloc::Global;
 use xb_span::Span;
 
 /// The parts that have been built and not been used, a stack for each sort.
-pub struct Parts {
+pub struct SemanticStacks {
     /// The places of tokens that say nothing but where they are.
-    pub marks: Stack<Span>,
+    pub token_spans: Stack<Span>,
     pub idents: Stack<Ident>,
     pub numbers: Stack<Digits>,
     /// Whether `sN` stands there and not `uN` or `bits`; whether the last element is repeated.
@@ -28,7 +28,7 @@ pub struct Parts {
     pub annotations: Stack<Option<TypeExpr>>,
     pub patterns: Stack<Pattern>,
     /// The places of the expressions, each with the parentheses round it.
-    pub places: Stack<Span>,
+    pub expr_spans: Stack<Span>,
     pub exprs: Stack<Expr>,
     /// Expressions that may be left out.
     pub values: Stack<Option<Expr>>,
@@ -40,10 +40,10 @@ pub struct Parts {
     pub statements: Stack<Stmt>,
     pub blocks: Stack<Block>,
     pub fields: Stack<Field>,
-    pub parameters: Stack<Parameter>,
+    pub parametrics: Stack<Parametric>,
     pub members: Stack<Member>,
     pub ends: Stack<End>,
-    pub makings: Stack<Making>,
+    pub config_statements: Stack<ConfigStatement>,
     pub configs: Stack<Config>,
     pub nexts: Stack<Next>,
     pub definitions: Stack<Definition>,
@@ -51,10 +51,10 @@ pub struct Parts {
 }
 
 /// Written out, so that it is proved once and not wherever one is let go.
-impl Drop for Parts {
+impl Drop for SemanticStacks {
     fn drop(self) {
-        let Parts {
-            marks: _,
+        let SemanticStacks {
+            token_spans: _,
             idents: _,
             numbers: _,
             flags: _,
@@ -64,7 +64,7 @@ impl Drop for Parts {
             types: _,
             annotations: _,
             patterns: _,
-            places: _,
+            expr_spans: _,
             exprs: _,
             values: _,
             args: _,
@@ -74,10 +74,10 @@ impl Drop for Parts {
             statements: _,
             blocks: _,
             fields: _,
-            parameters: _,
+            parametrics: _,
             members: _,
             ends: _,
-            makings: _,
+            config_statements: _,
             configs: _,
             nexts: _,
             definitions: _,
@@ -94,12 +94,12 @@ pub struct Digits {
     pub value: u128,
 }
 
-impl Parts {
-    pub fn new(alloc: Global) -> Parts
+impl SemanticStacks {
+    pub fn new(alloc: Global) -> SemanticStacks
         ensures { result ≡ empty }
     {
-        Parts {
-            marks: Stack::new(alloc),
+        SemanticStacks {
+            token_spans: Stack::new(alloc),
             idents: Stack::new(alloc),
             numbers: Stack::new(alloc),
             flags: Stack::new(alloc),
@@ -109,7 +109,7 @@ impl Parts {
             types: Stack::new(alloc),
             annotations: Stack::new(alloc),
             patterns: Stack::new(alloc),
-            places: Stack::new(alloc),
+            expr_spans: Stack::new(alloc),
             exprs: Stack::new(alloc),
             values: Stack::new(alloc),
             args: Stack::new(alloc),
@@ -119,10 +119,10 @@ impl Parts {
             statements: Stack::new(alloc),
             blocks: Stack::new(alloc),
             fields: Stack::new(alloc),
-            parameters: Stack::new(alloc),
+            parametrics: Stack::new(alloc),
             members: Stack::new(alloc),
             ends: Stack::new(alloc),
-            makings: Stack::new(alloc),
+            config_statements: Stack::new(alloc),
             configs: Stack::new(alloc),
             nexts: Stack::new(alloc),
             definitions: Stack::new(alloc),

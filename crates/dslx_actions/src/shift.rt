@@ -4,7 +4,7 @@ ghost use Rattle.std.specs.Prelude.{◌≡◌, IfOk, OnOk};
 ghost use Rattle.std.specs.Str.{IsAscii};
 ghost use Rattle.dslx_actions.specs.Tokens.{is_signed_word, shifted, shifted_bits, shifted_bool, shifted_name, shifted_number, shifted_wide, unquoted};
 
-use crate::parts::{Digits, Parts};
+use crate::parts::{Digits, SemanticStacks};
 use base::texts::Name;
 use dslx_token::Token;
 use dslx_token::rules::kind::{
@@ -14,7 +14,7 @@ use dslx_tree::{Ident, TypeExpr, TypeNode};
 use std::alloc::{AllocError, Global};
 use xb_span::Span;
 
-impl Parts {
+impl SemanticStacks {
     /// Adds a token.
     pub fn shift(&mut self, alloc: Global, token: &Token) -> Result<(), AllocError>
         ensures { OnOk result (self.new ≡ shifted token.now self.old) }
@@ -31,7 +31,7 @@ impl Parts {
             SIGNED => self.shift_bits(token.span(), true, token.width()),
             BOOL => self.shift_bool(token.span()),
             WIDE => self.shift_wide(token.span(), is_signed_word(token.bytes())),
-            _ => self.marks.push(token.span()),
+            _ => self.token_spans.push(token.span()),
         }
     }
 
@@ -80,7 +80,7 @@ impl Parts {
     fn shift_wide(&mut self, span: Span, is_signed: bool) -> Result<(), AllocError>
         ensures { OnOk result (self.new ≡ shifted_wide span is_signed self.old) }
     {
-        self.marks.push(span)?;
+        self.token_spans.push(span)?;
         self.flags.push(is_signed)
     }
 }

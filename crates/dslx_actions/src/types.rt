@@ -5,5 +5,5 @@ mod patterns;
 mod rule;
 mod types;
 
-pub use rule::{PatternRule, TypeRule, reduce_pattern, reduce_type};
+pub use rule::{PatternAction, TypeAction, reduce_pattern, reduce_type};
 pub use types::named_type;

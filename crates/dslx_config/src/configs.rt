@@ -13,6 +13,6 @@ mod word;
 pub use child::instance_number;
 pub use config::config_there;
 pub use named::{find_proc, top_proc};
-pub use number::top_numbers;
+pub use number::top_parametric_args;
 pub use opening::opening_there;
 pub use outer::outers_there;

@@ -1,6 +1,6 @@
 ghost use Rattle.std.specs.Prelude.{◌≡◌, IfOk};
 ghost use Rattle.dslx_meaning.specs.Items.{meanings_of};
-ghost use Rattle.dslx_meaning.specs.Meaning.{bound_of, meant, size_of, value_of, value_of_block, written_type};
+ghost use Rattle.dslx_meaning.specs.Meaning.{bound_of, denotation, size_of, value_of, value_of_block, written_type};
 
 use crate::found::{count_found, found_by, type_found, value_found};
 use dslx_const_tasks::{Task, TypeTask, ValueTask};
@@ -63,7 +63,7 @@ pub fn size_eval<'a>(
     bound: Scope<'a>,
     size: &'a Expr,
 ) -> Result<Option<u128>, AllocError>
-    ensures { IfOk result (λ n. n ≡ size_of (meant size.now) (record { items = meanings_of text.now; bound = bound.entry })) }
+    ensures { IfOk result (λ n. n ≡ size_of (denotation size.now) (record { items = meanings_of text.now; bound = bound.entry })) }
 {
     let task = Task::ty(alloc, TypeTask::CountSize(size))?;
     let found = found_by(alloc, text, bound, task)?;
@@ -77,7 +77,7 @@ pub fn bound_eval<'a>(
     bound: Scope<'a>,
     end: &'a Expr,
 ) -> Result<Option<u128>, AllocError>
-    ensures { IfOk result (λ n. n ≡ bound_of (meant end.now) (record { items = meanings_of text.now; bound = bound.entry })) }
+    ensures { IfOk result (λ n. n ≡ bound_of (denotation end.now) (record { items = meanings_of text.now; bound = bound.entry })) }
 {
     let task = Task::ty(alloc, TypeTask::CountBound(end))?;
     let found = found_by(alloc, text, bound, task)?;

@@ -3,5 +3,5 @@ mod call;
 mod field;
 mod list;
 
-pub use call::gather_numbers;
+pub use call::gather_parametric_args;
 pub use list::{gather, step_list};

@@ -8,7 +8,7 @@ ghost use Rattle.dslx_const_machine.specs.Tasks.{FindsFields};
 ghost use Rattle.dslx_const_machine.specs.Steps.{array_begins, node_begins};
 ghost use Rattle.dslx_const_tasks.specs.Plain.{shown};
 
-use crate::lists::{gather, gather_numbers};
+use crate::lists::{gather, gather_parametric_args};
 use base::texts::Name;
 use dslx_const_patterns::use_number;
 use dslx_const_tasks::items::{use_member, use_name, use_struct};
@@ -32,11 +32,11 @@ pub(crate) fn begin_node<'a>(
         Node::Array(ty, elements, dots) => begin_array(machine, alloc, ty, elements, *dots),
         Node::Name(name) => use_name(machine, alloc, name),
         Node::Member(choice, member) => use_member(machine, alloc, &choice.name, &member.name),
-        Node::Call(name, numbers, operands) => gather_numbers(
+        Node::Call(name, parametric_args, operands) => gather_parametric_args(
             machine,
             alloc,
             Vec::new(alloc),
-            numbers.as_slice(),
+            parametric_args.as_slice(),
             &name.name,
             operands.as_slice(),
         ),

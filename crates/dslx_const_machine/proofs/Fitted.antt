@@ -15,7 +15,7 @@ use Rattle.dslx_meaning.specs.Environment.{Env, Given, bind}
 use Rattle.dslx_meaning.specs.Items.{meanings_within}
 use Rattle.dslx_meaning.specs.Lists.{and_then, or_else, with_both}
 use Rattle.dslx_meaning.specs.Meaning as m
-use Rattle.dslx_meaning.specs.Meaning.{ArmMeant, PatternMeant, meant_pattern, value_of, value_of_block, fitted}
+use Rattle.dslx_meaning.specs.Meaning.{ArmDen, PatternDen, pattern_denotation, value_of, value_of_block, fitted}
 use Rattle.dslx_meaning.specs.Operators.{of_one_type}
 use Rattle.dslx_meaning.specs.Values.{same_value, bool_value, elements_of, bits_of}
 use Rattle.dslx_meaning.specs.declared.value.DslxValue.{DslxValue, Bits}
@@ -71,7 +71,7 @@ fits_name_keeps false name v work names next run = refl
 
 fits_parts_keep : (o : Option (List DslxValue)) (ps : List Pattern) (work : List Waiting) (names : List Given) (next : Sequel) (run : ConstState)
     → answer_of (s.fits_parts o ps work names next run)
-    ≡ answer run.todo (fitting next (and_then (and_then o (λ vs. m.fit_each (env_in run) (map meant_pattern ps) vs (env_past names run))) (fit_all (env_in run) work)) (place_of run))
+    ≡ answer run.todo (fitting next (and_then (and_then o (λ vs. m.fit_each (env_in run) (map pattern_denotation ps) vs (env_past names run))) (fit_all (env_in run) work)) (place_of run))
 fits_parts_keep None ps work names next run = fails_keep next run
 fits_parts_keep (Some vs) ps work names next run = refl
 
@@ -90,14 +90,14 @@ fits_shape_keeps (Shape-F.Shape::Tuple ps) v work names next run = fits_parts_ke
 
 -- a pattern at a place, where these names of the whole pattern are bound already
 abbrev fits_past : Pattern → DslxValue → List Given → ConstState → Option Env
-fits_past p v names run = (meant_pattern p).fits (env_in run) v (env_past names run)
+fits_past p v names run = (pattern_denotation p).fits (env_in run) v (env_past names run)
 
 pub fits_one_keeps : (p : Pattern) (v : DslxValue) (work : List Waiting) (names : List Given) (next : Sequel) (run : ConstState)
     → answer_of (s.fits_one p v work names next run)
     ≡ answer run.todo (fitting next (and_then (fits_past p v names run) (fit_all (env_in run) work)) (place_of run))
 fits_one_keeps p v work names next run =
     fits_shape_keeps (shape_of p) v work names next run
-    ∙ ap (λ (x : PatternMeant). answer run.todo (fitting next (and_then (x.fits (env_in run) v (env_past names run)) (fit_all (env_in run) work)) (place_of run)))
+    ∙ ap (λ (x : PatternDen). answer run.todo (fitting next (and_then (x.fits (env_in run) v (env_past names run)) (fit_all (env_in run) work)) (place_of run)))
     (sym (pattern_opened p))
 
 -- a pattern in which nothing is bound yet, and behind which nothing waits
@@ -125,14 +125,14 @@ goes_on_keeps names (ThenArm ps a rest v) run =
 
 fits_first_keeps : (ps : List Pattern) (vs : List DslxValue) (work : List Waiting) (names : List Given) (next : Sequel) (run : ConstState)
     → answer_of (s.fits_first ps vs work names next run)
-    ≡ answer run.todo (fitting next (and_then (m.fit_each (env_in run) (map meant_pattern ps) vs (env_past names run)) (fit_all (env_in run) work)) (place_of run))
+    ≡ answer run.todo (fitting next (and_then (m.fit_each (env_in run) (map pattern_denotation ps) vs (env_past names run)) (fit_all (env_in run) work)) (place_of run))
 fits_first_keeps [] [] work names next run = refl
 fits_first_keeps [] (v ∷ vs) work names next run = fails_keep next run
 fits_first_keeps (p ∷ ps) [] work names next run = fails_keep next run
 fits_first_keeps (p ∷ ps) (v ∷ vs) work names next run =
     fits_one_keeps p v (record { patterns = ps; values = vs } ∷ work) names next run
     ∙ ap (λ o. answer run.todo (fitting next o (place_of run)))
-    (sym (in_turn (fits_past p v names run) (m.fit_each (env_in run) (map meant_pattern ps) vs) (fit_all (env_in run) work)))
+    (sym (in_turn (fits_past p v names run) (m.fit_each (env_in run) (map pattern_denotation ps) vs) (fit_all (env_in run) work)))
 
 pub fits_all_keep : (work : List Waiting) (names : List Given) (next : Sequel) (run : ConstState)
     → answer_of (s.fits_all work names next run) ≡ answer run.todo (fitting next (fit_all (env_in run) work (env_past names run)) (place_of run))
@@ -143,18 +143,18 @@ fits_all_keep (w ∷ work) names next run = fits_first_keeps w.patterns w.values
 
 -- arms, of which the first is tried by all its patterns
 arms_tried : (a : Arm) (rest : List Arm) (v : DslxValue) (env : Env) → m.match_arms (map arm_means (a ∷ rest)) v env ≡ tried_value (out-Arm a).patterns a rest v env
-arms_tried a [] v env = ap (λ (x : ArmMeant). m.take_arm x (m.first_fit x.patterns v env) (m.value_without x env)) (arm_opened a)
-arms_tried a (b ∷ rest) v env = ap (λ (x : ArmMeant). m.take_arm x (m.first_fit x.patterns v env) (m.match_arms (map arm_means (b ∷ rest)) v env)) (arm_opened a)
+arms_tried a [] v env = ap (λ (x : ArmDen). m.take_arm x (m.first_fit x.patterns v env) (m.value_without x env)) (arm_opened a)
+arms_tried a (b ∷ rest) v env = ap (λ (x : ArmDen). m.take_arm x (m.first_fit x.patterns v env) (m.match_arms (map arm_means (b ∷ rest)) v env)) (arm_opened a)
 
 last_or_next_keeps : (a : Arm) (rest : List Arm) (v : DslxValue) (run : ConstState)
     → answer_of (s.last_or_next a rest v run) ≡ answer run.todo (gives (rest_value a rest v (env_in run)) (place_of run))
 last_or_next_keeps a [] v run =
     ap (λ ns. answer run.todo (gives (if list_all (env_in run).items.is_constant ns then value_of (out-Arm a).value (env_in run) else None) (place_of run)))
-    (append-nil (m.all_names (map meant_pattern (out-Arm a).patterns)))
+    (append-nil (m.all_names (map pattern_denotation (out-Arm a).patterns)))
 last_or_next_keeps a (b ∷ rest) v run = ap (λ o. answer run.todo (gives o (place_of run))) (sym (arms_tried b rest v (env_in run)))
 
 -- a pattern that fits, or else those behind it
-either_fits : (x : ArmMeant) (o q : Option Env) (rest : Option DslxValue) → m.take_arm x o (m.take_arm x q rest) ≡ m.take_arm x (or_else o q) rest
+either_fits : (x : ArmDen) (o q : Option Env) (rest : Option DslxValue) → m.take_arm x o (m.take_arm x q rest) ≡ m.take_arm x (or_else o q) rest
 either_fits x None q rest = refl
 either_fits x (Some env) q rest = refl
 
@@ -164,7 +164,7 @@ tries_keep [] a rest v run = last_or_next_keeps a rest v run
 tries_keep (p ∷ ps) a rest v run =
     fits_alone p v (ThenArm ps a rest v) run
     ∙ ap (λ o. answer run.todo (gives o (place_of run)))
-    (either_fits (arm_by_parts a) (fitted p v (env_in run)) (m.first_fit (map meant_pattern ps) v (env_in run)) (rest_value a rest v (env_in run)))
+    (either_fits (arm_by_parts a) (fitted p v (env_in run)) (m.first_fit (map pattern_denotation ps) v (env_in run)) (rest_value a rest v (env_in run)))
 
 pub selects_keep : (arms : List Arm) (v : DslxValue) (run : ConstState)
     → answer_of (s.selects arms v run) ≡ answer run.todo (gives (m.match_arms (map arm_means arms) v (env_in run)) (place_of run))
@@ -177,7 +177,7 @@ if_constant env names e = if list_all env.items.is_constant names then value_of 
 
 binds_nothing_keeps : (x : PatternLayer) (ps : List Pattern) (pss : List (List Pattern)) (e : Expr) (run : ConstState)
     → answer_of (s.binds_nothing x (ps ∷ pss) e run)
-    ≡ answer run.todo (gives (if_constant (env_in run) (((shape_means x).names ++ m.all_names (map meant_pattern ps)) ++ names_in pss) e) (place_of run))
+    ≡ answer run.todo (gives (if_constant (env_in run) (((shape_means x).names ++ m.all_names (map pattern_denotation ps)) ++ names_in pss) e) (place_of run))
 binds_nothing_keeps Shape-F.Wild ps pss e run = refl
 binds_nothing_keeps (Shape-F.Shape::Bool b) ps pss e run = refl
 binds_nothing_keeps (Shape-F.Shape::Number n) ps pss e run = refl
@@ -185,7 +185,7 @@ binds_nothing_keeps (Shape-F.Shape::Name name) ps pss e run = by (is_constant_wi
   where
     by : (b : Bool) → is_constant_within run.text run.left name ≡ b
         → answer_of (s.binds_nothing (Shape-F.Shape::Name name) (ps ∷ pss) e run)
-        ≡ answer run.todo (gives (if_constant (env_in run) (name ∷ (m.all_names (map meant_pattern ps) ++ names_in pss)) e) (place_of run))
+        ≡ answer run.todo (gives (if_constant (env_in run) (name ∷ (m.all_names (map pattern_denotation ps) ++ names_in pss)) e) (place_of run))
     by true is =
         let known : (env_in run).items.is_constant name ≡ true = constant_is run.text run.left name ∙ is in
         rw (is, known) refl
@@ -195,7 +195,7 @@ binds_nothing_keeps (Shape-F.Shape::Name name) ps pss e run = by (is_constant_wi
 binds_nothing_keeps (Shape-F.Shape::Member x a) ps pss e run = refl
 binds_nothing_keeps (Shape-F.Shape::Tuple qs) ps pss e run =
     ap (λ ns. answer run.todo (gives (if_constant (env_in run) ns e) (place_of run)))
-    (sym (append_assoc (m.all_names (map meant_pattern qs)) (m.all_names (map meant_pattern ps)) (names_in pss)))
+    (sym (append_assoc (m.all_names (map pattern_denotation qs)) (m.all_names (map pattern_denotation ps)) (names_in pss)))
 
 pub all_bind_nothing_keep : (pss : List (List Pattern)) (e : Expr) (run : ConstState)
     → answer_of (s.all_bind_nothing pss e run) ≡ answer run.todo (gives (value_if_nothing pss e (env_in run)) (place_of run))
@@ -203,7 +203,7 @@ all_bind_nothing_keep [] e run = refl
 all_bind_nothing_keep ([] ∷ pss) e run = refl
 all_bind_nothing_keep ((p ∷ ps) ∷ pss) e run =
     binds_nothing_keeps (shape_of p) ps pss e run
-    ∙ ap (λ (x : PatternMeant). answer run.todo (gives (if_constant (env_in run) ((x.names ++ m.all_names (map meant_pattern ps)) ++ names_in pss) e) (place_of run))) (sym (pattern_opened p))
+    ∙ ap (λ (x : PatternDen). answer run.todo (gives (if_constant (env_in run) ((x.names ++ m.all_names (map pattern_denotation ps)) ++ names_in pss) e) (place_of run))) (sym (pattern_opened p))
 
 -- ---- loops
 

@@ -16,14 +16,14 @@ use Rattle.dslx_meaning.specs.Callees.{CallKind, kind_of_call}
 use Rattle.dslx_meaning.specs.Environment.{Env}
 use Rattle.dslx_meaning.specs.Lists.{and_then, is_in}
 use Rattle.dslx_meaning.specs.Meaning as m
-use Rattle.dslx_meaning.specs.Meaning.{Meant, Evaluates, meant, meant_arg, value_of, written_type}
+use Rattle.dslx_meaning.specs.Meaning.{ExprDen, ValueDen, denotation, arg_denotation, value_of, written_type}
 use Rattle.dslx_meaning.specs.Operators.{number_value}
 use Rattle.dslx_meaning.specs.declared.ty.DslxType.{DslxType, out-DslxType}
 use Rattle.dslx_meaning.specs.declared.ty.DslxType.TheOpen.{DslxType-F}
-use Rattle.dslx_meaning.specs.declared.value.Bare.{Bare}
+use Rattle.dslx_meaning.specs.declared.value.UntypedLiteral.{UntypedLiteral}
 use Rattle.dslx_meaning.specs.declared.value.DslxValue.{DslxValue, Struct}
 use Rattle.dslx_const_machine.specs.Tasks.{ConstState, ListMaker, MakesTuple, MakesArray, Fills, CallsWith, Gathers, GathersFields}
-use Rattle.dslx_const_machine.specs.Layers.{bare_of, bare_node, without_type, written, field_among}
+use Rattle.dslx_const_machine.specs.Layers.{untyped_of, bare_node, without_type, written, field_among}
 use Rattle.dslx_const_machine.specs.States.{doing}
 use Rattle.dslx_const_machine.specs.Lists as s
 use Rattle.dslx_const_machine.specs.Patterns.{number_begins, uses_number}
@@ -34,17 +34,17 @@ use Rattle.dslx_const_machine.proofs.Uses.{uses_name_keeps, uses_function_keeps}
 
 -- ---- numbers
 
-number_bare : (o : Option TypeExpr) (b : Bare) → (m.number_meant (option_map written_type o) b).bare ≡ without_type o b
+number_bare : (o : Option TypeExpr) (b : UntypedLiteral) → (m.number_den (option_map written_type o) b).bare ≡ without_type o b
 number_bare None b = refl
 number_bare (Some t) b = refl
 
 bare_layer : (x : NodeLayer) → (node_means x).bare ≡ bare_node x
-bare_layer (Node-F.Node::Number n) = ap (λ (e : Meant). e.bare) (number_opened n) ∙ number_bare (out-Number n).ty (written n)
+bare_layer (Node-F.Node::Number n) = ap (λ (e : ExprDen). e.bare) (number_opened n) ∙ number_bare (out-Number n).ty (written n)
 bare_layer (Node-F.Node::Bool b) = refl
 bare_layer (Node-F.Node::Array t es dots) = refl
 bare_layer (Node-F.Node::Name name) = refl
 bare_layer (Node-F.Node::Member e a) = refl
-bare_layer (Node-F.Call f numbers es) = refl
+bare_layer (Node-F.Call f parametric_args es) = refl
 bare_layer (Node-F.Node::Tuple es) = refl
 bare_layer (Node-F.Struct x fields rest) = refl
 bare_layer (Node-F.Block b) = refl
@@ -61,67 +61,67 @@ bare_layer (Node-F.Cast e t) = refl
 bare_layer (Node-F.Binary o l r) = refl
 
 -- the number without a type that an expression is
-pub bare_is : (e : Expr) → (meant e).bare ≡ bare_of e
-bare_is e = ap (λ (x : Meant). x.bare) (opened e) ∙ bare_layer (node_of e)
+pub bare_is : (e : Expr) → (denotation e).bare ≡ untyped_of e
+bare_is e = ap (λ (x : ExprDen). x.bare) (opened e) ∙ bare_layer (node_of e)
 
-number_begins_keeps : (o : Option TypeExpr) (b : Bare) (run : ConstState)
-    → answer_of (number_begins o b run) ≡ answer run.todo (gives ((m.number_meant (option_map written_type o) b).value (env_in run)) (place_of run))
+number_begins_keeps : (o : Option TypeExpr) (b : UntypedLiteral) (run : ConstState)
+    → answer_of (number_begins o b run) ≡ answer run.todo (gives ((m.number_den (option_map written_type o) b).value (env_in run)) (place_of run))
 number_begins_keeps None b run = refl
 number_begins_keeps (Some t) b run = refl
 
 pub uses_number_keeps : (n : Number) (run : ConstState) → answer_of (uses_number n run) ≡ answer run.todo (gives ((number_means n).value (env_in run)) (place_of run))
 uses_number_keeps n run =
     number_begins_keeps (out-Number n).ty (written n) run
-    ∙ ap (λ (e : Meant). answer run.todo (gives (e.value (env_in run)) (place_of run))) (sym (number_opened n))
+    ∙ ap (λ (e : ExprDen). answer run.todo (gives (e.value (env_in run)) (place_of run))) (sym (number_opened n))
 
 -- ---- values in order
 
-calls_keep : (kind : CallKind) (name : List ℕ) (numbers vs : List DslxValue) (run : ConstState)
-    → answer_of (s.calls kind name numbers vs run) ≡ answer run.todo (gives (m.call_meant kind name (env_in run) numbers vs) (place_of run))
-calls_keep k.Joins name numbers vs run = refl
-calls_keep k.Receives name numbers vs run = refl
-calls_keep k.ReceivesIf name numbers vs run = refl
-calls_keep k.Sends name numbers vs run = refl
-calls_keep k.SendsIf name numbers vs run = refl
-calls_keep k.CountsLeading name numbers vs run = refl
-calls_keep k.CountsTrailing name numbers vs run = refl
-calls_keep k.Reverses name numbers vs run = refl
-calls_keep k.AllOnes name numbers vs run = refl
-calls_keep k.SomeOne name numbers vs run = refl
-calls_keep k.Parity name numbers vs run = refl
-calls_keep k.Updates name numbers vs run = refl
-calls_keep k.Calls name numbers vs run = uses_function_keeps name numbers vs run
+calls_keep : (kind : CallKind) (name : List ℕ) (parametric_args vs : List DslxValue) (run : ConstState)
+    → answer_of (s.calls kind name parametric_args vs run) ≡ answer run.todo (gives (m.call_den kind name (env_in run) parametric_args vs) (place_of run))
+calls_keep k.Joins name parametric_args vs run = refl
+calls_keep k.Receives name parametric_args vs run = refl
+calls_keep k.ReceivesIf name parametric_args vs run = refl
+calls_keep k.Sends name parametric_args vs run = refl
+calls_keep k.SendsIf name parametric_args vs run = refl
+calls_keep k.CountsLeading name parametric_args vs run = refl
+calls_keep k.CountsTrailing name parametric_args vs run = refl
+calls_keep k.Reverses name parametric_args vs run = refl
+calls_keep k.AllOnes name parametric_args vs run = refl
+calls_keep k.SomeOne name parametric_args vs run = refl
+calls_keep k.Parity name parametric_args vs run = refl
+calls_keep k.Updates name parametric_args vs run = refl
+calls_keep k.Calls name parametric_args vs run = uses_function_keeps name parametric_args vs run
 
 made_keeps : (maker : ListMaker) (vs : List DslxValue) (run : ConstState) → answer_of (s.made_of maker vs run) ≡ answer run.todo (gives (made_in maker (env_in run) vs) (place_of run))
 made_keeps MakesTuple vs run = refl
 made_keeps MakesArray vs run = refl
 made_keeps (Fills t n dots) vs run = refl
-made_keeps (CallsWith name numbers) vs run = calls_keep (kind_of_call name) name numbers vs run
+made_keeps (CallsWith name parametric_args) vs run = calls_keep (kind_of_call name) name parametric_args vs run
 
 -- an element of a type
-abbrev element_in : DslxType → Option Bare → Option DslxValue → Option DslxValue
+abbrev element_in : DslxType → Option UntypedLiteral → Option DslxValue → Option DslxValue
 element_in t None v = v
 element_in t (Some b) v = number_value t b
 
-element_is : (t : DslxType) (env : Env) (e : Meant) → m.element_meant t env e ≡ element_in t e.bare (e.value env)
+element_is : (t : DslxType) (env : Env) (e : ExprDen) → m.element_den t env e ≡ element_in t e.bare (e.value env)
 element_is t env e = by e.bare
   where
-    by : (o : Option Bare) → m.element_meant t env (record { bare = o; value = e.value }) ≡ element_in t o (e.value env)
+    by : (o : Option UntypedLiteral) → m.element_den t env (record { bare = o; value = e.value }) ≡ element_in t o (e.value env)
     by None = refl
     by (Some b) = refl
 
-element_keeps : (t : DslxType) (o : Option Bare) (e : Expr) (run : ConstState)
+element_keeps : (t : DslxType) (o : Option UntypedLiteral) (e : Expr) (run : ConstState)
     → answer_of (s.element_begins t o e run) ≡ answer run.todo (gives (element_in t o (value_of e (env_in run))) (place_of run))
 element_keeps t None e run = refl
 element_keeps t (Some b) e run = refl
 
-next_keeps : (maker : ListMaker) (e : Expr) (run : ConstState) → answer_of (s.next_begins maker e run) ≡ answer run.todo (gives (part_in maker (env_in run) (meant e)) (place_of run))
+next_keeps : (maker : ListMaker) (e : Expr) (run : ConstState) → answer_of (s.next_begins maker e run) ≡ answer run.todo (gives (part_in maker (env_in run) (denotation e)) (place_of run))
 next_keeps MakesTuple e run = refl
 next_keeps MakesArray e run = refl
 next_keeps (Fills t n dots) e run =
-    element_keeps t (bare_of e) e run
-    ∙ ap (λ o. answer run.todo (gives o (place_of run))) (ap (λ o. element_in t o (value_of e (env_in run))) (sym (bare_is e)) ∙ sym (element_is t (env_in run) (meant e)))
-next_keeps (CallsWith name numbers) e run = refl
+    element_keeps t (untyped_of e) e run
+    ∙ ap (λ o. answer run.todo (gives o (place_of run))) (ap (λ o. element_in t o (value_of e (env_in run))) (sym (bare_is e)) ∙ sym (element_is t (env_in run) (denotation e)))
+next_keeps (CallsWith name parametric_args) e run = refl
 
 pub gathers_keep : (vs : List DslxValue) (es : List Expr) (maker : ListMaker) (run : ConstState)
     → answer_of (s.gathers vs es maker run) ≡ answer run.todo (gives (and_then (parts_in maker (env_in run) es) (λ ws. made_in maker (env_in run) (vs ++ ws))) (place_of run))
@@ -130,7 +130,7 @@ gathers_keep vs [] maker run =
 gathers_keep vs (e ∷ es) maker run =
     next_keeps maker e (doing (Gathers vs es maker ∷ []) run)
     ∙ ap (λ o. answer run.todo (gives o (place_of run)))
-    (sym (first_of_all (part_in maker (env_in run) (meant e)) (map (part_in maker (env_in run)) (map meant es)) (λ ws. made_in maker (env_in run) (vs ++ ws))))
+    (sym (first_of_all (part_in maker (env_in run) (denotation e)) (map (part_in maker (env_in run)) (map denotation es)) (λ ws. made_in maker (env_in run) (vs ++ ws))))
 
 pub gathered_keep : (vs : List DslxValue) (es : List Expr) (maker : ListMaker) (o : Option DslxValue) (run : ConstState)
     → answer_of (s.gathered vs es maker o run)
@@ -140,35 +140,35 @@ gathered_keep vs es maker (Some v) run =
     gathers_keep (vs ++ v ∷ []) es maker run
     ∙ λ j. answer run.todo (gives (and_then (parts_in maker (env_in run) es) (λ ws. made_in maker (env_in run) (append_assoc vs (v ∷ []) ws j))) (place_of run))
 
--- ---- number arguments
+-- ---- parametric arguments
 
--- a call where these number arguments are known
+-- a call where these parametric arguments are known
 abbrev pub call_with : List ℕ → Env → List Expr → List DslxValue → Option DslxValue
-call_with name env es numbers = and_then (m.values_of (map meant es) env) (λ ws. m.call_meant (kind_of_call name) name env numbers ws)
+call_with name env es parametric_args = and_then (m.values_of (map denotation es) env) (λ ws. m.call_den (kind_of_call name) name env parametric_args ws)
 
-pub numbers_keep : (vs : List DslxValue) (numbers : List Arg) (name : List ℕ) (es : List Expr) (run : ConstState)
-    → answer_of (s.gathers_numbers vs numbers name es run)
-    ≡ answer run.todo (gives (and_then (m.values_of (map meant_arg numbers) (env_in run)) (λ ns. call_with name (env_in run) es (vs ++ ns))) (place_of run))
-numbers_keep vs [] name es run =
+pub parametric_args_keep : (vs : List DslxValue) (parametric_args : List Arg) (name : List ℕ) (es : List Expr) (run : ConstState)
+    → answer_of (s.gathers_parametric_args vs parametric_args name es run)
+    ≡ answer run.todo (gives (and_then (m.values_of (map arg_denotation parametric_args) (env_in run)) (λ ns. call_with name (env_in run) es (vs ++ ns))) (place_of run))
+parametric_args_keep vs [] name es run =
     gathers_keep [] es (CallsWith name vs) run ∙ ap (λ ns. answer run.todo (gives (call_with name (env_in run) es ns) (place_of run))) (sym (append-nil vs))
-numbers_keep vs (a ∷ numbers) name es run =
-    ap (λ (e : Meant). answer run.todo (gives (and_then (e.value (env_in run)) (λ v. and_then (m.values_of (map meant_arg numbers) (env_in run)) (λ ns. call_with name (env_in run) es (vs ++ v ∷ ns)))) (place_of run)))
+parametric_args_keep vs (a ∷ parametric_args) name es run =
+    ap (λ (e : ExprDen). answer run.todo (gives (and_then (e.value (env_in run)) (λ v. and_then (m.values_of (map arg_denotation parametric_args) (env_in run)) (λ ns. call_with name (env_in run) es (vs ++ v ∷ ns)))) (place_of run)))
     (sym (arg_opened a))
     ∙ ap (λ o. answer run.todo (gives o (place_of run)))
-    (sym (first_of_all ((meant_arg a).value (env_in run)) (map (λ (e : Meant). e.value (env_in run)) (map meant_arg numbers)) (λ ns. call_with name (env_in run) es (vs ++ ns))))
+    (sym (first_of_all ((arg_denotation a).value (env_in run)) (map (λ (e : ExprDen). e.value (env_in run)) (map arg_denotation parametric_args)) (λ ns. call_with name (env_in run) es (vs ++ ns))))
 
-pub number_gathered_keeps : (vs : List DslxValue) (numbers : List Arg) (name : List ℕ) (es : List Expr) (o : Option DslxValue) (run : ConstState)
-    → answer_of (s.number_gathered vs numbers name es o run)
-    ≡ answer run.todo (gives (and_then o (λ v. and_then (m.values_of (map meant_arg numbers) (env_in run)) (λ ns. call_with name (env_in run) es (vs ++ v ∷ ns)))) (place_of run))
-number_gathered_keeps vs numbers name es None run = refl
-number_gathered_keeps vs numbers name es (Some v) run =
-    numbers_keep (vs ++ v ∷ []) numbers name es run
-    ∙ λ j. answer run.todo (gives (and_then (m.values_of (map meant_arg numbers) (env_in run)) (λ ns. call_with name (env_in run) es (append_assoc vs (v ∷ []) ns j))) (place_of run))
+pub number_gathered_keeps : (vs : List DslxValue) (parametric_args : List Arg) (name : List ℕ) (es : List Expr) (o : Option DslxValue) (run : ConstState)
+    → answer_of (s.number_gathered vs parametric_args name es o run)
+    ≡ answer run.todo (gives (and_then o (λ v. and_then (m.values_of (map arg_denotation parametric_args) (env_in run)) (λ ns. call_with name (env_in run) es (vs ++ v ∷ ns)))) (place_of run))
+number_gathered_keeps vs parametric_args name es None run = refl
+number_gathered_keeps vs parametric_args name es (Some v) run =
+    parametric_args_keep (vs ++ v ∷ []) parametric_args name es run
+    ∙ λ j. answer run.todo (gives (and_then (m.values_of (map arg_denotation parametric_args) (env_in run)) (λ ns. call_with name (env_in run) es (append_assoc vs (v ∷ []) ns j))) (place_of run))
 
 -- ---- arrays of a type
 
 fills_keep : (x : DslxType-F DslxType) (es : List Expr) (dots : Bool) (run : ConstState)
-    → answer_of (s.fills x es dots run) ≡ answer run.todo (gives (m.array_at (env_in run) (map meant es) dots x) (place_of run))
+    → answer_of (s.fills x es dots run) ≡ answer run.todo (gives (m.array_at (env_in run) (map denotation es) dots x) (place_of run))
 fills_keep (DslxType-F.Bits sign w) es dots run = refl
 fills_keep (DslxType-F.Tuple ts) es dots run = refl
 fills_keep (DslxType-F.Array t n) es dots run = gathers_keep [] es (Fills t n dots) run
@@ -177,14 +177,14 @@ fills_keep (DslxType-F.Enum name sign w) es dots run = refl
 fills_keep DslxType-F.Token es dots run = refl
 
 pub elements_keep : (o : Option DslxType) (es : List Expr) (dots : Bool) (run : ConstState)
-    → answer_of (s.elements_begin o es dots run) ≡ answer run.todo (gives (and_then o (λ t. m.array_at (env_in run) (map meant es) dots (out-DslxType t))) (place_of run))
+    → answer_of (s.elements_begin o es dots run) ≡ answer run.todo (gives (and_then o (λ t. m.array_at (env_in run) (map denotation es) dots (out-DslxType t))) (place_of run))
 elements_keep None es dots run = refl
 elements_keep (Some t) es dots run = fills_keep (out-DslxType t) es dots run
 
 -- ---- fields
 
 field_value_keeps : (name : List ℕ) (o : Option Expr) (run : ConstState)
-    → answer_of (s.field_value_begins name o run) ≡ answer run.todo (gives (m.field_value_of name (option_map meant o) (env_in run)) (place_of run))
+    → answer_of (s.field_value_begins name o run) ≡ answer run.todo (gives (m.field_value_of name (option_map denotation o) (env_in run)) (place_of run))
 field_value_keeps name None run = uses_name_keeps name run
 field_value_keeps name (Some e) run = refl
 

@@ -5,8 +5,8 @@ use Rattle.dslx_tree.specs.declared.item.Module.{Module}
 use Rattle.dslx_tree.specs.declared.type_expr.TypeExpr.{TypeExpr}
 use Rattle.dslx_meaning.specs.Environment.{Given}
 use Rattle.dslx_meaning.specs.Items.{meanings_of}
-use Rattle.dslx_meaning.specs.Meaning.{meant, value_of, written_type, size_of, bound_of}
-use Rattle.dslx_const_machine.specs.Tasks.{ConstTask, ConstState, Finding, Evaluates, FindsType, CountsSize, CountsBound}
+use Rattle.dslx_meaning.specs.Meaning.{denotation, value_of, written_type, size_of, bound_of}
+use Rattle.dslx_const_machine.specs.Tasks.{ConstTask, ConstState, Finding, ValueDen, FindsType, CountsSize, CountsBound}
 use Rattle.dslx_const_machine.specs.States.{value_in, type_in, count_in_finding}
 use Rattle.dslx_const_machine.specs.Steps.{stepped, behind, after, begins}
 use Rattle.dslx_const_machine.proofs.Keeps.{keeps}
@@ -17,17 +17,17 @@ abbrev pub comes_to : ConstState → Finding
 comes_to run = (answer_of run).found
 
 -- the value of the expression that it begins with
-pub comes_to_value : (m : Module) (bound : List Given) (e : Expr) → value_in (comes_to (begins m bound (Evaluates e))) ≡ value_of e (record { items = meanings_of m; bound = bound })
+pub comes_to_value : (m : Module) (bound : List Given) (e : Expr) → value_in (comes_to (begins m bound (ValueDen e))) ≡ value_of e (record { items = meanings_of m; bound = bound })
 comes_to_value m bound e = refl
 
 -- a written type, a size and a bound
 pub comes_to_type : (m : Module) (bound : List Given) (t : TypeExpr) → type_in (comes_to (begins m bound (FindsType t))) ≡ written_type t (record { items = meanings_of m; bound = bound })
 comes_to_type m bound t = refl
 
-pub comes_to_size : (m : Module) (bound : List Given) (e : Expr) → count_in_finding (comes_to (begins m bound (CountsSize e))) ≡ size_of (meant e) (record { items = meanings_of m; bound = bound })
+pub comes_to_size : (m : Module) (bound : List Given) (e : Expr) → count_in_finding (comes_to (begins m bound (CountsSize e))) ≡ size_of (denotation e) (record { items = meanings_of m; bound = bound })
 comes_to_size m bound e = refl
 
-pub comes_to_bound : (m : Module) (bound : List Given) (e : Expr) → count_in_finding (comes_to (begins m bound (CountsBound e))) ≡ bound_of (meant e) (record { items = meanings_of m; bound = bound })
+pub comes_to_bound : (m : Module) (bound : List Given) (e : Expr) → count_in_finding (comes_to (begins m bound (CountsBound e))) ≡ bound_of (denotation e) (record { items = meanings_of m; bound = bound })
 comes_to_bound m bound e = refl
 
 -- a step keeps it

@@ -10,24 +10,24 @@ use Rattle.dslx_tree.specs.declared.item.Enum.{Enum}
 use Rattle.dslx_tree.specs.declared.item.Field.{Field}
 use Rattle.dslx_tree.specs.declared.item.Function.{Function}
 use Rattle.dslx_tree.specs.declared.item.Member.{Member}
-use Rattle.dslx_tree.specs.declared.item.Parameter.{Parameter}
+use Rattle.dslx_tree.specs.declared.item.Parametric.{Parametric}
 use Rattle.dslx_tree.specs.declared.item.Struct.{Struct}
 use Rattle.dslx_meaning.specs.Environment.{Env, Given, Meanings, given_in, value_of_name, outside}
 use Rattle.dslx_meaning.specs.Inference.{Inferred, inferred_for}
 use Rattle.dslx_meaning.specs.Items as i
-use Rattle.dslx_meaning.specs.Items.{meanings_within, item_named, as_function, as_constant, as_struct, as_enum, member_named, all_numbers, numbers_bound, with_number, put_first, inferred_from}
+use Rattle.dslx_meaning.specs.Items.{meanings_within, item_named, as_function, as_constant, as_struct, as_enum, member_named, all_parametric_args, parametric_args_bound, with_number, put_first, inferred_from}
 use Rattle.dslx_meaning.specs.Lists.{and_then, or_else}
-use Rattle.dslx_meaning.specs.Meaning.{Meant, meant, value_of, value_of_block, written_type}
+use Rattle.dslx_meaning.specs.Meaning.{ExprDen, denotation, value_of, value_of_block, written_type}
 use Rattle.dslx_meaning.specs.Values.{type_of_value}
 use Rattle.dslx_meaning.specs.declared.ty.BitKind.{BitKind}
 use Rattle.dslx_meaning.specs.declared.ty.DslxType.{DslxType}
-use Rattle.dslx_meaning.specs.declared.value.Bare.{Bare}
+use Rattle.dslx_meaning.specs.declared.value.UntypedLiteral.{UntypedLiteral}
 use Rattle.dslx_meaning.specs.declared.value.DslxValue.{DslxValue}
 use Rattle.dslx_const_machine.specs.Tasks.{ConstState, ConstCall}
 use Rattle.dslx_const_machine.specs.Items as s
 use Rattle.dslx_const_machine.specs.States.{at_item, one_less}
 use Rattle.dslx_const_machine.proofs.Options.{first_of_all}
-use Rattle.dslx_const_machine.proofs.Places.{place_of, env_in, gives, gives_type, back_from, answer, answer_of, field_types_in, struct_of, member_in, body_in, call_in, operands_in, parameter_in}
+use Rattle.dslx_const_machine.proofs.Places.{place_of, env_in, gives, gives_type, back_from, answer, answer_of, field_types_in, struct_of, member_in, body_in, call_in, operands_in, parametric_in}
 
 -- ---- constants, names, members
 
@@ -49,10 +49,10 @@ uses_name_keeps name run = by (given_in name run.bound) refl
     by None e = uses_constant_keeps name run ∙ ap (λ q. answer run.todo (gives (or_else q ((env_in run).items.constant name)) (place_of run))) (sym e)
     by (Some v) e = ap (λ q. answer run.todo (gives (or_else q ((env_in run).items.constant name)) (place_of run))) (sym e)
 
-member_bits_are : (items : Meanings) (kind : BitKind) (e : Meant) → i.member_bits items kind e ≡ member_in kind e.bare (e.value (outside items))
+member_bits_are : (items : Meanings) (kind : BitKind) (e : ExprDen) → i.member_bits items kind e ≡ member_in kind e.bare (e.value (outside items))
 member_bits_are items kind e = by e.bare
   where
-    by : (o : Option Bare) → i.member_bits items kind (record { bare = o; value = e.value }) ≡ member_in kind o (e.value (outside items))
+    by : (o : Option UntypedLiteral) → i.member_bits items kind (record { bare = o; value = e.value }) ≡ member_in kind o (e.value (outside items))
     by None = refl
     by (Some b) = refl
 
@@ -62,7 +62,7 @@ uses_member_keeps e a run = within run.left
     member : (n : ℕ) (x : Enum) (o : Option Member) → answer_of (s.at_member n x o run) ≡ answer run.todo (gives (and_then o (i.member_value (meanings_within run.text n) x)) (place_of run))
     member n x None = refl
     member n x (Some mem) = λ j. answer run.todo (gives (and_then (i.base_of (meanings_within run.text n) x)
-        (λ kind. and_then (sym (member_bits_are (meanings_within run.text n) kind (meant mem.value)) j) (i.enum_member x.name.name))) (place_of run))
+        (λ kind. and_then (sym (member_bits_are (meanings_within run.text n) kind (denotation mem.value)) j) (i.enum_member x.name.name))) (place_of run))
 
     found : (n : ℕ) (o : Option Enum) → answer_of (s.at_member_of n o a run)
         ≡ answer run.todo (gives (and_then o (λ x. and_then (member_named a x.members) (i.member_value (meanings_within run.text n) x))) (place_of run))
@@ -117,8 +117,8 @@ put_first_then a None k = refl
 put_first_then a (Some more) k = refl
 
 -- where all numbers are given nothing is to be inferred
-all_given : (items : Meanings) (inferred : List Inferred) (so_far : List Given) (ps : List Parameter) (vs : List DslxValue) → nat_lt (length vs) (length ps) ≡ false
-    → all_numbers items inferred so_far ps vs ≡ all_numbers items [] so_far ps vs
+all_given : (items : Meanings) (inferred : List Inferred) (so_far : List Given) (ps : List Parametric) (vs : List DslxValue) → nat_lt (length vs) (length ps) ≡ false
+    → all_parametric_args items inferred so_far ps vs ≡ all_parametric_args items [] so_far ps vs
 all_given items inferred so_far [] [] e = refl
 all_given items inferred so_far [] (v ∷ vs) e = refl
 all_given items inferred so_far (p ∷ ps) (v ∷ vs) e =
@@ -126,27 +126,27 @@ all_given items inferred so_far (p ∷ ps) (v ∷ vs) e =
     ap (put_first v) (all_given items inferred (with_number so_far p v) ps vs fewer)
 all_given items inferred so_far (p ∷ ps) [] e = absurd (grind (arith, nat_tests))
 
-numbers_inferred : (items : Meanings) (f : Function) (numbers vs : List DslxValue)
-    → all_numbers items (s.inferred_by f numbers vs) [] f.parameters numbers ≡ all_numbers items (inferred_from f.arguments (map type_of_value vs)) [] f.parameters numbers
-numbers_inferred items f numbers vs = by (nat_lt (length numbers) (length f.parameters)) refl
+parametric_args_inferred : (items : Meanings) (f : Function) (parametric_args vs : List DslxValue)
+    → all_parametric_args items (s.inferred_by f parametric_args vs) [] f.parametrics parametric_args ≡ all_parametric_args items (inferred_from f.arguments (map type_of_value vs)) [] f.parametrics parametric_args
+parametric_args_inferred items f parametric_args vs = by (nat_lt (length parametric_args) (length f.parametrics)) refl
   where
-    by : (b : Bool) → nat_lt (length numbers) (length f.parameters) ≡ b
-        → all_numbers items (if b then inferred_from f.arguments (map type_of_value vs) else []) [] f.parameters numbers
-        ≡ all_numbers items (inferred_from f.arguments (map type_of_value vs)) [] f.parameters numbers
+    by : (b : Bool) → nat_lt (length parametric_args) (length f.parametrics) ≡ b
+        → all_parametric_args items (if b then inferred_from f.arguments (map type_of_value vs) else []) [] f.parametrics parametric_args
+        ≡ all_parametric_args items (inferred_from f.arguments (map type_of_value vs)) [] f.parametrics parametric_args
     by true e = refl
-    by false e = sym (all_given items (inferred_from f.arguments (map type_of_value vs)) [] f.parameters numbers e)
+    by false e = sym (all_given items (inferred_from f.arguments (map type_of_value vs)) [] f.parametrics parametric_args e)
 
-pub uses_function_keeps : (name : List ℕ) (numbers vs : List DslxValue) (run : ConstState)
-    → answer_of (s.uses_function name numbers vs run) ≡ answer run.todo (gives ((env_in run).items.call name numbers vs) (place_of run))
-uses_function_keeps name numbers vs run = within run.left
+pub uses_function_keeps : (name : List ℕ) (parametric_args vs : List DslxValue) (run : ConstState)
+    → answer_of (s.uses_function name parametric_args vs run) ≡ answer run.todo (gives ((env_in run).items.call name parametric_args vs) (place_of run))
+uses_function_keeps name parametric_args vs run = within run.left
   where
-    found : (n : ℕ) (o : Option Function) → answer_of (s.at_function n o numbers vs run)
-        ≡ answer run.todo (gives (and_then o (λ f. i.call_of (meanings_within run.text n) f numbers vs)) (place_of run))
+    found : (n : ℕ) (o : Option Function) → answer_of (s.at_function n o parametric_args vs run)
+        ≡ answer run.todo (gives (and_then o (λ f. i.call_of (meanings_within run.text n) f parametric_args vs)) (place_of run))
     found n None = refl
     found n (Some f) =
-        ap (λ o. answer run.todo (gives (and_then o (λ ns. i.function_value (meanings_within run.text n) f ns vs)) (place_of run))) (numbers_inferred (meanings_within run.text n) f numbers vs)
+        ap (λ o. answer run.todo (gives (and_then o (λ ns. i.function_value (meanings_within run.text n) f ns vs)) (place_of run))) (parametric_args_inferred (meanings_within run.text n) f parametric_args vs)
 
-    within : (n : ℕ) → answer_of (s.function_from (one_less n) name numbers vs run) ≡ answer run.todo (gives ((meanings_within run.text n).call name numbers vs) (place_of run))
+    within : (n : ℕ) → answer_of (s.function_from (one_less n) name parametric_args vs run) ≡ answer run.todo (gives ((meanings_within run.text n).call name parametric_args vs) (place_of run))
     within zero = refl
     within (suc n) = found n (as_function (item_named name run.text.items))
 
@@ -159,7 +159,7 @@ operands_keep (v ∷ vs) call [] run e = refl
 operands_keep (v ∷ vs) call (f ∷ fs) run e =
     ap (λ ws. answer run.todo (back_from call (value_of_block call.function.body (record { items = (env_in run).items; bound = i.operands_bound run.bound (f ∷ fs) ws })) (place_of run))) (sym e)
 
--- where all number parameters are bound
+-- where all parametrics are bound
 begins_keeps : (call : ConstCall) (run : ConstState)
     → answer_of (s.call_begins call run) ≡ answer run.todo (back_from call (body_in call [] (env_in run) []) (place_of run))
 begins_keeps call run = by (length call.operands == length call.function.arguments) refl
@@ -169,46 +169,46 @@ begins_keeps call run = by (length call.operands == length call.function.argumen
     by true e = rw e refl
     by false e = rw e refl
 
-pub parameter_keeps : (call : ConstCall) (p : Parameter) (ps : List Parameter) (o : Option DslxValue) (run : ConstState)
-    → answer_of (s.parameter_given o call p ps run) ≡ answer run.todo (back_from call (parameter_in call p ps o (env_in run)) (place_of run))
-parameter_keeps call p ps None run = refl
-parameter_keeps call p ps (Some v) run = refl
+pub parametric_keeps : (call : ConstCall) (p : Parametric) (ps : List Parametric) (o : Option DslxValue) (run : ConstState)
+    → answer_of (s.parametric_given o call p ps run) ≡ answer run.todo (back_from call (parametric_in call p ps o (env_in run)) (place_of run))
+parametric_keeps call p ps None run = refl
+parametric_keeps call p ps (Some v) run = refl
 
 -- a call by the numbers that are given
-abbrev call_given : ConstCall → List Parameter → Env → List DslxValue → Option DslxValue
-call_given call ps env vs = and_then (all_numbers env.items call.inferred env.bound ps vs) (body_in call ps env)
+abbrev call_given : ConstCall → List Parametric → Env → List DslxValue → Option DslxValue
+call_given call ps env vs = and_then (all_parametric_args env.items call.inferred env.bound ps vs) (body_in call ps env)
 
 -- a parameter that isn't given, and those behind it
-next_number : (call : ConstCall) (p : Parameter) (ps : List Parameter) (env : Env) → call.given ≡ []
-    → call_given call (p ∷ ps) env [] ≡ parameter_in call p ps (i.inferred_value env p (inferred_for p.name.name call.inferred)) env
+next_number : (call : ConstCall) (p : Parametric) (ps : List Parametric) (env : Env) → call.given ≡ []
+    → call_given call (p ∷ ps) env [] ≡ parametric_in call p ps (i.inferred_value env p (inferred_for p.name.name call.inferred)) env
 next_number call p ps env none = by (i.inferred_value env p (inferred_for p.name.name call.inferred))
   where
     by : (o : Option DslxValue)
-        → and_then (and_then o (λ v. put_first v (all_numbers env.items call.inferred (with_number env.bound p v) ps []))) (body_in call (p ∷ ps) env) ≡ parameter_in call p ps o env
+        → and_then (and_then o (λ v. put_first v (all_parametric_args env.items call.inferred (with_number env.bound p v) ps []))) (body_in call (p ∷ ps) env) ≡ parametric_in call p ps o env
     by None = refl
     by (Some v) =
-        put_first_then v (all_numbers env.items call.inferred (with_number env.bound p v) ps []) (body_in call (p ∷ ps) env)
+        put_first_then v (all_parametric_args env.items call.inferred (with_number env.bound p v) ps []) (body_in call (p ∷ ps) env)
         ∙ ap (λ vs. call_given call ps (record { items = env.items; bound = with_number env.bound p v }) vs) (sym none)
 
-pub parameters_keep : (vs : List DslxValue) (call : ConstCall) (ps : List Parameter) (run : ConstState) → call.given ≡ vs
-    → answer_of (s.parameters_on vs call ps run) ≡ answer run.todo (back_from call (call_in call ps (env_in run)) (place_of run))
-parameters_keep [] call [] run e = begins_keeps call run ∙ ap (λ ws. answer run.todo (back_from call (call_given call [] (env_in run) ws) (place_of run))) (sym e)
-parameters_keep [] call (p ∷ ps) run e =
+pub parametrics_keep : (vs : List DslxValue) (call : ConstCall) (ps : List Parametric) (run : ConstState) → call.given ≡ vs
+    → answer_of (s.parametrics_on vs call ps run) ≡ answer run.todo (back_from call (call_in call ps (env_in run)) (place_of run))
+parametrics_keep [] call [] run e = begins_keeps call run ∙ ap (λ ws. answer run.todo (back_from call (call_given call [] (env_in run) ws) (place_of run))) (sym e)
+parametrics_keep [] call (p ∷ ps) run e =
     by (inferred_for p.name.name call.inferred)
     ∙ ap (λ o. answer run.todo (back_from call o (place_of run))) (sym (next_number call p ps (env_in run) e))
     ∙ ap (λ ws. answer run.todo (back_from call (call_given call (p ∷ ps) (env_in run) ws) (place_of run))) (sym e)
   where
     default : (o : Option Expr) → answer_of (s.default_begins o call p ps run)
-        ≡ answer run.todo (back_from call (parameter_in call p ps (and_then o (λ x. value_of x (env_in run))) (env_in run)) (place_of run))
+        ≡ answer run.todo (back_from call (parametric_in call p ps (and_then o (λ x. value_of x (env_in run))) (env_in run)) (place_of run))
     default None = refl
     default (Some x) = refl
 
-    by : (o : Option ℕ) → answer_of (s.parameter_begins o call p ps run)
-        ≡ answer run.todo (back_from call (parameter_in call p ps (i.inferred_value (env_in run) p o) (env_in run)) (place_of run))
+    by : (o : Option ℕ) → answer_of (s.parametric_begins o call p ps run)
+        ≡ answer run.todo (back_from call (parametric_in call p ps (i.inferred_value (env_in run) p o) (env_in run)) (place_of run))
     by None = default p.default
     by (Some k) = refl
-parameters_keep (v ∷ vs) call [] run e = ap (λ ws. answer run.todo (back_from call (call_given call [] (env_in run) ws) (place_of run))) (sym e)
-parameters_keep (v ∷ vs) call (p ∷ ps) run e =
+parametrics_keep (v ∷ vs) call [] run e = ap (λ ws. answer run.todo (back_from call (call_given call [] (env_in run) ws) (place_of run))) (sym e)
+parametrics_keep (v ∷ vs) call (p ∷ ps) run e =
     ap (λ o. answer run.todo (back_from call o (place_of run)))
-    (sym (put_first_then v (all_numbers (env_in run).items call.inferred (with_number run.bound p v) ps vs) (body_in call (p ∷ ps) (env_in run))))
+    (sym (put_first_then v (all_parametric_args (env_in run).items call.inferred (with_number run.bound p v) ps vs) (body_in call (p ∷ ps) (env_in run))))
     ∙ ap (λ ws. answer run.todo (back_from call (call_given call (p ∷ ps) (env_in run) ws) (place_of run))) (sym e)

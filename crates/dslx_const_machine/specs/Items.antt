@@ -9,7 +9,7 @@ use Rattle.dslx_tree.specs.declared.item.Field.{Field}
 use Rattle.dslx_tree.specs.declared.item.Function.{Function}
 use Rattle.dslx_tree.specs.declared.item.Member.{Member}
 use Rattle.dslx_tree.specs.declared.item.Module.{Module}
-use Rattle.dslx_tree.specs.declared.item.Parameter.{Parameter}
+use Rattle.dslx_tree.specs.declared.item.Parametric.{Parametric}
 use Rattle.dslx_tree.specs.declared.item.Struct.{Struct}
 use Rattle.dslx_meaning.specs.Environment.{given_in}
 use Rattle.dslx_meaning.specs.Inference.{Inferred, inferred_for}
@@ -18,7 +18,7 @@ use Rattle.dslx_meaning.specs.Values.{type_of_value}
 use Rattle.dslx_meaning.specs.declared.ty.DslxType.{DslxType}
 use Rattle.dslx_meaning.specs.declared.ty.DslxType as ty
 use Rattle.dslx_meaning.specs.declared.value.DslxValue.{DslxValue}
-use Rattle.dslx_const_machine.specs.Tasks.{ConstState, ConstCall, Evaluates, DoesBlock, FindsType, FindsMember, MakesEnumType, GathersFieldTypes, FindsParameters, GivesParameter, GivesOperands, Numbers, Returns}
+use Rattle.dslx_const_machine.specs.Tasks.{ConstState, ConstCall, ValueDen, DoesBlock, FindsType, FindsMember, MakesEnumType, GathersFieldTypes, FindsParametrics, GivesParametric, GivesOperands, Numbers, Returns}
 use Rattle.dslx_const_machine.specs.States.{finds_value, finds_type, doing, one_less, at_item, back_at, binding}
 
 -- ---- constants and members
@@ -33,7 +33,7 @@ is_constant_within m n name = is_constant_from (one_less n) m name
 
 abbrev pub at_constant : ℕ → Option Constant → ConstState → ConstState
 at_constant n None run = finds_value None run
-at_constant n (Some c) run = at_item n (Evaluates c.value ∷ []) run
+at_constant n (Some c) run = at_item n (ValueDen c.value ∷ []) run
 
 abbrev pub constant_from : Option ℕ → List ℕ → ConstState → ConstState
 constant_from None name run = finds_value None run
@@ -102,24 +102,24 @@ uses_type name run = type_from (one_less run.left) name run
 
 -- ---- calls of functions
 
--- what operands infer, where not all number parameters are given
+-- what operands infer, where not all parametrics are given
 abbrev pub inferred_by : Function → List DslxValue → List DslxValue → List Inferred
-inferred_by f numbers vs = if nat_lt (length numbers) (length f.parameters) then inferred_from f.arguments (map type_of_value vs) else []
+inferred_by f parametric_args vs = if nat_lt (length parametric_args) (length f.parametrics) then inferred_from f.arguments (map type_of_value vs) else []
 
 abbrev pub call_from : Function → List DslxValue → List DslxValue → ConstState → ConstCall
-call_from f numbers vs run = record { function = f; given = numbers; inferred = inferred_by f numbers vs; operands = vs; bound = run.bound; left = run.left }
+call_from f parametric_args vs run = record { function = f; given = parametric_args; inferred = inferred_by f parametric_args vs; operands = vs; bound = run.bound; left = run.left }
 
 abbrev pub at_function : ℕ → Option Function → List DslxValue → List DslxValue → ConstState → ConstState
-at_function n None numbers vs run = finds_value None run
-at_function n (Some f) numbers vs run = record run { todo = FindsParameters (call_from f numbers vs run) f.parameters ∷ run.todo; bound = []; left = n }
+at_function n None parametric_args vs run = finds_value None run
+at_function n (Some f) parametric_args vs run = record run { todo = FindsParametrics (call_from f parametric_args vs run) f.parametrics ∷ run.todo; bound = []; left = n }
 
 abbrev pub function_from : Option ℕ → List ℕ → List DslxValue → List DslxValue → ConstState → ConstState
-function_from None name numbers vs run = finds_value None run
-function_from (Some n) name numbers vs run = at_function n (as_function (item_named name run.text.items)) numbers vs run
+function_from None name parametric_args vs run = finds_value None run
+function_from (Some n) name parametric_args vs run = at_function n (as_function (item_named name run.text.items)) parametric_args vs run
 
--- a function of the text at its number arguments and its operands
+-- a function of the text at its parametric arguments and its operands
 abbrev pub uses_function : List ℕ → List DslxValue → List DslxValue → ConstState → ConstState
-uses_function name numbers vs run = function_from (one_less run.left) name numbers vs run
+uses_function name parametric_args vs run = function_from (one_less run.left) name parametric_args vs run
 
 -- a call that comes to nothing
 abbrev pub call_fails : ConstCall → ConstState → ConstState
@@ -134,26 +134,26 @@ operands_on [] call fs run = body_begins call run
 operands_on (v ∷ vs) call [] run = body_begins call run
 operands_on (v ∷ vs) call (f ∷ fs) run = doing (GivesOperands (record call { operands = vs }) fs ∷ []) (binding f.name.name v run)
 
--- the operands, where all number parameters have their values
+-- the operands, where all parametrics have their values
 abbrev pub call_begins : ConstCall → ConstState → ConstState
 call_begins call run = if length call.operands == length call.function.arguments then doing (GivesOperands call call.function.arguments ∷ []) run else call_fails call run
 
-abbrev pub default_begins : Option Expr → ConstCall → Parameter → List Parameter → ConstState → ConstState
+abbrev pub default_begins : Option Expr → ConstCall → Parametric → List Parametric → ConstState → ConstState
 default_begins None call p ps run = call_fails call run
-default_begins (Some e) call p ps run = doing (Evaluates e ∷ GivesParameter call p ps ∷ []) run
+default_begins (Some e) call p ps run = doing (ValueDen e ∷ GivesParametric call p ps ∷ []) run
 
 -- a parameter that the operands infer, or else its default
-abbrev pub parameter_begins : Option ℕ → ConstCall → Parameter → List Parameter → ConstState → ConstState
-parameter_begins (Some k) call p ps run = doing (FindsType p.ty ∷ Numbers (record { is_negative = false; value = k }) ∷ GivesParameter call p ps ∷ []) run
-parameter_begins None call p ps run = default_begins p.default call p ps run
+abbrev pub parametric_begins : Option ℕ → ConstCall → Parametric → List Parametric → ConstState → ConstState
+parametric_begins (Some k) call p ps run = doing (FindsType p.ty ∷ Numbers (record { is_negative = false; value = k }) ∷ GivesParametric call p ps ∷ []) run
+parametric_begins None call p ps run = default_begins p.default call p ps run
 
 -- the first parameter is bound
-abbrev pub parameters_on : List DslxValue → ConstCall → List Parameter → ConstState → ConstState
-parameters_on [] call [] run = call_begins call run
-parameters_on [] call (p ∷ ps) run = parameter_begins (inferred_for p.name.name call.inferred) call p ps run
-parameters_on (v ∷ vs) call [] run = call_fails call run
-parameters_on (v ∷ vs) call (p ∷ ps) run = doing (FindsParameters (record call { given = vs }) ps ∷ []) (binding p.name.name v run)
+abbrev pub parametrics_on : List DslxValue → ConstCall → List Parametric → ConstState → ConstState
+parametrics_on [] call [] run = call_begins call run
+parametrics_on [] call (p ∷ ps) run = parametric_begins (inferred_for p.name.name call.inferred) call p ps run
+parametrics_on (v ∷ vs) call [] run = call_fails call run
+parametrics_on (v ∷ vs) call (p ∷ ps) run = doing (FindsParametrics (record call { given = vs }) ps ∷ []) (binding p.name.name v run)
 
-abbrev pub parameter_given : Option DslxValue → ConstCall → Parameter → List Parameter → ConstState → ConstState
-parameter_given None call p ps run = call_fails call run
-parameter_given (Some v) call p ps run = doing (FindsParameters call ps ∷ []) (binding p.name.name v run)
+abbrev pub parametric_given : Option DslxValue → ConstCall → Parametric → List Parametric → ConstState → ConstState
+parametric_given None call p ps run = call_fails call run
+parametric_given (Some v) call p ps run = doing (FindsParametrics call ps ∷ []) (binding p.name.name v run)

@@ -17,7 +17,7 @@ use Rattle.dslx_tree.specs.declared.pattern.Shape.{Shape, out-Shape}
 use Rattle.dslx_tree.specs.declared.type_expr.TypeExpr.{TypeExpr, out-TypeExpr}
 use Rattle.dslx_tree.specs.declared.type_expr.TypeNode.{TypeNode, out-TypeNode}
 use Rattle.dslx_meaning.specs.Activation.{NodeLayer, node_of}
-use Rattle.dslx_meaning.specs.declared.value.Bare.{Bare}
+use Rattle.dslx_meaning.specs.declared.value.UntypedLiteral.{UntypedLiteral}
 
 abbrev pub PatternLayer : Type 0
 PatternLayer = Shape-F Stmt Node Shape TypeNode Block Let Arg Arm Expr FieldValue For Number Pattern TypeExpr
@@ -32,22 +32,22 @@ abbrev pub type_of : TypeExpr → TypeLayer
 type_of t = out-TypeNode (out-TypeExpr t).node
 
 -- a number as it is written
-abbrev pub written : Number → Bare
+abbrev pub written : Number → UntypedLiteral
 written n = record { is_negative = (out-Number n).is_negative; value = (out-Number n).value }
 
-abbrev pub without_type : Option TypeExpr → Bare → Option Bare
+abbrev pub without_type : Option TypeExpr → UntypedLiteral → Option UntypedLiteral
 without_type None b = Some b
 without_type (Some t) b = None
 
-abbrev pub bare_node : NodeLayer → Option Bare
+abbrev pub bare_node : NodeLayer → Option UntypedLiteral
 bare_node (Node-F.Node::Number n) = without_type (out-Number n).ty (written n)
 bare_node _ = None
 
 -- the number without a type that an expression is
-abbrev pub bare_of : Expr → Option Bare
-bare_of e = bare_node (node_of e)
+abbrev pub untyped_of : Expr → Option UntypedLiteral
+untyped_of e = bare_node (node_of e)
 
-abbrev pub count_of : Bare → Option ℕ
+abbrev pub count_of : UntypedLiteral → Option ℕ
 count_of b = if b.is_negative then None else Some b.value
 
 -- the field that is written first of those with a name

@@ -9,10 +9,10 @@ use Rattle.dslx_meaning.specs.Meaning.{filled, field_from}
 use Rattle.dslx_meaning.specs.Operators.{number_value, counted, reduced, updated}
 use Rattle.dslx_meaning.specs.declared.ty.DslxType.{DslxType, out-DslxType}
 use Rattle.dslx_meaning.specs.declared.ty.DslxType.TheOpen.{DslxType-F}
-use Rattle.dslx_meaning.specs.declared.value.Bare.{Bare}
+use Rattle.dslx_meaning.specs.declared.value.UntypedLiteral.{UntypedLiteral}
 use Rattle.dslx_meaning.specs.declared.value.DslxValue.{DslxValue, Tuple, Array, Struct, Token}
-use Rattle.dslx_const_machine.specs.Tasks.{ConstState, ListMaker, MakesTuple, MakesArray, Fills, CallsWith, Evaluates, Gathers, GathersNumbers, TakesRest, GathersFields}
-use Rattle.dslx_const_machine.specs.Layers.{bare_of, field_among}
+use Rattle.dslx_const_machine.specs.Tasks.{ConstState, ListMaker, MakesTuple, MakesArray, Fills, CallsWith, ValueDen, Gathers, GathersParametricArgs, TakesRest, GathersFields}
+use Rattle.dslx_const_machine.specs.Layers.{untyped_of, field_among}
 use Rattle.dslx_const_machine.specs.States.{finds_value, doing}
 use Rattle.dslx_const_machine.specs.Items.{uses_name, uses_function}
 
@@ -31,8 +31,8 @@ builtin_value Updates vs = updated vs
 builtin_value _ vs = None
 
 abbrev pub calls : CallKind → List ℕ → List DslxValue → List DslxValue → ConstState → ConstState
-calls Calls name numbers vs run = uses_function name numbers vs run
-calls kind name numbers vs run = finds_value (builtin_value kind vs) run
+calls Calls name parametric_args vs run = uses_function name parametric_args vs run
+calls kind name parametric_args vs run = finds_value (builtin_value kind vs) run
 
 -- ---- values in order
 
@@ -40,16 +40,16 @@ abbrev pub made_of : ListMaker → List DslxValue → ConstState → ConstState
 made_of MakesTuple vs run = finds_value (Some (Tuple vs)) run
 made_of MakesArray vs run = finds_value (Some (Array vs)) run
 made_of (Fills t n dots) vs run = finds_value (filled dots n vs) run
-made_of (CallsWith name numbers) vs run = calls (kind_of_call name) name numbers vs run
+made_of (CallsWith name parametric_args) vs run = calls (kind_of_call name) name parametric_args vs run
 
 -- an element of a type, which may be a number without one
-abbrev pub element_begins : DslxType → Option Bare → Expr → ConstState → ConstState
-element_begins t None e run = doing (Evaluates e ∷ []) run
+abbrev pub element_begins : DslxType → Option UntypedLiteral → Expr → ConstState → ConstState
+element_begins t None e run = doing (ValueDen e ∷ []) run
 element_begins t (Some b) e run = finds_value (number_value t b) run
 
 abbrev pub next_begins : ListMaker → Expr → ConstState → ConstState
-next_begins (Fills t n dots) e run = element_begins t (bare_of e) e run
-next_begins maker e run = doing (Evaluates e ∷ []) run
+next_begins (Fills t n dots) e run = element_begins t (untyped_of e) e run
+next_begins maker e run = doing (ValueDen e ∷ []) run
 
 -- the expressions that are left, behind these values
 abbrev pub gathers : List DslxValue → List Expr → ListMaker → ConstState → ConstState
@@ -60,14 +60,14 @@ abbrev pub gathered : List DslxValue → List Expr → ListMaker → Option Dslx
 gathered vs es maker None run = finds_value None run
 gathered vs es maker (Some v) run = gathers (vs ++ v ∷ []) es maker run
 
--- the number arguments that are left of a call, behind these
-abbrev pub gathers_numbers : List DslxValue → List Arg → List ℕ → List Expr → ConstState → ConstState
-gathers_numbers vs [] name es run = gathers [] es (CallsWith name vs) run
-gathers_numbers vs (a ∷ numbers) name es run = doing (Evaluates (out-Arg a).value ∷ GathersNumbers vs numbers name es ∷ []) run
+-- the parametric arguments that are left of a call, behind these
+abbrev pub gathers_parametric_args : List DslxValue → List Arg → List ℕ → List Expr → ConstState → ConstState
+gathers_parametric_args vs [] name es run = gathers [] es (CallsWith name vs) run
+gathers_parametric_args vs (a ∷ parametric_args) name es run = doing (ValueDen (out-Arg a).value ∷ GathersParametricArgs vs parametric_args name es ∷ []) run
 
 abbrev pub number_gathered : List DslxValue → List Arg → List ℕ → List Expr → Option DslxValue → ConstState → ConstState
-number_gathered vs numbers name es None run = finds_value None run
-number_gathered vs numbers name es (Some v) run = gathers_numbers (vs ++ v ∷ []) numbers name es run
+number_gathered vs parametric_args name es None run = finds_value None run
+number_gathered vs parametric_args name es (Some v) run = gathers_parametric_args (vs ++ v ∷ []) parametric_args name es run
 
 abbrev pub fills : DslxType-F DslxType → List Expr → Bool → ConstState → ConstState
 fills (DslxType-F.Array t n) es dots run = gathers [] es (Fills t n dots) run
@@ -82,7 +82,7 @@ elements_begin (Some t) es dots run = fills (out-DslxType t) es dots run
 -- a field given by its name alone has the value of that name
 abbrev pub field_value_begins : List ℕ → Option Expr → ConstState → ConstState
 field_value_begins name None run = uses_name name run
-field_value_begins name (Some e) run = doing (Evaluates e ∷ []) run
+field_value_begins name (Some e) run = doing (ValueDen e ∷ []) run
 
 abbrev pub field_begins : Option FieldValue → List ℕ → Option DslxValue → ConstState → ConstState
 field_begins None field rest run = finds_value (field_from field rest) run
@@ -103,7 +103,7 @@ field_gathered name names vs fields rest (Some v) run = gathers_fields name name
 -- what gives the other fields is found first
 abbrev pub rest_begins : Option Expr → List ℕ → List (List ℕ) → List FieldValue → ConstState → ConstState
 rest_begins None name names fields run = gathers_fields name names [] fields None run
-rest_begins (Some e) name names fields run = doing (Evaluates e ∷ TakesRest name names fields ∷ []) run
+rest_begins (Some e) name names fields run = doing (ValueDen e ∷ TakesRest name names fields ∷ []) run
 
 abbrev pub fields_of_type : DslxType-F DslxType → List FieldValue → Option Expr → ConstState → ConstState
 fields_of_type (DslxType-F.Struct name names ts) fields rest run = rest_begins rest name names fields run

@@ -13,10 +13,10 @@ use Rattle.dslx_meaning.specs.Environment.{Given}
 use Rattle.dslx_meaning.specs.Meaning.{turn_count}
 use Rattle.dslx_meaning.specs.Operators.{of_one_type}
 use Rattle.dslx_meaning.specs.Values.{same_value, bool_value, elements_of}
-use Rattle.dslx_meaning.specs.declared.value.Bare.{Bare}
+use Rattle.dslx_meaning.specs.declared.value.UntypedLiteral.{UntypedLiteral}
 use Rattle.dslx_meaning.specs.declared.value.DslxValue.{DslxValue, Bits}
 use Rattle.dslx_meaning.specs.declared.value.SignedWord.{SignedWord}
-use Rattle.dslx_const_machine.specs.Tasks.{ConstState, Waiting, Sequel, ThenStatements, ThenAccumulator, ThenBody, ThenArm, Evaluates, DoesBlock, DoesStatements, Numbers, FindsType, Tries, BindsNothing, Fits, Compares, Forgets, FindsFirst, FindsLast, Turns}
+use Rattle.dslx_const_machine.specs.Tasks.{ConstState, Waiting, Sequel, ThenStatements, ThenAccumulator, ThenBody, ThenArm, ValueDen, DoesBlock, DoesStatements, Numbers, FindsType, Tries, BindsNothing, Fits, Compares, Forgets, FindsFirst, FindsLast, Turns}
 use Rattle.dslx_const_machine.specs.Layers.{PatternLayer, shape_of, written}
 use Rattle.dslx_const_machine.specs.States.{finds_value, doing, forgetting, binding_all, one_less}
 use Rattle.dslx_const_machine.specs.Items.{is_constant_within, uses_constant, uses_member}
@@ -33,7 +33,7 @@ fails (ThenArm ps a rest v) run = doing (Tries ps a rest v ∷ []) run
 -- ---- one pattern
 
 -- a number, whose type is found first
-abbrev pub number_begins : Option TypeExpr → Bare → ConstState → ConstState
+abbrev pub number_begins : Option TypeExpr → UntypedLiteral → ConstState → ConstState
 number_begins None b run = finds_value None run
 number_begins (Some t) b run = doing (FindsType t ∷ Numbers b ∷ []) run
 
@@ -75,7 +75,7 @@ abbrev pub goes_on : List Given → Sequel → ConstState → ConstState
 goes_on names (ThenStatements ss last) run = doing (DoesStatements ss last ∷ Forgets (length names) ∷ []) (binding_all names run)
 goes_on names (ThenAccumulator p v b) run = fits_one p v [] [] (ThenBody (length names) b) (binding_all names run)
 goes_on names (ThenBody k b) run = doing (DoesBlock b ∷ Forgets (length names) ∷ Forgets k ∷ []) (binding_all names run)
-goes_on names (ThenArm ps a rest v) run = doing (Evaluates (out-Arm a).value ∷ Forgets (length names) ∷ []) (binding_all names run)
+goes_on names (ThenArm ps a rest v) run = doing (ValueDen (out-Arm a).value ∷ Forgets (length names) ∷ []) (binding_all names run)
 
 -- the first that waits
 abbrev pub fits_first : List Pattern → List DslxValue → List Waiting → List Given → Sequel → ConstState → ConstState
@@ -111,7 +111,7 @@ binds_nothing (Shape-F.Shape::Tuple ps) pss e run = doing (BindsNothing (ps ∷ 
 binds_nothing _ pss e run = doing (BindsNothing pss e ∷ []) run
 
 abbrev pub all_bind_nothing : List (List Pattern) → Expr → ConstState → ConstState
-all_bind_nothing [] e run = doing (Evaluates e ∷ []) run
+all_bind_nothing [] e run = doing (ValueDen e ∷ []) run
 all_bind_nothing ([] ∷ pss) e run = doing (BindsNothing pss e ∷ []) run
 all_bind_nothing ((p ∷ ps) ∷ pss) e run = binds_nothing (shape_of p) (ps ∷ pss) e run
 
@@ -119,11 +119,11 @@ all_bind_nothing ((p ∷ ps) ∷ pss) e run = binds_nothing (shape_of p) (ps ∷
 
 abbrev pub loop_begins : For → Option DslxValue → ConstState → ConstState
 loop_begins f None run = finds_value None run
-loop_begins f (Some start) run = doing (Evaluates (out-For f).from ∷ FindsFirst f start ∷ []) run
+loop_begins f (Some start) run = doing (ValueDen (out-For f).from ∷ FindsFirst f start ∷ []) run
 
 abbrev pub first_found : For → DslxValue → Option SignedWord → ConstState → ConstState
 first_found f start None run = finds_value None run
-first_found f start (Some a) run = doing (Evaluates (out-For f).to ∷ FindsLast f start a ∷ []) run
+first_found f start (Some a) run = doing (ValueDen (out-For f).to ∷ FindsLast f start a ∷ []) run
 
 abbrev pub last_found : For → DslxValue → SignedWord → Option SignedWord → ConstState → ConstState
 last_found f start a None run = finds_value None run

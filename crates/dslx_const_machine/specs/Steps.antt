@@ -23,14 +23,14 @@ use Rattle.dslx_meaning.specs.Values.{type_of_value, bits_of, bool_value, unit_v
 use Rattle.dslx_meaning.specs.declared.ty.BitKind.{BitKind}
 use Rattle.dslx_meaning.specs.declared.ty.DslxType.{DslxType}
 use Rattle.dslx_meaning.specs.declared.ty.DslxType as ty
-use Rattle.dslx_meaning.specs.declared.value.Bare.{Bare}
+use Rattle.dslx_meaning.specs.declared.value.UntypedLiteral.{UntypedLiteral}
 use Rattle.dslx_meaning.specs.declared.value.DslxValue.{DslxValue}
 use Rattle.dslx_const_machine.specs.Tasks as task
 use Rattle.dslx_const_machine.specs.Tasks.{ConstTask, ConstState, Finding, OneMaker, MakesPrefix, MakesField, MakesElement, MakesCast, MakesSlice, PairMaker, MakesBinary, MakesIndexed, MakesPart, MakesTuple, MakesArray, ThenStatements}
-use Rattle.dslx_const_machine.specs.Layers.{TypeLayer, type_of, bare_of, count_of}
+use Rattle.dslx_const_machine.specs.Layers.{TypeLayer, type_of, untyped_of, count_of}
 use Rattle.dslx_const_machine.specs.States.{value_in, type_in, count_in_finding, finds_value, finds_type, finds_count, without_finding, doing, back_at, forgetting}
-use Rattle.dslx_const_machine.specs.Items.{uses_name, uses_member, uses_struct, uses_type, field_types_on, parameters_on, parameter_given, operands_on}
-use Rattle.dslx_const_machine.specs.Lists.{gathers, gathered, gathers_numbers, number_gathered, elements_begin, fields_begin, gathers_fields, field_gathered}
+use Rattle.dslx_const_machine.specs.Items.{uses_name, uses_member, uses_struct, uses_type, field_types_on, parametrics_on, parametric_given, operands_on}
+use Rattle.dslx_const_machine.specs.Lists.{gathers, gathered, gathers_parametric_args, number_gathered, elements_begin, fields_begin, gathers_fields, field_gathered}
 use Rattle.dslx_const_machine.specs.Patterns.{uses_number, fits_one, fits_all, fits_if_same, selects, tries, all_bind_nothing, loop_begins, first_found, last_found, turns}
 
 -- ---- expressions
@@ -45,21 +45,21 @@ node_begins (Node-F.Node::Bool b) run = finds_value (Some (bool_value b)) run
 node_begins (Node-F.Node::Array t es dots) run = array_begins t es dots run
 node_begins (Node-F.Node::Name name) run = uses_name name run
 node_begins (Node-F.Node::Member e a) run = uses_member e.name a.name run
-node_begins (Node-F.Call f numbers es) run = gathers_numbers [] numbers f.name es run
+node_begins (Node-F.Call f parametric_args es) run = gathers_parametric_args [] parametric_args f.name es run
 node_begins (Node-F.Node::Tuple es) run = gathers [] es MakesTuple run
 node_begins (Node-F.Struct s fields rest) run = uses_struct s.name (doing (task.FindsFields fields rest ∷ []) run)
 node_begins (Node-F.Block b) run = doing (task.DoesBlock b ∷ []) run
-node_begins (Node-F.If c a b) run = doing (task.Evaluates c ∷ task.Chooses a b ∷ []) run
-node_begins (Node-F.Match e arms) run = doing (task.Evaluates e ∷ task.Selects arms ∷ []) run
-node_begins (Node-F.For f) run = doing (task.Evaluates (out-For f).start ∷ task.StartsLoop f ∷ []) run
-node_begins (Node-F.Index e i) run = doing (task.Evaluates e ∷ task.FindsRight MakesIndexed i ∷ []) run
+node_begins (Node-F.If c a b) run = doing (task.ValueDen c ∷ task.Chooses a b ∷ []) run
+node_begins (Node-F.Match e arms) run = doing (task.ValueDen e ∷ task.Selects arms ∷ []) run
+node_begins (Node-F.For f) run = doing (task.ValueDen (out-For f).start ∷ task.StartsLoop f ∷ []) run
+node_begins (Node-F.Index e i) run = doing (task.ValueDen e ∷ task.FindsRight MakesIndexed i ∷ []) run
 node_begins (Node-F.Slice e a b) run = doing (task.CountsBound a ∷ task.FindsEnd e b ∷ []) run
 node_begins (Node-F.Part e i t) run = doing (task.FindsType t ∷ task.TakesPart e i ∷ []) run
-node_begins (Node-F.Field e name) run = doing (task.Evaluates e ∷ task.MakesOne (MakesField name.name) ∷ []) run
-node_begins (Node-F.Element e span k) run = doing (task.Evaluates e ∷ task.MakesOne (MakesElement k) ∷ []) run
-node_begins (Node-F.Prefix o e) run = doing (task.Evaluates e ∷ task.MakesOne (MakesPrefix o) ∷ []) run
+node_begins (Node-F.Field e name) run = doing (task.ValueDen e ∷ task.MakesOne (MakesField name.name) ∷ []) run
+node_begins (Node-F.Element e span k) run = doing (task.ValueDen e ∷ task.MakesOne (MakesElement k) ∷ []) run
+node_begins (Node-F.Prefix o e) run = doing (task.ValueDen e ∷ task.MakesOne (MakesPrefix o) ∷ []) run
 node_begins (Node-F.Cast e t) run = doing (task.FindsType t ∷ task.Casts e ∷ []) run
-node_begins (Node-F.Binary o l r) run = doing (task.Evaluates l ∷ task.FindsRight (MakesBinary o) r ∷ []) run
+node_begins (Node-F.Binary o l r) run = doing (task.ValueDen l ∷ task.FindsRight (MakesBinary o) r ∷ []) run
 
 abbrev pub made_of_one : OneMaker → DslxValue → Option DslxValue
 made_of_one (MakesPrefix o) v = prefix_value o v
@@ -75,15 +75,15 @@ made_of_pair (MakesPart n) v w = part_value v w n
 
 abbrev pub right_begins : PairMaker → Expr → Option DslxValue → ConstState → ConstState
 right_begins maker e None run = finds_value None run
-right_begins maker e (Some v) run = doing (task.Evaluates e ∷ task.MakesPair maker v ∷ []) run
+right_begins maker e (Some v) run = doing (task.ValueDen e ∷ task.MakesPair maker v ∷ []) run
 
 abbrev pub part_begins : Option BitKind → Expr → Expr → ConstState → ConstState
 part_begins None e i run = finds_value None run
-part_begins (Some kind) e i run = if kind.signed then finds_value None run else doing (task.Evaluates e ∷ task.FindsRight (MakesPart kind.width) i ∷ []) run
+part_begins (Some kind) e i run = if kind.signed then finds_value None run else doing (task.ValueDen e ∷ task.FindsRight (MakesPart kind.width) i ∷ []) run
 
 abbrev pub cast_begins : Option DslxType → Expr → ConstState → ConstState
 cast_begins None e run = finds_value None run
-cast_begins (Some t) e run = doing (task.Evaluates e ∷ task.MakesOne (MakesCast t) ∷ []) run
+cast_begins (Some t) e run = doing (task.ValueDen e ∷ task.MakesOne (MakesCast t) ∷ []) run
 
 abbrev pub end_begins : Option ℕ → Expr → Expr → ConstState → ConstState
 end_begins None e b run = finds_value None run
@@ -91,12 +91,12 @@ end_begins (Some from) e b run = doing (task.CountsBound b ∷ task.Slices e fro
 
 abbrev pub slice_begins : Option ℕ → Expr → ℕ → ConstState → ConstState
 slice_begins None e from run = finds_value None run
-slice_begins (Some to) e from run = doing (task.Evaluates e ∷ task.MakesOne (MakesSlice from to) ∷ []) run
+slice_begins (Some to) e from run = doing (task.ValueDen e ∷ task.MakesOne (MakesSlice from to) ∷ []) run
 
 abbrev pub chooses : Option Bool → Block → Expr → ConstState → ConstState
 chooses None a b run = finds_value None run
 chooses (Some true) a b run = doing (task.DoesBlock a ∷ []) run
-chooses (Some false) a b run = doing (task.Evaluates b ∷ []) run
+chooses (Some false) a b run = doing (task.ValueDen b ∷ []) run
 
 abbrev pub selection_begins : List Arm → Option DslxValue → ConstState → ConstState
 selection_begins arms None run = finds_value None run
@@ -105,12 +105,12 @@ selection_begins arms (Some v) run = selects arms v run
 -- ---- blocks
 
 abbrev pub stmt_begins : StmtLayer → List Stmt → Option Expr → ConstState → ConstState
-stmt_begins (Stmt-F.Let l) ss last run = doing (task.Evaluates (out-Let l).value ∷ task.Binds (out-Let l).pattern ss last ∷ []) run
-stmt_begins (Stmt-F.Bare e) ss last run = doing (task.Evaluates e ∷ task.Passes ss last ∷ []) run
+stmt_begins (Stmt-F.Let l) ss last run = doing (task.ValueDen (out-Let l).value ∷ task.Binds (out-Let l).pattern ss last ∷ []) run
+stmt_begins (Stmt-F.Bare e) ss last run = doing (task.ValueDen e ∷ task.Passes ss last ∷ []) run
 
 abbrev pub last_begins : Option Expr → ConstState → ConstState
 last_begins None run = finds_value (Some unit_value) run
-last_begins (Some e) run = doing (task.Evaluates e ∷ []) run
+last_begins (Some e) run = doing (task.ValueDen e ∷ []) run
 
 abbrev pub statements_begin : List Stmt → Option Expr → ConstState → ConstState
 statements_begin [] last run = last_begins last run
@@ -150,30 +150,30 @@ abbrev pub array_size_begins : Option DslxType → Expr → ConstState → Const
 array_size_begins None e run = finds_type None run
 array_size_begins (Some t) e run = doing (task.CountsSize e ∷ task.MakesArrayType t ∷ []) run
 
-abbrev pub member_begins : BitKind → Option Bare → Expr → List ℕ → ConstState → ConstState
-member_begins kind None e name run = doing (task.Evaluates e ∷ task.MakesMember kind name ∷ []) run
+abbrev pub member_begins : BitKind → Option UntypedLiteral → Expr → List ℕ → ConstState → ConstState
+member_begins kind None e name run = doing (task.ValueDen e ∷ task.MakesMember kind name ∷ []) run
 member_begins kind (Some b) e name run = finds_value (and_then (number_value (ty.Bits kind.signed kind.width) b) (enum_member name)) run
 
 abbrev pub base_found : Option BitKind → Expr → List ℕ → ConstState → ConstState
 base_found None e name run = finds_value None run
-base_found (Some kind) e name run = member_begins kind (bare_of e) e name run
+base_found (Some kind) e name run = member_begins kind (untyped_of e) e name run
 
 -- a value of the base of an enum
 abbrev pub of_base : BitKind → DslxValue → Option DslxValue
 of_base kind v = where_true (same_type (type_of_value v) (ty.Bits kind.signed kind.width)) (Some v)
 
-abbrev pub size_begins : Option Bare → Expr → ConstState → ConstState
-size_begins None e run = doing (task.Evaluates e ∷ task.IsSize ∷ []) run
+abbrev pub size_begins : Option UntypedLiteral → Expr → ConstState → ConstState
+size_begins None e run = doing (task.ValueDen e ∷ task.IsSize ∷ []) run
 size_begins (Some b) e run = finds_count (and_then (count_of b) some_count) run
 
-abbrev pub bound_begins : Option Bare → Expr → ConstState → ConstState
-bound_begins None e run = doing (task.Evaluates e ∷ task.IsBound ∷ []) run
+abbrev pub bound_begins : Option UntypedLiteral → Expr → ConstState → ConstState
+bound_begins None e run = doing (task.ValueDen e ∷ task.IsBound ∷ []) run
 bound_begins (Some b) e run = finds_count (count_of b) run
 
 -- ---- one step
 
 abbrev pub stepped : ConstTask → ConstState → ConstState
-stepped (task.Evaluates e) run = node_begins (node_of e) run
+stepped (task.ValueDen e) run = node_begins (node_of e) run
 stepped (task.DoesBlock b) run = statements_begin (out-Block b).statements (out-Block b).value run
 stepped (task.DoesStatements ss last) run = statements_begin ss last run
 stepped (task.Binds p ss last) run = bind_begins (value_in run.found) p ss last (without_finding run)
@@ -189,7 +189,7 @@ stepped (task.Slices e from) run = slice_begins (count_in_finding run.found) e f
 stepped (task.Chooses a b) run = chooses (and_then (value_in run.found) truth) a b (without_finding run)
 stepped (task.FindsElements es dots) run = elements_begin (type_in run.found) es dots (without_finding run)
 stepped (task.Gathers vs es maker) run = gathered vs es maker (value_in run.found) (without_finding run)
-stepped (task.GathersNumbers vs numbers name es) run = number_gathered vs numbers name es (value_in run.found) (without_finding run)
+stepped (task.GathersParametricArgs vs parametric_args name es) run = number_gathered vs parametric_args name es (value_in run.found) (without_finding run)
 stepped (task.FindsFields fields rest) run = fields_begin (type_in run.found) fields rest (without_finding run)
 stepped (task.TakesRest name names fields) run = gathers_fields name names [] fields (value_in run.found) (without_finding run)
 stepped (task.GathersFields name names vs fields rest) run = field_gathered name names vs fields rest (value_in run.found) (without_finding run)
@@ -212,12 +212,12 @@ stepped (task.GathersFieldTypes ts fs s) run = field_type_gathered ts fs s (type
 stepped (task.MakesEnumType name) run = finds_type (and_then (and_then (type_in run.found) bits_in) (λ kind. Some (ty.Enum name kind.signed kind.width))) run
 stepped (task.FindsMember e name) run = base_found (and_then (type_in run.found) bits_in) e name (without_finding run)
 stepped (task.MakesMember kind name) run = finds_value (and_then (and_then (value_in run.found) (of_base kind)) (enum_member name)) run
-stepped (task.CountsSize e) run = size_begins (bare_of e) e run
+stepped (task.CountsSize e) run = size_begins (untyped_of e) e run
 stepped task.IsSize run = finds_count (and_then (count_in None (value_in run.found)) some_count) run
-stepped (task.CountsBound e) run = bound_begins (bare_of e) e run
+stepped (task.CountsBound e) run = bound_begins (untyped_of e) e run
 stepped task.IsBound run = finds_count (bound_in None (value_in run.found)) run
-stepped (task.FindsParameters call ps) run = parameters_on call.given call ps run
-stepped (task.GivesParameter call p ps) run = parameter_given (value_in run.found) call p ps (without_finding run)
+stepped (task.FindsParametrics call ps) run = parametrics_on call.given call ps run
+stepped (task.GivesParametric call p ps) run = parametric_given (value_in run.found) call p ps (without_finding run)
 stepped (task.GivesOperands call fs) run = operands_on call.operands call fs run
 stepped (task.Returns bound n) run = back_at bound n run
 

@@ -13,7 +13,7 @@ use Rattle.dslx_tree.specs.declared.expr.For.{For}
 use Rattle.dslx_tree.specs.declared.item.Field.{Field}
 use Rattle.dslx_tree.specs.declared.item.Function.{Function}
 use Rattle.dslx_tree.specs.declared.item.Module.{Module}
-use Rattle.dslx_tree.specs.declared.item.Parameter.{Parameter}
+use Rattle.dslx_tree.specs.declared.item.Parametric.{Parametric}
 use Rattle.dslx_tree.specs.declared.item.Struct.{Struct}
 use Rattle.dslx_tree.specs.declared.pattern.Pattern.{Pattern}
 use Rattle.dslx_tree.specs.declared.type_expr.TypeExpr.{TypeExpr}
@@ -21,7 +21,7 @@ use Rattle.dslx_meaning.specs.Environment.{Given}
 use Rattle.dslx_meaning.specs.Inference.{Inferred}
 use Rattle.dslx_meaning.specs.declared.ty.BitKind.{BitKind}
 use Rattle.dslx_meaning.specs.declared.ty.DslxType.{DslxType}
-use Rattle.dslx_meaning.specs.declared.value.Bare.{Bare}
+use Rattle.dslx_meaning.specs.declared.value.UntypedLiteral.{UntypedLiteral}
 use Rattle.dslx_meaning.specs.declared.value.DslxValue.{DslxValue}
 use Rattle.dslx_meaning.specs.declared.value.SignedWord.{SignedWord}
 
@@ -53,7 +53,7 @@ pub data ListMaker : Type 0 where
   MakesArray : ListMaker
   -- an array of so many of a type, the last one repeated if the text says so
   Fills : DslxType → ℕ → Bool → ListMaker
-  -- a call of this name with these number arguments
+  -- a call of this name with these parametric arguments
   CallsWith : List ℕ → List DslxValue → ListMaker
 
 -- patterns and the values that they are to fit, in order
@@ -72,7 +72,7 @@ pub data Sequel : Type 0 where
   -- an arm of a match; else its other patterns, and the arms behind it
   ThenArm : List Pattern → Arm → List Arm → DslxValue → Sequel
 
--- a call of a function, while its number parameters are found and its operands bound: the number arguments and the operands
+-- a call of a function, while its parametrics are found and its operands bound: the parametric arguments and the operands
 -- that aren't bound yet, what the operands infer, and where its caller stands
 pub record ConstCall : Type 0 where
   pub function : Function
@@ -84,7 +84,7 @@ pub record ConstCall : Type 0 where
 
 pub data ConstTask : Type 0 where
   -- ---- expressions and blocks
-  Evaluates : Expr → ConstTask
+  ValueDen : Expr → ConstTask
   DoesBlock : Block → ConstTask
   DoesStatements : List Stmt → Option Expr → ConstTask
   -- the value is taken apart for the rest of a block
@@ -92,7 +92,7 @@ pub data ConstTask : Type 0 where
   -- the value isn't used
   Passes : List Stmt → Option Expr → ConstTask
   -- the number of a type
-  Numbers : Bare → ConstTask
+  Numbers : UntypedLiteral → ConstTask
   MakesOne : OneMaker → ConstTask
   -- the value is the left one, and the right one is to be found
   FindsRight : PairMaker → Expr → ConstTask
@@ -107,7 +107,7 @@ pub data ConstTask : Type 0 where
   FindsElements : List Expr → Bool → ConstTask
   -- the value is the next one behind these
   Gathers : List DslxValue → List Expr → ListMaker → ConstTask
-  GathersNumbers : List DslxValue → List Arg → List ℕ → List Expr → ConstTask
+  GathersParametricArgs : List DslxValue → List Arg → List ℕ → List Expr → ConstTask
   FindsFields : List FieldValue → Option Expr → ConstTask
   -- the value gives the fields that aren't written
   TakesRest : List ℕ → List (List ℕ) → List FieldValue → ConstTask
@@ -145,8 +145,8 @@ pub data ConstTask : Type 0 where
   CountsBound : Expr → ConstTask
   IsBound : ConstTask
   -- ---- calls
-  FindsParameters : ConstCall → List Parameter → ConstTask
-  GivesParameter : ConstCall → Parameter → List Parameter → ConstTask
+  FindsParametrics : ConstCall → List Parametric → ConstTask
+  GivesParametric : ConstCall → Parametric → List Parametric → ConstTask
   -- the arguments that the operands are still to be bound to
   GivesOperands : ConstCall → List Field → ConstTask
   -- back to what is bound elsewhere, and how long a chain of uses may be there

@@ -11,7 +11,7 @@ ghost use Rattle.dslx_const_tasks.specs.Plain.{shown, plain_value_task, plain_wa
 use base::texts::Name;
 use dslx_const_tasks::items::{is_constant, use_constant, use_member};
 use dslx_const_tasks::{ChoiceTask, Fitting, Machine, Sequel, ValueTask, Waiting, in_order};
-use dslx_meaning::{Bare, DslxValue};
+use dslx_meaning::{UntypedLiteral, DslxValue};
 use dslx_names::{Binding, Scope};
 use dslx_tree::{Number, Pattern, Shape};
 use dslx_values::{bool_value, into_elements, same_value};
@@ -30,7 +30,7 @@ pub fn use_number<'a>(
         Some(ty) => machine.type_then_value(
             alloc,
             ty.get(),
-            ValueTask::Number(Bare {
+            ValueTask::Number(UntypedLiteral {
                 is_negative: number.is_negative,
                 value: number.value,
             }),

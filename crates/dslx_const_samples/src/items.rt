@@ -15,7 +15,7 @@ const K = u8:9; fn f(x: u8) -> u8 { x + K } const A = f(u8:2) == u8:11;
 const x = u8:9; fn f(x: u8) -> u8 { x } const A = f(u8:2) == u8:2;
 ";
 
-/// Number parameters that are given, inferred or left to a default, which sees those before it.
+/// Parametrics that are given, inferred or left to a default, which sees those before it.
 const PARAMETERS: &str = "
 fn f<N: u32>(x: u8) -> u32 { N } const A = f<u32:9>(u8:1) == u32:9;
 fn f<N: u32, M: u32>(x: u8) -> u32 { N - M } const A = f<u32:9, u32:4>(u8:1) == u32:5;
@@ -64,7 +64,7 @@ fn calls_bind_their_arguments_in_order(rt: HostRuntime) -> Result<(), Fail> {
 }
 
 #[test]
-fn parameters_are_given_inferred_or_defaults(rt: HostRuntime) -> Result<(), Fail> {
+fn parametrics_are_given_inferred_or_defaults(rt: HostRuntime) -> Result<(), Fail> {
     let odd = first_not_true(rt.alloc(), PARAMETERS)?;
     assert_eq!(rt; odd, "");
     Ok(())

@@ -51,7 +51,7 @@ abbrev pub plain_list : ListMaker → m.ListMaker
 plain_list several.Tuple = m.MakesTuple
 plain_list several.Array = m.MakesArray
 plain_list (several.Fill t n dots) = m.Fills t n dots
-plain_list (several.Call name numbers) = m.CallsWith name.now numbers.items
+plain_list (several.Call name parametric_args) = m.CallsWith name.now parametric_args.items
 
 abbrev pub plain_waiting : Waiting → m.Waiting
 plain_waiting w = record { patterns = w.patterns.now; values = w.values }
@@ -86,7 +86,7 @@ plain_fields f = m.GathersFields f.name f.names f.values.items f.written.now f.r
 abbrev pub plain_list_task : ListTask → m.ConstTask
 plain_list_task (items.Elements es dots) = m.FindsElements es.now dots
 plain_list_task (items.Gather vs es maker) = m.Gathers vs.items es.now (plain_list maker)
-plain_list_task (items.GatherNumbers vs numbers name es) = m.GathersNumbers vs.items numbers.now name.now es.now
+plain_list_task (items.GatherParametricArgs vs parametric_args name es) = m.GathersParametricArgs vs.items parametric_args.now name.now es.now
 plain_list_task (items.FindFields fields rest) = m.FindsFields fields.now rest.now
 plain_list_task (items.TakeRest name names fields) = m.TakesRest name names fields.now
 plain_list_task (items.GatherFields f) = plain_fields f
@@ -119,13 +119,13 @@ plain_type_task (ty.CountBound e) = m.CountsBound e.now
 plain_type_task ty.TakeBound = m.IsBound
 
 abbrev pub plain_call_task : CallTask → m.ConstTask
-plain_call_task (call.FindParameters c ps) = m.FindsParameters (plain_call c) ps.now
-plain_call_task (call.GiveParameter c p ps) = m.GivesParameter (plain_call c) p.now ps.now
+plain_call_task (call.FindParametrics c ps) = m.FindsParametrics (plain_call c) ps.now
+plain_call_task (call.GiveParametric c p ps) = m.GivesParametric (plain_call c) p.now ps.now
 plain_call_task (call.GiveOperands c fs) = m.GivesOperands (plain_call c) fs.now
 plain_call_task (call.Return bound n) = m.Returns bound n
 
 abbrev pub plain_task : Task → m.ConstTask
-plain_task (task.Eval e) = m.Evaluates e.now
+plain_task (task.Eval e) = m.ValueDen e.now
 plain_task (task.Value t) = plain_value_task t
 plain_task (task.List t) = plain_list_task t
 plain_task (task.Choice t) = plain_choice_task t

@@ -1,6 +1,6 @@
 ghost use Rattle.std.specs.Prelude.{◌≡◌, ◌∷◌, [], OnOk};
 ghost use Rattle.dslx_const_machine.specs.States.{value_in, type_in, count_in_finding, finds_value, finds_type, finds_count, without_finding, doing};
-ghost use Rattle.dslx_const_machine.specs.Tasks.{Evaluates, FindsType, CountsBound, CountsSize};
+ghost use Rattle.dslx_const_machine.specs.Tasks.{ValueDen, FindsType, CountsBound, CountsSize};
 ghost use Rattle.dslx_const_tasks.specs.Plain.{shown, plain_task, plain_value_task, plain_list_task, plain_choice_task, plain_type_task, plain_call_task};
 
 use crate::task::{CallTask, ChoiceTask, Found, ListTask, Task, TypeTask, ValueTask};
@@ -131,7 +131,7 @@ impl<'a> Machine<'a> {
         expr: &'a Expr,
         then: ValueTask<'a>,
     ) -> Result<(), AllocError>
-        ensures { OnOk result (shown self.new ≡ doing (Evaluates expr.now ∷ plain_value_task then.entry ∷ []) (shown self.old)) }
+        ensures { OnOk result (shown self.new ≡ doing (ValueDen expr.now ∷ plain_value_task then.entry ∷ []) (shown self.old)) }
     {
         self.first_value(alloc, then)?;
         self.first(Task::Eval(expr))
@@ -144,7 +144,7 @@ impl<'a> Machine<'a> {
         expr: &'a Expr,
         then: ListTask<'a>,
     ) -> Result<(), AllocError>
-        ensures { OnOk result (shown self.new ≡ doing (Evaluates expr.now ∷ plain_list_task then.entry ∷ []) (shown self.old)) }
+        ensures { OnOk result (shown self.new ≡ doing (ValueDen expr.now ∷ plain_list_task then.entry ∷ []) (shown self.old)) }
     {
         self.first_list(alloc, then)?;
         self.first(Task::Eval(expr))
@@ -157,7 +157,7 @@ impl<'a> Machine<'a> {
         expr: &'a Expr,
         then: ChoiceTask<'a>,
     ) -> Result<(), AllocError>
-        ensures { OnOk result (shown self.new ≡ doing (Evaluates expr.now ∷ plain_choice_task then.entry ∷ []) (shown self.old)) }
+        ensures { OnOk result (shown self.new ≡ doing (ValueDen expr.now ∷ plain_choice_task then.entry ∷ []) (shown self.old)) }
     {
         self.first_choice(alloc, then)?;
         self.first(Task::Eval(expr))
@@ -170,7 +170,7 @@ impl<'a> Machine<'a> {
         expr: &'a Expr,
         then: TypeTask<'a>,
     ) -> Result<(), AllocError>
-        ensures { OnOk result (shown self.new ≡ doing (Evaluates expr.now ∷ plain_type_task then.entry ∷ []) (shown self.old)) }
+        ensures { OnOk result (shown self.new ≡ doing (ValueDen expr.now ∷ plain_type_task then.entry ∷ []) (shown self.old)) }
     {
         self.first_type(alloc, then)?;
         self.first(Task::Eval(expr))
@@ -183,7 +183,7 @@ impl<'a> Machine<'a> {
         expr: &'a Expr,
         then: CallTask<'a>,
     ) -> Result<(), AllocError>
-        ensures { OnOk result (shown self.new ≡ doing (Evaluates expr.now ∷ plain_call_task then.entry ∷ []) (shown self.old)) }
+        ensures { OnOk result (shown self.new ≡ doing (ValueDen expr.now ∷ plain_call_task then.entry ∷ []) (shown self.old)) }
     {
         self.first_call(alloc, then)?;
         self.first(Task::Eval(expr))

@@ -3,10 +3,10 @@ ghost use Rattle.dslx_const_tasks.specs.Plain.{plain_task, plain_value_task, pla
 
 use base::stacks::Stack;
 use base::texts::Name;
-use dslx_meaning::{Bare, BitKind, DslxType, DslxValue, SignedWord};
+use dslx_meaning::{UntypedLiteral, BitKind, DslxType, DslxValue, SignedWord};
 use dslx_names::Scope;
 use dslx_tree::{
-    Arg, Arm, Binary, Block, Expr, Field, FieldValue, For, Function, Parameter, Pattern, Prefix,
+    Arg, Arm, Binary, Block, Expr, Field, FieldValue, For, Function, Parametric, Pattern, Prefix,
     Stmt, Struct, TypeExpr,
 };
 use dslx_values::inference::Inference;
@@ -50,7 +50,7 @@ pub enum ListMaker<'a> {
     Array,
     /// So many of a type, the last one repeated if the text says so.
     Fill(DslxType, u128, bool),
-    /// A call of this name with these number arguments.
+    /// A call of this name with these parametric arguments.
     Call(&'a Name, Vec<DslxValue>),
 }
 
@@ -106,7 +106,7 @@ pub struct Fields<'a> {
     pub rest: Option<DslxValue>,
 }
 
-/// A call, while its number parameters are found and its operands bound.
+/// A call, while its parametrics are found and its operands bound.
 #[derive(Drop)]
 pub struct Call<'a> {
     pub function: &'a Function,
@@ -175,7 +175,7 @@ pub enum ValueTask<'a> {
     /// Goes on without the value.
     Pass(&'a [Stmt], &'a Option<Boxed<Expr>>),
     /// The number of the type.
-    Number(Bare),
+    Number(UntypedLiteral),
     MakeOne(OneMaker<'a>),
     /// Finds the right value, the value being the left one.
     FindRight(PairMaker, &'a Expr),
@@ -195,7 +195,7 @@ pub enum ListTask<'a> {
     Elements(&'a [Expr], bool),
     /// The value is the next one behind these.
     Gather(Vec<DslxValue>, &'a [Expr], ListMaker<'a>),
-    GatherNumbers(Vec<DslxValue>, &'a [Arg], &'a Name, &'a [Expr]),
+    GatherParametricArgs(Vec<DslxValue>, &'a [Arg], &'a Name, &'a [Expr]),
     FindFields(&'a [FieldValue], &'a Option<Boxed<Expr>>),
     /// The value gives the fields that aren't written.
     TakeRest(Name, Seq<Name>, &'a [FieldValue]),
@@ -242,8 +242,8 @@ pub enum TypeTask<'a> {
 /// Of calls.
 #[derive(Drop)]
 pub enum CallTask<'a> {
-    FindParameters(Call<'a>, &'a [Parameter]),
-    GiveParameter(Call<'a>, &'a Parameter, &'a [Parameter]),
+    FindParametrics(Call<'a>, &'a [Parametric]),
+    GiveParametric(Call<'a>, &'a Parametric, &'a [Parametric]),
     GiveOperands(Call<'a>, &'a [Field]),
     /// Back to what is bound elsewhere, and how long a chain of uses may be there.
     Return(Scope<'a>, u64),

@@ -1,6 +1,6 @@
 -- ends by their numbers
 pub mod Ends
--- channels, and number arguments of spawns
+-- channels, and parametric arguments of spawns
 pub mod Parts
 -- families of procs
 pub mod Families

@@ -1,2 +1,2 @@
 -- texts with which nothing is wrong
-pub mod FineNexts
+pub mod WellTypedNexts

@@ -149,20 +149,20 @@ first_apart (p ∷ ps) v bound = or_else (taken_apart p v bound) (first_apart ps
 -- ---- expressions
 
 -- what has a value, by what functions give and what is bound
-abbrev pub CoreMeaning : Type 0
-CoreMeaning = Functions → Bindings → Option Value
+abbrev pub CoreDen : Type 0
+CoreDen = Functions → Bindings → Option Value
 
-pub record ArmMeaning : Type 0 where
+pub record CoreArmDen : Type 0 where
   pub shapes : List Shape
-  pub value : CoreMeaning
+  pub value : CoreDen
 
-abbrev pub values_in : List CoreMeaning → Functions → Bindings → Option (List Value)
-values_in es calls bound = all_some (map (λ (e : CoreMeaning). e calls bound) es)
+abbrev pub values_in : List CoreDen → Functions → Bindings → Option (List Value)
+values_in es calls bound = all_some (map (λ (e : CoreDen). e calls bound) es)
 
-abbrev pub word_in : CoreMeaning → Functions → Bindings → Option Word
+abbrev pub word_in : CoreDen → Functions → Bindings → Option Word
 word_in e calls bound = and_then (e calls bound) word_of_value
 
-abbrev pub array_in : CoreMeaning → Functions → Bindings → Option (List Value)
+abbrev pub array_in : CoreDen → Functions → Bindings → Option (List Value)
 array_in e calls bound = and_then (e calls bound) (λ v. array_values_step (out-Value v))
 
 abbrev pub chosen : Option Bool → Option Value → Option Value → Option Value
@@ -170,12 +170,12 @@ chosen None a c = None
 chosen (Some true) a c = a
 chosen (Some false) a c = c
 
-abbrev pub arm_or : Functions → CoreMeaning → Option Bindings → Option Value → Option Value
+abbrev pub arm_or : Functions → CoreDen → Option Bindings → Option Value → Option Value
 arm_or calls value None rest = rest
 arm_or calls value (Some bound) rest = value calls bound
 
 -- the first arm that fits, else the last one
-abbrev pub select : List ArmMeaning → Value → Functions → Bindings → Option Value
+abbrev pub select : List CoreArmDen → Value → Functions → Bindings → Option Value
 select [] v calls bound = None
 select (a ∷ []) v calls bound = arm_or calls a.value (first_apart a.shapes v bound) (a.value calls bound)
 select (a ∷ c ∷ as') v calls bound = arm_or calls a.value (first_apart a.shapes v bound) (select (c ∷ as') v calls bound)
@@ -184,10 +184,10 @@ abbrev pub turns : (Value → Value → Option Value) → ℕ → Word → Value
 turns body zero i acc = Some acc
 turns body (suc n) i acc = and_then (body (Bits i) acc) (turns body n (op.add i (word i.width 1)))
 
-abbrev pub one_turn : Shape → Shape → CoreMeaning → Functions → Bindings → Value → Value → Option Value
+abbrev pub one_turn : Shape → Shape → CoreDen → Functions → Bindings → Value → Value → Option Value
 one_turn index acc body calls bound i a = and_then (taken_apart index i bound) (λ inner. and_then (taken_apart acc a inner) (body calls))
 
-abbrev pub core_step : CoreExpr-F CoreMeaning ArmMeaning → CoreMeaning
+abbrev pub core_step : CoreExpr-F CoreDen CoreArmDen → CoreDen
 core_step (CoreExpr-F.Literal v) calls bound = Some v
 core_step (CoreExpr-F.Slot k) calls bound = slice_get bound k
 core_step (CoreExpr-F.Tuple es) calls bound = and_then (values_in es calls bound) (λ vs. Some (Tuple vs))
@@ -207,9 +207,9 @@ core_step (CoreExpr-F.Select e arms) calls bound = and_then (e calls bound) (λ 
 core_step (CoreExpr-F.Loop n from index acc body start) calls bound = and_then (start calls bound) (turns (one_turn index acc body calls bound) n from)
 core_step (CoreExpr-F.Call f es) calls bound = and_then (values_in es calls bound) (calls f)
 
-abbrev pub arm_step : Arm-F CoreMeaning ArmMeaning → ArmMeaning
+abbrev pub arm_step : Arm-F CoreDen CoreArmDen → CoreArmDen
 arm_step a = record { shapes = a.shapes; value = a.value }
 
 -- the value of an expression, unless it has none
-abbrev pub core_value : CoreExpr → CoreMeaning
-core_value = fold-CoreExpr CoreMeaning ArmMeaning core_step arm_step
+abbrev pub core_value : CoreExpr → CoreDen
+core_value = fold-CoreExpr CoreDen CoreArmDen core_step arm_step

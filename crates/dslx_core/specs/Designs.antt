@@ -119,13 +119,13 @@ core_activation calls i state words = do_steps calls i.steps i.next (state ∷ [
 -- ---- networks
 
 -- a proc of the network: its path, its instance, and the channel of each member
-pub record CorePlaced : Type 0 where
+pub record CoreElaborated : Type 0 where
   pub path : List ℕ
   pub instance : Instance
   pub channels : List ℕ
 
 pub record CoreFamily : Type 0 where
-  pub procs : List CorePlaced
+  pub procs : List CoreElaborated
   pub chans : List Chan
 
 abbrev pub no_core_family : CoreFamily
@@ -142,43 +142,43 @@ abbrev pub made_of : List ℕ → MadeChannel → Chan
 made_of path c = record { name = path ++ codes "/" ++ c.name; ty = c.ty; kind = kind.Inner; depth = c.depth }
 
 -- a family, by its path, its first proc, the channels of its ends and the number of the next channel
-abbrev pub CorePlacing : Type 0
-CorePlacing = List ℕ → ℕ → List ℕ → ℕ → CoreFamily
+abbrev pub CoreElaboration : Type 0
+CoreElaboration = List ℕ → ℕ → List ℕ → ℕ → CoreFamily
 
-abbrev pub core_children : CorePlacing → List ℕ → List ℕ → ℕ → List Child → ℕ → ℕ → CoreFamily
+abbrev pub core_children : CoreElaboration → List ℕ → List ℕ → ℕ → List Child → ℕ → ℕ → CoreFamily
 core_children place path given number [] k next = no_core_family
 core_children place path given number (c ∷ cs) k next =
     let first = place (child_path path k) c.instance (map (channel_of_end given number) c.ends) next in
     and_core_family first (core_children place path given number cs (suc k) (next + length first.chans))
 
-abbrev pub core_place : CorePlacing → Instance → List ℕ → List ℕ → ℕ → CoreFamily
-core_place place i path given number =
+abbrev pub core_elaborate : CoreElaboration → Instance → List ℕ → List ℕ → ℕ → CoreFamily
+core_elaborate place i path given number =
     let own = map (made_of path) i.made in
     and_core_family
     (record { procs = record { path = path; instance = i; channels = map (channel_of_end given number) i.members } ∷ []; chans = own })
     (core_children place path given number i.children 0 (number + length own))
 
-abbrev pub no_place : CorePlacing
-no_place path i given number = no_core_family
+abbrev pub no_elaboration : CoreElaboration
+no_elaboration path i given number = no_core_family
 
 -- the first instances, and one more, which spawns only those
-abbrev pub and_instance : ℕ → Instance → CorePlacing → CorePlacing
-and_instance n instance before path i given number = if i == n then core_place before instance path given number else before path i given number
+abbrev pub and_instance : ℕ → Instance → CoreElaboration → CoreElaboration
+and_instance n instance before path i given number = if i == n then core_elaborate before instance path given number else before path i given number
 
-abbrev pub places_from : ℕ → List Instance → CorePlacing → CorePlacing
-places_from n [] before = before
-places_from n (i ∷ is) before = places_from (suc n) is (and_instance n i before)
+abbrev pub elaborations_from : ℕ → List Instance → CoreElaboration → CoreElaboration
+elaborations_from n [] before = before
+elaborations_from n (i ∷ is) before = elaborations_from (suc n) is (and_instance n i before)
 
 -- 0, 1, .. below a number, from one on
 abbrev pub numbers_from : ℕ → List Outer → List ℕ
 numbers_from n [] = []
 numbers_from n (o ∷ os) = n ∷ numbers_from (suc n) os
 
-abbrev pub last_place : List Instance → ℕ
-last_place is = length is - 1
+abbrev pub last_index : List Instance → ℕ
+last_index is = length is - 1
 
 abbrev pub core_family : Design → CoreFamily
-core_family design = places_from 0 design.procs no_place design.name (last_place design.procs) (numbers_from 0 design.outer) (length design.outer)
+core_family design = elaborations_from 0 design.procs no_elaboration design.name (last_index design.procs) (numbers_from 0 design.outer) (length design.outer)
 
 abbrev pub site_of_step : List ℕ → Step → List Site
 site_of_step channels (step.Bind e shape) = []
@@ -189,7 +189,7 @@ abbrev pub sites_of_steps : List ℕ → List Step → List Site
 sites_of_steps channels [] = []
 sites_of_steps channels (s ∷ ss) = site_of_step channels s ++ sites_of_steps channels ss
 
-abbrev pub core_head : CorePlaced → ProcHead
+abbrev pub core_head : CoreElaborated → ProcHead
 core_head p = record { path = p.path; state = p.instance.state; init = p.instance.opening; sites = sites_of_steps p.channels p.instance.steps }
 
 abbrev pub chan_of_outer : Outer → Chan
@@ -202,7 +202,7 @@ core_chans design = map chan_of_outer design.outer ++ (core_family design).chans
 abbrev pub core_network : Design → Net
 core_network design = record { name = design.name; procs = map core_head (core_family design).procs; chans = core_chans design }
 
-abbrev pub core_behavior : Design → CorePlaced → Behavior
+abbrev pub core_behavior : Design → CoreElaborated → Behavior
 core_behavior design p = record {
   state = p.instance.state;
   sites = sites_of_steps p.channels p.instance.steps;

@@ -1,5 +1,5 @@
 -- places in bodies, and which bound values names stand for
-pub mod CorePlaces
+pub mod CoreScopes
 -- what it means that a core expression stands for an expression of a text
 pub mod Correspondence
 -- types that are equal in all their parts

@@ -5,4 +5,4 @@ pub mod Configs
 -- instances of procs
 pub mod Procs
 -- a checked text that is made of instances
-pub mod Making
+pub mod Assembly

@@ -6,15 +6,15 @@ ghost use Rattle.dslx_typing.specs.Laws.Recursion.{HasNoCycle};
 ghost use Rattle.dslx_core.specs.CoreOf.{CoreOf};
 ghost use Rattle.dslx_core.specs.declared.design.Design.{Design};
 ghost use Rattle.dslx_core.specs.Lowering.Instances.{ItemsAreOwn};
-ghost use Rattle.dslx_core.specs.Networks.Making.{IsDesignFrom};
-ghost use Rattle.dslx_core.specs.Behaviors.FineNexts.{HasFineNexts};
+ghost use Rattle.dslx_core.specs.Networks.Assembly.{IsDesignFrom};
+ghost use Rattle.dslx_core.specs.Behaviors.WellTypedNexts.{HasWellTypedNexts};
 
 /// A checked text that is made of the instances of a text's functions and procs has the text's network, and from each state of
 /// its type and over all words each of its procs does what the text's proc does: the same at each site, and the same next state.
 /// No item reaches itself, constants are of their own types, and nothing is wrong with the `next` of any proc in the network,
 /// which does by what is known of items what it does by what they mean.
-pub fn made_designs_stand_for_texts()
-    ensures { (m : Module) (top : Option (List ℕ)) (design : Design) → HasNoCycle m → ItemsAreOwn (meanings_of m) → IsDesignFrom m top design → HasFineNexts m top → CoreOf m top design }
+pub fn lower_preserves_designs()
+    ensures { (m : Module) (top : Option (List ℕ)) (design : Design) → HasNoCycle m → ItemsAreOwn (meanings_of m) → IsDesignFrom m top design → HasWellTypedNexts m top → CoreOf m top design }
 {
     dslx_typing::laws::recursion_ends();
 }

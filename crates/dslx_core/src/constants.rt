@@ -3,15 +3,15 @@ ghost use Rattle.dslx_tree.specs.declared.item.Module.{Module};
 ghost use Rattle.dslx_meaning.specs.Items.{meanings_of};
 ghost use Rattle.dslx_typing.specs.Laws.Recursion.{HasNoCycle};
 ghost use Rattle.dslx_typing.specs.Depends.Settled.{BindsNoConstant};
-ghost use Rattle.dslx_typing.specs.Known.Fine.{EachItemFine};
+ghost use Rattle.dslx_typing.specs.GlobalEnv.WellTypedParts.{EachItemWellTyped};
 ghost use Rattle.dslx_core.specs.Lowering.Instances.{ItemsAreOwn};
 
 /// Where no item reaches itself, no function binds the name of a constant, and nothing is wrong with any constant, alias, struct
 /// or enum, each constant and each member of an enum that has a value has one of its own type.
 pub fn items_are_own()
-    ensures { (m : Module) → HasNoCycle m → BindsNoConstant m → EachItemFine m → ItemsAreOwn (meanings_of m) }
+    ensures { (m : Module) → HasNoCycle m → BindsNoConstant m → EachItemWellTyped m → ItemsAreOwn (meanings_of m) }
 {
     dslx_typing::known::all_items_are_known();
-    dslx_typing::meant::what_is_known_is_meant();
+    dslx_typing::denotation::global_env_is_sound();
     dslx_typing::laws::recursion_ends();
 }

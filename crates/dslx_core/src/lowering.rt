@@ -11,8 +11,8 @@ mod next;
 mod steps;
 
 pub use expr::{BoundSlot, LoweredArm, LoweredExpr};
-pub use expressions::lowered_expressions_mean_the_same;
+pub use expressions::lower_preserves_expressions;
 pub use instance::{CoreCallee, CoreInstance, Instantiated, LoweredFunction};
-pub use instances::lowered_instances_mean_the_same;
+pub use instances::lower_preserves_instances;
 pub use next::{CoreMember, LoweredNext, LoweredSteps};
-pub use steps::lowered_steps_do_the_same;
+pub use steps::lower_preserves_steps;

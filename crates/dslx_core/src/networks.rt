@@ -5,4 +5,4 @@ mod network;
 
 pub use config::LoweredConfig;
 pub use instance::ProcInstance;
-pub use network::lowered_networks_are_the_same;
+pub use network::lower_preserves_networks;

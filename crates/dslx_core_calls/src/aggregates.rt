@@ -7,8 +7,8 @@ mod filled;
 mod parts;
 mod tuples;
 
-pub use arrays::elements_lowered;
-pub use fields::{field_lowered, field_of_slot};
-pub use filled::filled_lowered;
+pub use arrays::lower_array_elements;
+pub use fields::{lower_field, field_of_slot};
+pub use filled::lower_filled;
 pub use parts::{cores_of, types_of};
-pub use tuples::{struct_lowered, tuple_lowered};
+pub use tuples::{lower_struct, lower_tuple};

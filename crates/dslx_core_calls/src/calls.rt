@@ -8,7 +8,7 @@ mod loops;
 mod matches;
 mod turns;
 
-pub use builtins::builtin_lowered;
-pub use calls::call_lowered;
-pub use loops::loop_lowered;
-pub use matches::{arm_of, select_lowered};
+pub use builtins::lower_builtin;
+pub use calls::lower_call;
+pub use loops::lower_loop;
+pub use matches::{arm_of, lower_select};

@@ -3,4 +3,4 @@
 //! Each call is its definition in `dslx_core::lowering`; `None` where types don't fit.
 mod control;
 
-pub use control::{bind_lowered, choice_lowered, element_lowered, index_lowered};
+pub use control::{lower_bind, lower_choice, lower_element, lower_index};

@@ -4,6 +4,6 @@
 mod operators;
 
 pub use operators::{
-    binary_lowered, cast_lowered, counted_lowered, part_lowered, prefix_lowered, reduced_lowered,
-    slice_lowered,
+    lower_binary, lower_cast, lower_counted, lower_part, lower_prefix, lower_reduced,
+    lower_slice,
 };

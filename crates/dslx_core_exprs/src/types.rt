@@ -4,5 +4,5 @@
 mod literals;
 mod types;
 
-pub use literals::{literal, plain_value, unit_lowered};
+pub use literals::{literal, plain_value, lower_unit};
 pub use types::{bool_type, into_element, into_part, sign_of, unsigned, width_of_type, word_width};

@@ -8,8 +8,8 @@ use Rattle.dslx_meaning.specs.Network.{as_proc}
 use Rattle.dslx_core.specs.declared.design.Instance.{Instance}
 use Rattle.dslx_core.specs.Lowering.Functions.{CoreInstance, Instantiated}
 use Rattle.dslx_core.specs.Networks.Configs.{ProcInstance}
-use Rattle.dslx_core.specs.Networks.Procs.{next_proc, proc_lowered}
-use Rattle.dslx_machines.specs.Extension.Comes.{Comes}
+use Rattle.dslx_core.specs.Networks.Procs.{next_proc, lower_proc}
+use Rattle.dslx_machines.specs.Extension.Results.{TableResult}
 use Rattle.dslx_elab.specs.Adding.{AddsMissing, KeepsTable}
 use Rattle.dslx_elab.specs.declared.adding.MadeInstances.{MadeInstances}
 use Rattle.dslx_machines.proofs.Lemmas.Extension.Coming.{comes_as, never_as, never_at_once, never_then, value_comes}
@@ -18,29 +18,29 @@ module _ (m : Module) (limit : ℕ) (table : List CoreInstance) (procs : List Pr
   abbrev pub next : List CoreInstance → Option ProcInstance
   next t = next_proc m (meanings_of m) t procs i
 
-  pub not_found : None ≡ as_proc (item_named i.name m.items) → Comes m limit table next None
-  not_found none = never_at_once m limit next (λ t. ap (λ o. and_then o (λ p. and_then (proc_lowered m (meanings_of m) t procs p i.numbers) named)) (sym none))
+  pub not_found : None ≡ as_proc (item_named i.name m.items) → TableResult m limit table next None
+  not_found none = never_at_once m limit next (λ t. ap (λ o. and_then o (λ p. and_then (lower_proc m (meanings_of m) t procs p i.parametric_args) named)) (sym none))
     where
       named : Instance → Option ProcInstance
-      named l = Some (record { name = i.name; numbers = i.numbers; instance = l })
+      named l = Some (record { name = i.name; parametric_args = i.parametric_args; instance = l })
 
   module _ (p : Proc) (found : Some p ≡ as_proc (item_named i.name m.items)) where
     abbrev named : Instance → Option ProcInstance
-    named l = Some (record { name = i.name; numbers = i.numbers; instance = l })
+    named l = Some (record { name = i.name; parametric_args = i.parametric_args; instance = l })
 
-    by_proc : (t : List CoreInstance) → next t ≡ and_then (proc_lowered m (meanings_of m) t procs p i.numbers) named
-    by_proc t = ap (λ o. and_then o (λ p. and_then (proc_lowered m (meanings_of m) t procs p i.numbers) named)) (sym found)
+    by_proc : (t : List CoreInstance) → next t ≡ and_then (lower_proc m (meanings_of m) t procs p i.parametric_args) named
+    by_proc t = ap (λ o. and_then o (λ p. and_then (lower_proc m (meanings_of m) t procs p i.parametric_args) named)) (sym found)
 
-    pub found_comes : (l : Instance) (after : List CoreInstance) → Comes m limit table (λ t. proc_lowered m (meanings_of m) t procs p i.numbers) (Some (l, after))
-        → Comes m limit table next (Some (record { name = i.name; numbers = i.numbers; instance = l }, after))
+    pub found_comes : (l : Instance) (after : List CoreInstance) → TableResult m limit table (λ t. lower_proc m (meanings_of m) t procs p i.parametric_args) (Some (l, after))
+        → TableResult m limit table next (Some (record { name = i.name; parametric_args = i.parametric_args; instance = l }, after))
     found_comes l after comes =
-        comes_as m limit table (λ t. and_then (proc_lowered m (meanings_of m) t procs p i.numbers) named) next (Some (record { name = i.name; numbers = i.numbers; instance = l }, after)) by_proc
-        (value_comes m limit table after (λ t. proc_lowered m (meanings_of m) t procs p i.numbers) named l (record { name = i.name; numbers = i.numbers; instance = l }) comes refl)
+        comes_as m limit table (λ t. and_then (lower_proc m (meanings_of m) t procs p i.parametric_args) named) next (Some (record { name = i.name; parametric_args = i.parametric_args; instance = l }, after)) by_proc
+        (value_comes m limit table after (λ t. lower_proc m (meanings_of m) t procs p i.parametric_args) named l (record { name = i.name; parametric_args = i.parametric_args; instance = l }) comes refl)
 
-    pub found_nothing : Comes m limit table (λ t. proc_lowered m (meanings_of m) t procs p i.numbers) None → Comes m limit table next None
+    pub found_nothing : TableResult m limit table (λ t. lower_proc m (meanings_of m) t procs p i.parametric_args) None → TableResult m limit table next None
     found_nothing never =
-        never_as m limit (λ t. and_then (proc_lowered m (meanings_of m) t procs p i.numbers) named) next by_proc
-        (never_then m limit (λ t. proc_lowered m (meanings_of m) t procs p i.numbers) (λ l t. named l) never)
+        never_as m limit (λ t. and_then (lower_proc m (meanings_of m) t procs p i.parametric_args) named) next by_proc
+        (never_then m limit (λ t. lower_proc m (meanings_of m) t procs p i.parametric_args) (λ l t. named l) never)
 
 pub keeps_table : (m : Module) (limit : ℕ) (before : MadeInstances) (i : Instantiated) (o : Option MadeInstances) → AddsMissing m limit before i o → KeepsTable m o
 keeps_table m limit before i None added = tt

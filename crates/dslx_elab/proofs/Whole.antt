@@ -6,7 +6,7 @@ use Rattle.dslx_tree.specs.declared.item.Module.{Module}
 use Rattle.dslx_tree.specs.declared.process.Proc.{Proc}
 use Rattle.dslx_meaning.specs.Activation.{opening_state}
 use Rattle.dslx_meaning.specs.Environment.{Given}
-use Rattle.dslx_meaning.specs.Items.{meanings_of, numbers_bound}
+use Rattle.dslx_meaning.specs.Items.{meanings_of, parametric_args_bound}
 use Rattle.dslx_meaning.specs.Lists.{and_then, where_true, with_both}
 use Rattle.dslx_meaning.specs.declared.value.DslxValue.{DslxValue}
 use Rattle.dslx_typing.specs.Typed.Kinds.{is_of}
@@ -14,18 +14,18 @@ use Rattle.dslx_typing.proofs.Lemmas.Typed.{none_some, same_some}
 use Rattle.dslx_core.specs.declared.design.Instance.{Instance}
 use Rattle.dslx_names.specs.Bound.{given}
 use Rattle.dslx_names.specs.declared.scope.Binding.{Binding}
-use Rattle.dslx_core.specs.Lowering.CorePlaces.{CoreKnown, with_local}
+use Rattle.dslx_core.specs.Lowering.CoreScopes.{BodyEnv, with_local}
 use Rattle.dslx_core.specs.Lowering.EqualTypes.{equal_type}
-use Rattle.dslx_core.specs.Lowering.Functions.{CoreInstance, callee_in, numbers_stand, outer_place}
-use Rattle.dslx_core.specs.Lowering.Steps.{LoweredNext, LoweredSteps, is_sized, next_lowered, proc_known, statements_steps, steps_from}
-use Rattle.dslx_core.specs.Lowering.Trees.{type_of_text_lowered}
+use Rattle.dslx_core.specs.Lowering.Functions.{CoreInstance, callee_in, parametric_args_are_well_typed, outer_scope}
+use Rattle.dslx_core.specs.Lowering.Steps.{LoweredNext, LoweredSteps, is_sized, lower_next, proc_globals, statements_steps, steps_from}
+use Rattle.dslx_core.specs.Lowering.Trees.{lower_type_of_text}
 use Rattle.dslx_core.proofs.Lemmas.Lowering.{from_then, from_where}
 use Rattle.dslx_machines.proofs.Lemmas.Machine.Instances.{begins_itself}
 use Rattle.dslx_machines.proofs.Lemmas.Machine.Steady.{type_anywhere}
-use Rattle.dslx_core.specs.Networks.Configs.{LoweredConfig, ProcInstance, config_lowered}
-use Rattle.dslx_core.specs.Networks.Procs.{instance_of, proc_lowered}
-use Rattle.dslx_machines.specs.Extension.Comes.{Comes}
-use Rattle.dslx_next.specs.Steps.Known.{numbers_known}
+use Rattle.dslx_core.specs.Networks.Configs.{LoweredConfig, ProcInstance, lower_config}
+use Rattle.dslx_core.specs.Networks.Procs.{instance_of, lower_proc}
+use Rattle.dslx_machines.specs.Extension.Results.{TableResult}
+use Rattle.dslx_next.specs.Steps.GlobalEnv.{parametric_args_known}
 use Rattle.dslx_machines.proofs.Lemmas.Extension.Coming.{comes_as, never_as, never_behind, never_then, value_comes}
 use Rattle.dslx_elab.specs.Behind.{behind_next}
 
@@ -35,36 +35,36 @@ in_turn None p f = refl
 in_turn (Some a) None f = refl
 in_turn (Some a) (Some b) f = refl
 
-module _ (m : Module) (limit : ℕ) (table : List CoreInstance) (procs : List ProcInstance) (p : Proc) (numbers : List DslxValue) (bound : List Binding) (is_bound : reverse (map given bound) ≡ numbers_bound [] p.parameters numbers) where
+module _ (m : Module) (limit : ℕ) (table : List CoreInstance) (procs : List ProcInstance) (p : Proc) (parametric_args : List DslxValue) (bound : List Binding) (is_bound : reverse (map given bound) ≡ parametric_args_bound [] p.parametrics parametric_args) where
   abbrev pub next_with : List CoreInstance → Option LoweredNext
-  next_with t = next_lowered (numbers_known m bound t) p
+  next_with t = lower_next (parametric_args_known m bound t) p
 
   -- by its `next`
-  by_next : (t : List CoreInstance) → proc_lowered m (meanings_of m) t procs p numbers ≡ and_then (next_with t) (behind_next m procs p numbers)
+  by_next : (t : List CoreInstance) → lower_proc m (meanings_of m) t procs p parametric_args ≡ and_then (next_with t) (behind_next m procs p parametric_args)
   by_next t =
-      in_turn (next_lowered (proc_known m (meanings_of m) t p numbers) p) (config_lowered m (meanings_of m) procs p numbers)
-      (λ next config. and_then (opening_state (meanings_of m) p numbers) (λ v. where_true (is_of next.state v) (Some (instance_of p next config v))))
-      ∙ ap (λ (n : List Given). and_then (next_lowered (record { items = meanings_of m; numbers = n; callee = callee_in m (meanings_of m) t }) p) (behind_next m procs p numbers)) (sym is_bound)
+      in_turn (lower_next (proc_globals m (meanings_of m) t p parametric_args) p) (lower_config m (meanings_of m) procs p parametric_args)
+      (λ next config. and_then (opening_state (meanings_of m) p parametric_args) (λ v. where_true (is_of next.state v) (Some (instance_of p next config v))))
+      ∙ ap (λ (n : List Given). and_then (lower_next (record { items = meanings_of m; parametric_args = n; callee = callee_in m (meanings_of m) t }) p) (behind_next m procs p parametric_args)) (sym is_bound)
 
-  pub nothing_of_next : Comes m limit table next_with None → Comes m limit table (λ t. proc_lowered m (meanings_of m) t procs p numbers) None
+  pub nothing_of_next : TableResult m limit table next_with None → TableResult m limit table (λ t. lower_proc m (meanings_of m) t procs p parametric_args) None
   nothing_of_next never =
-      never_as m limit (λ t. and_then (next_with t) (behind_next m procs p numbers)) (λ t. proc_lowered m (meanings_of m) t procs p numbers) by_next
-      (never_then m limit next_with (λ n t. behind_next m procs p numbers n) never)
+      never_as m limit (λ t. and_then (next_with t) (behind_next m procs p parametric_args)) (λ t. lower_proc m (meanings_of m) t procs p parametric_args) by_next
+      (never_then m limit next_with (λ n t. behind_next m procs p parametric_args n) never)
 
-  pub whole_comes : (next : LoweredNext) (after : List CoreInstance) (i : Instance) → Comes m limit table next_with (Some (next, after)) → Some i ≡ behind_next m procs p numbers next
-      → Comes m limit table (λ t. proc_lowered m (meanings_of m) t procs p numbers) (Some (i, after))
+  pub whole_comes : (next : LoweredNext) (after : List CoreInstance) (i : Instance) → TableResult m limit table next_with (Some (next, after)) → Some i ≡ behind_next m procs p parametric_args next
+      → TableResult m limit table (λ t. lower_proc m (meanings_of m) t procs p parametric_args) (Some (i, after))
   whole_comes next after i comes is =
-      comes_as m limit table (λ t. and_then (next_with t) (behind_next m procs p numbers)) (λ t. proc_lowered m (meanings_of m) t procs p numbers) (Some (i, after)) by_next
-      (value_comes m limit table after next_with (behind_next m procs p numbers) next i comes (sym is))
+      comes_as m limit table (λ t. and_then (next_with t) (behind_next m procs p parametric_args)) (λ t. lower_proc m (meanings_of m) t procs p parametric_args) (Some (i, after)) by_next
+      (value_comes m limit table after next_with (behind_next m procs p parametric_args) next i comes (sym is))
 
   -- the state has the type that is written, which is the same by all tables
-  state_type : (t : List CoreInstance) (n : LoweredNext) → next_with t ≡ Some n → type_of_text_lowered p.next.ty (outer_place (numbers_known m bound t)) ≡ Some n.state
+  state_type : (t : List CoreInstance) (n : LoweredNext) → next_with t ≡ Some n → lower_type_of_text p.next.ty (outer_scope (parametric_args_known m bound t)) ≡ Some n.state
   state_type t n e =
-      let known : CoreKnown = numbers_known m bound t in
-      let x = from_where (numbers_stand known.items known.numbers && not (known.items.is_constant p.next.state.name)) _ n e in
-      let ty = from_then (type_of_text_lowered p.next.ty (outer_place known)) (λ t. where_true (is_sized t) (steps_from (outer_place known) p t)) n x.1 in
-      let y = from_where (is_sized ty.0) (steps_from (outer_place known) p ty.0) n ty.2 in
-      let s = from_then (statements_steps (outer_place known) p.members (out-Block p.next.body).statements (out-Block p.next.body).value (with_local p.next.state.name ty.0 (outer_place known)))
+      let known : BodyEnv = parametric_args_known m bound t in
+      let x = from_where (parametric_args_are_well_typed known.items known.parametric_args && not (known.items.is_constant p.next.state.name)) _ n e in
+      let ty = from_then (lower_type_of_text p.next.ty (outer_scope known)) (λ t. where_true (is_sized t) (steps_from (outer_scope known) p t)) n x.1 in
+      let y = from_where (is_sized ty.0) (steps_from (outer_scope known) p ty.0) n ty.2 in
+      let s = from_then (statements_steps (outer_scope known) p.members (out-Block p.next.body).statements (out-Block p.next.body).value (with_local p.next.state.name ty.0 (outer_scope known)))
       (λ (s : LoweredSteps). where_true (equal_type ty.0 s.next.ty) (Some (record { state = ty.0; steps = s.steps; next = s.next.core }))) n y.1 in
       let z = from_where (equal_type ty.0 s.0.next.ty) (Some (record { state = ty.0; steps = s.0.steps; next = s.0.next.core })) n s.2 in
       ty.1 ∙ ap (λ (l : LoweredNext). Some l.state) (same_some (record { state = ty.0; steps = s.0.steps; next = s.0.next.core }) n z.1)
@@ -72,11 +72,11 @@ module _ (m : Module) (limit : ℕ) (table : List CoreInstance) (procs : List Pr
   one_state : (t u : List CoreInstance) (a b : LoweredNext) → next_with t ≡ Some a → next_with u ≡ Some b → a.state ≡ b.state
   one_state t u a b at_t at_u =
       same_some a.state b.state
-      (sym (state_type t a at_t) ∙ type_anywhere p.next.ty (outer_place (numbers_known m bound u)) (callee_in m (meanings_of m) t) ∙ state_type u b at_u)
+      (sym (state_type t a at_t) ∙ type_anywhere p.next.ty (outer_scope (parametric_args_known m bound u)) (callee_in m (meanings_of m) t) ∙ state_type u b at_u)
 
   -- what nothing comes of behind one, nothing comes of behind another with a state of the same type
-  none_behind : (a b : LoweredNext) → a.state ≡ b.state → behind_next m procs p numbers b ≡ None → behind_next m procs p numbers a ≡ None
-  none_behind a b same e = by (config_lowered m (meanings_of m) procs p numbers) (opening_state (meanings_of m) p numbers) e
+  none_behind : (a b : LoweredNext) → a.state ≡ b.state → behind_next m procs p parametric_args b ≡ None → behind_next m procs p parametric_args a ≡ None
+  none_behind a b same e = by (lower_config m (meanings_of m) procs p parametric_args) (opening_state (meanings_of m) p parametric_args) e
     where
       left : Bool → LoweredNext → LoweredConfig → DslxValue → Option Instance
       left is n c v = where_true is (Some (instance_of p n c v))
@@ -91,9 +91,9 @@ module _ (m : Module) (limit : ℕ) (table : List CoreInstance) (procs : List Pr
       by (Some c) None h = refl
       by (Some c) (Some v) h = by_is (is_of a.state v) (is_of b.state v) c v (ap (λ t. is_of t v) same) h
 
-  pub nothing_behind : (next : LoweredNext) (after : List CoreInstance) → Comes m limit table next_with (Some (next, after)) → None ≡ behind_next m procs p numbers next
-      → Comes m limit table (λ t. proc_lowered m (meanings_of m) t procs p numbers) None
+  pub nothing_behind : (next : LoweredNext) (after : List CoreInstance) → TableResult m limit table next_with (Some (next, after)) → None ≡ behind_next m procs p parametric_args next
+      → TableResult m limit table (λ t. lower_proc m (meanings_of m) t procs p parametric_args) None
   nothing_behind next after comes is =
-      never_as m limit (λ t. and_then (next_with t) (behind_next m procs p numbers)) (λ t. proc_lowered m (meanings_of m) t procs p numbers) by_next
-      (never_behind m limit next_with (λ n t. behind_next m procs p numbers n)
+      never_as m limit (λ t. and_then (next_with t) (behind_next m procs p parametric_args)) (λ t. lower_proc m (meanings_of m) t procs p parametric_args) by_next
+      (never_behind m limit next_with (λ n t. behind_next m procs p parametric_args n)
       (λ t is_table small a e. none_behind a next (one_state t after a next e (comes.some after (begins_itself after))) (sym is)))

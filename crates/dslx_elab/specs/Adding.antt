@@ -6,22 +6,22 @@ use Rattle.dslx_core.specs.Lowering.Functions.{Instantiated}
 use Rattle.dslx_machines.specs.Machine.Reached.{IsTable}
 use Rattle.dslx_core.specs.Networks.Configs.{ProcInstance, proc_instance_in}
 use Rattle.dslx_core.specs.Networks.Procs.{next_proc}
-use Rattle.dslx_machines.specs.Extension.Comes.{IsAlways, IsNever}
+use Rattle.dslx_machines.specs.Extension.Results.{StableFrom, NoTableGives}
 use Rattle.dslx_elab.specs.declared.adding.MadeInstances.{MadeInstances}
 
--- the number of the instance of a name and number arguments
+-- the number of the instance of a name and parametric arguments
 abbrev pub number_in : MadeInstances → Instantiated → Option ℕ
-number_in made i = proc_instance_in i.name i.numbers 0 made.procs.items
+number_in made i = proc_instance_in i.name i.parametric_args 0 made.procs.items
 
 -- one more instance of a proc, with the instances of functions that it needs
 pub record IsOneMore (m : Module) (before : MadeInstances) (i : Instantiated) (after : MadeInstances) : Type 0 where
   pub made : ProcInstance
-  pub comes : IsAlways m before.functions after.functions (λ functions. next_proc m (meanings_of m) functions before.procs.items i) made
+  pub comes : StableFrom m before.functions after.functions (λ functions. next_proc m (meanings_of m) functions before.procs.items i) made
   pub procs : after.procs.items ≡ before.procs.items ++ made ∷ []
 
 -- what comes of an instance that isn't there yet
 abbrev pub AddsMissing : Module → ℕ → MadeInstances → Instantiated → Option MadeInstances → Type 0
-AddsMissing m limit before i None = IsNever m limit (λ functions. next_proc m (meanings_of m) functions before.procs.items i)
+AddsMissing m limit before i None = NoTableGives m limit (λ functions. next_proc m (meanings_of m) functions before.procs.items i)
 AddsMissing m limit before i (Some after) = IsOneMore m before i after
 
 -- what comes of an instance that is asked for: it stays the one that is there, or is made behind the others, or it becomes nothing by

@@ -9,13 +9,13 @@ use Rattle.dslx_meaning.specs.declared.value.DslxValue.{DslxValue}
 use Rattle.dslx_typing.specs.Typed.Kinds.{is_of}
 use Rattle.dslx_core.specs.declared.design.Instance.{Instance}
 use Rattle.dslx_core.specs.Lowering.Steps.{LoweredNext}
-use Rattle.dslx_core.specs.Networks.Configs.{LoweredConfig, ProcInstance, config_lowered}
+use Rattle.dslx_core.specs.Networks.Configs.{LoweredConfig, ProcInstance, lower_config}
 use Rattle.dslx_core.specs.Networks.Procs.{instance_of}
 
 -- its `next` and its `config`
 abbrev pub behind_config : Module → Proc → List DslxValue → LoweredNext → LoweredConfig → Option Instance
-behind_config m p numbers next config = and_then (opening_state (meanings_of m) p numbers) (λ v. where_true (is_of next.state v) (Some (instance_of p next config v)))
+behind_config m p parametric_args next config = and_then (opening_state (meanings_of m) p parametric_args) (λ v. where_true (is_of next.state v) (Some (instance_of p next config v)))
 
 -- its `next`
 abbrev pub behind_next : Module → List ProcInstance → Proc → List DslxValue → LoweredNext → Option Instance
-behind_next m procs p numbers next = and_then (config_lowered m (meanings_of m) procs p numbers) (behind_config m p numbers next)
+behind_next m procs p parametric_args next = and_then (lower_config m (meanings_of m) procs p parametric_args) (behind_config m p parametric_args next)

@@ -4,7 +4,7 @@ ghost use Rattle.std.specs.Prelude.{◌≡◌, ◌∷◌, ◌++◌, [], IfOk};
 ghost use Rattle.dslx_machines.specs.Machine.Reached.{IsTable};
 ghost use Rattle.dslx_meaning.specs.Items.{meanings_of};
 ghost use Rattle.dslx_core.specs.Networks.Procs.{next_proc};
-ghost use Rattle.dslx_machines.specs.Extension.Comes.{Comes};
+ghost use Rattle.dslx_machines.specs.Extension.Results.{TableResult};
 ghost use Rattle.dslx_elab.specs.Adding.{AddsMissing, AddsProc, KeepsTable};
 
 use crate::instance::proc_there;
@@ -41,7 +41,7 @@ pub fn add_proc(
     match instance_number(
         made.procs.as_slice(),
         &wanted.name,
-        wanted.numbers.as_slice(),
+        wanted.parametric_args.as_slice(),
     ) {
         Some(_) => Ok(Some(made)),
         None => add_missing(alloc, text, limit, made, wanted),
@@ -82,7 +82,7 @@ fn next_instance(
     wanted: Instantiated,
 ) -> Result<Option<(ProcInstance, InstanceTable)>, AllocError>
     requires is_table { IsTable text.now (meanings_of text.now) functions }
-    ensures { IfOk result (λ o. Comes text.now limit functions (λ table. next_proc text.now (meanings_of text.now) table procs.now wanted) o) }
+    ensures { IfOk result (λ o. TableResult text.now limit functions (λ table. next_proc text.now (meanings_of text.now) table procs.now wanted) o) }
 {
     let Some(process) = find_proc(text.items.as_slice(), &wanted.name) else {
         return Ok(None);
@@ -94,12 +94,12 @@ fn next_instance(
         functions,
         procs,
         process,
-        wanted.numbers.as_slice(),
+        wanted.parametric_args.as_slice(),
     )? {
         Some((instance, functions)) => {
             let made = ProcInstance {
                 name: wanted.name,
-                numbers: wanted.numbers,
+                parametric_args: wanted.parametric_args,
                 instance,
             };
             Ok(Some((made, functions)))

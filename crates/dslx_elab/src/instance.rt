@@ -5,8 +5,8 @@ ghost use Rattle.dslx_machines.specs.Machine.Reached.{IsTable};
 ghost use Rattle.dslx_meaning.specs.Items.{meanings_of};
 ghost use Rattle.dslx_meaning.specs.Lists.{and_then, where_true};
 ghost use Rattle.dslx_meaning.specs.Activation.{opening_state};
-ghost use Rattle.dslx_core.specs.Networks.Procs.{instance_of as the_instance, proc_lowered};
-ghost use Rattle.dslx_machines.specs.Extension.Comes.{Comes};
+ghost use Rattle.dslx_core.specs.Networks.Procs.{instance_of as the_instance, lower_proc};
+ghost use Rattle.dslx_machines.specs.Extension.Results.{TableResult};
 ghost use Rattle.dslx_elab.specs.Behind.{behind_config, behind_next};
 
 use dslx_config::channels::plain_type;
@@ -19,12 +19,12 @@ use dslx_core_exprs::types::plain_value;
 use dslx_instance::table::InstanceTable;
 use dslx_meaning::DslxValue;
 use dslx_next::steps::next_there;
-use dslx_scope_patterns::numbers::bindings_of;
+use dslx_scope_patterns::parametric_args::bindings_of;
 use dslx_tree::{Module, Proc};
 use std::alloc::{AllocError, Global};
 use xb_value::Boxed;
 
-/// What a proc with these number arguments becomes where these instances of procs are there to be spawned, with the instances of
+/// What a proc with these parametric arguments becomes where these instances of procs are there to be spawned, with the instances of
 /// functions that it needs behind those that are made; `None` only where it becomes nothing by any table of at most `limit` of those.
 pub fn proc_there<'a>(
     alloc: Global,
@@ -33,16 +33,16 @@ pub fn proc_there<'a>(
     table: InstanceTable,
     procs: &[ProcInstance],
     process: &'a Proc,
-    numbers: &[DslxValue],
+    parametric_args: &[DslxValue],
 ) -> Result<Option<(Instance, InstanceTable)>, AllocError>
     requires is_table { IsTable text.now (meanings_of text.now) table }
-    ensures { IfOk result (λ o. Comes text.now limit table (λ functions. proc_lowered text.now (meanings_of text.now) functions procs.now process.now numbers.now) o) }
+    ensures { IfOk result (λ o. TableResult text.now limit table (λ functions. lower_proc text.now (meanings_of text.now) functions procs.now process.now parametric_args.now) o) }
 {
-    let bound = bindings_of(alloc, process.parameters.as_slice(), numbers)?;
+    let bound = bindings_of(alloc, process.parametrics.as_slice(), parametric_args)?;
     match next_there(alloc, text, limit, table, process, bound)? {
         Some((next, table)) => {
             let next = Boxed::new(alloc, next)?;
-            match instance_with(alloc, text, procs, process, numbers, next)? {
+            match instance_with(alloc, text, procs, process, parametric_args, next)? {
                 Some(instance) => Ok(Some((instance, table))),
                 None => Ok(None),
             }
@@ -57,13 +57,13 @@ fn instance_with<'a>(
     text: &'a Module,
     procs: &[ProcInstance],
     process: &'a Proc,
-    numbers: &[DslxValue],
+    parametric_args: &[DslxValue],
     next: Boxed<LoweredNext>,
 ) -> Result<Option<Instance>, AllocError>
-    ensures { IfOk result (λ i. i ≡ behind_next text.now procs.now process.now numbers.now next) }
+    ensures { IfOk result (λ i. i ≡ behind_next text.now procs.now process.now parametric_args.now next) }
 {
-    match config_there(alloc, text, procs, process, numbers)? {
-        Some(config) => instance_opening(alloc, text, process, numbers, next, config),
+    match config_there(alloc, text, procs, process, parametric_args)? {
+        Some(config) => instance_opening(alloc, text, process, parametric_args, next, config),
         None => Ok(None),
     }
 }
@@ -73,13 +73,13 @@ fn instance_opening<'a>(
     alloc: Global,
     text: &'a Module,
     process: &'a Proc,
-    numbers: &[DslxValue],
+    parametric_args: &[DslxValue],
     next: Boxed<LoweredNext>,
     config: LoweredConfig,
 ) -> Result<Option<Instance>, AllocError>
-    ensures { IfOk result (λ i. i ≡ behind_config text.now process.now numbers.now next config) }
+    ensures { IfOk result (λ i. i ≡ behind_config text.now process.now parametric_args.now next config) }
 {
-    match opening_there(alloc, text, process, numbers)? {
+    match opening_there(alloc, text, process, parametric_args)? {
         Some(opening) => if is_of(&next.get().state, &opening) {
             Ok(Some(instance_of(alloc, process, next, config, &opening)?))
         } else {

@@ -9,4 +9,4 @@ mod exprs;
 mod rule;
 
 pub use exprs::{pop_boxed, pop_expr, push_expr};
-pub use rule::{ArgRule, AtomRule, reduce_arg, reduce_atom};
+pub use rule::{ArgAction, AtomAction, reduce_arg, reduce_atom};

@@ -6,4 +6,4 @@ mod braces;
 mod fields;
 mod rule;
 
-pub use rule::{BraceRule, reduce_brace};
+pub use rule::{BraceAction, reduce_brace};

@@ -7,4 +7,4 @@ mod chain;
 mod operators;
 mod rule;
 
-pub use rule::{OperatorRule, reduce_operator};
+pub use rule::{OperatorAction, reduce_operator};

@@ -1,4 +1,4 @@
-//! The instances of functions that are done, by their names and number arguments, in the order in which they were done.
+//! The instances of functions that are done, by their names and parametric arguments, in the order in which they were done.
 mod alike;
 mod callee;
 mod functions;

@@ -7,15 +7,15 @@ ghost use Rattle.dslx_core.specs.Lowering.Functions.{CoreInstance};
 ghost use Rattle.dslx_machines.specs.Machine.Arms.{alternatives_begin, arm_begins, arm_taken, arms_on, binding_begins};
 ghost use Rattle.dslx_machines.specs.Machine.Bodies.{doing, with_last, with_made};
 ghost use Rattle.dslx_machines.specs.Machine.Tasks.{LowersExpr, Restores, TakesArm};
-ghost use Rattle.dslx_instance.specs.Tasks.Shown.{body_shown, match_shown, sight_of};
+ghost use Rattle.dslx_instance.specs.Tasks.Shown.{body_shown, match_shown, instance_env_of};
 
 use crate::held::{Mark, go_back, mark_of, take_boxed};
 use dslx_core::Shape;
 use dslx_core::lowering::{LoweredArm, LoweredExpr};
-use dslx_core_calls::calls::{arm_of, select_lowered};
+use dslx_core_calls::calls::{arm_of, lower_select};
 use dslx_instance::tasks::{ArmsTask, LowerTask, MatchWork, OpenBody};
-use dslx_instance_steps::places::sight_in;
-use dslx_scope_patterns::patterns::{BodyKnown, alternatives_there, bind_there, binds_nothing_new};
+use dslx_instance_steps::scopes::scope_env_in;
+use dslx_scope_patterns::patterns::{BodyScope, alternatives_there, bind_there, binds_nothing_new};
 use dslx_tree::{Arm, Module, Pattern};
 use std::alloc::{AllocError, Global};
 use xb_value::{Boxed, Seq};
@@ -27,7 +27,7 @@ pub fn begin_arms<'a>(
     text: &'a Module,
     arms: &'a [Arm],
 ) -> Result<bool, AllocError>
-    ensures { IfOk result (λ is. (table : List CoreInstance) → where_true is (Some (body_shown body.new)) ≡ with_last (body_shown body.old).made (λ e made. arms_on (sight_of text.now table) e [] arms.now (with_made made (body_shown body.old)))) }
+    ensures { IfOk result (λ is. (table : List CoreInstance) → where_true is (Some (body_shown body.new)) ≡ with_last (body_shown body.old).made (λ e made. arms_on (instance_env_of text.now table) e [] arms.now (with_made made (body_shown body.old)))) }
 {
     match take_boxed(&mut body.made, alloc)? {
         Some(value) => next_arm(body, alloc, text, value, Vec::new(alloc), arms),
@@ -44,11 +44,11 @@ fn next_arm<'a>(
     before: Vec<LoweredArm>,
     arms: &'a [Arm],
 ) -> Result<bool, AllocError>
-    ensures { IfOk result (λ is. (table : List CoreInstance) → where_true is (Some (body_shown body.new)) ≡ arms_on (sight_of text.now table) value before.items arms.now (body_shown body.old)) }
+    ensures { IfOk result (λ is. (table : List CoreInstance) → where_true is (Some (body_shown body.new)) ≡ arms_on (instance_env_of text.now table) value before.items arms.now (body_shown body.old)) }
 {
     match arms {
         [] => {
-            let made = select_lowered(alloc, value.into_inner(), before)?;
+            let made = lower_select(alloc, value.into_inner(), before)?;
             body.give_if(made)
         }
         [first, rest @ ..] => {
@@ -70,7 +70,7 @@ fn begin_arm<'a>(
     text: &'a Module,
     work: Boxed<MatchWork<'a>>,
 ) -> Result<bool, AllocError>
-    ensures { IfOk result (λ is. (table : List CoreInstance) → where_true is (Some (body_shown body.new)) ≡ arm_begins (sight_of text.now table) (match_shown work.entry) (body_shown body.old)) }
+    ensures { IfOk result (λ is. (table : List CoreInstance) → where_true is (Some (body_shown body.new)) ≡ arm_begins (instance_env_of text.now table) (match_shown work.entry) (body_shown body.old)) }
 {
     let patterns = work.get().arm.patterns.as_slice();
     if binds_nothing_new(text, patterns) {
@@ -87,10 +87,10 @@ fn begin_alternatives<'a>(
     work: Boxed<MatchWork<'a>>,
     patterns: &'a [Pattern],
 ) -> Result<bool, AllocError>
-    ensures { IfOk result (λ is. (table : List CoreInstance) → where_true is (Some (body_shown body.new)) ≡ alternatives_begin (sight_of text.now table) (match_shown work.entry) patterns.now (body_shown body.old)) }
+    ensures { IfOk result (λ is. (table : List CoreInstance) → where_true is (Some (body_shown body.new)) ≡ alternatives_begin (instance_env_of text.now table) (match_shown work.entry) patterns.now (body_shown body.old)) }
 {
-    let sight = sight_in(text, body);
-    match alternatives_there(alloc, sight, body.count, patterns, &work.get().value.ty)? {
+    let context = scope_env_in(text, body);
+    match alternatives_there(alloc, context, body.count, patterns, &work.get().value.ty)? {
         Some(shapes) => {
             let arm = work.get().arm;
             body.first_arms(alloc, ArmsTask::TakeArm(work.into_inner(), shapes))?;
@@ -109,7 +109,7 @@ fn begin_binding<'a>(
     work: Boxed<MatchWork<'a>>,
     patterns: &'a [Pattern],
 ) -> Result<bool, AllocError>
-    ensures { IfOk result (λ is. (table : List CoreInstance) → where_true is (Some (body_shown body.new)) ≡ binding_begins (sight_of text.now table) (match_shown work.entry) patterns.now (body_shown body.old)) }
+    ensures { IfOk result (λ is. (table : List CoreInstance) → where_true is (Some (body_shown body.new)) ≡ binding_begins (instance_env_of text.now table) (match_shown work.entry) patterns.now (body_shown body.old)) }
 {
     match patterns {
         [pattern] => begin_pattern(body, alloc, text, work, pattern),
@@ -125,12 +125,12 @@ fn begin_pattern<'a>(
     work: Boxed<MatchWork<'a>>,
     pattern: &'a Pattern,
 ) -> Result<bool, AllocError>
-    ensures { IfOk result (λ is. (table : List CoreInstance) → where_true is (Some (body_shown body.new)) ≡ binding_begins (sight_of text.now table) (match_shown work.entry) (pattern.now ∷ []) (body_shown body.old)) }
+    ensures { IfOk result (λ is. (table : List CoreInstance) → where_true is (Some (body_shown body.new)) ≡ binding_begins (instance_env_of text.now table) (match_shown work.entry) (pattern.now ∷ []) (body_shown body.old)) }
 {
     let back = mark_of(body);
-    let known = BodyKnown {
+    let known = BodyScope {
         text,
-        numbers: body.given.as_slice(),
+        parametric_args: body.given.as_slice(),
     };
     match bind_there(
         alloc,
@@ -182,7 +182,7 @@ pub fn take_arm<'a>(
     work: MatchWork<'a>,
     shapes: Seq<Shape>,
 ) -> Result<bool, AllocError>
-    ensures { IfOk result (λ is. (table : List CoreInstance) → where_true is (Some (body_shown body.new)) ≡ with_last (body_shown body.old).made (λ v made. arm_taken (sight_of text.now table) (match_shown work.entry) shapes v (with_made made (body_shown body.old)))) }
+    ensures { IfOk result (λ is. (table : List CoreInstance) → where_true is (Some (body_shown body.new)) ≡ with_last (body_shown body.old).made (λ v made. arm_taken (instance_env_of text.now table) (match_shown work.entry) shapes v (with_made made (body_shown body.old)))) }
 {
     let work = Boxed::new(alloc, work)?;
     match take_boxed(&mut body.made, alloc)? {

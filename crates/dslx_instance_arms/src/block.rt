@@ -6,13 +6,13 @@ ghost use Rattle.dslx_core.specs.Lowering.Functions.{CoreInstance};
 ghost use Rattle.dslx_machines.specs.Machine.Bodies.{doing, with_last, with_made};
 ghost use Rattle.dslx_machines.specs.Machine.Steps.{value_bound};
 ghost use Rattle.dslx_machines.specs.Machine.Tasks.{MakesBind};
-ghost use Rattle.dslx_instance.specs.Tasks.Shown.{body_shown, sight_of};
+ghost use Rattle.dslx_instance.specs.Tasks.Shown.{body_shown, instance_env_of};
 
 use crate::held::{go_back, mark_of, take_boxed};
 use dslx_core::Shape;
 use dslx_core::lowering::LoweredExpr;
 use dslx_instance::tasks::{BlockTask, LowerTask, OpenBody};
-use dslx_scope_patterns::patterns::{BodyKnown, bind_there};
+use dslx_scope_patterns::patterns::{BodyScope, bind_there};
 use dslx_tree::{Expr, Module, Pattern, Stmt};
 use std::alloc::{AllocError, Global};
 use xb_value::Boxed;
@@ -26,7 +26,7 @@ pub fn bind_value<'a>(
     rest: &'a [Stmt],
     last: &'a Option<Boxed<Expr>>,
 ) -> Result<bool, AllocError>
-    ensures { IfOk result (λ is. (table : List CoreInstance) → where_true is (Some (body_shown body.new)) ≡ with_last (body_shown body.old).made (λ e made. value_bound (sight_of text.now table) e pattern.now rest.now last.now (with_made made (body_shown body.old)))) }
+    ensures { IfOk result (λ is. (table : List CoreInstance) → where_true is (Some (body_shown body.new)) ≡ with_last (body_shown body.old).made (λ e made. value_bound (instance_env_of text.now table) e pattern.now rest.now last.now (with_made made (body_shown body.old)))) }
 {
     match take_boxed(&mut body.made, alloc)? {
         Some(value) => bind_made(body, alloc, text, value, pattern, rest, last),
@@ -44,12 +44,12 @@ fn bind_made<'a>(
     rest: &'a [Stmt],
     last: &'a Option<Boxed<Expr>>,
 ) -> Result<bool, AllocError>
-    ensures { IfOk result (λ is. (table : List CoreInstance) → where_true is (Some (body_shown body.new)) ≡ value_bound (sight_of text.now table) value pattern.now rest.now last.now (body_shown body.old)) }
+    ensures { IfOk result (λ is. (table : List CoreInstance) → where_true is (Some (body_shown body.new)) ≡ value_bound (instance_env_of text.now table) value pattern.now rest.now last.now (body_shown body.old)) }
 {
     let back = mark_of(body);
-    let known = BodyKnown {
+    let known = BodyScope {
         text,
-        numbers: body.given.as_slice(),
+        parametric_args: body.given.as_slice(),
     };
     match bind_there(
         alloc,

@@ -4,22 +4,22 @@ ghost use Rattle.std.specs.Prelude.{◌≡◌, ◌∷◌, [], List, Some, IfOk};
 ghost use Rattle.dslx_tree.specs.declared.expr.For.{out-For};
 ghost use Rattle.dslx_meaning.specs.Lists.{and_then, where_true};
 ghost use Rattle.dslx_meaning.specs.Values.{bits_of as the_bits};
-ghost use Rattle.dslx_core.specs.Lowering.CorePlaces.{constant_at};
+ghost use Rattle.dslx_core.specs.Lowering.CoreScopes.{constant_at};
 ghost use Rattle.dslx_core.specs.Lowering.Functions.{CoreInstance};
-ghost use Rattle.dslx_machines.specs.Machine.Bodies.{bound_as, doing, gives, place_in, restores, with_last, with_made};
+ghost use Rattle.dslx_machines.specs.Machine.Bodies.{bound_as, doing, gives, scope_in, restores, with_last, with_made};
 ghost use Rattle.dslx_machines.specs.Machine.Steps.{loop_begins, loop_made, turn_shaped};
 ghost use Rattle.dslx_machines.specs.Machine.Tasks.{LowersBlock, MakesLoop};
 ghost use Rattle.dslx_instance_arms.specs.Inner.Bounds.{bounds_of};
-ghost use Rattle.dslx_instance.specs.Tasks.Shown.{body_shown, sight_of};
+ghost use Rattle.dslx_instance.specs.Tasks.Shown.{body_shown, instance_env_of};
 
 use crate::held::{go_back, mark_of, take_boxed};
 use dslx_core::Shape;
 use dslx_core::lowering::LoweredExpr;
-use dslx_core_calls::calls::loop_lowered;
+use dslx_core_calls::calls::lower_loop;
 use dslx_instance::tasks::{BlockTask, LoopTask, OpenBody};
-use dslx_instance_steps::places::constant_in_body;
+use dslx_instance_steps::scopes::constant_in_body;
 use dslx_meaning::SignedWord;
-use dslx_scope_patterns::patterns::{BodyKnown, turn_there};
+use dslx_scope_patterns::patterns::{BodyScope, turn_there};
 use dslx_tree::{Expr, For, Module};
 use dslx_values::bits_of;
 use std::alloc::{AllocError, Global};
@@ -32,7 +32,7 @@ pub fn start_loop<'a>(
     text: &'a Module,
     turns: &'a For,
 ) -> Result<bool, AllocError>
-    ensures { IfOk result (λ is. (table : List CoreInstance) → where_true is (Some (body_shown body.new)) ≡ with_last (body_shown body.old).made (λ index made. with_last made (λ start made. loop_begins turns.now start index (sight_of text.now table) (with_made made (body_shown body.old))))) }
+    ensures { IfOk result (λ is. (table : List CoreInstance) → where_true is (Some (body_shown body.new)) ≡ with_last (body_shown body.old).made (λ index made. with_last made (λ start made. loop_begins turns.now start index (instance_env_of text.now table) (with_made made (body_shown body.old))))) }
 {
     match take_boxed(&mut body.made, alloc)? {
         Some(index) => match take_boxed(&mut body.made, alloc)? {
@@ -52,7 +52,7 @@ fn begin_between<'a>(
     start: Boxed<LoweredExpr>,
     index: Boxed<LoweredExpr>,
 ) -> Result<bool, AllocError>
-    ensures { IfOk result (λ is. (table : List CoreInstance) → where_true is (Some (body_shown body.new)) ≡ loop_begins turns.now start index (sight_of text.now table) (body_shown body.old)) }
+    ensures { IfOk result (λ is. (table : List CoreInstance) → where_true is (Some (body_shown body.new)) ≡ loop_begins turns.now start index (instance_env_of text.now table) (body_shown body.old)) }
 {
     match bounds_in(alloc, text, body, turns)? {
         Some((from, to)) => begin_turns(body, alloc, text, turns, start, index, from, to),
@@ -67,7 +67,7 @@ fn bounds_in<'b, 'a: 'b>(
     body: &'b OpenBody<'a>,
     turns: &'b For,
 ) -> Result<Option<(SignedWord, SignedWord)>, AllocError>
-    ensures { IfOk result (λ o. (table : List CoreInstance) → o ≡ bounds_of (place_in (sight_of text.now table) (body_shown body.now)) turns.now) }
+    ensures { IfOk result (λ o. (table : List CoreInstance) → o ≡ bounds_of (scope_in (instance_env_of text.now table) (body_shown body.now)) turns.now) }
 {
     let from = bound_in(alloc, text, body, &turns.from)?;
     let to = bound_in(alloc, text, body, &turns.to)?;
@@ -84,7 +84,7 @@ fn bound_in<'b, 'a: 'b>(
     body: &'b OpenBody<'a>,
     expr: &'b Expr,
 ) -> Result<Option<SignedWord>, AllocError>
-    ensures { IfOk result (λ w. (table : List CoreInstance) → w ≡ and_then (constant_at (place_in (sight_of text.now table) (body_shown body.now)) expr.now) the_bits) }
+    ensures { IfOk result (λ w. (table : List CoreInstance) → w ≡ and_then (constant_at (scope_in (instance_env_of text.now table) (body_shown body.now)) expr.now) the_bits) }
 {
     match constant_in_body(alloc, text, body, expr)? {
         Some(value) => Ok(bits_of(&value)),
@@ -103,12 +103,12 @@ fn begin_turns<'a>(
     from: SignedWord,
     to: SignedWord,
 ) -> Result<bool, AllocError>
-    ensures { IfOk result (λ is. (table : List CoreInstance) → where_true is (Some (body_shown body.new)) ≡ and_then (turn_shaped (place_in (sight_of text.now table) (body_shown body.old)) turns.now index.ty start.ty) (λ t. Some (bound_as t.1.place (doing (LowersBlock (out-For turns.now).body ∷ MakesLoop start from to t.0 t.1.shape ∷ restores (body_shown body.old) ∷ []) (body_shown body.old))))) }
+    ensures { IfOk result (λ is. (table : List CoreInstance) → where_true is (Some (body_shown body.new)) ≡ and_then (turn_shaped (scope_in (instance_env_of text.now table) (body_shown body.old)) turns.now index.ty start.ty) (λ t. Some (bound_as t.1.place (doing (LowersBlock (out-For turns.now).body ∷ MakesLoop start from to t.0 t.1.shape ∷ restores (body_shown body.old) ∷ []) (body_shown body.old))))) }
 {
     let back = mark_of(body);
-    let known = BodyKnown {
+    let known = BodyScope {
         text,
-        numbers: body.given.as_slice(),
+        parametric_args: body.given.as_slice(),
     };
     match turn_there(
         alloc,
@@ -146,7 +146,7 @@ pub fn make_loop(
 {
     match body.made.take_off() {
         Some(last) => {
-            let made = loop_lowered(alloc, start, from, to, index, accumulator, last)?;
+            let made = lower_loop(alloc, start, from, to, index, accumulator, last)?;
             body.give_if(made)
         }
         None => Ok(false),

@@ -10,44 +10,44 @@ use Rattle.dslx_tree.proofs.Lemmas.Folds.Levels.{Carriers, Maps, NumberLevel, tr
 use Rattle.dslx_tree.proofs.Lemmas.Folds.Folds.{Steps, folds, fold_number}
 use Rattle.dslx_meaning.specs.Activation.{NodeLayer, node_of}
 use Rattle.dslx_meaning.specs.Meaning as m
-use Rattle.dslx_meaning.specs.Meaning.{Evaluates, Meant, PatternMeant, Typing, Going, ArmMeant, FieldMeant, meant, written_type}
-use Rattle.dslx_meaning.specs.declared.value.Bare.{Bare}
-use Rattle.dslx_const_machine.specs.Layers.{bare_of, bare_node, without_type, written}
+use Rattle.dslx_meaning.specs.Meaning.{ValueDen, ExprDen, PatternDen, TypeDen, StmtDen, ArmDen, FieldDen, denotation, written_type}
+use Rattle.dslx_meaning.specs.declared.value.UntypedLiteral.{UntypedLiteral}
+use Rattle.dslx_const_machine.specs.Layers.{untyped_of, bare_node, without_type, written}
 
 abbrev meanings : Carriers
 meanings = record {
-  stmt = Going;
-  node = Meant;
-  shape = PatternMeant;
-  type_node = Typing;
-  block = Evaluates;
-  bind = Going;
-  arg = Meant;
-  arm = ArmMeant;
-  expr = Meant;
-  field = FieldMeant;
-  loop = Evaluates;
-  number = Meant;
-  pattern = PatternMeant;
-  type_expr = Typing;
+  stmt = StmtDen;
+  node = ExprDen;
+  shape = PatternDen;
+  type_node = TypeDen;
+  block = ValueDen;
+  bind = StmtDen;
+  arg = ExprDen;
+  arm = ArmDen;
+  expr = ExprDen;
+  field = FieldDen;
+  loop = ValueDen;
+  number = ExprDen;
+  pattern = PatternDen;
+  type_expr = TypeDen;
 }
 
 abbrev meaning_steps : Steps meanings
 meaning_steps = record {
-  stmt = m.stmt_meant;
-  node = m.node_meant;
-  shape = m.shape_meant;
-  type_node = m.type_meant;
-  block = m.block_meant;
-  bind = m.let_meant;
-  arg = m.arg_meant;
-  arm = m.arm_meant;
-  expr = m.expr_meant;
-  field = m.field_meant;
-  loop = m.for_meant;
+  stmt = m.stmt_den;
+  node = m.node_den;
+  shape = m.shape_den;
+  type_node = m.type_den;
+  block = m.block_den;
+  bind = m.let_den;
+  arg = m.arg_den;
+  arm = m.arm_den;
+  expr = m.expr_den;
+  field = m.field_den;
+  loop = m.for_den;
   number = m.number_node;
-  pattern = m.pattern_meant;
-  type_expr = m.type_expr_meant;
+  pattern = m.pattern_den;
+  type_expr = m.type_expr_den;
 }
 
 abbrev each_means : Maps trees meanings
@@ -55,21 +55,21 @@ each_means = folds meanings meaning_steps
 
 -- ---- what stands at the top
 
-abbrev node_means : NodeLayer → Meant
-node_means x = m.node_meant (map_node trees meanings each_means x)
+abbrev node_means : NodeLayer → ExprDen
+node_means x = m.node_den (map_node trees meanings each_means x)
 
-opened : (e : Expr) → meant e ≡ node_means (node_of e)
+opened : (e : Expr) → denotation e ≡ node_means (node_of e)
 opened e =
-    fold_out-Expr Going Meant PatternMeant Typing Evaluates Going Meant ArmMeant Meant FieldMeant Evaluates Meant PatternMeant Typing
-    m.stmt_meant m.node_meant m.shape_meant m.type_meant m.block_meant m.let_meant m.arg_meant m.arm_meant m.expr_meant m.field_meant m.for_meant m.number_node m.pattern_meant m.type_expr_meant e
-    ∙ fold_out-Node Going Meant PatternMeant Typing Evaluates Going Meant ArmMeant Meant FieldMeant Evaluates Meant PatternMeant Typing
-    m.stmt_meant m.node_meant m.shape_meant m.type_meant m.block_meant m.let_meant m.arg_meant m.arm_meant m.expr_meant m.field_meant m.for_meant m.number_node m.pattern_meant m.type_expr_meant (out-Expr e).node
+    fold_out-Expr StmtDen ExprDen PatternDen TypeDen ValueDen StmtDen ExprDen ArmDen ExprDen FieldDen ValueDen ExprDen PatternDen TypeDen
+    m.stmt_den m.node_den m.shape_den m.type_den m.block_den m.let_den m.arg_den m.arm_den m.expr_den m.field_den m.for_den m.number_node m.pattern_den m.type_expr_den e
+    ∙ fold_out-Node StmtDen ExprDen PatternDen TypeDen ValueDen StmtDen ExprDen ArmDen ExprDen FieldDen ValueDen ExprDen PatternDen TypeDen
+    m.stmt_den m.node_den m.shape_den m.type_den m.block_den m.let_den m.arg_den m.arm_den m.expr_den m.field_den m.for_den m.number_node m.pattern_den m.type_expr_den (out-Expr e).node
 
-abbrev number_means : Number → Meant
+abbrev number_means : Number → ExprDen
 number_means = fold_number meanings meaning_steps
 
-abbrev number_by_parts : NumberLevel trees → Meant
-number_by_parts x = m.number_meant (option_map written_type x.ty) (record { is_negative = x.is_negative; value = x.value })
+abbrev number_by_parts : NumberLevel trees → ExprDen
+number_by_parts x = m.number_den (option_map written_type x.ty) (record { is_negative = x.is_negative; value = x.value })
 
 number_layer : (x : NumberLevel trees) → m.number_node (map_number trees meanings each_means x) ≡ number_by_parts x
 number_layer x = by x.ty
@@ -81,21 +81,21 @@ number_layer x = by x.ty
 
 number_opened : (n : Number) → number_means n ≡ number_by_parts (out-Number n)
 number_opened n =
-    fold_out-Number Going Meant PatternMeant Typing Evaluates Going Meant ArmMeant Meant FieldMeant Evaluates Meant PatternMeant Typing
-    m.stmt_meant m.node_meant m.shape_meant m.type_meant m.block_meant m.let_meant m.arg_meant m.arm_meant m.expr_meant m.field_meant m.for_meant m.number_node m.pattern_meant m.type_expr_meant n
+    fold_out-Number StmtDen ExprDen PatternDen TypeDen ValueDen StmtDen ExprDen ArmDen ExprDen FieldDen ValueDen ExprDen PatternDen TypeDen
+    m.stmt_den m.node_den m.shape_den m.type_den m.block_den m.let_den m.arg_den m.arm_den m.expr_den m.field_den m.for_den m.number_node m.pattern_den m.type_expr_den n
     ∙ number_layer (out-Number n)
 
-number_bare : (o : Option TypeExpr) (b : Bare) → (m.number_meant (option_map written_type o) b).bare ≡ without_type o b
+number_bare : (o : Option TypeExpr) (b : UntypedLiteral) → (m.number_den (option_map written_type o) b).bare ≡ without_type o b
 number_bare None b = refl
 number_bare (Some t) b = refl
 
 bare_layer : (x : NodeLayer) → (node_means x).bare ≡ bare_node x
-bare_layer (Node-F.Node::Number n) = ap (λ (e : Meant). e.bare) (number_opened n) ∙ number_bare (out-Number n).ty (written n)
+bare_layer (Node-F.Node::Number n) = ap (λ (e : ExprDen). e.bare) (number_opened n) ∙ number_bare (out-Number n).ty (written n)
 bare_layer (Node-F.Node::Bool b) = refl
 bare_layer (Node-F.Node::Array t es dots) = refl
 bare_layer (Node-F.Node::Name name) = refl
 bare_layer (Node-F.Node::Member e a) = refl
-bare_layer (Node-F.Call f numbers es) = refl
+bare_layer (Node-F.Call f parametric_args es) = refl
 bare_layer (Node-F.Node::Tuple es) = refl
 bare_layer (Node-F.Struct x fields rest) = refl
 bare_layer (Node-F.Block b) = refl
@@ -112,5 +112,5 @@ bare_layer (Node-F.Cast e t) = refl
 bare_layer (Node-F.Binary o l r) = refl
 
 -- the number without a type that an expression is
-pub bare_is : (e : Expr) → (meant e).bare ≡ bare_of e
-bare_is e = ap (λ (x : Meant). x.bare) (opened e) ∙ bare_layer (node_of e)
+pub bare_is : (e : Expr) → (denotation e).bare ≡ untyped_of e
+bare_is e = ap (λ (x : ExprDen). x.bare) (opened e) ∙ bare_layer (node_of e)

@@ -9,26 +9,26 @@ use Rattle.dslx_meaning.specs.Lists.{is_in}
 use Rattle.dslx_meaning.specs.declared.ty.DslxType.{DslxType}
 use Rattle.dslx_const_machine.specs.Layers.{field_among}
 use Rattle.dslx_machines.specs.Machine.Parts.{fields_begin, names_of_fields}
-use Rattle.dslx_machines.specs.Machine.Tasks.{InstanceSight, OpenBody}
+use Rattle.dslx_machines.specs.Machine.Tasks.{InstanceEnv, OpenBody}
 use Rattle.dslx_instance_parts.specs.Inner.Fields.{fields_by, others_needed}
 
 -- the two parts are how fields begin
-pub fields_begin_by : (sight : InstanceSight) (written : List FieldValue) (rest : Option Expr) (t : DslxType) (fields : List (List ℕ)) (ts : List DslxType) (body : OpenBody)
-    → fields_by sight written (others_needed fields written rest) t fields ts body ≡ fields_begin sight written rest t fields ts body
-fields_begin_by sight written None t fields ts body = refl
-fields_begin_by sight written (Some e) t fields ts body = by (list_all (λ field. is_in field (names_of_fields written)) fields)
+pub fields_begin_by : (context : InstanceEnv) (written : List FieldValue) (rest : Option Expr) (t : DslxType) (fields : List (List ℕ)) (ts : List DslxType) (body : OpenBody)
+    → fields_by context written (others_needed fields written rest) t fields ts body ≡ fields_begin context written rest t fields ts body
+fields_begin_by context written None t fields ts body = refl
+fields_begin_by context written (Some e) t fields ts body = by (list_all (λ field. is_in field (names_of_fields written)) fields)
   where
-    by : (b : Bool) → fields_by sight written (if b then None else Some e) t fields ts body
-        ≡ (if b then fields_by sight written None t fields ts body else fields_by sight written (Some e) t fields ts body)
+    by : (b : Bool) → fields_by context written (if b then None else Some e) t fields ts body
+        ≡ (if b then fields_by context written None t fields ts body else fields_by context written (Some e) t fields ts body)
     by true = refl
     by false = refl
 
 -- the same of what is equal to the parts
-pub begins_by_parts : (sight : InstanceSight) (written : List FieldValue) (rest : Option Expr) (t : DslxType) (fields names : List (List ℕ)) (ts left : List DslxType) (others : Option Expr) (body : OpenBody)
-    → others ≡ others_needed fields written rest → names ≡ fields → left ≡ ts → fields_by sight written others t names left body ≡ fields_begin sight written rest t fields ts body
-begins_by_parts sight written rest t fields names ts left others body o n l =
-    ap (λ o. fields_by sight written o t names left body) o ∙ ap (λ n. fields_by sight written (others_needed fields written rest) t n left body) n
-    ∙ ap (λ l. fields_by sight written (others_needed fields written rest) t fields l body) l ∙ fields_begin_by sight written rest t fields ts body
+pub begins_by_parts : (context : InstanceEnv) (written : List FieldValue) (rest : Option Expr) (t : DslxType) (fields names : List (List ℕ)) (ts left : List DslxType) (others : Option Expr) (body : OpenBody)
+    → others ≡ others_needed fields written rest → names ≡ fields → left ≡ ts → fields_by context written others t names left body ≡ fields_begin context written rest t fields ts body
+begins_by_parts context written rest t fields names ts left others body o n l =
+    ap (λ o. fields_by context written o t names left body) o ∙ ap (λ n. fields_by context written (others_needed fields written rest) t n left body) n
+    ∙ ap (λ l. fields_by context written (others_needed fields written rest) t fields l body) l ∙ fields_begin_by context written rest t fields ts body
 
 -- ---- whether a field is written
 

@@ -3,16 +3,16 @@
 ghost use Rattle.std.specs.Prelude.{◌≡◌, List, [], Some, IfOk, not};
 ghost use Rattle.dslx_meaning.specs.Lists.{where_true};
 ghost use Rattle.dslx_core.specs.Lowering.Functions.{CoreInstance};
-ghost use Rattle.dslx_core.specs.Lowering.Trees.{type_of_text_lowered};
-ghost use Rattle.dslx_machines.specs.Machine.Bodies.{place_in};
+ghost use Rattle.dslx_core.specs.Lowering.Trees.{lower_type_of_text};
+ghost use Rattle.dslx_machines.specs.Machine.Bodies.{scope_in};
 ghost use Rattle.dslx_machines.specs.Machine.Parts.{array_begins, gathers};
 ghost use Rattle.dslx_machines.specs.Machine.Tasks.{MakesArray};
 ghost use Rattle.dslx_instance_parts.specs.Inner.Arrays.{fills_type};
-ghost use Rattle.dslx_instance.specs.Tasks.Shown.{body_shown, sight_of};
+ghost use Rattle.dslx_instance.specs.Tasks.Shown.{body_shown, instance_env_of};
 
 use crate::order::gather;
 use dslx_instance::tasks::{OpenBody, PartsMaker};
-use dslx_instance_steps::places::type_in_body;
+use dslx_instance_steps::scopes::type_in_body;
 use dslx_meaning::DslxType;
 use dslx_tree::{Expr, Module, TypeExpr};
 use std::alloc::{AllocError, Global};
@@ -27,7 +27,7 @@ pub fn begin_array<'a>(
     elements: &'a [Expr],
     dots: bool,
 ) -> Result<bool, AllocError>
-    ensures { IfOk result (λ is. (table : List CoreInstance) → where_true is (Some (body_shown body.new)) ≡ array_begins ty.now (sight_of text.now table) elements.now dots (body_shown body.old)) }
+    ensures { IfOk result (λ is. (table : List CoreInstance) → where_true is (Some (body_shown body.new)) ≡ array_begins ty.now (instance_env_of text.now table) elements.now dots (body_shown body.old)) }
 {
     match ty {
         Some(ty) => begin_typed(body, alloc, text, ty.get(), elements, dots),
@@ -43,7 +43,7 @@ fn begin_typed<'a>(
     elements: &'a [Expr],
     dots: bool,
 ) -> Result<bool, AllocError>
-    ensures { IfOk result (λ is. (table : List CoreInstance) → where_true is (Some (body_shown body.new)) ≡ fills_type (type_of_text_lowered ty.now (place_in (sight_of text.now table) (body_shown body.old))) (sight_of text.now table) elements.now dots (body_shown body.old)) }
+    ensures { IfOk result (λ is. (table : List CoreInstance) → where_true is (Some (body_shown body.new)) ≡ fills_type (lower_type_of_text ty.now (scope_in (instance_env_of text.now table) (body_shown body.old))) (instance_env_of text.now table) elements.now dots (body_shown body.old)) }
 {
     let ty = type_in_body(alloc, text, body, ty)?;
     begin_filled(body, alloc, text, ty, elements, dots)
@@ -56,7 +56,7 @@ fn begin_untyped<'a>(
     elements: &'a [Expr],
     dots: bool,
 ) -> Result<bool, AllocError>
-    ensures { IfOk result (λ is. (table : List CoreInstance) → where_true is (Some (body_shown body.new)) ≡ where_true (not dots) (gathers (sight_of text.now table) [] elements.now MakesArray (body_shown body.old))) }
+    ensures { IfOk result (λ is. (table : List CoreInstance) → where_true is (Some (body_shown body.new)) ≡ where_true (not dots) (gathers (instance_env_of text.now table) [] elements.now MakesArray (body_shown body.old))) }
 {
     if dots {
         Ok(false)
@@ -81,7 +81,7 @@ fn begin_filled<'a>(
     elements: &'a [Expr],
     dots: bool,
 ) -> Result<bool, AllocError>
-    ensures { IfOk result (λ is. (table : List CoreInstance) → where_true is (Some (body_shown body.new)) ≡ fills_type ty (sight_of text.now table) elements.now dots (body_shown body.old)) }
+    ensures { IfOk result (λ is. (table : List CoreInstance) → where_true is (Some (body_shown body.new)) ≡ fills_type ty (instance_env_of text.now table) elements.now dots (body_shown body.old)) }
 {
     match ty {
         Some(DslxType::Array(element, size)) => gather(

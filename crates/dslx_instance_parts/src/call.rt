@@ -2,23 +2,23 @@
 
 ghost use Rattle.std.specs.Prelude.{◌≡◌, ◌∷◌, [], List, Some, IfOk};
 ghost use Rattle.dslx_meaning.specs.Callees.{kind_of_call};
-ghost use Rattle.dslx_meaning.specs.Items.{all_numbers, inferred_from, meanings_of};
+ghost use Rattle.dslx_meaning.specs.Items.{all_parametric_args, inferred_from, meanings_of};
 ghost use Rattle.dslx_meaning.specs.Lists.{and_then, where_true};
 ghost use Rattle.dslx_core.specs.Lowering.Functions.{CoreInstance};
 ghost use Rattle.dslx_core.specs.Lowering.Lowering.{types_of_lowered};
 ghost use Rattle.dslx_machines.specs.Machine.Parts.{calls_by_kind};
 ghost use Rattle.dslx_instance_parts.specs.Inner.Calls.{function_called, the_instance};
-ghost use Rattle.dslx_instance.specs.Tasks.Shown.{body_shown, sight_of};
+ghost use Rattle.dslx_instance.specs.Tasks.Shown.{body_shown, instance_env_of};
 
 use base::texts::Name;
 use dslx_core::lowering::{Instantiated, LoweredExpr};
 use dslx_core_calls::aggregates::types_of;
-use dslx_core_calls::calls::builtin_lowered;
+use dslx_core_calls::calls::lower_builtin;
 use dslx_instance::tasks::{CallTask, OpenBody};
-use dslx_instance_steps::places::constants_in_body;
+use dslx_instance_steps::scopes::constants_in_body;
 use dslx_meaning::DslxValue;
 use dslx_names::{Callee, callee_of, find_function};
-use dslx_scope_patterns::numbers::numbers_of;
+use dslx_scope_patterns::parametric_args::parametric_args_of;
 use dslx_tree::{Arg, Function, Module};
 use dslx_values::copy_name;
 use std::alloc::{AllocError, Global};
@@ -31,32 +31,32 @@ pub(crate) fn begin_call<'a>(
     alloc: Global,
     text: &'a Module,
     name: &'a Name,
-    numbers: &'a [Arg],
+    parametric_args: &'a [Arg],
     operands: Vec<LoweredExpr>,
 ) -> Result<bool, AllocError>
-    ensures { IfOk result (λ is. (table : List CoreInstance) → where_true is (Some (body_shown body.new)) ≡ calls_by_kind (kind_of_call name.now) (sight_of text.now table) name.now numbers.now operands.items (body_shown body.old)) }
+    ensures { IfOk result (λ is. (table : List CoreInstance) → where_true is (Some (body_shown body.new)) ≡ calls_by_kind (kind_of_call name.now) (instance_env_of text.now table) name.now parametric_args.now operands.items (body_shown body.old)) }
 {
     match callee_of(name) {
-        Callee::Function => begin_function(body, alloc, text, name, numbers, operands),
+        Callee::Function => begin_function(body, alloc, text, name, parametric_args, operands),
         callee => {
-            let made = builtin_lowered(alloc, callee, operands)?;
+            let made = lower_builtin(alloc, callee, operands)?;
             body.give_if(made)
         }
     }
 }
 
-/// The number arguments that are written are constants.
+/// The parametric arguments that are written are constants.
 fn begin_function<'a>(
     body: &mut OpenBody<'a>,
     alloc: Global,
     text: &'a Module,
     name: &'a Name,
-    numbers: &'a [Arg],
+    parametric_args: &'a [Arg],
     operands: Vec<LoweredExpr>,
 ) -> Result<bool, AllocError>
-    ensures { IfOk result (λ is. (table : List CoreInstance) → where_true is (Some (body_shown body.new)) ≡ function_called (sight_of text.now table) name.now numbers.now operands.items (body_shown body.old)) }
+    ensures { IfOk result (λ is. (table : List CoreInstance) → where_true is (Some (body_shown body.new)) ≡ function_called (instance_env_of text.now table) name.now parametric_args.now operands.items (body_shown body.old)) }
 {
-    let given = constants_in_body(alloc, text, body, numbers)?;
+    let given = constants_in_body(alloc, text, body, parametric_args)?;
     match given {
         Some(given) => match instance_called(alloc, text, name, given, operands.as_slice())? {
             Some(instance) => {
@@ -69,7 +69,7 @@ fn begin_function<'a>(
     }
 }
 
-/// The instance that a call with these number arguments and operands comes to.
+/// The instance that a call with these parametric arguments and operands comes to.
 fn instance_called(
     alloc: Global,
     text: &Module,
@@ -81,38 +81,38 @@ fn instance_called(
 {
     match find_function(text.items.as_slice(), name) {
         Some(function) => {
-            let numbers = numbers_called(alloc, text, function, given, operands)?;
-            instance_if(alloc, name, numbers)
+            let parametric_args = parametric_args_called(alloc, text, function, given, operands)?;
+            instance_if(alloc, name, parametric_args)
         }
         None => Ok(None),
     }
 }
 
-/// All number parameters of a function, by those that are given and what the types of the operands infer.
-fn numbers_called(
+/// All parametrics of a function, by those that are given and what the types of the operands infer.
+fn parametric_args_called(
     alloc: Global,
     text: &Module,
     function: &Function,
     given: Vec<DslxValue>,
     operands: &[LoweredExpr],
 ) -> Result<Option<Seq<DslxValue>>, AllocError>
-    ensures { IfOk result (λ vs. vs ≡ all_numbers (meanings_of text.now) (inferred_from function.now.arguments (types_of_lowered operands.now)) [] function.now.parameters given.items) }
+    ensures { IfOk result (λ vs. vs ≡ all_parametric_args (meanings_of text.now) (inferred_from function.now.arguments (types_of_lowered operands.now)) [] function.now.parametrics given.items) }
 {
     let types = types_of(alloc, operands)?;
-    numbers_of(alloc, text, function, types.as_slice(), given)
+    parametric_args_of(alloc, text, function, types.as_slice(), given)
 }
 
 fn instance_if(
     alloc: Global,
     name: &Name,
-    numbers: Option<Seq<DslxValue>>,
+    parametric_args: Option<Seq<DslxValue>>,
 ) -> Result<Option<Instantiated>, AllocError>
-    ensures { IfOk result (λ i. i ≡ and_then numbers (λ numbers. Some (record { name = name.now; numbers = numbers }))) }
+    ensures { IfOk result (λ i. i ≡ and_then parametric_args (λ parametric_args. Some (record { name = name.now; parametric_args = parametric_args }))) }
 {
-    match numbers {
-        Some(numbers) => Ok(Some(Instantiated {
+    match parametric_args {
+        Some(parametric_args) => Ok(Some(Instantiated {
             name: copy_name(alloc, name)?,
-            numbers,
+            parametric_args,
         })),
         None => Ok(None),
     }

@@ -5,22 +5,22 @@ ghost use Rattle.dslx_meaning.specs.Lists.{and_then, where_true};
 ghost use Rattle.dslx_tree.specs.declared.expr.FieldValue.{out-FieldValue};
 ghost use Rattle.dslx_const_machine.specs.Layers.{field_among};
 ghost use Rattle.dslx_core.specs.Lowering.Functions.{CoreInstance};
-ghost use Rattle.dslx_core.specs.Lowering.Lowering.{field_lowered};
+ghost use Rattle.dslx_core.specs.Lowering.Lowering.{lower_field};
 ghost use Rattle.dslx_core.specs.Lowering.Trees.{of_type};
 ghost use Rattle.dslx_machines.specs.Machine.Bodies.{doing, with_last, with_made};
 ghost use Rattle.dslx_machines.specs.Machine.Parts.{field_begins, field_value_begins, fields_on, others_taken};
 ghost use Rattle.dslx_machines.specs.Machine.Tasks.{GathersFields};
-ghost use Rattle.dslx_instance.specs.Tasks.Shown.{body_shown, others_shown, sight_of, struct_shown};
+ghost use Rattle.dslx_instance.specs.Tasks.Shown.{body_shown, others_shown, instance_env_of, struct_shown};
 
 use crate::order::put_behind;
 use base::stacks::Stack;
 use base::texts::Name;
 use dslx_core::lowering::LoweredExpr;
-use dslx_core_calls::aggregates::{field_of_slot, struct_lowered};
+use dslx_core_calls::aggregates::{field_of_slot, lower_struct};
 use dslx_core_exprs::alike::equal_type;
 use dslx_instance::tasks::{LowerTask, OpenBody, OtherFields, PartsTask, StructWork};
 use dslx_instance_steps::bind_unnamed;
-use dslx_instance_steps::places::name_in_body;
+use dslx_instance_steps::scopes::name_in_body;
 use dslx_meaning::DslxType;
 use dslx_names::find_field;
 use dslx_tree::{FieldValue, Module};
@@ -37,7 +37,7 @@ pub(crate) fn next_field<'a>(
     mut names: Stack<Name>,
     mut types: Stack<DslxType>,
 ) -> Result<bool, AllocError>
-    ensures { IfOk result (λ is. (table : List CoreInstance) → where_true is (Some (body_shown body.new)) ≡ fields_on (sight_of text.now table) (struct_shown work.entry) before.items names types (body_shown body.old)) }
+    ensures { IfOk result (λ is. (table : List CoreInstance) → where_true is (Some (body_shown body.new)) ≡ fields_on (instance_env_of text.now table) (struct_shown work.entry) before.items names types (body_shown body.old)) }
 {
     match names.take_off() {
         Some(name) => match types.take_off() {
@@ -47,7 +47,7 @@ pub(crate) fn next_field<'a>(
         None => match types.take_off() {
             Some(_) => Ok(false),
             None => {
-                body.give(struct_lowered(alloc, before, work.ty)?)?;
+                body.give(lower_struct(alloc, before, work.ty)?)?;
                 Ok(true)
             }
         },
@@ -66,7 +66,7 @@ fn begin_field<'a>(
     names: Stack<Name>,
     types: Stack<DslxType>,
 ) -> Result<bool, AllocError>
-    ensures { IfOk result (λ is. (table : List CoreInstance) → where_true is (Some (body_shown body.new)) ≡ field_begins (field_among name work.entry.written.now) name (others_shown work.entry.others) (sight_of text.now table) (doing (GathersFields (struct_shown work.entry) before.items ty names types ∷ []) (body_shown body.old))) }
+    ensures { IfOk result (λ is. (table : List CoreInstance) → where_true is (Some (body_shown body.new)) ≡ field_begins (field_among name work.entry.written.now) name (others_shown work.entry.others) (instance_env_of text.now table) (doing (GathersFields (struct_shown work.entry) before.items ty names types ∷ []) (body_shown body.old))) }
 {
     match find_field(work.written, &name) {
         Some(value) => {
@@ -94,7 +94,7 @@ fn begin_value<'a>(
     text: &'a Module,
     field: &'a FieldValue,
 ) -> Result<bool, AllocError>
-    ensures { IfOk result (λ is. (table : List CoreInstance) → where_true is (Some (body_shown body.new)) ≡ field_value_begins (out-FieldValue field.now).name.name (out-FieldValue field.now).value (sight_of text.now table) (body_shown body.old)) }
+    ensures { IfOk result (λ is. (table : List CoreInstance) → where_true is (Some (body_shown body.new)) ≡ field_value_begins (out-FieldValue field.now).name.name (out-FieldValue field.now).value (instance_env_of text.now table) (body_shown body.old)) }
 {
     match &field.value {
         Some(expr) => {
@@ -114,7 +114,7 @@ fn other_field(
     others: &Option<OtherFields>,
     name: &Name,
 ) -> Result<Option<LoweredExpr>, AllocError>
-    ensures { IfOk result (λ e. e ≡ field_lowered (others_shown others.now) name.now) }
+    ensures { IfOk result (λ e. e ≡ lower_field (others_shown others.now) name.now) }
 {
     match others {
         Some(others) => field_of_slot(alloc, others.slot, &others.ty, name),
@@ -133,7 +133,7 @@ pub fn take_field<'a>(
     names: Stack<Name>,
     types: Stack<DslxType>,
 ) -> Result<bool, AllocError>
-    ensures { IfOk result (λ is. (table : List CoreInstance) → where_true is (Some (body_shown body.new)) ≡ with_last (body_shown body.old).made (λ e made. and_then (of_type ty (Some e)) (λ e. fields_on (sight_of text.now table) (struct_shown work.entry) (before.items ++ e ∷ []) names types (with_made made (body_shown body.old))))) }
+    ensures { IfOk result (λ is. (table : List CoreInstance) → where_true is (Some (body_shown body.new)) ≡ with_last (body_shown body.old).made (λ e made. and_then (of_type ty (Some e)) (λ e. fields_on (instance_env_of text.now table) (struct_shown work.entry) (before.items ++ e ∷ []) names types (with_made made (body_shown body.old))))) }
 {
     match body.made.take_off() {
         Some(last) => {
@@ -165,7 +165,7 @@ pub fn take_others<'a>(
     types: Stack<DslxType>,
     written: &'a [FieldValue],
 ) -> Result<bool, AllocError>
-    ensures { IfOk result (λ is. (table : List CoreInstance) → where_true is (Some (body_shown body.new)) ≡ with_last (body_shown body.old).made (λ e made. others_taken (sight_of text.now table) e ty names types written.now (with_made made (body_shown body.old)))) }
+    ensures { IfOk result (λ is. (table : List CoreInstance) → where_true is (Some (body_shown body.new)) ≡ with_last (body_shown body.old).made (λ e made. others_taken (instance_env_of text.now table) e ty names types written.now (with_made made (body_shown body.old)))) }
 {
     match body.made.take_off() {
         Some(last) => bind_others(body, alloc, text, last, ty, names, types, written),
@@ -184,7 +184,7 @@ fn bind_others<'a>(
     types: Stack<DslxType>,
     written: &'a [FieldValue],
 ) -> Result<bool, AllocError>
-    ensures { IfOk result (λ is. (table : List CoreInstance) → where_true is (Some (body_shown body.new)) ≡ others_taken (sight_of text.now table) value ty names types written.now (body_shown body.old)) }
+    ensures { IfOk result (λ is. (table : List CoreInstance) → where_true is (Some (body_shown body.new)) ≡ others_taken (instance_env_of text.now table) value ty names types written.now (body_shown body.old)) }
 {
     let others = OtherFields {
         slot: body.count,

@@ -9,7 +9,7 @@ mod structs;
 
 pub use array::begin_array;
 /// Of the crates below, passed on: a crate that stands on this one need not name them too.
-pub use dslx_instance_steps::places::{
+pub use dslx_instance_steps::scopes::{
     bound_in_body, literal_if, member_named, name_in_body, number_in_body, struct_named,
     type_in_body,
 };

@@ -7,17 +7,17 @@ ghost use Rattle.dslx_core.specs.Lowering.Lowering.{LoweredExpr};
 ghost use Rattle.dslx_machines.specs.Machine.Bodies.{doing, with_last, with_made};
 ghost use Rattle.dslx_machines.specs.Machine.Parts.{gathers, made_of_parts, part_begins, part_taken};
 ghost use Rattle.dslx_machines.specs.Machine.Tasks.{Gathers};
-ghost use Rattle.dslx_instance.specs.Tasks.Shown.{body_shown, parts_shown, parts_task_shown, sight_of};
+ghost use Rattle.dslx_instance.specs.Tasks.Shown.{body_shown, parts_shown, parts_task_shown, instance_env_of};
 ghost use Rattle.dslx_instance_parts.specs.Inner.Elements.{begins_by, element_by, number_by};
 
 use crate::call::begin_call;
-use dslx_const_tasks::items::{bare_of, number_of};
+use dslx_const_tasks::items::{untyped_of, number_of};
 use dslx_core::lowering::LoweredExpr;
-use dslx_core_calls::aggregates::{elements_lowered, filled_lowered, tuple_lowered};
+use dslx_core_calls::aggregates::{lower_array_elements, lower_filled, lower_tuple};
 use dslx_instance::tasks::{LowerTask, OpenBody, PartsMaker, PartsTask};
 use dslx_instance_steps::fits_part;
-use dslx_instance_steps::places::literal_if;
-use dslx_meaning::{Bare, DslxType};
+use dslx_instance_steps::scopes::literal_if;
+use dslx_meaning::{UntypedLiteral, DslxType};
 use dslx_tree::{Expr, Module};
 use std::alloc::{AllocError, Global};
 
@@ -30,7 +30,7 @@ pub fn gather<'a>(
     exprs: &'a [Expr],
     maker: PartsMaker<'a>,
 ) -> Result<bool, AllocError>
-    ensures { IfOk result (λ is. (table : List CoreInstance) → where_true is (Some (body_shown body.new)) ≡ gathers (sight_of text.now table) before.items exprs.now (parts_shown maker.entry) (body_shown body.old)) }
+    ensures { IfOk result (λ is. (table : List CoreInstance) → where_true is (Some (body_shown body.new)) ≡ gathers (instance_env_of text.now table) before.items exprs.now (parts_shown maker.entry) (body_shown body.old)) }
 {
     match exprs {
         [] => make_parts(body, alloc, text, maker, before),
@@ -89,7 +89,7 @@ fn element_number(
     ensures { IfOk result (λ o. o ≡ element_by (parts_shown maker.now) expr.now) }
 {
     match maker {
-        PartsMaker::Fill(ty, _, _) => number_in(alloc, ty, bare_of(expr)),
+        PartsMaker::Fill(ty, _, _) => number_in(alloc, ty, untyped_of(expr)),
         _ => Ok(None),
     }
 }
@@ -98,7 +98,7 @@ fn element_number(
 fn number_in(
     alloc: Global,
     ty: &DslxType,
-    number: Option<Bare>,
+    number: Option<UntypedLiteral>,
 ) -> Result<Option<Option<LoweredExpr>>, AllocError>
     ensures { IfOk result (λ o. o ≡ number_by ty.now number) }
 {
@@ -120,7 +120,7 @@ pub fn take_part<'a>(
     rest: &'a [Expr],
     maker: PartsMaker<'a>,
 ) -> Result<bool, AllocError>
-    ensures { IfOk result (λ is. (table : List CoreInstance) → where_true is (Some (body_shown body.new)) ≡ with_last (body_shown body.old).made (λ e made. and_then (part_taken (parts_shown maker.entry) e) (λ e. gathers (sight_of text.now table) (before.items ++ e ∷ []) rest.now (parts_shown maker.entry) (with_made made (body_shown body.old))))) }
+    ensures { IfOk result (λ is. (table : List CoreInstance) → where_true is (Some (body_shown body.new)) ≡ with_last (body_shown body.old).made (λ e made. and_then (part_taken (parts_shown maker.entry) e) (λ e. gathers (instance_env_of text.now table) (before.items ++ e ∷ []) rest.now (parts_shown maker.entry) (with_made made (body_shown body.old))))) }
 {
     match body.made.take_off() {
         Some(last) => put_part(body, alloc, text, before, last, rest, maker),
@@ -137,7 +137,7 @@ fn put_part<'a>(
     rest: &'a [Expr],
     maker: PartsMaker<'a>,
 ) -> Result<bool, AllocError>
-    ensures { IfOk result (λ is. (table : List CoreInstance) → where_true is (Some (body_shown body.new)) ≡ and_then (part_taken (parts_shown maker.entry) last) (λ e. gathers (sight_of text.now table) (before.items ++ e ∷ []) rest.now (parts_shown maker.entry) (body_shown body.old))) }
+    ensures { IfOk result (λ is. (table : List CoreInstance) → where_true is (Some (body_shown body.new)) ≡ and_then (part_taken (parts_shown maker.entry) last) (λ e. gathers (instance_env_of text.now table) (before.items ++ e ∷ []) rest.now (parts_shown maker.entry) (body_shown body.old))) }
 {
     if fits_part(&maker, &last) {
         gather(body, alloc, text, put_behind(before, last)?, rest, maker)
@@ -165,21 +165,21 @@ fn make_parts<'a>(
     maker: PartsMaker<'a>,
     exprs: Vec<LoweredExpr>,
 ) -> Result<bool, AllocError>
-    ensures { IfOk result (λ is. (table : List CoreInstance) → where_true is (Some (body_shown body.new)) ≡ made_of_parts (parts_shown maker.entry) (sight_of text.now table) exprs.items (body_shown body.old)) }
+    ensures { IfOk result (λ is. (table : List CoreInstance) → where_true is (Some (body_shown body.new)) ≡ made_of_parts (parts_shown maker.entry) (instance_env_of text.now table) exprs.items (body_shown body.old)) }
 {
     match maker {
         PartsMaker::Tuple => {
-            body.give(tuple_lowered(alloc, exprs)?)?;
+            body.give(lower_tuple(alloc, exprs)?)?;
             Ok(true)
         }
         PartsMaker::Array => {
-            let array = elements_lowered(alloc, exprs)?;
+            let array = lower_array_elements(alloc, exprs)?;
             body.give_if(array)
         }
         PartsMaker::Fill(ty, size, dots) => {
-            let array = filled_lowered(alloc, body.count, ty, dots, size, exprs)?;
+            let array = lower_filled(alloc, body.count, ty, dots, size, exprs)?;
             body.give_if(array)
         }
-        PartsMaker::Call(name, numbers) => begin_call(body, alloc, text, name, numbers, exprs),
+        PartsMaker::Call(name, parametric_args) => begin_call(body, alloc, text, name, parametric_args, exprs),
     }
 }

@@ -7,7 +7,7 @@ ghost use Rattle.dslx_meaning.specs.Lists.{and_then, is_in, where_true};
 ghost use Rattle.dslx_meaning.specs.declared.ty.DslxType.{Struct as struct_of, out-DslxType};
 ghost use Rattle.dslx_core.specs.Lowering.Functions.{CoreInstance};
 ghost use Rattle.dslx_machines.specs.Machine.Parts.{fields_begin, names_of_fields, struct_begins};
-ghost use Rattle.dslx_instance.specs.Tasks.Shown.{body_shown, sight_of};
+ghost use Rattle.dslx_instance.specs.Tasks.Shown.{body_shown, instance_env_of};
 ghost use Rattle.dslx_instance_parts.specs.Inner.Fields.{fields_by, others_needed};
 
 use crate::fields::next_field;
@@ -30,7 +30,7 @@ pub fn begin_struct<'a>(
     written: &'a [FieldValue],
     rest: &'a Option<Boxed<Expr>>,
 ) -> Result<bool, AllocError>
-    ensures { IfOk result (λ is. (table : List CoreInstance) → where_true is (Some (body_shown body.new)) ≡ and_then ty (λ t. struct_begins (sight_of text.now table) written.now rest.now (out-DslxType t) (body_shown body.old))) }
+    ensures { IfOk result (λ is. (table : List CoreInstance) → where_true is (Some (body_shown body.new)) ≡ and_then ty (λ t. struct_begins (instance_env_of text.now table) written.now rest.now (out-DslxType t) (body_shown body.old))) }
 {
     match ty {
         Some(ty) => begin_fields(body, alloc, text, ty, written, rest),
@@ -46,7 +46,7 @@ fn begin_fields<'a>(
     written: &'a [FieldValue],
     rest: &'a Option<Boxed<Expr>>,
 ) -> Result<bool, AllocError>
-    ensures { IfOk result (λ is. (table : List CoreInstance) → where_true is (Some (body_shown body.new)) ≡ struct_begins (sight_of text.now table) written.now rest.now (out-DslxType ty) (body_shown body.old)) }
+    ensures { IfOk result (λ is. (table : List CoreInstance) → where_true is (Some (body_shown body.new)) ≡ struct_begins (instance_env_of text.now table) written.now rest.now (out-DslxType ty) (body_shown body.old)) }
 {
     match ty {
         DslxType::Struct(name, fields, types) => {
@@ -67,7 +67,7 @@ fn begin_named<'a>(
     written: &'a [FieldValue],
     rest: &'a Option<Boxed<Expr>>,
 ) -> Result<bool, AllocError>
-    ensures { IfOk result (λ is. (table : List CoreInstance) → where_true is (Some (body_shown body.new)) ≡ fields_begin (sight_of text.now table) written.now rest.now (struct_of name fields types) fields types (body_shown body.old)) }
+    ensures { IfOk result (λ is. (table : List CoreInstance) → where_true is (Some (body_shown body.new)) ≡ fields_begin (instance_env_of text.now table) written.now rest.now (struct_of name fields types) fields types (body_shown body.old)) }
 {
     let others = needed_others(fields.as_slice(), written, rest);
     let names = in_order(alloc, copy_names(alloc, fields.as_slice())?)?;
@@ -87,7 +87,7 @@ fn begin_with<'a>(
     names: Stack<Name>,
     types: Stack<DslxType>,
 ) -> Result<bool, AllocError>
-    ensures { IfOk result (λ is. (table : List CoreInstance) → where_true is (Some (body_shown body.new)) ≡ fields_by (sight_of text.now table) written.now (option_copied others.entry) ty names types (body_shown body.old)) }
+    ensures { IfOk result (λ is. (table : List CoreInstance) → where_true is (Some (body_shown body.new)) ≡ fields_by (instance_env_of text.now table) written.now (option_copied others.entry) ty names types (body_shown body.old)) }
 {
     match others {
         Some(others) => {

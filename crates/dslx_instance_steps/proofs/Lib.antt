@@ -1,2 +1,2 @@
 -- what is looked up in a body
-pub mod OnPlaces
+pub mod OnScopes

@@ -9,8 +9,8 @@ ghost use Rattle.dslx_instance.specs.Tasks.Shown.{body_shown};
 
 use dslx_core::Shape;
 use dslx_core::lowering::LoweredExpr;
-use dslx_core_exprs::control::bind_lowered;
-use dslx_core_exprs::types::unit_lowered;
+use dslx_core_exprs::control::lower_bind;
+use dslx_core_exprs::types::lower_unit;
 use dslx_instance::tasks::{BlockTask, LowerTask, OpenBody};
 use dslx_tree::{Expr, Stmt};
 use std::alloc::{AllocError, Global};
@@ -40,7 +40,7 @@ fn begin_last<'a>(
 {
     match last {
         Some(expr) => body.first(LowerTask::Expr(expr.get())),
-        None => body.give(unit_lowered(alloc)?),
+        None => body.give(lower_unit(alloc)?),
     }
 }
 
@@ -90,5 +90,5 @@ fn bound(
 ) -> Result<LoweredExpr, AllocError>
     ensures { IfOk result (λ e. Some e ≡ bind_made value shape last) }
 {
-    bind_lowered(alloc, value.core, shape, last)
+    lower_bind(alloc, value.core, shape, last)
 }

@@ -4,7 +4,7 @@
 
 mod block;
 mod operation;
-pub mod places;
+pub mod scopes;
 mod several;
 
 pub use block::{begin_statements, make_bind};

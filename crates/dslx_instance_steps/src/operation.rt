@@ -7,9 +7,9 @@ ghost use Rattle.dslx_machines.specs.Machine.Steps.{of_last, of_last_two, of_las
 
 use base::stacks::Stack;
 use dslx_core::lowering::LoweredExpr;
-use dslx_core_exprs::control::{choice_lowered, element_lowered, index_lowered};
+use dslx_core_exprs::control::{lower_choice, lower_element, lower_index};
 use dslx_core_exprs::operators::{
-    binary_lowered, cast_lowered, part_lowered, prefix_lowered, slice_lowered,
+    lower_binary, lower_cast, lower_part, lower_prefix, lower_slice,
 };
 use dslx_meaning::DslxType;
 use dslx_tree::{Binary, Prefix};
@@ -34,11 +34,11 @@ pub fn make_prefix(
     alloc: Global,
     prefix: Prefix,
 ) -> Result<bool, AllocError>
-    ensures { IfOk result (λ is. where_true is (Some made.new) ≡ of_last made.old (λ e. lowering.prefix_lowered prefix (Some e))) }
+    ensures { IfOk result (λ is. where_true is (Some made.new) ≡ of_last made.old (λ e. lowering.lower_prefix prefix (Some e))) }
 {
     match made.take_off() {
         Some(operand) => {
-            made.push(prefix_lowered(alloc, prefix, operand)?)?;
+            made.push(lower_prefix(alloc, prefix, operand)?)?;
             Ok(true)
         }
         None => Ok(false),
@@ -51,12 +51,12 @@ pub fn make_binary(
     alloc: Global,
     operator: Binary,
 ) -> Result<bool, AllocError>
-    ensures { IfOk result (λ is. where_true is (Some made.new) ≡ of_last_two made.old (λ l r. lowering.binary_lowered operator (Some l) (Some r))) }
+    ensures { IfOk result (λ is. where_true is (Some made.new) ≡ of_last_two made.old (λ l r. lowering.lower_binary operator (Some l) (Some r))) }
 {
     match made.take_off() {
         Some(right) => match made.take_off() {
             Some(left) => {
-                let expr = binary_lowered(alloc, operator, left, right)?;
+                let expr = lower_binary(alloc, operator, left, right)?;
                 put(made, expr)
             }
             None => Ok(false),
@@ -71,12 +71,12 @@ pub fn make_cast(
     alloc: Global,
     ty: Option<DslxType>,
 ) -> Result<bool, AllocError>
-    ensures { IfOk result (λ is. where_true is (Some made.new) ≡ of_last made.old (λ e. lowering.cast_lowered (Some e) ty)) }
+    ensures { IfOk result (λ is. where_true is (Some made.new) ≡ of_last made.old (λ e. lowering.lower_cast (Some e) ty)) }
 {
     match made.take_off() {
         Some(operand) => match ty {
             Some(ty) => {
-                let expr = cast_lowered(alloc, operand, ty)?;
+                let expr = lower_cast(alloc, operand, ty)?;
                 put(made, expr)
             }
             None => Ok(false),
@@ -92,12 +92,12 @@ pub fn make_slice(
     from: Option<u128>,
     to: Option<u128>,
 ) -> Result<bool, AllocError>
-    ensures { IfOk result (λ is. where_true is (Some made.new) ≡ of_last made.old (λ e. lowering.slice_lowered (Some e) from to)) }
+    ensures { IfOk result (λ is. where_true is (Some made.new) ≡ of_last made.old (λ e. lowering.lower_slice (Some e) from to)) }
 {
     match made.take_off() {
         Some(operand) => match (from, to) {
             (Some(from), Some(to)) => {
-                let expr = slice_lowered(alloc, operand, from, to)?;
+                let expr = lower_slice(alloc, operand, from, to)?;
                 put(made, expr)
             }
             _ => Ok(false),
@@ -112,7 +112,7 @@ pub fn make_part(
     alloc: Global,
     ty: &Option<DslxType>,
 ) -> Result<bool, AllocError>
-    ensures { IfOk result (λ is. where_true is (Some made.new) ≡ of_last_two made.old (λ e i. lowering.part_lowered (Some e) (Some i) ty.now)) }
+    ensures { IfOk result (λ is. where_true is (Some made.new) ≡ of_last_two made.old (λ e i. lowering.lower_part (Some e) (Some i) ty.now)) }
 {
     match made.take_off() {
         Some(start) => match made.take_off() {
@@ -130,11 +130,11 @@ fn part_of(
     start: LoweredExpr,
     ty: &Option<DslxType>,
 ) -> Result<bool, AllocError>
-    ensures { IfOk result (λ is. where_true is (Some made.new) ≡ and_then (lowering.part_lowered (Some operand) (Some start) ty.now) (λ e. Some (e ∷ made.old))) }
+    ensures { IfOk result (λ is. where_true is (Some made.new) ≡ and_then (lowering.lower_part (Some operand) (Some start) ty.now) (λ e. Some (e ∷ made.old))) }
 {
     match ty {
         Some(ty) => {
-            let expr = part_lowered(alloc, operand, start, ty)?;
+            let expr = lower_part(alloc, operand, start, ty)?;
             put(made, expr)
         }
         None => Ok(false),
@@ -143,7 +143,7 @@ fn part_of(
 
 /// The second of the last three where the first is 1, else the third.
 pub fn make_choice(made: &mut Stack<LoweredExpr>, alloc: Global) -> Result<bool, AllocError>
-    ensures { IfOk result (λ is. where_true is (Some made.new) ≡ of_last_three made.old (λ c a b. lowering.choice_lowered (Some c) (Some a) (Some b))) }
+    ensures { IfOk result (λ is. where_true is (Some made.new) ≡ of_last_three made.old (λ c a b. lowering.lower_choice (Some c) (Some a) (Some b))) }
 {
     match made.take_off() {
         Some(no) => match made.take_off() {
@@ -160,11 +160,11 @@ fn choice_of(
     yes: LoweredExpr,
     no: LoweredExpr,
 ) -> Result<bool, AllocError>
-    ensures { IfOk result (λ is. where_true is (Some made.new) ≡ of_last_three (no ∷ yes ∷ made.old) (λ c a b. lowering.choice_lowered (Some c) (Some a) (Some b))) }
+    ensures { IfOk result (λ is. where_true is (Some made.new) ≡ of_last_three (no ∷ yes ∷ made.old) (λ c a b. lowering.lower_choice (Some c) (Some a) (Some b))) }
 {
     match made.take_off() {
         Some(condition) => {
-            let expr = choice_lowered(alloc, condition, yes, no)?;
+            let expr = lower_choice(alloc, condition, yes, no)?;
             put(made, expr)
         }
         None => Ok(false),
@@ -173,12 +173,12 @@ fn choice_of(
 
 /// The element of an array at an index.
 pub fn make_indexed(made: &mut Stack<LoweredExpr>, alloc: Global) -> Result<bool, AllocError>
-    ensures { IfOk result (λ is. where_true is (Some made.new) ≡ of_last_two made.old (λ e i. lowering.index_lowered (Some e) (Some i))) }
+    ensures { IfOk result (λ is. where_true is (Some made.new) ≡ of_last_two made.old (λ e i. lowering.lower_index (Some e) (Some i))) }
 {
     match made.take_off() {
         Some(index) => match made.take_off() {
             Some(array) => {
-                let expr = index_lowered(alloc, array, index)?;
+                let expr = lower_index(alloc, array, index)?;
                 put(made, expr)
             }
             None => Ok(false),
@@ -193,14 +193,14 @@ pub fn make_element(
     alloc: Global,
     place: u128,
 ) -> Result<bool, AllocError>
-    ensures { IfOk result (λ is. where_true is (Some made.new) ≡ of_last made.old (λ e. lowering.element_lowered (Some e) place)) }
+    ensures { IfOk result (λ is. where_true is (Some made.new) ≡ of_last made.old (λ e. lowering.lower_element (Some e) place)) }
 {
     if place > u64::MAX as u128 {
         return Err(AllocError);
     }
     match made.take_off() {
         Some(tuple) => {
-            let expr = element_lowered(alloc, tuple, place as u64)?;
+            let expr = lower_element(alloc, tuple, place as u64)?;
             put(made, expr)
         }
         None => Ok(false),

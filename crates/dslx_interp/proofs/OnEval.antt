@@ -1,7 +1,7 @@
 -- what functions of a table give
 pub mod Calls
 -- what is bound before a value is taken apart
-pub mod Fronts
+pub mod Prefixes
 -- each step keeps what the machine comes to
 pub mod Keeps
 -- values one after another

@@ -1,19 +1,19 @@
 -- What the rules of statements, blocks, items and procs do where their symbols are complete.
-use Rattle.dslx_actions.specs.declared.parts.Parts.{Parts}
-use Rattle.dslx_item_actions.specs.declared.rule.ItemRule.{ItemRule}
-use Rattle.dslx_item_actions.specs.declared.rule.ItemRule.TheVariants as item
-use Rattle.dslx_item_actions.specs.declared.rule.ProcRule.{ProcRule}
-use Rattle.dslx_item_actions.specs.declared.rule.ProcRule.TheVariants as part
+use Rattle.dslx_actions.specs.declared.parts.SemanticStacks.{SemanticStacks}
+use Rattle.dslx_item_actions.specs.declared.rule.ItemAction.{ItemAction}
+use Rattle.dslx_item_actions.specs.declared.rule.ItemAction.TheVariants as item
+use Rattle.dslx_item_actions.specs.declared.rule.ProcAction.{ProcAction}
+use Rattle.dslx_item_actions.specs.declared.rule.ProcAction.TheVariants as part
 use Rattle.dslx_item_actions.specs.Blocks as blocks
 use Rattle.dslx_item_actions.specs.Items as items
 use Rattle.dslx_item_actions.specs.Procs as procs
 
-abbrev pub reduced_item : ItemRule → Parts → Parts
+abbrev pub reduced_item : ItemAction → SemanticStacks → SemanticStacks
 reduced_item item.Let s = blocks.let_stmt s
 reduced_item item.Bare s = blocks.bare_stmt s
 reduced_item item.LastValue s = blocks.last_value s
 reduced_item item.Block s = blocks.block s
-reduced_item item.Parameter s = items.parameter s
+reduced_item item.Parametric s = items.parametric s
 reduced_item item.Field s = items.field s
 reduced_item item.Member s = items.member s
 reduced_item item.Function s = items.function s
@@ -24,7 +24,7 @@ reduced_item item.Enum s = items.enumeration s
 reduced_item item.Private s = items.private_item s
 reduced_item item.Public s = items.public_item s
 
-abbrev pub reduced_proc : ProcRule → Parts → Parts
+abbrev pub reduced_proc : ProcAction → SemanticStacks → SemanticStacks
 reduced_proc (part.Direction way) s = procs.direction way s
 reduced_proc (part.End count) s = procs.end_named count s
 reduced_proc part.Depth s = procs.depth s

@@ -1,30 +1,30 @@
 //! What the rules of items make.
 
 ghost use Rattle.std.specs.Prelude.{◌≡◌, OnOk};
-ghost use Rattle.dslx_item_actions.specs.Items.{alias, constant, enumeration, field, function, member, parameter, private_item, public_item, structure};
+ghost use Rattle.dslx_item_actions.specs.Items.{alias, constant, enumeration, field, function, member, parametric, private_item, public_item, structure};
 
-use dslx_actions::{NOWHERE, Parts, join, no_block, no_definition, no_expr, no_ident, no_type};
+use dslx_actions::{NOWHERE, SemanticStacks, join, no_block, no_definition, no_expr, no_ident, no_type};
 use dslx_tree::{
-    Alias, Constant, Definition, Enum, Field, Function, Item, Member, Parameter, Struct,
+    Alias, Constant, Definition, Enum, Field, Function, Item, Member, Parametric, Struct,
 };
 use std::alloc::{AllocError, Global};
 use xb_value::Seq;
 
 /// `name : type = { expr }` between `<` and `>`
-pub fn parameter(parts: &mut Parts, alloc: Global) -> Result<(), AllocError>
-    ensures { OnOk result (parts.new ≡ parameter parts.old) }
+pub fn parametric(parts: &mut SemanticStacks, alloc: Global) -> Result<(), AllocError>
+    ensures { OnOk result (parts.new ≡ parametric parts.old) }
 {
     parts.skip(1);
-    let parameter = Parameter {
+    let parametric = Parametric {
         name: parts.idents.pop_or(no_ident(alloc)),
         ty: parts.types.pop_or(no_type()),
         default: parts.values.pop_or(None),
     };
-    parts.parameters.push(parameter)
+    parts.parametrics.push(parametric)
 }
 
 /// `name : type`
-pub fn field(parts: &mut Parts, alloc: Global) -> Result<(), AllocError>
+pub fn field(parts: &mut SemanticStacks, alloc: Global) -> Result<(), AllocError>
     ensures { OnOk result (parts.new ≡ field parts.old) }
 {
     parts.skip(1);
@@ -36,11 +36,11 @@ pub fn field(parts: &mut Parts, alloc: Global) -> Result<(), AllocError>
 }
 
 /// `name = expr` in an enum
-pub fn member(parts: &mut Parts, alloc: Global) -> Result<(), AllocError>
+pub fn member(parts: &mut SemanticStacks, alloc: Global) -> Result<(), AllocError>
     ensures { OnOk result (parts.new ≡ member parts.old) }
 {
     parts.skip(1);
-    let _place = parts.places.pop_or(NOWHERE);
+    let _place = parts.expr_spans.pop_or(NOWHERE);
     let member = Member {
         name: parts.idents.pop_or(no_ident(alloc)),
         value: parts.exprs.pop_or(no_expr()),
@@ -48,20 +48,20 @@ pub fn member(parts: &mut Parts, alloc: Global) -> Result<(), AllocError>
     parts.members.push(member)
 }
 
-/// `fn name parameters ( fields ) -> type block`
-pub fn function(parts: &mut Parts, alloc: Global) -> Result<(), AllocError>
+/// `fn name parametrics ( fields ) -> type block`
+pub fn function(parts: &mut SemanticStacks, alloc: Global) -> Result<(), AllocError>
     ensures { OnOk result (parts.new ≡ function parts.old) }
 {
-    let marks = parts.take_marks(3);
+    let token_spans = parts.take_token_spans(3);
     let arguments = parts.counts.pop_or(0);
-    let parameters = parts.counts.pop_or(0);
+    let parametrics = parts.counts.pop_or(0);
     let arguments = Seq::from_vec(parts.fields.take_top(arguments)?);
-    let parameters = Seq::from_vec(parts.parameters.take_top(parameters)?);
+    let parametrics = Seq::from_vec(parts.parametrics.take_top(parametrics)?);
     let body = parts.blocks.pop_or(no_block(alloc));
     let function = Function {
-        span: join(marks, body.span),
+        span: join(token_spans, body.span),
         name: parts.idents.pop_or(no_ident(alloc)),
-        parameters,
+        parametrics,
         arguments,
         result: parts.annotations.pop_or(None),
         body,
@@ -70,11 +70,11 @@ pub fn function(parts: &mut Parts, alloc: Global) -> Result<(), AllocError>
 }
 
 /// `const name : type = expr ;`
-pub fn constant(parts: &mut Parts, alloc: Global) -> Result<(), AllocError>
+pub fn constant(parts: &mut SemanticStacks, alloc: Global) -> Result<(), AllocError>
     ensures { OnOk result (parts.new ≡ constant parts.old) }
 {
-    let span = parts.take_marks(3);
-    let _place = parts.places.pop_or(NOWHERE);
+    let span = parts.take_token_spans(3);
+    let _place = parts.expr_spans.pop_or(NOWHERE);
     let constant = Constant {
         span,
         name: parts.idents.pop_or(no_ident(alloc)),
@@ -85,10 +85,10 @@ pub fn constant(parts: &mut Parts, alloc: Global) -> Result<(), AllocError>
 }
 
 /// `type name = type ;`
-pub fn alias(parts: &mut Parts, alloc: Global) -> Result<(), AllocError>
+pub fn alias(parts: &mut SemanticStacks, alloc: Global) -> Result<(), AllocError>
     ensures { OnOk result (parts.new ≡ alias parts.old) }
 {
-    let span = parts.take_marks(3);
+    let span = parts.take_token_spans(3);
     let alias = Alias {
         span,
         name: parts.idents.pop_or(no_ident(alloc)),
@@ -98,10 +98,10 @@ pub fn alias(parts: &mut Parts, alloc: Global) -> Result<(), AllocError>
 }
 
 /// `struct name { fields }`
-pub fn structure(parts: &mut Parts, alloc: Global) -> Result<(), AllocError>
+pub fn structure(parts: &mut SemanticStacks, alloc: Global) -> Result<(), AllocError>
     ensures { OnOk result (parts.new ≡ structure parts.old) }
 {
-    let span = parts.take_marks(3);
+    let span = parts.take_token_spans(3);
     let count = parts.counts.pop_or(0);
     let fields = Seq::from_vec(parts.fields.take_top(count)?);
     let structure = Struct {
@@ -113,10 +113,10 @@ pub fn structure(parts: &mut Parts, alloc: Global) -> Result<(), AllocError>
 }
 
 /// `enum name : type { members }`
-pub fn enumeration(parts: &mut Parts, alloc: Global) -> Result<(), AllocError>
+pub fn enumeration(parts: &mut SemanticStacks, alloc: Global) -> Result<(), AllocError>
     ensures { OnOk result (parts.new ≡ enumeration parts.old) }
 {
-    let span = parts.take_marks(4);
+    let span = parts.take_token_spans(4);
     let count = parts.counts.pop_or(0);
     let members = Seq::from_vec(parts.members.take_top(count)?);
     let enumeration = Enum {
@@ -129,7 +129,7 @@ pub fn enumeration(parts: &mut Parts, alloc: Global) -> Result<(), AllocError>
 }
 
 /// A definition without `pub`.
-pub fn private_item(parts: &mut Parts, alloc: Global) -> Result<(), AllocError>
+pub fn private_item(parts: &mut SemanticStacks, alloc: Global) -> Result<(), AllocError>
     ensures { OnOk result (parts.new ≡ private_item parts.old) }
 {
     let definition = parts.definitions.pop_or(no_definition(alloc));
@@ -140,7 +140,7 @@ pub fn private_item(parts: &mut Parts, alloc: Global) -> Result<(), AllocError>
 }
 
 /// A definition with `pub` before it.
-pub fn public_item(parts: &mut Parts, alloc: Global) -> Result<(), AllocError>
+pub fn public_item(parts: &mut SemanticStacks, alloc: Global) -> Result<(), AllocError>
     ensures { OnOk result (parts.new ≡ public_item parts.old) }
 {
     parts.skip(1);

@@ -8,4 +8,4 @@ mod items;
 mod procs;
 mod rule;
 
-pub use rule::{ItemRule, ProcRule, reduce_item, reduce_proc};
+pub use rule::{ItemAction, ProcAction, reduce_item, reduce_proc};

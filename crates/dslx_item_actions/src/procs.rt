@@ -3,13 +3,13 @@
 ghost use Rattle.std.specs.Prelude.{◌≡◌, OnOk};
 ghost use Rattle.dslx_item_actions.specs.Procs.{channel, config, depth, direction, end_named, next, no_depth, proc, spawn};
 
-use dslx_actions::{Parts, join, no_arg, no_block, no_config, no_ident, no_next, no_type};
-use dslx_tree::{Channel, Config, Definition, Direction, End, Making, Next, Proc, Spawn};
+use dslx_actions::{SemanticStacks, join, no_arg, no_block, no_config, no_ident, no_next, no_type};
+use dslx_tree::{Channel, Config, Definition, Direction, End, ConfigStatement, Next, Proc, Spawn};
 use std::alloc::{AllocError, Global};
 use xb_value::Seq;
 
 /// `in` or `out`
-pub fn direction(parts: &mut Parts, way: Direction) -> Result<(), AllocError>
+pub fn direction(parts: &mut SemanticStacks, way: Direction) -> Result<(), AllocError>
     ensures { OnOk result (parts.new ≡ direction way parts.old) }
 {
     parts.skip(1);
@@ -17,7 +17,7 @@ pub fn direction(parts: &mut Parts, way: Direction) -> Result<(), AllocError>
 }
 
 /// `name : end`, with so many tokens of its own
-pub fn end_named(parts: &mut Parts, alloc: Global, count: usize) -> Result<(), AllocError>
+pub fn end_named(parts: &mut SemanticStacks, alloc: Global, count: usize) -> Result<(), AllocError>
     ensures { OnOk result (parts.new ≡ end_named count parts.old) }
 {
     parts.skip(count);
@@ -30,7 +30,7 @@ pub fn end_named(parts: &mut Parts, alloc: Global, count: usize) -> Result<(), A
 }
 
 /// `, arg` behind a type
-pub fn depth(parts: &mut Parts) -> Result<(), AllocError>
+pub fn depth(parts: &mut SemanticStacks) -> Result<(), AllocError>
     ensures { OnOk result (parts.new ≡ depth parts.old) }
 {
     parts.skip(1);
@@ -39,17 +39,17 @@ pub fn depth(parts: &mut Parts) -> Result<(), AllocError>
 }
 
 /// A depth is left out.
-pub fn no_depth(parts: &mut Parts) -> Result<(), AllocError>
+pub fn no_depth(parts: &mut SemanticStacks) -> Result<(), AllocError>
     ensures { OnOk result (parts.new ≡ no_depth parts.old) }
 {
     parts.depths.push(None)
 }
 
 /// `let ( name , name ) = channel ;`
-pub fn channel(parts: &mut Parts, alloc: Global) -> Result<(), AllocError>
+pub fn channel(parts: &mut SemanticStacks, alloc: Global) -> Result<(), AllocError>
     ensures { OnOk result (parts.new ≡ channel parts.old) }
 {
-    let span = parts.take_marks(6);
+    let span = parts.take_token_spans(6);
     let name = parts.idents.pop_or(no_ident(alloc));
     let receiver = parts.idents.pop_or(no_ident(alloc));
     let channel = Channel {
@@ -60,14 +60,14 @@ pub fn channel(parts: &mut Parts, alloc: Global) -> Result<(), AllocError>
         depth: parts.depths.pop_or(None),
         name,
     };
-    parts.makings.push(Making::Channel(channel))
+    parts.config_statements.push(ConfigStatement::Channel(channel))
 }
 
 /// `spawn name args ( names ) ;`
-pub fn spawn(parts: &mut Parts, alloc: Global) -> Result<(), AllocError>
+pub fn spawn(parts: &mut SemanticStacks, alloc: Global) -> Result<(), AllocError>
     ensures { OnOk result (parts.new ≡ spawn parts.old) }
 {
-    let span = parts.take_marks(4);
+    let span = parts.take_token_spans(4);
     let names = parts.counts.pop_or(0);
     let args = parts.counts.pop_or(0);
     let ends = Seq::from_vec(parts.idents.take_top(names)?);
@@ -78,36 +78,36 @@ pub fn spawn(parts: &mut Parts, alloc: Global) -> Result<(), AllocError>
         arguments,
         ends,
     };
-    parts.makings.push(Making::Spawn(spawn))
+    parts.config_statements.push(ConfigStatement::Spawn(spawn))
 }
 
-/// `config ( ends ) { makings ( names ) }`
-pub fn config(parts: &mut Parts) -> Result<(), AllocError>
+/// `config ( ends ) { config_statements ( names ) }`
+pub fn config(parts: &mut SemanticStacks) -> Result<(), AllocError>
     ensures { OnOk result (parts.new ≡ config parts.old) }
 {
-    let span = parts.take_marks(5);
+    let span = parts.take_token_spans(5);
     let names = parts.counts.pop_or(0);
-    let makings = parts.counts.pop_or(0);
+    let config_statements = parts.counts.pop_or(0);
     let ends = parts.counts.pop_or(0);
     let result = Seq::from_vec(parts.idents.take_top(names)?);
     let ends = Seq::from_vec(parts.ends.take_top(ends)?);
-    let makings = Seq::from_vec(parts.makings.take_top(makings)?);
+    let config_statements = Seq::from_vec(parts.config_statements.take_top(config_statements)?);
     parts.configs.push(Config {
         span,
         ends,
-        makings,
+        config_statements,
         result,
     })
 }
 
 /// `next ( name : type ) block`
-pub fn next(parts: &mut Parts, alloc: Global) -> Result<(), AllocError>
+pub fn next(parts: &mut SemanticStacks, alloc: Global) -> Result<(), AllocError>
     ensures { OnOk result (parts.new ≡ next parts.old) }
 {
-    let marks = parts.take_marks(4);
+    let token_spans = parts.take_token_spans(4);
     let body = parts.blocks.pop_or(no_block(alloc));
     let next = Next {
-        span: join(marks, body.span),
+        span: join(token_spans, body.span),
         state: parts.idents.pop_or(no_ident(alloc)),
         ty: parts.types.pop_or(no_type()),
         body,
@@ -115,19 +115,19 @@ pub fn next(parts: &mut Parts, alloc: Global) -> Result<(), AllocError>
     parts.nexts.push(next)
 }
 
-/// `proc name parameters { members config init next }`, the last three in any order
-pub fn proc(parts: &mut Parts, alloc: Global) -> Result<(), AllocError>
+/// `proc name parametrics { members config init next }`, the last three in any order
+pub fn proc(parts: &mut SemanticStacks, alloc: Global) -> Result<(), AllocError>
     ensures { OnOk result (parts.new ≡ proc parts.old) }
 {
-    let span = parts.take_marks(3);
+    let span = parts.take_token_spans(3);
     let members = parts.counts.pop_or(0);
-    let parameters = parts.counts.pop_or(0);
+    let parametrics = parts.counts.pop_or(0);
     let members = Seq::from_vec(parts.ends.take_top(members)?);
-    let parameters = Seq::from_vec(parts.parameters.take_top(parameters)?);
+    let parametrics = Seq::from_vec(parts.parametrics.take_top(parametrics)?);
     let proc = Proc {
         span,
         name: parts.idents.pop_or(no_ident(alloc)),
-        parameters,
+        parametrics,
         members,
         config: parts.configs.pop_or(no_config(alloc)),
         init: parts.blocks.pop_or(no_block(alloc)),

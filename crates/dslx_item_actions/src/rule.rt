@@ -3,22 +3,22 @@ ghost use Rattle.dslx_item_actions.specs.Rules.{reduced_item, reduced_proc};
 
 use crate::blocks::{bare_stmt, block, last_value, let_stmt};
 use crate::items::{
-    alias, constant, enumeration, field, function, member, parameter, private_item, public_item,
+    alias, constant, enumeration, field, function, member, parametric, private_item, public_item,
     structure,
 };
 use crate::procs::{channel, config, depth, direction, end_named, next, no_depth, proc, spawn};
-use dslx_actions::Parts;
+use dslx_actions::SemanticStacks;
 use dslx_tree::Direction;
 use std::alloc::{AllocError, Global};
 
 /// What rules of statements, blocks and items do where their symbols are complete.
 #[derive(Clone, Copy)]
-pub enum ItemRule {
+pub enum ItemAction {
     Let,
     Bare,
     LastValue,
     Block,
-    Parameter,
+    Parametric,
     Field,
     Member,
     Function,
@@ -32,7 +32,7 @@ pub enum ItemRule {
 
 /// What rules of procs do where their symbols are complete.
 #[derive(Clone, Copy)]
-pub enum ProcRule {
+pub enum ProcAction {
     Direction(Direction),
     /// An end, with so many tokens of its own.
     End(usize),
@@ -46,40 +46,40 @@ pub enum ProcRule {
 }
 
 /// Does what is done where a tree of a rule of statements, blocks or items is complete.
-pub fn reduce_item(parts: &mut Parts, alloc: Global, rule: ItemRule) -> Result<(), AllocError>
+pub fn reduce_item(parts: &mut SemanticStacks, alloc: Global, rule: ItemAction) -> Result<(), AllocError>
     ensures { OnOk result (parts.new ≡ reduced_item rule parts.old) }
 {
     match rule {
-        ItemRule::Let => let_stmt(parts, alloc),
-        ItemRule::Bare => bare_stmt(parts),
-        ItemRule::LastValue => last_value(parts),
-        ItemRule::Block => block(parts, alloc),
-        ItemRule::Parameter => parameter(parts, alloc),
-        ItemRule::Field => field(parts, alloc),
-        ItemRule::Member => member(parts, alloc),
-        ItemRule::Function => function(parts, alloc),
-        ItemRule::Constant => constant(parts, alloc),
-        ItemRule::Alias => alias(parts, alloc),
-        ItemRule::Struct => structure(parts, alloc),
-        ItemRule::Enum => enumeration(parts, alloc),
-        ItemRule::Private => private_item(parts, alloc),
-        ItemRule::Public => public_item(parts, alloc),
+        ItemAction::Let => let_stmt(parts, alloc),
+        ItemAction::Bare => bare_stmt(parts),
+        ItemAction::LastValue => last_value(parts),
+        ItemAction::Block => block(parts, alloc),
+        ItemAction::Parametric => parametric(parts, alloc),
+        ItemAction::Field => field(parts, alloc),
+        ItemAction::Member => member(parts, alloc),
+        ItemAction::Function => function(parts, alloc),
+        ItemAction::Constant => constant(parts, alloc),
+        ItemAction::Alias => alias(parts, alloc),
+        ItemAction::Struct => structure(parts, alloc),
+        ItemAction::Enum => enumeration(parts, alloc),
+        ItemAction::Private => private_item(parts, alloc),
+        ItemAction::Public => public_item(parts, alloc),
     }
 }
 
 /// Does what is done where a tree of a rule of procs is complete.
-pub fn reduce_proc(parts: &mut Parts, alloc: Global, rule: ProcRule) -> Result<(), AllocError>
+pub fn reduce_proc(parts: &mut SemanticStacks, alloc: Global, rule: ProcAction) -> Result<(), AllocError>
     ensures { OnOk result (parts.new ≡ reduced_proc rule parts.old) }
 {
     match rule {
-        ProcRule::Direction(way) => direction(parts, way),
-        ProcRule::End(count) => end_named(parts, alloc, count),
-        ProcRule::Depth => depth(parts),
-        ProcRule::NoDepth => no_depth(parts),
-        ProcRule::Channel => channel(parts, alloc),
-        ProcRule::Spawn => spawn(parts, alloc),
-        ProcRule::Config => config(parts),
-        ProcRule::Next => next(parts, alloc),
-        ProcRule::Proc => proc(parts, alloc),
+        ProcAction::Direction(way) => direction(parts, way),
+        ProcAction::End(count) => end_named(parts, alloc, count),
+        ProcAction::Depth => depth(parts),
+        ProcAction::NoDepth => no_depth(parts),
+        ProcAction::Channel => channel(parts, alloc),
+        ProcAction::Spawn => spawn(parts, alloc),
+        ProcAction::Config => config(parts),
+        ProcAction::Next => next(parts, alloc),
+        ProcAction::Proc => proc(parts, alloc),
     }
 }

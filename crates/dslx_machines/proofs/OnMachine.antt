@@ -1,5 +1,5 @@
 -- what the parts of a text become
-pub mod Becomes
+pub mod LowersTo
 -- steps on values that are bound, arms and loops
 pub mod OfArms
 -- steps on several expressions

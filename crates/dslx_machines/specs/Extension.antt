@@ -1,2 +1,2 @@
 -- what comes of work by tables of instances
-pub mod Comes
+pub mod Results

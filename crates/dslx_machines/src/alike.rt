@@ -8,27 +8,27 @@ ghost use Rattle.dslx_tree.specs.declared.expr.Expr.{Expr};
 ghost use Rattle.dslx_tree.specs.declared.item.Module.{Module};
 ghost use Rattle.dslx_meaning.specs.Environment.{Meanings};
 ghost use Rattle.dslx_meaning.specs.declared.value.DslxValue.{DslxValue};
-ghost use Rattle.dslx_core.specs.Lowering.CorePlaces.{CorePlace};
+ghost use Rattle.dslx_core.specs.Lowering.CoreScopes.{CoreScope};
 ghost use Rattle.dslx_core.specs.Lowering.Functions.{CoreInstance, Instantiated, callee_in, instance_in, next_instance};
-ghost use Rattle.dslx_core.specs.Lowering.Trees.{block_of_text_lowered, expression_lowered};
+ghost use Rattle.dslx_core.specs.Lowering.Trees.{lower_block_of_text, lower_expression};
 ghost use Rattle.dslx_machines.specs.Machine.Callees.{CalleesByName, with_callee};
 ghost use Rattle.dslx_machines.specs.Machine.Reached.{IsTable};
-ghost use Rattle.dslx_machines.specs.Alike.Alike.{Agree, KnowsMore, LowersAlike, LowersMore, MakesAlike, MakesMore, OfOneType};
+ghost use Rattle.dslx_machines.specs.Alike.Alike.{Agree, KnowsMore, LowerAgree, LowerMono, MakesAlike, MakesMore, OfOneType};
 ghost use Rattle.dslx_machines.specs.Alike.Tables.{JoinedTable};
 
 /// What is lowered at a place is lowered wherever calls come to more, and has the same type there.
-pub fn more_is_lowered_where_more_is_known()
-    ensures expression { (e : Expr) (place : CorePlace) (c d : CalleesByName) → KnowsMore c d → LowersMore (expression_lowered e (with_callee c place)) (expression_lowered e (with_callee d place)) }
-    ensures block { (b : Block) (place : CorePlace) (c d : CalleesByName) → KnowsMore c d → LowersMore (block_of_text_lowered b (with_callee c place)) (block_of_text_lowered b (with_callee d place)) }
+pub fn lower_mono()
+    ensures expression { (e : Expr) (place : CoreScope) (c d : CalleesByName) → KnowsMore c d → LowerMono (lower_expression e (with_callee c place)) (lower_expression e (with_callee d place)) }
+    ensures block { (b : Block) (place : CoreScope) (c d : CalleesByName) → KnowsMore c d → LowerMono (lower_block_of_text b (with_callee c place)) (lower_block_of_text b (with_callee d place)) }
     ensures instance { (m : Module) (items : Meanings) (before other : List CoreInstance) → KnowsMore (callee_in m items before) (callee_in m items other)
         → (i : Instantiated) → MakesMore (next_instance m items before i) (next_instance m items other i) }
 {}
 
 /// What is lowered at two places that differ in what calls come to has one type, if the calls that come to something at both
 /// places have the same types of results.
-pub fn all_that_is_lowered_has_one_type()
-    ensures expression { (e : Expr) (place : CorePlace) (c d : CalleesByName) → Agree c d → LowersAlike (expression_lowered e (with_callee c place)) (expression_lowered e (with_callee d place)) }
-    ensures block { (b : Block) (place : CorePlace) (c d : CalleesByName) → Agree c d → LowersAlike (block_of_text_lowered b (with_callee c place)) (block_of_text_lowered b (with_callee d place)) }
+pub fn lower_types_agree()
+    ensures expression { (e : Expr) (place : CoreScope) (c d : CalleesByName) → Agree c d → LowerAgree (lower_expression e (with_callee c place)) (lower_expression e (with_callee d place)) }
+    ensures block { (b : Block) (place : CoreScope) (c d : CalleesByName) → Agree c d → LowerAgree (lower_block_of_text b (with_callee c place)) (lower_block_of_text b (with_callee d place)) }
     ensures instance { (m : Module) (items : Meanings) (before other : List CoreInstance) → Agree (callee_in m items before) (callee_in m items other)
         → (i : Instantiated) → MakesAlike (next_instance m items before i) (next_instance m items other i) }
 {}
@@ -36,7 +36,7 @@ pub fn all_that_is_lowered_has_one_type()
 /// An instance that stands in two tables has the same types of arguments and of the result in both.
 pub fn instances_have_one_type()
     ensures { (m : Module) (items : Meanings) (first second : List CoreInstance) → IsTable m items first → IsTable m items second
-        → (name : List ℕ) (numbers : List DslxValue) (p q : ℕ × CoreInstance) → instance_in name numbers 0 first ≡ Some p → instance_in name numbers 0 second ≡ Some q → OfOneType p.1 q.1 }
+        → (name : List ℕ) (parametric_args : List DslxValue) (p q : ℕ × CoreInstance) → instance_in name parametric_args 0 first ≡ Some p → instance_in name parametric_args 0 second ≡ Some q → OfOneType p.1 q.1 }
 {}
 
 /// Of two tables there is one that begins with the first and has the instances of both, and no others.

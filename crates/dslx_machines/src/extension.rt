@@ -6,15 +6,15 @@ ghost use Rattle.std.specs.Prelude.{List};
 ghost use Rattle.dslx_tree.specs.declared.expr.Expr.{Expr};
 ghost use Rattle.dslx_tree.specs.declared.item.Module.{Module};
 ghost use Rattle.dslx_meaning.specs.Items.{meanings_of};
-ghost use Rattle.dslx_core.specs.Lowering.CorePlaces.{CorePlace};
+ghost use Rattle.dslx_core.specs.Lowering.CoreScopes.{CoreScope};
 ghost use Rattle.dslx_core.specs.Lowering.Functions.{CoreInstance, callee_in};
-ghost use Rattle.dslx_core.specs.Lowering.Trees.{expression_lowered};
+ghost use Rattle.dslx_core.specs.Lowering.Trees.{lower_expression};
 ghost use Rattle.dslx_machines.specs.Machine.Callees.{with_callee};
 ghost use Rattle.dslx_machines.specs.Machine.Reached.{IsTable};
-ghost use Rattle.dslx_machines.specs.Alike.Alike.{LowersAlike};
+ghost use Rattle.dslx_machines.specs.Alike.Alike.{LowerAgree};
 
 /// An expression has one type by all tables of a text's instances.
 pub fn expressions_have_one_type()
-    ensures { (m : Module) (first second : List CoreInstance) → IsTable m (meanings_of m) first → IsTable m (meanings_of m) second → (e : Expr) (place : CorePlace)
-        → LowersAlike (expression_lowered e (with_callee (callee_in m (meanings_of m) first) place)) (expression_lowered e (with_callee (callee_in m (meanings_of m) second) place)) }
+    ensures { (m : Module) (first second : List CoreInstance) → IsTable m (meanings_of m) first → IsTable m (meanings_of m) second → (e : Expr) (place : CoreScope)
+        → LowerAgree (lower_expression e (with_callee (callee_in m (meanings_of m) first) place)) (lower_expression e (with_callee (callee_in m (meanings_of m) second) place)) }
 {}

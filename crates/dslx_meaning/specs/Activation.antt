@@ -75,7 +75,7 @@ act_of_call SendsIf (t ∷ c ∷ p ∷ e ∷ []) = at_channel c (λ name. SendsW
 act_of_call _ _ = Computes
 
 abbrev pub act_of_node : NodeLayer → SiteAct
-act_of_node (Node-F.Call f numbers es) = act_of_call (kind_of_call f.name) es
+act_of_node (Node-F.Call f parametric_args es) = act_of_call (kind_of_call f.name) es
 act_of_node _ = Computes
 
 abbrev pub act_of : Expr → SiteAct
@@ -129,7 +129,7 @@ abbrev pub member_type : Env → List End → List ℕ → Option DslxType
 member_type env [] name = None
 member_type env (e ∷ es) name = if bytes_eq name e.name.name then written_type e.word env else member_type env es name
 
--- what is in sight of the statements: the members, and what they were instantiated with
+-- the type environment of the statements: the members, and what they were instantiated with
 pub record SiteEnv : Type 0 where
   pub members : List End
   pub env : Env
@@ -163,22 +163,22 @@ do_stmts site (s ∷ ss) last env words = do_stmt site (out-Stmt s) (do_stmts si
 -- ---- an instance of a proc
 
 abbrev pub state_type_of : Meanings → Proc → List DslxValue → Option DslxType
-state_type_of items p numbers = written_type p.next.ty (instance_env items p.parameters numbers)
+state_type_of items p parametric_args = written_type p.next.ty (instance_env items p.parametrics parametric_args)
 
 abbrev pub activity_from : Meanings → Proc → List DslxValue → Value → List Word → Option DslxType → Activity
-activity_from items p numbers state words None = at_an_end
-activity_from items p numbers state words (Some t) =
-    let env = instance_env items p.parameters numbers in
+activity_from items p parametric_args state words None = at_an_end
+activity_from items p parametric_args state words (Some t) =
+    let env = instance_env items p.parametrics parametric_args in
     do_stmts (record { members = p.members; env = env }) (out-Block p.next.body).statements (out-Block p.next.body).value
     (bind p.next.state.name (at_type t state) env) words
 
--- an activation of a proc with these number arguments, from a state, over the words that it receives
+-- an activation of a proc with these parametric arguments, from a state, over the words that it receives
 abbrev pub activation_of : Meanings → Proc → List DslxValue → Value → List Word → Activity
-activation_of items p numbers state words = activity_from items p numbers state words (state_type_of items p numbers)
+activation_of items p parametric_args state words = activity_from items p parametric_args state words (state_type_of items p parametric_args)
 
 -- the value of `init`
 abbrev pub opening_state : Meanings → Proc → List DslxValue → Option DslxValue
-opening_state items p numbers = value_of_block p.init (instance_env items p.parameters numbers)
+opening_state items p parametric_args = value_of_block p.init (instance_env items p.parametrics parametric_args)
 
 abbrev pub turn_at : Option Turn → Turn
 turn_at None = Skip

@@ -16,7 +16,7 @@ pub record Meanings : Type 0 where
   pub constant : List ℕ → Option DslxValue
   -- the member of an enum
   pub member : List ℕ → List ℕ → Option DslxValue
-  -- a function at its number arguments and its operands
+  -- a function at its parametric arguments and its operands
   pub call : List ℕ → List DslxValue → List DslxValue → Option DslxValue
 
 -- a name with the value that it stands for
@@ -24,7 +24,7 @@ pub record Given : Type 0 where
   pub name : List ℕ
   pub value : DslxValue
 
--- the items, and the names that are bound, the last one first: number parameters, arguments, the state, what patterns bind
+-- the items, and the names that are bound, the last one first: parametrics, arguments, the state, what patterns bind
 pub record Env : Type 0 where
   pub items : Meanings
   pub bound : List Given

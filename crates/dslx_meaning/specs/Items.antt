@@ -6,7 +6,7 @@ use Rattle.dslx_tree.specs.declared.item.Item.{Item}
 use Rattle.dslx_tree.specs.declared.item.Definition.{Definition}
 use Rattle.dslx_tree.specs.declared.item.Definition.TheVariants as d
 use Rattle.dslx_tree.specs.declared.item.Function.{Function}
-use Rattle.dslx_tree.specs.declared.item.Parameter.{Parameter}
+use Rattle.dslx_tree.specs.declared.item.Parametric.{Parametric}
 use Rattle.dslx_tree.specs.declared.item.Constant.{Constant}
 use Rattle.dslx_tree.specs.declared.item.Field.{Field}
 use Rattle.dslx_tree.specs.declared.item.Struct.{Struct}
@@ -17,14 +17,14 @@ use Rattle.dslx_meaning.specs.Types.{bits_in, same_type}
 use Rattle.dslx_meaning.specs.Values.{type_of_value, bits_of}
 use Rattle.dslx_meaning.specs.Operators.{number_value}
 use Rattle.dslx_meaning.specs.Environment.{Meanings, Given, Env, outside}
-use Rattle.dslx_meaning.specs.Meaning.{Meant, meant, value_of, value_of_block, written_type}
+use Rattle.dslx_meaning.specs.Meaning.{ExprDen, denotation, value_of, value_of_block, written_type}
 use Rattle.dslx_meaning.specs.Inference.{Inferred, inferred_in, inferred_for}
 use Rattle.dslx_meaning.specs.declared.ty.DslxType.{DslxType}
 use Rattle.dslx_meaning.specs.declared.ty.DslxType as ty
 use Rattle.dslx_meaning.specs.declared.value.DslxValue.{DslxValue}
 use Rattle.dslx_meaning.specs.declared.value.DslxValue as value
 use Rattle.dslx_meaning.specs.declared.ty.BitKind.{BitKind}
-use Rattle.dslx_meaning.specs.declared.value.Bare.{Bare}
+use Rattle.dslx_meaning.specs.declared.value.UntypedLiteral.{UntypedLiteral}
 
 -- ---- items by their names
 
@@ -57,14 +57,14 @@ abbrev pub as_enum : Option Definition → Option Enum
 as_enum (Some (d.Enum e)) = Some e
 as_enum _ = None
 
--- ---- number parameters
+-- ---- parametrics
 
 -- what is bound, and a parameter with its value
-abbrev pub with_number : List Given → Parameter → DslxValue → List Given
+abbrev pub with_number : List Given → Parametric → DslxValue → List Given
 with_number so_far p v = record { name = p.name.name; value = v } ∷ so_far
 
 -- what a parameter is where it isn't given: what the arguments infer, or else its default, which sees the parameters before it
-abbrev pub inferred_value : Env → Parameter → Option ℕ → Option DslxValue
+abbrev pub inferred_value : Env → Parametric → Option ℕ → Option DslxValue
 inferred_value env p None = and_then p.default (λ e. value_of e env)
 inferred_value env p (Some n) = and_then (written_type p.ty env) (λ t. number_value t (record { is_negative = false; value = n }))
 
@@ -73,36 +73,36 @@ put_first a None = None
 put_first a (Some as') = Some (a ∷ as')
 
 -- the values of all parameters, from those that are given, where arguments infer these numbers
-abbrev pub all_numbers : Meanings → List Inferred → List Given → List Parameter → List DslxValue → Option (List DslxValue)
-all_numbers items inferred so_far [] [] = Some []
-all_numbers items inferred so_far [] (v ∷ vs) = None
-all_numbers items inferred so_far (p ∷ ps) (v ∷ vs) = put_first v (all_numbers items inferred (with_number so_far p v) ps vs)
-all_numbers items inferred so_far (p ∷ ps) [] =
+abbrev pub all_parametric_args : Meanings → List Inferred → List Given → List Parametric → List DslxValue → Option (List DslxValue)
+all_parametric_args items inferred so_far [] [] = Some []
+all_parametric_args items inferred so_far [] (v ∷ vs) = None
+all_parametric_args items inferred so_far (p ∷ ps) (v ∷ vs) = put_first v (all_parametric_args items inferred (with_number so_far p v) ps vs)
+all_parametric_args items inferred so_far (p ∷ ps) [] =
     and_then (inferred_value (record { items = items; bound = so_far }) p (inferred_for p.name.name inferred))
-    (λ v. put_first v (all_numbers items inferred (with_number so_far p v) ps []))
+    (λ v. put_first v (all_parametric_args items inferred (with_number so_far p v) ps []))
 
 -- the parameters with their values, the last one first
-abbrev pub numbers_bound : List Given → List Parameter → List DslxValue → List Given
-numbers_bound so_far [] vs = so_far
-numbers_bound so_far (p ∷ ps) [] = so_far
-numbers_bound so_far (p ∷ ps) (v ∷ vs) = numbers_bound (with_number so_far p v) ps vs
+abbrev pub parametric_args_bound : List Given → List Parametric → List DslxValue → List Given
+parametric_args_bound so_far [] vs = so_far
+parametric_args_bound so_far (p ∷ ps) [] = so_far
+parametric_args_bound so_far (p ∷ ps) (v ∷ vs) = parametric_args_bound (with_number so_far p v) ps vs
 
 abbrev pub operands_bound : List Given → List Field → List DslxValue → List Given
 operands_bound so_far [] vs = so_far
 operands_bound so_far (f ∷ fs) [] = so_far
 operands_bound so_far (f ∷ fs) (v ∷ vs) = operands_bound (record { name = f.name.name; value = v } ∷ so_far) fs vs
 
--- what is in sight in an instance
-abbrev pub instance_env : Meanings → List Parameter → List DslxValue → Env
-instance_env items parameters numbers = record { items = items; bound = numbers_bound [] parameters numbers }
+-- the type environment in an instance
+abbrev pub instance_env : Meanings → List Parametric → List DslxValue → Env
+instance_env items parametrics parametric_args = record { items = items; bound = parametric_args_bound [] parametrics parametric_args }
 
 -- ---- functions
 
 -- an instance of a function at its operands
 abbrev pub function_value : Meanings → Function → List DslxValue → List DslxValue → Option DslxValue
-function_value items f numbers operands =
+function_value items f parametric_args operands =
     where_true (length operands == length f.arguments)
-    (value_of_block f.body (record { items = items; bound = operands_bound (numbers_bound [] f.parameters numbers) f.arguments operands }))
+    (value_of_block f.body (record { items = items; bound = operands_bound (parametric_args_bound [] f.parametrics parametric_args) f.arguments operands }))
 
 -- what operands of these types infer
 abbrev pub inferred_from : List Field → List DslxType → List Inferred
@@ -110,11 +110,11 @@ inferred_from [] ts = []
 inferred_from (f ∷ fs) [] = []
 inferred_from (f ∷ fs) (t ∷ ts) = inferred_in f.ty t ++ inferred_from fs ts
 
--- a call, by the number arguments that are written
+-- a call, by the parametric arguments that are written
 abbrev pub call_of : Meanings → Function → List DslxValue → List DslxValue → Option DslxValue
 call_of items f given operands =
-    and_then (all_numbers items (inferred_from f.arguments (map type_of_value operands)) [] f.parameters given)
-    (λ numbers. function_value items f numbers operands)
+    and_then (all_parametric_args items (inferred_from f.arguments (map type_of_value operands)) [] f.parametrics given)
+    (λ parametric_args. function_value items f parametric_args operands)
 
 -- ---- constants and types
 
@@ -126,10 +126,10 @@ abbrev pub base_of : Meanings → Enum → Option BitKind
 base_of items e = and_then (written_type e.base (outside items)) bits_in
 
 -- the value of a member: a number without a type, or bits of the base
-abbrev pub member_bits : Meanings → BitKind → Meant → Option DslxValue
+abbrev pub member_bits : Meanings → BitKind → ExprDen → Option DslxValue
 member_bits items kind m = in_base m.bare
   where
-    in_base : Option Bare → Option DslxValue
+    in_base : Option UntypedLiteral → Option DslxValue
     in_base None = and_then (m.value (outside items)) (λ v. where_true (same_type (type_of_value v) (ty.Bits kind.signed kind.width)) (Some v))
     in_base (Some number) = number_value (ty.Bits kind.signed kind.width) number
 
@@ -137,7 +137,7 @@ abbrev pub enum_member : List ℕ → DslxValue → Option DslxValue
 enum_member name v = and_then (bits_of v) (λ x. Some (value.Enum name x.signed x.word))
 
 abbrev pub member_value : Meanings → Enum → Member → Option DslxValue
-member_value items e m = and_then (base_of items e) (λ kind. and_then (member_bits items kind (meant m.value)) (enum_member e.name.name))
+member_value items e m = and_then (base_of items e) (λ kind. and_then (member_bits items kind (denotation m.value)) (enum_member e.name.name))
 
 abbrev pub member_named : List ℕ → List Member → Option Member
 member_named name [] = None
@@ -173,7 +173,7 @@ nothing_known = record {
   is_constant = λ name. false;
   constant = λ name. None;
   member = λ name a. None;
-  call = λ name numbers operands. None;
+  call = λ name parametric_args operands. None;
 }
 
 -- what the items mean, where what they mention means this
@@ -184,7 +184,7 @@ meanings_over m items = record {
   is_constant = λ name. is_constant_item (item_named name m.items);
   constant = λ name. and_then (as_constant (item_named name m.items)) (constant_value items);
   member = λ name a. and_then (as_enum (item_named name m.items)) (λ e. and_then (member_named a e.members) (member_value items e));
-  call = λ name numbers operands. and_then (as_function (item_named name m.items)) (λ f. call_of items f numbers operands);
+  call = λ name parametric_args operands. and_then (as_function (item_named name m.items)) (λ f. call_of items f parametric_args operands);
 }
 
 -- what the items mean to a use that stands at the head of a chain of at most so many items, each of which mentions the

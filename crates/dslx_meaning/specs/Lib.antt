@@ -4,7 +4,7 @@ pub mod Activation
 pub mod Callees
 -- what names stand for
 pub mod Environment
--- which number parameters arguments infer
+-- which parametrics arguments infer
 pub mod Inference
 -- the items of a module
 pub mod Items

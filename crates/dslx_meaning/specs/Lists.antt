@@ -43,9 +43,9 @@ times_in name [] = 0
 times_in name (n ∷ ns) = if bytes_eq name n then suc (times_in name ns) else times_in name ns
 
 -- the place of the first name that is this one
-abbrev pub place_in : List ℕ → List (List ℕ) → Option ℕ
-place_in name [] = None
-place_in name (n ∷ ns) = if bytes_eq name n then Some 0 else one_more (place_in name ns)
+abbrev pub index_in : List ℕ → List (List ℕ) → Option ℕ
+index_in name [] = None
+index_in name (n ∷ ns) = if bytes_eq name n then Some 0 else one_more (index_in name ns)
   where
     one_more : Option ℕ → Option ℕ
     one_more None = None
@@ -53,7 +53,7 @@ place_in name (n ∷ ns) = if bytes_eq name n then Some 0 else one_more (place_i
 
 -- what stands beside the first name that is this one
 abbrev pub beside : {A : Type 0} → List ℕ → List (List ℕ) → List A → Option A
-beside name names as' = and_then (place_in name names) (λ k. slice_get as' k)
+beside name names as' = and_then (index_in name names) (λ k. slice_get as' k)
 
 -- the two lists are equally long, and each pair passes the test
 abbrev pub pairwise : {A B : Type 0} → (A → B → Bool) → List A → List B → Bool

@@ -21,15 +21,15 @@ use Rattle.dslx_tree.specs.declared.process.Proc.{Proc}
 use Rattle.dslx_tree.specs.declared.process.End.{End}
 use Rattle.dslx_tree.specs.declared.process.Channel.{Channel}
 use Rattle.dslx_tree.specs.declared.process.Spawn.{Spawn}
-use Rattle.dslx_tree.specs.declared.process.Making.{Making}
-use Rattle.dslx_tree.specs.declared.process.Making.TheVariants as making
+use Rattle.dslx_tree.specs.declared.process.ConfigStatement.{ConfigStatement}
+use Rattle.dslx_tree.specs.declared.process.ConfigStatement.TheVariants as config_statement
 use Rattle.dslx_tree.specs.declared.process.Direction.{Direction}
 use Rattle.dslx_tree.specs.declared.process.Direction.TheVariants.{In, Out}
 use Rattle.dslx_meaning.specs.Lists.{and_then, beside}
 use Rattle.dslx_meaning.specs.Types.{plain_type}
 use Rattle.dslx_meaning.specs.Environment.{Meanings, Env}
-use Rattle.dslx_meaning.specs.Meaning.{meant_arg, size_of, written_type, values_of}
-use Rattle.dslx_meaning.specs.Items.{item_named, all_numbers, instance_env, meanings_of}
+use Rattle.dslx_meaning.specs.Meaning.{arg_denotation, size_of, written_type, values_of}
+use Rattle.dslx_meaning.specs.Items.{item_named, all_parametric_args, instance_env, meanings_of}
 use Rattle.dslx_meaning.specs.Activation.{SiteName, site_names, state_type_of, opening_state, activation_of, turn_at, state_of}
 use Rattle.dslx_meaning.specs.declared.ty.DslxType.{DslxType}
 use Rattle.dslx_meaning.specs.declared.value.DslxValue.{DslxValue}
@@ -43,16 +43,16 @@ abbrev pub channel_held : List ℕ → List Held → ℕ
 channel_held name [] = 0
 channel_held name (h ∷ hs) = if bytes_eq name h.name then h.channel else channel_held name hs
 
--- a proc of the network: its path, its declaration, its number arguments, and the channel of each member
-pub record Placed : Type 0 where
+-- a proc of the network: its path, its declaration, its parametric arguments, and the channel of each member
+pub record Elaborated : Type 0 where
   pub path : List ℕ
   pub proc : Proc
-  pub numbers : List DslxValue
+  pub parametric_args : List DslxValue
   pub channels : List ℕ
 
 -- a proc with all that it spawns, itself first, and the channels that they make
 pub record Family : Type 0 where
-  pub procs : List Placed
+  pub procs : List Elaborated
   pub chans : List Chan
 
 abbrev pub no_family : Family
@@ -70,7 +70,7 @@ plain_or_unit (Some t) = plain_type t
 
 abbrev pub depth_of : Env → Option Arg → ℕ
 depth_of env None = 1
-depth_of env (Some a) = unwrap_or (size_of (meant_arg a) env) 1
+depth_of env (Some a) = unwrap_or (size_of (arg_denotation a) env) 1
 
 abbrev pub made_chan : List ℕ → Env → Channel → Chan
 made_chan path env c = record {
@@ -80,17 +80,17 @@ made_chan path env c = record {
   depth = depth_of env c.depth;
 }
 
-abbrev pub made_chans : List ℕ → Env → List Making → List Chan
+abbrev pub made_chans : List ℕ → Env → List ConfigStatement → List Chan
 made_chans path env [] = []
-made_chans path env (making.Channel c ∷ ms) = made_chan path env c ∷ made_chans path env ms
-made_chans path env (making.Spawn s ∷ ms) = made_chans path env ms
+made_chans path env (config_statement.Channel c ∷ ms) = made_chan path env c ∷ made_chans path env ms
+made_chans path env (config_statement.Spawn s ∷ ms) = made_chans path env ms
 
 -- both ends of each, where the first channel has this number
-abbrev pub made_ends : ℕ → List Making → List Held
+abbrev pub made_ends : ℕ → List ConfigStatement → List Held
 made_ends number [] = []
-made_ends number (making.Channel c ∷ ms) =
+made_ends number (config_statement.Channel c ∷ ms) =
     record { name = c.sender.name; channel = number } ∷ record { name = c.receiver.name; channel = number } ∷ made_ends (suc number) ms
-made_ends number (making.Spawn s ∷ ms) = made_ends number ms
+made_ends number (config_statement.Spawn s ∷ ms) = made_ends number ms
 
 -- ---- spawned procs
 
@@ -111,45 +111,45 @@ channels_of_ends held idents = map (λ (i : Ident). channel_held i.name held) id
 abbrev pub child_path : List ℕ → ℕ → List ℕ
 child_path path k = path ++ codes "." ++ decimal k
 
--- a family, by its path, its first proc, that one's number arguments and ends, and the number of the next channel
-abbrev pub Placing : Type 0
-Placing = List ℕ → Proc → List DslxValue → List Held → ℕ → Family
+-- a family, by its path, its first proc, that one's parametric arguments and ends, and the number of the next channel
+abbrev pub Elaboration : Type 0
+Elaboration = List ℕ → Proc → List DslxValue → List Held → ℕ → Family
 
--- the number arguments that a spawn gives
-abbrev pub spawn_numbers : Meanings → Env → Proc → List Arg → Option (List DslxValue)
-spawn_numbers items env target arguments = and_then (values_of (map meant_arg arguments) env) (all_numbers items [] [] target.parameters)
+-- the parametric arguments that a spawn gives
+abbrev pub spawn_parametric_args : Meanings → Env → Proc → List Arg → Option (List DslxValue)
+spawn_parametric_args items env target arguments = and_then (values_of (map arg_denotation arguments) env) (all_parametric_args items [] [] target.parametrics)
 
-abbrev pub spawned_at : Placing → List ℕ → List Held → Spawn → ℕ → Option Proc → Option (List DslxValue) → Family
-spawned_at place path held s number (Some target) (Some numbers) = place path target numbers (handed_over target.config.ends (channels_of_ends held s.ends)) number
+abbrev pub spawned_at : Elaboration → List ℕ → List Held → Spawn → ℕ → Option Proc → Option (List DslxValue) → Family
+spawned_at place path held s number (Some target) (Some parametric_args) = place path target parametric_args (handed_over target.config.ends (channels_of_ends held s.ends)) number
 spawned_at place path held s number _ _ = no_family
 
-abbrev pub spawned : Module → Meanings → Placing → List ℕ → Env → List Held → Spawn → ℕ → Family
+abbrev pub spawned : Module → Meanings → Elaboration → List ℕ → Env → List Held → Spawn → ℕ → Family
 spawned m items place path env held s number =
     let target = as_proc (item_named s.target.name m.items) in
-    spawned_at place path held s number target (and_then target (λ p. spawn_numbers items env p s.arguments))
+    spawned_at place path held s number target (and_then target (λ p. spawn_parametric_args items env p s.arguments))
 
 -- the children in the order of the text, from the child of this number on
-abbrev pub children : Module → Meanings → Placing → List ℕ → Env → List Held → List Making → ℕ → ℕ → Family
+abbrev pub children : Module → Meanings → Elaboration → List ℕ → Env → List Held → List ConfigStatement → ℕ → ℕ → Family
 children m items place path env held [] k number = no_family
-children m items place path env held (making.Channel c ∷ ms) k number = children m items place path env held ms k number
-children m items place path env held (making.Spawn s ∷ ms) k number =
+children m items place path env held (config_statement.Channel c ∷ ms) k number = children m items place path env held ms k number
+children m items place path env held (config_statement.Spawn s ∷ ms) k number =
     let first = spawned m items place (child_path path k) env held s number in
     and_family first (children m items place path env held ms (suc k) (number + length first.chans))
 
 -- a proc's own channels have the first numbers, then those of its children's families, in order
-abbrev pub place_over : Module → Meanings → Placing → Placing
-place_over m items place path p numbers ends number =
-    let env = instance_env items p.parameters numbers in
-    let own = made_chans path env p.config.makings in
-    let held = ends ++ made_ends number p.config.makings in
+abbrev pub elaborate_over : Module → Meanings → Elaboration → Elaboration
+elaborate_over m items place path p parametric_args ends number =
+    let env = instance_env items p.parametrics parametric_args in
+    let own = made_chans path env p.config.config_statements in
+    let held = ends ++ made_ends number p.config.config_statements in
     and_family
-    (record { procs = record { path = path; proc = p; numbers = numbers; channels = channels_of_ends held p.config.result } ∷ []; chans = own })
-    (children m items place path env held p.config.makings 0 (number + length own))
+    (record { procs = record { path = path; proc = p; parametric_args = parametric_args; channels = channels_of_ends held p.config.result } ∷ []; chans = own })
+    (children m items place path env held p.config.config_statements 0 (number + length own))
 
 -- a chain of spawns is no longer than the list of items
-abbrev pub place_within : Module → Meanings → ℕ → Placing
-place_within m items zero path p numbers ends number = no_family
-place_within m items (suc n) path p numbers ends number = place_over m items (place_within m items n) path p numbers ends number
+abbrev pub elaborate_within : Module → Meanings → ℕ → Elaboration
+elaborate_within m items zero path p parametric_args ends number = no_family
+elaborate_within m items (suc n) path p parametric_args ends number = elaborate_over m items (elaborate_within m items n) path p parametric_args ends number
 
 -- ---- the network of a top proc
 
@@ -178,39 +178,39 @@ abbrev pub top_proc : Module → Option (List ℕ) → Option Proc
 top_proc m None = last_proc_of m.items None
 top_proc m (Some name) = as_proc (item_named name m.items)
 
--- the number arguments of the top: its defaults
-abbrev pub top_numbers : Meanings → Proc → List DslxValue
-top_numbers items p = unwrap_or (all_numbers items [] [] p.parameters []) []
+-- the parametric arguments of the top: its defaults
+abbrev pub top_parametric_args : Meanings → Proc → List DslxValue
+top_parametric_args items p = unwrap_or (all_parametric_args items [] [] p.parametrics []) []
 
 abbrev pub family_of : Module → Proc → Family
 family_of m top =
     let items = meanings_of m in
-    place_within m items (length m.items) top.name.name top (top_numbers items top) (outer_ends 0 top.config.ends) (length top.config.ends)
+    elaborate_within m items (length m.items) top.name.name top (top_parametric_args items top) (outer_ends 0 top.config.ends) (length top.config.ends)
 
-abbrev pub site_at : Placed → SiteName → Site
-site_at placed site = record {
-  chan = unwrap_or (beside site.member (map (λ (e : End). e.name.name) placed.proc.members) placed.channels) 0;
+abbrev pub site_at : Elaborated → SiteName → Site
+site_at elaborated site = record {
+  chan = unwrap_or (beside site.member (map (λ (e : End). e.name.name) elaborated.proc.members) elaborated.channels) 0;
   sends = site.sends;
 }
 
-abbrev pub sites_of_placed : Placed → List Site
-sites_of_placed placed = map (site_at placed) (site_names placed.proc)
+abbrev pub sites_of_elaborated : Elaborated → List Site
+sites_of_elaborated elaborated = map (site_at elaborated) (site_names elaborated.proc)
 
-abbrev pub state_at : Meanings → Placed → Ty
-state_at items placed = plain_or_unit (state_type_of items placed.proc placed.numbers)
+abbrev pub state_at : Meanings → Elaborated → Ty
+state_at items elaborated = plain_or_unit (state_type_of items elaborated.proc elaborated.parametric_args)
 
-abbrev pub head_at : Meanings → Placed → ProcHead
-head_at items placed = record {
-  path = placed.path;
-  state = state_at items placed;
-  init = state_of (opening_state items placed.proc placed.numbers);
-  sites = sites_of_placed placed;
+abbrev pub head_at : Meanings → Elaborated → ProcHead
+head_at items elaborated = record {
+  path = elaborated.path;
+  state = state_at items elaborated;
+  init = state_of (opening_state items elaborated.proc elaborated.parametric_args);
+  sites = sites_of_elaborated elaborated;
 }
 
 -- outer channels first, in the order of the ends of `config`
 abbrev pub chans_of_top : Module → Proc → List Chan
 chans_of_top m top =
-    map (outer_chan (instance_env (meanings_of m) top.parameters (top_numbers (meanings_of m) top))) top.config.ends ++ (family_of m top).chans
+    map (outer_chan (instance_env (meanings_of m) top.parametrics (top_parametric_args (meanings_of m) top))) top.config.ends ++ (family_of m top).chans
 
 abbrev pub net_of_top : Module → Proc → Net
 net_of_top m top = record {
@@ -227,13 +227,13 @@ width_of_chan chans c = width_at (slice_get chans c)
     width_at (Some chan) = width_of chan.ty
 
 -- what a proc of the network does
-abbrev pub behavior_at : Meanings → List Chan → Placed → Behavior
-behavior_at items chans placed = record {
-  state = state_at items placed;
-  sites = sites_of_placed placed;
+abbrev pub behavior_at : Meanings → List Chan → Elaborated → Behavior
+behavior_at items chans elaborated = record {
+  state = state_at items elaborated;
+  sites = sites_of_elaborated elaborated;
   width = width_of_chan chans;
-  turn = λ state words i. turn_at (slice_get (activation_of items placed.proc placed.numbers state words).turns i);
-  next_state = λ state words. state_of (activation_of items placed.proc placed.numbers state words).last;
+  turn = λ state words i. turn_at (slice_get (activation_of items elaborated.proc elaborated.parametric_args state words).turns i);
+  next_state = λ state words. state_of (activation_of items elaborated.proc elaborated.parametric_args state words).last;
 }
 
 abbrev pub net_if : Module → Option Proc → Net

@@ -17,7 +17,7 @@ use Rattle.dslx_meaning.specs.declared.ty.DslxType.{DslxType}
 use Rattle.dslx_meaning.specs.declared.value.DslxValue.{DslxValue, Bits, Array}
 use Rattle.dslx_meaning.specs.declared.ty.BitKind.{BitKind}
 use Rattle.dslx_meaning.specs.declared.value.SignedWord.{SignedWord}
-use Rattle.dslx_meaning.specs.declared.value.Bare.{Bare}
+use Rattle.dslx_meaning.specs.declared.value.UntypedLiteral.{UntypedLiteral}
 
 -- ---- numbers
 
@@ -32,17 +32,17 @@ positive_word false w n = if nat_lt n (2 ^ w) then Some (word w n) else None
 positive_word true w n = if nat_lt n (2 ^ (w - 1)) then Some (word w n) else None
 
 -- the word of a number in bits of this kind, if it lies in their range
-abbrev pub word_in_range : BitKind → Bare → Option Word
+abbrev pub word_in_range : BitKind → UntypedLiteral → Option Word
 word_in_range kind number =
     if number.is_negative then negative_word kind.signed kind.width number.value
     else positive_word kind.signed kind.width number.value
 
-abbrev pub number_in : Option BitKind → Bare → Option DslxValue
+abbrev pub number_in : Option BitKind → UntypedLiteral → Option DslxValue
 number_in None number = None
 number_in (Some kind) number = and_then (word_in_range kind number) (λ w. Some (Bits kind.signed w))
 
 -- a number with its type
-abbrev pub number_value : DslxType → Bare → Option DslxValue
+abbrev pub number_value : DslxType → UntypedLiteral → Option DslxValue
 number_value t number = number_in (bits_in t) number
 
 -- bits as a whole number

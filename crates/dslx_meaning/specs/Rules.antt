@@ -13,9 +13,9 @@ pub mod EqualValues
 -- functions, constants, types, structs and enums
 pub mod ItemRules
 -- judgements
-pub mod Judging
+pub mod TypeEnvs
 -- what the parts of each sort come to
-pub mod Judgings
+pub mod Typings
 -- what a text names, and which items reach which
 pub mod Mentions
 -- all faults of a module, and the one that is named

@@ -153,32 +153,32 @@ abbrev pub flat_bits : DslxType → ℕ
 flat_bits = fold-DslxType ℕ flat_bits_in
 
 -- its levels, and whether it is a token
-pub record Height : Type 0 where
+pub record TypeDepth : Type 0 where
   pub levels : ℕ
   pub is_token : Bool
 
-abbrev pub levels_among : List Height → List ℕ
-levels_among hs = map (λ (h : Height). h.levels) hs
+abbrev pub levels_among : List TypeDepth → List ℕ
+levels_among hs = map (λ (h : TypeDepth). h.levels) hs
 
-abbrev pub high : ℕ → Height
+abbrev pub high : ℕ → TypeDepth
 high n = record { levels = n; is_token = false }
 
 -- a receive's pair adds no level
-abbrev pub tuple_height : List Height → Height
-tuple_height [] = high 1
-tuple_height (h ∷ hs) = high (if h.is_token then most_of (levels_among hs) else (1 + most_of (h.levels ∷ levels_among hs)))
+abbrev pub tuple_type_depth : List TypeDepth → TypeDepth
+tuple_type_depth [] = high 1
+tuple_type_depth (h ∷ hs) = high (if h.is_token then most_of (levels_among hs) else (1 + most_of (h.levels ∷ levels_among hs)))
 
-abbrev pub height_in : DslxType-F Height → Height
-height_in (DslxType-F.Bits s w) = high 0
-height_in (DslxType-F.Tuple hs) = tuple_height hs
-height_in (DslxType-F.Array h k) = high (1 + h.levels)
-height_in (DslxType-F.Struct name fields hs) = high (1 + most_of (levels_among hs))
-height_in (DslxType-F.Enum name s w) = high 0
-height_in DslxType-F.Token = record { levels = 0; is_token = true }
+abbrev pub type_depth_in : DslxType-F TypeDepth → TypeDepth
+type_depth_in (DslxType-F.Bits s w) = high 0
+type_depth_in (DslxType-F.Tuple hs) = tuple_type_depth hs
+type_depth_in (DslxType-F.Array h k) = high (1 + h.levels)
+type_depth_in (DslxType-F.Struct name fields hs) = high (1 + most_of (levels_among hs))
+type_depth_in (DslxType-F.Enum name s w) = high 0
+type_depth_in DslxType-F.Token = record { levels = 0; is_token = true }
 
 -- how many tuples, structs and arrays stand one in another
 abbrev pub levels_of : DslxType → ℕ
-levels_of t = (fold-DslxType Height height_in t).levels
+levels_of t = (fold-DslxType TypeDepth type_depth_in t).levels
 
 -- ---- without signs and names
 

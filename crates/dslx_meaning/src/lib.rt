@@ -8,4 +8,4 @@ mod ty;
 mod value;
 
 pub use ty::{BitKind, DslxType};
-pub use value::{Bare, DslxValue, SignedWord};
+pub use value::{UntypedLiteral, DslxValue, SignedWord};

@@ -26,7 +26,7 @@ pub struct SignedWord {
 
 /// A number as a text writes it: whether `-` stands before it, and the value of its digits.
 #[derive(Clone, Copy, PartialEq, Eq)]
-pub struct Bare {
+pub struct UntypedLiteral {
     pub is_negative: bool,
     pub value: u128,
 }

@@ -9,9 +9,9 @@ use Rattle.dslx_meaning.specs.Environment.{Given, given_in}
 use Rattle.dslx_names.specs.Bound.{given}
 use Rattle.dslx_names.specs.declared.scope.Binding.{Binding}
 
-drop_front : {T : Type 0} (a b : List T) → drop (length a) (a ++ b) ≡ b
-drop_front [] b = refl
-drop_front (x ∷ xs) b = drop_front xs b
+drop_prefix : {T : Type 0} (a b : List T) → drop (length a) (a ++ b) ≡ b
+drop_prefix [] b = refl
+drop_prefix (x ∷ xs) b = drop_prefix xs b
 
 left_is : {T : Type 0} (k : ℕ) (xs : List T) → drop k (reverse xs) ≡ reverse (take (length xs - k) xs)
 left_is {T} k xs = elim (cases_Bool (leb k (length xs))) [
@@ -20,7 +20,7 @@ left_is {T} k xs = elim (cases_Bool (leb k (length xs))) [
       let count : length (reverse (drop (length xs - k) xs)) ≡ k = omega (arith, length-reverse (drop (length xs - k) xs), length-drop (length xs - k) xs) in
       ap (λ (t : List T). drop k t) (ap reverse (sym (take-append-drop (length xs - k) xs)) ∙ reverse-append (take (length xs - k) xs) (drop (length xs - k) xs))
       ∙ ap (λ (m : ℕ). drop m (reverse (drop (length xs - k) xs) ++ reverse (take (length xs - k) xs))) (sym count)
-      ∙ drop_front (reverse (drop (length xs - k) xs)) (reverse (take (length xs - k) xs))
+      ∙ drop_prefix (reverse (drop (length xs - k) xs)) (reverse (take (length xs - k) xs))
   | inr past ↦
       let more : length xs < k = leb-false k (length xs) past in
       let none : length xs - k ≡ 0 = omega arith in

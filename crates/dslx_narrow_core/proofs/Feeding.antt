@@ -41,9 +41,9 @@ get_behind : (front : List Site) (site : Site) (rest : List Site) → slice_get 
 get_behind [] site rest = refl
 get_behind (x ∷ front) site rest = get_behind front site rest
 
-take_front : (front rest : List Site) → take (length front) (front ++ rest) ≡ front
-take_front [] rest = refl
-take_front (x ∷ front) rest = ap (λ xs. x ∷ xs) (take_front front rest)
+take_prefix : (front rest : List Site) → take (length front) (front ++ rest) ≡ front
+take_prefix [] rest = refl
+take_prefix (x ∷ front) rest = ap (λ xs. x ∷ xs) (take_prefix front rest)
 
 length_more : (front : List Site) (site : Site) → length (front ++ site ∷ []) ≡ suc (length front)
 length_more [] site = refl
@@ -89,9 +89,9 @@ fed_behind b s keeps [] front back got words whole fed takes =
     let ws : got ≡ got ++ words = sym (append-nil got) ∙ ap (λ xs. got ++ xs) (sym takes) in
     subst (λ xs. IsFed b.width (front ++ []) xs) ws (subst (λ xs. IsFed b.width xs got) (sym (append-nil front)) fed)
 fed_behind b s keeps (site ∷ sites) front back got words whole fed takes =
-    let front_is : take (length front) b.sites ≡ front = subst (λ xs. take (length front) xs ≡ front) whole (take_front front ((site ∷ sites) ++ back)) in
+    let prefix_is : take (length front) b.sites ≡ front = subst (λ xs. take (length front) xs ≡ front) whole (take_prefix front ((site ∷ sites) ++ back)) in
     let site_is : slice_get b.sites (length front) ≡ Some site = subst (λ xs. slice_get xs (length front) ≡ Some site) whole (get_behind front site (sites ++ back)) in
-    let kept = keeps (length front) site got (subst (λ xs. IsFed b.width xs got) (sym front_is) fed) site_is in
+    let kept = keeps (length front) site got (subst (λ xs. IsFed b.width xs got) (sym prefix_is) fed) site_is in
     site_case b s site sites (fed_behind b s keeps sites) site.sends refl front back got words (b.turn s got (length front)) whole fed kept takes
 
 take_drop : (n : ℕ) (xs : List Site) → take n xs ++ drop n xs ≡ xs

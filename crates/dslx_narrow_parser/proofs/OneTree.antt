@@ -14,7 +14,7 @@ use Rattle.xb_span.specs.declared.read_error.ReadError.{ReadError}
 use Rattle.xb_span.specs.declared.read_error.ReadError.TheVariants.{Syntax, Broken, Over, OutOfMemory}
 use Rattle.dslx_narrow_parser.specs.Building.{built, module_of}
 use Rattle.dslx_narrow_parser.specs.Empty.{empty}
-use Rattle.dslx_narrow_parser.specs.Reads.{IsFault, IsReading, IsRefusal, IsSyntaxFault, IsTooDeep, IsShallow, Reads, kinds_of, misplaced, roles_of, too_deep, whole}
+use Rattle.dslx_narrow_parser.specs.Reads.{IsFault, IsReading, IsRefusal, IsSyntaxFault, IsTooDeep, IsShallow, Reads, kinds_of, misplaced, bracket_classes_of, too_deep, whole}
 use Rattle.xb_span.specs.declared.limit.Limit.{Limit}
 use Rattle.xb_span.specs.Nesting.Nesting.{first_past}
 use Rattle.base.proofs.Lemmas.Lists.Faults.{IsFirstFault-unique}
@@ -57,7 +57,7 @@ tree_reads ls ps steps f (Ok m) tree e is = record { productions = ps; forest = 
 tree_reads ls ps steps f (Err x) tree e is = tt
 
 -- a sentence with a token that is nested too deep
-pub deep_sentence : (ls : List Lexeme) (ps : List ℕ) (deep : ℕ) → IsDerivation narrow ps (kinds_of ls) → first_past (roles_of ls) ≡ Some deep → IsTooDeep ls (record { what = Nesting; found = 129; most = 128 })
+pub deep_sentence : (ls : List Lexeme) (ps : List ℕ) (deep : ℕ) → IsDerivation narrow ps (kinds_of ls) → first_past (bracket_classes_of ls) ≡ Some deep → IsTooDeep ls (record { what = Nesting; found = 129; most = 128 })
 deep_sentence ls ps deep derived passed = record {
   deep = deep;
   passed = passed;
@@ -66,7 +66,7 @@ deep_sentence ls ps deep derived passed = record {
 }
 
 -- a token that is nested too deep before the first fault
-pub deep_before : (ls : List Lexeme) (deep place : ℕ) → IsFault ls place → first_past (roles_of ls) ≡ Some deep → deep < place → IsTooDeep ls (record { what = Nesting; found = 129; most = 128 })
+pub deep_before : (ls : List Lexeme) (deep place : ℕ) → IsFault ls place → first_past (bracket_classes_of ls) ≡ Some deep → deep < place → IsTooDeep ls (record { what = Nesting; found = 129; most = 128 })
 deep_before ls deep place fault passed before = record {
   deep = deep;
   passed = passed;
@@ -75,7 +75,7 @@ deep_before ls deep place fault passed before = record {
 }
 
 -- the fault at a token of which the beginning is known
-pub fault_at : (ls : List Lexeme) (place at : ℕ) → (token : Option Lexeme) → slice_get ls place ≡ token → place < length ls → IfSome token (λ t. at ≡ t.span.from) → IsFault ls place → ((deep : ℕ) → first_past (roles_of ls) ≡ Some deep → place ≤ deep) → IsSyntaxFault ls at
+pub fault_at : (ls : List Lexeme) (place at : ℕ) → (token : Option Lexeme) → slice_get ls place ≡ token → place < length ls → IfSome token (λ t. at ≡ t.span.from) → IsFault ls place → ((deep : ℕ) → first_past (bracket_classes_of ls) ≡ Some deep → place ≤ deep) → IsSyntaxFault ls at
 fault_at ls place at None e within starts fault first = absurd (none_within ls place within e)
 fault_at ls place at (Some t) e within starts fault first = record { place = place; token = t; fault = fault; here = e; starts = starts; first = first }
 

@@ -5,6 +5,6 @@ pub mod Empty
 -- which tokens read as which tree, and how others are refused
 pub mod Reads
 -- what tokens do to the nesting
-pub mod Roles
+pub mod BracketClasses
 -- what each rule makes of the parts of its symbols
 pub mod Rules

@@ -5,7 +5,7 @@ use Rattle.grammar.specs.Steps.{steps_of}
 use Rattle.grammar.specs.Tree.{Forest, IsParseTree}
 use Rattle.base.specs.Lists.Fault.{IsFirstFault}
 use Rattle.xb_span.specs.Nesting.Nesting.{first_past}
-use Rattle.xb_span.specs.declared.nesting.role.Role.{Role}
+use Rattle.xb_span.specs.declared.nesting.bracket_class.BracketClass.{BracketClass}
 use Rattle.dslx_narrow_grammar.specs.Narrow.{narrow}
 use Rattle.dslx_narrow_tree.specs.declared.proc.Module.{Module}
 use Rattle.dslx_token.specs.Lexeme.{Lexeme}
@@ -15,14 +15,14 @@ use Rattle.xb_span.specs.declared.read_error.ReadError.{ReadError}
 use Rattle.xb_span.specs.declared.read_error.ReadError.TheVariants.{Syntax, Broken, Over, OutOfMemory}
 use Rattle.dslx_narrow_parser.specs.Building.{built, module_of}
 use Rattle.dslx_narrow_parser.specs.Empty.{empty}
-use Rattle.dslx_narrow_parser.specs.Roles.{role_of}
+use Rattle.dslx_narrow_parser.specs.BracketClasses.{bracket_class_of}
 
 abbrev pub kinds_of : List Lexeme → List ℕ
 kinds_of ls = map (λ l. l.kind) ls
 
 -- what each token does to the nesting of those behind it
-abbrev pub roles_of : List Lexeme → List Role
-roles_of ls = map (λ l. role_of l.kind) ls
+abbrev pub bracket_classes_of : List Lexeme → List BracketClass
+bracket_classes_of ls = map (λ l. bracket_class_of l.kind) ls
 
 -- The tokens are derived by the grammar, and this is the tree that is built of them by their derivation.
 pub record Reads (ls : List Lexeme) (m : Module) : Type 0 where
@@ -33,7 +33,7 @@ pub record Reads (ls : List Lexeme) (m : Module) : Type 0 where
 
 -- No token is nested deeper than the limit.
 abbrev pub IsShallow : List Lexeme → Type 0
-IsShallow ls = first_past (roles_of ls) ≡ None
+IsShallow ls = first_past (bracket_classes_of ls) ≡ None
 
 -- This is the place of the first token with which no text of the grammar goes on.
 abbrev pub IsFault : List Lexeme → ℕ → Type 0
@@ -46,12 +46,12 @@ pub record IsSyntaxFault (ls : List Lexeme) (at : ℕ) : Type 0 where
   pub fault : IsFault ls place
   pub here : slice_get ls place ≡ Some token
   pub starts : at ≡ token.span.from
-  pub first : (deep : ℕ) → first_past (roles_of ls) ≡ Some deep → place ≤ deep
+  pub first : (deep : ℕ) → first_past (bracket_classes_of ls) ≡ Some deep → place ≤ deep
 
 -- Some token is nested too deep, and each token before it and it itself may stand there.
 pub record IsTooDeep (ls : List Lexeme) (limit : Limit) : Type 0 where
   pub deep : ℕ
-  pub passed : first_past (roles_of ls) ≡ Some deep
+  pub passed : first_past (bracket_classes_of ls) ≡ Some deep
   pub limit_is : limit ≡ record { what = Nesting; found = 129; most = 128 }
   pub first : (place : ℕ) → IsFault ls place → deep < place
 

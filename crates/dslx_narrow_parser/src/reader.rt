@@ -7,8 +7,8 @@ ghost use Rattle.base.specs.Lists.Fault.{IsFirstFault};
 ghost use Rattle.xb_span.specs.Nesting.Nesting.{first_past};
 ghost use Rattle.dslx_narrow_grammar.specs.Narrow.{narrow};
 ghost use Rattle.dslx_narrow_tree.specs.declared.proc.Module.{Module};
-ghost use Rattle.dslx_narrow_parser.specs.Reads.{IsRefusal, IsShallow, Reads, kinds_of, roles_of};
-ghost use Rattle.dslx_narrow_parser.specs.Roles.{role_of};
+ghost use Rattle.dslx_narrow_parser.specs.Reads.{IsRefusal, IsShallow, Reads, kinds_of, bracket_classes_of};
+ghost use Rattle.dslx_narrow_parser.specs.BracketClasses.{bracket_class_of};
 ghost use Rattle.xb_span.specs.declared.read_error.ReadError.TheVariants.{OutOfMemory};
 
 use crate::builder::build;
@@ -19,7 +19,7 @@ use dslx_token::rules::kind::{
 };
 use grammar::ParseError;
 use std::alloc::{AllocError, Global};
-use xb_span::nesting::{Role, first_over};
+use xb_span::nesting::{BracketClass, first_over};
 use xb_span::{Limit, ReadError, What};
 
 /// The tree of the tokens of a text, which end with the mark at its end.
@@ -65,7 +65,7 @@ fn judged(
 ) -> Result<Module, ReadError>
     requires same { kinds.now ≡ kinds_of tokens.now }
     requires ended { EndsWith (kinds_of tokens.now) END }
-    requires deep { deep ≡ first_past (roles_of tokens.now) }
+    requires deep { deep ≡ first_past (bracket_classes_of tokens.now) }
     ensures reads { IfOk result (λ m. Reads tokens.now m) }
     ensures within { IfOk result (λ _. IsShallow tokens.now) }
     ensures refused { IfErr result (λ e. IsRefusal tokens.now e) }
@@ -100,7 +100,7 @@ fn tree(
 fn depth_fault(tokens: &[Token], kinds: &[u8], productions: &[u16], deep: usize) -> ReadError
     requires same { kinds.now ≡ kinds_of tokens.now }
     requires derived { IsDerivation narrow productions.now kinds.now }
-    requires deep { Some deep ≡ first_past (roles_of tokens.now) }
+    requires deep { Some deep ≡ first_past (bracket_classes_of tokens.now) }
     ensures { IsRefusal tokens.now result }
 {
     ReadError::Over(NESTING)
@@ -118,7 +118,7 @@ fn refusal(tokens: &[Token], kinds: &[u8], deep: Option<usize>, place: usize) ->
     requires same { kinds.now ≡ kinds_of tokens.now }
     requires within { place < length kinds.now }
     requires fault { IsFirstFault (IsSentence narrow) kinds.now place }
-    requires deep { deep ≡ first_past (roles_of tokens.now) }
+    requires deep { deep ≡ first_past (bracket_classes_of tokens.now) }
     ensures { IsRefusal tokens.now result }
 {
     match deep {
@@ -138,7 +138,7 @@ fn syntax_fault(tokens: &[Token], kinds: &[u8], place: usize) -> ReadError
     requires same { kinds.now ≡ kinds_of tokens.now }
     requires within { place < length kinds.now }
     requires fault { IsFirstFault (IsSentence narrow) kinds.now place }
-    requires first { (deep : ℕ) → first_past (roles_of tokens.now) ≡ Some deep → place ≤ deep }
+    requires first { (deep : ℕ) → first_past (bracket_classes_of tokens.now) ≡ Some deep → place ≤ deep }
     ensures { IsRefusal tokens.now result }
 {
     ReadError::Syntax(start_of(tokens, place))
@@ -160,31 +160,31 @@ fn kinds(alloc: Global, tokens: &[Token]) -> Result<Vec<u8>, AllocError>
 
 /// The place of the first token that is nested too deep.
 fn too_deep(alloc: Global, tokens: &[Token]) -> Result<Option<usize>, AllocError>
-    ensures { IfOk result (λ place. place ≡ first_past (roles_of tokens.now)) }
+    ensures { IfOk result (λ place. place ≡ first_past (bracket_classes_of tokens.now)) }
 {
-    let roles = roles(alloc, tokens)?;
-    first_over(alloc, &roles)
+    let bracket_classes = bracket_classes(alloc, tokens)?;
+    first_over(alloc, &bracket_classes)
 }
 
-fn roles(alloc: Global, tokens: &[Token]) -> Result<Vec<Role>, AllocError>
-    ensures { IfOk result (λ roles. roles.items ≡ roles_of tokens.now) }
+fn bracket_classes(alloc: Global, tokens: &[Token]) -> Result<Vec<BracketClass>, AllocError>
+    ensures { IfOk result (λ bracket_classes. bracket_classes.items ≡ bracket_classes_of tokens.now) }
 {
     tokens
         .iter()
-        .map(|token| role_of(token.kind()))
+        .map(|token| bracket_class_of(token.kind()))
         .collect(alloc)
 }
 
 /// What a token does to the nesting of those behind it.
-fn role_of(kind: u8) -> Role
-    ensures { result ≡ role_of kind }
+fn bracket_class_of(kind: u8) -> BracketClass
+    ensures { result ≡ bracket_class_of kind }
 {
     match kind {
-        LPAREN | LBRACE | FIELDS => Role::Open,
-        RPAREN | RBRACE => Role::Close,
-        PLUS => Role::Mark,
-        COMMA | SEMI => Role::Stop,
-        PROC => Role::Item,
-        _ => Role::Plain,
+        LPAREN | LBRACE | FIELDS => BracketClass::Open,
+        RPAREN | RBRACE => BracketClass::Close,
+        PLUS => BracketClass::Mark,
+        COMMA | SEMI => BracketClass::Stop,
+        PROC => BracketClass::Item,
+        _ => BracketClass::Plain,
     }
 }

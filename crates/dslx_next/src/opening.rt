@@ -7,4 +7,4 @@ mod work;
 pub use dslx_config::members::outer_type;
 pub use open::open_step;
 pub use opened::{OpenStep, with_shape};
-pub use work::{Conditional, NextKnown, lower};
+pub use work::{Conditional, NextScope, lower};

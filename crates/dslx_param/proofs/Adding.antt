@@ -9,45 +9,45 @@ use Rattle.dslx_machines.specs.Machine.Tasks.{InstanceMachine, OpenBody}
 use Rattle.dslx_machines.proofs.Lemmas.Machine.{reached_by_steps, reached_instance, reached_longer, reached_table}
 use Rattle.dslx_machines.proofs.Lemmas.Progress.Stops.{in_no_table}
 use Rattle.dslx_param.specs.Run.Runs.{MachineRuns, Ends, Lacks}
-use Rattle.dslx_instance.specs.Tasks.Shown.{instance_shown, sight_of}
+use Rattle.dslx_instance.specs.Tasks.Shown.{instance_shown, instance_env_of}
 use Rattle.dslx_instance.specs.declared.tasks.machine.OpenInstance as code
 use Rattle.dslx_param.specs.Made.{Adds, IsMade, IsNone}
 
 -- the machine ended: its table has the instance
-ended : (m : Module) (before : List CoreInstance) (limit : ℕ) (i : Instantiated) (end : InstanceMachine) → MachineRuns (machine_at (sight_of m before) limit (needing i)) end true
-    → IsTable m (meanings_of m) before → Adds m before limit i (Some end.sight.table)
+ended : (m : Module) (before : List CoreInstance) (limit : ℕ) (i : Instantiated) (end : InstanceMachine) → MachineRuns (machine_at (instance_env_of m before) limit (needing i)) end true
+    → IsTable m (meanings_of m) before → Adds m before limit i (Some end.context.table)
 ended m before limit i end (Ends n steps done) is =
-    let reached = reached_by_steps (sight_of m before) (needing i) limit n end is steps in
-    let place = reached_instance (sight_of m before) i end reached done in
-    IsMade end.sight.table (record {
-      is_table = reached_table (sight_of m before) (needing i) end reached;
-      begins = reached_longer (sight_of m before) (needing i) end reached;
+    let reached = reached_by_steps (instance_env_of m before) (needing i) limit n end is steps in
+    let place = reached_instance (instance_env_of m before) i end reached done in
+    IsMade end.context.table (record {
+      is_table = reached_table (instance_env_of m before) (needing i) end reached;
+      begins = reached_longer (instance_env_of m before) (needing i) end reached;
       place = place.0;
       has = place.1;
     })
 
 -- it lacks a step: no table has it
-lacks : (m : Module) (before : List CoreInstance) (limit : ℕ) (i : Instantiated) (end : InstanceMachine) → MachineRuns (machine_at (sight_of m before) limit (needing i)) end false
+lacks : (m : Module) (before : List CoreInstance) (limit : ℕ) (i : Instantiated) (end : InstanceMachine) → MachineRuns (machine_at (instance_env_of m before) limit (needing i)) end false
     → IsTable m (meanings_of m) before → Adds m before limit i None
-lacks m before limit i end (Lacks n machine steps last) is = IsNone (in_no_table (sight_of m before) is limit n i machine steps last)
+lacks m before limit i end (Lacks n machine steps last) is = IsNone (in_no_table (instance_env_of m before) is limit n i machine steps last)
 
 -- the same of a machine whose root needs the instance
 pub adds_made : (m : Module) (before : List CoreInstance) (limit : ℕ) (i : Instantiated) (root : OpenBody) (end : InstanceMachine) → root ≡ needing i
-    → MachineRuns (machine_at (sight_of m before) limit root) end true → IsTable m (meanings_of m) before → Adds m before limit i (Some end.sight.table)
+    → MachineRuns (machine_at (instance_env_of m before) limit root) end true → IsTable m (meanings_of m) before → Adds m before limit i (Some end.context.table)
 adds_made m before limit i root end is runs table =
-    ended m before limit i end (subst (λ (r : OpenBody). MachineRuns (machine_at (sight_of m before) limit r) end true) is runs) table
+    ended m before limit i end (subst (λ (r : OpenBody). MachineRuns (machine_at (instance_env_of m before) limit r) end true) is runs) table
 
 pub adds_none : (m : Module) (before : List CoreInstance) (limit : ℕ) (i : Instantiated) (root : OpenBody) (end : InstanceMachine) → root ≡ needing i
-    → MachineRuns (machine_at (sight_of m before) limit root) end false → IsTable m (meanings_of m) before → Adds m before limit i None
+    → MachineRuns (machine_at (instance_env_of m before) limit root) end false → IsTable m (meanings_of m) before → Adds m before limit i None
 adds_none m before limit i root end is runs table =
-    lacks m before limit i end (subst (λ (r : OpenBody). MachineRuns (machine_at (sight_of m before) limit r) end false) is runs) table
+    lacks m before limit i end (subst (λ (r : OpenBody). MachineRuns (machine_at (instance_env_of m before) limit r) end false) is runs) table
 
 -- nothing is open in the machine where it begins
 pub runs_from : (m : Module) (before : List CoreInstance) (limit : ℕ) (root : OpenBody) (opened : List code.OpenInstance) (end : InstanceMachine) (b ended : Bool) → opened ≡ [] → b ≡ ended
-    → MachineRuns (record { sight = sight_of m before; limit = limit; root = root; opened = map instance_shown opened }) end b → MachineRuns (machine_at (sight_of m before) limit root) end ended
+    → MachineRuns (record { context = instance_env_of m before; limit = limit; root = root; opened = map instance_shown opened }) end b → MachineRuns (machine_at (instance_env_of m before) limit root) end ended
 runs_from m before limit root opened end b ended none is runs =
-    subst (λ (l : List code.OpenInstance). MachineRuns (record { sight = sight_of m before; limit = limit; root = root; opened = map instance_shown l }) end ended) none
-    (subst (MachineRuns (record { sight = sight_of m before; limit = limit; root = root; opened = map instance_shown opened }) end) is runs)
+    subst (λ (l : List code.OpenInstance). MachineRuns (record { context = instance_env_of m before; limit = limit; root = root; opened = map instance_shown l }) end ended) none
+    (subst (MachineRuns (record { context = instance_env_of m before; limit = limit; root = root; opened = map instance_shown opened }) end) is runs)
 
 -- no instances are a table
 pub empty_is_table : (m : Module) → IsTable m (meanings_of m) []

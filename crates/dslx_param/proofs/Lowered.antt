@@ -8,38 +8,38 @@ use Rattle.dslx_meaning.specs.Items.{meanings_of}
 use Rattle.dslx_meaning.specs.Lists.{and_then}
 use Rattle.dslx_core.specs.Lowering.Functions.{CoreInstance}
 use Rattle.dslx_core.specs.Lowering.Lowering.{LoweredExpr}
-use Rattle.dslx_core.specs.Lowering.Trees.{expression_lowered}
-use Rattle.dslx_machines.specs.Machine.Bodies.{place_in}
+use Rattle.dslx_core.specs.Lowering.Trees.{lower_expression}
+use Rattle.dslx_machines.specs.Machine.Bodies.{scope_in}
 use Rattle.dslx_machines.specs.Machine.Machines.{last_made, machine_at}
-use Rattle.dslx_machines.specs.Machine.Reached.{GrownFrom, HasEnded, IsTable, at_table, lowering_alone}
-use Rattle.dslx_machines.specs.Machine.Tasks.{InstanceMachine, InstanceSight, LowersExpr, OpenBody}
+use Rattle.dslx_machines.specs.Machine.Reached.{ExtendsTable, HasEnded, IsTable, at_table, lowering_alone}
+use Rattle.dslx_machines.specs.Machine.Tasks.{InstanceMachine, InstanceEnv, LowersExpr, OpenBody}
 use Rattle.dslx_machines.proofs.Lemmas.Machine.Instances.{MachineStands, begins_itself}
 use Rattle.dslx_machines.proofs.Lemmas.Machine.{reached_by_steps, reached_expression, reached_longer, reached_table}
-use Rattle.dslx_machines.proofs.Lemmas.Machine.Places.{Spot, does_all, end_of, having, makes, spot_of}
+use Rattle.dslx_machines.proofs.Lemmas.Machine.Scopes.{Spot, does_all, end_of, having, makes, spot_of}
 use Rattle.dslx_typing.proofs.Lemmas.Typed.{none_some, same_some}
 use Rattle.dslx_machines.proofs.Lemmas.Progress.Stops.{lowered_by_no_table}
 use Rattle.dslx_param.specs.Run.Runs.{MachineRuns, Ends, Lacks}
-use Rattle.dslx_instance.specs.Tasks.Shown.{machine_shown, sight_of}
+use Rattle.dslx_instance.specs.Tasks.Shown.{machine_shown, instance_env_of}
 use Rattle.dslx_instance.specs.declared.tasks.machine.InstanceMachine as code
 use Rattle.dslx_names.specs.Bound.{given}
-use Rattle.dslx_param.specs.Works.{LowersIn, IsLowered, IsNone, taken_from}
+use Rattle.dslx_param.specs.Works.{LowerResult, IsLowered, IsNone, taken_from}
 use Rattle.dslx_instance.specs.declared.tasks.work.BodyWork.{BodyWork}
 
 -- where a root ends that lowers an expression alone: this was made, and what is bound stays
-pub record EndsWith (sight : InstanceSight) (e : Expr) (body : OpenBody) (m : InstanceMachine) : Type 0 where
+pub record EndsWith (context : InstanceEnv) (e : Expr) (body : OpenBody) (m : InstanceMachine) : Type 0 where
   pub made : LoweredExpr
   pub is_made : m.root.made ≡ made ∷ []
   pub given : m.root.given ≡ body.given
   pub locals : m.root.locals ≡ body.locals
   pub count : m.root.count ≡ body.count
-  pub becomes : (table : List CoreInstance) → GrownFrom table m.sight.table → expression_lowered e (place_in (at_table sight table) body) ≡ Some made
+  pub becomes : (table : List CoreInstance) → ExtendsTable table m.context.table → lower_expression e (scope_in (at_table context table) body) ≡ Some made
 
 -- all that was to be done comes to where the root stands
-root_ends : (began : InstanceSight) (root : OpenBody) (m : InstanceMachine) → MachineStands began root m → HasEnded m → (table : List CoreInstance) → GrownFrom table m.sight.table
+root_ends : (began : InstanceEnv) (root : OpenBody) (m : InstanceMachine) → MachineStands began root m → HasEnded m → (table : List CoreInstance) → ExtendsTable table m.context.table
     → end_of (at_table began table) root ≡ Some (spot_of (at_table began table) m.root)
 root_ends began root m stands ended table begins =
-    subst (λ (s : InstanceSight). end_of s root ≡ Some (spot_of s m.root)) (λ i. record { text = stands.text i; items = stands.items i; table = table })
-    (stands.comes table begins ∙ ap (λ todo. does_all (at_table m.sight table) todo (spot_of (at_table m.sight table) m.root)) ended.root)
+    subst (λ (s : InstanceEnv). end_of s root ≡ Some (spot_of s m.root)) (λ i. record { text = stands.text i; items = stands.items i; table = table })
+    (stands.comes table begins ∙ ap (λ todo. does_all (at_table m.context table) todo (spot_of (at_table m.context table) m.root)) ended.root)
 
 -- an expression that makes a spot of another was made there
 record Made (o : Option LoweredExpr) (spot end : Spot) : Type 0 where
@@ -51,15 +51,15 @@ made_there : (o : Option LoweredExpr) (spot end : Spot) → and_then (makes o sp
 made_there None spot end h = none_some end h
 made_there (Some r) spot end h = record { made = r; is = refl; ends = same_some (having (r ∷ spot.made) spot) end h }
 
-ends_with : (began : InstanceSight) (e : Expr) (body : OpenBody) (m : InstanceMachine) → MachineStands began (lowering_alone e body) m → HasEnded m → EndsWith began e body m
+ends_with : (began : InstanceEnv) (e : Expr) (body : OpenBody) (m : InstanceMachine) → MachineStands began (lowering_alone e body) m → HasEnded m → EndsWith began e body m
 ends_with began e body m stands ended =
-    let first = m.sight.table in
-    let here = made_there (expression_lowered e (place_in (at_table began first) body)) (spot_of (at_table began first) (lowering_alone e body)) (spot_of (at_table began first) m.root)
+    let first = m.context.table in
+    let here = made_there (lower_expression e (scope_in (at_table began first) body)) (spot_of (at_table began first) (lowering_alone e body)) (spot_of (at_table began first) m.root)
     (root_ends began (lowering_alone e body) m stands ended first (begins_itself first)) in
     record {
       made = here.made;
       is_made = sym (ap (λ (p : Spot). p.made) here.ends);
-      given = sym (ap (λ (p : Spot). p.place.known.numbers) here.ends);
+      given = sym (ap (λ (p : Spot). p.place.known.parametric_args) here.ends);
       locals = sym (ap (λ (p : Spot). p.place.locals) here.ends);
       count = sym (ap (λ (p : Spot). p.place.count) here.ends);
       becomes = λ table begins. reached_expression began e body m stands ended table begins ∙ ap last_made (sym (ap (λ (p : Spot). p.made) here.ends));
@@ -76,17 +76,17 @@ turned_back xs ys h = sym (reverse-reverse xs) ∙ ap reverse h ∙ reverse-reve
 
 -- the machine ended
 pub lowers_made : (m : Module) (limit : ℕ) (w : BodyWork) (e : Expr) (x : code.InstanceMachine) (o : Option (LoweredExpr × BodyWork))
-    → MachineRuns (machine_at (sight_of m w.table) limit (root_of w e)) (machine_shown x) true → IsTable m (meanings_of m) w.table → o ≡ taken_from x.table x.root x.root.made → LowersIn m limit w e o
+    → MachineRuns (machine_at (instance_env_of m w.table) limit (root_of w e)) (machine_shown x) true → IsTable m (meanings_of m) w.table → o ≡ taken_from x.table x.root x.root.made → LowerResult m limit w e o
 lowers_made m limit w e x o (Ends n steps done) is h =
-    let began = sight_of m w.table in
+    let began = instance_env_of m w.table in
     let reached = reached_by_steps began (root_of w e) limit n (machine_shown x) is steps in
     let ends = ends_with began e (root_of w e) (machine_shown x) reached done in
-    subst (LowersIn m limit w e) (sym (h ∙ ap (taken_from x.table x.root) ends.is_made))
+    subst (LowerResult m limit w e) (sym (h ∙ ap (taken_from x.table x.root) ends.is_made))
     (IsLowered ends.made (record { table = x.table; given = x.root.given; locals = x.root.locals; count = x.root.count })
     (reached_table began (root_of w e) (machine_shown x) reached) (reached_longer began (root_of w e) (machine_shown x) reached)
     (turned_back (map given x.root.given.items) (map given w.given.items) ends.given) ends.locals ends.count ends.becomes)
 
 -- it lacks a step
-pub lowers_none : (m : Module) (limit : ℕ) (w : BodyWork) (e : Expr) (end : InstanceMachine) → MachineRuns (machine_at (sight_of m w.table) limit (root_of w e)) end false
-    → IsTable m (meanings_of m) w.table → LowersIn m limit w e None
-lowers_none m limit w e end (Lacks n machine steps last) is = IsNone (lowered_by_no_table (sight_of m w.table) is limit n e (root_of w e) machine steps last)
+pub lowers_none : (m : Module) (limit : ℕ) (w : BodyWork) (e : Expr) (end : InstanceMachine) → MachineRuns (machine_at (instance_env_of m w.table) limit (root_of w e)) end false
+    → IsTable m (meanings_of m) w.table → LowerResult m limit w e None
+lowers_none m limit w e end (Lacks n machine steps last) is = IsNone (lowered_by_no_table (instance_env_of m w.table) is limit n e (root_of w e) machine steps last)

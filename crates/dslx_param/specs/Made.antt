@@ -3,19 +3,19 @@ use Rattle.std.specs.Prelude.{◌≡◌, ℕ, List, Option, None, Some}
 use Rattle.dslx_tree.specs.declared.item.Module.{Module}
 use Rattle.dslx_meaning.specs.Items.{meanings_of}
 use Rattle.dslx_core.specs.Lowering.Functions.{CoreInstance, Instantiated, instance_in}
-use Rattle.dslx_machines.specs.Machine.Reached.{GrownFrom, IsTable}
-use Rattle.dslx_instance.specs.Tasks.Shown.{sight_of}
+use Rattle.dslx_machines.specs.Machine.Reached.{ExtendsTable, IsTable}
+use Rattle.dslx_instance.specs.Tasks.Shown.{instance_env_of}
 use Rattle.dslx_machines.specs.Progress.Missing.{InNoTable}
 
 -- a table of a text's instances that begins with another, and has an instance
 pub record HasInstance (m : Module) (before : List CoreInstance) (i : Instantiated) (table : List CoreInstance) : Type 0 where
   pub is_table : IsTable m (meanings_of m) table
-  pub begins : GrownFrom table before
+  pub begins : ExtendsTable table before
   pub place : ℕ × CoreInstance
-  pub has : instance_in i.name i.numbers 0 table ≡ Some place
+  pub has : instance_in i.name i.parametric_args 0 table ≡ Some place
 
 -- what comes of an instance that is asked for, where the table has those before it: no table of at most so many instances has it,
 -- or there is one, which is given
 pub data Adds (m : Module) (before : List CoreInstance) (limit : ℕ) (i : Instantiated) : Option (List CoreInstance) → Type 0 where
-  IsNone : InNoTable (sight_of m before) limit i → Adds m before limit i None
+  IsNone : InNoTable (instance_env_of m before) limit i → Adds m before limit i None
   IsMade : (table : List CoreInstance) → HasInstance m before i table → Adds m before limit i (Some table)

@@ -6,19 +6,19 @@ use Rattle.dslx_meaning.specs.Items.{meanings_of}
 use Rattle.dslx_names.specs.Bound.{given}
 use Rattle.dslx_core.specs.Lowering.Functions.{CoreInstance}
 use Rattle.dslx_core.specs.Lowering.Lowering.{LoweredExpr}
-use Rattle.dslx_core.specs.Lowering.Trees.{expression_lowered}
-use Rattle.dslx_machines.specs.Machine.Reached.{GrownFrom, IsTable}
+use Rattle.dslx_core.specs.Lowering.Trees.{lower_expression}
+use Rattle.dslx_machines.specs.Machine.Reached.{ExtendsTable, IsTable}
 use Rattle.dslx_instance.specs.declared.tasks.body.OpenBody.{OpenBody}
-use Rattle.dslx_instance.specs.Tasks.Works.{work_place}
+use Rattle.dslx_instance.specs.Tasks.Works.{work_scope}
 use Rattle.dslx_instance.specs.declared.tasks.work.BodyWork.{BodyWork}
 
 -- what an expression becomes, with the instances that are made then: it becomes nothing by any table of at most so many instances,
 -- or this by each that begins with theirs, and what is bound stays as it is
-pub data LowersIn (m : Module) (limit : ℕ) (w : BodyWork) (e : Expr) : Option (LoweredExpr × BodyWork) → Type 0 where
-  IsNone : ((table : List CoreInstance) → IsTable m (meanings_of m) table → length table ≤ limit → expression_lowered e (work_place m table w) ≡ None) → LowersIn m limit w e None
-  IsLowered : (r : LoweredExpr) (after : BodyWork) → IsTable m (meanings_of m) after.table → GrownFrom after.table w.table
+pub data LowerResult (m : Module) (limit : ℕ) (w : BodyWork) (e : Expr) : Option (LoweredExpr × BodyWork) → Type 0 where
+  IsNone : ((table : List CoreInstance) → IsTable m (meanings_of m) table → length table ≤ limit → lower_expression e (work_scope m table w) ≡ None) → LowerResult m limit w e None
+  IsLowered : (r : LoweredExpr) (after : BodyWork) → IsTable m (meanings_of m) after.table → ExtendsTable after.table w.table
       → map given after.given.items ≡ map given w.given.items → after.locals ≡ w.locals → after.count ≡ w.count
-      → ((table : List CoreInstance) → GrownFrom table after.table → expression_lowered e (work_place m table w) ≡ Some r) → LowersIn m limit w e (Some (r, after))
+      → ((table : List CoreInstance) → ExtendsTable table after.table → lower_expression e (work_scope m table w) ≡ Some r) → LowerResult m limit w e (Some (r, after))
 
 -- ---- within the crate
 

@@ -3,7 +3,7 @@
 ghost use Rattle.std.specs.Prelude.{◌≡◌, IfOk};
 ghost use Rattle.dslx_meaning.specs.Items.{meanings_of};
 ghost use Rattle.dslx_machines.specs.Machine.Reached.{IsTable};
-ghost use Rattle.dslx_param.specs.Works.{LowersIn, taken_from};
+ghost use Rattle.dslx_param.specs.Works.{LowerResult, taken_from};
 
 use crate::run::run;
 use base::stacks::Stack;
@@ -23,7 +23,7 @@ pub fn lower_in<'a>(
     work: BodyWork<'a>,
     expr: &'a Expr,
 ) -> Result<Option<(LoweredExpr, BodyWork<'a>)>, AllocError>
-    ensures { IsTable text.now (meanings_of text.now) work.entry.table → IfOk result (λ o. LowersIn text.now limit work.entry expr.now o) }
+    ensures { IsTable text.now (meanings_of text.now) work.entry.table → IfOk result (λ o. LowerResult text.now limit work.entry expr.now o) }
 {
     let mut todo = Stack::new(alloc);
     todo.push(LowerTask::Expr(expr))?;

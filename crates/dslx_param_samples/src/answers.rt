@@ -100,7 +100,7 @@ fn last_instances(alloc: Global, text: &str) -> Result<Option<InstanceTable>, Fa
         Some(name) => {
             let wanted = Instantiated {
                 name: Name::from_string(String::from_str(alloc, name)?),
-                numbers: Seq::new(alloc),
+                parametric_args: Seq::new(alloc),
             };
             Ok(instance(alloc, &parsed.module, LIMIT, wanted)?)
         }

@@ -1,4 +1,4 @@
-//! Functions that call functions, with number parameters and without, and constants.
+//! Functions that call functions, with parametrics and without, and constants.
 
 use crate::answers::first_not_true;
 use std::test::Fail;
@@ -21,7 +21,7 @@ fn f(x: u8) -> (u8, u8) { (x + u8:1, x) } fn a() -> bool { let (y, z) = f(u8:3);
 fn f(x: ()) -> u8 { u8:3 } fn a() -> bool { f(()) == u8:3 }
 ";
 
-/// Number parameters that are given, inferred or left to a default, which sees those before it.
+/// Parametrics that are given, inferred or left to a default, which sees those before it.
 const PARAMETERS: &str = "
 fn f<N: u32>(x: u8) -> u32 { N } fn a() -> bool { f<u32:9>(u8:1) == u32:9 }
 fn f<N: u32, M: u32>(x: u8) -> u32 { N - M } fn a() -> bool { f<u32:9, u32:4>(u8:1) == u32:5 }
@@ -64,7 +64,7 @@ fn calls_bind_their_arguments_in_order(rt: HostRuntime) -> Result<(), Fail> {
 }
 
 #[test]
-fn parameters_are_given_inferred_or_defaults(rt: HostRuntime) -> Result<(), Fail> {
+fn parametrics_are_given_inferred_or_defaults(rt: HostRuntime) -> Result<(), Fail> {
     let odd = first_not_true(rt.alloc(), PARAMETERS)?;
     assert_eq!(rt; odd, "");
     Ok(())

@@ -1,4 +1,4 @@
-//! How many instances a function comes to: one for each name and list of number arguments.
+//! How many instances a function comes to: one for each name and list of parametric arguments.
 
 use crate::answers::first_not_of;
 use std::test::Fail;
@@ -40,14 +40,14 @@ fn what_is_not_called_has_no_instance(rt: HostRuntime) -> Result<(), Fail> {
 }
 
 #[test]
-fn calls_with_the_same_numbers_come_to_one(rt: HostRuntime) -> Result<(), Fail> {
+fn calls_with_the_same_parametric_args_come_to_one(rt: HostRuntime) -> Result<(), Fail> {
     let odd = first_not_of(rt.alloc(), 2, TWO)?;
     assert_eq!(rt; odd, "");
     Ok(())
 }
 
 #[test]
-fn calls_with_other_numbers_come_to_others(rt: HostRuntime) -> Result<(), Fail> {
+fn calls_with_other_parametric_args_come_to_others(rt: HostRuntime) -> Result<(), Fail> {
     let odd = first_not_of(rt.alloc(), 3, THREE)?;
     assert_eq!(rt; odd, "");
     Ok(())

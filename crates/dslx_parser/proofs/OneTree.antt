@@ -16,7 +16,7 @@ use Rattle.dslx_parser.specs.Builder.Building.{built, module_of}
 use Rattle.dslx_parser.specs.Syntax.Trees.{IsTextOf}
 use Rattle.dslx_actions.specs.Empty.{empty}
 use Rattle.dslx_parser.specs.Reads.{HasDeep, deep_in_text, deep_before_fault, FaultsAt, IsRefusal, HasFaultAt, HasTooDeep, NestsWithin, Reads, before, kinds_of}
-use Rattle.dslx_token.specs.Roles.Roles.{roles_of}
+use Rattle.dslx_token.specs.BracketClasses.BracketClasses.{bracket_classes_of}
 use Rattle.xb_span.specs.Nesting.Nesting.{first_past}
 use Rattle.xb_span.specs.declared.limit.What.TheVariants.{Nesting}
 use Rattle.base.proofs.Lemmas.Lists.Faults.{IsFirstFault-unique}
@@ -50,9 +50,9 @@ none_or_some o deep none some = let both : None ≡ Some deep = sym none ∙ som
 -- tokens within the limit have none that is nested too deep
 pub deep_or_within : (ls : List Lexeme) → HasDeep ls → NestsWithin ls → ⊥
 deep_or_within ls (deep_in_text ps deep derived passed) within =
-    none_or_some (first_past (roles_of ps (kinds_of ls))) deep (within.in_text ps derived) passed
+    none_or_some (first_past (bracket_classes_of ps (kinds_of ls))) deep (within.in_text ps derived) passed
 deep_or_within ls (deep_before_fault place ps deep fault beginning passed) within =
-    none_or_some (first_past (roles_of ps (before place ls))) deep (within.before_fault place ps fault beginning) passed
+    none_or_some (first_past (bracket_classes_of ps (before place ls))) deep (within.before_fault place ps fault beginning) passed
 
 -- what is answered for tokens that read as a tree
 pub only_answer : TheLaws → (ls : List Lexeme) (r : Result Module ReadError) → IfOk r (λ m. Reads ls m) → IfErr r (λ e. IsRefusal ls e) → (m : Module) → Reads ls m → NestsWithin ls → MatchResult r (λ found. found ≡ m) (λ e. e ≡ OutOfMemory)
@@ -75,17 +75,17 @@ tree_reads made ls ps steps f (Err x) tree e is = tt
 abbrev pub OneDerivation : Type 0
 OneDerivation = (ps qs ts : List ℕ) → IsDerivation dslx ps ts → IsDerivation dslx qs ts → ps ≡ qs
 
-pub sentence_within : OneDerivation → (ls : List Lexeme) (ps kinds : List ℕ) → kinds ≡ kinds_of ls → IsDerivation dslx ps (kinds_of ls) → None ≡ first_past (roles_of ps kinds) → NestsWithin ls
+pub sentence_within : OneDerivation → (ls : List Lexeme) (ps kinds : List ℕ) → kinds ≡ kinds_of ls → IsDerivation dslx ps (kinds_of ls) → None ≡ first_past (bracket_classes_of ps kinds) → NestsWithin ls
 sentence_within one ls ps kinds same derived none =
-    let here : first_past (roles_of ps (kinds_of ls)) ≡ None = sym (none ∙ ap (λ (ks : List ℕ). first_past (roles_of ps ks)) same) in
+    let here : first_past (bracket_classes_of ps (kinds_of ls)) ≡ None = sym (none ∙ ap (λ (ks : List ℕ). first_past (bracket_classes_of ps ks)) same) in
     record {
-      in_text = λ qs also. subst (λ rs. first_past (roles_of rs (kinds_of ls)) ≡ None) (one ps qs (kinds_of ls) derived also) here;
+      in_text = λ qs also. subst (λ rs. first_past (bracket_classes_of rs (kinds_of ls)) ≡ None) (one ps qs (kinds_of ls) derived also) here;
       before_fault = λ place qs fault beginning. absurd (fault.none (ps, derived));
     }
 
-pub sentence_deep : (ls : List Lexeme) (ps kinds : List ℕ) (deep : ℕ) → kinds ≡ kinds_of ls → IsDerivation dslx ps (kinds_of ls) → Some deep ≡ first_past (roles_of ps kinds) → HasTooDeep ls (record { what = Nesting; found = 129; most = 128 })
+pub sentence_deep : (ls : List Lexeme) (ps kinds : List ℕ) (deep : ℕ) → kinds ≡ kinds_of ls → IsDerivation dslx ps (kinds_of ls) → Some deep ≡ first_past (bracket_classes_of ps kinds) → HasTooDeep ls (record { what = Nesting; found = 129; most = 128 })
 sentence_deep ls ps kinds deep same derived some = record {
-  deep = deep_in_text ps deep derived (sym (some ∙ ap (λ (ks : List ℕ). first_past (roles_of ps ks)) same));
+  deep = deep_in_text ps deep derived (sym (some ∙ ap (λ (ks : List ℕ). first_past (bracket_classes_of ps ks)) same));
   limit_is = refl;
 }
 
@@ -94,21 +94,21 @@ sentence_deep ls ps kinds deep same derived some = record {
 abbrev pub OneBeginning : Type 0
 OneBeginning = (ps qs ts : List ℕ) → IsBeginning dslx ps ts → IsBeginning dslx qs ts → ps ≡ qs
 
-pub fault_within : OneBeginning → (ls : List Lexeme) (place : ℕ) (ps kinds : List ℕ) → kinds ≡ before place ls → FaultsAt ls place → IsBeginning dslx ps (before place ls) → None ≡ first_past (roles_of ps kinds) → NestsWithin ls
+pub fault_within : OneBeginning → (ls : List Lexeme) (place : ℕ) (ps kinds : List ℕ) → kinds ≡ before place ls → FaultsAt ls place → IsBeginning dslx ps (before place ls) → None ≡ first_past (bracket_classes_of ps kinds) → NestsWithin ls
 fault_within one ls place ps kinds same fault beginning none =
-    let here : first_past (roles_of ps (before place ls)) ≡ None = sym (none ∙ ap (λ (ks : List ℕ). first_past (roles_of ps ks)) same) in
+    let here : first_past (bracket_classes_of ps (before place ls)) ≡ None = sym (none ∙ ap (λ (ks : List ℕ). first_past (bracket_classes_of ps ks)) same) in
     record {
       in_text = λ qs derived. absurd (fault.none (qs, derived));
       before_fault = λ other qs also begins.
           let at : place ≡ other = IsFirstFault-unique (IsSentence dslx) (kinds_of ls) place other fault also in
           let begun : IsBeginning dslx qs (before place ls) = subst (λ p. IsBeginning dslx qs (before p ls)) (sym at) begins in
-          subst (λ p. first_past (roles_of qs (before p ls)) ≡ None) at
-          (subst (λ rs. first_past (roles_of rs (before place ls)) ≡ None) (one ps qs (before place ls) beginning begun) here);
+          subst (λ p. first_past (bracket_classes_of qs (before p ls)) ≡ None) at
+          (subst (λ rs. first_past (bracket_classes_of rs (before place ls)) ≡ None) (one ps qs (before place ls) beginning begun) here);
     }
 
-pub fault_deep : (ls : List Lexeme) (place : ℕ) (ps kinds : List ℕ) (deep : ℕ) → kinds ≡ before place ls → FaultsAt ls place → IsBeginning dslx ps (before place ls) → Some deep ≡ first_past (roles_of ps kinds) → HasTooDeep ls (record { what = Nesting; found = 129; most = 128 })
+pub fault_deep : (ls : List Lexeme) (place : ℕ) (ps kinds : List ℕ) (deep : ℕ) → kinds ≡ before place ls → FaultsAt ls place → IsBeginning dslx ps (before place ls) → Some deep ≡ first_past (bracket_classes_of ps kinds) → HasTooDeep ls (record { what = Nesting; found = 129; most = 128 })
 fault_deep ls place ps kinds deep same fault beginning some = record {
-  deep = deep_before_fault place ps deep fault beginning (sym (some ∙ ap (λ (ks : List ℕ). first_past (roles_of ps ks)) same));
+  deep = deep_before_fault place ps deep fault beginning (sym (some ∙ ap (λ (ks : List ℕ). first_past (bracket_classes_of ps ks)) same));
   limit_is = refl;
 }
 

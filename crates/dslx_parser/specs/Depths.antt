@@ -1,2 +1,2 @@
 -- how high a tree is
-pub mod Heights
+pub mod TreeDepths

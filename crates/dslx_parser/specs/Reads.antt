@@ -4,7 +4,7 @@ use Rattle.grammar.specs.Derivation.{IsBeginning, IsDerivation, IsSentence}
 use Rattle.base.specs.Lists.Fault.{IsFirstFault}
 use Rattle.xb_span.specs.Nesting.Nesting.{first_past}
 use Rattle.dslx_token.specs.Rules.Dslx.{dslx}
-use Rattle.dslx_token.specs.Roles.Roles.{roles_of}
+use Rattle.dslx_token.specs.BracketClasses.BracketClasses.{bracket_classes_of}
 use Rattle.dslx_tree.specs.declared.item.Module.{Module}
 use Rattle.dslx_token.specs.Lexeme.{Lexeme}
 use Rattle.dslx_token.specs.Refusal as token_refusal
@@ -32,13 +32,13 @@ before place ls = take place (kinds_of ls)
 
 -- No token is nested deeper than the limit, of all of them, or of those before the first one with which no text goes on.
 pub record NestsWithin (ls : List Lexeme) : Type 0 where
-  pub in_text : (ps : List ℕ) → IsDerivation dslx ps (kinds_of ls) → first_past (roles_of ps (kinds_of ls)) ≡ None
-  pub before_fault : (place : ℕ) (ps : List ℕ) → FaultsAt ls place → IsBeginning dslx ps (before place ls) → first_past (roles_of ps (before place ls)) ≡ None
+  pub in_text : (ps : List ℕ) → IsDerivation dslx ps (kinds_of ls) → first_past (bracket_classes_of ps (kinds_of ls)) ≡ None
+  pub before_fault : (place : ℕ) (ps : List ℕ) → FaultsAt ls place → IsBeginning dslx ps (before place ls) → first_past (bracket_classes_of ps (before place ls)) ≡ None
 
 -- Some token is nested too deep, and may stand there, as all those before it.
 pub data HasDeep (ls : List Lexeme) : Type 0 where
-  deep_in_text : (ps : List ℕ) (deep : ℕ) → IsDerivation dslx ps (kinds_of ls) → first_past (roles_of ps (kinds_of ls)) ≡ Some deep → HasDeep ls
-  deep_before_fault : (place : ℕ) (ps : List ℕ) (deep : ℕ) → FaultsAt ls place → IsBeginning dslx ps (before place ls) → first_past (roles_of ps (before place ls)) ≡ Some deep → HasDeep ls
+  deep_in_text : (ps : List ℕ) (deep : ℕ) → IsDerivation dslx ps (kinds_of ls) → first_past (bracket_classes_of ps (kinds_of ls)) ≡ Some deep → HasDeep ls
+  deep_before_fault : (place : ℕ) (ps : List ℕ) (deep : ℕ) → FaultsAt ls place → IsBeginning dslx ps (before place ls) → first_past (bracket_classes_of ps (before place ls)) ≡ Some deep → HasDeep ls
 
 -- The token there begins at this byte, with no text of the grammar going on, and none before it is nested too deep.
 pub record HasFaultAt (ls : List Lexeme) (at : ℕ) : Type 0 where

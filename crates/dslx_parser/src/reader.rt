@@ -6,14 +6,14 @@ ghost use Rattle.grammar.specs.Derivation.{IsBeginning, IsDerivation, IsSentence
 ghost use Rattle.base.specs.Lists.Fault.{IsFirstFault};
 ghost use Rattle.xb_span.specs.Nesting.Nesting.{first_past};
 ghost use Rattle.dslx_token.specs.Rules.Dslx.{dslx};
-ghost use Rattle.dslx_token.specs.Roles.Roles.{roles_of};
+ghost use Rattle.dslx_token.specs.BracketClasses.BracketClasses.{bracket_classes_of};
 ghost use Rattle.dslx_tree.specs.declared.item.Module.{Module};
 ghost use Rattle.dslx_parser.specs.Reads.{IsRefusal, NestsWithin, Reads, kinds_of};
 ghost use Rattle.xb_span.specs.declared.read_error.ReadError.TheVariants.{OutOfMemory};
 
 use crate::builder::build;
 use dslx_token::Token;
-use dslx_token::roles::roles;
+use dslx_token::bracket_classes::bracket_classes;
 use dslx_token::rules::kind::END;
 use dslx_tree::Module;
 use grammar::ParseError;
@@ -104,7 +104,7 @@ fn nested(
 ) -> Result<Module, ReadError>
     requires same { kinds.now ≡ kinds_of tokens.now }
     requires derived { IsDerivation dslx productions.now kinds.now }
-    requires deep { deep ≡ first_past (roles_of productions.now kinds.now) }
+    requires deep { deep ≡ first_past (bracket_classes_of productions.now kinds.now) }
     ensures reads { IfOk result (λ m. Reads tokens.now m) }
     ensures within { IfOk result (λ _. NestsWithin tokens.now) }
     ensures refused { IfErr result (λ e. IsRefusal tokens.now e) }
@@ -139,7 +139,7 @@ fn tree(
 fn nests_within(tokens: &[Token], kinds: &[u8], productions: &[u16])
     requires same { kinds.now ≡ kinds_of tokens.now }
     requires derived { IsDerivation dslx productions.now kinds.now }
-    requires none { None ≡ first_past (roles_of productions.now kinds.now) }
+    requires none { None ≡ first_past (bracket_classes_of productions.now kinds.now) }
     ensures { NestsWithin tokens.now }
 {
     dslx_token::rules::one_derivation();
@@ -149,7 +149,7 @@ fn nests_within(tokens: &[Token], kinds: &[u8], productions: &[u16])
 fn depth_fault(tokens: &[Token], kinds: &[u8], productions: &[u16], deep: usize) -> ReadError
     requires same { kinds.now ≡ kinds_of tokens.now }
     requires derived { IsDerivation dslx productions.now kinds.now }
-    requires deep { Some deep ≡ first_past (roles_of productions.now kinds.now) }
+    requires deep { Some deep ≡ first_past (bracket_classes_of productions.now kinds.now) }
     ensures { IsRefusal tokens.now result }
 {
     ReadError::Over(NESTING)
@@ -208,7 +208,7 @@ fn first_fault(
     requires inside { place < length kinds.now }
     requires fault { IsFirstFault (IsSentence dslx) kinds.now place }
     requires so_far { IsBeginning dslx productions.now (take place kinds.now) }
-    requires deep { deep ≡ first_past (roles_of productions.now front.now) }
+    requires deep { deep ≡ first_past (bracket_classes_of productions.now front.now) }
     ensures { IsRefusal tokens.now result }
 {
     match deep {
@@ -232,7 +232,7 @@ fn nests_within_before(
     requires front { front.now ≡ take place kinds.now }
     requires fault { IsFirstFault (IsSentence dslx) kinds.now place }
     requires so_far { IsBeginning dslx productions.now (take place kinds.now) }
-    requires none { None ≡ first_past (roles_of productions.now front.now) }
+    requires none { None ≡ first_past (bracket_classes_of productions.now front.now) }
     ensures { NestsWithin tokens.now }
 {
     dslx_token::rules::one_beginning();
@@ -251,7 +251,7 @@ fn depth_fault_before(
     requires front { front.now ≡ take place kinds.now }
     requires fault { IsFirstFault (IsSentence dslx) kinds.now place }
     requires so_far { IsBeginning dslx productions.now (take place kinds.now) }
-    requires deep { Some deep ≡ first_past (roles_of productions.now front.now) }
+    requires deep { Some deep ≡ first_past (bracket_classes_of productions.now front.now) }
     ensures { IsRefusal tokens.now result }
 {
     ReadError::Over(NESTING)
@@ -284,8 +284,8 @@ fn kinds(alloc: Global, tokens: &[Token]) -> Result<Vec<u8>, AllocError>
 
 /// The place of the first token that is nested too deep, of those to which the productions lead.
 fn too_deep(alloc: Global, productions: &[u16], kinds: &[u8]) -> Result<Option<usize>, AllocError>
-    ensures { IfOk result (λ place. place ≡ first_past (roles_of productions.now kinds.now)) }
+    ensures { IfOk result (λ place. place ≡ first_past (bracket_classes_of productions.now kinds.now)) }
 {
-    let roles = roles(alloc, productions, kinds)?;
-    first_over(alloc, &roles)
+    let bracket_classes = bracket_classes(alloc, productions, kinds)?;
+    first_over(alloc, &bracket_classes)
 }

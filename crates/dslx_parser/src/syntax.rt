@@ -3,9 +3,9 @@
 //! There is no code here but laws: the definitions in `specs/` are for what reads and prints texts.
 ghost use Rattle.std.specs.Prelude.{◌≡◌, map};
 ghost use Rattle.dslx_token.specs.Rules.Dslx.{dslx};
-ghost use Rattle.dslx_parser.specs.Syntax.Trees.{making_rules, rule_of};
+ghost use Rattle.dslx_parser.specs.Syntax.Trees.{semantic_actions, rule_of};
 
 /// The rules that make parts are those of the grammar, in its order.
 pub fn all_rules_make()
-    ensures { map rule_of making_rules ≡ dslx.rules }
+    ensures { map rule_of semantic_actions ≡ dslx.rules }
 {}

@@ -1,7 +1,7 @@
 //! What is answered for texts, compared with tables.
 
 use dslx_parser::read;
-use dslx_shape::{placed_shape, shape};
+use dslx_shape::{spanned_shape, shape};
 use std::alloc::Global;
 use std::test::Fail;
 
@@ -12,7 +12,7 @@ pub struct Frame<'a> {
     pub shape_before: &'a str,
     pub shape_behind: &'a str,
     /// Whether shapes have places.
-    pub is_placed: bool,
+    pub has_spans: bool,
 }
 
 /// For tables of whole texts.
@@ -21,7 +21,7 @@ pub const WHOLE: Frame<'static> = Frame {
     behind: "",
     shape_before: "",
     shape_behind: "",
-    is_placed: false,
+    has_spans: false,
 };
 
 /// The first line of a table for which something else is answered than stands below it, with what is answered; nothing
@@ -46,7 +46,7 @@ pub fn first_odd(alloc: Global, table: &str, frame: &Frame<'_>) -> Result<String
 fn odd_answer(alloc: Global, text: &str, shape: &str, frame: &Frame<'_>) -> Result<String, Fail> {
     let (before, behind) = (frame.before, frame.behind);
     let framed = format!(in alloc; "{before}{text}{behind}")?;
-    let found = answer(alloc, framed.as_str(), frame.is_placed)?;
+    let found = answer(alloc, framed.as_str(), frame.has_spans)?;
     let (before, behind) = (frame.shape_before, frame.shape_behind);
     let wanted = format!(in alloc; "{before}{shape}{behind}")?;
     if found.as_str() == wanted.as_str() {
@@ -57,14 +57,14 @@ fn odd_answer(alloc: Global, text: &str, shape: &str, frame: &Frame<'_>) -> Resu
 }
 
 /// The shape of the text's tree, with the places of its parts where they are wanted, or its refusal.
-pub fn answer(alloc: Global, text: &str, is_placed: bool) -> Result<String, Fail> {
+pub fn answer(alloc: Global, text: &str, has_spans: bool) -> Result<String, Fail> {
     if text.len() >= 4_294_967_296 {
         return Err(Fail::from("long"));
     }
     match read(alloc, text) {
         Err(error) => Ok(format!(in alloc; "{error}")?),
-        Ok(parsed) => if is_placed {
-            Ok(placed_shape(alloc, &parsed.module)?)
+        Ok(parsed) => if has_spans {
+            Ok(spanned_shape(alloc, &parsed.module)?)
         } else {
             Ok(shape(alloc, &parsed.module)?)
         },

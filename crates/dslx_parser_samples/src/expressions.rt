@@ -229,7 +229,7 @@ const FRAME: Frame<'static> = Frame {
     behind: "; fn f() {} struct S { x: u8 } type T = u8; fn B() {} struct B {}",
     shape_before: "(const A = ",
     shape_behind: ") (fn f (block)) (struct S x : u8) (type T = u8) (fn B (block)) (struct B)",
-    is_placed: false,
+    has_spans: false,
 };
 
 #[test]

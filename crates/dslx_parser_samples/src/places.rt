@@ -40,7 +40,7 @@ const PLACED: Frame<'static> = Frame {
     behind: "",
     shape_before: "",
     shape_behind: "",
-    is_placed: true,
+    has_spans: true,
 };
 
 #[test]

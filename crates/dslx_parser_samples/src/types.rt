@@ -45,7 +45,7 @@ const TYPE: Frame<'static> = Frame {
     behind: ";",
     shape_before: "(type T = ",
     shape_behind: ")",
-    is_placed: false,
+    has_spans: false,
 };
 
 const PATTERNS: &str = "
@@ -86,7 +86,7 @@ const PATTERN: Frame<'static> = Frame {
     behind: " => 1 }; type T = u8;",
     shape_before: "(const A = (match x (arm a ",
     shape_behind: " => 1))) (type T = u8)",
-    is_placed: false,
+    has_spans: false,
 };
 
 #[test]

@@ -33,7 +33,7 @@ proc P { b: chan<u8> out; config(b: chan<u8> out) { (b,) } init { u8:1 } next(s:
 proc P { a: chan<u8> in; b: chan<u8> out; config(a: chan<u8> in, b: chan<u8> out) { (a, b) } init { u1:0 } next(s: u1) { let (_, x) = recv_if(join(), a, s, u8:42); let t = send_if(join(), b, !s, x); !s } } // 1>0x2a 0x1
 ";
 
-/// Number parameters, each of which is 3, constants, and functions with their instances.
+/// Parametrics, each of which is 3, constants, and functions with their instances.
 const CALLS: &str = "
 const K = u8:9; proc P { config() { () } init { K } next(s: u8) { s + K } } // 0x12
 fn f(x: u8) -> u8 { x * u8:2 } proc P { config() { () } init { u8:3 } next(s: u8) { f(f(s)) + f(s) } } // 0x12
@@ -113,7 +113,7 @@ fn what_is_off_receives_and_sends_nothing(rt: HostRuntime) -> Result<(), Fail> {
 }
 
 #[test]
-fn functions_are_called_with_their_numbers(rt: HostRuntime) -> Result<(), Fail> {
+fn functions_are_called_with_their_parametric_args(rt: HostRuntime) -> Result<(), Fail> {
     let odd = first_odd(rt.alloc(), CALLS)?;
     assert_eq!(rt; odd, "");
     Ok(())

@@ -1,4 +1,4 @@
-//! The instances of a text's procs without number parameters, in the order of the text.
+//! The instances of a text's procs without parametrics, in the order of the text.
 
 ghost use Rattle.std.specs.Prelude.{IfOk};
 ghost use Rattle.dslx_machines.specs.Machine.Reached.{IsTable};
@@ -22,7 +22,7 @@ use xb_value::Seq;
 /// More instances than any text here comes to.
 const LIMIT: usize = 1024;
 
-/// All instances of the text's procs: a proc with number parameters has one with a 3 for each of them. `None` where one of them becomes
+/// All instances of the text's procs: a proc with parametrics has one with a 3 for each of them. `None` where one of them becomes
 /// nothing.
 pub fn instances(alloc: Global, text: &str) -> Result<Option<MadeInstances>, Fail> {
     if text.len() >= 4_294_967_296 {
@@ -75,15 +75,15 @@ fn item_of(
     }
 }
 
-/// The instance of a proc with a 3 for each of its number parameters.
+/// The instance of a proc with a 3 for each of its parametrics.
 fn wanted(alloc: Global, process: &Proc) -> Result<Instantiated, AllocError> {
-    let mut numbers = Vec::new(alloc);
-    for _ in 0..process.parameters.len() {
-        numbers.push(DslxValue::Bits(false, Bits::new(32, 3)))?;
+    let mut parametric_args = Vec::new(alloc);
+    for _ in 0..process.parametrics.len() {
+        parametric_args.push(DslxValue::Bits(false, Bits::new(32, 3)))?;
     }
     Ok(Instantiated {
         name: Name::from_string(String::from_str(alloc, process.name.name.as_str())?),
-        numbers: Seq::from_vec(numbers),
+        parametric_args: Seq::from_vec(parametric_args),
     })
 }
 

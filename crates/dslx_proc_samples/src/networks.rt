@@ -7,7 +7,7 @@ use std::alloc::{AllocError, Global};
 use std::test::Fail;
 
 /// Behind each text: the name and the depth of each channel that the last proc makes, the number of the instance that it spawns with the
-/// ends that it gives, the ends of its members, and how many ends it is given. A number parameter is 3.
+/// ends that it gives, the ends of its members, and how many ends it is given. A parametric is 3.
 const NETWORKS: &str = "
 proc P { config() { () } init { () } next(s: ()) { s } } // made; spawned; members; given 0
 proc P { a: chan<u8> in; b: chan<u8> out; config(a: chan<u8> in, b: chan<u8> out) { (a, b) } init { () } next(s: ()) { s } } // made; spawned; members 0 1; given 2
@@ -70,7 +70,7 @@ fn shown(alloc: Global, instance: &Instance) -> Result<String, AllocError> {
     text.push_str("; spawned")?;
     push_children(&mut text, instance.children.as_slice())?;
     text.push_str("; members")?;
-    push_numbers(&mut text, " ", instance.members.as_slice())?;
+    push_parametric_args(&mut text, " ", instance.members.as_slice())?;
     text.push_str("; given ")?;
     push_decimal(&mut text, instance.ends)?;
     Ok(text)
@@ -91,16 +91,16 @@ fn push_children(text: &mut String, children: &[Child]) -> Result<(), AllocError
         text.push_str(" ")?;
         push_decimal(text, child.instance)?;
         text.push_str(" (")?;
-        push_numbers(text, "", child.ends.as_slice())?;
+        push_parametric_args(text, "", child.ends.as_slice())?;
         text.push_str(")")?;
     }
     Ok(())
 }
 
 /// The numbers with a space between two of them, and this before the first one.
-fn push_numbers(text: &mut String, before: &str, numbers: &[u64]) -> Result<(), AllocError> {
+fn push_parametric_args(text: &mut String, before: &str, parametric_args: &[u64]) -> Result<(), AllocError> {
     let mut separator = before;
-    for number in numbers {
+    for number in parametric_args {
         text.push_str(separator)?;
         push_decimal(text, *number)?;
         separator = " ";

@@ -1,15 +1,15 @@
 //! What written types become at a place, by what they mean.
 //!
-//! There is no code here: code that lowers types asks what they mean among the number parameters, and whether they see a local.
+//! There is no code here: code that lowers types asks what they mean among the parametrics, and whether they see a local.
 ghost use Rattle.std.specs.Prelude.{◌≡◌};
 ghost use Rattle.dslx_tree.specs.declared.type_expr.TypeExpr.{TypeExpr};
 ghost use Rattle.dslx_meaning.specs.Meaning.{written_type};
-ghost use Rattle.dslx_core.specs.Lowering.CorePlaces.{CorePlace, known_env, unless_local};
-ghost use Rattle.dslx_core.specs.Lowering.Trees.{type_of_text_lowered};
+ghost use Rattle.dslx_core.specs.Lowering.CoreScopes.{CoreScope, globals_env, unless_local};
+ghost use Rattle.dslx_core.specs.Lowering.Trees.{lower_type_of_text};
 ghost use Rattle.dslx_scope.specs.WrittenTypes.Seen.{type_sees_a_local};
 
-/// A written type becomes what it means where items and number parameters alone are in sight; nothing if a size in it sees a
+/// A written type becomes what it means where items and parametrics alone are in sight; nothing if a size in it sees a
 /// local.
-pub fn written_types_are_lowered()
-    ensures { (t : TypeExpr) (place : CorePlace) → type_of_text_lowered t place ≡ unless_local (type_sees_a_local place t) (written_type t (known_env place.known)) }
+pub fn lower_total_written_types()
+    ensures { (t : TypeExpr) (place : CoreScope) → lower_type_of_text t place ≡ unless_local (type_sees_a_local place t) (written_type t (globals_env place.known)) }
 {}

@@ -5,7 +5,7 @@ mod named;
 mod there;
 
 /// Of the crate below, passed on: a crate that stands on this one need not name that one too.
-pub use crate::values::{PlaceSight, bound_there, constant_there, type_there};
+pub use crate::values::{ScopeEnv, bound_there, constant_there, type_there};
 pub use item::{is_constant_named, struct_named};
 pub use named::{constant_named, member_named};
 pub use there::{name_there, number_there};

@@ -1,5 +1,5 @@
 -- parametric values
-pub mod OnNumbers
+pub mod OnParametricArgs
 -- patterns
 pub mod OnPatterns
 -- for other crates' proofs

@@ -1,5 +1,5 @@
 //! Patterns and parametric values at a place of a body.
 #![tactic(auto)]
 
-pub mod numbers;
+pub mod parametric_args;
 pub mod patterns;

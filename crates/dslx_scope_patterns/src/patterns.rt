@@ -7,7 +7,7 @@ mod shape;
 mod there;
 mod value;
 
-pub use bind::{BodyKnown, BoundShape, BoundTurn, bind_there, turn_there};
+pub use bind::{BodyScope, BoundShape, BoundTurn, bind_there, turn_there};
 pub use names::binds_nothing_new;
 pub use several::alternatives_there;
 pub use there::{Shaped, shape_there};

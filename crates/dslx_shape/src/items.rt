@@ -3,7 +3,7 @@
 use crate::part::Parts;
 use crate::procs::add_proc;
 use dslx_tree::{
-    Alias, Constant, Definition, Enum, Field, Function, Item, Member, Parameter, Struct,
+    Alias, Constant, Definition, Enum, Field, Function, Item, Member, Parametric, Struct,
 };
 
 pub fn add_item<'a>(parts: &mut Parts<'a>, item: &'a Item) {
@@ -25,7 +25,7 @@ fn add_function<'a>(parts: &mut Parts<'a>, function: &'a Function) {
     parts.place(function.span);
     parts.open("fn");
     parts.name(&function.name);
-    add_parameters(parts, function.parameters.as_slice());
+    add_parametrics(parts, function.parametrics.as_slice());
     add_fields(parts, function.arguments.as_slice());
     if let Some(result) = &function.result {
         parts.word("->");
@@ -36,22 +36,22 @@ fn add_function<'a>(parts: &mut Parts<'a>, function: &'a Function) {
 }
 
 /// Adds `< N : u32 = 4 >`, or nothing where there is no parameter.
-pub fn add_parameters<'a>(parts: &mut Parts<'a>, parameters: &'a [Parameter]) {
-    if parameters.is_empty() {
+pub fn add_parametrics<'a>(parts: &mut Parts<'a>, parametrics: &'a [Parametric]) {
+    if parametrics.is_empty() {
         return;
     }
     parts.word("<");
-    for parameter in parameters {
-        add_parameter(parts, parameter);
+    for parametric in parametrics {
+        add_parametric(parts, parametric);
     }
     parts.word(">");
 }
 
-fn add_parameter<'a>(parts: &mut Parts<'a>, parameter: &'a Parameter) {
-    parts.name(&parameter.name);
+fn add_parametric<'a>(parts: &mut Parts<'a>, parametric: &'a Parametric) {
+    parts.name(&parametric.name);
     parts.word(":");
-    parts.ty(&parameter.ty);
-    if let Some(default) = &parameter.default {
+    parts.ty(&parametric.ty);
+    if let Some(default) = &parametric.default {
         parts.word("=");
         parts.expr(default);
     }

@@ -17,14 +17,14 @@ pub fn shape(alloc: Global, module: &Module) -> Result<String, AllocError> {
 }
 
 /// The shape of a tree, with places.
-pub fn placed_shape(alloc: Global, module: &Module) -> Result<String, AllocError> {
+pub fn spanned_shape(alloc: Global, module: &Module) -> Result<String, AllocError> {
     printed(alloc, module, true)
 }
 
-fn printed(alloc: Global, module: &Module, is_placed: bool) -> Result<String, AllocError> {
+fn printed(alloc: Global, module: &Module, has_spans: bool) -> Result<String, AllocError> {
     let mut text = String::new(alloc);
     for item in module.items.as_slice() {
-        push_item(alloc, &mut text, item, is_placed)?;
+        push_item(alloc, &mut text, item, has_spans)?;
     }
     Ok(text)
 }
@@ -33,7 +33,7 @@ fn push_item(
     alloc: Global,
     text: &mut String,
     item: &Item,
-    is_placed: bool,
+    has_spans: bool,
 ) -> Result<(), AllocError> {
     let mut fresh = Parts::new(alloc);
     add_item(&mut fresh, item);
@@ -42,7 +42,7 @@ fn push_item(
     for _ in 0..u64::MAX {
         match left.pop() {
             None => return Ok(()),
-            Some(part) => push_part(text, part, &mut fresh, is_placed)?,
+            Some(part) => push_part(text, part, &mut fresh, has_spans)?,
         }
         fresh.move_back(&mut left);
         if left.is_short() || fresh.is_short() {
@@ -57,13 +57,13 @@ fn push_part<'a>(
     text: &mut String,
     part: Part<'a>,
     fresh: &mut Parts<'a>,
-    is_placed: bool,
+    has_spans: bool,
 ) -> Result<(), AllocError> {
     match part {
         Part::Word(word) => return push_word(text, word),
         Part::Tail(tail) => return text.push_str(tail),
         Part::Digits(number) => return push_number(text, number),
-        Part::Place(place) => return push_place(text, place, is_placed),
+        Part::Place(place) => return push_span(text, place, has_spans),
         Part::Type(ty) => add_type(fresh, ty),
         Part::Pattern(pattern) => add_pattern(fresh, pattern),
         Part::Expr(expr) => add_expr(fresh, expr),
@@ -85,8 +85,8 @@ fn push_number(text: &mut String, number: u128) -> Result<(), AllocError> {
     text.push_str(buffer.format(number))
 }
 
-fn push_place(text: &mut String, place: Span, is_placed: bool) -> Result<(), AllocError> {
-    if !is_placed {
+fn push_span(text: &mut String, place: Span, has_spans: bool) -> Result<(), AllocError> {
+    if !has_spans {
         return Ok(());
     }
     push_word(text, "@")?;

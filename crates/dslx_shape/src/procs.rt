@@ -1,16 +1,16 @@
 //! Procs.
 
 use crate::atoms::{add_arg, add_args};
-use crate::items::add_parameters;
+use crate::items::add_parametrics;
 use crate::part::Parts;
-use dslx_tree::{Block, Channel, Config, Direction, End, Ident, Making, Next, Proc, Spawn};
+use dslx_tree::{Block, Channel, Config, Direction, End, Ident, ConfigStatement, Next, Proc, Spawn};
 
 /// Adds `(proc P < N : u32 > a : u8 in (config ..) (init (block e)) (next s : u8 (block s)))`.
 pub fn add_proc<'a>(parts: &mut Parts<'a>, process: &'a Proc) {
     parts.place(process.span);
     parts.open("proc");
     parts.name(&process.name);
-    add_parameters(parts, process.parameters.as_slice());
+    add_parametrics(parts, process.parametrics.as_slice());
     add_ends(parts, process.members.as_slice());
     add_config(parts, &process.config);
     add_init(parts, &process.init);
@@ -39,8 +39,8 @@ fn add_config<'a>(parts: &mut Parts<'a>, config: &'a Config) {
     parts.place(config.span);
     parts.open("config");
     add_ends(parts, config.ends.as_slice());
-    for making in config.makings.as_slice() {
-        add_making(parts, making);
+    for config_statement in config.config_statements.as_slice() {
+        add_config_statement(parts, config_statement);
     }
     parts.open("result");
     add_names(parts, config.result.as_slice());
@@ -54,10 +54,10 @@ fn add_names<'a>(parts: &mut Parts<'a>, names: &'a [Ident]) {
     }
 }
 
-fn add_making<'a>(parts: &mut Parts<'a>, making: &'a Making) {
-    match making {
-        Making::Channel(channel) => add_channel(parts, channel),
-        Making::Spawn(spawn) => add_spawn(parts, spawn),
+fn add_config_statement<'a>(parts: &mut Parts<'a>, config_statement: &'a ConfigStatement) {
+    match config_statement {
+        ConfigStatement::Channel(channel) => add_channel(parts, channel),
+        ConfigStatement::Spawn(spawn) => add_spawn(parts, spawn),
     }
 }
 

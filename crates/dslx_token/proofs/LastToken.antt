@@ -6,7 +6,7 @@ use Rattle.dslx_token.specs.declared.rules.generated.kind.TheConstants.{END}
 use Rattle.xb_span.specs.declared.read_error.ReadError.{ReadError}
 use Rattle.dslx_token.specs.Kinds.{kind_behind, name_kind, settled}
 use Rattle.dslx_token.specs.Lexeme.{Lexeme}
-use Rattle.dslx_token.specs.Tokens.{at_end, next, lexeme_at, place_of, PlainTokens, Tokens}
+use Rattle.dslx_token.specs.Tokens.{at_end, next, lexeme_at, offset_of, PlainTokens, Tokens}
 
 ends_behind : (k : ℕ) (xs : List ℕ) (x : ℕ) → EndsWith xs x → EndsWith (k ∷ xs) x
 ends_behind k [] x h = absurd (cc)
@@ -15,7 +15,7 @@ ends_behind k (y ∷ ys) x h = let e : length (k ∷ y ∷ ys) - 1 ≡ suc (leng
 plain_ends : (named : List ℕ → ℕ) (text rest : List ℕ) (ls : List Lexeme) (before : ℕ) → PlainTokens text rest ls → EndsWith (map (λ l. l.kind) (settled named before ls)) END
 plain_ends named text rest ls before (at_end r blank) = refl
 plain_ends named text rest ls before (next r token behind more split stands tail) =
-    let l = lexeme_at (place_of text (token ++ behind)) token in
+    let l = lexeme_at (offset_of text (token ++ behind)) token in
     let kind = kind_behind named before l.kind l.bytes in
     ends_behind kind (map (λ l. l.kind) (settled named kind more)) END (plain_ends named text behind more kind tail)
 

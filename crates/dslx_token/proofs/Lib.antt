@@ -7,4 +7,4 @@ mod OneReading
 mod TokenBytes
 mod TokensSoFar
 -- brackets
-pub mod OnRoles
+pub mod OnBracketClasses

@@ -14,20 +14,20 @@ use Rattle.std.specs.Option.{SomeIff, is_some}
 use Rattle.std.specs.Char.{is_ascii_alphabetic, is_ascii_digit, is_ascii_hexdigit}
 use Rattle.base.specs.Texts.Words.{begins_word, is_word_byte, is_word}
 use Rattle.dslx_token.specs.Characters.{is_binary_digit}
-use Rattle.dslx_token.specs.Inner.Fronts.{goes_on_decimal, goes_on_hexadecimal, goes_on_binary, HasPrefix, IsFrontLen, IsTokenLen, HasNoFront, first_front}
+use Rattle.dslx_token.specs.Inner.TokenPrefixes.{goes_on_decimal, goes_on_hexadecimal, goes_on_binary, HasPrefix, IsTokenPrefixLen, IsTokenLen, HasNoTokenPrefix, first_prefix}
 use Rattle.dslx_token.specs.Lexical.{is_decimal, is_hexadecimal, is_binary, is_number, number_value, is_mark, IsToken}
 use Rattle.dslx_token.specs.Spelling.{Spelling, marks}
 use Rattle.dslx_token.specs.Tokens.{IsLongestToken, BeginsNoToken}
 use Rattle.dslx_token.proofs.TokenBytes.{word_begins, number_begins, number_cases, word_from, number_from, string_from, mark_from, passes_among, some_token, word_parts, prefixed}
 
 -- of two fronts of one list, one goes on as the other does
-fronts : (a b x y : List ℕ) → a ++ x ≡ b ++ y → ((more : List ℕ) × (b ≡ a ++ more) × (x ≡ more ++ y)) ⊎ ((more : List ℕ) × (a ≡ b ++ more) × (y ≡ more ++ x))
-fronts [] b x y e = inl (b, refl, e)
-fronts (c ∷ cs) [] x y e = inr (c ∷ cs, refl, sym e)
-fronts (c ∷ cs) (d ∷ ds) x y e =
+prefixes : (a b x y : List ℕ) → a ++ x ≡ b ++ y → ((more : List ℕ) × (b ≡ a ++ more) × (x ≡ more ++ y)) ⊎ ((more : List ℕ) × (a ≡ b ++ more) × (y ≡ more ++ x))
+prefixes [] b x y e = inl (b, refl, e)
+prefixes (c ∷ cs) [] x y e = inr (c ∷ cs, refl, sym e)
+prefixes (c ∷ cs) (d ∷ ds) x y e =
     let head : c ≡ d = cc in
     let tail : cs ++ x ≡ ds ++ y = cc in
-    elim (fronts cs ds x y tail) [
+    elim (prefixes cs ds x y tail) [
       | inl longer ↦ inl (longer.0, (let rest : ds ≡ cs ++ longer.0 = longer.1 in cc), longer.2)
       | inr longer ↦ inr (longer.0, (let rest : cs ≡ ds ++ longer.0 = longer.1 in cc), longer.2)
     ]
@@ -42,7 +42,7 @@ only_nothing a x (c ∷ cs) y la e token = absurd (la.longest (c ∷ cs) y (cons
 
 -- two longest tokens at one place are one
 pub longest_is_one : (a b x y : List ℕ) → IsLongestToken a x → IsLongestToken b y → a ++ x ≡ b ++ y → (a ≡ b) × (x ≡ y)
-longest_is_one a b x y la lb e = elim (fronts a b x y e) [
+longest_is_one a b x y la lb e = elim (prefixes a b x y e) [
   | inl longer ↦
       let none : longer.0 ≡ [] = only_nothing a x longer.0 y la longer.2 (subst IsToken longer.1 lb.is_token) in
       (sym (append-nil a) ∙ ap (λ m. a ++ m) (sym none) ∙ sym longer.1, longer.2 ∙ ap (λ m. m ++ y) none)
@@ -64,8 +64,8 @@ some_length [] token = absurd (some_token token)
 some_length (c ∷ cs) token = omega arith
 
 -- the longest token, by its length
-pub front_len : (text t r : List ℕ) (len : ℕ) → text ≡ t ++ r → len ≡ length t → IsLongestToken t r → IsFrontLen text len
-front_len text t r len e same longest = record {
+pub token_prefix_len : (text t r : List ℕ) (len : ℕ) → text ≡ t ++ r → len ≡ length t → IsLongestToken t r → IsTokenPrefixLen text len
+token_prefix_len text t r len e same longest = record {
   some = omega (arith, some_length t longest.is_token, same);
   within = omega (arith, ap length e, length-append t r, same);
   longest = subst (λ k. IsLongestToken (take k text) (drop k text)) (sym same)
@@ -112,11 +112,11 @@ word_longest c run rest begins all stop = record {
   no_longer (d ∷ ds) after some e token =
       no_more is_word_byte run d ds (and_parts (begins_word c) (list_all is_word_byte (run ++ d ∷ ds)) (word_from ((c ∷ run) ++ d ∷ ds) token begins)).1 (next_fails is_word_byte rest d ds after stop e)
 
-pub word_front : (text : List ℕ) (len : ℕ) → begins_word (slice_index text 0) ≡ true → len ≡ prefix_len is_word_byte text → IsFrontLen text len
-word_front [] len begins e = absurd (false≢true begins)
-word_front (c ∷ cs) len begins e =
+pub word_prefix : (text : List ℕ) (len : ℕ) → begins_word (slice_index text 0) ≡ true → len ≡ prefix_len is_word_byte text → IsTokenPrefixLen text len
+word_prefix [] len begins e = absurd (false≢true begins)
+word_prefix (c ∷ cs) len begins e =
     let facts = run_facts is_word_byte refl cs in
-    front_len (c ∷ cs) (c ∷ take (prefix_len is_word_byte cs) cs) (drop (prefix_len is_word_byte cs) cs) len
+    token_prefix_len (c ∷ cs) (c ∷ take (prefix_len is_word_byte cs) cs) (drop (prefix_len is_word_byte cs) cs) len
     (ap (λ t. c ∷ t) (sym (take-append-drop (prefix_len is_word_byte cs) cs)))
     (e ∙ run_of_cons is_word_byte c cs (word_parts c begins) ∙ ap suc (sym (length-prefix_len is_word_byte cs)))
     (word_longest c (take (prefix_len is_word_byte cs) cs) (drop (prefix_len is_word_byte cs) cs) begins facts.0 facts.1)
@@ -143,13 +143,13 @@ decimal_longest c run rest digit all stop no_hexadecimal no_binary = record {
 digit_goes_on : (c : ℕ) → is_ascii_digit c ≡ true → goes_on_decimal c ≡ true
 digit_goes_on c h = or_left (is_ascii_digit c) (eqb c 95) h
 
-pub decimal_front : (text : List ℕ) (len : ℕ) → is_ascii_digit (slice_index text 0) ≡ true → ¬ HasPrefix 120 is_ascii_hexdigit text → ¬ HasPrefix 98 is_binary_digit text → len ≡ prefix_len goes_on_decimal text → IsFrontLen text len
-decimal_front [] len digit no_hexadecimal no_binary e = absurd (false≢true digit)
-decimal_front (c ∷ cs) len digit no_hexadecimal no_binary e =
+pub decimal_prefix : (text : List ℕ) (len : ℕ) → is_ascii_digit (slice_index text 0) ≡ true → ¬ HasPrefix 120 is_ascii_hexdigit text → ¬ HasPrefix 98 is_binary_digit text → len ≡ prefix_len goes_on_decimal text → IsTokenPrefixLen text len
+decimal_prefix [] len digit no_hexadecimal no_binary e = absurd (false≢true digit)
+decimal_prefix (c ∷ cs) len digit no_hexadecimal no_binary e =
     let n = prefix_len goes_on_decimal cs in
     let facts = run_facts goes_on_decimal refl cs in
     let split : c ∷ cs ≡ (c ∷ take n cs) ++ drop n cs = ap (λ t. c ∷ t) (sym (take-append-drop n cs)) in
-    front_len (c ∷ cs) (c ∷ take n cs) (drop n cs) len split
+    token_prefix_len (c ∷ cs) (c ∷ take n cs) (drop n cs) len split
     (e ∙ run_of_cons goes_on_decimal c cs (digit_goes_on c digit) ∙ ap suc (sym (length-prefix_len goes_on_decimal cs)))
     (decimal_longest c (take n cs) (drop n cs) digit facts.0 facts.1
     (λ h. no_hexadecimal (subst (λ t. HasPrefix 120 is_ascii_hexdigit t) (sym split) h))
@@ -188,31 +188,31 @@ prefix_length : (p : ℕ → Bool) (second h len : ℕ) (cs : List ℕ) → p h 
 prefix_length p second h len cs digit e =
     omega (arith, e ∙ run_of_cons p h cs digit, length-prefix_len p cs)
 
-pub hexadecimal_front : (text : List ℕ) (len : ℕ) → HasPrefix 120 is_ascii_hexdigit text → len ≡ prefix_len goes_on_hexadecimal (drop 2 text) → IsFrontLen text (2 + len)
-hexadecimal_front [] len begins e = absurd (false≢true begins.2)
-hexadecimal_front (a ∷ []) len begins e = absurd (false≢true begins.2)
-hexadecimal_front (a ∷ b ∷ []) len begins e = absurd (false≢true begins.2)
-hexadecimal_front (a ∷ b ∷ h ∷ cs) len begins e =
+pub hexadecimal_prefix : (text : List ℕ) (len : ℕ) → HasPrefix 120 is_ascii_hexdigit text → len ≡ prefix_len goes_on_hexadecimal (drop 2 text) → IsTokenPrefixLen text (2 + len)
+hexadecimal_prefix [] len begins e = absurd (false≢true begins.2)
+hexadecimal_prefix (a ∷ []) len begins e = absurd (false≢true begins.2)
+hexadecimal_prefix (a ∷ b ∷ []) len begins e = absurd (false≢true begins.2)
+hexadecimal_prefix (a ∷ b ∷ h ∷ cs) len begins e =
     let n = prefix_len goes_on_hexadecimal cs in
     let facts = run_facts goes_on_hexadecimal refl cs in
     let zero_first : a ≡ 48 = begins.0 in
     let then_x : b ≡ 120 = begins.1 in
     let split : a ∷ b ∷ h ∷ cs ≡ (48 ∷ 120 ∷ h ∷ take n cs) ++ drop n cs = (let tail : cs ≡ take n cs ++ drop n cs = sym (take-append-drop n cs) in cc) in
-    front_len (a ∷ b ∷ h ∷ cs) (48 ∷ 120 ∷ h ∷ take n cs) (drop n cs) (2 + len) split
+    token_prefix_len (a ∷ b ∷ h ∷ cs) (48 ∷ 120 ∷ h ∷ take n cs) (drop n cs) (2 + len) split
     (prefix_length goes_on_hexadecimal 120 h len cs (or_left (is_ascii_hexdigit h) (eqb h 95) begins.2) e)
     (hexadecimal_longest h (take n cs) (drop n cs) begins.2 facts.0 facts.1)
 
-pub binary_front : (text : List ℕ) (len : ℕ) → HasPrefix 98 is_binary_digit text → len ≡ prefix_len goes_on_binary (drop 2 text) → IsFrontLen text (2 + len)
-binary_front [] len begins e = absurd (false≢true begins.2)
-binary_front (a ∷ []) len begins e = absurd (false≢true begins.2)
-binary_front (a ∷ b ∷ []) len begins e = absurd (false≢true begins.2)
-binary_front (a ∷ b ∷ h ∷ cs) len begins e =
+pub binary_prefix : (text : List ℕ) (len : ℕ) → HasPrefix 98 is_binary_digit text → len ≡ prefix_len goes_on_binary (drop 2 text) → IsTokenPrefixLen text (2 + len)
+binary_prefix [] len begins e = absurd (false≢true begins.2)
+binary_prefix (a ∷ []) len begins e = absurd (false≢true begins.2)
+binary_prefix (a ∷ b ∷ []) len begins e = absurd (false≢true begins.2)
+binary_prefix (a ∷ b ∷ h ∷ cs) len begins e =
     let n = prefix_len goes_on_binary cs in
     let facts = run_facts goes_on_binary refl cs in
     let zero_first : a ≡ 48 = begins.0 in
     let then_b : b ≡ 98 = begins.1 in
     let split : a ∷ b ∷ h ∷ cs ≡ (48 ∷ 98 ∷ h ∷ take n cs) ++ drop n cs = (let tail : cs ≡ take n cs ++ drop n cs = sym (take-append-drop n cs) in cc) in
-    front_len (a ∷ b ∷ h ∷ cs) (48 ∷ 98 ∷ h ∷ take n cs) (drop n cs) (2 + len) split
+    token_prefix_len (a ∷ b ∷ h ∷ cs) (48 ∷ 98 ∷ h ∷ take n cs) (drop n cs) (2 + len) split
     (prefix_length goes_on_binary 98 h len cs (or_left (is_binary_digit h) (eqb h 95) begins.2) e)
     (binary_longest h (take n cs) (drop n cs) begins.2 facts.0 facts.1)
 
@@ -267,15 +267,15 @@ is_word_run [] h = absurd (false≢true h)
 is_word_run (c ∷ cs) h =
     rw (run_of_cons is_word_byte c cs (word_parts c h)) (and_from (begins_word c) (list_all is_word_byte (take (prefix_len is_word_byte cs) cs)) h (run_facts is_word_byte refl cs).0)
 
-pub string_front : (text name : List ℕ) (len : ℕ) → slice_index text 0 ≡ 34 → name ≡ drop 1 text → len ≡ prefix_len is_word_byte name → begins_word (slice_index name 0) ≡ true → slice_index name len ≡ 34 → IsFrontLen text (len + 2)
-string_front [] name len quote from e begins closes = absurd (false≢true (let zero : 0 ≡ 34 = quote in cc))
-string_front (c ∷ cs) name len quote from e begins closes =
+pub string_prefix : (text name : List ℕ) (len : ℕ) → slice_index text 0 ≡ 34 → name ≡ drop 1 text → len ≡ prefix_len is_word_byte name → begins_word (slice_index name 0) ≡ true → slice_index name len ≡ 34 → IsTokenPrefixLen text (len + 2)
+string_prefix [] name len quote from e begins closes = absurd (false≢true (let zero : 0 ≡ 34 = quote in cc))
+string_prefix (c ∷ cs) name len quote from e begins closes =
     let same : name ≡ cs = from in
     let word : is_word (take len cs) ≡ true = rw e (rw same (is_word_run cs (subst (λ s. begins_word (slice_index s 0) ≡ true) same begins))) in
     let within : len < length cs = byte_within cs len 33 (subst (λ s. slice_index s len ≡ 34) same closes) in
     let split : cs ≡ (take len cs ++ 34 ∷ []) ++ drop (suc len) cs =
     sym (take-append-drop len cs) ∙ ap (λ t. take len cs ++ t) (drop-cons cs len 0 within ∙ ap (λ d. d ∷ drop (suc len) cs) (subst (λ s. slice_index s len ≡ 34) same closes)) ∙ sym (append_assoc (take len cs) (34 ∷ []) (drop (suc len) cs)) in
-    front_len (c ∷ cs) (34 ∷ (take len cs ++ 34 ∷ [])) (drop (suc len) cs) (len + 2)
+    token_prefix_len (c ∷ cs) (34 ∷ (take len cs ++ 34 ∷ [])) (drop (suc len) cs) (len + 2)
     (let first : c ≡ 34 = quote in cc)
     (omega (arith, length-append (take len cs) (34 ∷ []), length-take-le len cs (omega (arith, within))))
     (string_longest (take len cs) (drop (suc len) cs) word)
@@ -284,7 +284,7 @@ string_name_begins : (word rest name : List ℕ) → name ≡ word ++ 34 ∷ res
 string_name_begins [] rest name e word = absurd (false≢true word)
 string_name_begins (c ∷ cs) rest name e word = rw e (word_begins (c ∷ cs) word)
 
-pub no_string : (text name : List ℕ) (len : ℕ) → slice_index text 0 ≡ 34 → name ≡ drop 1 text → len ≡ prefix_len is_word_byte name → (begins_word (slice_index name 0) ≡ true → slice_index name len ≡ 34 → ⊥) → HasNoFront text
+pub no_string : (text name : List ℕ) (len : ℕ) → slice_index text 0 ≡ 34 → name ≡ drop 1 text → len ≡ prefix_len is_word_byte name → (begins_word (slice_index name 0) ≡ true → slice_index name len ≡ 34 → ⊥) → HasNoTokenPrefix text
 no_string text name len quote from e none [] rest split token = some_token token
 no_string text name len quote from e none (t ∷ ts) rest split token =
     let first : t ≡ 34 = ap (λ s. slice_index s 0) (sym split) ∙ quote in
@@ -304,15 +304,15 @@ is_descending (s ∷ ss) = list_all (λ o. nat_le (length o.0) (length s.0)) ss 
 begins_with : (text m : List ℕ) → starts_with nat_eq text m ≡ true → m ≡ take (length m) text
 begins_with text m h = (bytes_eq-Decides m (take (length m) text)).0 h
 
-begins_front : (text m r : List ℕ) → text ≡ m ++ r → starts_with nat_eq text m ≡ true
-begins_front text m r e = rw e ((bytes_eq-Decides m (take (length m) (m ++ r))).1 (sym (take_all m r)))
+begins_prefix : (text m r : List ℕ) → text ≡ m ++ r → starts_with nat_eq text m ≡ true
+begins_prefix text m r e = rw e ((bytes_eq-Decides m (take (length m) (m ++ r))).1 (sym (take_all m r)))
 
 -- a shorter one at most
 not_longer : (ss : List Spelling) (m : List ℕ) (most : ℕ) → list_all (λ o. nat_le (length o.0) most) ss ≡ true → list_any (λ s. bytes_eq s.0 m) ss ≡ true → length m ≤ most
 not_longer ss m most all among = leb-true (length m) most (passes_among (λ b. nat_le (length b) most) m ss all among)
 
 -- the first that begins the text is among them and the longest of those that do
-pub record IsFirstFront (ss : List Spelling) (text : List ℕ) (len : ℕ) : Type 0 where
+pub record IsFirstTokenPrefix (ss : List Spelling) (text : List ℕ) (len : ℕ) : Type 0 where
   pub mark : List ℕ
   pub rest : List ℕ
   pub among : list_any (λ s. bytes_eq s.0 mark) ss ≡ true
@@ -320,13 +320,13 @@ pub record IsFirstFront (ss : List Spelling) (text : List ℕ) (len : ℕ) : Typ
   pub length_is : len ≡ length mark
   pub most : (m r : List ℕ) → list_any (λ s. bytes_eq s.0 m) ss ≡ true → text ≡ m ++ r → length m ≤ len
 
-first_is : (ss : List Spelling) (text : List ℕ) (len : ℕ) → is_descending ss ≡ true → first_front ss text ≡ Some len → IsFirstFront ss text len
+first_is : (ss : List Spelling) (text : List ℕ) (len : ℕ) → is_descending ss ≡ true → first_prefix ss text ≡ Some len → IsFirstTokenPrefix ss text len
 unfolding is_descending
 first_is [] text len ordered e = cc
 first_is (s ∷ ss) text len ordered e =
     let parts = and_parts (list_all (λ o. nat_le (length o.0) (length s.0)) ss) (is_descending ss) ordered in
     go (starts_with nat_eq text s.0) refl parts.0 (λ found. first_is ss text len parts.1 found) e where
-      go : (b : Bool) → starts_with nat_eq text s.0 ≡ b → list_all (λ o. nat_le (length o.0) (length s.0)) ss ≡ true → (first_front ss text ≡ Some len → IsFirstFront ss text len) → (if b then Some (length s.0) else first_front ss text) ≡ Some len → IsFirstFront (s ∷ ss) text len
+      go : (b : Bool) → starts_with nat_eq text s.0 ≡ b → list_all (λ o. nat_le (length o.0) (length s.0)) ss ≡ true → (first_prefix ss text ≡ Some len → IsFirstTokenPrefix ss text len) → (if b then Some (length s.0) else first_prefix ss text) ≡ Some len → IsFirstTokenPrefix (s ∷ ss) text len
       go true is all later e =
           let len_is : len ≡ length s.0 = cc in
           let front : s.0 ≡ take (length s.0) text = begins_with text s.0 is in
@@ -350,18 +350,18 @@ first_is (s ∷ ss) text len ordered e =
             split = tail.split;
             length_is = tail.length_is;
             most = λ m r among split. elim (or_cases (bytes_eq s.0 m) (list_any (λ o. bytes_eq o.0 m) ss) among) [
-              | inl here ↦ absurd (both_ways (starts_with nat_eq text s.0) is (begins_front text s.0 r (split ∙ ap (λ x. x ++ r) (sym ((bytes_eq-Decides s.0 m).0 here)))))
+              | inl here ↦ absurd (both_ways (starts_with nat_eq text s.0) is (begins_prefix text s.0 r (split ∙ ap (λ x. x ++ r) (sym ((bytes_eq-Decides s.0 m).0 here)))))
               | inr there ↦ tail.most m r there split
             ];
           }
 
-none_begins : (ss : List Spelling) (text m r : List ℕ) → first_front ss text ≡ None → list_any (λ s. bytes_eq s.0 m) ss ≡ true → text ≡ m ++ r → ⊥
+none_begins : (ss : List Spelling) (text m r : List ℕ) → first_prefix ss text ≡ None → list_any (λ s. bytes_eq s.0 m) ss ≡ true → text ≡ m ++ r → ⊥
 none_begins [] text m r e among split = false≢true among
 none_begins (s ∷ ss) text m r e among split = go (starts_with nat_eq text s.0) refl (λ found there. none_begins ss text m r found there split) e where
-  go : (b : Bool) → starts_with nat_eq text s.0 ≡ b → (first_front ss text ≡ None → list_any (λ o. bytes_eq o.0 m) ss ≡ true → ⊥) → (if b then Some (length s.0) else first_front ss text) ≡ None → ⊥
+  go : (b : Bool) → starts_with nat_eq text s.0 ≡ b → (first_prefix ss text ≡ None → list_any (λ o. bytes_eq o.0 m) ss ≡ true → ⊥) → (if b then Some (length s.0) else first_prefix ss text) ≡ None → ⊥
   go true is later e = cc
   go false is later e = elim (or_cases (bytes_eq s.0 m) (list_any (λ o. bytes_eq o.0 m) ss) among) [
-    | inl here ↦ both_ways (starts_with nat_eq text s.0) is (begins_front text s.0 r (split ∙ ap (λ x. x ++ r) (sym ((bytes_eq-Decides s.0 m).0 here))))
+    | inl here ↦ both_ways (starts_with nat_eq text s.0) is (begins_prefix text s.0 r (split ∙ ap (λ x. x ++ r) (sym ((bytes_eq-Decides s.0 m).0 here))))
     | inr there ↦ later e there
   ]
 
@@ -371,30 +371,30 @@ pub record BeginsOtherwise (text : List ℕ) : Type 0 where
   pub no_digit : is_ascii_digit (slice_index text 0) ≡ false
   pub no_quote : slice_index text 0 ≢ 34
 
-front_mark : (text token rest : List ℕ) → BeginsOtherwise text → text ≡ token ++ rest → IsToken token → is_mark token ≡ true
-front_mark text [] rest o split token = absurd (some_token token)
-front_mark text (c ∷ cs) rest o split token =
+prefix_mark : (text token rest : List ℕ) → BeginsOtherwise text → text ≡ token ++ rest → IsToken token → is_mark token ≡ true
+prefix_mark text [] rest o split token = absurd (some_token token)
+prefix_mark text (c ∷ cs) rest o split token =
     let same : slice_index text 0 ≡ c = ap (λ s. slice_index s 0) split in
     mark_from (c ∷ cs) token (rw (← same) o.no_word) (rw (← same) o.no_digit) (rw (← same) o.no_quote)
 
-pub mark_front : (text : List ℕ) (len : ℕ) → BeginsOtherwise text → first_front marks text ≡ Some len → IsFrontLen text len
+pub mark_prefix : (text : List ℕ) (len : ℕ) → BeginsOtherwise text → first_prefix marks text ≡ Some len → IsTokenPrefixLen text len
 unfolding is_descending
-mark_front text len o e =
+mark_prefix text len o e =
     let first = first_is marks text len refl e in
-    front_len text first.mark first.rest len first.split first.length_is (record {
+    token_prefix_len text first.mark first.rest len first.split first.length_is (record {
       is_token = inr (inr (inr first.among));
       longest = λ more after some behind token.
           let split : text ≡ (first.mark ++ more) ++ after = first.split ∙ ap (λ r. first.mark ++ r) behind ∙ sym (append_assoc first.mark more after) in
-          some (nil_from_length more (omega (arith, first.most (first.mark ++ more) after (front_mark text (first.mark ++ more) after o split token) split, first.length_is, length-append first.mark more)));
+          some (nil_from_length more (omega (arith, first.most (first.mark ++ more) after (prefix_mark text (first.mark ++ more) after o split token) split, first.length_is, length-append first.mark more)));
     })
 
-pub no_mark : (text : List ℕ) → BeginsOtherwise text → first_front marks text ≡ None → HasNoFront text
-no_mark text o e token rest split is_token = none_begins marks text token rest e (front_mark text token rest o split is_token) split
+pub no_mark : (text : List ℕ) → BeginsOtherwise text → first_prefix marks text ≡ None → HasNoTokenPrefix text
+no_mark text o e token rest split is_token = none_begins marks text token rest e (prefix_mark text token rest o split is_token) split
 
 -- ---- all of them
 
 -- what no token begins has no token to stand there
-pub nothing_stands : (text : List ℕ) → HasNoFront text → BeginsNoToken text
+pub nothing_stands : (text : List ℕ) → HasNoTokenPrefix text → BeginsNoToken text
 nothing_stands text none token rest split stands = none token rest split stands.longest.is_token
 
 first_kept : (text : List ℕ) (len : ℕ) → 0 < len → len ≤ length text → slice_index (take len text) 0 ≡ slice_index text 0
@@ -402,8 +402,8 @@ first_kept [] len some within = absurd (omega arith)
 first_kept (c ∷ cs) len some within = let more : len ≡ suc (len - 1) = omega arith in rw more refl
 
 -- the longest one stands there, where it is no number
-pub front_stands : (text : List ℕ) (len : ℕ) → is_ascii_digit (slice_index text 0) ≡ false → IsFrontLen text len → IsTokenLen text len
-front_stands text len no_digit front =
+pub prefix_stands : (text : List ℕ) (len : ℕ) → is_ascii_digit (slice_index text 0) ≡ false → IsTokenPrefixLen text len → IsTokenLen text len
+prefix_stands text len no_digit front =
     let no_number : is_number (take len text) ≡ true → ⊥ = λ h. both_ways (is_ascii_digit (slice_index text 0)) no_digit (subst (λ c. is_ascii_digit c ≡ true) (first_kept text len front.some front.within) (number_begins (take len text) h)) in
     record {
       some = front.some;
@@ -412,16 +412,16 @@ front_stands text len no_digit front =
     }
 
 -- what was found there, or nothing
-pub found_stands : (text : List ℕ) (found : Option ℕ) → is_ascii_digit (slice_index text 0) ≡ false → MatchOption found (HasNoFront text) (λ len. IsFrontLen text len) → MatchOption found (BeginsNoToken text) (λ len. IsTokenLen text len)
+pub found_stands : (text : List ℕ) (found : Option ℕ) → is_ascii_digit (slice_index text 0) ≡ false → MatchOption found (HasNoTokenPrefix text) (λ len. IsTokenPrefixLen text len) → MatchOption found (BeginsNoToken text) (λ len. IsTokenLen text len)
 found_stands text None no_digit none = nothing_stands text none
-found_stands text (Some len) no_digit front = front_stands text len no_digit front
+found_stands text (Some len) no_digit front = prefix_stands text len no_digit front
 
-pub mark_stands : (text : List ℕ) (found : Option ℕ) → BeginsOtherwise text → found ≡ first_front marks text → MatchOption found (BeginsNoToken text) (λ len. IsTokenLen text len)
+pub mark_stands : (text : List ℕ) (found : Option ℕ) → BeginsOtherwise text → found ≡ first_prefix marks text → MatchOption found (BeginsNoToken text) (λ len. IsTokenLen text len)
 mark_stands text None o e = nothing_stands text (no_mark text o (sym e))
-mark_stands text (Some len) o e = front_stands text len o.no_digit (mark_front text len o (sym e))
+mark_stands text (Some len) o e = prefix_stands text len o.no_digit (mark_prefix text len o (sym e))
 
 -- where the longest token is a number that has a letter behind it or is too large, none stands there
-pub bad_number : (text : List ℕ) (len : ℕ) → is_ascii_digit (slice_index text 0) ≡ true → IsFrontLen text len → (is_ascii_alphabetic (slice_index (drop len text) 0) ≡ false → number_value (take len text) < 2 ^ 128 → ⊥) → BeginsNoToken text
+pub bad_number : (text : List ℕ) (len : ℕ) → is_ascii_digit (slice_index text 0) ≡ true → IsTokenPrefixLen text len → (is_ascii_alphabetic (slice_index (drop len text) 0) ≡ false → number_value (take len text) < 2 ^ 128 → ⊥) → BeginsNoToken text
 bad_number text len digit front bad token rest split stands =
     let one = longest_is_one (take len text) token (drop len text) rest front.longest stands.longest (take-append-drop len text ∙ split) in
     let number : is_number token ≡ true = number_from token stands.longest.is_token (subst (λ t. is_ascii_digit (slice_index t 0) ≡ true) one.0 (subst (λ c. is_ascii_digit c ≡ true) (sym (first_kept text len front.some front.within)) digit)) in

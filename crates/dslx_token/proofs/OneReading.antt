@@ -11,7 +11,7 @@ use denote.Ref.{Bor}
 use Rattle.dslx_token.specs.Inner.Names.{AreDeclared, has_name, kind_by}
 use Rattle.dslx_token.specs.Kinds.{declares, heads_callable, heads_struct, heads_type, kind_declared, name_kind, settled}
 use Rattle.dslx_token.specs.Lexeme.{Lexeme}
-use Rattle.dslx_token.specs.Tokens.{at_end, next, here, later, lexeme_at, place_of, IsFirstOdd, OddAt, PlainTokens, IsNextToken, Tokens}
+use Rattle.dslx_token.specs.Tokens.{at_end, next, here, later, lexeme_at, offset_of, IsFirstOdd, OddAt, PlainTokens, IsNextToken, Tokens}
 use Rattle.dslx_token.proofs.LongestTokens.{longest_is_one}
 use Rattle.dslx_token.proofs.TokenBytes.{some_token}
 
@@ -31,7 +31,7 @@ one_plain_list text rest ls ms (next r token behind more split stands tail) (at_
 one_plain_list text rest ls ms (next r token behind more split stands tail) (next s other after others also stood rest_of) =
     let same = same_token token behind other after stands stood (sym split ∙ also) in
     let tails = one_plain_list text behind more others tail (subst (λ b. PlainTokens text b others) (sym same.1) rest_of) in
-    ap (λ l. l ∷ more) (ap (λ t. lexeme_at (place_of text (t ++ behind)) t) same.0 ∙ ap (λ b. lexeme_at (place_of text (other ++ b)) other) same.1) ∙ ap (λ ls. lexeme_at (place_of text (other ++ after)) other ∷ ls) tails
+    ap (λ l. l ∷ more) (ap (λ t. lexeme_at (offset_of text (t ++ behind)) t) same.0 ∙ ap (λ b. lexeme_at (offset_of text (other ++ b)) other) same.1) ∙ ap (λ ls. lexeme_at (offset_of text (other ++ after)) other ∷ ls) tails
 
 pub never_both : (text rest : List ℕ) (ls : List Lexeme) (at : ℕ) → PlainTokens text rest ls → OddAt text rest at → ⊥
 never_both text rest ls at (at_end r blank) (here s some none) = some blank
@@ -41,13 +41,13 @@ never_both text rest ls at (next r token behind more split stands tail) (later s
     let same = same_token token behind other after stands stood (sym split ∙ also) in
     never_both text behind more at tail (subst (λ b. OddAt text b at) (sym same.1) odd)
 
-pub one_odd_place : (text rest : List ℕ) (i j : ℕ) → OddAt text rest i → OddAt text rest j → i ≡ j
-one_odd_place text rest i j (here r some none) (here s also nor) = refl
-one_odd_place text rest i j (here r some none) (later s token behind place split stands odd) = absurd (none token behind split stands)
-one_odd_place text rest i j (later r token behind place split stands odd) (here s some none) = absurd (none token behind split stands)
-one_odd_place text rest i j (later r token behind place split stands odd) (later s other after there also stood odd_too) =
+pub one_odd_offset : (text rest : List ℕ) (i j : ℕ) → OddAt text rest i → OddAt text rest j → i ≡ j
+one_odd_offset text rest i j (here r some none) (here s also nor) = refl
+one_odd_offset text rest i j (here r some none) (later s token behind place split stands odd) = absurd (none token behind split stands)
+one_odd_offset text rest i j (later r token behind place split stands odd) (here s some none) = absurd (none token behind split stands)
+one_odd_offset text rest i j (later r token behind place split stands odd) (later s other after there also stood odd_too) =
     let same = same_token token behind other after stands stood (sym split ∙ also) in
-    one_odd_place text behind i j odd (subst (λ b. OddAt text b j) (sym same.1) odd_too)
+    one_odd_offset text behind i j odd (subst (λ b. OddAt text b j) (sym same.1) odd_too)
 
 pub one_list : (text : List ℕ) (ls ms : List Lexeme) → Tokens text ls → Tokens text ms → ls ≡ ms
 one_list text ls ms a b =
@@ -71,7 +71,7 @@ only_answer items text (Err OutOfMemory) found refused ls tokens = refl
 -- and for one with such a character
 pub odd_answer : {T : Type 0} (items : T → List Lexeme) (text : List ℕ) (r : Result T ReadError) → IfOk r (λ t. Tokens text (items t)) → IfErr r (λ e. IsRefusal text e) → (at : ℕ) → IsFirstOdd text at → IsErrAnd r (λ e. (e ≡ Syntax at) ⊎ (e ≡ OutOfMemory))
 odd_answer items text (Ok t) found refused at odd = absurd (not_both text (items t) at found odd)
-odd_answer items text (Err (Syntax place)) found refused at odd = inl (ap Syntax (one_odd_place text text place at refused odd))
+odd_answer items text (Err (Syntax place)) found refused at odd = inl (ap Syntax (one_odd_offset text text place at refused odd))
 odd_answer items text (Err (Broken rule span)) found refused at odd = absurd refused
 odd_answer items text (Err (Over limit)) found refused at odd = absurd refused
 odd_answer items text (Err OutOfMemory) found refused at odd = inr refl

@@ -5,9 +5,9 @@ use Rattle.std.proofs.lemmas.List.{append_assoc, length-drop, length-append}
 use Rattle.std.proofs.lemmas.Bool.{cond_both}
 use Rattle.dslx_token.specs.Blank.{after_blank, behind_blank}
 use Rattle.dslx_token.specs.Characters.{is_white}
-use Rattle.dslx_token.specs.Inner.Fronts.{IsTokenLen}
+use Rattle.dslx_token.specs.Inner.TokenPrefixes.{IsTokenLen}
 use Rattle.dslx_token.specs.Lexeme.{Lexeme}
-use Rattle.dslx_token.specs.Tokens.{at_end, next, here, later, lexeme_at, place_of, BeginsNoToken, IsFirstOdd, OddAt, PlainTokens, IsNextToken}
+use Rattle.dslx_token.specs.Tokens.{at_end, next, here, later, lexeme_at, offset_of, BeginsNoToken, IsFirstOdd, OddAt, PlainTokens, IsNextToken}
 
 -- the tokens of the text are these, and then those of some text whose front is blank up to the rest
 pub record AreTokensSoFar (text : List ℕ) (done : List Lexeme) (rest : List ℕ) : Type 0 where
@@ -39,12 +39,12 @@ none_so_far text rest e = record {
 }
 
 -- one more
-pub one_more_so_far : (text : List ℕ) (done : List Lexeme) (rest token after behind : List ℕ) → AreTokensSoFar text done rest → rest ≡ token ++ after → IsNextToken token after → behind ≡ after_blank after → AreTokensSoFar text (done ++ lexeme_at (place_of text rest) token ∷ []) behind
+pub one_more_so_far : (text : List ℕ) (done : List Lexeme) (rest token after behind : List ℕ) → AreTokensSoFar text done rest → rest ≡ token ++ after → IsNextToken token after → behind ≡ after_blank after → AreTokensSoFar text (done ++ lexeme_at (offset_of text rest) token ∷ []) behind
 one_more_so_far text done rest token after behind so_far e stands blank = record {
   unread = after;
   rest_is = blank;
-  found = λ more tail. subst (λ tokens. PlainTokens text text tokens) (sym (append_assoc done (lexeme_at (place_of text rest) token ∷ []) more))
-      (so_far.found (lexeme_at (place_of text rest) token ∷ more) (subst (λ r. PlainTokens text so_far.unread (lexeme_at (place_of text r) token ∷ more)) (sym e) (next so_far.unread token after more (sym so_far.rest_is ∙ e) stands tail)));
+  found = λ more tail. subst (λ tokens. PlainTokens text text tokens) (sym (append_assoc done (lexeme_at (offset_of text rest) token ∷ []) more))
+      (so_far.found (lexeme_at (offset_of text rest) token ∷ more) (subst (λ r. PlainTokens text so_far.unread (lexeme_at (offset_of text r) token ∷ more)) (sym e) (next so_far.unread token after more (sym so_far.rest_is ∙ e) stands tail)));
   odd = λ at odd. so_far.odd at (later so_far.unread token after at (sym so_far.rest_is ∙ e) stands odd);
   within = omega (arith, so_far.within, ap length e, length-append token after, ap length blank, behind_blank_le false after);
 }
@@ -54,9 +54,9 @@ pub all_so_far : (text : List ℕ) (done : List Lexeme) (rest : List ℕ) → Ar
 all_so_far text done rest so_far e = so_far.found (lexeme_at (length text) [] ∷ []) (at_end so_far.unread (sym so_far.rest_is ∙ e))
 
 -- no token stands at the rest
-pub odd_so_far : (text : List ℕ) (done : List Lexeme) (rest : List ℕ) → AreTokensSoFar text done rest → rest ≢ [] → BeginsNoToken rest → IsFirstOdd text (place_of text rest)
+pub odd_so_far : (text : List ℕ) (done : List Lexeme) (rest : List ℕ) → AreTokensSoFar text done rest → rest ≢ [] → BeginsNoToken rest → IsFirstOdd text (offset_of text rest)
 odd_so_far text done rest so_far some none =
-    so_far.odd (place_of text rest) (subst (λ r. OddAt text so_far.unread (place_of text r)) (sym so_far.rest_is)
+    so_far.odd (offset_of text rest) (subst (λ r. OddAt text so_far.unread (offset_of text r)) (sym so_far.rest_is)
     (here so_far.unread (λ e. some (so_far.rest_is ∙ e)) (subst (λ r. BeginsNoToken r) so_far.rest_is none)))
 
 -- the text gets shorter behind a token

@@ -17,6 +17,6 @@ pub mod Tokens
 -- contracts of this crate's private functions
 pub mod Inner
 -- brackets
-pub mod Roles
+pub mod BracketClasses
 -- rules
 pub mod Rules

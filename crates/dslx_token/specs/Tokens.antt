@@ -7,7 +7,7 @@ use Rattle.dslx_token.specs.Kinds.{name_kind, plain_kind, settled}
 use Rattle.dslx_token.specs.Lexeme.{Lexeme}
 use Rattle.dslx_token.specs.Lexical.{is_number, number_value, IsToken}
 
--- these bytes, at the front of a text with this rest behind them, are a token, and no longer front of the text is one
+-- these bytes, at the front of a text with this rest behind them, are a token, and no longer prefix of the text is one
 pub record IsLongestToken (token rest : List ℕ) : Type 0 where
   pub is_token : IsToken token
   pub longest : (more after : List ℕ) → more ≢ [] → rest ≡ more ++ after → ¬ IsToken (token ++ more)
@@ -28,13 +28,13 @@ abbrev pub lexeme_at : ℕ → List ℕ → Lexeme
 lexeme_at from bytes = record { kind = plain_kind bytes; span = record { from = from; to = from + length bytes }; bytes = bytes }
 
 -- where such a rest of the text begins
-abbrev pub place_of : List ℕ → List ℕ → ℕ
-place_of text rest = length text - length rest
+abbrev pub offset_of : List ℕ → List ℕ → ℕ
+offset_of text rest = length text - length rest
 
 -- the tokens of a rest of the text, each by itself, and behind them the mark at the text's end
 pub data PlainTokens (text : List ℕ) : List ℕ → List Lexeme → Type 0 where
   at_end : (rest : List ℕ) → after_blank rest ≡ [] → PlainTokens text rest (lexeme_at (length text) [] ∷ [])
-  next : (rest token behind : List ℕ) (more : List Lexeme) → after_blank rest ≡ token ++ behind → IsNextToken token behind → PlainTokens text behind more → PlainTokens text rest (lexeme_at (place_of text (token ++ behind)) token ∷ more)
+  next : (rest token behind : List ℕ) (more : List Lexeme) → after_blank rest ≡ token ++ behind → IsNextToken token behind → PlainTokens text behind more → PlainTokens text rest (lexeme_at (offset_of text (token ++ behind)) token ∷ more)
 
 -- the text's tokens, in order, with the mark at its end
 pub record Tokens (text : List ℕ) (tokens : List Lexeme) : Type 0 where
@@ -44,7 +44,7 @@ pub record Tokens (text : List ℕ) (tokens : List Lexeme) : Type 0 where
 
 -- in a rest of the text, this is where the first character stands that begins no token
 pub data OddAt (text : List ℕ) : List ℕ → ℕ → Type 0 where
-  here : (rest : List ℕ) → after_blank rest ≢ [] → BeginsNoToken (after_blank rest) → OddAt text rest (place_of text (after_blank rest))
+  here : (rest : List ℕ) → after_blank rest ≢ [] → BeginsNoToken (after_blank rest) → OddAt text rest (offset_of text (after_blank rest))
   later : (rest token behind : List ℕ) (at : ℕ) → after_blank rest ≡ token ++ behind → IsNextToken token behind → OddAt text behind at → OddAt text rest at
 
 -- the place of the text's first character that begins no token

@@ -2,7 +2,7 @@
 
 ghost use Rattle.std.specs.Prelude.{◌≡◌, ◌<◌, ◌^◌, true, length, slice_index, IfErr, IfOk, MatchOption};
 ghost use Rattle.std.specs.Char.{is_ascii_digit};
-ghost use Rattle.dslx_token.specs.Inner.Fronts.{HasNoFront, IsFrontLen, IsTokenLen};
+ghost use Rattle.dslx_token.specs.Inner.TokenPrefixes.{HasNoTokenPrefix, IsTokenPrefixLen, IsTokenLen};
 ghost use Rattle.dslx_token.specs.Tokens.{BeginsNoToken, PlainTokens};
 ghost use Rattle.dslx_token.specs.Refusal.{IsRefusal};
 
@@ -70,7 +70,7 @@ fn whole_number_len(text: &[u8]) -> Option<usize>
 /// The length of the string at the front of a text that begins with a quote.
 fn string_len(text: &[u8]) -> Option<usize>
     requires { slice_index text.now 0 ≡ 34 }
-    ensures { MatchOption result (HasNoFront text.now) (λ len. IsFrontLen text.now len) }
+    ensures { MatchOption result (HasNoTokenPrefix text.now) (λ len. IsTokenPrefixLen text.now len) }
 {
     let name = &text[1..];
     let len = word_len(name);

@@ -13,7 +13,7 @@ mod kinds;
 mod laws;
 mod lexer;
 mod number;
-pub mod roles;
+pub mod bracket_classes;
 pub mod rules;
 mod spelling;
 mod token;

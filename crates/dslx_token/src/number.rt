@@ -5,7 +5,7 @@ ghost use Rattle.std.specs.Char.{digit_value, is_ascii_digit, is_ascii_hexdigit}
 ghost use Rattle.std.specs.List.{prefix_len};
 ghost use Rattle.std.specs.Option.{SomeIff};
 ghost use Rattle.dslx_token.specs.Characters.{is_binary_digit};
-ghost use Rattle.dslx_token.specs.Inner.Fronts.{HasPrefix, IsFrontLen, goes_on_decimal, goes_on_hexadecimal, goes_on_binary};
+ghost use Rattle.dslx_token.specs.Inner.TokenPrefixes.{HasPrefix, IsTokenPrefixLen, goes_on_decimal, goes_on_hexadecimal, goes_on_binary};
 ghost use Rattle.dslx_token.specs.Lexical.{grouped_value, number_value};
 
 use crate::characters::{byte_at, is_binary_digit};
@@ -13,7 +13,7 @@ use crate::characters::{byte_at, is_binary_digit};
 /// The length of the number at the front of a text that begins with a digit.
 pub fn number_len(text: &[u8]) -> usize
     requires { is_ascii_digit (slice_index text.now 0) ≡ true }
-    ensures { IsFrontLen text.now result }
+    ensures { IsTokenPrefixLen text.now result }
 {
     if begins_hexadecimal(text) {
         2 + hexadecimal_len(&text[2..])

@@ -1,7 +1,7 @@
 //! The words and marks that have a kind of their own.
 
 ghost use Rattle.std.specs.Prelude.{◌≡◌, map};
-ghost use Rattle.dslx_token.specs.Inner.Fronts.{first_front, spelling_of};
+ghost use Rattle.dslx_token.specs.Inner.TokenPrefixes.{first_prefix, spelling_of};
 ghost use Rattle.dslx_token.specs.Spelling.{keywords, kind_among, marks};
 
 use crate::rules::kind::{
@@ -99,9 +99,9 @@ pub fn mark_kind(mark: &[u8]) -> u8
 
 /// The length of the first mark that begins the text.
 pub fn first_mark(text: &[u8]) -> Option<usize>
-    ensures { result ≡ first_front marks text.now }
+    ensures { result ≡ first_prefix marks text.now }
 {
-    first_front(&MARKS, text)
+    first_prefix(&MARKS, text)
 }
 
 /// The kind of what is spelled so, or another one where it isn't among these.
@@ -117,8 +117,8 @@ fn kind_among(spellings: &[(&[u8], u8)], bytes: &[u8], other: u8) -> u8
 }
 
 /// The length of the first of these that begins the text.
-fn first_front(spellings: &[(&[u8], u8)], text: &[u8]) -> Option<usize>
-    ensures { result ≡ first_front (map spelling_of spellings.now) text.now }
+fn first_prefix(spellings: &[(&[u8], u8)], text: &[u8]) -> Option<usize>
+    ensures { result ≡ first_prefix (map spelling_of spellings.now) text.now }
 {
     for (spelled, _kind) in spellings {
         if text.starts_with(spelled) {

@@ -2,8 +2,8 @@
 pub mod Reached
 -- what instances of procs break and reach, by parts
 pub mod Acts
--- number parameters of procs
-pub mod Parameters
+-- parametrics of procs
+pub mod Parametrics
 -- spawns
 pub mod Spawns
 -- instances that are checked

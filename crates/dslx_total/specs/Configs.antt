@@ -3,4 +3,4 @@ pub mod ReachedProcs
 -- what their spawns come to
 pub mod Spawned
 -- what their `config` becomes
-pub mod Becoming
+pub mod LowersTotally

@@ -1,7 +1,7 @@
--- the place that stands beside what is in sight
+-- the place that stands beside the type environment
 pub mod Beside
 -- what each part becomes
-pub mod Lowers
+pub mod ExprLowering
 -- instances of functions
 pub mod Instances
 -- instances in order

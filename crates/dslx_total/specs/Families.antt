@@ -1,4 +1,4 @@
--- procs whose number parameters hide no constant
+-- procs whose parametrics hide no constant
 pub mod Plain
 -- procs of a network, and what their `next` becomes
-pub mod EachPlaced
+pub mod EachElaborated

@@ -10,21 +10,21 @@ ghost use Rattle.dslx_typing.specs.Laws.Recursion.{HasNoCycle};
 ghost use Rattle.dslx_typing.specs.Depends.Settled.{BindsNoConstant};
 ghost use Rattle.dslx_total.specs.Families.Plain.{ProcsBindNoConstant};
 ghost use Rattle.dslx_total.specs.Configs.ReachedProcs.{IsReachedProc};
-ghost use Rattle.dslx_total.specs.Configs.Becoming.{ConfigBecomes, TopBecomes};
+ghost use Rattle.dslx_total.specs.Configs.LowersTotally.{ConfigLowers, TopLowers};
 
-/// Where no part of a text breaks a rule or passes a limit, each instance of a proc that is checked, and whose number arguments
+/// Where no part of a text breaks a rule or passes a limit, each instance of a proc that is checked, and whose parametric arguments
 /// are of their own types, spawns such instances alone; and wherever all of these are at hand, its `config` becomes channels,
 /// children and members. The instance of the top proc is such a one, and the ends of its `config` become outer channels. No
-/// item may reach itself, no function bind the name of a constant and no proc by its number parameters, also where nothing
+/// item may reach itself, no function bind the name of a constant and no proc by its parametrics, also where nothing
 /// calls or spawns it.
-pub fn accepted_configs_are_lowered()
+pub fn lower_total_configs()
     ensures configs { (m : Module) (top : Option (List ℕ)) → HasNoCycle m → BindsNoConstant m → ProcsBindNoConstant m → faults_of m top ≡ []
-        → (p : Proc) (numbers : List DslxValue) → IsReachedProc m (meanings_of m) top p numbers → ConfigBecomes m (meanings_of m) top p numbers }
+        → (p : Proc) (parametric_args : List DslxValue) → IsReachedProc m (meanings_of m) top p parametric_args → ConfigLowers m (meanings_of m) top p parametric_args }
     ensures tops { (m : Module) (top : Option (List ℕ)) → HasNoCycle m → BindsNoConstant m → ProcsBindNoConstant m → faults_of m top ≡ []
-        → (p : Proc) → top_proc m top ≡ Some p → TopBecomes m (meanings_of m) top p }
+        → (p : Proc) → top_proc m top ≡ Some p → TopLowers m (meanings_of m) top p }
 {
-    dslx_typing::judged::instances_reach_one_another();
+    dslx_typing::typing::instances_reach_one_another();
     dslx_typing::known::all_items_are_known();
-    dslx_typing::accepted::items_of_accepted_texts_are_fine();
-    dslx_scope::written_types::written_types_are_lowered();
+    dslx_typing::accepted::items_of_accepted_texts_are_well_typed();
+    dslx_scope::written_types::lower_total_written_types();
 }

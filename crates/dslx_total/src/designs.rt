@@ -8,51 +8,51 @@ ghost use Rattle.dslx_meaning.specs.declared.value.DslxValue.{DslxValue};
 ghost use Rattle.dslx_meaning.specs.Rules.ModuleRules.{faults_of, instances_of};
 ghost use Rattle.dslx_typing.specs.Laws.Recursion.{HasNoCycle};
 ghost use Rattle.dslx_typing.specs.Depends.Settled.{BindsNoConstant};
-ghost use Rattle.dslx_core.specs.Lowering.Steps.{next_lowered, proc_known};
-ghost use Rattle.dslx_machines.specs.Extension.Comes.{IsNever};
+ghost use Rattle.dslx_core.specs.Lowering.Steps.{lower_next, proc_globals};
+ghost use Rattle.dslx_machines.specs.Extension.Results.{NoTableGives};
 ghost use Rattle.dslx_total.specs.Tables.Tables.{FunctionsHaveTable};
-ghost use Rattle.dslx_total.specs.Families.EachPlaced.{NextBecomes};
+ghost use Rattle.dslx_total.specs.Families.EachElaborated.{NextLowers};
 ghost use Rattle.dslx_total.specs.Families.Plain.{ProcsBindNoConstant};
 ghost use Rattle.dslx_total.specs.Configs.ReachedProcs.{IsReachedProc};
 ghost use Rattle.dslx_total.specs.Designs.Designs.{HasDesign, ProcsHaveTable};
 
-/// Where no part of a text breaks a rule or passes a limit, the `next` of each instance of a proc that is checked, and whose number
+/// Where no part of a text breaks a rule or passes a limit, the `next` of each instance of a proc that is checked, and whose parametric
 /// arguments are of their own types, becomes steps and a next state where the functions of its table are at hand; and its
 /// `init` has a value of the type of its state. So it is also where nothing in the top's network spawns it. No item may reach
 /// itself and no function bind the name of a constant.
-pub fn reached_nexts_are_lowered()
+pub fn lower_total_reached_nexts()
     ensures { (m : Module) (top : Option (List ℕ)) → HasNoCycle m → BindsNoConstant m → faults_of m top ≡ [] → (functions : FunctionsHaveTable m top)
-        → (p : Proc) (numbers : List DslxValue) → IsReachedProc m (meanings_of m) top p numbers → NextBecomes m functions.known.table p numbers }
+        → (p : Proc) (parametric_args : List DslxValue) → IsReachedProc m (meanings_of m) top p parametric_args → NextLowers m functions.known.table p parametric_args }
 {
-    dslx_typing::judged::instances_reach_one_another();
+    dslx_typing::typing::instances_reach_one_another();
     dslx_typing::known::all_items_are_known();
-    dslx_typing::accepted::items_of_accepted_texts_are_fine();
-    crate::expressions::an_expression_is_lowered();
+    dslx_typing::accepted::items_of_accepted_texts_are_well_typed();
+    crate::expressions::lower_total_expression();
     crate::expressions::members_stand();
-    crate::expressions::next_is_lowered();
+    crate::expressions::lower_total_next();
     crate::words::words_of_ends_have_widths();
 }
 
 /// So none of these is given up where as many instances of functions are allowed as are checked: that it becomes nothing by any table
-/// of at most so many (`IsNever`) isn't so.
+/// of at most so many (`NoTableGives`) isn't so.
 pub fn reached_nexts_are_not_given_up()
     ensures { (m : Module) (top : Option (List ℕ)) → HasNoCycle m → BindsNoConstant m → faults_of m top ≡ []
-        → (p : Proc) (numbers : List DslxValue) → IsReachedProc m (meanings_of m) top p numbers → (limit : ℕ) → length (instances_of m top) ≤ limit
-        → IsNever m limit (λ table. next_lowered (proc_known m (meanings_of m) table p numbers) p) → ⊥ }
+        → (p : Proc) (parametric_args : List DslxValue) → IsReachedProc m (meanings_of m) top p parametric_args → (limit : ℕ) → length (instances_of m top) ≤ limit
+        → NoTableGives m limit (λ table. lower_next (proc_globals m (meanings_of m) table p parametric_args) p) → ⊥ }
 {
     crate::tables::accepted_functions_have_a_table();
-    reached_nexts_are_lowered();
+    lower_total_reached_nexts();
 }
 
 /// And the procs have an order in which each spawns only those before it: those with shorter chains of items first. So they
 /// become a table, in which the top's instance is the last one. It is no longer than the list of instances that are checked.
-/// No proc may bind the name of a constant by its number parameters.
+/// No proc may bind the name of a constant by its parametrics.
 pub fn accepted_procs_have_a_table()
     ensures { (m : Module) (top : Option (List ℕ)) → HasNoCycle m → BindsNoConstant m → ProcsBindNoConstant m → faults_of m top ≡ [] → (functions : FunctionsHaveTable m top)
         → (p : Proc) → top_proc m top ≡ Some p → ProcsHaveTable m top functions.known.table p }
 {
-    reached_nexts_are_lowered();
-    crate::configs::accepted_configs_are_lowered();
+    lower_total_reached_nexts();
+    crate::configs::lower_total_configs();
 }
 
 /// So each text without faults has a checked text that is made of its instances, and that stands for it.
@@ -60,7 +60,7 @@ pub fn accepted_texts_have_a_design()
     ensures { (m : Module) (top : Option (List ℕ)) → HasNoCycle m → BindsNoConstant m → ProcsBindNoConstant m → faults_of m top ≡ [] → HasDesign m top }
 {
     crate::tables::accepted_functions_have_a_table();
-    crate::families::accepted_texts_are_fine();
-    crate::configs::accepted_configs_are_lowered();
+    crate::families::accepted_texts_are_well_typed();
+    crate::configs::lower_total_configs();
     accepted_procs_have_a_table();
 }

@@ -8,40 +8,40 @@ ghost use Rattle.dslx_typing.specs.Laws.Recursion.{HasNoCycle};
 ghost use Rattle.dslx_typing.specs.Depends.Settled.{BindsNoConstant};
 ghost use Rattle.dslx_core.specs.CoreOf.{CoreOf};
 ghost use Rattle.dslx_core.specs.declared.design.Design.{Design};
-ghost use Rattle.dslx_core.specs.Networks.Making.{IsDesignFrom};
+ghost use Rattle.dslx_core.specs.Networks.Assembly.{IsDesignFrom};
 ghost use Rattle.dslx_total.specs.Tables.Tables.{FunctionsHaveTable};
-ghost use Rattle.dslx_total.specs.Texts.FineTexts.{IsFineText};
-ghost use Rattle.dslx_total.specs.Families.EachPlaced.{EachPlaced, NextBecomes};
+ghost use Rattle.dslx_total.specs.Texts.WellTypedTexts.{IsWellTypedText};
+ghost use Rattle.dslx_total.specs.Families.EachElaborated.{EachElaborated, NextLowers};
 ghost use Rattle.dslx_total.specs.Families.Plain.{ProcsBindNoConstant};
 
 /// Where no part of a text breaks a rule or passes a limit, nothing is wrong with its constants and types, nor with any proc in
-/// its network: its number parameters have values of their own types, nothing is wrong with what it does, and each word of its
+/// its network: its parametrics have values of their own types, nothing is wrong with what it does, and each word of its
 /// channels is a value. So a checked text that is made of its instances stands for it. No item may reach itself, no function bind
-/// the name of a constant and no proc by its number parameters, also where nothing calls or spawns it.
-pub fn accepted_texts_are_fine()
-    ensures fine { (m : Module) (top : Option (List ℕ)) → HasNoCycle m → BindsNoConstant m → ProcsBindNoConstant m → faults_of m top ≡ [] → IsFineText m top }
+/// the name of a constant and no proc by its parametrics, also where nothing calls or spawns it.
+pub fn accepted_texts_are_well_typed()
+    ensures well_typed { (m : Module) (top : Option (List ℕ)) → HasNoCycle m → BindsNoConstant m → ProcsBindNoConstant m → faults_of m top ≡ [] → IsWellTypedText m top }
     ensures stands { (m : Module) (top : Option (List ℕ)) (design : Design) → HasNoCycle m → BindsNoConstant m → ProcsBindNoConstant m → faults_of m top ≡ []
         → IsDesignFrom m top design → CoreOf m top design }
 {
-    dslx_typing::judged::instances_reach_one_another();
+    dslx_typing::typing::instances_reach_one_another();
     dslx_typing::known::all_items_are_known();
-    dslx_typing::accepted::items_of_accepted_texts_are_fine();
-    crate::expressions::an_expression_is_lowered();
+    dslx_typing::accepted::items_of_accepted_texts_are_well_typed();
+    crate::expressions::lower_total_expression();
     crate::words::words_of_ends_have_widths();
-    crate::texts::fine_texts_stand();
+    crate::texts::well_typed_texts_simulate();
 }
 
 /// And the `next` of each proc in its network becomes steps and a next state, where the functions of its table are at hand; and
 /// its `init` has a value of the type of its state.
-pub fn accepted_nexts_are_lowered()
+pub fn lower_total_nexts()
     ensures { (m : Module) (top : Option (List ℕ)) → HasNoCycle m → BindsNoConstant m → ProcsBindNoConstant m → faults_of m top ≡ [] → (functions : FunctionsHaveTable m top)
-        → (p : Proc) → top_proc m top ≡ Some p → EachPlaced (NextBecomes m functions.known.table) (family_of m p).procs }
+        → (p : Proc) → top_proc m top ≡ Some p → EachElaborated (NextLowers m functions.known.table) (family_of m p).procs }
 {
-    dslx_typing::judged::instances_reach_one_another();
+    dslx_typing::typing::instances_reach_one_another();
     dslx_typing::known::all_items_are_known();
-    dslx_typing::accepted::items_of_accepted_texts_are_fine();
-    crate::expressions::an_expression_is_lowered();
+    dslx_typing::accepted::items_of_accepted_texts_are_well_typed();
+    crate::expressions::lower_total_expression();
     crate::expressions::members_stand();
-    crate::expressions::next_is_lowered();
+    crate::expressions::lower_total_next();
     crate::words::words_of_ends_have_widths();
 }

@@ -7,35 +7,35 @@ ghost use Rattle.dslx_meaning.specs.Rules.ModuleRules.{faults_of, instances_of};
 ghost use Rattle.dslx_typing.specs.Laws.Recursion.{HasNoCycle};
 ghost use Rattle.dslx_typing.specs.Depends.Settled.{BindsNoConstant};
 ghost use Rattle.dslx_core.specs.Lowering.Functions.{CoreInstance, Instantiated};
-ghost use Rattle.dslx_core.specs.Lowering.Instances.{InstancesStand};
+ghost use Rattle.dslx_core.specs.Lowering.Instances.{InstancesSimulate};
 ghost use Rattle.dslx_machines.specs.Machine.Reached.{IsTable};
 ghost use Rattle.dslx_machines.specs.Progress.Missing.{InNoTable};
-ghost use Rattle.dslx_total.specs.Instances.Reached.{IsReachedInstance, StandsInTable};
+ghost use Rattle.dslx_total.specs.Instances.Reached.{IsReachedInstance, ExistsInTable};
 
 /// Where no part of a text breaks a rule or passes a limit, each instance of a table of its instances stands for the text's
 /// function: where that has a value for operands of the types of the arguments, the value is of the type of the result, and the
 /// function of the instance's number has it, without signs and names.
 pub fn instances_have_their_values()
     ensures { (m : Module) (top : Option (List ℕ)) → HasNoCycle m → BindsNoConstant m → faults_of m top ≡ []
-        → (table : List CoreInstance) → IsTable m (meanings_of m) table → InstancesStand m (meanings_of m) table }
+        → (table : List CoreInstance) → IsTable m (meanings_of m) table → InstancesSimulate m (meanings_of m) table }
 {
-    dslx_typing::accepted::items_of_accepted_texts_are_fine();
+    dslx_typing::accepted::items_of_accepted_texts_are_well_typed();
     dslx_core::constants::items_are_own();
     dslx_typing::laws::recursion_ends();
-    dslx_core::lowering::lowered_instances_mean_the_same();
+    dslx_core::lowering::lower_preserves_instances();
 }
 
 /// Each instance of a function that such a text reaches stands in a table of at most as many instances as are checked, if its
-/// number parameters have values of their own types. So where at least as many may be open at once, none of them is missing. There
+/// parametrics have values of their own types. So where at least as many may be open at once, none of them is missing. There
 /// are at most 4,096.
 pub fn accepted_instances_are_in_a_table()
     ensures stands { (m : Module) (top : Option (List ℕ)) → HasNoCycle m → BindsNoConstant m → faults_of m top ≡ []
-        → (i : Instantiated) → IsReachedInstance m top i → (limit : ℕ) → length (instances_of m top) ≤ limit → StandsInTable m limit i }
+        → (i : Instantiated) → IsReachedInstance m top i → (limit : ℕ) → length (instances_of m top) ≤ limit → ExistsInTable m limit i }
     ensures made { (m : Module) (top : Option (List ℕ)) → HasNoCycle m → BindsNoConstant m → faults_of m top ≡ []
         → (i : Instantiated) → IsReachedInstance m top i → (limit : ℕ) → length (instances_of m top) ≤ limit
         → (before : List CoreInstance) → InNoTable (record { text = m; items = meanings_of m; table = before }) limit i → ⊥ }
     ensures few { (m : Module) (top : Option (List ℕ)) → faults_of m top ≡ [] → length (instances_of m top) ≤ 4096 }
 {
-    dslx_typing::accepted::items_of_accepted_texts_are_fine();
+    dslx_typing::accepted::items_of_accepted_texts_are_well_typed();
     crate::tables::accepted_functions_have_a_table();
 }

@@ -7,15 +7,15 @@ ghost use Rattle.dslx_typing.specs.Depends.Settled.{BindsNoConstant};
 ghost use Rattle.dslx_total.specs.Tables.Tables.{FunctionsHaveTable};
 
 /// Where no part of a text breaks a rule or passes a limit, the instances of its functions become a table in which each calls
-/// those before it. All that the text reaches stand in it whose number parameters have values of their own types, and it is
+/// those before it. All that the text reaches stand in it whose parametrics have values of their own types, and it is
 /// no longer than the list of instances that are checked.
 pub fn accepted_functions_have_a_table()
     ensures { (m : Module) (top : Option (List ℕ)) → HasNoCycle m → BindsNoConstant m → faults_of m top ≡ [] → FunctionsHaveTable m top }
 {
-    dslx_typing::judged::instances_reach_one_another();
+    dslx_typing::typing::instances_reach_one_another();
     dslx_typing::depends::what_is_known_settles();
     dslx_typing::known::all_items_are_known();
-    dslx_typing::accepted::items_of_accepted_texts_are_fine();
-    crate::expressions::an_expression_is_lowered();
-    crate::expressions::instances_in_order_are_lowered();
+    dslx_typing::accepted::items_of_accepted_texts_are_well_typed();
+    crate::expressions::lower_total_expression();
+    crate::expressions::lower_total_instances();
 }

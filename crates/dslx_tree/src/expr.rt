@@ -70,7 +70,7 @@ pub struct Number {
     pub value: u128,
 }
 
-/// What stands between `<` and `>` for a number parameter, or as a channel's depth. An expression stands in braces
+/// What stands between `<` and `>` for a parametric, or as a channel's depth. An expression stands in braces
 /// there, which the span takes in.
 #[cycle(tree)]
 #[derive(Drop)]

@@ -35,16 +35,16 @@ pub enum Definition {
 pub struct Function {
     pub span: Span,
     pub name: Ident,
-    pub parameters: Seq<Parameter>,
+    pub parametrics: Seq<Parametric>,
     pub arguments: Seq<Field>,
     /// Without it the result is `()`.
     pub result: Option<TypeExpr>,
     pub body: Block,
 }
 
-/// A number parameter, `N: T = { e }`.
+/// A parametric, `N: T = { e }`.
 #[derive(Drop)]
-pub struct Parameter {
+pub struct Parametric {
     pub name: Ident,
     pub ty: TypeExpr,
     pub default: Option<Expr>,

@@ -21,9 +21,9 @@ pub use block::{Block, Let, Stmt};
 pub use expr::{Arg, Arm, Expr, FieldValue, For, Node, Number};
 pub use ident::Ident;
 pub use item::{
-    Alias, Constant, Definition, Enum, Field, Function, Item, Member, Module, Parameter, Struct,
+    Alias, Constant, Definition, Enum, Field, Function, Item, Member, Module, Parametric, Struct,
 };
 pub use operator::{Binary, LEVELS, Prefix};
 pub use pattern::{Pattern, Shape};
-pub use process::{Channel, Config, Direction, End, Making, Next, Proc, Spawn};
+pub use process::{Channel, Config, Direction, End, ConfigStatement, Next, Proc, Spawn};
 pub use type_expr::{TypeExpr, TypeNode};

@@ -1,7 +1,7 @@
 use crate::block::Block;
 use crate::expr::Arg;
 use crate::ident::Ident;
-use crate::item::Parameter;
+use crate::item::Parametric;
 use crate::type_expr::TypeExpr;
 use xb_span::Span;
 use xb_value::Seq;
@@ -11,7 +11,7 @@ use xb_value::Seq;
 pub struct Proc {
     pub span: Span,
     pub name: Ident,
-    pub parameters: Seq<Parameter>,
+    pub parametrics: Seq<Parametric>,
     pub members: Seq<End>,
     pub config: Config,
     pub init: Block,
@@ -36,18 +36,18 @@ pub enum Direction {
     Out,
 }
 
-/// `config(ends) { makings (result) }`. Without a tuple the result is empty.
+/// `config(ends) { config_statements (result) }`. Without a tuple the result is empty.
 #[derive(Drop)]
 pub struct Config {
     pub span: Span,
     pub ends: Seq<End>,
-    pub makings: Seq<Making>,
+    pub config_statements: Seq<ConfigStatement>,
     pub result: Seq<Ident>,
 }
 
 /// What a `config` makes.
 #[derive(Drop)]
-pub enum Making {
+pub enum ConfigStatement {
     Channel(Channel),
     Spawn(Spawn),
 }

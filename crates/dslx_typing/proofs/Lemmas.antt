@@ -8,7 +8,7 @@ pub mod Complete
 -- what values depend on
 pub mod Depends
 -- what judgements depend on
-pub mod Judged
+pub mod TypingRelations
 -- laws
 pub mod Laws
 -- expressions

@@ -7,13 +7,13 @@ pub mod OnComplete
 -- what values depend on
 pub mod OnDepends
 -- what judgements depend on
-pub mod OnJudged
+pub mod OnTyping
 -- what is known of items
-pub mod OnKnown
+pub mod OnGlobals
 -- laws
 pub mod OnLaws
 -- what is known is meant
-pub mod OnMeant
+pub mod OnDenotation
 -- procs
 pub mod OnProcs
 -- expressions

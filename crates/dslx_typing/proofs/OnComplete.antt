@@ -1,6 +1,6 @@
 -- the text of an item as a place
-pub mod Places
--- constants, aliases and number parameters
+pub mod Scopes
+-- constants, aliases and parametrics
 pub mod OfConstants
 -- structs
 pub mod OfStructs

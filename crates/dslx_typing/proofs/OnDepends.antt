@@ -3,7 +3,7 @@ pub mod Links
 -- judgements by those of their parts
 pub mod Same
 -- what parts need
-pub mod Places
+pub mod Scopes
 -- calls
 pub mod OfCalls
 -- patterns, matches, statements and loops

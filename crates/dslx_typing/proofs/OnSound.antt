@@ -1,7 +1,7 @@
 -- induction on trees, and trees beside what they come to
 pub mod Trees
 -- judgements with which nothing is wrong
-pub mod Fine
+pub mod WellTypedParts
 -- operators, casts, indices, parts of bits and fields
 pub mod OfOperations
 -- constants, widths, sizes and slices
@@ -18,8 +18,8 @@ pub mod OfControl
 pub mod OfLoops
 -- calls of builtins
 pub mod OfBuiltins
--- number parameters
-pub mod OfNumbers
+-- parametrics
+pub mod OfParametricArgs
 -- calls of functions
 pub mod OfFunctions
 -- the trees of parts, and what they mean
@@ -29,7 +29,7 @@ pub mod OfShapes
 -- `match`
 pub mod OfMatch
 -- places at which all but locals are bound alike
-pub mod OfPlaces
+pub mod OfScopes
 -- narrow tuples
 pub mod OfNarrow
 -- the induction on trees

@@ -1,7 +1,7 @@
 -- values of types
 pub mod OfTypes
 -- what judgements say
-pub mod Judged
+pub mod TypingRelations
 -- numbers that lie in their width
 pub mod OfWords
 -- operators, casts and slices
@@ -32,5 +32,5 @@ pub mod OfMatches
 pub mod OfWritten
 -- turns of loops, and functions
 pub mod OfFunctions
--- number parameters of calls
-pub mod OfNumbers
+-- parametrics of calls
+pub mod OfParametricArgs

@@ -1,4 +1,4 @@
 -- items with whose text nothing is wrong
-pub mod Standing
+pub mod HasValue
 -- what instances of procs do
 pub mod Acts

@@ -5,9 +5,9 @@ pub mod Complete
 -- what values depend on
 pub mod Depends
 -- what judgements depend on
-pub mod Judged
+pub mod TypingRelations
 -- what is known of items
-pub mod Known
+pub mod GlobalEnv
 -- laws
 pub mod Laws
 -- procs

@@ -6,9 +6,9 @@ pub mod Declared
 pub mod Complete
 -- values of types
 pub mod Kinds
--- what is in sight, where it is well typed
+-- the type environment, where it is well typed
 pub mod WellTyped
 -- what is bound, as constants see it
-pub mod InSight
--- number parameters
+pub mod InTypeEnv
+-- parametrics
 pub mod Numbers

@@ -10,23 +10,23 @@ ghost use Rattle.dslx_meaning.specs.Items.{instance_env};
 ghost use Rattle.dslx_meaning.specs.Values.{at_type};
 ghost use Rattle.dslx_meaning.specs.declared.ty.DslxType.{DslxType};
 ghost use Rattle.dslx_meaning.specs.declared.value.DslxValue.{DslxValue};
-ghost use Rattle.dslx_meaning.specs.Rules.ItemRules.{body_judged};
-ghost use Rattle.dslx_meaning.specs.Rules.Judging.{Known, Sight, with_typed};
-ghost use Rattle.dslx_typing.specs.Typed.Complete.{IsFine};
+ghost use Rattle.dslx_meaning.specs.Rules.ItemRules.{body_typing};
+ghost use Rattle.dslx_meaning.specs.Rules.TypeEnvs.{GlobalEnv, TypeEnv, with_typed};
+ghost use Rattle.dslx_typing.specs.Typed.Complete.{IsWellTypedPart};
 ghost use Rattle.dslx_typing.specs.Typed.Declared.{IsDeclared};
 ghost use Rattle.dslx_typing.specs.Typed.Kinds.{is_of};
-ghost use Rattle.dslx_typing.specs.Typed.WellTyped.{IsWellTyped, types_at};
+ghost use Rattle.dslx_typing.specs.Typed.WellTyped.{IsWellTypedEnv, types_at};
 ghost use Rattle.dslx_typing.specs.Activities.ActivityGoesOn.{ActivityGoesOn};
-ghost use Rattle.dslx_typing.specs.Activities.Members.{IsFineNext, ProcMembersStand};
+ghost use Rattle.dslx_typing.specs.Activities.Members.{IsWellTypedNext, ProcMembersHaveValues};
 
-/// The body of a `next` with which nothing is wrong, at a place where what is in sight is well typed and members have the types
+/// The body of a `next` with which nothing is wrong, at a place where the type environment is well typed and members have the types
 /// of words that the rules know: over whatever words, it does something at each site and ends with a value of its type, or it
 /// has taken all words and the next site receives.
 pub fn activations_go_on()
-    ensures body { (t : DslxType) (site : SiteEnv) (b : Block) (sight : Sight) (env : Env) → IsWellTyped sight env → ProcMembersStand sight site → IsDeclared (types_at sight) t
-        → IsFine sight.known (body_judged true sight (Some t) b)
+    ensures body { (t : DslxType) (site : SiteEnv) (b : Block) (context : TypeEnv) (env : Env) → IsWellTypedEnv context env → ProcMembersHaveValues context site → IsDeclared (types_at context) t
+        → IsWellTypedPart context.known (body_typing true context (Some t) b)
         → (words : List Word) → ActivityGoesOn t (length (sites_in_stmts (out-Block b).statements)) words (do_stmts site (out-Block b).statements (out-Block b).value env words) }
-    ensures activation { (known : Known) (p : Proc) (numbers : List DslxValue) (t : DslxType) → IsFineNext known p numbers t
+    ensures activation { (known : GlobalEnv) (p : Proc) (parametric_args : List DslxValue) (t : DslxType) → IsWellTypedNext known p parametric_args t
         → (state : Value) → is_of t (at_type t state) ≡ true
-        → (words : List Word) → ActivityGoesOn t (length (site_names p)) words (activation_of known.items p numbers state words) }
+        → (words : List Word) → ActivityGoesOn t (length (site_names p)) words (activation_of known.items p parametric_args state words) }
 {}

@@ -4,20 +4,20 @@ ghost use Rattle.dslx_tree.specs.declared.process.Proc.{Proc};
 ghost use Rattle.dslx_meaning.specs.Activation.{state_type_of};
 ghost use Rattle.dslx_meaning.specs.declared.ty.DslxType.{DslxType};
 ghost use Rattle.dslx_meaning.specs.declared.value.DslxValue.{DslxValue};
-ghost use Rattle.dslx_meaning.specs.Rules.Judging.{Known};
-ghost use Rattle.dslx_meaning.specs.Rules.ProcRules.{proc_sight};
+ghost use Rattle.dslx_meaning.specs.Rules.TypeEnvs.{GlobalEnv};
+ghost use Rattle.dslx_meaning.specs.Rules.ProcRules.{proc_type_env};
 ghost use Rattle.dslx_typing.specs.Typed.Complete.{IsComplete};
 ghost use Rattle.dslx_typing.specs.Typed.Numbers.{AllOwn};
-ghost use Rattle.dslx_typing.specs.Complete.Standing.{AreTyped, IsFineFound};
-ghost use Rattle.dslx_typing.specs.Activities.Members.{IsFineNext};
+ghost use Rattle.dslx_typing.specs.Complete.HasValue.{AreTyped, IsWellTypedFound};
+ghost use Rattle.dslx_typing.specs.Activities.Members.{IsWellTypedNext};
 ghost use Rattle.dslx_typing.specs.Complete.Acts.{acts_found};
 ghost use Rattle.dslx_typing.specs.Procs.WordsOfEnds.{WordsAreValues};
 
-/// Where all items are known, an instance of a proc with whose text outside its `config` nothing is wrong, and whose number
-/// parameters have values of their own types, has members whose words have the types that are meant, and states of the type that is meant; and nothing
+/// Where all items are known, an instance of a proc with whose text outside its `config` nothing is wrong, and whose
+/// parametrics have values of their own types, has members whose words have the types that are meant, and states of the type that is meant; and nothing
 /// is wrong with its `next`, so that its activations come to their end or wait for a word (`dslx_typing::activities`).
-pub fn fine_procs_have_fine_nexts()
-    ensures { (known : Known) → IsComplete known → AreTyped known → (p : Proc) (numbers : List DslxValue) → AllOwn known.items.type_named numbers
-        → IsFineFound known (acts_found known p numbers) → WordsAreValues (proc_sight known p numbers) p.members
-        → (t : DslxType) → state_type_of known.items p numbers ≡ Some t → IsFineNext known p numbers t }
+pub fn well_typed_procs_have_well_typed_nexts()
+    ensures { (known : GlobalEnv) → IsComplete known → AreTyped known → (p : Proc) (parametric_args : List DslxValue) → AllOwn known.items.type_named parametric_args
+        → IsWellTypedFound known (acts_found known p parametric_args) → WordsAreValues (proc_type_env known p parametric_args) p.members
+        → (t : DslxType) → state_type_of known.items p parametric_args ≡ Some t → IsWellTypedNext known p parametric_args t }
 {}

@@ -18,12 +18,12 @@ mod written;
 
 pub use arrays::arrays_give_values_of_their_types;
 pub use builtins::builtins_give_values_of_their_types;
-pub use constants::what_is_known_of_constants_is_meant;
+pub use constants::known_constants_are_sound;
 pub use control::{
     blocks_give_values_of_their_types, branches_give_values_of_their_types,
     matches_give_values_of_their_types,
 };
-pub use functions::{calls_find_their_number_parameters, functions_give_values_of_their_types};
+pub use functions::{calls_find_their_parametrics, functions_give_values_of_their_types};
 pub use loops::loops_give_values_of_their_types;
 pub use names::names_give_values_of_their_types;
 pub use operations::operations_give_values_of_their_types;
@@ -33,4 +33,4 @@ pub use parts::{
 };
 pub use patterns::patterns_keep_names_typed;
 pub use types::{a_value_has_one_type, equal_types_of_a_text_are_one};
-pub use written::written_types_mean_what_is_known;
+pub use written::known_types_are_sound;

@@ -1,7 +1,7 @@
 //! Numbers with a type, and values as numbers and conditions.
 
 use crate::shared::{Kept, bit_type, held, is_bits};
-use dslx_meaning::Bare;
+use dslx_meaning::UntypedLiteral;
 use dslx_values::bits_of;
 use dslx_values::operators::{index_number, number_value, truth, turns};
 
@@ -19,7 +19,7 @@ fn numbers_lie_in_the_range_of_their_type(rt: HostRuntime) {
         (true, 8, true, 129, None),
         (true, 1, true, 1, Some(1)),
     ] {
-        let number = Bare { is_negative, value };
+        let number = UntypedLiteral { is_negative, value };
         let got = number_value(&bit_type(signed, u128::from(width)), number).unwrap_or(None);
         match want {
             Some(want) => is_bits(&rt, got, signed, width, want),
@@ -30,7 +30,7 @@ fn numbers_lie_in_the_range_of_their_type(rt: HostRuntime) {
 
 #[test]
 fn no_word_has_a_width_of_none_or_too_many(rt: HostRuntime) {
-    let zero = Bare {
+    let zero = UntypedLiteral {
         is_negative: false,
         value: 0,
     };

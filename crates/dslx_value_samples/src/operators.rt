@@ -4,7 +4,7 @@ use crate::shared::{Kept, bit_type, bits, held, is_bits};
 use dslx_meaning::DslxValue;
 use dslx_tree::{Binary, Prefix};
 use dslx_values::operators::{
-    OddWidth, all_ones, binary_value, cast_value, count_leading, count_trailing, parity,
+    WidthOutOfRange, all_ones, binary_value, cast_value, count_leading, count_trailing, parity,
     part_value, prefix_value, reversed, slice_value, some_one,
 };
 use std::process::Abort;
@@ -26,7 +26,7 @@ fn worked<R: Abort>(
 }
 
 /// What is given, but for an odd width.
-fn given(answer: Result<Option<DslxValue>, OddWidth>) -> Option<DslxValue> {
+fn given(answer: Result<Option<DslxValue>, WidthOutOfRange>) -> Option<DslxValue> {
     answer.unwrap_or(None)
 }
 
@@ -36,7 +36,7 @@ fn is_none<R: Abort>(rt: &R, got: Option<DslxValue>, what: &str) {
 }
 
 /// Nothing can be given, for its width.
-fn is_odd<R: Abort>(rt: &R, got: Result<Option<DslxValue>, OddWidth>) {
+fn is_odd<R: Abort>(rt: &R, got: Result<Option<DslxValue>, WidthOutOfRange>) {
     assert!(rt; got.map(|value| value.map(Kept::new)).is_err());
 }
 

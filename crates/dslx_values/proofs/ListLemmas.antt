@@ -4,7 +4,7 @@ use Rattle.std.specs.Option.{option_map}
 use Rattle.std.specs.Str.{bytes_eq}
 use Rattle.std.proofs.Math.Seq.{drop-cons}
 use Rattle.std.proofs.lemmas.List.{append_assoc}
-use Rattle.dslx_meaning.specs.Lists.{place_in, last_of, repeated}
+use Rattle.dslx_meaning.specs.Lists.{index_in, last_of, repeated}
 
 last_at : {A : Type 0} (x : A) (xs : List A) → slice_get (x ∷ xs) (length xs) ≡ last_of (x ∷ xs)
 last_at x [] = refl
@@ -40,10 +40,10 @@ next_from i (Some k) = ap Some (omega arith)
 
 -- a name is found where it stands
 pub found_at : (name : List ℕ) (names : List (List ℕ)) (i : ℕ) (n : List ℕ) → i < length names → n ≡ get_or names i n → bytes_eq name n ≡ true →
-    option_map (λ k. i + k) (place_in name (drop i names)) ≡ Some i
+    option_map (λ k. i + k) (index_in name (drop i names)) ≡ Some i
 found_at name names i n within e b = let d = parted names i n within e in rw (d, b) (ap Some (omega arith))
 
 -- another name is passed
 pub passed_at : (name : List ℕ) (names : List (List ℕ)) (i : ℕ) (n : List ℕ) → i < length names → n ≡ get_or names i n → bytes_eq name n ≡ false →
-    option_map (λ k. i + k) (place_in name (drop i names)) ≡ option_map (λ k. i + 1 + k) (place_in name (drop (i + 1) names))
-passed_at name names i n within e b = let d = parted names i n within e in rw (d, b) (next_from i (place_in name (drop (i + 1) names)))
+    option_map (λ k. i + k) (index_in name (drop i names)) ≡ option_map (λ k. i + 1 + k) (index_in name (drop (i + 1) names))
+passed_at name names i n within e b = let d = parted names i n within e in rw (d, b) (next_from i (index_in name (drop (i + 1) names)))

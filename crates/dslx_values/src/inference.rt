@@ -1,4 +1,4 @@
-//! Which numbers the types of operands infer for the number parameters of a function.
+//! Which numbers the types of operands infer for the parametrics of a function.
 mod inference;
 mod written;
 

@@ -17,4 +17,4 @@ pub use number::number_value;
 pub use numbers::{index_number, of_one_type, truth, turns};
 pub use slices::{cast_value, part_value, slice_value};
 pub use unary::prefix_value;
-pub use width::OddWidth;
+pub use width::WidthOutOfRange;

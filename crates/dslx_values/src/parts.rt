@@ -2,7 +2,7 @@
 
 ghost use Rattle.std.specs.Prelude.{◌≡◌, IfOk, slice_get};
 ghost use Rattle.std.specs.Option.{option_copied};
-ghost use Rattle.dslx_meaning.specs.Lists.{place_in};
+ghost use Rattle.dslx_meaning.specs.Lists.{index_in};
 ghost use Rattle.dslx_meaning.specs.Values.{bits_of as the_bits, based_bits as the_base, unsigned_of as the_amount, elements_of as the_elements, items_of as the_items, bool_value as truth_value, unit_value as the_unit};
 ghost use Rattle.dslx_meaning.specs.Meaning.{field_of as the_field};
 ghost use Rattle.dslx_meaning.specs.Items.{enum_member as the_member};
@@ -95,15 +95,15 @@ pub fn field_of(
     let DslxValue::Struct(_, names, values) = value else {
         return Ok(None);
     };
-    match place_of(field, names.as_slice()) {
+    match index_of(field, names.as_slice()) {
         Some(place) => value_at(alloc, values.as_slice(), place as u128),
         None => Ok(None),
     }
 }
 
 /// The place of the first of the names that is this one.
-fn place_of(name: &str, names: &[Name]) -> Option<usize>
-    ensures { result ≡ place_in name.now names.now }
+fn index_of(name: &str, names: &[Name]) -> Option<usize>
+    ensures { result ≡ index_in name.now names.now }
 {
     'names: for i in 0..names.len() {
         if name == names[i].as_str() {

@@ -8,7 +8,7 @@ use Rattle.grammar.specs.Syntax.{Rule}
 use Rattle.grammar.specs.Derivation.{IsRule, Derives, ReadsTo}
 use Rattle.grammar.specs.Derivation.Derives.{done, shift, expand}
 use Rattle.grammar.specs.Derivation.ReadsTo.{stop, read, rewrite}
-use Rattle.grammar.specs.Ll1.{Facts, is_nullable, all_nullable, begins, front_cost, total_cost, total_yield, keeps_follow, is_inner, ranks_below, top_rank}
+use Rattle.grammar.specs.Ll1.{Facts, is_nullable, all_nullable, begins, prefix_cost, total_cost, total_yield, keeps_follow, is_inner, ranks_below, top_rank}
 use Rattle.grammar.proofs.Sets.{Has, within-has, has-or, has-left, has-right, has-pow, has-cond, cond-has}
 use Rattle.grammar.proofs.Valid.{Valid}
 use Rattle.grammar.proofs.Deriving.{Derives-nothing, Expansion, Derives-nonterminal, Derives-append, Derives-rest, IsRule-body, ReadsTo-none, ReadsTo-nothing, ReadsTo-derives}
@@ -137,9 +137,9 @@ module _ (rules : List Rule) (chosen : List ℕ) (f : Facts) (end count : ℕ) (
   AllIn-left (read r) g = AllIn-left r g
   AllIn-left (rewrite {p = p} {n = n} b {s = s} e r) g = AllIn-left r (AllIn-rewrite p n b s e g.1)
 
-front_step : (b c : Bool) (x y z w : ℕ) → y ≤ z + cond c w 0 → x + cond b y 0 ≤ x + cond b z 0 + cond (b && c) w 0
-front_step true c x y z w h = omega arith
-front_step false c x y z w h = omega arith
+prefix_step : (b c : Bool) (x y z w : ℕ) → y ≤ z + cond c w 0 → x + cond b y 0 ≤ x + cond b z 0 + cond (b && c) w 0
+prefix_step true c x y z w h = omega arith
+prefix_step false c x y z w h = omega arith
 
 cond_less : (a b : Bool) (w : ℕ) → (a ≡ true → b ≡ true) → cond a w 0 ≤ cond b w 0
 cond_less true true w h = omega arith
@@ -279,19 +279,19 @@ module _ (rules : List Rule) (chosen : List ℕ) (f : Facts) (end count : ℕ) (
       let fine = (v.fine p n b e).total_cost in
       omega (arith, h, y, c, fine)
 
-  front_cost-append : (a s : List Symbol) → front_cost f.nullable f.cost (a ++ s) ≤ front_cost f.nullable f.cost a + (cond (all_nullable f.nullable a) (front_cost f.nullable f.cost s) 0)
-  front_cost-append [] s = omega arith
-  front_cost-append (Terminal t ∷ a) s = omega arith
-  front_cost-append (Nonterminal n ∷ a) s =
-      front_step (is_nullable f.nullable n) (all_nullable f.nullable a) (slice_index f.cost n) _ (front_cost f.nullable f.cost a) (front_cost f.nullable f.cost s) (front_cost-append a s)
+  prefix_cost-append : (a s : List Symbol) → prefix_cost f.nullable f.cost (a ++ s) ≤ prefix_cost f.nullable f.cost a + (cond (all_nullable f.nullable a) (prefix_cost f.nullable f.cost s) 0)
+  prefix_cost-append [] s = omega arith
+  prefix_cost-append (Terminal t ∷ a) s = omega arith
+  prefix_cost-append (Nonterminal n ∷ a) s =
+      prefix_step (is_nullable f.nullable n) (all_nullable f.nullable a) (slice_index f.cost n) _ (prefix_cost f.nullable f.cost a) (prefix_cost f.nullable f.cost s) (prefix_cost-append a s)
 
   -- The cost of a stack's front falls where its nonterminal is rewritten.
-  pub front_cost-rewrite : (p n : ℕ) (b s : List Symbol) → IsRule rules p n b → front_cost f.nullable f.cost (b ++ s) < front_cost f.nullable f.cost (Nonterminal n ∷ s)
-  front_cost-rewrite p n b s e =
+  pub prefix_cost-rewrite : (p n : ℕ) (b s : List Symbol) → IsRule rules p n b → prefix_cost f.nullable f.cost (b ++ s) < prefix_cost f.nullable f.cost (Nonterminal n ∷ s)
+  prefix_cost-rewrite p n b s e =
       let fine = v.fine p n b e in
-      let most = front_cost-append b s in
-      let less = fine.front_cost in
-      let behind = cond_less (all_nullable f.nullable b) (is_nullable f.nullable n) (front_cost f.nullable f.cost s) fine.nullable in
+      let most = prefix_cost-append b s in
+      let less = fine.prefix_cost in
+      let behind = cond_less (all_nullable f.nullable b) (is_nullable f.nullable n) (prefix_cost f.nullable f.cost s) fine.nullable in
       omega (arith, most, less, behind)
 
 -- ---- a loop that reads one token

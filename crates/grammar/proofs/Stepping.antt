@@ -8,17 +8,17 @@ use Rattle.grammar.specs.declared.table.Symbol.{Symbol}
 use Rattle.grammar.specs.declared.table.Symbol.TheVariants.{Terminal, Nonterminal}
 use Rattle.grammar.specs.declared.table.Grammar.{Grammar}
 use Rattle.grammar.specs.Syntax.{rules_of, syntax_of}
-use Rattle.grammar.specs.Derivation.{IsRule, Derives, ReadsTo, start_of, IsDerivation, IsSentence, BeginsWith}
-use Rattle.base.specs.Lists.Fault.{Begins, IsFirstFault}
+use Rattle.grammar.specs.Derivation.{IsRule, Derives, ReadsTo, start_of, IsDerivation, IsSentence, StartsWith}
+use Rattle.base.specs.Lists.Fault.{IsViablePrefix, IsFirstFault}
 use Rattle.grammar.specs.Inner.Reading.{IsLeft, ReadsOne, ReadsNone}
 use Rattle.grammar.specs.Derivation.Derives.{done}
 use Rattle.grammar.specs.Derivation.ReadsTo.{stop, read}
-use Rattle.grammar.specs.Ll1.{IsLl1, chosen_of, front_cost}
+use Rattle.grammar.specs.Ll1.{IsLl1, chosen_of, prefix_cost}
 use Rattle.grammar.specs.Inner.Choosing.{IsChoice, IsNoChoice}
 use Rattle.grammar.proofs.Sets.{within-has}
 use Rattle.grammar.proofs.Valid.{Valid}
 use Rattle.grammar.proofs.Deriving.{IsRule-body, ReadsTo-derives, ReadsTo-append}
-use Rattle.grammar.proofs.Reading.{Good, AllIn, Pending, LastIs, Good-left, AllIn-left, Leads, Leads-start, Leads-rewrite, Leads-none, none-empty, none-other, none-chosen, front_cost-rewrite, completes, splits, ends, only_one}
+use Rattle.grammar.proofs.Reading.{Good, AllIn, Pending, LastIs, Good-left, AllIn-left, Leads, Leads-start, Leads-rewrite, Leads-none, none-empty, none-other, none-chosen, prefix_cost-rewrite, completes, splits, ends, only_one}
 use Rattle.grammar.proofs.Tested.{facts, tables}
 
 -- the loop's invariant
@@ -89,13 +89,13 @@ leads-more g h kind n p head old s left b next before after grown l e choice r e
     (subst (λ x. LeadsIn g kind old x before (after ++ p ∷ [])) next'
     (Leads-rewrite (rules_of g) (chosen_of g) (facts g) g.end (length g.spans.now) (valid-of g h) kind old left n p choice.body before after (subst (λ x. LeadsIn g kind old x before after) e l) choice.rule choice.taken))
 
-pub cost-less : (g : Grammar) → IsLl1 g → (kind n p head : ℕ) (s left b next : List Symbol) → s ≡ Nonterminal n ∷ left → IsChoice g n kind p → IsRule (rules_of g) p head b → next ≡ b ++ left → front_cost (facts g).nullable (facts g).cost next < front_cost (facts g).nullable (facts g).cost s
+pub cost-less : (g : Grammar) → IsLl1 g → (kind n p head : ℕ) (s left b next : List Symbol) → s ≡ Nonterminal n ∷ left → IsChoice g n kind p → IsRule (rules_of g) p head b → next ≡ b ++ left → prefix_cost (facts g).nullable (facts g).cost next < prefix_cost (facts g).nullable (facts g).cost s
 cost-less g h kind n p head s left b next e choice r e' =
     let same : choice.body ≡ b = IsRule-body (rules_of g) p n head choice.body b choice.rule r in
     let next' : choice.body ++ left ≡ next = ap (λ x. x ++ left) same ∙ sym e' in
-    let less : front_cost (facts g).nullable (facts g).cost (choice.body ++ left) < front_cost (facts g).nullable (facts g).cost (Nonterminal n ∷ left) = front_cost-rewrite (rules_of g) (chosen_of g) (facts g) g.end (length g.spans.now) (valid-of g h) p n choice.body left choice.rule in
-    subst (λ x. front_cost (facts g).nullable (facts g).cost next < front_cost (facts g).nullable (facts g).cost x) (sym e)
-    (subst (λ x. front_cost (facts g).nullable (facts g).cost x < front_cost (facts g).nullable (facts g).cost (Nonterminal n ∷ left)) next' less)
+    let less : prefix_cost (facts g).nullable (facts g).cost (choice.body ++ left) < prefix_cost (facts g).nullable (facts g).cost (Nonterminal n ∷ left) = prefix_cost-rewrite (rules_of g) (chosen_of g) (facts g) g.end (length g.spans.now) (valid-of g h) p n choice.body left choice.rule in
+    subst (λ x. prefix_cost (facts g).nullable (facts g).cost next < prefix_cost (facts g).nullable (facts g).cost x) (sym e)
+    (subst (λ x. prefix_cost (facts g).nullable (facts g).cost x < prefix_cost (facts g).nullable (facts g).cost (Nonterminal n ∷ left)) next' less)
 
 -- ---- the loop over the tokens
 
@@ -105,7 +105,7 @@ read-more g kinds place kind old new before after r one e =
     (subst (λ x. ReadsTo (rules_of g) (start_of (syntax_of g)) (before ++ one.numbers) x new) (sym e) (ReadsTo-append r one.reads))
 
 -- what is read begins some sentence
-pub is-front : (g : Grammar) → IsLl1 g → (ps ts : List ℕ) (left : List Symbol) → ReadsTo (rules_of g) (start_of (syntax_of g)) ps ts left → Begins (IsSentence (syntax_of g)) ts
+pub is-front : (g : Grammar) → IsLl1 g → (ps ts : List ℕ) (left : List Symbol) → ReadsTo (rules_of g) (start_of (syntax_of g)) ps ts left → IsViablePrefix (IsSentence (syntax_of g)) ts
 is-front g h ps ts left r =
     let v = valid-of g h in
     let c = completes (rules_of g) (chosen_of g) (facts g) g.end (length g.spans.now) v left (AllIn-left (rules_of g) (chosen_of g) (facts g) g.end (length g.spans.now) v r (all_in-whole g h)) in
@@ -117,7 +117,7 @@ forced-by g h qs ts left r more ps d =
     splits (rules_of g) (chosen_of g) (facts g) g.end (length g.spans.now) (valid-of g h) r (good-whole g h) (all_in-whole g h) more d
 
 -- no sentence goes on with a kind that can't be read
-pub no-front : (g : Grammar) → IsLl1 g → (kinds : List ℕ) (place kind : ℕ) (numbers : List ℕ) (stack : List Symbol) → ReadsTo (rules_of g) (start_of (syntax_of g)) numbers (take place kinds) stack → ((ps ts : List ℕ) → Derives (rules_of g) stack ps (kind ∷ ts) → ⊥) → take (place + 1) kinds ≡ take place kinds ++ kind ∷ [] → Begins (IsSentence (syntax_of g)) (take (place + 1) kinds) → ⊥
+pub no-front : (g : Grammar) → IsLl1 g → (kinds : List ℕ) (place kind : ℕ) (numbers : List ℕ) (stack : List Symbol) → ReadsTo (rules_of g) (start_of (syntax_of g)) numbers (take place kinds) stack → ((ps ts : List ℕ) → Derives (rules_of g) stack ps (kind ∷ ts) → ⊥) → take (place + 1) kinds ≡ take place kinds ++ kind ∷ [] → IsViablePrefix (IsSentence (syntax_of g)) (take (place + 1) kinds) → ⊥
 no-front g h kinds place kind numbers stack r none e front =
     let front' : take (place + 1) kinds ++ front.0 ≡ take place kinds ++ (kind ∷ front.0) = ap (λ x. x ++ front.0) e ∙ append_assoc (take place kinds) (kind ∷ []) front.0 in
     let x = forced-by g h numbers (take place kinds) stack r (kind ∷ front.0) front.1.0 (subst (λ y. IsDerivation (syntax_of g) front.1.0 y) front' front.1.1) in
@@ -147,7 +147,7 @@ start-read g kinds numbers first second e f s =
 pub record Stops (g : Grammar) (kinds : List ℕ) (place : ℕ) (numbers : List ℕ) : Type 0 where
   pub stack : List Symbol
   pub reads : ReadsTo (rules_of g) (start_of (syntax_of g)) numbers (take place kinds) stack
-  pub none : Begins (IsSentence (syntax_of g)) (take (place + 1) kinds) → ⊥
+  pub none : IsViablePrefix (IsSentence (syntax_of g)) (take (place + 1) kinds) → ⊥
 
 pub stops-at : (g : Grammar) → IsLl1 g → (kinds : List ℕ) (place kind known : ℕ) (stack : List Symbol) (before after cut : List ℕ) → ReadsTo (rules_of g) (start_of (syntax_of g)) before (take place kinds) stack → ReadsNone (rules_of g) kind stack before after → cut ≡ take known after → known ≡ length before → take (place + 1) kinds ≡ take place kinds ++ kind ∷ [] → Stops g kinds place cut
 stops-at g h kinds place kind known stack before after cut r stuck e n t =
@@ -170,7 +170,7 @@ first-fault g h kinds place numbers lt s = record {
   none = λ d. no-sentence g kinds place numbers s d.0 d.1;
 }
 
-pub forced-at : (g : Grammar) → IsLl1 g → (kinds : List ℕ) (place : ℕ) (numbers : List ℕ) → Stops g kinds place numbers → (more ps : List ℕ) → IsDerivation (syntax_of g) ps (take place kinds ++ more) → BeginsWith ps numbers
+pub forced-at : (g : Grammar) → IsLl1 g → (kinds : List ℕ) (place : ℕ) (numbers : List ℕ) → Stops g kinds place numbers → (more ps : List ℕ) → IsDerivation (syntax_of g) ps (take place kinds ++ more) → StartsWith ps numbers
 forced-at g h kinds place numbers s more ps d = let x = forced-by g h numbers (take place kinds) s.stack s.reads more ps d in (x.0, x.1)
 
 -- where all tokens were read

@@ -9,9 +9,9 @@ use Rattle.grammar.specs.declared.table.Span.{Span}
 use Rattle.grammar.specs.declared.table.Grammar.{Grammar}
 use Rattle.grammar.specs.Syntax.{Rule, rule_of, rules_of}
 use Rattle.grammar.specs.Derivation.{IsRule}
-use Rattle.grammar.specs.Ll1.{Facts, is_nullable, all_nullable, is_within, is_apart, ranks_below, is_fine, all_fine, is_apart_from, all_apart, is_in_span, all_covered, is_productive, all_productive, is_in_tables, are_facts, facts_of, chosen_of, is_ll1, IsLl1}
+use Rattle.grammar.specs.Ll1.{Facts, is_nullable, all_nullable, is_within, is_apart, ranks_below, is_ll1_rule, are_ll1_rules, is_apart_from, all_apart, is_in_span, all_covered, is_productive, all_productive, is_in_tables, are_facts, facts_of, chosen_of, is_ll1, IsLl1}
 use Rattle.grammar.proofs.Sets.{Has, apart-has}
-use Rattle.grammar.proofs.Valid.{Fine, Valid}
+use Rattle.grammar.proofs.Valid.{Ll1Rules, Valid}
 
 pub facts : Grammar → Facts
 facts g = facts_of g.end g.spans.now (rules_of g)
@@ -23,7 +23,7 @@ tested g h = h
 -- ---- each rule
 
 module _ (f : Facts) (end count : ℕ) where
-  fine-parts : (n : ℕ) (b : List Symbol) (c : ℕ) → is_fine f end count (record { head = n; body = b }) c ≡ true → Fine f end count n b c
+  fine-parts : (n : ℕ) (b : List Symbol) (c : ℕ) → is_ll1_rule f end count (record { head = n; body = b }) c ≡ true → Ll1Rules f end count n b c
   fine-parts n b c h =
       let q8 = and_parts _ (ltb c (2 ^ 128)) h in
       let q7 = and_parts _ _ q8.0 in
@@ -38,7 +38,7 @@ module _ (f : Facts) (end count : ℕ) where
         nullable = λ e. implied (all_nullable f.nullable b) (is_nullable f.nullable n) q3.1 e;
         follow = q4.1;
         inner = q5.1;
-        front_cost = ltb-true _ _ q6.1;
+        prefix_cost = ltb-true _ _ q6.1;
         total_cost = ltb-true _ _ q7.1;
         fits = ltb-true _ _ q8.1;
       }
@@ -47,13 +47,13 @@ module _ (f : Facts) (end count : ℕ) where
       implied true y h e = h
       implied false y h e = cc
 
-  fine-at : (rules : List Rule) (cs : List ℕ) (p : ℕ) (r : Rule) → all_fine f end count rules cs ≡ true → slice_get rules p ≡ Some r → is_fine f end count r (slice_index cs p) ≡ true
+  fine-at : (rules : List Rule) (cs : List ℕ) (p : ℕ) (r : Rule) → are_ll1_rules f end count rules cs ≡ true → slice_get rules p ≡ Some r → is_ll1_rule f end count r (slice_index cs p) ≡ true
   fine-at [] cs p r h e = cc
   fine-at (s ∷ rules) [] p r h e = cc
   fine-at (s ∷ rules) (c ∷ cs) zero r h e =
       let same : s ≡ r = cc in
-      subst (λ x. is_fine f end count x c ≡ true) same (and_parts _ (all_fine f end count rules cs) h).0
-  fine-at (s ∷ rules) (c ∷ cs) (suc p) r h e = fine-at rules cs p r (and_parts (is_fine f end count s c) _ h).1 e
+      subst (λ x. is_ll1_rule f end count x c ≡ true) same (and_parts _ (are_ll1_rules f end count rules cs) h).0
+  fine-at (s ∷ rules) (c ∷ cs) (suc p) r h e = fine-at rules cs p r (and_parts (is_ll1_rule f end count s c) _ h).1 e
 
 -- ---- two rules
 
@@ -156,7 +156,7 @@ tables_of f g h same =
     let q5 = and_parts _ (all_productive f.rank (rules_of g) count) q6.0 in
     let q4 = and_parts _ (all_covered g.spans.now 0 (rules_of g)) q5.0 in
     let q3 = and_parts _ (all_apart (rules_of g) (chosen_of g)) q4.0 in
-    let q2 = and_parts (is_in_tables g.productions.now (length g.symbols.now) (length g.productions.now) g.spans.now) (all_fine f g.end count (rules_of g) (chosen_of g)) q3.0 in
+    let q2 = and_parts (is_in_tables g.productions.now (length g.symbols.now) (length g.productions.now) g.spans.now) (are_ll1_rules f g.end count (rules_of g) (chosen_of g)) q3.0 in
     let q1 = and_parts (list_all (λ (p : Production). leb p.first p.end && leb p.end (length g.symbols.now)) g.productions.now) (list_all (λ (s : Span). leb s.end (length g.productions.now)) g.spans.now) q2.0 in
     record {
       bodies = λ p r e. let b = and_parts (leb r.first r.end) (leb r.end (length g.symbols.now)) (all-at _ g.productions.now p r q1.0 e) in (leb-true _ _ b.0, leb-true _ _ b.1);

@@ -9,7 +9,7 @@ use Rattle.grammar.specs.declared.tree.Node.{Node}
 use Rattle.grammar.specs.Syntax.{Rule, Syntax}
 use Rattle.grammar.specs.Derivation.{IsRule, IsDerivation, Derives}
 use Rattle.grammar.specs.Derivation.Derives.{done, shift, expand}
-use Rattle.grammar.specs.Tree.{Forest, nothing, token, node, Grows, productions_of, leaves_of, IsNode, AreNodes, IsParseTree, Derived, Place, Tree, Stands, IsExtent, AreLaid, beginning, below_of, behind}
+use Rattle.grammar.specs.Tree.{Forest, nothing, token, node, Grows, productions_of, leaves_of, IsNode, AreNodes, IsParseTree, Derived, TreePosition, Tree, IsTreeAt, IsExtent, AreLaid, beginning, below_of, behind}
 use Rattle.grammar.specs.Inner.Nodes.{HasTree, AreNodesFrom}
 use Rattle.grammar.specs.Tree.Grows.{empty, leaf, branch}
 use Rattle.grammar.proofs.Deriving.{IsRule-body, Derives-append}
@@ -373,7 +373,7 @@ record NodeLaid (rules : List Rule) (productions tokens : List ℕ) (nodes : Lis
   pub at : slice_get nodes place ≡ Some child
   pub ends : child.end ≡ place + suc (length (productions_of below))
   pub counts : child.tokens ≡ length (leaves_of below)
-  pub stands : Stands (record { rules = rules; productions = productions; tokens = tokens }) (record { production = place; token = start }) n (record { number = number; below = below })
+  pub stands : IsTreeAt (record { rules = rules; productions = productions; tokens = tokens }) (record { production = place; token = start }) n (record { number = number; below = below })
   pub next : drop child.end productions ≡ productions_of right ++ others
   pub reads : drop (start + child.tokens) tokens ≡ leaves_of right ++ more
 
@@ -433,7 +433,7 @@ laid {rules} (branch {p = p} {n = n} b {below = below} {right = right} r g h) pr
     (record { number = p; below = below }, right, x.child, refl, x.at, x.stands, laid h productions tokens nodes known x.child.end (start + x.child.tokens) end stop others more x.next x.reads (omega (arith, far, length-append (productions_of below) (productions_of right))) (omega (arith, count, length-append (leaves_of below) (leaves_of right))) (omega (arith, wide, count)))
 
 -- what is below a tree
-pub laid-below : (d : Derived) (nodes : List Node) (n : Node) (at : Place) (head : ℕ) (t : Tree) (body : List Symbol) → AreNodes d.rules d.productions nodes → slice_get nodes at.production ≡ Some n → Stands d at head t → IsRule d.rules t.number head body → AreLaid d nodes body t.below (below_of at) (behind n at)
+pub laid-below : (d : Derived) (nodes : List Node) (n : Node) (at : TreePosition) (head : ℕ) (t : Tree) (body : List Symbol) → AreNodes d.rules d.productions nodes → slice_get nodes at.production ≡ Some n → IsTreeAt d at head t → IsRule d.rules t.number head body → AreLaid d nodes body t.below (below_of at) (behind n at)
 laid-below d nodes n at head t body known got s r =
     let rules = d.rules in
     let productions = d.productions in
@@ -454,7 +454,7 @@ laid-below d nodes n at head t body known got s r =
     (laid s.grows productions tokens nodes known (place + 1) start n.end (start + n.tokens) s.others s.more (sym (drop-drop 1 place productions) ∙ ap (drop 1) s.here) s.reads (omega (arith, far)) (omega (arith, count)) s.within)
 
 -- the tree of a whole derivation
-pub stands-whole : (y : Syntax) (ps ts : List ℕ) → IsDerivation y ps ts → (t : Tree) × Stands (record { rules = y.rules; productions = ps; tokens = ts }) beginning 0 t
+pub stands-whole : (y : Syntax) (ps ts : List ℕ) → IsDerivation y ps ts → (t : Tree) × IsTreeAt (record { rules = y.rules; productions = ps; tokens = ts }) beginning 0 t
 stands-whole y ps ts d =
     let x = tree-of d in
     let f = node-first x.grows in (
@@ -472,7 +472,7 @@ stands-whole y ps ts d =
     )
 
 -- how far a tree goes
-pub stands-extent : (d : Derived) (nodes : List Node) (n : Node) (at : Place) (head : ℕ) (t : Tree) → AreNodes d.rules d.productions nodes → slice_get nodes at.production ≡ Some n → Stands d at head t → IsExtent d at n
+pub stands-extent : (d : Derived) (nodes : List Node) (n : Node) (at : TreePosition) (head : ℕ) (t : Tree) → AreNodes d.rules d.productions nodes → slice_get nodes at.production ≡ Some n → IsTreeAt d at head t → IsExtent d at n
 stands-extent d nodes n at head t known got s =
     let rules = d.rules in
     let productions = d.productions in
@@ -494,7 +494,7 @@ stands-extent d nodes n at head t known got s =
     record { some = omega (arith, far); end = omega (arith, far, long); stop = omega (arith, count, wide) }
 
 -- where a tree's production is
-pub stands-within : (d : Derived) (at : Place) (head : ℕ) (t : Tree) → Stands d at head t → (at.production < length d.productions) × (slice_get d.productions at.production ≡ Some t.number)
+pub stands-within : (d : Derived) (at : TreePosition) (head : ℕ) (t : Tree) → IsTreeAt d at head t → (at.production < length d.productions) × (slice_get d.productions at.production ≡ Some t.number)
 stands-within d at head t s =
     let others = productions_of t.below ++ s.others in
     (within-drop d.productions at.production t.number others s.here, get-drop d.productions at.production t.number others s.here)

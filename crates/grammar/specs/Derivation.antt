@@ -39,8 +39,8 @@ abbrev pub IsBeginning : Syntax → List ℕ → List ℕ → Type 0
 IsBeginning y ps ts = (left : List Symbol) × ReadsTo y.rules (start_of y) ps ts left
 
 -- The list begins with the front.
-abbrev pub BeginsWith : List ℕ → List ℕ → Type 0
-BeginsWith xs front = (rest : List ℕ) × (xs ≡ front ++ rest)
+abbrev pub StartsWith : List ℕ → List ℕ → Type 0
+StartsWith xs front = (rest : List ℕ) × (xs ≡ front ++ rest)
 
 -- The rule is one of the nonterminal's rules in this list, of which the first one has the given number. At a list of
 -- rules that is written out it computes to what the number and the body may be.

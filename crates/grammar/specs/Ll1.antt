@@ -38,10 +38,10 @@ begins nullable first behind (Terminal t ∷ s) = 2 ^ t
 begins nullable first behind (Nonterminal n ∷ s) = bit_or (slice_index first n) (if is_nullable nullable n then begins nullable first behind s else 0)
 
 -- the cost of the symbols up to the first that derives something
-abbrev pub front_cost : List Bool → List ℕ → List Symbol → ℕ
-front_cost nullable cost [] = 0
-front_cost nullable cost (Terminal t ∷ s) = 0
-front_cost nullable cost (Nonterminal n ∷ s) = slice_index cost n + (if is_nullable nullable n then front_cost nullable cost s else 0)
+abbrev pub prefix_cost : List Bool → List ℕ → List Symbol → ℕ
+prefix_cost nullable cost [] = 0
+prefix_cost nullable cost (Terminal t ∷ s) = 0
+prefix_cost nullable cost (Nonterminal n ∷ s) = slice_index cost n + (if is_nullable nullable n then prefix_cost nullable cost s else 0)
 
 -- the cost of all the symbols
 abbrev pub total_cost : List ℕ → List Symbol → ℕ
@@ -86,22 +86,22 @@ ranks_below rank top (Terminal t ∷ s) = ranks_below rank top s
 ranks_below rank top (Nonterminal n ∷ s) = nat_lt (slice_index rank n) top && ranks_below rank top s
 
 -- what a rule and the kinds before which it is taken have to be
-abbrev pub is_fine : Facts → ℕ → ℕ → Rule → ℕ → Bool
-is_fine f end count r chosen =
+abbrev pub is_ll1_rule : Facts → ℕ → ℕ → Rule → ℕ → Bool
+is_ll1_rule f end count r chosen =
     let behind = slice_index f.follow r.head in
     is_within (begins f.nullable f.first behind r.body) chosen
     && is_within (begins f.nullable f.first 0 r.body) (slice_index f.first r.head)
     && (not (all_nullable f.nullable r.body) || is_nullable f.nullable r.head)
     && keeps_follow f behind r.body
     && is_inner end count r.body
-    && nat_lt (front_cost f.nullable f.cost r.body) (slice_index f.cost r.head)
+    && nat_lt (prefix_cost f.nullable f.cost r.body) (slice_index f.cost r.head)
     && nat_lt (total_cost f.cost r.body + 32 * yield_of f.nullable r.head) (slice_index f.cost r.head + 32 * total_yield f.nullable r.body)
     && nat_lt chosen (2 ^ 128)
 
-abbrev pub all_fine : Facts → ℕ → ℕ → List Rule → List ℕ → Bool
-all_fine f end count [] chosen = true
-all_fine f end count (r ∷ rs) [] = false
-all_fine f end count (r ∷ rs) (c ∷ cs) = is_fine f end count r c && all_fine f end count rs cs
+abbrev pub are_ll1_rules : Facts → ℕ → ℕ → List Rule → List ℕ → Bool
+are_ll1_rules f end count [] chosen = true
+are_ll1_rules f end count (r ∷ rs) [] = false
+are_ll1_rules f end count (r ∷ rs) (c ∷ cs) = is_ll1_rule f end count r c && are_ll1_rules f end count rs cs
 
 -- No rule of this nonterminal is taken before one of these kinds.
 abbrev pub is_apart_from : ℕ → ℕ → List Rule → List ℕ → Bool
@@ -143,7 +143,7 @@ abbrev pub are_facts : Facts → Grammar → List Rule → List ℕ → Bool
 are_facts f g rules chosen =
     let count = length g.spans.now in
     is_in_tables g.productions.now (length g.symbols.now) (length g.productions.now) g.spans.now
-    && all_fine f g.end count rules chosen
+    && are_ll1_rules f g.end count rules chosen
     && all_apart rules chosen
     && all_covered g.spans.now 0 rules
     && all_productive f.rank rules count
@@ -187,7 +187,7 @@ more_cost nullable [] xs = xs
 more_cost nullable (r ∷ rs) xs =
     let ys = more_cost nullable rs xs in
     let total = suc (total_cost ys r.body + 32 * yield_of nullable r.head) - 32 * total_yield nullable r.body in
-    slice_set ys r.head (max (slice_index ys r.head) (max (suc (front_cost nullable ys r.body)) total))
+    slice_set ys r.head (max (slice_index ys r.head) (max (suc (prefix_cost nullable ys r.body)) total))
 
 -- the greatest rank among the symbols, where each has one
 abbrev pub top_rank : List ℕ → List Symbol → ℕ

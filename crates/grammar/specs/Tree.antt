@@ -62,7 +62,7 @@ pub record Derived : Type 0 where
   pub tokens : List ℕ
 
 -- A place in it: so many productions, and so many tokens, are before it.
-pub record Place : Type 0 where
+pub record TreePosition : Type 0 where
   pub production : ℕ
   pub token : ℕ
 
@@ -72,23 +72,23 @@ pub record Tree : Type 0 where
   pub below : Forest
 
 -- where all begins
-abbrev pub beginning : Place
+abbrev pub beginning : TreePosition
 beginning = record { production = 0; token = 0 }
 
 -- where the trees below the one at this place begin
-abbrev pub below_of : Place → Place
+abbrev pub below_of : TreePosition → TreePosition
 below_of at = record { production = at.production + 1; token = at.token }
 
 -- the place behind the token at this one
-abbrev pub behind_token : Place → Place
+abbrev pub behind_token : TreePosition → TreePosition
 behind_token at = record { production = at.production; token = at.token + 1 }
 
 -- the place behind the tree at this one, of which this is the node
-abbrev pub behind : Node → Place → Place
+abbrev pub behind : Node → TreePosition → TreePosition
 behind n at = record { production = n.end; token = at.token + n.tokens }
 
 -- At this place stands a tree of the nonterminal.
-pub record Stands (d : Derived) (at : Place) (head : ℕ) (t : Tree) : Type 0 where
+pub record IsTreeAt (d : Derived) (at : TreePosition) (head : ℕ) (t : Tree) : Type 0 where
   pub body : List Symbol
   pub rule : IsRule d.rules t.number head body
   pub grows : Grows d.rules body t.below
@@ -99,7 +99,7 @@ pub record Stands (d : Derived) (at : Place) (head : ℕ) (t : Tree) : Type 0 wh
   pub within : at.token ≤ length d.tokens
 
 -- A tree at this place, of which this is the node, has a production, and ends within the derivation.
-pub record IsExtent (d : Derived) (at : Place) (n : Node) : Type 0 where
+pub record IsExtent (d : Derived) (at : TreePosition) (n : Node) : Type 0 where
   pub some : at.production < n.end
   pub end : n.end ≤ length d.productions
   pub stop : at.token + n.tokens ≤ length d.tokens
@@ -107,9 +107,9 @@ pub record IsExtent (d : Derived) (at : Place) (n : Node) : Type 0 where
 -- Where the trees of the symbols stand, side by side from the one place up to the other: each token where the one
 -- before ends, and each tree where the nodes say that the one before ends. At symbols that are written out it computes
 -- to a fact for each.
-abbrev pub AreLaid : Derived → List Node → List Symbol → Forest → Place → Place → Type 0
+abbrev pub AreLaid : Derived → List Node → List Symbol → Forest → TreePosition → TreePosition → Type 0
 AreLaid d nodes [] f at end = (f ≡ nothing) × (at.production ≡ end.production) × (at.token ≡ end.token)
 AreLaid d nodes (Terminal t ∷ s) f at end =
     (right : Forest) × (f ≡ token t right) × (slice_get d.tokens at.token ≡ Some t) × AreLaid d nodes s right (behind_token at) end
 AreLaid d nodes (Nonterminal n ∷ s) f at end =
-    (t : Tree) × (right : Forest) × (child : Node) × (f ≡ node t.number t.below right) × (slice_get nodes at.production ≡ Some child) × Stands d at n t × AreLaid d nodes s right (behind child at) end
+    (t : Tree) × (right : Forest) × (child : Node) × (f ≡ node t.number t.below right) × (slice_get nodes at.production ≡ Some child) × IsTreeAt d at n t × AreLaid d nodes s right (behind child at) end

@@ -5,7 +5,7 @@ ghost use Rattle.std.specs.Prelude.{◌≡◌, ℕ, ◌*◌, ◌<◌, ◌≤◌,
 ghost use Rattle.grammar.specs.Syntax.{Rule, Syntax, syntax_of};
 ghost use Rattle.grammar.specs.Derivation.{Derives, IsAlternative, IsBeginning, IsDerivation, IsRule};
 ghost use Rattle.grammar.specs.Ll1.{IsLl1};
-ghost use Rattle.grammar.specs.Tree.{AreLaid, AreNodes, Derived, Forest, Grows, IsExtent, IsParseTree, Place, Stands, Tree, beginning, behind, below_of, productions_of, leaves_of};
+ghost use Rattle.grammar.specs.Tree.{AreLaid, AreNodes, Derived, Forest, Grows, IsExtent, IsParseTree, TreePosition, IsTreeAt, Tree, beginning, behind, below_of, productions_of, leaves_of};
 ghost use Rattle.grammar.specs.declared.table.Symbol.{Symbol};
 ghost use Rattle.grammar.specs.declared.tree.Node.{Node};
 
@@ -50,15 +50,15 @@ pub fn one_tree()
 /// symbol of its body stands.
 pub fn children()
     ensures whole { (y : Syntax) (ps ts : List ℕ) → IsDerivation y ps ts
-        → (t : Tree) × Stands (record { rules = y.rules; productions = ps; tokens = ts }) beginning 0 t }
-    ensures first { (d : Derived) (at : Place) (head : ℕ) (t : Tree) → Stands d at head t
+        → (t : Tree) × IsTreeAt (record { rules = y.rules; productions = ps; tokens = ts }) beginning 0 t }
+    ensures first { (d : Derived) (at : TreePosition) (head : ℕ) (t : Tree) → IsTreeAt d at head t
         → (at.production < length d.productions) × (slice_get d.productions at.production ≡ Some t.number) }
-    ensures extent { (d : Derived) (nodes : List Node) (n : Node) (at : Place) (head : ℕ) (t : Tree)
+    ensures extent { (d : Derived) (nodes : List Node) (n : Node) (at : TreePosition) (head : ℕ) (t : Tree)
         → AreNodes d.rules d.productions nodes → slice_get nodes at.production ≡ Some n
-        → Stands d at head t → IsExtent d at n }
-    ensures below { (d : Derived) (nodes : List Node) (n : Node) (at : Place) (head : ℕ) (t : Tree)
+        → IsTreeAt d at head t → IsExtent d at n }
+    ensures below { (d : Derived) (nodes : List Node) (n : Node) (at : TreePosition) (head : ℕ) (t : Tree)
         (body : List Symbol) → AreNodes d.rules d.productions nodes → slice_get nodes at.production ≡ Some n
-        → Stands d at head t → IsRule d.rules t.number head body
+        → IsTreeAt d at head t → IsRule d.rules t.number head body
         → AreLaid d nodes body t.below (below_of at) (behind n at) }
 {}
 

@@ -3,7 +3,7 @@
 ghost use Rattle.std.specs.Prelude.{◌≡◌, ℕ, ◌<◌, List, [], ◌∷◌, ◌++◌, length, take, reverse, Some, IfOk, OnOk, MatchResult};
 ghost use Rattle.std.specs.Bool.{OnTrue, OnFalse};
 ghost use Rattle.grammar.specs.Syntax.{rules_of, syntax_of};
-ghost use Rattle.grammar.specs.Derivation.{IsDerivation, IsSentence, IsBeginning, BeginsWith};
+ghost use Rattle.grammar.specs.Derivation.{IsDerivation, IsSentence, IsBeginning, StartsWith};
 ghost use Rattle.base.specs.Lists.Fault.{IsFirstFault};
 ghost use Rattle.grammar.specs.Inner.Reading.{IsLeft, ReadsOne, ReadsNone};
 ghost use Rattle.grammar.specs.Ll1.{IsLl1};
@@ -88,7 +88,7 @@ pub fn parse(alloc: Global, grammar: &Grammar, kinds: &[u8]) -> Result<Vec<u16>,
     // with which each derivation of a sentence with this front begins.
     ensures forced { IfFault result (λ fault. (more ps : List ℕ)
         → IsDerivation (syntax_of grammar.now) ps (take fault.place kinds.now ++ more)
-        → BeginsWith ps fault.productions.items) }
+        → StartsWith ps fault.productions.items) }
 {
     let mut stack = Vec::new(alloc);
     stack.push(Symbol::Terminal(grammar.end))?;

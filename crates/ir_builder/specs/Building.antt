@@ -5,8 +5,8 @@ use Rattle.grammar.specs.declared.bottom_up.Step.TheVariants.{Shift, Reduce}
 use Rattle.dslx_token.specs.Lexeme.{Lexeme}
 use Rattle.ir_tree.specs.declared.package.Ends.TheVariants as ends
 use Rattle.ir_tree.specs.declared.package.Package.{Package}
-use Rattle.ir_verify.specs.declared.places.Places.{Places}
-use Rattle.ir_builder.specs.declared.builder.Placed.{Placed}
+use Rattle.ir_verify.specs.declared.line_spans.LineSpans.{LineSpans}
+use Rattle.ir_builder.specs.declared.builder.Spanned.{Spanned}
 use Rattle.ir_builder.specs.declared.rule.Rule.{Rule}
 use Rattle.ir_builder.specs.declared.rule.Rule.TheVariants.{Keep, Skip, Start, More, Name, Number, BitsElement, TokenElement, TupleElement, TypeOf, NumberValue, TupleValue, ArrayValue, StateOperand, NodeOperand, SomeOperand, NoOperand, PlainCall, SliceCall, DynamicCall, ExtendCall, SelCall, IndexCall, IndicesCall, LiteralCall, SiteChannel, SiteCall, ChannelId, Input, Output, Inner, ChannelOf, HeadOf, NodeOf, NextOf, ProcOf, PackageLine}
 use Rattle.ir_builder.specs.declared.rule.TheConstants.{RULES}
@@ -79,12 +79,12 @@ package_of s = record {
 }
 
 -- and where its lines stand
-abbrev pub places_of : State → Places
-places_of s = record {
+abbrev pub spans_of : State → LineSpans
+spans_of s = record {
   name = top_or nowhere s.heads;
   channels = reverse s.channel_spans;
-  procs = reverse s.proc_places;
+  procs = reverse s.proc_spans;
 }
 
-abbrev pub placed_of : State → Placed
-placed_of s = record { tree = package_of s; places = places_of s }
+abbrev pub spanned_of : State → Spanned
+spanned_of s = record { tree = package_of s; line_spans = spans_of s }

@@ -52,5 +52,5 @@ empty = record {
   heads = [];
   nexts = [];
   procs = [];
-  proc_places = [];
+  proc_spans = [];
 }

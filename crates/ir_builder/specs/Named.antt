@@ -2,9 +2,9 @@
 use Rattle.std.specs.Prelude.{ℕ, ◌^◌, ◌-◌, min, List, [], ◌∷◌, length, Option, Some, None, if◌then◌else◌, bytes_eq}
 
 -- the place of the last of these names that is spelled so; the list has the last one first
-abbrev pub place_in : List (List ℕ) → List ℕ → Option ℕ
-place_in [] name = None
-place_in (n ∷ ns) name = if bytes_eq name n then Some (length ns) else place_in ns name
+abbrev pub index_in : List (List ℕ) → List ℕ → Option ℕ
+index_in [] name = None
+index_in (n ∷ ns) name = if bytes_eq name n then Some (length ns) else index_in ns name
 
 -- a place as a number; what is nowhere, and what is past 2^32 - 1, as no text has, is named by that
 abbrev pub numbered : Option ℕ → ℕ

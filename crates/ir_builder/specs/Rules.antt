@@ -18,11 +18,11 @@ use Rattle.ir_tree.specs.declared.node.Operand.TheVariants as operands
 use Rattle.ir_tree.specs.declared.package.Ends.{Ends}
 use Rattle.ir_tree.specs.declared.package.Ends.TheVariants as ends
 use Rattle.ir_tree.specs.declared.package.Proc.{Proc}
-use Rattle.ir_verify.specs.declared.places.ProcPlaces.{ProcPlaces}
+use Rattle.ir_verify.specs.declared.line_spans.ProcSpans.{ProcSpans}
 use Rattle.ir_builder.specs.declared.state.Call.{Call}
 use Rattle.ir_builder.specs.declared.state.State.{State}
 use Rattle.ir_builder.specs.Empty.{nowhere, no_token, no_type, no_constant, no_call, join}
-use Rattle.ir_builder.specs.Named.{place_in, numbered}
+use Rattle.ir_builder.specs.Named.{index_in, numbered}
 use Rattle.base.specs.Stacks.Tops.{top_or}
 
 -- ---- tokens and lists
@@ -126,7 +126,7 @@ state_operand s = record s { tokens = drop 1 s.tokens; operands = operands.State
 
 -- the node before of this name
 abbrev pub node_named : List (List ℕ) → List ℕ → Operand
-node_named names name = operands.Node (numbered (place_in names name))
+node_named names name = operands.Node (numbered (index_in names name))
 
 -- `OP.ID`
 abbrev pub node_operand : State → State
@@ -191,7 +191,7 @@ abbrev pub site_channel : State → State
 site_channel s = record s {
   tokens = drop 3 s.tokens;
   names = drop 1 s.names;
-  site_channels = numbered (place_in s.channel_names (token_of s.names).bytes) ∷ s.site_channels;
+  site_channels = numbered (index_in s.channel_names (token_of s.names).bytes) ∷ s.site_channels;
 }
 
 -- `predicate=.., channel=NAME`
@@ -289,8 +289,8 @@ proc_made nodes s = record {
 }
 
 -- where a proc stands, by its first and last lines
-abbrev pub places_made : List Span → ℕ → State → ProcPlaces
-places_made nodes end s = record { head = top_or nowhere s.heads; nodes = nodes; next = top_or nowhere s.nexts; end = end }
+abbrev pub spans_made : List Span → ℕ → State → ProcSpans
+spans_made nodes end s = record { head = top_or nowhere s.heads; nodes = nodes; next = top_or nowhere s.nexts; end = end }
 
 -- a proc, up to its `}`: the next one begins anew
 abbrev pub proc_of : State → State
@@ -309,7 +309,7 @@ proc_of s =
       heads = drop 1 s.heads;
       nexts = drop 1 s.nexts;
       procs = proc_made (reverse (take count s.nodes)) s ∷ s.procs;
-      proc_places = places_made (reverse (take count s.node_spans)) (token_of s.tokens).span.to s ∷ s.proc_places;
+      proc_spans = spans_made (reverse (take count s.node_spans)) (token_of s.tokens).span.to s ∷ s.proc_spans;
     }
 
 -- `package NAME`, of which the name stays

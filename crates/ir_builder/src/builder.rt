@@ -3,7 +3,7 @@
 ghost use Rattle.std.specs.Prelude.{◌≡◌, ◌∷◌, List, drop, reverse, IfOk, OnOk};
 ghost use Rattle.grammar.specs.declared.bottom_up.Step.{Step};
 ghost use Rattle.dslx_token.specs.Lexeme.{Lexeme};
-ghost use Rattle.ir_builder.specs.Building.{built, placed_of};
+ghost use Rattle.ir_builder.specs.Building.{built, spanned_of};
 ghost use Rattle.ir_builder.specs.Empty.{empty};
 
 use crate::lines::name_of;
@@ -13,24 +13,24 @@ use crate::state::{NOWHERE, State};
 use grammar::Step;
 use ir_token::Token;
 use ir_tree::Package;
-use ir_verify::Places;
+use ir_verify::LineSpans;
 use std::alloc::{AllocError, Global};
 use xb_value::Seq;
 
 /// A package, and where its lines stand in the text.
 #[derive(Drop)]
-pub struct Placed {
+pub struct Spanned {
     pub tree: Package,
-    pub places: Places,
+    pub line_spans: LineSpans,
 }
 
 /// The package that the steps make of the tokens.
-pub fn build(alloc: Global, steps: &[Step], tokens: &[Token]) -> Result<Placed, AllocError>
-    ensures { IfOk result (λ placed. placed ≡ placed_of (built steps.now tokens.now empty)) }
+pub fn build(alloc: Global, steps: &[Step], tokens: &[Token]) -> Result<Spanned, AllocError>
+    ensures { IfOk result (λ spanned. spanned ≡ spanned_of (built steps.now tokens.now empty)) }
 {
     let mut state = State::new(alloc);
     run(alloc, steps, tokens, &mut state)?;
-    placed_of(alloc, &mut state)
+    spanned_of(alloc, &mut state)
 }
 
 /// Goes through the steps.
@@ -109,8 +109,8 @@ impl<'a> State<'a> {
 }
 
 /// The package whose lines have been built.
-fn placed_of(alloc: Global, state: &mut State) -> Result<Placed, AllocError>
-    ensures { IfOk result (λ placed. placed ≡ placed_of state.old) }
+fn spanned_of(alloc: Global, state: &mut State) -> Result<Spanned, AllocError>
+    ensures { IfOk result (λ spanned. spanned ≡ spanned_of state.old) }
 {
     let name = state.names.pop_or(Token::nothing());
     let line = state.heads.pop_or(NOWHERE);
@@ -119,12 +119,12 @@ fn placed_of(alloc: Global, state: &mut State) -> Result<Placed, AllocError>
         channels: take_all(alloc, &mut state.channels),
         procs: take_all(alloc, &mut state.procs),
     };
-    let places = Places {
+    let line_spans = LineSpans {
         name: line,
         channels: take_all(alloc, &mut state.channel_spans),
-        procs: take_all(alloc, &mut state.proc_places),
+        procs: take_all(alloc, &mut state.proc_spans),
     };
-    Ok(Placed { tree, places })
+    Ok(Spanned { tree, line_spans })
 }
 
 /// Takes all parts of a stack, the lowest first.

@@ -14,4 +14,4 @@ mod parts;
 mod rule;
 mod state;
 
-pub use builder::{Placed, build};
+pub use builder::{Spanned, build};

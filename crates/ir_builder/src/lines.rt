@@ -2,14 +2,14 @@
 
 ghost use Rattle.std.specs.Prelude.{◌≡◌, ◌∷◌, drop, IfOk, OnOk};
 ghost use Rattle.ir_builder.specs.Empty.{no_call};
-ghost use Rattle.ir_builder.specs.Rules.{channel_id, outer, inner, channel_of, op_or, node_added, node_made, node_of, head_of, next_of, proc_made, places_made, proc_of, package_line, token_of};
+ghost use Rattle.ir_builder.specs.Rules.{channel_id, outer, inner, channel_of, op_or, node_added, node_made, node_of, head_of, next_of, proc_made, spans_made, proc_of, package_line, token_of};
 
 use crate::state::{Call, NOWHERE, State, join};
 use base::texts::Name;
 use delay_model::Op;
 use ir_token::Token;
 use ir_tree::{Attributes, Channel, Constant, Ends, IrType, Node, Operand, Operands, Proc};
-use ir_verify::ProcPlaces;
+use ir_verify::ProcSpans;
 use std::alloc::{AllocError, Global};
 use xb_span::Span;
 use xb_value::Seq;
@@ -150,7 +150,7 @@ impl<'a> State<'a> {
         let close = self.tokens.pop_or(Token::nothing());
         let count = self.counts.pop_or(0);
         let spans = Seq::from_vec(self.node_spans.take_top(count)?);
-        self.places_of(spans, close.span().to)?;
+        self.spans_of(spans, close.span().to)?;
         let name = self.take_name(alloc)?;
         let nodes = Seq::from_vec(self.nodes.take_top(count)?);
         let proc = self.proc_made(alloc, name, nodes);
@@ -160,20 +160,20 @@ impl<'a> State<'a> {
     }
 
     /// Says where a proc stands, by its first and last lines, which it takes off.
-    fn places_of(&mut self, nodes: Seq<Span>, end: u32) -> Result<(), AllocError>
+    fn spans_of(&mut self, nodes: Seq<Span>, end: u32) -> Result<(), AllocError>
         ensures { OnOk result (self.new ≡ record self.old {
           heads = drop 1 self.old.heads;
           nexts = drop 1 self.old.nexts;
-          proc_places = places_made nodes end self.old ∷ self.old.proc_places;
+          proc_spans = spans_made nodes end self.old ∷ self.old.proc_spans;
         }) }
     {
-        let places = ProcPlaces {
+        let line_spans = ProcSpans {
             head: self.heads.pop_or(NOWHERE),
             nodes,
             next: self.nexts.pop_or(NOWHERE),
             end,
         };
-        self.proc_places.push(places)
+        self.proc_spans.push(line_spans)
     }
 
     /// Takes the name on top.

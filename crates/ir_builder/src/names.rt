@@ -1,5 +1,5 @@
 ghost use Rattle.std.specs.Prelude.{◌≡◌, ◌∷◌, [], OnOk};
-ghost use Rattle.ir_builder.specs.Named.{place_in};
+ghost use Rattle.ir_builder.specs.Named.{index_in};
 
 use base::name_table::Table;
 use std::alloc::{AllocError, Global};
@@ -15,13 +15,13 @@ pub struct Names<'a> {
 impl<'a> Model for Names<'a> {
     ghost use Rattle.std.specs.Prelude.{◌≡◌, ℕ, List, map, reverse};
     ghost use Rattle.base.specs.NameTable.Found.{found};
-    ghost use Rattle.ir_builder.specs.Named.{place_in};
+    ghost use Rattle.ir_builder.specs.Named.{index_in};
 
     ghost Value = { List (List ℕ) };
 
     ghost view = { λ n. reverse (map (λ name. name.now) n.names.items) };
 
-    ghost invariant = { λ n. (name : List ℕ) → found n.places name ≡ place_in (reverse (map (λ name. name.now) n.names.items)) name };
+    ghost invariant = { λ n. (name : List ℕ) → found n.places name ≡ index_in (reverse (map (λ name. name.now) n.names.items)) name };
 }
 
 impl<'a> Names<'a> {
@@ -36,7 +36,7 @@ impl<'a> Names<'a> {
 
     /// The place of the last one that is spelled so.
     pub fn place(&self, name: &str) -> Option<usize>
-        ensures { result ≡ place_in self.now name.now }
+        ensures { result ≡ index_in self.now name.now }
     {
         self.places.get(name)
     }

@@ -8,7 +8,7 @@ use crate::names::Names;
 use base::stacks::Stack;
 use ir_token::Token;
 use ir_tree::{Attributes, Channel, Constant, Ends, IrType, Node, Operand, Operands, Proc};
-use ir_verify::ProcPlaces;
+use ir_verify::ProcSpans;
 use std::alloc::{AllocError, Global};
 use xb_span::Span;
 
@@ -50,7 +50,7 @@ pub struct State<'a> {
     pub heads: Stack<Span>,
     pub nexts: Stack<Span>,
     pub procs: Stack<Proc>,
-    pub proc_places: Stack<ProcPlaces>,
+    pub proc_spans: Stack<ProcSpans>,
 }
 
 /// Written out, so that it is proved once and not wherever one is let go.
@@ -78,7 +78,7 @@ impl<'a> Drop for State<'a> {
             heads: _,
             nexts: _,
             procs: _,
-            proc_places: _,
+            proc_spans: _,
         } = self;
     }
 }
@@ -121,7 +121,7 @@ impl<'a> State<'a> {
             heads: Stack::new(alloc),
             nexts: Stack::new(alloc),
             procs: Stack::new(alloc),
-            proc_places: Stack::new(alloc),
+            proc_spans: Stack::new(alloc),
         }
     }
 

@@ -9,8 +9,8 @@ use Rattle.ir_tree.specs.declared.package.Package.{Package}
 use Rattle.ir_rebuild.specs.Moves.{moved, moved_node}
 use Rattle.ir_rebuild.specs.Kept.{AreAllKept}
 use Rattle.ir_rebuild.specs.Fixed.{is_fixed}
-use Rattle.ir_rebuild.specs.Walks.{NodeRelation, RebuildsTo, none_read, dropped, copied, rewritten, Becomes, EachBecomes}
-use Rattle.ir_rebuild.specs.Normal.Normal.{AreNeeded}
+use Rattle.ir_rebuild.specs.Walks.{NodeRelation, RebuildsTo, none_read, dropped, copied, rewritten, ProcRebuildsTo, EachProcRebuildsTo}
+use Rattle.ir_rebuild.specs.Normal.Normal.{AreLive}
 use Rattle.pass_dead.specs.Stays.{Stays}
 use Rattle.pass_narrow.specs.Narrowings.{Grown, and_node}
 use Rattle.ir_passes.specs.Simplified.{IsGrown, simplify}
@@ -39,15 +39,15 @@ Determines gives f = (state : IrType) (old new : List Node) (n : Node) (o : Oper
 abbrev itself : List Node → Node → Grown
 itself nodes n = record { nodes = and_node nodes n; operand = operand.Node (length nodes) }
 
-abbrev stand_in : NodeStep → IrType → List Node → Node → Bool → Grown
-stand_in f state nodes n true = itself nodes n
-stand_in f state nodes n false = f state nodes n
+abbrev rewritten_node : NodeStep → IrType → List Node → Node → Bool → Grown
+rewritten_node f state nodes n true = itself nodes n
+rewritten_node f state nodes n false = f state nodes n
 
 abbrev and_place : List Operand → Grown → Walk
 and_place places g = record { nodes = g.nodes; places = places ++ g.operand ∷ [] }
 
 abbrev one_step : NodeStep → IrType → Walk → Node → Bool → Walk
-one_step f state w n true = and_place w.places (stand_in f state w.nodes (moved_node (moved w.places) n) (is_fixed w.nodes (moved_node (moved w.places) n)))
+one_step f state w n true = and_place w.places (rewritten_node f state w.nodes (moved_node (moved w.places) n) (is_fixed w.nodes (moved_node (moved w.places) n)))
 one_step f state w n false = record { nodes = w.nodes; places = w.places ++ operand.State ∷ [] }
 
 abbrev walk_from : NodeStep → IrType → (ℕ → Bool) → ℕ → Walk → List Node → Walk
@@ -85,21 +85,21 @@ walked gives f only state kept _ _ _ (dropped old new places n w unmarked) =
     step_known f state kept old (walk_of new places) (walk_of new (places ++ operand.State ∷ [])) n false unmarked refl (walked gives f only state kept old new places w)
 walked gives f only state kept _ _ _ (copied old new places n w marked fixed built) =
     let m = moved_node (moved places) n in
-    step_known f state kept old (walk_of new places) (and_place places (itself new m)) n true marked (ap (λ b. and_place places (stand_in f state new m b)) (sym fixed)) (walked gives f only state kept old new places w)
-walked gives f only state kept _ _ _ (rewritten old new all places n o w marked free built placed rewrites given) =
+    step_known f state kept old (walk_of new places) (and_place places (itself new m)) n true marked (ap (λ b. and_place places (rewritten_node f state new m b)) (sym fixed)) (walked gives f only state kept old new places w)
+walked gives f only state kept _ _ _ (rewritten old new all places n o w marked free built fits_at rewrites given) =
     let m = moved_node (moved places) n in
     let is = only state new all m o given in
     let found : walk_of all (places ++ o ∷ []) ≡ and_place places (f state new m) = λ i. record { nodes = is.0 i; places = places ++ is.1 i ∷ [] } in
     step_known f state kept old (walk_of new places) (walk_of all (places ++ o ∷ [])) n true marked
-    (found ∙ ap (λ b. and_place places (stand_in f state new m b)) (sym free)) (walked gives f only state kept old new places w)
+    (found ∙ ap (λ b. and_place places (rewritten_node f state new m b)) (sym free)) (walked gives f only state kept old new places w)
 
 -- ---- procs
 
 -- that the pass marks the same nodes each time
 abbrev MarksOnce : (Proc → List Bool → Type 0) → NodeRelation → Type 0
-MarksOnce marks gives = (p q r : Proc) (a : Becomes marks gives p q) (b : Becomes marks gives p r) → marks_in a.kept ≡ marks_in b.kept
+MarksOnce marks gives = (p q r : Proc) (a : ProcRebuildsTo marks gives p q) (b : ProcRebuildsTo marks gives p r) → marks_in a.kept ≡ marks_in b.kept
 
-one_proc : (marks : Proc → List Bool → Type 0) (gives : NodeRelation) (f : NodeStep) → Determines gives f → MarksOnce marks gives → (p q r : Proc) → Becomes marks gives p q → Becomes marks gives p r → q ≡ r
+one_proc : (marks : Proc → List Bool → Type 0) (gives : NodeRelation) (f : NodeStep) → Determines gives f → MarksOnce marks gives → (p q r : Proc) → ProcRebuildsTo marks gives p q → ProcRebuildsTo marks gives p r → q ≡ r
 one_proc marks gives f only once p q r a b =
     let first = walked gives f only p.state a.kept p.nodes q.nodes a.places a.walks in
     let second = walked gives f only p.state b.kept p.nodes r.nodes b.places b.walks in
@@ -107,7 +107,7 @@ one_proc marks gives f only once p q r a b =
     let next : q.next ≡ r.next = a.next ∙ ap (λ (w : Walk). moved w.places p.next) same ∙ sym b.next in
     λ i. record { name = (a.name ∙ sym b.name) i; state = (a.state ∙ sym b.state) i; init = (a.init ∙ sym b.init) i; nodes = (same i).nodes; next = next i }
 
-all_one : (marks : Proc → List Bool → Type 0) (gives : NodeRelation) (f : NodeStep) → Determines gives f → MarksOnce marks gives → (ps qs rs : List Proc) → EachBecomes marks gives ps qs → EachBecomes marks gives ps rs → qs ≡ rs
+all_one : (marks : Proc → List Bool → Type 0) (gives : NodeRelation) (f : NodeStep) → Determines gives f → MarksOnce marks gives → (ps qs rs : List Proc) → EachProcRebuildsTo marks gives ps qs → EachProcRebuildsTo marks gives ps rs → qs ≡ rs
 all_one marks gives f only once [] [] [] a b = refl
 all_one marks gives f only once [] [] (r ∷ rs) a b = absurd b
 all_one marks gives f only once [] (q ∷ qs) rs a b = absurd a
@@ -125,7 +125,7 @@ same_bool true b f g = sym (f refl)
 same_bool false true f g = g refl
 same_bool false false f g = refl
 
-needed_once : (gives : NodeRelation) → MarksOnce AreNeeded gives
+needed_once : (gives : NodeRelation) → MarksOnce AreLive gives
 needed_once gives p q r a b = λ t i. at i t
   where
     at : (i : ℕ) → marks_in a.kept i ≡ marks_in b.kept i
@@ -135,5 +135,5 @@ pub one_made : (ir a b : Package) → IsMade ir a → IsMade ir b → a ≡ b
 one_made ir a b f g =
     let mid = all_one AreAllKept Simplifies simplify (λ state old new n o h. h.is) (all_once Simplifies) ir.procs f.between g.between f.first g.first in
     let procs : a.procs ≡ b.procs =
-    all_one AreNeeded Stays (λ state old n. itself old n) (λ state old new n o h. h) (needed_once Stays) g.between a.procs b.procs (subst (λ ps. EachBecomes AreNeeded Stays ps a.procs) mid f.second) g.second in
+    all_one AreLive Stays (λ state old n. itself old n) (λ state old new n o h. h) (needed_once Stays) g.between a.procs b.procs (subst (λ ps. EachProcRebuildsTo AreLive Stays ps a.procs) mid f.second) g.second in
     λ i. record { name = (f.head.name ∙ sym g.head.name) i; channels = (f.head.channels ∙ sym g.head.channels) i; procs = procs i }

@@ -10,16 +10,16 @@ use Rattle.ir_tree.specs.NodeTypes.Types.{bits_width}
 use Rattle.ir_rebuild.specs.Built.{numbered}
 use Rattle.ir_rebuild.specs.Normal.Normal.{AreNormal}
 use Rattle.pass_fold.specs.Settled.{IsFolded, settled_node}
-use Rattle.pass_narrow.specs.declared.stand_in.StandIn.{StandIn}
-use Rattle.pass_narrow.specs.declared.stand_in.StandIn.TheVariants as stand_in
-use Rattle.pass_narrow.specs.declared.left_side.RightSide.{RightSide}
-use Rattle.pass_narrow.specs.declared.left_side.RightSide.TheVariants as right
+use Rattle.pass_narrow.specs.declared.rewritten_node.RewrittenNode.{RewrittenNode}
+use Rattle.pass_narrow.specs.declared.rewritten_node.RewrittenNode.TheVariants as rewritten_node
+use Rattle.pass_narrow.specs.declared.node_pattern.NodeReplacement.{NodeReplacement}
+use Rattle.pass_narrow.specs.declared.node_pattern.NodeReplacement.TheVariants as right
 use Rattle.pass_narrow.specs.Nodes.{extension_node, comparison_node, zero_node}
 use Rattle.pass_narrow.specs.Views.{width_in}
-use Rattle.pass_narrow.specs.RightSides.{right_side_of}
+use Rattle.pass_narrow.specs.Replacements.{replacement_of}
 use Rattle.pass_narrow.specs.Narrowings.{Grown, and_node, made_longer, narrowing_by, narrowing_of, IsNarrowing}
 use Rattle.pass_select.specs.Choices.{choice_of}
-use Rattle.ir_passes.specs.Simplified.{settle, settle_answer, simplify_by, simplify, IsGrown, needed_by, needed_of, needed}
+use Rattle.ir_passes.specs.Simplified.{settle, settle_answer, simplify_by, simplify, IsGrown, needed_by, needed_of, live}
 use Rattle.ir_passes.specs.Simplifies.{Simplifies}
 
 -- ---- how many nodes
@@ -27,10 +27,10 @@ use Rattle.ir_passes.specs.Simplifies.{Simplifies}
 one_more : (nodes : List Node) (n : Node) → length (and_node nodes n) ≡ suc (length nodes)
 one_more nodes n = omega (arith, length-append nodes (numbered (length nodes) n ∷ []))
 
-answer_count : (nodes : List Node) (x : StandIn) → length (settle_answer nodes x).nodes ≤ length nodes + 2
-answer_count nodes (stand_in.Operand o) = omega arith
-answer_count nodes (stand_in.Node m) = omega (arith, one_more nodes (settled_node nodes m))
-answer_count nodes (stand_in.Extended m w) =
+answer_count : (nodes : List Node) (x : RewrittenNode) → length (settle_answer nodes x).nodes ≤ length nodes + 2
+answer_count nodes (rewritten_node.Operand o) = omega arith
+answer_count nodes (rewritten_node.Node m) = omega (arith, one_more nodes (settled_node nodes m))
+answer_count nodes (rewritten_node.Extended m w) =
     let one = settle nodes m in
     let x = extension_node extend.Zero one.operand w in
     omega (arith, one_more nodes (settled_node nodes m), one_more one.nodes (settled_node one.nodes x))
@@ -51,7 +51,7 @@ pair_count state nodes a b w =
     let second = longer_count state (made_longer state nodes a w).nodes b w in
     omega (arith, first, second)
 
-side_count : (state : IrType) (nodes : List Node) (n : Node) (r : Option RightSide) → length (settle_answer (narrowing_by state nodes n r).nodes (narrowing_by state nodes n r).answer).nodes ≤ length nodes + needed_by r
+side_count : (state : IrType) (nodes : List Node) (n : Node) (r : Option NodeReplacement) → length (settle_answer (narrowing_by state nodes n r).nodes (narrowing_by state nodes n r).answer).nodes ≤ length nodes + needed_by r
 side_count state nodes n None = omega (arith, one_more nodes (settled_node nodes n))
 side_count state nodes n (Some (right.Operand o)) = omega arith
 side_count state nodes n (Some right.Zero) = omega (arith, one_more nodes (settled_node nodes (zero_node (bits_width n.ty))))
@@ -71,11 +71,11 @@ side_count state nodes n (Some (right.Comparison o a b least)) =
     let second : length (settle_answer g.nodes g.answer).nodes ≡ suc (length g.nodes) = one_more g.nodes (settled_node g.nodes (comparison_node o x.operand y.operand)) in
     omega (arith, first, second)
 
-choice_count : (state : IrType) (nodes : List Node) (n : Node) (q : Option Operand) → length (simplify_by state nodes n q).nodes ≤ length nodes + needed_of q (right_side_of state nodes n)
+choice_count : (state : IrType) (nodes : List Node) (n : Node) (q : Option Operand) → length (simplify_by state nodes n q).nodes ≤ length nodes + needed_of q (replacement_of state nodes n)
 choice_count state nodes n (Some o) = omega arith
-choice_count state nodes n None = side_count state nodes n (right_side_of state nodes n)
+choice_count state nodes n None = side_count state nodes n (replacement_of state nodes n)
 
-most_by : (r : Option RightSide) → needed_by r ≤ 4
+most_by : (r : Option NodeReplacement) → needed_by r ≤ 4
 most_by None = omega arith
 most_by (Some (right.Operand o)) = omega arith
 most_by (Some right.Zero) = omega arith
@@ -86,7 +86,7 @@ most_by (Some (right.Operation o a b least)) = omega arith
 most_by (Some (right.Comparison o a b least)) = omega arith
 
 -- no node needs more than four
-pub at_most_four : (q : Option Operand) (r : Option RightSide) → needed_of q r ≤ 4
+pub at_most_four : (q : Option Operand) (r : Option NodeReplacement) → needed_of q r ≤ 4
 at_most_four (Some o) r = omega arith
 at_most_four None r = most_by r
 
@@ -96,11 +96,11 @@ pub simplifies : (state : IrType) (old new : List Node) (n : Node) (o : Operand)
 simplifies state old new n o is normal = record {
   is = is;
   normal = normal;
-  few = subst (λ ns. length ns ≤ length old + needed state old n) (sym is.0) (choice_count state old n (choice_of old n));
+  few = subst (λ ns. length ns ≤ length old + live state old n) (sym is.0) (choice_count state old n (choice_of old n));
 }
 
 -- a node that chooses no operand
-pub by_narrowing : (state : IrType) (old mid new : List Node) (n : Node) (x : StandIn) (o : Operand) → choice_of old n ≡ None → IsNarrowing mid x (narrowing_of state old n) → IsGrown new o (settle_answer mid x) → IsGrown new o (simplify state old n)
+pub by_narrowing : (state : IrType) (old mid new : List Node) (n : Node) (x : RewrittenNode) (o : Operand) → choice_of old n ≡ None → IsNarrowing mid x (narrowing_of state old n) → IsGrown new o (settle_answer mid x) → IsGrown new o (simplify state old n)
 by_narrowing state old mid new n x o none is g = (
   g.0 ∙ ap₂ (λ ns y. (settle_answer ns y).nodes) is.0 is.1 ∙ ap (λ q. (simplify_by state old n q).nodes) (sym none),
   g.1 ∙ ap₂ (λ ns y. (settle_answer ns y).operand) is.0 is.1 ∙ ap (λ q. (simplify_by state old n q).operand) (sym none),
@@ -111,7 +111,7 @@ pub by_choice : (state : IrType) (old : List Node) (n : Node) (o : Operand) → 
 by_choice state old n o e = (ap (λ q. (simplify_by state old n q).nodes) (sym e), ap (λ q. (simplify_by state old n q).operand) (sym e))
 
 -- a node and its extension by zeros
-pub extended_grown : (mid one all : List Node) (m x : Node) (w : ℕ) (o p : Operand) → IsFolded mid one m o → x ≡ extension_node extend.Zero o w → IsFolded one all x p → IsGrown all p (settle_answer mid (stand_in.Extended m w))
+pub extended_grown : (mid one all : List Node) (m x : Node) (w : ℕ) (o p : Operand) → IsFolded mid one m o → x ≡ extension_node extend.Zero o w → IsFolded one all x p → IsGrown all p (settle_answer mid (rewritten_node.Extended m w))
 extended_grown mid one all m x w o p first e second =
     let same = e ∙ ap (λ q. extension_node extend.Zero q w) first.1 in (
       second.0 ∙ ap₂ (λ ns y. (settle ns y).nodes) first.0 same,

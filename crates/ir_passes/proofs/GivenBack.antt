@@ -20,14 +20,14 @@ use Rattle.ir_rebuild.specs.Moves.{moved, moved_attributes, moved_node}
 use Rattle.ir_rebuild.specs.Kept.{is_kept, AreKept, AreAllKept, StandBefore}
 use Rattle.ir_rebuild.specs.Built.{is_plain_op, numbered}
 use Rattle.ir_rebuild.specs.Fixed.{is_part_of_receive}
-use Rattle.ir_rebuild.specs.Walks.{RebuildsTo, none_read, dropped, copied, rewritten, Becomes, EachBecomes}
-use Rattle.ir_rebuild.specs.Normal.Normal.{IsReached, by_next, as_site, by_node, AreNeeded, IsNormalNode, AreNormal, IsNormalProc}
+use Rattle.ir_rebuild.specs.Walks.{RebuildsTo, none_read, dropped, copied, rewritten, ProcRebuildsTo, EachProcRebuildsTo}
+use Rattle.ir_rebuild.specs.Normal.Normal.{IsReached, by_next, as_site, by_node, AreLive, IsNormalNode, AreNormal, IsNormalProc}
 use Rattle.ir_rebuild.proofs.Lemmas.{all_parts, all_weaker, there_more, moved_two, before_more, last_there}
 use Rattle.ir_rebuild.proofs.Lemmas.Normal.{AreOrdered, literals_more, chooses_more, side_more}
 use Rattle.pass_dead.specs.Stays.{Stays}
 use Rattle.ir_passes.specs.Simplifies.{Simplifies}
 use Rattle.ir_passes.specs.Renumbered.{numbered_from, numbered_proc}
-use Rattle.ir_passes.proofs.Kept.{kept_as, front_ordered, last_place}
+use Rattle.ir_passes.proofs.Kept.{kept_as, prefix_ordered, last_place}
 use Rattle.ir_passes.proofs.Moved.{IsDropped, all_ready, normal_over, operand_there}
 use Rattle.ir_passes.proofs.Unchanged.{unchanged}
 
@@ -57,18 +57,18 @@ kept_operands kept count os all there = all_weaker (is_there count) (is_kept kep
 
 -- ---- nodes that are normal in a list were so in its front
 
-front_node : (state : IrType) (xs ys : List Node) (n : Node) → AreOrdered xs → list_all (is_there (length xs)) (operands_in n) ≡ true → IsNormalNode state (xs ++ ys) n → IsNormalNode state xs n
-front_node state xs ys n ordered there h = record {
+prefix_node : (state : IrType) (xs ys : List Node) (n : Node) → AreOrdered xs → list_all (is_there (length xs)) (operands_in n) ≡ true → IsNormalNode state (xs ++ ys) n → IsNormalNode state xs n
+prefix_node state xs ys n ordered there h = record {
   folded = sym (literals_more xs ys (operands_in n) there) ∙ h.folded;
   chosen = sym (chooses_more xs ys n.operands n.attributes (all_parts (is_there (length xs)) n.operands (attribute_operands n.attributes) there).0) ∙ h.chosen;
   narrowed = sym (side_more state xs ys n ordered there) ∙ h.narrowed;
 }
 
-front_normal : (state : IrType) (old : List Node) (n : Node) → AreOrdered old → AreNormal state (old ++ n ∷ []) → AreNormal state old
-front_normal state old n ordered h = record {
+prefix_normal : (state : IrType) (old : List Node) (n : Node) → AreOrdered old → AreNormal state (old ++ n ∷ []) → AreNormal state old
+prefix_normal state old n ordered h = record {
   each = λ i m e plain.
       let less = slice_get_within old i m e in
-      front_node state old (n ∷ []) m ordered (all_weaker (is_there i) (is_there (length old)) (λ o k. there_more i (length old) (omega (arith, less)) o k) (operands_in m) (ordered i m e))
+      prefix_node state old (n ∷ []) m ordered (all_weaker (is_there i) (is_there (length old)) (λ o k. there_more i (length old) (omega (arith, less)) o k) (operands_in m) (ordered i m e))
       (h.each i m (before_more old (n ∷ []) i m e) plain);
 }
 
@@ -85,15 +85,15 @@ stays state kept _ _ _ (dropped old new places n w unmarked) ordered all normal 
     let own : get_or kept (length old) false ≡ true = all (length old) (omega (arith, length-append old (n ∷ []))) in
     absurd (cc)
 stays state kept _ _ _ (copied old new places n w marked fixed built) ordered all normal =
-    let front = front_ordered old n ordered in
-    copied old new places n (stays state kept old new places w front (λ i h. all i (omega (arith, h, length-append old (n ∷ [])))) (front_normal state old n front normal)) marked fixed built
-stays state kept _ _ _ (rewritten old new more places n o w marked free built placed rewrites given) ordered all normal =
-    let front = front_ordered old n ordered in
+    let front = prefix_ordered old n ordered in
+    copied old new places n (stays state kept old new places w front (λ i h. all i (omega (arith, h, length-append old (n ∷ [])))) (prefix_normal state old n front normal)) marked fixed built
+stays state kept _ _ _ (rewritten old new more places n o w marked free built fits_at rewrites given) ordered all normal =
+    let front = prefix_ordered old n ordered in
     let within : AreKeptTo kept (length old) = λ i h. all i (omega (arith, h, length-append old (n ∷ []))) in
-    let walk = stays state kept old new places w front within (front_normal state old n front normal) in
+    let walk = stays state kept old new places w front within (prefix_normal state old n front normal) in
     let there : list_all (is_there (length old)) (operands_in n) ≡ true = ordered (length old) n (last_there old n) in
     let plain : is_plain_op n.op ≡ true = is_plain (is_plain_op n.op) (is_part_of_receive new (moved_node (moved places) n).attributes (moved_node (moved places) n).operands) free in
-    let own : IsNormalNode state old n = front_node state old (n ∷ []) n front there (normal.each (length old) n (last_there old n) plain) in
+    let own : IsNormalNode state old n = prefix_node state old (n ∷ []) n front there (normal.each (length old) n (last_there old n) plain) in
     let is : IsDropped state kept old new places = record {
       stand = kept_as state kept old new places walk front;
       ordered = front;
@@ -103,7 +103,7 @@ stays state kept _ _ _ (rewritten old new more places n o w marked free built pl
     } in
     let ready = all_ready (length old) kept (operands_in n) there (kept_operands kept (length old) (operands_in n) within there) in
     let here = normal_over state kept old new places is n ready own in
-    rewritten old new more places n o walk marked free built placed rewrites (unchanged state new more (moved_node (moved places) n) o built placed here given.is)
+    rewritten old new more places n o walk marked free built fits_at rewrites (unchanged state new more (moved_node (moved places) n) o built fits_at here given.is)
 
 -- ---- where each node stays, ids are counted
 
@@ -172,11 +172,11 @@ themselves state kept _ _ _ (dropped old new places n w unmarked) ordered all =
     let own : get_or kept (length old) false ≡ true = all (length old) (omega (arith, length-append old (n ∷ []))) in
     absurd (cc)
 themselves state kept _ _ _ (copied old new places n w marked fixed built) ordered all =
-    one_stays old new places n (ordered (length old) n (last_there old n)) (themselves state kept old new places w (front_ordered old n ordered) (λ i h. all i (omega (arith, h, length-append old (n ∷ [])))))
-themselves state kept _ _ _ (rewritten old new more places n o w marked free built placed rewrites given) ordered all =
+    one_stays old new places n (ordered (length old) n (last_there old n)) (themselves state kept old new places w (prefix_ordered old n ordered) (λ i h. all i (omega (arith, h, length-append old (n ∷ [])))))
+themselves state kept _ _ _ (rewritten old new more places n o w marked free built fits_at rewrites given) ordered all =
     subst (λ ns. AreThemselves (old ++ n ∷ []) ns (places ++ o ∷ [])) (sym given.0)
     (subst (λ p. AreThemselves (old ++ n ∷ []) (new ++ numbered (length new) (moved_node (moved places) n) ∷ []) (places ++ p ∷ [])) (sym given.1)
-    (one_stays old new places n (ordered (length old) n (last_there old n)) (themselves state kept old new places w (front_ordered old n ordered) (λ i h. all i (omega (arith, h, length-append old (n ∷ [])))))))
+    (one_stays old new places n (ordered (length old) n (last_there old n)) (themselves state kept old new places w (prefix_ordered old n ordered) (λ i h. all i (omega (arith, h, length-append old (n ∷ [])))))))
 
 -- a proc in which each node stays
 stay_as : (kept : List Bool) (p q : Proc) (places : List Operand) → RebuildsTo p.state Stays kept p.nodes q.nodes places → StandBefore p → AreKeptTo kept (length p.nodes) → q.name ≡ p.name → q.state ≡ p.state → q.init ≡ p.init → q.next ≡ moved places p.next → q ≡ numbered_proc p
@@ -220,24 +220,24 @@ there_item (n ∷ ns) (suc i) h = there_item ns i (omega (arith, h))
 -- ---- procs
 
 -- the rules leave a normal proc
-rules_leave : (p q : Proc) → IsNormalProc p → Becomes AreAllKept Simplifies p q → q ≡ numbered_proc p
+rules_leave : (p q : Proc) → IsNormalProc p → ProcRebuildsTo AreAllKept Simplifies p q → q ≡ numbered_proc p
 rules_leave p q normal b =
     let all : AreKeptTo b.kept (length p.nodes) = λ i h. subst (λ ks. get_or ks i false ≡ true) (sym b.marked) (true_at (length p.nodes) i h) in
     stay_as b.kept p q b.places (stays p.state b.kept p.nodes q.nodes b.places b.walks b.before.operands all normal.nodes) b.before all b.name b.state b.init b.next
 
 -- none of its nodes is dead
-none_dead : (p q : Proc) → IsNormalProc p → Becomes AreNeeded Stays (numbered_proc p) q → q ≡ numbered_proc (numbered_proc p)
+none_dead : (p q : Proc) → IsNormalProc p → ProcRebuildsTo AreLive Stays (numbered_proc p) q → q ≡ numbered_proc (numbered_proc p)
 none_dead p q normal b =
     let all : AreKeptTo b.kept (length (numbered_proc p).nodes) =
     λ i h.
     let n = there_item p.nodes i (subst (λ k. i < k) (numbered_count 0 p.nodes) h) in
-    is_marked (numbered_proc p) b.kept b.are_kept i (numbered_reached p i (normal.needed i n.0 n.1)) in
+    is_marked (numbered_proc p) b.kept b.are_kept i (numbered_reached p i (normal.live i n.0 n.1)) in
     stay_as b.kept (numbered_proc p) q b.places b.walks b.before all b.name b.state b.init b.next
 
-pub given_back : (p m q : Proc) → IsNormalProc p → Becomes AreAllKept Simplifies p m → Becomes AreNeeded Stays m q → q ≡ numbered_proc p
+pub given_back : (p m q : Proc) → IsNormalProc p → ProcRebuildsTo AreAllKept Simplifies p m → ProcRebuildsTo AreLive Stays m q → q ≡ numbered_proc p
 given_back p m q normal first second =
     let twice : numbered_proc (numbered_proc p) ≡ numbered_proc p = λ i. record { name = p.name; state = p.state; init = p.init; nodes = numbered_twice 0 p.nodes i; next = p.next } in
-    none_dead p q normal (subst (λ x. Becomes AreNeeded Stays x q) (rules_leave p m normal first) second) ∙ twice
+    none_dead p q normal (subst (λ x. ProcRebuildsTo AreLive Stays x q) (rules_leave p m normal first) second) ∙ twice
 
 -- ---- ids that count from 1
 
@@ -249,14 +249,14 @@ numbered_same k (n ∷ ns) h =
     let same : numbered k n ≡ n = λ i. record { id = id i; ty = n.ty; op = n.op; operands = n.operands; attributes = n.attributes } in
     ap₂ (λ x xs. x ∷ xs) same (numbered_same (suc k) ns (λ i m e. let f : m.id ≡ suc (k + suc i) = h (suc i) m e in omega (arith, f)))
 
-pub in_order : (p q : Proc) → Becomes AreNeeded Stays p q → numbered_proc q ≡ q
+pub in_order : (p q : Proc) → ProcRebuildsTo AreLive Stays p q → numbered_proc q ≡ q
 in_order p q b =
     let nodes = numbered_same 0 q.nodes (λ i n e. let f : n.id ≡ suc i = b.built.numbered i n e in omega (arith, f)) in
     λ i. record { name = q.name; state = q.state; init = q.init; nodes = nodes i; next = q.next }
 
 -- ---- lists of procs
 
-pub all_given_back : (ps ms qs : List Proc) → EachBecomes AreAllKept Simplifies ps ms → EachBecomes AreNeeded Stays ms qs → ((i : ℕ) (p : Proc) → slice_get ps i ≡ Some p → IsNormalProc p) → qs ≡ map numbered_proc ps
+pub all_given_back : (ps ms qs : List Proc) → EachProcRebuildsTo AreAllKept Simplifies ps ms → EachProcRebuildsTo AreLive Stays ms qs → ((i : ℕ) (p : Proc) → slice_get ps i ≡ Some p → IsNormalProc p) → qs ≡ map numbered_proc ps
 all_given_back [] [] [] f g h = refl
 all_given_back [] [] (q ∷ qs) f g h = absurd g
 all_given_back [] (m ∷ ms) qs f g h = absurd f
@@ -264,7 +264,7 @@ all_given_back (p ∷ ps) [] qs f g h = absurd f
 all_given_back (p ∷ ps) (m ∷ ms) [] f g h = absurd g
 all_given_back (p ∷ ps) (m ∷ ms) (q ∷ qs) f g h = ap₂ (λ x xs. x ∷ xs) (given_back p m q (h 0 p refl) f.0 g.0) (all_given_back ps ms qs f.1 g.1 (λ i r e. h (suc i) r e))
 
-pub all_in_order : (ms qs : List Proc) → EachBecomes AreNeeded Stays ms qs → map numbered_proc qs ≡ qs
+pub all_in_order : (ms qs : List Proc) → EachProcRebuildsTo AreLive Stays ms qs → map numbered_proc qs ≡ qs
 all_in_order [] [] g = refl
 all_in_order [] (q ∷ qs) g = absurd g
 all_in_order (m ∷ ms) [] g = absurd g

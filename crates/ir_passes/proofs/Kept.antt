@@ -46,8 +46,8 @@ none_kept kept = record {
   apart = λ j k i h. absurd (omega (arith, h));
 }
 
-pub front_ordered : (old : List Node) (n : Node) → AreOrdered (old ++ n ∷ []) → AreOrdered old
-front_ordered old n h j m e = h j m (before_more old (n ∷ []) j m e)
+pub prefix_ordered : (old : List Node) (n : Node) → AreOrdered (old ++ n ∷ []) → AreOrdered old
+prefix_ordered old n h j m e = h j m (before_more old (n ∷ []) j m e)
 
 -- one more operand changes nothing for nodes before
 image_longer : (new more : List Node) (places : List Operand) (o : Operand) (j : ℕ) (n : Node) → j < length places → list_all (is_there j) (operands_in n) ≡ true → IsImage new places j n → IsImage (new ++ more) (places ++ o ∷ []) j n
@@ -176,10 +176,10 @@ keep_one kept old new places n ordered h marked = record {
 pub kept_as : (state : IrType) (kept : List Bool) (old new : List Node) (places : List Operand) → RebuildsTo state Stays kept old new places → AreOrdered old → AreKeptAs kept old new places
 kept_as state kept _ _ _ none_read ordered = none_kept kept
 kept_as state kept _ _ _ (dropped old new places n w unmarked) ordered =
-    drop_one kept old new places n operand.State ordered (kept_as state kept old new places w (front_ordered old n ordered)) unmarked
+    drop_one kept old new places n operand.State ordered (kept_as state kept old new places w (prefix_ordered old n ordered)) unmarked
 kept_as state kept _ _ _ (copied old new places n w marked fixed built) ordered =
-    keep_one kept old new places n ordered (kept_as state kept old new places w (front_ordered old n ordered)) marked
-kept_as state kept _ _ _ (rewritten old new all places n o w marked free before placed rewrites given) ordered =
+    keep_one kept old new places n ordered (kept_as state kept old new places w (prefix_ordered old n ordered)) marked
+kept_as state kept _ _ _ (rewritten old new all places n o w marked free before fits_at rewrites given) ordered =
     subst (λ ns. AreKeptAs kept (old ++ n ∷ []) ns (places ++ o ∷ [])) (sym given.0)
     (subst (λ p. AreKeptAs kept (old ++ n ∷ []) (new ++ numbered (length new) (moved_node (moved places) n) ∷ []) (places ++ p ∷ [])) (sym given.1)
-    (keep_one kept old new places n ordered (kept_as state kept old new places w (front_ordered old n ordered)) marked))
+    (keep_one kept old new places n ordered (kept_as state kept old new places w (prefix_ordered old n ordered)) marked))

@@ -21,11 +21,11 @@ use Rattle.ir_rebuild.specs.Operands.{operands_in, attribute_operands, optional_
 use Rattle.ir_rebuild.specs.Moves.{moved, moved_attributes, moved_node}
 use Rattle.ir_rebuild.specs.Kept.{is_kept, is_site}
 use Rattle.ir_rebuild.specs.Built.{is_plain_op, numbered}
-use Rattle.ir_rebuild.specs.Walks.{Becomes}
+use Rattle.ir_rebuild.specs.Walks.{ProcRebuildsTo}
 use Rattle.ir_rebuild.proofs.Lemmas.{all_parts, all_weaker, there_more, map_moved, attributes_map}
 use Rattle.ir_rebuild.specs.Normal.Origins.{made_by, origin}
-use Rattle.ir_rebuild.specs.Normal.LeftSides.{left_side, first_bit}
-use Rattle.ir_rebuild.specs.Normal.Normal.{IsReached, by_next, as_site, by_node, AreNeeded, is_literal_node, names_literal, all_literals, same_operand, are_one, chooses_one, IsNormalNode, AreNormal, IsNormalProc}
+use Rattle.ir_rebuild.specs.Normal.Patterns.{node_pattern, first_bit}
+use Rattle.ir_rebuild.specs.Normal.Normal.{IsReached, by_next, as_site, by_node, AreLive, is_literal_node, names_literal, all_literals, same_operand, are_one, chooses_one, IsNormalNode, AreNormal, IsNormalProc}
 use Rattle.ir_rebuild.proofs.Lemmas.Normal.{renumbered}
 use Rattle.pass_dead.specs.Stays.{Stays}
 use Rattle.ir_passes.proofs.Kept.{IsImage, AreKeptAs, kept_as}
@@ -207,7 +207,7 @@ module _ (state : IrType) (kept : List Bool) (old new : List Node) (places : Lis
         folded = ap (all_literals new) (operands_moved n) ∙ literals_same (operands_in n) ready ∙ is.folded;
         chosen = chooses_same n.operands n.attributes parts.0 parts.1 ∙ is.chosen;
         narrowed =
-            ap₂ (left_side n.op (bits_width n.ty)) (bit_same n.attributes) (map_moved (is_ready (length old) kept) (moved places) (origin state new) (origin state old) origin_same n.operands parts.0)
+            ap₂ (node_pattern n.op (bits_width n.ty)) (bit_same n.attributes) (map_moved (is_ready (length old) kept) (moved places) (origin state new) (origin state old) origin_same n.operands parts.0)
             ∙ is.narrowed;
       }
 
@@ -261,7 +261,7 @@ map_there f [] k o e = absurd (cc)
 map_there f (x ∷ xs) zero o e = let same : x ≡ o = cc in ap (λ y. Some (f y)) same
 map_there f (x ∷ xs) (suc k) o e = map_there f xs k o e
 
-module _ (p q : Proc) (b : Becomes AreNeeded Stays p q) where
+module _ (p q : Proc) (b : ProcRebuildsTo AreLive Stays p q) where
   dropped_as : IsDropped p.state b.kept p.nodes q.nodes b.places
   dropped_as = record {
     stand = kept_as p.state b.kept p.nodes q.nodes b.places b.walks b.before.operands;
@@ -299,7 +299,7 @@ module _ (p q : Proc) (b : Becomes AreNeeded Stays p q) where
   pub normal_proc : AreNormal p.state p.nodes → IsNormalProc q
   normal_proc normal = record {
     nodes = subst (λ s. AreNormal s q.nodes) (sym b.state) (all_normal p.state b.kept p.nodes q.nodes b.places dropped_as normal);
-    needed = λ i m e.
+    live = λ i m e.
         let s = dropped_as.stand.source i m e in
         (reached_as s.from (b.marked s.from s.marked)).reached i s.is;
   }

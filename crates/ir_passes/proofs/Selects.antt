@@ -26,9 +26,9 @@ use Rattle.ir_tree.proofs.Lemmas.NodeTypes.IrTypes.{ty_of-Bits}
 use Rattle.ir_tree.proofs.Lemmas.NodeTypes.ConstantCases.{fits-Bits}
 use Rattle.ir_verify.proofs.Lemmas.Typed.Tests.{bits_is}
 use Rattle.ir_rebuild.specs.Operands.{node_of, optional_operand}
-use Rattle.ir_rebuild.specs.Built.{IsPlaced, AreBuilt, is_plain_op}
+use Rattle.ir_rebuild.specs.Built.{FitsAt, AreBuilt, is_plain_op}
 use Rattle.ir_rebuild.proofs.Lemmas.{node_there}
-use Rattle.ir_rebuild.specs.Normal.LeftSides.{is_literal_op}
+use Rattle.ir_rebuild.specs.Normal.Patterns.{is_literal_op}
 use Rattle.ir_rebuild.specs.Normal.Normal.{is_literal_node, names_literal, all_literals, same_operand, are_one, is_cases, chooses_one}
 use Rattle.ir_rebuild.proofs.Lemmas.Normal.{op_is_literal, constant_there}
 use Rattle.ir_passes.specs.Undecided.{IsUndecided}
@@ -60,12 +60,12 @@ at_literal op.Literal a h = refl
 at_literal o a h = absurd (cc)
 
 -- a literal of bits has a number of so many
-literal_number_of : (state : IrType) (nodes : List Node) (j : ℕ) (n : Node) (w : ℕ) → IsPlaced state nodes j n → is_literal_op n.op ≡ true → n.ty ≡ Bits w [] → HasNumber n w
-literal_number_of state nodes j n w placed literal t =
+literal_number_of : (state : IrType) (nodes : List Node) (j : ℕ) (n : Node) (w : ℕ) → FitsAt state nodes j n → is_literal_op n.op ≡ true → n.ty ≡ Bits w [] → HasNumber n w
+literal_number_of state nodes j n w fits_at literal t =
     let scope = types_behind state nodes in
-    let fits = (both (is_met (count_of n.op) (length n.operands)) (types_fit [] scope n n.attributes) placed.fits).1 in
+    let fits = (both (is_met (count_of n.op) (length n.operands)) (types_fit [] scope n n.attributes) fits_at.fits).1 in
     let written = constant_there scope n n.attributes (op_is_literal n.op literal) fits in
-    let typed : is_literal_of n.ty (attributes.Value written.0) ≡ true = ap (is_literal_of n.ty) (sym written.1) ∙ (both (marks_of n.ty).sound (is_literal_of n.ty n.attributes) placed.typed).1 in
+    let typed : is_literal_of n.ty (attributes.Value written.0) ≡ true = ap (is_literal_of n.ty) (sym written.1) ∙ (both (marks_of n.ty).sound (is_literal_of n.ty n.attributes) fits_at.typed).1 in
     let own = (both (not (marks_of n.ty).token) (constant_fits (ty_of n.ty) written.0) typed).1 in
     let bits : constant_fits (ty.Bits (bounded w)) written.0 ≡ true = ap (λ u. constant_fits u written.0) (sym (ap ty_of t ∙ ty_of-Bits w [])) ∙ own in
     let found = number_of (out-Constant written.0) (bounded w) (sym (fits-Bits (bounded w) written.0) ∙ bits) in
@@ -154,7 +154,7 @@ not_literal state nodes (operand.Node j) cases default w built there t counted e
     let own : is_literal_op at.0.op ≡ true = sym (ap is_literal_node at.1) ∙ literal in
     let plain : is_plain_op at.0.op ≡ true = ap is_plain_op (op_is_literal at.0.op own) in
     let typed : at.0.ty ≡ Bits w [] = sym (ap (type_or (Token [])) at.1) ∙ t in
-    let number = literal_number_of state nodes j at.0 w (built.placed j at.0 at.1 plain) own typed in
+    let number = literal_number_of state nodes j at.0 w (built.fits_at j at.0 at.1 plain) own typed in
     let is : literal_number nodes (operand.Node j) ≡ Some number.number = ap number_in at.1 ∙ number.is in
     let range : number.number < 2 ^ min w 128 = subst (λ k. number.number < 2 ^ k) (capped w) number.fits in
     absurd (some_chosen cases default number.number w counted range (sym (ap (choice_by cases default) is) ∙ e)))
@@ -163,14 +163,14 @@ not_literal state nodes (operand.Node j) cases default w built there t counted e
     capped : (w : ℕ) → min (bounded w) 128 ≡ min w 128
     capped w = omega arith
 
-open_select : (state : IrType) (nodes : List Node) (n : Node) (cases : List Operand) (default : Option Operand) (s : Operand) → AreBuilt state nodes → IsPlaced state nodes (length nodes) n → n.attributes ≡ attributes.Cases cases default → n.operands ≡ s ∷ [] → choice_by cases default (literal_number nodes s) ≡ None → IsOpen nodes s cases default
-open_select state nodes n cases default s built placed e f g =
+open_select : (state : IrType) (nodes : List Node) (n : Node) (cases : List Operand) (default : Option Operand) (s : Operand) → AreBuilt state nodes → FitsAt state nodes (length nodes) n → n.attributes ≡ attributes.Cases cases default → n.operands ≡ s ∷ [] → choice_by cases default (literal_number nodes s) ≡ None → IsOpen nodes s cases default
+open_select state nodes n cases default s built fits_at e f g =
     let scope = types_behind state nodes in
-    let fits : types_fit [] scope n (attributes.Cases cases default) ≡ true = ap (types_fit [] scope n) (sym e) ∙ (both (is_met (count_of n.op) (length n.operands)) (types_fit [] scope n n.attributes) placed.fits).1 in
+    let fits : types_fit [] scope n (attributes.Cases cases default) ≡ true = ap (types_fit [] scope n) (sym e) ∙ (both (is_met (count_of n.op) (length n.operands)) (types_fit [] scope n n.attributes) fits_at.fits).1 in
     let sel : sel_fits cases default scope (s ∷ []) n.ty ≡ true = ap (λ os. sel_fits cases default scope os n.ty) (sym f) ∙ (both (is_sel n.op) (sel_fits cases default scope n.operands n.ty) fits).1 in
     let a = both (list_all (λ o. is_bits_where (cases_count (length cases) default) (type_in scope o)) (s ∷ [])) _ sel in
     let bits = bits_is (cases_count (length cases) default) (type_in scope s) (both (is_bits_where (cases_count (length cases) default) (type_in scope s)) true a.0).0 in
-    let there = (both (is_there (length nodes) s) true (ap (are_there (length nodes)) (sym f) ∙ placed.operands)).0 in
+    let there = (both (is_there (length nodes) s) true (ap (are_there (length nodes)) (sym f) ∙ fits_at.operands)).0 in
     let selector = not_literal state nodes s cases default bits.width built there bits.is bits.test g in
     let number : literal_number nodes s ≡ None = no_number (node_of nodes s) selector in
     record { selector = selector; cases_differ = no_cases nodes s cases default bits.width bits.test (sym (ap (choice_by cases default) number) ∙ g) }
@@ -191,25 +191,25 @@ select_undecided nodes n s cases default h = record {
   folded = λ e. ap (λ b. b && list_all (names_literal nodes) (cases ++ optional_operand default)) h.selector;
 }
 
-among_undecided : (state : IrType) (nodes : List Node) (n : Node) (cases : List Operand) (default : Option Operand) (os : List Operand) → AreBuilt state nodes → IsPlaced state nodes (length nodes) n → n.attributes ≡ attributes.Cases cases default → n.operands ≡ os → choice_among nodes cases default os ≡ None → IsUndecided nodes n
-among_undecided state nodes n cases default [] built placed e f g =
+among_undecided : (state : IrType) (nodes : List Node) (n : Node) (cases : List Operand) (default : Option Operand) (os : List Operand) → AreBuilt state nodes → FitsAt state nodes (length nodes) n → n.attributes ≡ attributes.Cases cases default → n.operands ≡ os → choice_among nodes cases default os ≡ None → IsUndecided nodes n
+among_undecided state nodes n cases default [] built fits_at e f g =
     absurd (
     let scope = types_behind state nodes in
-    let count = (both (is_met (count_of n.op) (length n.operands)) (types_fit [] scope n n.attributes) placed.fits).0 in
-    let fits : types_fit [] scope n (attributes.Cases cases default) ≡ true = ap (types_fit [] scope n) (sym e) ∙ (both (is_met (count_of n.op) (length n.operands)) (types_fit [] scope n n.attributes) placed.fits).1 in
+    let count = (both (is_met (count_of n.op) (length n.operands)) (types_fit [] scope n n.attributes) fits_at.fits).0 in
+    let fits : types_fit [] scope n (attributes.Cases cases default) ≡ true = ap (types_fit [] scope n) (sym e) ∙ (both (is_met (count_of n.op) (length n.operands)) (types_fit [] scope n n.attributes) fits_at.fits).1 in
     one_operand n.op (length n.operands) (both (is_sel n.op) (sel_fits cases default scope n.operands n.ty) fits).0 count (ap length f))
   where
     one_operand : (o : Op) (k : ℕ) → is_sel o ≡ true → is_met (count_of o) k ≡ true → k ≡ 0 → ⊥
     one_operand op.Sel k h m z = let never : is_met (count_of op.Sel) 0 ≡ true = ap (is_met (count_of op.Sel)) (sym z) ∙ m in absurd (cc)
     one_operand o k h m z = absurd (cc)
-among_undecided state nodes n cases default (s ∷ []) built placed e f g =
+among_undecided state nodes n cases default (s ∷ []) built fits_at e f g =
     let same : select n s cases default ≡ n = λ k. record { id = n.id; ty = n.ty; op = n.op; operands = (sym f) k; attributes = (sym e) k } in
-    subst (IsUndecided nodes) same (select_undecided nodes n s cases default (open_select state nodes n cases default s built placed e f g))
-among_undecided state nodes n cases default (s ∷ t ∷ os) built placed e f g =
+    subst (IsUndecided nodes) same (select_undecided nodes n s cases default (open_select state nodes n cases default s built fits_at e f g))
+among_undecided state nodes n cases default (s ∷ t ∷ os) built fits_at e f g =
     absurd (
     let scope = types_behind state nodes in
-    let count = (both (is_met (count_of n.op) (length n.operands)) (types_fit [] scope n n.attributes) placed.fits).0 in
-    let fits : types_fit [] scope n (attributes.Cases cases default) ≡ true = ap (types_fit [] scope n) (sym e) ∙ (both (is_met (count_of n.op) (length n.operands)) (types_fit [] scope n n.attributes) placed.fits).1 in
+    let count = (both (is_met (count_of n.op) (length n.operands)) (types_fit [] scope n n.attributes) fits_at.fits).0 in
+    let fits : types_fit [] scope n (attributes.Cases cases default) ≡ true = ap (types_fit [] scope n) (sym e) ∙ (both (is_met (count_of n.op) (length n.operands)) (types_fit [] scope n n.attributes) fits_at.fits).1 in
     one_operand n.op (length os) (both (is_sel n.op) (sel_fits cases default scope n.operands n.ty) fits).0 (ap (is_met (count_of n.op)) (sym (ap length f)) ∙ count))
   where
     one_operand : (o : Op) (k : ℕ) → is_sel o ≡ true → is_met (count_of o) (suc (suc k)) ≡ true → ⊥
@@ -223,11 +223,11 @@ no_select nodes n a e h = record { chosen = ap (chooses_one nodes n.operands) e 
     none (attributes.Cases cases default) h = absurd (cc)
     none a h = refl
 
-pub undecided : (state : IrType) (nodes : List Node) (n : Node) → AreBuilt state nodes → IsPlaced state nodes (length nodes) n → choice_of nodes n ≡ None → IsUndecided nodes n
-undecided state nodes n built placed g = by_attributes n.attributes refl g
+pub undecided : (state : IrType) (nodes : List Node) (n : Node) → AreBuilt state nodes → FitsAt state nodes (length nodes) n → choice_of nodes n ≡ None → IsUndecided nodes n
+undecided state nodes n built fits_at g = by_attributes n.attributes refl g
   where
     by_attributes : (a : Attributes) → n.attributes ≡ a → choice_in nodes n.operands a ≡ None → IsUndecided nodes n
-    by_attributes (attributes.Cases cases default) e h = among_undecided state nodes n cases default n.operands built placed e refl h
+    by_attributes (attributes.Cases cases default) e h = among_undecided state nodes n cases default n.operands built fits_at e refl h
     by_attributes attributes.None e h = no_select nodes n attributes.None e refl
     by_attributes (attributes.StartAndWidth start width) e h = no_select nodes n (attributes.StartAndWidth start width) e refl
     by_attributes (attributes.Width width) e h = no_select nodes n (attributes.Width width) e refl

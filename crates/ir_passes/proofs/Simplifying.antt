@@ -20,10 +20,10 @@ use Rattle.ir_tree.specs.NodeTypes.Types.{bits_width, width_there}
 use Rattle.ir_verify.specs.Fitting.{type_in, type_or, types_behind, types_fit, predicate_fits, first_is_token, site_fits, is_literal}
 use Rattle.ir_verify.specs.Lines.{is_there}
 use Rattle.ir_rebuild.specs.Operands.{operands_in, attribute_operands, node_of}
-use Rattle.ir_rebuild.specs.Built.{AreBuilt, IsPlaced, is_plain_op, numbered}
+use Rattle.ir_rebuild.specs.Built.{AreBuilt, FitsAt, is_plain_op, numbered}
 use Rattle.ir_rebuild.proofs.Lemmas.{all_there, last_there}
 use Rattle.ir_rebuild.specs.Normal.Origins.{made_by}
-use Rattle.ir_rebuild.specs.Normal.LeftSides.{is_literal_op as is_normal_literal_op, is_extension, width_if, extended_in, is_some, has_left_side}
+use Rattle.ir_rebuild.specs.Normal.Patterns.{is_literal_op as is_normal_literal_op, is_extension, width_if, extended_in, is_some, has_pattern}
 use Rattle.ir_rebuild.specs.Normal.Normal.{is_literal_node, names_literal, all_literals, is_cases, chooses_one, IsNormalNode, AreNormal}
 use Rattle.ir_rebuild.proofs.Lemmas.Normal.{AreOrdered, normal_more, literals_more, chooses_more}
 use Rattle.pass_fold.specs.Folds.{is_literal_op, is_literal as is_literal_operand, are_folded, is_foldable, is_foldable_by, folded_value}
@@ -33,7 +33,7 @@ use Rattle.pass_fold.specs.Folds as folds
 use Rattle.pass_narrow.specs.Nodes.{extension_node}
 use Rattle.pass_narrow.specs.Narrowing.{Narrows}
 use Rattle.pass_narrow.specs.KeepsNormal.{IsNarrow, IsNarrowInside}
-use Rattle.pass_narrow.specs.declared.stand_in.StandIn.TheVariants as stand_in
+use Rattle.pass_narrow.specs.declared.rewritten_node.RewrittenNode.TheVariants as rewritten_node
 use Rattle.ir_passes.specs.Undecided.{IsUndecided}
 
 both : (a b : Bool) → a && b ≡ true → (a ≡ true) × (b ≡ true)
@@ -106,9 +106,9 @@ unfolded_by state nodes n (attributes.Channel predicate x) p m f h c =
     (both (first_is_token (types_behind state nodes) n.operands) (site_fits n.op None (types_behind state nodes) n.operands n.ty)
     (both (predicate_fits (types_behind state nodes) predicate) (first_is_token (types_behind state nodes) n.operands && site_fits n.op None (types_behind state nodes) n.operands n.ty) f).1).1)
 
-unfolded : (state : IrType) (nodes : List Node) (n : Node) → IsPlaced state nodes (length nodes) n → is_plain_op n.op ≡ true → is_foldable nodes n ≡ false → is_cases n.attributes ≡ false → all_literals nodes (operands_in n) ≡ false
-unfolded state nodes n placed plain h c =
-    let parts = both (is_met (count_of n.op) (length n.operands)) (types_fit [] (types_behind state nodes) n n.attributes) placed.fits in
+unfolded : (state : IrType) (nodes : List Node) (n : Node) → FitsAt state nodes (length nodes) n → is_plain_op n.op ≡ true → is_foldable nodes n ≡ false → is_cases n.attributes ≡ false → all_literals nodes (operands_in n) ≡ false
+unfolded state nodes n fits_at plain h c =
+    let parts = both (is_met (count_of n.op) (length n.operands)) (types_fit [] (types_behind state nodes) n n.attributes) fits_at.fits in
     unfolded_by state nodes n n.attributes plain parts.0 parts.1 h c
 
 -- and the other way round
@@ -143,23 +143,23 @@ pub literal_normal : (state : IrType) (nodes : List Node) (t : IrType) (c : Cons
 literal_normal state nodes t c built h =
     normal_more state nodes (literal_node t c) built.before h refl (λ plain. record { folded = refl; chosen = refl; narrowed = refl })
 
-pub plain_normal : (state : IrType) (nodes : List Node) (n : Node) → IsPlaced state nodes (length nodes) n → is_plain_op n.op ≡ true → is_foldable nodes n ≡ false → is_cases n.attributes ≡ false → has_left_side state nodes n ≡ false → IsNormalNode state nodes n
-plain_normal state nodes n placed plain h c side = record {
-  folded = unfolded state nodes n placed plain h c;
+pub plain_normal : (state : IrType) (nodes : List Node) (n : Node) → FitsAt state nodes (length nodes) n → is_plain_op n.op ≡ true → is_foldable nodes n ≡ false → is_cases n.attributes ≡ false → has_pattern state nodes n ≡ false → IsNormalNode state nodes n
+plain_normal state nodes n fits_at plain h c side = record {
+  folded = unfolded state nodes n fits_at plain h c;
   chosen = no_cases_chosen nodes n.operands n.attributes c;
   narrowed = side;
 }
 
 -- a select that shows no choice
-pub select_normal : (state : IrType) (old more : List Node) (n : Node) → list_all (is_there (length old)) (operands_in n) ≡ true → list_all (is_there (length old)) n.operands ≡ true → IsUndecided old n → is_cases n.attributes ≡ true → has_left_side state (old ++ more) n ≡ false → IsNormalNode state (old ++ more) n
+pub select_normal : (state : IrType) (old more : List Node) (n : Node) → list_all (is_there (length old)) (operands_in n) ≡ true → list_all (is_there (length old)) n.operands ≡ true → IsUndecided old n → is_cases n.attributes ≡ true → has_pattern state (old ++ more) n ≡ false → IsNormalNode state (old ++ more) n
 select_normal state old more n there own h c side = record {
   folded = literals_more old more (operands_in n) there ∙ h.folded c;
   chosen = chooses_more old more n.operands n.attributes own ∙ h.chosen;
   narrowed = side;
 }
 
-pub more_normal : (state : IrType) (nodes : List Node) (n : Node) → AreBuilt state nodes → AreNormal state nodes → IsPlaced state nodes (length nodes) n → IsNormalNode state nodes n → AreNormal state (nodes ++ numbered (length nodes) n ∷ [])
-more_normal state nodes n built h placed own = normal_more state nodes n built.before h (all_there (length nodes) n placed.operands placed.attributes) (λ plain. own)
+pub more_normal : (state : IrType) (nodes : List Node) (n : Node) → AreBuilt state nodes → AreNormal state nodes → FitsAt state nodes (length nodes) n → IsNormalNode state nodes n → AreNormal state (nodes ++ numbered (length nodes) n ∷ [])
+more_normal state nodes n built h fits_at own = normal_more state nodes n built.before h (all_there (length nodes) n fits_at.operands fits_at.attributes) (λ plain. own)
 
 -- ---- what is settled
 
@@ -169,32 +169,32 @@ settled_literal nodes m h = ap (λ b. if b then literal_node m.ty (constant_of (
 pub settled_itself : (nodes : List Node) (m : Node) → is_foldable nodes m ≡ false → settled_node nodes m ≡ m
 settled_itself nodes m h = ap (λ b. if b then literal_node m.ty (constant_of (folded_value nodes m)) else m) h
 
-pub settled_normal : (state : IrType) (nodes new : List Node) (m : Node) (o : Operand) → AreBuilt state nodes → AreNormal state nodes → IsPlaced state nodes (length nodes) m → (is_foldable nodes m ≡ false → IsNormalNode state nodes m) → IsFolded nodes new m o → AreNormal state new
-settled_normal state nodes new m o built h placed own is =
+pub settled_normal : (state : IrType) (nodes new : List Node) (m : Node) (o : Operand) → AreBuilt state nodes → AreNormal state nodes → FitsAt state nodes (length nodes) m → (is_foldable nodes m ≡ false → IsNormalNode state nodes m) → IsFolded nodes new m o → AreNormal state new
+settled_normal state nodes new m o built h fits_at own is =
     either (is_foldable nodes m)
     (λ yes.
     subst (AreNormal state) (sym (is.0 ∙ ap (λ x. nodes ++ numbered (length nodes) x ∷ []) (settled_literal nodes m yes)))
     (literal_normal state nodes m.ty (constant_of (folded_value nodes m)) built h))
-    (λ no. subst (AreNormal state) (sym (is.0 ∙ ap (λ x. nodes ++ numbered (length nodes) x ∷ []) (settled_itself nodes m no))) (more_normal state nodes m built h placed (own no)))
+    (λ no. subst (AreNormal state) (sym (is.0 ∙ ap (λ x. nodes ++ numbered (length nodes) x ∷ []) (settled_itself nodes m no))) (more_normal state nodes m built h fits_at (own no)))
 
 -- a node that narrowing gave
-node_normal : (state : IrType) (old mid : List Node) (n m : Node) → IsPlaced state old (length old) n → IsUndecided old n → Narrows state old mid n (stand_in.Node m) → IsNarrow state mid n m → is_foldable mid m ≡ false → IsNormalNode state mid m
-node_normal state old mid n m placed undecided narrows narrow free =
+node_normal : (state : IrType) (old mid : List Node) (n m : Node) → FitsAt state old (length old) n → IsUndecided old n → Narrows state old mid n (rewritten_node.Node m) → IsNarrow state mid n m → is_foldable mid m ≡ false → IsNormalNode state mid m
+node_normal state old mid n m fits_at undecided narrows narrow free =
     either (is_cases m.attributes)
     (λ c.
     let same : m ≡ n = narrow.select c in
     let own : is_cases n.attributes ≡ true = ap (λ (x : Node). is_cases x.attributes) (sym same) ∙ c in
-    let side : has_left_side state (old ++ narrows.extends.more) n ≡ false =
-    ap (λ ns. has_left_side state ns n) (sym narrows.extends.are) ∙ ap (has_left_side state mid) (sym same) ∙ narrow.narrowed in
-    let there = all_there (length old) n placed.operands placed.attributes in
+    let side : has_pattern state (old ++ narrows.extends.more) n ≡ false =
+    ap (λ ns. has_pattern state ns n) (sym narrows.extends.are) ∙ ap (has_pattern state mid) (sym same) ∙ narrow.narrowed in
+    let there = all_there (length old) n fits_at.operands fits_at.attributes in
     subst (IsNormalNode state mid) (sym same)
-    (subst (λ ns. IsNormalNode state ns n) (sym narrows.extends.are) (select_normal state old narrows.extends.more n there placed.operands undecided own side)))
-    (λ c. plain_normal state mid m narrows.stands.placed narrows.stands.plain free c narrow.narrowed)
+    (subst (λ ns. IsNormalNode state ns n) (sym narrows.extends.are) (select_normal state old narrows.extends.more n there fits_at.operands undecided own side)))
+    (λ c. plain_normal state mid m narrows.stands.fits_at narrows.stands.plain free c narrow.narrowed)
 
-pub node_simplifies : (state : IrType) (old mid new : List Node) (n m : Node) (o : Operand) → IsPlaced state old (length old) n → IsUndecided old n → Narrows state old mid n (stand_in.Node m) → (AreNormal state old → AreNormal state mid × IsNarrow state mid n m) → IsFolded mid new m o → AreNormal state old → AreNormal state new
-node_simplifies state old mid new n m o placed undecided narrows keeps folded h =
+pub node_simplifies : (state : IrType) (old mid new : List Node) (n m : Node) (o : Operand) → FitsAt state old (length old) n → IsUndecided old n → Narrows state old mid n (rewritten_node.Node m) → (AreNormal state old → AreNormal state mid × IsNarrow state mid n m) → IsFolded mid new m o → AreNormal state old → AreNormal state new
+node_simplifies state old mid new n m o fits_at undecided narrows keeps folded h =
     let kept = keeps h in
-    settled_normal state mid new m o narrows.built kept.0 narrows.stands.placed (node_normal state old mid n m placed undecided narrows kept.1) folded
+    settled_normal state mid new m o narrows.built kept.0 narrows.stands.fits_at (node_normal state old mid n m fits_at undecided narrows kept.1) folded
 
 -- ---- an extension of what was settled
 
@@ -211,30 +211,30 @@ or_none : (a b : Bool) → a ≡ false → b ≡ false → a || b ≡ false
 or_none true b h k = absurd (cc)
 or_none false b h k = k
 
-extension_side : (state : IrType) (mid one : List Node) (y : Node) (o : Operand) (w own : ℕ) → IsAppended mid one y o → is_extension extend.Zero y.op ≡ false → y.ty ≡ Bits own [] → own < w → has_left_side state one (extension_node extend.Zero o w) ≡ false
+extension_side : (state : IrType) (mid one : List Node) (y : Node) (o : Operand) (w own : ℕ) → IsAppended mid one y o → is_extension extend.Zero y.op ≡ false → y.ty ≡ Bits own [] → own < w → has_pattern state one (extension_node extend.Zero o w) ≡ false
 extension_side state mid one y o w own is no_ext t less =
-    subst (λ ns. has_left_side state ns (extension_node extend.Zero o w) ≡ false) (sym is.0)
-    (subst (λ p. has_left_side state (mid ++ numbered (length mid) y ∷ []) (extension_node extend.Zero p w) ≡ false) (sym is.1)
+    subst (λ ns. has_pattern state ns (extension_node extend.Zero o w) ≡ false) (sym is.0)
+    (subst (λ p. has_pattern state (mid ++ numbered (length mid) y ∷ []) (extension_node extend.Zero p w) ≡ false) (sym is.1)
     (or_none _ _
     (ap₂ nat_eq (same_width w) (ap bits_width (ap (type_or (Token [])) (last_there mid (numbered (length mid) y)) ∙ t) ∙ same_width own) ∙ other_number w own less)
     (ap (λ x. is_some (extended_in extend.Zero (made_by state (mid ++ numbered (length mid) y ∷ []) x))) (last_there mid (numbered (length mid) y))
     ∙ not_extended state (mid ++ numbered (length mid) y ∷ []) (numbered (length mid) y) no_ext)))
 
-folded_side : (state : IrType) (mid one : List Node) (m : Node) (o : Operand) (w own : ℕ) → IsFolded mid one m o → is_extension extend.Zero m.op ≡ false → m.ty ≡ Bits own [] → own < w → has_left_side state one (extension_node extend.Zero o w) ≡ false
+folded_side : (state : IrType) (mid one : List Node) (m : Node) (o : Operand) (w own : ℕ) → IsFolded mid one m o → is_extension extend.Zero m.op ≡ false → m.ty ≡ Bits own [] → own < w → has_pattern state one (extension_node extend.Zero o w) ≡ false
 folded_side state mid one m o w own is no_ext t less =
     either (is_foldable mid m)
     (λ yes. extension_side state mid one (literal_node m.ty (constant_of (folded_value mid m))) o w own (subst (λ x. IsAppended mid one x o) (settled_literal mid m yes) is) refl t less)
     (λ no. extension_side state mid one m o w own (subst (λ x. IsAppended mid one x o) (settled_itself mid m no) is) no_ext t less)
 
-pub longer_simplifies : (state : IrType) (old mid one new : List Node) (n m : Node) (w : ℕ) (o p : Operand) → Narrows state old mid n (stand_in.Extended m w) → (AreNormal state old → AreNormal state mid × IsNarrowInside state mid m) → AreBuilt state one →
-    IsPlaced state one (length one) (extension_node extend.Zero o w) → IsFolded mid one m o → IsFolded one new (extension_node extend.Zero o w) p → AreNormal state old → AreNormal state new
-longer_simplifies state old mid one new n m w o p narrows keeps built placed first second h =
+pub longer_simplifies : (state : IrType) (old mid one new : List Node) (n m : Node) (w : ℕ) (o p : Operand) → Narrows state old mid n (rewritten_node.Extended m w) → (AreNormal state old → AreNormal state mid × IsNarrowInside state mid m) → AreBuilt state one →
+    FitsAt state one (length one) (extension_node extend.Zero o w) → IsFolded mid one m o → IsFolded one new (extension_node extend.Zero o w) p → AreNormal state old → AreNormal state new
+longer_simplifies state old mid one new n m w o p narrows keeps built fits_at first second h =
     let kept = keeps h in
     let inside = kept.1 in
     let x = extension_node extend.Zero o w in
-    let middle : AreNormal state one = settled_normal state mid one m o narrows.built kept.0 narrows.stands.placed (λ free. plain_normal state mid m narrows.stands.placed narrows.stands.plain free inside.no_select inside.narrowed) first in
+    let middle : AreNormal state one = settled_normal state mid one m o narrows.built kept.0 narrows.stands.fits_at (λ free. plain_normal state mid m narrows.stands.fits_at narrows.stands.plain free inside.no_select inside.narrowed) first in
     let side = folded_side state mid one m o w narrows.stands.own first inside.no_extension narrows.stands.own_ty narrows.stands.fewer in
-    settled_normal state one new x p built middle placed (λ free. plain_normal state one x placed refl free refl side) second
+    settled_normal state one new x p built middle fits_at (λ free. plain_normal state one x fits_at refl free refl side) second
 
 -- ---- what was appended for a node with zeros before it
 

@@ -9,7 +9,7 @@ use Rattle.ir_tree.specs.declared.node.Node.{Node}
 use Rattle.ir_tree.specs.declared.node.Attributes.{Attributes}
 use Rattle.ir_tree.specs.declared.node.Attributes.TheVariants as attributes
 use Rattle.ir_rebuild.specs.Operands.{node_of, optional_operand}
-use Rattle.ir_rebuild.specs.Built.{AreBuilt, IsPlaced}
+use Rattle.ir_rebuild.specs.Built.{AreBuilt, FitsAt}
 use Rattle.ir_rebuild.specs.Normal.Normal.{names_literal, all_literals, same_operand, are_one, chooses_one, IsNormalNode}
 use Rattle.pass_dead.specs.Stays.{Stays}
 use Rattle.pass_narrow.specs.Narrowings.{and_node, narrowing_by}
@@ -70,10 +70,10 @@ choice_none nodes os (attributes.Channel predicate c) h = refl
 -- ---- any node
 
 -- what the rules make of a normal node is the node
-pub unchanged : (state : IrType) (old new : List Node) (n : Node) (o : Operand) → AreBuilt state old → IsPlaced state old (length old) n → IsNormalNode state old n → IsGrown new o (simplify state old n) → Stays state old new n o
-unchanged state old new n o built placed normal is =
+pub unchanged : (state : IrType) (old new : List Node) (n : Node) (o : Operand) → AreBuilt state old → FitsAt state old (length old) n → IsNormalNode state old n → IsGrown new o (simplify state old n) → Stays state old new n o
+unchanged state old new n o built fits_at normal is =
     let choice : choice_of old n ≡ None = choice_none old n.operands n.attributes normal.chosen in
-    let side = no_right_side state old n built placed normal.narrowed in
+    let side = no_right_side state old n built fits_at normal.narrowed in
     let itself = settled_itself old n (not_foldable old n normal.folded) in (
       is.0 ∙ ap (λ q. (simplify_by state old n q).nodes) choice
           ∙ ap (λ r. (settle_answer (narrowing_by state old n r).nodes (narrowing_by state old n r).answer).nodes) side

@@ -17,10 +17,10 @@ use Rattle.ir_rebuild.specs.Fixed.{is_receive_op, is_receive, is_one_receive, is
 use Rattle.ir_rebuild.specs.Walks.{RebuildsTo, none_read, dropped, copied, rewritten}
 use Rattle.ir_rebuild.proofs.Lemmas.{before_more, last_there}
 use Rattle.ir_rebuild.specs.Normal.Origins.{made_by}
-use Rattle.ir_rebuild.specs.Normal.LeftSides.{is_literal_op, is_tuple_op, is_made}
+use Rattle.ir_rebuild.specs.Normal.Patterns.{is_literal_op, is_tuple_op, is_made}
 use Rattle.ir_rebuild.specs.Normal.Normal.{is_literal_node, IsNormalNode, AreNormal}
 use Rattle.ir_rebuild.proofs.Lemmas.Normal.{normal_more}
-use Rattle.pass_narrow.specs.RightSides.{right_side_of}
+use Rattle.pass_narrow.specs.Replacements.{replacement_of}
 use Rattle.pass_select.specs.Choices.{choice_of}
 use Rattle.ir_passes.specs.Simplifies.{Simplifies}
 use Rattle.ir_passes.proofs.Exact.{at_most_four}
@@ -88,8 +88,8 @@ is_part false b h k = absurd (cc)
 fixed_normal : (state : IrType) (new : List Node) (n : Node) → AreBuilt state (new ++ numbered (length new) n ∷ []) → is_fixed new n ≡ true → is_plain_op n.op ≡ true → IsNormalNode state new n
 fixed_normal state new n built fixed plain =
     let x = numbered (length new) n in
-    let placed = built.placed (length new) x (last_there new x) plain in
-    let fits = (both (is_met (count_of n.op) (length n.operands)) (types_fit [] (types_behind state (new ++ x ∷ [])) x n.attributes) placed.fits).1 in
+    let fits_at = built.fits_at (length new) x (last_there new x) plain in
+    let fits = (both (is_met (count_of n.op) (length n.operands)) (types_fit [] (types_behind state (new ++ x ∷ [])) x n.attributes) fits_at.fits).1 in
     by_attributes state new (new ++ x ∷ []) n n.attributes refl fits (is_part (is_plain_op n.op) (is_part_of_receive new n.attributes n.operands) plain fixed)
 
 -- ---- the walk
@@ -101,7 +101,7 @@ walk_normal state kept _ _ _ (copied old new places n w marked fixed built) =
     let x = moved_node (moved places) n in
     normal_more state new x (λ j m e. built.before j m (before_more new (numbered (length new) x ∷ []) j m e)) (walk_normal state kept old new places w)
     (built.before (length new) (numbered (length new) x) (last_there new (numbered (length new) x))) (λ plain. fixed_normal state new x built fixed plain)
-walk_normal state kept _ _ _ (rewritten old new all places n o w marked free behind placed rewrites given) = given.normal (walk_normal state kept old new places w)
+walk_normal state kept _ _ _ (rewritten old new all places n o w marked free behind fits_at rewrites given) = given.normal (walk_normal state kept old new places w)
 
 pub walk_few : (state : IrType) (kept : List Bool) (old new : List Node) (places : List Operand) → RebuildsTo state Simplifies kept old new places → length new ≤ 4 * length old
 walk_few state kept _ _ _ none_read = omega arith
@@ -111,9 +111,9 @@ walk_few state kept _ _ _ (dropped old new places n w unmarked) =
 walk_few state kept _ _ _ (copied old new places n w marked fixed built) =
     let before = walk_few state kept old new places w in
     omega (arith, before, length-append old (n ∷ []), length-append new (numbered (length new) (moved_node (moved places) n) ∷ []))
-walk_few state kept _ _ _ (rewritten old new all places n o w marked free behind placed rewrites given) =
+walk_few state kept _ _ _ (rewritten old new all places n o w marked free behind fits_at rewrites given) =
     let before = walk_few state kept old new places w in
     let m = moved_node (moved places) n in
     let more = given.few in
-    let most = at_most_four (choice_of new m) (right_side_of state new m) in
+    let most = at_most_four (choice_of new m) (replacement_of state new m) in
     omega (arith, before, more, most, length-append old (n ∷ []))

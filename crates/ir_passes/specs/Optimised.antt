@@ -5,8 +5,8 @@ use Rattle.ir_tree.specs.declared.package.Proc.{Proc}
 use Rattle.ir_tree.specs.SameBehavior.{SameBehavior}
 use Rattle.ir_verify.specs.Verified.{IsVerified}
 use Rattle.ir_rebuild.specs.Kept.{AreAllKept}
-use Rattle.ir_rebuild.specs.Walks.{EachBecomes, SameHead}
-use Rattle.ir_rebuild.specs.Normal.Normal.{AreNeeded, IsNormal}
+use Rattle.ir_rebuild.specs.Walks.{EachProcRebuildsTo, SameHead}
+use Rattle.ir_rebuild.specs.Normal.Normal.{AreLive, IsNormal}
 use Rattle.pass_dead.specs.Stays.{Stays}
 use Rattle.ir_passes.specs.Simplifies.{Simplifies}
 use Rattle.ir_passes.specs.Renumbered.{numbered_package}
@@ -18,8 +18,8 @@ pub record IsBounded (old new : Package) : Type 0 where
 -- the rules were tried at each node in line order, and then what nobody needs was dropped: nothing else was done
 pub record IsMade (old new : Package) : Type 0 where
   pub between : List Proc
-  pub first : EachBecomes AreAllKept Simplifies old.procs between
-  pub second : EachBecomes AreNeeded Stays between new.procs
+  pub first : EachProcRebuildsTo AreAllKept Simplifies old.procs between
+  pub second : EachProcRebuildsTo AreLive Stays between new.procs
   pub head : SameHead old new
 
 -- A package that is normal is given back, in each proc of which ids count from 1.

@@ -6,13 +6,13 @@ use Rattle.ir_tree.specs.declared.node.Operand.{Operand}
 use Rattle.ir_tree.specs.declared.node.Operand.TheVariants as operand
 use Rattle.ir_tree.specs.declared.node.Node.{Node}
 use Rattle.pass_fold.specs.Settled.{settled_node}
-use Rattle.pass_narrow.specs.declared.stand_in.StandIn.{StandIn}
-use Rattle.pass_narrow.specs.declared.stand_in.StandIn.TheVariants as stand_in
-use Rattle.pass_narrow.specs.declared.left_side.RightSide.{RightSide}
-use Rattle.pass_narrow.specs.declared.left_side.RightSide.TheVariants as right
+use Rattle.pass_narrow.specs.declared.rewritten_node.RewrittenNode.{RewrittenNode}
+use Rattle.pass_narrow.specs.declared.rewritten_node.RewrittenNode.TheVariants as rewritten_node
+use Rattle.pass_narrow.specs.declared.node_pattern.NodeReplacement.{NodeReplacement}
+use Rattle.pass_narrow.specs.declared.node_pattern.NodeReplacement.TheVariants as right
 use Rattle.pass_narrow.specs.Nodes.{extension_node}
 use Rattle.pass_narrow.specs.Narrowings.{Grown, and_node, narrowing_of}
-use Rattle.pass_narrow.specs.RightSides.{right_side_of}
+use Rattle.pass_narrow.specs.Replacements.{replacement_of}
 use Rattle.pass_select.specs.Choices.{choice_of}
 
 -- ---- what stands for a node
@@ -22,10 +22,10 @@ abbrev pub settle : List Node → Node → Grown
 settle nodes n = record { nodes = and_node nodes (settled_node nodes n); operand = operand.Node (length nodes) }
 
 -- what narrowing answers: an operand, a node more, or a node more and its extension by zeros
-abbrev pub settle_answer : List Node → StandIn → Grown
-settle_answer nodes (stand_in.Operand o) = record { nodes = nodes; operand = o }
-settle_answer nodes (stand_in.Node m) = settle nodes m
-settle_answer nodes (stand_in.Extended m w) = settle (settle nodes m).nodes (extension_node extend.Zero (settle nodes m).operand w)
+abbrev pub settle_answer : List Node → RewrittenNode → Grown
+settle_answer nodes (rewritten_node.Operand o) = record { nodes = nodes; operand = o }
+settle_answer nodes (rewritten_node.Node m) = settle nodes m
+settle_answer nodes (rewritten_node.Extended m w) = settle (settle nodes m).nodes (extension_node extend.Zero (settle nodes m).operand w)
 
 abbrev pub simplify_by : IrType → List Node → Node → Option Operand → Grown
 simplify_by state nodes n (Some o) = record { nodes = nodes; operand = o }
@@ -41,8 +41,8 @@ IsGrown nodes o g = (nodes ≡ g.nodes) × (o ≡ g.operand)
 
 -- ---- how many nodes that takes
 
--- a node that has no left side is one; what stands for one that has is by its right side
-abbrev pub needed_by : Option RightSide → ℕ
+-- a node that has no pattern is one; what stands for one that has is by its right side
+abbrev pub needed_by : Option NodeReplacement → ℕ
 needed_by None = 1
 needed_by (Some (right.Operand o)) = 0
 needed_by (Some right.Zero) = 1
@@ -52,10 +52,10 @@ needed_by (Some (right.LongerSlice x start width)) = 2
 needed_by (Some (right.Operation o a b least)) = 4
 needed_by (Some (right.Comparison o a b least)) = 3
 
-abbrev pub needed_of : Option Operand → Option RightSide → ℕ
+abbrev pub needed_of : Option Operand → Option NodeReplacement → ℕ
 needed_of (Some o) r = 0
 needed_of None r = needed_by r
 
 -- at most: none for a select of one operand, else what its right side needs
-abbrev pub needed : IrType → List Node → Node → ℕ
-needed state nodes n = needed_of (choice_of nodes n) (right_side_of state nodes n)
+abbrev pub live : IrType → List Node → Node → ℕ
+live state nodes n = needed_of (choice_of nodes n) (replacement_of state nodes n)

@@ -3,10 +3,10 @@
 ghost use Rattle.std.specs.Prelude.{◌≡◌, true, length, List, None, IfOk};
 ghost use Rattle.ir_tree.specs.declared.ir_type.IrType.{IrType};
 ghost use Rattle.ir_tree.specs.declared.node.Node.{Node};
-ghost use Rattle.ir_rebuild.specs.Built.{AreBuilt, IsPlaced, Rewrites, is_plain_op};
+ghost use Rattle.ir_rebuild.specs.Built.{AreBuilt, FitsAt, Rewrites, is_plain_op};
 ghost use Rattle.pass_narrow.specs.Narrowing.{Narrows};
 ghost use Rattle.pass_narrow.specs.KeepsNormal.{IsNarrowInside};
-ghost use Rattle.pass_narrow.specs.declared.stand_in.StandIn.TheVariants.{Extended};
+ghost use Rattle.pass_narrow.specs.declared.rewritten_node.RewrittenNode.TheVariants.{Extended};
 ghost use Rattle.ir_rebuild.specs.Normal.Normal.{AreNormal};
 ghost use Rattle.pass_select.specs.Choices.{choice_of};
 ghost use Rattle.ir_passes.specs.Simplified.{settle_answer, IsGrown};
@@ -17,7 +17,7 @@ use delay_model::Extend;
 use ir_rebuild::{Rewrite, keep_all};
 use ir_tree::{IrType, Node, Operand, Proc};
 use pass_fold::settled;
-use pass_narrow::{StandIn, extension, narrowed};
+use pass_narrow::{RewrittenNode, extension, narrowed};
 use pass_select::choice;
 use std::alloc::{AllocError, Global};
 
@@ -59,16 +59,16 @@ fn simplified(
     node: Node,
 ) -> Result<Operand, AllocError>
     requires built { AreBuilt state.now nodes.old.items }
-    requires placed { IsPlaced state.now nodes.old.items (length nodes.old.items) node }
+    requires fits_at { FitsAt state.now nodes.old.items (length nodes.old.items) node }
     requires plain { is_plain_op node.op ≡ true }
     requires undecided { IsUndecided nodes.old.items node }
     ensures rewrites { IfOk result (λ o. Rewrites state.now nodes.old.items nodes.new.items node o) }
     ensures simplifies { choice_of nodes.old.items node ≡ None → IfOk result (λ o. Simplifies state.now nodes.old.items nodes.new.items node o) }
 {
     match narrowed(alloc, state, nodes, node)? {
-        StandIn::Operand(operand) => Ok(operand),
-        StandIn::Node(node) => settled(alloc, nodes, node),
-        StandIn::Extended(node, width) => settled_longer(alloc, nodes, node, width),
+        RewrittenNode::Operand(operand) => Ok(operand),
+        RewrittenNode::Node(node) => settled(alloc, nodes, node),
+        RewrittenNode::Extended(node, width) => settled_longer(alloc, nodes, node, width),
     }
 }
 

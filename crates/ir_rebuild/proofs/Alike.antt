@@ -38,20 +38,20 @@ pub record Alike (kept : List Bool) (places : List Operand) (s : Value) (a b : W
 
 -- ---- the values behind a walk begin with those before it
 
-pub record Front (a b : Walk) : Type 0 where
+pub record Prefix (a b : Walk) : Type 0 where
   pub more : List Value
   pub are : b.values ≡ a.values ++ more
 
-step_front : (channels : List Channel) (s : Value) (words : Words) (w : Walk) (n : Node) (r : Role) → Front w (step_by channels s words w n r)
-step_front channels s words w n role.Pure = record { more = pure_value n s w.values ∷ []; are = refl }
-step_front channels s words w n (role.Receive predicate c) = record { more = received channels c (is_on s w.values predicate) (word_at words w.site w.left (is_on s w.values predicate)) ∷ []; are = refl }
-step_front channels s words w n (role.Send predicate c) = record { more = no_value ∷ []; are = refl }
+step_prefix : (channels : List Channel) (s : Value) (words : Words) (w : Walk) (n : Node) (r : Role) → Prefix w (step_by channels s words w n r)
+step_prefix channels s words w n role.Pure = record { more = pure_value n s w.values ∷ []; are = refl }
+step_prefix channels s words w n (role.Receive predicate c) = record { more = received channels c (is_on s w.values predicate) (word_at words w.site w.left (is_on s w.values predicate)) ∷ []; are = refl }
+step_prefix channels s words w n (role.Send predicate c) = record { more = no_value ∷ []; are = refl }
 
-pub walk_front : (channels : List Channel) (s : Value) (words : Words) (w : Walk) (nodes : List Node) → Front w (walk channels s words w nodes)
-walk_front channels s words w [] = record { more = []; are = sym (append-nil w.values) }
-walk_front channels s words w (n ∷ ns) =
-    let one = step_front channels s words w n (role_of n) in
-    let rest = walk_front channels s words (step channels s words w n) ns in
+pub walk_prefix : (channels : List Channel) (s : Value) (words : Words) (w : Walk) (nodes : List Node) → Prefix w (walk channels s words w nodes)
+walk_prefix channels s words w [] = record { more = []; are = sym (append-nil w.values) }
+walk_prefix channels s words w (n ∷ ns) =
+    let one = step_prefix channels s words w n (role_of n) in
+    let rest = walk_prefix channels s words (step channels s words w n) ns in
     record { more = one.more ++ rest.more; are = rest.are ∙ ap (λ vs. vs ++ rest.more) one.are ∙ append_assoc w.values one.more rest.more }
 
 -- plain nodes change the values alone
@@ -102,7 +102,7 @@ alike_skipped channels words kept places s a b n o same h there k pure =
     })
 
 -- a plain node for which an operand stands, after more plain nodes
-pub alike_rewritten : (channels : List Channel) (words : Words) (kept : List Bool) (places : List Operand) (s : Value) (a b c : Walk) (n : Node) (o : Operand) → length a.values ≡ length places → Alike kept places s a b → ((j : ℕ) → j < length places → get_or kept j false ≡ true → is_there (length b.values) (get_or places j operand.State) ≡ true) → Front b c → Quiet b c → role_of n ≡ role.Pure → (AlikeValues kept places s a.values c.values → operand_value s c.values o ≡ pure_value n s a.values) → Alike kept (places ++ o ∷ []) s (step channels s words a n) c
+pub alike_rewritten : (channels : List Channel) (words : Words) (kept : List Bool) (places : List Operand) (s : Value) (a b c : Walk) (n : Node) (o : Operand) → length a.values ≡ length places → Alike kept places s a b → ((j : ℕ) → j < length places → get_or kept j false ≡ true → is_there (length b.values) (get_or places j operand.State) ≡ true) → Prefix b c → Quiet b c → role_of n ≡ role.Pure → (AlikeValues kept places s a.values c.values → operand_value s c.values o ≡ pure_value n s a.values) → Alike kept (places ++ o ∷ []) s (step channels s words a n) c
 alike_rewritten channels words kept places s a b c n o same h there front quiet pure value =
     subst (λ r. Alike kept (places ++ o ∷ []) s (step_by channels s words a n r) c) (sym pure)
     (record {

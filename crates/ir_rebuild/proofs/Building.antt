@@ -7,7 +7,7 @@ use Rattle.std.proofs.lemmas.Bool.Decides.{nat_tests}
 use Rattle.std.proofs.lemmas.List.{get_or_append_left, get_or-append_right}
 use Rattle.std.proofs.lemmas.List.Folds.{list_all-append}
 use Rattle.std.proofs.lemmas.Option.{slice_get_within}
-use Rattle.base.proofs.Lemmas.Lists.Places.{slice_get-append_left, slice_get-append_right}
+use Rattle.base.proofs.Lemmas.Lists.Indices.{slice_get-append_left, slice_get-append_right}
 use Rattle.xb_value.specs.declared.value.Value.{Value}
 use Rattle.ir_tree.specs.declared.ir_type.IrType.{IrType, Token}
 use Rattle.ir_tree.specs.declared.node.Operand.{Operand}
@@ -21,7 +21,7 @@ use Rattle.ir_verify.specs.Fitting.{type_in, type_or, types_behind, node_fits}
 use Rattle.ir_tree.specs.NodeTypes.Types.{marks_of}
 use Rattle.ir_verify.specs.Lines.{is_there, are_there, is_there_if, attributes_there}
 use Rattle.ir_rebuild.specs.Operands.{optional_operand, attribute_operands, operands_in}
-use Rattle.ir_rebuild.specs.Built.{IsPlaced, AreBuilt, AreValues, StandsFor, Rewrites, is_plain_op, numbered}
+use Rattle.ir_rebuild.specs.Built.{FitsAt, AreBuilt, AreValues, OperandSimulates, Rewrites, is_plain_op, numbered}
 use Rattle.ir_rebuild.proofs.Moving.{both, and_both, all_parts, fits_still, pure_still}
 
 -- ---- operands that are there
@@ -106,7 +106,7 @@ pub pure_more : (s : Value) (vs us : List Value) (place : ℕ) (n : Node) → pl
 pure_more s vs us place n within h =
     pure_still (is_there place) s vs (vs ++ us) (λ o e. value_more s vs us o (there_more place (length vs) within o e)) n h
 
-pub placed_more : (state : IrType) (xs ys : List Node) (place : ℕ) (n : Node) → place ≤ length xs → IsPlaced state xs place n → IsPlaced state (xs ++ ys) place n
+pub placed_more : (state : IrType) (xs ys : List Node) (place : ℕ) (n : Node) → place ≤ length xs → FitsAt state xs place n → FitsAt state (xs ++ ys) place n
 placed_more state xs ys place n within h = record {
   operands = h.operands;
   attributes = h.attributes;
@@ -155,7 +155,7 @@ one_longer xs x = omega (arith, length-append xs (x ∷ []))
 
 -- ---- one plain node more
 
-built_more : (state : IrType) (nodes : List Node) (n : Node) → AreBuilt state nodes → (marks_of n.ty).sound ≡ true → list_all (is_there (length nodes)) (operands_in n) ≡ true → (is_plain_op n.op ≡ true → IsPlaced state nodes (length nodes) n) → AreBuilt state (nodes ++ numbered (length nodes) n ∷ [])
+built_more : (state : IrType) (nodes : List Node) (n : Node) → AreBuilt state nodes → (marks_of n.ty).sound ≡ true → list_all (is_there (length nodes)) (operands_in n) ≡ true → (is_plain_op n.op ≡ true → FitsAt state nodes (length nodes) n) → AreBuilt state (nodes ++ numbered (length nodes) n ∷ [])
 built_more state nodes n h t b k = record {
   sound = h.sound;
   numbered = λ j m e.
@@ -167,30 +167,30 @@ built_more state nodes n h t b k = record {
   before = λ j m e.
       at_place (list_all (is_there j) (operands_in m) ≡ true) nodes (numbered (length nodes) n) j m e (λ less here. h.before j m here)
       (λ l. subst (λ i. list_all (is_there i) (operands_in m) ≡ true) (sym l.place) (ap (λ (x : Node). list_all (is_there (length nodes)) (operands_in x)) (sym l.item) ∙ b));
-  placed = λ j m e plain.
-      at_place (IsPlaced state (nodes ++ numbered (length nodes) n ∷ []) j m) nodes (numbered (length nodes) n) j m e
-      (λ less here. placed_more state nodes (numbered (length nodes) n ∷ []) j m (omega (arith, less)) (h.placed j m here plain))
+  fits_at = λ j m e plain.
+      at_place (FitsAt state (nodes ++ numbered (length nodes) n ∷ []) j m) nodes (numbered (length nodes) n) j m e
+      (λ less here. placed_more state nodes (numbered (length nodes) n ∷ []) j m (omega (arith, less)) (h.fits_at j m here plain))
       (λ l. here j m l plain);
 }
   where
     x : Node
     x = numbered (length nodes) n
 
-    here : (j : ℕ) (m : Node) → IsLast nodes (numbered (length nodes) n) j m → is_plain_op m.op ≡ true → IsPlaced state (nodes ++ numbered (length nodes) n ∷ []) j m
+    here : (j : ℕ) (m : Node) → IsLast nodes (numbered (length nodes) n) j m → is_plain_op m.op ≡ true → FitsAt state (nodes ++ numbered (length nodes) n ∷ []) j m
     here j m l plain =
         let own = k (ap (λ (y : Node). is_plain_op y.op) l.item ∙ plain) in
-        let numbered_one : IsPlaced state nodes (length nodes) (numbered (length nodes) n) = record { operands = own.operands; attributes = own.attributes; fits = own.fits; typed = own.typed; limits = own.limits } in
-        subst (λ i. IsPlaced state (nodes ++ numbered (length nodes) n ∷ []) i m) (sym l.place)
-        (subst (IsPlaced state (nodes ++ numbered (length nodes) n ∷ []) (length nodes)) l.item
+        let numbered_one : FitsAt state nodes (length nodes) (numbered (length nodes) n) = record { operands = own.operands; attributes = own.attributes; fits = own.fits; typed = own.typed; limits = own.limits } in
+        subst (λ i. FitsAt state (nodes ++ numbered (length nodes) n ∷ []) i m) (sym l.place)
+        (subst (FitsAt state (nodes ++ numbered (length nodes) n ∷ []) (length nodes)) l.item
         (placed_more state nodes (numbered (length nodes) n ∷ []) (length nodes) (numbered (length nodes) n) (omega arith) numbered_one))
 
 pub built_fixed : (state : IrType) (nodes : List Node) (n : Node) → AreBuilt state nodes → (marks_of n.ty).sound ≡ true → list_all (is_there (length nodes)) (operands_in n) ≡ true → is_plain_op n.op ≡ false → AreBuilt state (nodes ++ numbered (length nodes) n ∷ [])
 built_fixed state nodes n h t b no_plain = built_more state nodes n h t b (λ plain. absurd (cc))
 
-pub built_plain : (state : IrType) (nodes : List Node) (n : Node) → AreBuilt state nodes → IsPlaced state nodes (length nodes) n → AreBuilt state (nodes ++ numbered (length nodes) n ∷ [])
+pub built_plain : (state : IrType) (nodes : List Node) (n : Node) → AreBuilt state nodes → FitsAt state nodes (length nodes) n → AreBuilt state (nodes ++ numbered (length nodes) n ∷ [])
 built_plain state nodes n h k = built_more state nodes n h (both (marks_of n.ty).sound _ k.typed).0 (all_there (length nodes) n k.operands k.attributes) (λ plain. k)
 
-pub stands_last : (state : IrType) (nodes : List Node) (n : Node) → is_plain_op n.op ≡ true → StandsFor state (nodes ++ numbered (length nodes) n ∷ []) n (operand.Node (length nodes))
+pub stands_last : (state : IrType) (nodes : List Node) (n : Node) → is_plain_op n.op ≡ true → OperandSimulates state (nodes ++ numbered (length nodes) n ∷ []) n (operand.Node (length nodes))
 stands_last state nodes n plain = record {
   there = is_below (length nodes) (length (nodes ++ numbered (length nodes) n ∷ [])) (omega (arith, one_longer nodes (numbered (length nodes) n)));
   ty = ap (type_or (Token [])) (last_there nodes (numbered (length nodes) n));
@@ -198,7 +198,7 @@ stands_last state nodes n plain = record {
 }
 
 -- a plain node that is appended stands for itself
-pub appended : (state : IrType) (nodes : List Node) (n : Node) → AreBuilt state nodes → IsPlaced state nodes (length nodes) n → is_plain_op n.op ≡ true → Rewrites state nodes (nodes ++ numbered (length nodes) n ∷ []) n (operand.Node (length nodes))
+pub appended : (state : IrType) (nodes : List Node) (n : Node) → AreBuilt state nodes → FitsAt state nodes (length nodes) n → is_plain_op n.op ≡ true → Rewrites state nodes (nodes ++ numbered (length nodes) n ∷ []) n (operand.Node (length nodes))
 appended state nodes n h k plain = record {
   built = built_plain state nodes n h k;
   extends = record { more = numbered (length nodes) n ∷ []; are = refl; plain = and_both (is_plain_op n.op) true plain refl };
@@ -215,7 +215,7 @@ values_before state xs ys s values h = record {
 }
 
 -- what stood for a node stands for it with more nodes
-pub stands_more : (state : IrType) (xs ys : List Node) (n : Node) (o : Operand) → StandsFor state xs n o → StandsFor state (xs ++ ys) n o
+pub stands_more : (state : IrType) (xs ys : List Node) (n : Node) (o : Operand) → OperandSimulates state xs n o → OperandSimulates state (xs ++ ys) n o
 stands_more state xs ys n o h = record {
   there = there_more (length xs) (length (xs ++ ys)) (omega (arith, length-append xs ys)) o h.there;
   ty = type_more state xs ys o h.there ∙ h.ty;

@@ -27,8 +27,8 @@ use Rattle.std.specs.List.{list_all}
 use Rattle.ir_rebuild.specs.Operands.{operands_in}
 use Rattle.ir_rebuild.specs.Moves.{moved, moved_node}
 use Rattle.ir_rebuild.specs.Kept.{is_kept, AreKept, StandBefore}
-use Rattle.ir_rebuild.specs.Built.{AreBuilt, IsPlaced, is_plain_op}
-use Rattle.ir_rebuild.specs.Inner.Appended.{StandsIn}
+use Rattle.ir_rebuild.specs.Built.{AreBuilt, FitsAt, is_plain_op}
+use Rattle.ir_rebuild.specs.Inner.Appended.{SimulatesInRebuild}
 use Rattle.ir_rebuild.specs.Inner.Rebuilt.{IsCheckedBehind, IsCheckedProc, IsRebuilt}
 use Rattle.ir_rebuild.proofs.Moving.{both, and_both}
 use Rattle.ir_rebuild.proofs.Walking.{start, walk_values, walk_turns, walk_words}
@@ -192,7 +192,7 @@ none_built channels p c =
       numbered = λ j n e. absurd (cc);
       types = λ j n e. absurd (cc);
       before = λ j n e. absurd (cc);
-      placed = λ j n e f. absurd (cc);
+      fits_at = λ j n e f. absurd (cc);
     }
 
 pub none_read : (channels : List Channel) (p : Proc) (kept : List Bool) → IsCheckedProc channels p → IsReadSo channels p kept [] [] []
@@ -232,13 +232,13 @@ at_loop : (channels : List Channel) (proc : Proc) (kept : List Bool) (ns : List 
 at_loop channels proc kept ns i n e h is k c = is_next channels proc kept (take i ns) (drop (suc i) ns) n (sym e ∙ cut ns i n h is) k c
 
 -- what reading a node asks
-pub asked : (channels : List Channel) (proc : Proc) (kept : List Bool) (ns : List Node) (i : ℕ) (n : Node) (new : List Node) (places : List Operand) (b : Bool) → ns ≡ proc.nodes → i < length ns → n ≡ get_or ns i n → AreKept proc kept → IsCheckedProc channels proc → b ≡ get_or kept i false → IsReadSo channels proc kept (take i ns) new places → b ≡ true → is_plain_op n.op ≡ true → IsPlaced proc.state new (length new) (moved_node (moved places) n)
+pub asked : (channels : List Channel) (proc : Proc) (kept : List Bool) (ns : List Node) (i : ℕ) (n : Node) (new : List Node) (places : List Operand) (b : Bool) → ns ≡ proc.nodes → i < length ns → n ≡ get_or ns i n → AreKept proc kept → IsCheckedProc channels proc → b ≡ get_or kept i false → IsReadSo channels proc kept (take i ns) new places → b ≡ true → is_plain_op n.op ≡ true → FitsAt proc.state new (length new) (moved_node (moved places) n)
 asked channels proc kept ns i n new places b e h is k c flag read marked plain =
     let own : get_or kept (length (take i ns)) false ≡ true = ap (λ j. get_or kept j false) (taken_count ns i h) ∙ (sym flag ∙ marked) in
     next_placed channels proc kept (take i ns) new places n read (at_loop channels proc kept ns i n e h is k c) own plain
 
 -- one node more was read
-pub advanced : (channels : List Channel) (proc : Proc) (kept : List Bool) (ns : List Node) (i : ℕ) (n : Node) (new all : List Node) (places more : List Operand) (b : Bool) (o : Operand) → ns ≡ proc.nodes → i < length ns → n ≡ get_or ns i n → AreKept proc kept → IsCheckedProc channels proc → b ≡ get_or kept i false → (b ≡ true → StandsIn proc.state new all (moved_node (moved places) n) o) → (b ≡ false → all ≡ new) → more ≡ places ++ o ∷ [] → IsReadSo channels proc kept (take i ns) new places → IsReadSo channels proc kept (take (i + 1) ns) all more
+pub advanced : (channels : List Channel) (proc : Proc) (kept : List Bool) (ns : List Node) (i : ℕ) (n : Node) (new all : List Node) (places more : List Operand) (b : Bool) (o : Operand) → ns ≡ proc.nodes → i < length ns → n ≡ get_or ns i n → AreKept proc kept → IsCheckedProc channels proc → b ≡ get_or kept i false → (b ≡ true → SimulatesInRebuild proc.state new all (moved_node (moved places) n) o) → (b ≡ false → all ≡ new) → more ≡ places ++ o ∷ [] → IsReadSo channels proc kept (take i ns) new places → IsReadSo channels proc kept (take (i + 1) ns) all more
 advanced channels proc kept ns i n new all places more b o e h is k c flag stands stays longer read =
     subst (λ xs. IsReadSo channels proc kept xs all more) (sym (take_one ns i n h is))
     (subst (IsReadSo channels proc kept (take i ns ++ n ∷ []) all) (sym longer)

@@ -18,7 +18,7 @@ use Rattle.ir_tree.specs.NodeValues.{operand_value, pure_value}
 use Rattle.ir_verify.specs.Fitting.{Types, type_in, type_or, types_behind, node_fits}
 use Rattle.ir_verify.specs.Lines.{is_there, are_there, attributes_there}
 use Rattle.ir_rebuild.specs.Operands.{operands_in}
-use Rattle.ir_rebuild.specs.Built.{IsPlaced, AreBuilt, AreValues, StandsFor, Rewrites, is_plain_op, numbered}
+use Rattle.ir_rebuild.specs.Built.{FitsAt, AreBuilt, AreValues, OperandSimulates, Rewrites, is_plain_op, numbered}
 use Rattle.ir_rebuild.specs.Moves.{moved, moved_node, moved_attributes}
 use Rattle.ir_rebuild.specs.Operands.{attribute_operands}
 use Rattle.ir_tree.specs.declared.node.Attributes.{Attributes}
@@ -28,11 +28,11 @@ use Rattle.ir_rebuild.proofs.Moving.{SameTypes, SameValues}
 use Rattle.ir_rebuild.proofs.Standing as standing
 
 -- a plain node that is appended stands for itself
-pub appended : (state : IrType) (nodes : List Node) (n : Node) → AreBuilt state nodes → IsPlaced state nodes (length nodes) n → is_plain_op n.op ≡ true → Rewrites state nodes (nodes ++ numbered (length nodes) n ∷ []) n (operand.Node (length nodes))
+pub appended : (state : IrType) (nodes : List Node) (n : Node) → AreBuilt state nodes → FitsAt state nodes (length nodes) n → is_plain_op n.op ≡ true → Rewrites state nodes (nodes ++ numbered (length nodes) n ∷ []) n (operand.Node (length nodes))
 appended = building.appended
 
 -- an operand that stands for the node is answered, and nothing is appended
-pub answered : (state : IrType) (nodes : List Node) (n : Node) (o : Operand) → AreBuilt state nodes → StandsFor state nodes n o → Rewrites state nodes nodes n o
+pub answered : (state : IrType) (nodes : List Node) (n : Node) (o : Operand) → AreBuilt state nodes → OperandSimulates state nodes n o → Rewrites state nodes nodes n o
 answered state nodes n o h k = record {
   built = h;
   extends = record { more = []; are = sym (append-nil nodes); plain = refl };
@@ -84,13 +84,13 @@ pub last_there : {A : Type 0} (xs : List A) (x : A) → slice_get (xs ++ x ∷ [
 last_there = building.last_there
 
 -- what stood for a node stands for it with more nodes, and values of more nodes are values of these
-pub stands_more : (state : IrType) (xs ys : List Node) (n : Node) (o : Operand) → StandsFor state xs n o → StandsFor state (xs ++ ys) n o
+pub stands_more : (state : IrType) (xs ys : List Node) (n : Node) (o : Operand) → OperandSimulates state xs n o → OperandSimulates state (xs ++ ys) n o
 stands_more = building.stands_more
 
 pub values_before : (state : IrType) (xs ys : List Node) (s : Value) (values : List Value) → AreValues state (xs ++ ys) s values → AreValues state xs s values
 values_before = building.values_before
 
-pub placed_more : (state : IrType) (xs ys : List Node) (place : ℕ) (n : Node) → place ≤ length xs → IsPlaced state xs place n → IsPlaced state (xs ++ ys) place n
+pub placed_more : (state : IrType) (xs ys : List Node) (place : ℕ) (n : Node) → place ≤ length xs → FitsAt state xs place n → FitsAt state (xs ++ ys) place n
 placed_more = building.placed_more
 
 -- ---- nodes whose operands stand elsewhere

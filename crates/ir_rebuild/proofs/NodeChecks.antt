@@ -20,7 +20,7 @@ use Rattle.ir_verify.specs.Fitting.{Types, types_behind, node_fits, types_fit, p
 use Rattle.ir_verify.specs.Lines.{Seen, see, see_op, is_after_all, is_id_after, is_named, are_there, attributes_there, is_chained, is_chained_role, see_role, is_at_end, is_typed, own_levels, type_limits, node_checks}
 use Rattle.ir_verify.specs.Verified.{nowhere, nodes_checks, seen_after}
 use Rattle.ir_verify.specs.Typed.Typed.{none_broken}
-use Rattle.ir_rebuild.specs.Built.{IsPlaced, is_plain_op}
+use Rattle.ir_rebuild.specs.Built.{FitsAt, is_plain_op}
 use Rattle.ir_rebuild.proofs.Moving.{both, and_both}
 
 twice : (b : Bool) → not (not b) ≡ true → b ≡ true
@@ -144,7 +144,7 @@ fits_nowhere channels scope n plain h =
     and_both _ _ parts.0 (no_types_anywhere channels scope n n.attributes plain parts.1)
 
 -- a plain node that can stand there is checked
-pub plain_checked : (channels : List Channel) (state : IrType) (before : List Node) (seen : Seen) (n : Node) → is_plain_op n.op ≡ true → is_id_after (slice_get before (length before - 1)) n.id ≡ true → IsPlaced state before (length before) n → IsChecked channels state before (length before) seen n
+pub plain_checked : (channels : List Channel) (state : IrType) (before : List Node) (seen : Seen) (n : Node) → is_plain_op n.op ≡ true → is_id_after (slice_get before (length before - 1)) n.id ≡ true → FitsAt state before (length before) n → IsChecked channels state before (length before) seen n
 plain_checked channels state before seen n plain id h =
     let r = plain_role n.op n.attributes plain in
     record {
@@ -232,8 +232,8 @@ fewer_checked channels state seen xs n h =
     (parts.0, node_says channels state xs (length xs) (seen_after 0 seen xs) n parts.1)
 
 -- the front of a checked list is checked
-pub front_checked : (channels : List Channel) (state : IrType) (seen : Seen) (xs ys : List Node) → AreChecked channels state [] 0 seen (xs ++ ys) → AreChecked channels state [] 0 seen xs
-front_checked channels state seen xs ys h =
+pub prefix_checked : (channels : List Channel) (state : IrType) (seen : Seen) (xs ys : List Node) → AreChecked channels state [] 0 seen (xs ++ ys) → AreChecked channels state [] 0 seen xs
+prefix_checked channels state seen xs ys h =
     (quiet_parts (nodes_checks channels state [] [] 0 seen xs) _ (sym (ap none_broken (nodes_append channels state [] 0 seen xs ys)) ∙ h)).0
 
 -- ---- no fault is named

@@ -4,7 +4,7 @@ use Rattle.std.specs.Prelude.{slice_get, not, ◌||◌}
 use Rattle.std.specs.List.{list_all}
 use Rattle.std.proofs.lemmas.List.{append-nil, append_assoc}
 use Rattle.std.proofs.lemmas.Option.{slice_get-get_or}
-use Rattle.base.proofs.Lemmas.Lists.Places.{slice_get-append_right}
+use Rattle.base.proofs.Lemmas.Lists.Indices.{slice_get-append_right}
 use Rattle.xb_bits.specs.Word.{Word}
 use Rattle.xb_value.specs.declared.value.Value.{Value}
 use Rattle.xb_value.specs.Typing.{IsOfType}
@@ -31,18 +31,18 @@ use Rattle.ir_verify.proofs.Lemmas.Typed.Scopes.{IsOperand}
 use Rattle.ir_rebuild.specs.Operands.{operands_in, node_of}
 use Rattle.ir_rebuild.specs.Moves.{moved, moved_attributes, moved_node}
 use Rattle.ir_rebuild.specs.Kept.{is_kept, is_site, AreKept}
-use Rattle.ir_rebuild.specs.Built.{IsPlaced, AreBuilt, StandsFor, is_plain_op, numbered}
+use Rattle.ir_rebuild.specs.Built.{FitsAt, AreBuilt, OperandSimulates, is_plain_op, numbered}
 use Rattle.ir_rebuild.specs.Fixed.{is_receive_op, is_receive, is_one_receive, is_part_of_receive, is_fixed}
-use Rattle.ir_rebuild.specs.Inner.Appended.{StandsIn}
+use Rattle.ir_rebuild.specs.Inner.Appended.{SimulatesInRebuild}
 use Rattle.ir_rebuild.specs.Inner.Rebuilt.{IsCheckedBehind, IsCheckedProc}
 use Rattle.ir_rebuild.proofs.Moving.{both, and_both, all_parts, moved_two, pure_moved}
 use Rattle.ir_rebuild.proofs.Walking.{Walk, Words, step, walk, start, walk_append, sites_append}
 use Rattle.ir_rebuild.proofs.Building.{below, is_below, all_there, fits_more, before_more, last_there, one_longer, built_fixed, appended}
-use Rattle.ir_rebuild.proofs.NodeChecks.{IsChecked, plain_role, plain_checked, plain_unseen, AreChecked, quiet_parts, seen_one, seen_append, more_checked, fewer_checked, front_checked}
+use Rattle.ir_rebuild.proofs.NodeChecks.{IsChecked, plain_role, plain_checked, plain_unseen, AreChecked, quiet_parts, seen_one, seen_append, more_checked, fewer_checked, prefix_checked}
 use Rattle.ir_rebuild.proofs.Values.{walk_has_values, walk_count}
 use Rattle.ir_rebuild.proofs.Standing.{IsPlace, IsCopy, Stand, is_ready, all_ready, ready_value, moved_longer, stand_more, role_moved, moved_role, IsMoved, is_moved, is_placed, next_id}
 use Rattle.ir_rebuild.proofs.Chains.{SeenAlike, seen_alike_more, seen_skipped, seen_copied, unseen_all, copy_chained, copy_at_end, no_plain_fixed}
-use Rattle.ir_rebuild.proofs.Alike.{Alike, Front, walk_front, Quiet, plain_walk, alike_skipped, alike_rewritten, alike_copied}
+use Rattle.ir_rebuild.proofs.Alike.{Alike, Prefix, walk_prefix, Quiet, plain_walk, alike_skipped, alike_rewritten, alike_copied}
 
 -- what was read of a proc, and what was built
 pub record IsReadSo (channels : List Channel) (proc : Proc) (kept : List Bool) (old new : List Node) (places : List Operand) : Type 0 where
@@ -60,7 +60,7 @@ nodes_checked channels proc names seen h =
 -- a front of its nodes is checked
 pub read_checked : (channels : List Channel) (proc : Proc) (old rest : List Node) → (c : IsCheckedProc channels proc) → proc.nodes ≡ old ++ rest → AreChecked channels proc.state [] 0 (at_start c.seen) old
 read_checked channels proc old rest c e =
-    front_checked channels proc.state (at_start c.seen) old rest (subst (AreChecked channels proc.state [] 0 (at_start c.seen)) e (nodes_checked channels proc c.names c.seen c.checked))
+    prefix_checked channels proc.state (at_start c.seen) old rest (subst (AreChecked channels proc.state [] 0 (at_start c.seen)) e (nodes_checked channels proc c.names c.seen c.checked))
 
 -- what is known of the node that is read next
 pub record IsNext (channels : List Channel) (proc : Proc) (kept : List Bool) (old : List Node) (n : Node) : Type 0 where
@@ -92,7 +92,7 @@ next_moved channels proc kept old new places n h next k =
     is_moved channels proc.state kept proc.nodes old new places (seen_after 0 (at_start next.proc_checked.seen) old) n h (next_checked channels proc kept old n next) (next.are_kept.operands (length old) n next.there k)
 
 -- what a pass asks of a plain node
-pub next_placed : (channels : List Channel) (proc : Proc) (kept : List Bool) (old new : List Node) (places : List Operand) (n : Node) → IsReadSo channels proc kept old new places → IsNext channels proc kept old n → get_or kept (length old) false ≡ true → is_plain_op n.op ≡ true → IsPlaced proc.state new (length new) (moved_node (moved places) n)
+pub next_placed : (channels : List Channel) (proc : Proc) (kept : List Bool) (old new : List Node) (places : List Operand) (n : Node) → IsReadSo channels proc kept old new places → IsNext channels proc kept old n → get_or kept (length old) false ≡ true → is_plain_op n.op ≡ true → FitsAt proc.state new (length new) (moved_node (moved places) n)
 next_placed channels proc kept old new places n h next k plain =
     is_placed channels proc.state new (moved places) n (next_moved channels proc kept old new places n h.stand next k) plain
 
@@ -167,15 +167,15 @@ plain_more channels state seen [] xs built plain h = subst (AreChecked channels 
 plain_more channels state seen (m ∷ ms) xs built plain h =
     let parts = both (is_plain_op m.op) (list_all (λ (n : Node). is_plain_op n.op) ms) plain in
     let here : slice_get (xs ++ m ∷ ms) (length xs) ≡ Some m = slice_get-append_right xs (m ∷ ms) (length xs) 0 (omega arith) in
-    let p = built.placed (length xs) m here parts.0 in
-    let own : IsPlaced state xs (length xs) m = record { operands = p.operands; attributes = p.attributes; fits = sym (fits_more state xs (m ∷ ms) (length xs) m (omega arith) (all_there (length xs) m p.operands p.attributes)) ∙ p.fits; typed = p.typed; limits = p.limits } in
+    let p = built.fits_at (length xs) m here parts.0 in
+    let own : FitsAt state xs (length xs) m = record { operands = p.operands; attributes = p.attributes; fits = sym (fits_more state xs (m ∷ ms) (length xs) m (omega arith) (all_there (length xs) m p.operands p.attributes)) ∙ p.fits; typed = p.typed; limits = p.limits } in
     let id : is_id_after (slice_get xs (length xs - 1)) m.id ≡ true =
     ap (is_id_after (slice_get xs (length xs - 1))) (built.numbered (length xs) m here) ∙ next_id xs (λ j q e. built.numbered j q (before_more xs (m ∷ ms) j q e)) in
     let one = more_checked channels state seen xs m h (plain_checked channels state xs (seen_after 0 seen xs) m parts.0 id own) in
     subst (AreChecked channels state [] 0 seen) (append_assoc xs (m ∷ []) ms)
     (plain_more channels state seen ms (xs ++ m ∷ []) (subst (AreBuilt state) (sym (append_assoc xs (m ∷ []) ms)) built) parts.1 one)
 
-rewritten : (channels : List Channel) (proc : Proc) (kept : List Bool) (old new more : List Node) (places : List Operand) (n : Node) (o : Operand) → IsReadSo channels proc kept old new places → IsNext channels proc kept old n → get_or kept (length old) false ≡ true → is_plain_op n.op ≡ true → AreBuilt proc.state (new ++ more) → list_all (λ (m : Node). is_plain_op m.op) more ≡ true → StandsFor proc.state (new ++ more) (moved_node (moved places) n) o → (is_fixed proc.nodes n ≡ true → IsCopy (new ++ more) (places ++ o ∷ []) n o) → IsReadSo channels proc kept (old ++ n ∷ []) (new ++ more) (places ++ o ∷ [])
+rewritten : (channels : List Channel) (proc : Proc) (kept : List Bool) (old new more : List Node) (places : List Operand) (n : Node) (o : Operand) → IsReadSo channels proc kept old new places → IsNext channels proc kept old n → get_or kept (length old) false ≡ true → is_plain_op n.op ≡ true → AreBuilt proc.state (new ++ more) → list_all (λ (m : Node). is_plain_op m.op) more ≡ true → OperandSimulates proc.state (new ++ more) (moved_node (moved places) n) o → (is_fixed proc.nodes n ≡ true → IsCopy (new ++ more) (places ++ o ∷ []) n o) → IsReadSo channels proc kept (old ++ n ∷ []) (new ++ more) (places ++ o ∷ [])
 rewritten channels proc kept old new more places n o h next k plain built plain_ones stands copy = record {
   stand = stand_more proc.state kept proc.nodes old new more places n o h.stand built (λ e. record { there = stands.there; ty = stands.ty }) (λ e. copy) (next_there channels proc kept old n next)
       (sites_append new more ∙ ap (λ ss. sites_of new ++ ss) (plain_sites more plain_ones) ∙ append-nil (sites_of new) ∙ h.stand.sites ∙ sym (pure_sites old n pure));
@@ -204,7 +204,7 @@ rewritten channels proc kept old new more places n o h next k plain built plain_
         let b = walk channels s words (start got) new in
         let c = walk channels s words (start got) (new ++ more) in
         let whole = walk_append channels s words (start got) new more in
-        let front : Front b c = subst (Front b) (sym whole) (walk_front channels s words b more) in
+        let front : Prefix b c = subst (Prefix b) (sym whole) (walk_prefix channels s words b more) in
         let quiet : Quiet b c = subst (Quiet b) (sym whole) (plain_walk channels s words b more plain_ones) in
         let checked = (all_seen next.proc_checked.seen next.checked).0 in
         let opened : IsOperand proc.state s = record { value = typed; sound = built.sound } in
@@ -333,7 +333,7 @@ plain_if true b h = refl
 plain_if false b h = absurd (cc)
 
 -- the same, with the list of nodes as the code has it
-pub step_kept : (channels : List Channel) (proc : Proc) (kept : List Bool) (old new all : List Node) (places : List Operand) (n : Node) (o : Operand) → IsReadSo channels proc kept old new places → IsNext channels proc kept old n → get_or kept (length old) false ≡ true → StandsIn proc.state new all (moved_node (moved places) n) o → IsReadSo channels proc kept (old ++ n ∷ []) all (places ++ o ∷ [])
+pub step_kept : (channels : List Channel) (proc : Proc) (kept : List Bool) (old new all : List Node) (places : List Operand) (n : Node) (o : Operand) → IsReadSo channels proc kept old new places → IsNext channels proc kept old n → get_or kept (length old) false ≡ true → SimulatesInRebuild proc.state new all (moved_node (moved places) n) o → IsReadSo channels proc kept (old ++ n ∷ []) all (places ++ o ∷ [])
 step_kept channels proc kept old new all places n o h next k stands =
     either (is_fixed new (moved_node (moved places) n)) fixed other
   where
@@ -358,5 +358,5 @@ step_kept channels proc kept old new all places n o h next k stands =
         let are = is.extends.are in
         subst (λ ns. IsReadSo channels proc kept (old ++ n ∷ []) ns (places ++ o ∷ [])) (sym are)
         (rewritten channels proc kept old new is.extends.more places n o h next k plain (subst (AreBuilt proc.state) are is.built) is.extends.plain
-        (subst (λ ns. StandsFor proc.state ns (moved_node (moved places) n) o) are is.stands)
+        (subst (λ ns. OperandSimulates proc.state ns (moved_node (moved places) n) o) are is.stands)
         (λ f. let marked : is_fixed new (moved_node (moved places) n) ≡ true = fixed_moved channels proc kept old new places n h next k f in absurd (cc)))

@@ -26,7 +26,7 @@ use Rattle.ir_verify.specs.Typed.Typed.{none_broken}
 use Rattle.ir_rebuild.specs.Operands.{optional_operand, attribute_operands, operands_in}
 use Rattle.ir_rebuild.specs.Moves.{moved, moved_attributes, moved_node}
 use Rattle.ir_rebuild.specs.Kept.{is_kept}
-use Rattle.ir_rebuild.specs.Built.{IsPlaced, AreBuilt, is_plain_op, numbered}
+use Rattle.ir_rebuild.specs.Built.{FitsAt, AreBuilt, is_plain_op, numbered}
 use Rattle.ir_rebuild.specs.Fixed.{is_fixed}
 use Rattle.ir_rebuild.proofs.Moving.{both, and_both, all_parts, SameTypes, SameValues, fits_moved, moved_two}
 use Rattle.ir_rebuild.proofs.Building.{below, is_below, there_more, all_there, all_attributes, type_more, at_place, IsLast, before_more, one_longer}
@@ -241,7 +241,7 @@ is_moved channels state kept all old new places seen n h k closed =
     }
 
 -- a plain node can stand there
-pub is_placed : (channels : List Channel) (state : IrType) (new : List Node) (f : Operand → Operand) (n : Node) → IsMoved channels state new f n → is_plain_op n.op ≡ true → IsPlaced state new (length new) (moved_node f n)
+pub is_placed : (channels : List Channel) (state : IrType) (new : List Node) (f : Operand → Operand) (n : Node) → IsMoved channels state new f n → is_plain_op n.op ≡ true → FitsAt state new (length new) (moved_node f n)
 is_placed channels state new f n h plain = record {
   operands = h.operands;
   attributes = h.attributes;

@@ -25,7 +25,7 @@ is_plain_op op.Send = false
 is_plain_op _ = true
 
 -- the node can stand at a place: its operands stand before, and it fits the table, the types and the limits
-pub record IsPlaced (state : IrType) (nodes : List Node) (place : ℕ) (n : Node) : Type 0 where
+pub record FitsAt (state : IrType) (nodes : List Node) (place : ℕ) (n : Node) : Type 0 where
   pub operands : IsTrue (are_there place n.operands)
   pub attributes : IsTrue (attributes_there place n.attributes)
   pub fits : IsTrue (node_fits [] (types_behind state nodes) n)
@@ -38,7 +38,7 @@ pub record AreBuilt (state : IrType) (nodes : List Node) : Type 0 where
   pub numbered : (j : ℕ) (n : Node) → slice_get nodes j ≡ Some n → n.id ≡ suc j
   pub types : (j : ℕ) (n : Node) → slice_get nodes j ≡ Some n → IsTrue (marks_of n.ty).sound
   pub before : (j : ℕ) (n : Node) → slice_get nodes j ≡ Some n → list_all (is_there j) (operands_in n) ≡ true
-  pub placed : (j : ℕ) (n : Node) → slice_get nodes j ≡ Some n → is_plain_op n.op ≡ true → IsPlaced state nodes j n
+  pub fits_at : (j : ℕ) (n : Node) → slice_get nodes j ≡ Some n → is_plain_op n.op ≡ true → FitsAt state nodes j n
 
 -- values that the nodes may have in an activation from a state: they are of the types, and those of plain nodes are the values of
 -- their operations
@@ -54,7 +54,7 @@ pub record Extends (old new : List Node) : Type 0 where
   pub plain : list_all (λ (n : Node). is_plain_op n.op) more ≡ true
 
 -- the operand has the type of the node, and its value, whatever values the nodes have
-pub record StandsFor (state : IrType) (nodes : List Node) (n : Node) (o : Operand) : Type 0 where
+pub record OperandSimulates (state : IrType) (nodes : List Node) (n : Node) (o : Operand) : Type 0 where
   pub there : IsTrue (is_there (length nodes) o)
   pub ty : type_in (types_behind state nodes) o ≡ n.ty
   pub value : (s : Value) (values : List Value) → AreValues state nodes s values → operand_value s values o ≡ pure_value n s values
@@ -63,7 +63,7 @@ pub record StandsFor (state : IrType) (nodes : List Node) (n : Node) (o : Operan
 pub record Rewrites (state : IrType) (old new : List Node) (n : Node) (o : Operand) : Type 0 where
   pub built : AreBuilt state new
   pub extends : Extends old new
-  pub stands : StandsFor state new n o
+  pub stands : OperandSimulates state new n o
 
 -- the node with the id of a place
 abbrev pub numbered : ℕ → Node → Node

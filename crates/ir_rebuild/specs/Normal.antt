@@ -1,6 +1,6 @@
--- what the table of left sides sees of an operand
+-- what the table of patterns sees of an operand
 pub mod Origins
--- the table of left sides, row by row
-pub mod LeftSides
--- which nodes are needed, which are normal, and the normal form of procs and packages
+-- the table of patterns, row by row
+pub mod Patterns
+-- which nodes are live, which are normal, and the normal form of procs and packages
 pub mod Normal

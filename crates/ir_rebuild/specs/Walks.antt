@@ -8,7 +8,7 @@ use Rattle.ir_tree.specs.declared.package.Proc.{Proc}
 use Rattle.ir_tree.specs.declared.package.Package.{Package}
 use Rattle.ir_rebuild.specs.Moves.{moved, moved_node}
 use Rattle.ir_rebuild.specs.Kept.{AreKept, StandBefore}
-use Rattle.ir_rebuild.specs.Built.{AreBuilt, IsPlaced, Rewrites, numbered}
+use Rattle.ir_rebuild.specs.Built.{AreBuilt, FitsAt, Rewrites, numbered}
 use Rattle.ir_rebuild.specs.Fixed.{is_fixed}
 
 -- what a pass says of a node and the operand that stands for it, where one list became another
@@ -24,11 +24,11 @@ pub data RebuildsTo (state : IrType) (gives : NodeRelation) (kept : List Bool) :
       AreBuilt state (new ++ numbered (length new) (moved_node (moved places) n) ∷ []) →
       RebuildsTo state gives kept (old ++ n ∷ []) (new ++ numbered (length new) (moved_node (moved places) n) ∷ []) (places ++ operand.Node (length new) ∷ [])
   rewritten : (old new all : List Node) (places : List Operand) (n : Node) (o : Operand) → RebuildsTo state gives kept old new places → get_or kept (length old) false ≡ true → is_fixed new (moved_node (moved places) n) ≡ false →
-      AreBuilt state new → IsPlaced state new (length new) (moved_node (moved places) n) →
+      AreBuilt state new → FitsAt state new (length new) (moved_node (moved places) n) →
       Rewrites state new all (moved_node (moved places) n) o → gives state new all (moved_node (moved places) n) o → RebuildsTo state gives kept (old ++ n ∷ []) all (places ++ o ∷ [])
 
 -- a proc became another of its name, state and initial value, by a pass that says this of what is kept, and of each rewritten node
-pub record Becomes (marks : Proc → List Bool → Type 0) (gives : NodeRelation) (old new : Proc) : Type 0 where
+pub record ProcRebuildsTo (marks : Proc → List Bool → Type 0) (gives : NodeRelation) (old new : Proc) : Type 0 where
   pub kept : List Bool
   pub places : List Operand
   pub marked : marks old kept
@@ -42,11 +42,11 @@ pub record Becomes (marks : Proc → List Bool → Type 0) (gives : NodeRelation
   pub next : new.next ≡ moved places old.next
 
 -- each proc did
-abbrev pub EachBecomes : (Proc → List Bool → Type 0) → NodeRelation → List Proc → List Proc → Type 0
-EachBecomes marks gives [] [] = Unit {0}
-EachBecomes marks gives [] (q ∷ qs) = ⊥
-EachBecomes marks gives (p ∷ ps) [] = ⊥
-EachBecomes marks gives (p ∷ ps) (q ∷ qs) = Becomes marks gives p q × EachBecomes marks gives ps qs
+abbrev pub EachProcRebuildsTo : (Proc → List Bool → Type 0) → NodeRelation → List Proc → List Proc → Type 0
+EachProcRebuildsTo marks gives [] [] = Unit {0}
+EachProcRebuildsTo marks gives [] (q ∷ qs) = ⊥
+EachProcRebuildsTo marks gives (p ∷ ps) [] = ⊥
+EachProcRebuildsTo marks gives (p ∷ ps) (q ∷ qs) = ProcRebuildsTo marks gives p q × EachProcRebuildsTo marks gives ps qs
 
 -- a package has the name and the channels of another
 pub record SameHead (old new : Package) : Type 0 where

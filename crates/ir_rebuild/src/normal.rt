@@ -1,1 +1,1 @@
-//! The normal form of packages, as the table of left sides has it: definitions alone.
+//! The normal form of packages, as the table of patterns has it: definitions alone.

@@ -7,7 +7,7 @@ use std::alloc::{AllocError, Global};
 pub trait Rewrite {
     ghost use Rattle.std.specs.Prelude.{◌≡◌, true, length, List, Bool, IfOk};
     ghost use Rattle.ir_tree.specs.declared.package.Proc.{Proc};
-    ghost use Rattle.ir_rebuild.specs.Built.{AreBuilt, IsPlaced, Rewrites, is_plain_op};
+    ghost use Rattle.ir_rebuild.specs.Built.{AreBuilt, FitsAt, Rewrites, is_plain_op};
     ghost use Rattle.ir_rebuild.specs.Kept.{AreKept, StandBefore};
     ghost use Rattle.ir_rebuild.specs.Walks.{NodeRelation};
 
@@ -32,7 +32,7 @@ pub trait Rewrite {
         node: Node,
     ) -> Result<Operand, AllocError>
         requires built { AreBuilt state.now nodes.old.items }
-        requires placed { IsPlaced state.now nodes.old.items (length nodes.old.items) node }
+        requires fits_at { FitsAt state.now nodes.old.items (length nodes.old.items) node }
         requires plain { is_plain_op node.op ≡ true }
         ensures rewrites { IfOk result (λ o. Rewrites state.now nodes.old.items nodes.new.items node o) }
         ensures gives { IfOk result (λ o. gives state.now nodes.old.items nodes.new.items node o) };

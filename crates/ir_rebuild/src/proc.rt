@@ -7,11 +7,11 @@ ghost use Rattle.ir_tree.specs.SameBehavior.{SameBehavior};
 ghost use Rattle.ir_verify.specs.Verified.{IsVerified};
 ghost use Rattle.ir_rebuild.specs.Operands.{node_of};
 ghost use Rattle.ir_rebuild.specs.Moves.{moved, moved_node};
-ghost use Rattle.ir_rebuild.specs.Built.{is_plain_op, AreBuilt, IsPlaced};
+ghost use Rattle.ir_rebuild.specs.Built.{is_plain_op, AreBuilt, FitsAt};
 ghost use Rattle.ir_rebuild.specs.Fixed.{is_receive_op, is_receive, is_one_receive, is_part_of_receive, is_fixed};
-ghost use Rattle.ir_rebuild.specs.Inner.Appended.{StandsIn};
+ghost use Rattle.ir_rebuild.specs.Inner.Appended.{SimulatesInRebuild};
 ghost use Rattle.ir_rebuild.specs.Inner.Rebuilt.{IsCheckedProc, IsRebuilt};
-ghost use Rattle.ir_rebuild.specs.Walks.{Becomes, EachBecomes, SameHead};
+ghost use Rattle.ir_rebuild.specs.Walks.{ProcRebuildsTo, EachProcRebuildsTo, SameHead};
 
 use crate::copies::{constant_copy, name_copy, type_copy};
 use crate::moves::{moved, moved_node};
@@ -29,7 +29,7 @@ pub fn rebuild<R: Rewrite>(alloc: Global, pass: &R, ir: Package) -> Result<Packa
     ensures verified { IfOk result (λ new. IsVerified new) }
     ensures same { IfOk result (λ new. SameBehavior ir new) }
     ensures head { IfOk result (λ new. SameHead ir new) }
-    ensures became { IfOk result (λ new. EachBecomes R.marks R.gives ir.procs new.procs) }
+    ensures became { IfOk result (λ new. EachProcRebuildsTo R.marks R.gives ir.procs new.procs) }
 {
     let mut all = Vec::new(alloc);
     'procs: for proc in ir.procs.as_slice() {
@@ -51,7 +51,7 @@ pub fn rebuild<R: Rewrite>(alloc: Global, pass: &R, ir: Package) -> Result<Packa
 fn rebuilt<R: Rewrite>(alloc: Global, pass: &R, proc: &Proc) -> Result<Proc, AllocError>
     requires { (channels : List Channel) × IsCheckedProc channels proc.now }
     ensures rebuilt { IfOk result (λ new. (channels : List Channel) → IsCheckedProc channels proc.now → IsRebuilt channels proc.now new) }
-    ensures became { IfOk result (λ new. Becomes R.marks R.gives proc.now new) }
+    ensures became { IfOk result (λ new. ProcRebuildsTo R.marks R.gives proc.now new) }
 {
     let kept = pass.kept(alloc, proc)?;
     let mut nodes = Vec::new(alloc);
@@ -100,9 +100,9 @@ fn read_one<R: Rewrite>(
     node: &Node,
 ) -> Result<Operand, AllocError>
     requires built { AreBuilt state.now nodes.old.items }
-    requires placed { is_kept ≡ true → is_plain_op node.now.op ≡ true →
-        IsPlaced state.now nodes.old.items (length nodes.old.items) (moved_node (moved places.now) node.now) }
-    ensures kept { is_kept ≡ true → IfOk result (λ o. StandsIn state.now nodes.old.items nodes.new.items (moved_node (moved places.now) node.now) o) }
+    requires fits_at { is_kept ≡ true → is_plain_op node.now.op ≡ true →
+        FitsAt state.now nodes.old.items (length nodes.old.items) (moved_node (moved places.now) node.now) }
+    ensures kept { is_kept ≡ true → IfOk result (λ o. SimulatesInRebuild state.now nodes.old.items nodes.new.items (moved_node (moved places.now) node.now) o) }
     ensures dropped { is_kept ≡ false → nodes.new.items ≡ nodes.old.items }
     ensures nothing { is_kept ≡ false → IfOk result (λ o. o ≡ operands.State) }
     ensures gives { is_kept ≡ true → is_fixed nodes.old.items (moved_node (moved places.now) node.now) ≡ false →
@@ -112,11 +112,11 @@ fn read_one<R: Rewrite>(
         return Ok(Operand::State);
     }
     let node = moved_node(alloc, places, node)?;
-    stand_in(alloc, pass, state, nodes, node)
+    rewritten_node(alloc, pass, state, nodes, node)
 }
 
 /// Appends a node, or what stands for it.
-fn stand_in<R: Rewrite>(
+fn rewritten_node<R: Rewrite>(
     alloc: Global,
     pass: &R,
     state: &IrType,
@@ -124,8 +124,8 @@ fn stand_in<R: Rewrite>(
     node: Node,
 ) -> Result<Operand, AllocError>
     requires built { AreBuilt state.now nodes.old.items }
-    requires placed { is_plain_op node.op ≡ true → IsPlaced state.now nodes.old.items (length nodes.old.items) node }
-    ensures stands { IfOk result (λ o. StandsIn state.now nodes.old.items nodes.new.items node o) }
+    requires fits_at { is_plain_op node.op ≡ true → FitsAt state.now nodes.old.items (length nodes.old.items) node }
+    ensures stands { IfOk result (λ o. SimulatesInRebuild state.now nodes.old.items nodes.new.items node o) }
     ensures gives { is_fixed nodes.old.items node ≡ false → IfOk result (λ o. R.gives state.now nodes.old.items nodes.new.items node o) }
 {
     if is_fixed(nodes.as_slice(), &node) {

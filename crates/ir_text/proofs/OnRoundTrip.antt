@@ -15,7 +15,7 @@ pub mod NodeTexts
 pub mod ChannelTexts
 pub mod ProcTexts
 pub mod Depths
-pub mod Places
+pub mod LineSpans
 pub mod Classes
 pub mod VerifiedNodes
 pub mod Anywhere

@@ -1,6 +1,6 @@
 -- which tokens are whose, and how others are refused
 pub mod Reads
 -- what tokens do to the nesting
-pub mod Roles
+pub mod BracketClasses
 -- which texts are which packages, and how others are refused
 pub mod Texts

@@ -1,3 +1,3 @@
 mod OneCut
 mod CutsSoFar
-mod FrontFacts
+mod PrefixFacts

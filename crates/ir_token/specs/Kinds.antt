@@ -12,7 +12,7 @@ use Rattle.delay_model.specs.declared.signature.AttributeKind.TheVariants as att
 use Rattle.delay_model.specs.Names.{op_named}
 use Rattle.delay_model.specs.Signatures.{attribute_kind_of}
 use Rattle.ir_token.specs.declared.rules.generated.kind.TheConstants.{ARRAYAT, ASSIGN, BITS, CASES, CHAN, CHANNEL, COUNT, DEFAULT, DEPTH, DYNAMIC, END, EXTEND, ID, INDEX, INDICES, INIT, INNER, INPUT, KIND, LARGE, LBRACE, LITERAL, NAME, NEXT, OPID, OUTPUT, OWN, PACKAGE, PLAIN, PREDICATE, PROC, RPAREN, SEL, SITE, SLICE, SMALL, ST, START, TOKEN, TUPLEINDEX, VALUE, WIDTH}
-use Rattle.ir_token.specs.Fronts.{value_of_number, mark_kind}
+use Rattle.ir_token.specs.TokenPrefixes.{value_of_number, mark_kind}
 
 -- the words that have a kind of their own. None of them is reserved
 abbrev pub ir_words : List Spelling

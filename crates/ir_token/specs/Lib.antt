@@ -1,5 +1,5 @@
 -- what stands at the front of a text: a word, a number or a mark
-pub mod Fronts
+pub mod TokenPrefixes
 -- the kinds of tokens, by themselves and in a text
 pub mod Kinds
 -- what numbers and `OP.ID` say

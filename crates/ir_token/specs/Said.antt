@@ -2,7 +2,7 @@
 -- numbers are below 2^32.
 use Rattle.std.specs.Prelude.{ℕ, ◌^◌, ◌-◌, min, List}
 use Rattle.std.specs.Str.Parse.{digits_value}
-use Rattle.ir_token.specs.Fronts.{value_of_number}
+use Rattle.ir_token.specs.TokenPrefixes.{value_of_number}
 use Rattle.ir_token.specs.Kinds.{id_part}
 
 abbrev pub number_said : List ℕ → ℕ

@@ -1,7 +1,7 @@
 //! Which characters tokens are made of.
 
 ghost use Rattle.std.specs.Prelude.{◌≡◌};
-ghost use Rattle.ir_token.specs.Fronts.{mark_kind};
+ghost use Rattle.ir_token.specs.TokenPrefixes.{mark_kind};
 
 use crate::rules::kind::{
     ASSIGN, COLON, COMMA, END, LBRACE, LBRACKET, LPAREN, RBRACE, RBRACKET, RPAREN,

@@ -1,8 +1,8 @@
 //! The token at the front of a text.
 
 ghost use Rattle.std.specs.Prelude.{◌≡◌, ◌≤◌, length, None, IfSome, MatchOption};
-ghost use Rattle.ir_token.specs.Inner.Entries.{HasFront};
-ghost use Rattle.ir_token.specs.Fronts.{word_goes_on, name_len, number_front, token_front};
+ghost use Rattle.ir_token.specs.Inner.Entries.{HasTokenPrefix};
+ghost use Rattle.ir_token.specs.TokenPrefixes.{word_goes_on, name_len, number_prefix, token_prefix};
 
 use crate::characters::mark_kind;
 use dslx_token::byte_at;
@@ -32,8 +32,8 @@ fn name_len(text: &[u8]) -> usize
 }
 
 /// The length of the number at the front of a text, where it is below 2^128.
-fn number_front(text: &[u8]) -> Option<usize>
-    ensures front { result ≡ number_front text.now }
+fn number_prefix(text: &[u8]) -> Option<usize>
+    ensures front { result ≡ number_prefix text.now }
     ensures within { IfSome result (λ len. len ≤ length text.now) }
 {
     let len = digits_len(text);
@@ -46,22 +46,22 @@ fn number_front(text: &[u8]) -> Option<usize>
 /// The length of the token at the front of a text that isn't empty.
 pub fn token_len(text: &[u8]) -> Option<usize>
     requires { 1 ≤ length text.now }
-    ensures { MatchOption result (token_front text.now ≡ None) (λ len. HasFront text.now len) }
+    ensures { MatchOption result (token_prefix text.now ≡ None) (λ len. HasTokenPrefix text.now len) }
 {
-    token_front(text)
+    token_prefix(text)
 }
 
 /// The same, by the definition alone.
-fn token_front(text: &[u8]) -> Option<usize>
+fn token_prefix(text: &[u8]) -> Option<usize>
     requires { 1 ≤ length text.now }
-    ensures front { result ≡ token_front text.now }
+    ensures front { result ≡ token_prefix text.now }
     ensures within { IfSome result (λ len. len ≤ length text.now) }
 {
     let first = byte_at(text, 0);
     if begins_word(first) {
         Some(name_len(text))
     } else if first.is_ascii_digit() {
-        number_front(text)
+        number_prefix(text)
     } else if mark_kind(first) == END {
         None
     } else {

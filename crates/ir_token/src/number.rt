@@ -3,7 +3,7 @@
 ghost use Rattle.std.specs.Prelude.{◌≡◌, ◌≤◌, ◌^◌, length, MatchOption};
 ghost use Rattle.std.specs.List.{prefix_len};
 ghost use Rattle.std.specs.Char.{is_ascii_digit, is_ascii_hexdigit};
-ghost use Rattle.ir_token.specs.Fronts.{begins_hexadecimal, digits_len, value_of_number};
+ghost use Rattle.ir_token.specs.TokenPrefixes.{begins_hexadecimal, digits_len, value_of_number};
 
 use dslx_token::byte_at;
 

@@ -23,10 +23,10 @@ pub record SameActivationsEach (xs ys : List Behavior) : Type 0 where
   pub each : (p : ℕ) (a b : Behavior) → slice_get xs p ≡ Some a → slice_get ys p ≡ Some b → SameActivations a b
 
 -- a network whose procs do this means the same as a package
-pub record IsMeantBy (net : Net) (behaviors : List Behavior) (ir : Package) : Type 0 where
+pub record IsDenotedBy (net : Net) (behaviors : List Behavior) (ir : Package) : Type 0 where
   pub network : net ≡ network_of ir
   pub activations : SameActivationsEach behaviors (behaviors_of ir)
 
 -- two packages mean the same
 abbrev pub SameBehavior : Package → Package → Type 0
-SameBehavior p q = IsMeantBy (network_of p) (behaviors_of p) q
+SameBehavior p q = IsDenotedBy (network_of p) (behaviors_of p) q

@@ -11,7 +11,7 @@ use Rattle.ir_tree.specs.declared.ir_type.IrType.{IrType}
 use Rattle.ir_tree.specs.declared.node.Node.{Node}
 use Rattle.ir_tree.specs.declared.package.Channel.{Channel}
 use Rattle.ir_tree.specs.declared.package.Proc.{Proc}
-use Rattle.ir_verify.specs.declared.places.ProcPlaces.{ProcPlaces}
+use Rattle.ir_verify.specs.declared.line_spans.ProcSpans.{ProcSpans}
 use Rattle.ir_verify.specs.Checks.{noted}
 use Rattle.ir_verify.specs.Lines.{Seen, see, is_among, channel_checks, node_checks}
 use Rattle.ir_verify.specs.Verified.{nowhere, nowhere_proc, channels_checks, nodes_checks, seen_after, at_start, proc_checks, procs_checks}
@@ -89,11 +89,11 @@ seen_step ns i n seen next all h e s g = rw add-one (
 
 -- ---- procs
 
-pub procs_step : (channels : List Channel) (places : List ProcPlaces) (ps : List Proc) (i : ℕ) (p : Proc) (seen next : Seen) (held new all : Option Fault) → i < length ps → p ≡ get_or ps i p → next ≡ seen_after 0 (at_start seen) p.nodes → new ≡ noted held (proc_checks channels (get_or places i nowhere_proc) (proc_names (take i ps)) seen p) → noted held (procs_checks channels places (proc_names (take i ps)) i seen (drop i ps)) ≡ all → noted new (procs_checks channels places (proc_names (take (i + 1) ps)) (i + 1) next (drop (i + 1) ps)) ≡ all
-procs_step channels places ps i p seen next held new all h e s f g = rw add-one (
-    ap (λ o. noted o (procs_checks channels places (proc_names (take (suc i) ps)) (suc i) next (drop (suc i) ps))) f
-    ∙ ap (λ ns. noted (noted held (proc_checks channels (get_or places i nowhere_proc) (proc_names (take i ps)) seen p)) (procs_checks channels places ns (suc i) next (drop (suc i) ps))) (proc_names-more ps i p h e)
-    ∙ ap (λ z. noted (noted held (proc_checks channels (get_or places i nowhere_proc) (proc_names (take i ps)) seen p)) (procs_checks channels places (proc_names (take i ps) ++ p.name ∷ []) (suc i) z (drop (suc i) ps))) s
-    ∙ sym (noted-append (proc_checks channels (get_or places i nowhere_proc) (proc_names (take i ps)) seen p) (procs_checks channels places (proc_names (take i ps) ++ p.name ∷ []) (suc i) (seen_after 0 (at_start seen) p.nodes) (drop (suc i) ps)) held)
-    ∙ ap (λ xs. noted held (procs_checks channels places (proc_names (take i ps)) i seen xs)) (sym (front ps i p h e))
+pub procs_step : (channels : List Channel) (line_spans : List ProcSpans) (ps : List Proc) (i : ℕ) (p : Proc) (seen next : Seen) (held new all : Option Fault) → i < length ps → p ≡ get_or ps i p → next ≡ seen_after 0 (at_start seen) p.nodes → new ≡ noted held (proc_checks channels (get_or line_spans i nowhere_proc) (proc_names (take i ps)) seen p) → noted held (procs_checks channels line_spans (proc_names (take i ps)) i seen (drop i ps)) ≡ all → noted new (procs_checks channels line_spans (proc_names (take (i + 1) ps)) (i + 1) next (drop (i + 1) ps)) ≡ all
+procs_step channels line_spans ps i p seen next held new all h e s f g = rw add-one (
+    ap (λ o. noted o (procs_checks channels line_spans (proc_names (take (suc i) ps)) (suc i) next (drop (suc i) ps))) f
+    ∙ ap (λ ns. noted (noted held (proc_checks channels (get_or line_spans i nowhere_proc) (proc_names (take i ps)) seen p)) (procs_checks channels line_spans ns (suc i) next (drop (suc i) ps))) (proc_names-more ps i p h e)
+    ∙ ap (λ z. noted (noted held (proc_checks channels (get_or line_spans i nowhere_proc) (proc_names (take i ps)) seen p)) (procs_checks channels line_spans (proc_names (take i ps) ++ p.name ∷ []) (suc i) z (drop (suc i) ps))) s
+    ∙ sym (noted-append (proc_checks channels (get_or line_spans i nowhere_proc) (proc_names (take i ps)) seen p) (procs_checks channels line_spans (proc_names (take i ps) ++ p.name ∷ []) (suc i) (seen_after 0 (at_start seen) p.nodes) (drop (suc i) ps)) held)
+    ∙ ap (λ xs. noted held (procs_checks channels line_spans (proc_names (take i ps)) i seen xs)) (sym (front ps i p h e))
     ∙ g)

@@ -10,8 +10,8 @@ use Rattle.ir_tree.specs.declared.package.Channel.{Channel}
 use Rattle.ir_tree.specs.declared.package.Proc.{Proc}
 use Rattle.ir_tree.specs.declared.package.Package.{Package}
 use Rattle.ir_tree.specs.Activations.{sites_of}
-use Rattle.ir_verify.specs.declared.places.Places.{Places}
-use Rattle.ir_verify.specs.declared.places.ProcPlaces.{ProcPlaces}
+use Rattle.ir_verify.specs.declared.line_spans.LineSpans.{LineSpans}
+use Rattle.ir_verify.specs.declared.line_spans.ProcSpans.{ProcSpans}
 use Rattle.ir_verify.specs.Checks.{Check, noted}
 use Rattle.ir_verify.specs.Lines.{Seen, see, package_checks, channel_checks, head_checks, node_checks, next_checks}
 
@@ -19,10 +19,10 @@ use Rattle.ir_verify.specs.Lines.{Seen, see, package_checks, channel_checks, hea
 abbrev pub nowhere : Span
 nowhere = record { from = 0; to = 0 }
 
-abbrev pub nowhere_proc : ProcPlaces
+abbrev pub nowhere_proc : ProcSpans
 nowhere_proc = record { head = nowhere; nodes = []; next = nowhere; end = 0 }
 
-abbrev pub nowhere_at_all : Places
+abbrev pub nowhere_at_all : LineSpans
 nowhere_at_all = record { name = nowhere; channels = []; procs = [] }
 
 -- a count past its limit, which is found to be one more
@@ -51,26 +51,26 @@ seen_after i seen (n ∷ ns) = seen_after (suc i) (see i n seen) ns
 abbrev pub at_start : Seen → Seen
 at_start seen = record { after_all = false; site = None; received = seen.received; sent = seen.sent }
 
-abbrev pub proc_checks : List Channel → ProcPlaces → List (List ℕ) → Seen → Proc → List Check
-proc_checks channels places names seen p =
-    head_checks places.head names p
-    ++ (nodes_checks channels p.state places.nodes [] 0 (at_start seen) p.nodes
-    ++ (next_checks places.next p
-    ++ count_check (Passed places.end (record { what = what.Sites; found = 33; most = 32 })) 32 (length (sites_of p.nodes)) ∷ []))
+abbrev pub proc_checks : List Channel → ProcSpans → List (List ℕ) → Seen → Proc → List Check
+proc_checks channels line_spans names seen p =
+    head_checks line_spans.head names p
+    ++ (nodes_checks channels p.state line_spans.nodes [] 0 (at_start seen) p.nodes
+    ++ (next_checks line_spans.next p
+    ++ count_check (Passed line_spans.end (record { what = what.Sites; found = 33; most = 32 })) 32 (length (sites_of p.nodes)) ∷ []))
 
 -- the procs from place i on, behind those of these names
-abbrev pub procs_checks : List Channel → List ProcPlaces → List (List ℕ) → ℕ → Seen → List Proc → List Check
-procs_checks channels places names i seen [] = []
-procs_checks channels places names i seen (p ∷ ps) =
-    proc_checks channels (get_or places i nowhere_proc) names seen p
-    ++ procs_checks channels places (names ++ p.name ∷ []) (suc i) (seen_after 0 (at_start seen) p.nodes) ps
+abbrev pub procs_checks : List Channel → List ProcSpans → List (List ℕ) → ℕ → Seen → List Proc → List Check
+procs_checks channels line_spans names i seen [] = []
+procs_checks channels line_spans names i seen (p ∷ ps) =
+    proc_checks channels (get_or line_spans i nowhere_proc) names seen p
+    ++ procs_checks channels line_spans (names ++ p.name ∷ []) (suc i) (seen_after 0 (at_start seen) p.nodes) ps
 
-abbrev pub end_of : Option ProcPlaces → ℕ
+abbrev pub end_of : Option ProcSpans → ℕ
 end_of None = 0
 end_of (Some p) = p.end
 
 -- where the last proc ends
-abbrev pub last_end : List ProcPlaces → ℕ
+abbrev pub last_end : List ProcSpans → ℕ
 last_end ps = end_of (slice_get ps (length ps - 1))
 
 abbrev pub nothing_seen : List Channel → Seen
@@ -78,18 +78,18 @@ nothing_seen channels =
     record { after_all = false; site = None; received = replicate (length channels) false; sent = replicate (length channels) false }
 
 -- each rule and limit of a package, whose lines stand at these places
-abbrev pub checks_of : Package → Places → List Check
-checks_of ir places =
-    package_checks places.name ir.name ir.procs
-    ++ (channels_checks places.channels [] 0 ir.channels
-    ++ (procs_checks ir.channels places.procs [] 0 (nothing_seen ir.channels) ir.procs
-    ++ count_check (Passed (last_end places.procs) (record { what = what.Procs; found = 257; most = 256 })) 256 (length ir.procs)
-    ∷ count_check (Passed (last_end places.procs) (record { what = what.Channels; found = 1025; most = 1024 })) 1024 (length ir.channels)
+abbrev pub checks_of : Package → LineSpans → List Check
+checks_of ir line_spans =
+    package_checks line_spans.name ir.name ir.procs
+    ++ (channels_checks line_spans.channels [] 0 ir.channels
+    ++ (procs_checks ir.channels line_spans.procs [] 0 (nothing_seen ir.channels) ir.procs
+    ++ count_check (Passed (last_end line_spans.procs) (record { what = what.Procs; found = 257; most = 256 })) 256 (length ir.procs)
+    ∷ count_check (Passed (last_end line_spans.procs) (record { what = what.Channels; found = 1025; most = 1024 })) 1024 (length ir.channels)
     ∷ []))
 
 -- the fault that is named, if there is one
-unfoldable pub first_fault : Package → Places → Option Fault
-first_fault ir places = noted None (checks_of ir places)
+unfoldable pub first_fault : Package → LineSpans → Option Fault
+first_fault ir line_spans = noted None (checks_of ir line_spans)
 
 -- a package that breaks no rule and passes no limit
 abbrev pub IsVerified : Package → Type 0

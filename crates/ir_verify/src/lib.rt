@@ -7,10 +7,10 @@ mod checks;
 mod fitting;
 mod lines;
 mod names;
-mod places;
+mod line_spans;
 pub mod same;
 pub mod typed;
 mod verified;
 
-pub use places::{Places, ProcPlaces};
+pub use line_spans::{LineSpans, ProcSpans};
 pub use verified::{check, verify};

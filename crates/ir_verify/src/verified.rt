@@ -17,7 +17,7 @@ use crate::lines::{
     Seen, is_after_all, note_channel, note_head, note_next, note_node, note_package,
 };
 use crate::names::Names;
-use crate::places::{Places, ProcPlaces};
+use crate::line_spans::{LineSpans, ProcSpans};
 use ir_tree::{Channel, IrType, Node, Package, Proc, Role};
 use std::alloc::{AllocError, Global};
 use xb_span::{Fault, Limit, ReadError, Span, What};
@@ -31,20 +31,20 @@ pub fn verify(alloc: Global, ir: &Package) -> Result<(), ReadError>
     ensures ok { OnOk result (IsVerified ir.now) }
     ensures refused { IfErr result (λ error. (error ≡ OutOfMemory) ⊎ (option_map error_of (first_fault ir.now nowhere_at_all) ≡ Some error)) }
 {
-    let places = Places {
+    let line_spans = LineSpans {
         name: nowhere(),
         channels: Seq::new(alloc),
         procs: Seq::new(alloc),
     };
-    check(alloc, ir, &places)
+    check(alloc, ir, &line_spans)
 }
 
 /// The same for a package that stands in a text, its lines at these places.
-pub fn check(alloc: Global, ir: &Package, places: &Places) -> Result<(), ReadError>
-    ensures ok { OnOk result (first_fault ir.now places.now ≡ None) }
-    ensures refused { IfErr result (λ error. (error ≡ OutOfMemory) ⊎ (option_map error_of (first_fault ir.now places.now) ≡ Some error)) }
+pub fn check(alloc: Global, ir: &Package, line_spans: &LineSpans) -> Result<(), ReadError>
+    ensures ok { OnOk result (first_fault ir.now line_spans.now ≡ None) }
+    ensures refused { IfErr result (λ error. (error ≡ OutOfMemory) ⊎ (option_map error_of (first_fault ir.now line_spans.now) ≡ Some error)) }
 {
-    match first_fault(alloc, ir, places) {
+    match first_fault(alloc, ir, line_spans) {
         Err(_) => Err(ReadError::OutOfMemory),
         Ok(None) => Ok(()),
         Ok(Some(fault)) => Err(fault.error()),
@@ -68,15 +68,15 @@ fn span_at(spans: &[Span], place: usize) -> Span
 }
 
 /// The fault that is named, if there is one.
-fn first_fault(alloc: Global, ir: &Package, places: &Places) -> Result<Option<Fault>, AllocError>
-    ensures { IfOk result (λ fault. fault ≡ first_fault ir.now places.now) }
+fn first_fault(alloc: Global, ir: &Package, line_spans: &LineSpans) -> Result<Option<Fault>, AllocError>
+    ensures { IfOk result (λ fault. fault ≡ first_fault ir.now line_spans.now) }
 {
     let channels = ir.channels.as_slice();
     let procs = ir.procs.as_slice();
-    let held = note_package(None, places.name, ir.name.as_str(), procs);
-    let held = note_channels(alloc, held, places.channels.as_slice(), channels)?;
-    let held = note_procs(alloc, held, places.procs.as_slice(), channels, procs)?;
-    let end = last_end(places.procs.as_slice());
+    let held = note_package(None, line_spans.name, ir.name.as_str(), procs);
+    let held = note_channels(alloc, held, line_spans.channels.as_slice(), channels)?;
+    let held = note_procs(alloc, held, line_spans.procs.as_slice(), channels, procs)?;
+    let end = last_end(line_spans.procs.as_slice());
     let held = note(held, 256 < procs.len(), passed(end, What::Procs, 256));
     Ok(note(
         held,
@@ -100,7 +100,7 @@ fn passed(end: u32, what: What, most: u64) -> Fault
     )
 }
 
-fn last_end(procs: &[ProcPlaces]) -> u32
+fn last_end(procs: &[ProcSpans]) -> u32
     ensures { result ≡ last_end procs.now }
 {
     match procs.last() {
@@ -237,23 +237,23 @@ fn count_sites(nodes: &[Node]) -> usize
 fn note_proc(
     alloc: Global,
     held: Option<Fault>,
-    places: &ProcPlaces,
+    line_spans: &ProcSpans,
     channels: &[Channel],
     is_new: bool,
     seen: &mut Seen,
     proc: &Proc,
 ) -> Option<Fault>
     ensures fault { (names : List (List ℕ)) → is_new ≡ not (is_among names proc.now.name) →
-        result ≡ noted held (proc_checks channels.now places.now names (seen_by seen.old) proc.now) }
+        result ≡ noted held (proc_checks channels.now line_spans.now names (seen_by seen.old) proc.now) }
     ensures seen { seen_by seen.new ≡ seen_after 0 (at_start (seen_by seen.old)) proc.now.nodes }
 {
     let missing = IrType::Token(Seq::new(alloc));
     let nodes = proc.nodes.as_slice();
-    let held = note_head(held, places.head, is_new, proc);
+    let held = note_head(held, line_spans.head, is_new, proc);
     seen.start();
     let held = note_nodes(
         held,
-        places.nodes.as_slice(),
+        line_spans.nodes.as_slice(),
         channels,
         &proc.state,
         &missing,
@@ -265,19 +265,19 @@ fn note_proc(
         before: nodes,
         missing: &missing,
     };
-    let held = note_next(held, places.next, &scope, proc);
+    let held = note_next(held, line_spans.next, &scope, proc);
     note(
         held,
         32 < count_sites(nodes),
-        passed(places.end, What::Sites, 32),
+        passed(line_spans.end, What::Sites, 32),
     )
 }
 
 /// The lines of a proc that no text shows.
-fn nowhere_proc(alloc: Global) -> ProcPlaces
+fn nowhere_proc(alloc: Global) -> ProcSpans
     ensures { result ≡ nowhere_proc }
 {
-    ProcPlaces {
+    ProcSpans {
         head: nowhere(),
         nodes: Seq::new(alloc),
         next: nowhere(),
@@ -286,10 +286,10 @@ fn nowhere_proc(alloc: Global) -> ProcPlaces
 }
 
 /// The places of the lines of a proc.
-fn place_at<'a>(places: &'a [ProcPlaces], proc: usize, elsewhere: &'a ProcPlaces) -> &'a ProcPlaces
-    ensures { result.now ≡ get_or places.now proc elsewhere.now }
+fn spans_at<'a>(line_spans: &'a [ProcSpans], proc: usize, elsewhere: &'a ProcSpans) -> &'a ProcSpans
+    ensures { result.now ≡ get_or line_spans.now proc elsewhere.now }
 {
-    match places.get(proc) {
+    match line_spans.get(proc) {
         Some(place) => place,
         None => elsewhere,
     }
@@ -298,11 +298,11 @@ fn place_at<'a>(places: &'a [ProcPlaces], proc: usize, elsewhere: &'a ProcPlaces
 fn note_procs(
     alloc: Global,
     held: Option<Fault>,
-    places: &[ProcPlaces],
+    line_spans: &[ProcSpans],
     channels: &[Channel],
     procs: &[Proc],
 ) -> Result<Option<Fault>, AllocError>
-    ensures { IfOk result (λ fault. fault ≡ noted held (procs_checks channels.now places.now [] 0 (nothing_seen channels.now) procs.now)) }
+    ensures { IfOk result (λ fault. fault ≡ noted held (procs_checks channels.now line_spans.now [] 0 (nothing_seen channels.now) procs.now)) }
 {
     let elsewhere = nowhere_proc(alloc);
     let mut names = Names::new(alloc);
@@ -311,7 +311,7 @@ fn note_procs(
     'procs: for i in 0..procs.len() {
         let proc = &procs[i];
         let is_new = names.insert(proc.name.as_str())?;
-        let place = place_at(places, i, &elsewhere);
+        let place = spans_at(line_spans, i, &elsewhere);
         held = note_proc(alloc, held, place, channels, is_new, &mut seen, proc);
     }
     Ok(held)

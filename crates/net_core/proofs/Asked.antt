@@ -15,7 +15,7 @@ use Rattle.net_core.specs.Cuts.{Proc, Run, Cut, sender, receiver}
 use Rattle.net_core.specs.Machine.{position_in, next_of, goes_by, goes, with_event, stepped}
 use Rattle.net_core.specs.declared.progress.Progress.{Progress}
 use Rattle.net_core.specs.Shows.{Shows, progress_of, channel_of, IsBehaviorOf}
-use Rattle.base.proofs.Lemmas.Lists.Places.{read_is}
+use Rattle.base.proofs.Lemmas.Lists.Indices.{read_is}
 use Rattle.net_core.specs.Inner.Making.{has_word, has_room, TriesReceive, TriesSend, IsAtSiteOf, IsStandingFor, CanMake, TriesEvent}
 use Rattle.net_core.proofs.Openings.{EventAt, receives_at, sends_at, ends_with, next_at}
 use Rattle.net_core.proofs.Shown.{site_data, shows_unchanged, stepped_is, stepped_stays, progress_is, site_fits, stands_at, goes_receive, goes_send, goes_end, goes_done}

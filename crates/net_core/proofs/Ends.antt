@@ -12,10 +12,10 @@ use Rattle.net_core.specs.declared.outcome.Stall.{Stall}
 use Rattle.net_core.specs.Behavior.{chan_at}
 use Rattle.net_core.specs.Trace.{Histories, trace}
 use Rattle.net_core.specs.Cuts.{Proc, Run, Cut, count_received, words_at, room_at, reach}
-use Rattle.base.specs.Lists.Front.{IsFront}
+use Rattle.base.specs.Lists.Prefix.{IsPrefix}
 use Rattle.net_core.specs.Machine.{Position, opened, moved, left_after, position_after, position_in, next_of, finds_word}
 use Rattle.net_core.specs.Outcomes.{state_after, count_ends, with_one_more, next_in, stall_for, stall_by, stall_in}
-use Rattle.base.proofs.Lemmas.Lists.Fronts.{IsFront-trans, IsFront-append}
+use Rattle.base.proofs.Lemmas.Lists.Prefixes.{IsPrefix-trans, IsPrefix-append}
 use Rattle.net_core.proofs.Traces.{IsLonger, trace_grows}
 use Rattle.net_core.proofs.Resume.{trace_from, trace_opened, trace_resumes, ends_done, position_grows, words_after}
 use Rattle.net_core.proofs.Reach.{longest_fit-front}
@@ -43,25 +43,25 @@ state_is proc made words = state_behind proc.behavior.sites made (opened proc) w
 pub ends_are_counted : (proc : Proc) (made : List Event) (words : Histories) → (position_after proc.behavior.sites (opened proc) made words).ends ≡ count_ends made
 ends_are_counted proc made words = omega (arith, ends_behind proc.behavior.sites made (opened proc) words)
 
-behind_front : (xs : List Event) (e : Event) (ys : List Event) → IsFront (xs ++ e ∷ []) ys → slice_get ys (length xs) ≡ Some e
-behind_front [] e [] f = absurd f
-behind_front [] e (y ∷ ys) f = ap Some (sym f.0)
-behind_front (x ∷ xs) e [] f = absurd f
-behind_front (x ∷ xs) e (y ∷ ys) f = behind_front xs e ys f.1
+behind_prefix : (xs : List Event) (e : Event) (ys : List Event) → IsPrefix (xs ++ e ∷ []) ys → slice_get ys (length xs) ≡ Some e
+behind_prefix [] e [] f = absurd f
+behind_prefix [] e (y ∷ ys) f = ap Some (sym f.0)
+behind_prefix (x ∷ xs) e [] f = absurd f
+behind_prefix (x ∷ xs) e (y ∷ ys) f = behind_prefix xs e ys f.1
 
 none_behind : (xs : List Event) → slice_get xs (length xs) ≡ None
 none_behind [] = refl
 none_behind (x ∷ xs) = none_behind xs
 
-module _ (proc : Proc) (n : ℕ) (words : Histories) (made : List Event) (f : IsFront made (trace_from proc.behavior n (opened proc) words)) where
+module _ (proc : Proc) (n : ℕ) (words : Histories) (made : List Event) (f : IsPrefix made (trace_from proc.behavior n (opened proc) words)) where
   abbrev more : Histories
   more = with_one_more words
 
   longer : IsLonger words more
-  longer c = IsFront-append (words c) (word 1 0 ∷ [])
+  longer c = IsPrefix-append (words c) (word 1 0 ∷ [])
 
-  grown : IsFront made (trace proc.behavior n proc.opening more)
-  grown = IsFront-trans _ _ _ (rw (trace_opened proc n words) f) (trace_grows proc.behavior n proc.opening words more longer)
+  grown : IsPrefix made (trace proc.behavior n proc.opening more)
+  grown = IsPrefix-trans _ _ _ (rw (trace_opened proc n words) f) (trace_grows proc.behavior n proc.opening words more longer)
 
   same : position_after proc.behavior.sites (opened proc) made words ≡ position_after proc.behavior.sites (opened proc) made more
   same = position_grows proc.behavior n made (opened proc) words more longer f
@@ -82,7 +82,7 @@ module _ (proc : Proc) (n : ℕ) (words : Histories) (made : List Event) (f : Is
   goes_on_by l =
       let at = position_after proc.behavior.sites (opened proc) made more in
       let active : at.ends < n = omega (arith, l, ap (λ (x : Position). x.ends) same) in
-      behind_front made (next_of proc.behavior at) _ (goes_further proc n more made grown active (finds (next_of proc.behavior at)))
+      behind_prefix made (next_of proc.behavior at) _ (goes_further proc n more made grown active (finds (next_of proc.behavior at)))
       ∙ ap (λ (x : Position). Some (next_of proc.behavior x)) (sym same)
 
   is_over : n ≤ (position_after proc.behavior.sites (opened proc) made words).ends → slice_get (trace proc.behavior n proc.opening more) (length made) ≡ None
@@ -94,12 +94,12 @@ module _ (proc : Proc) (n : ℕ) (words : Histories) (made : List Event) (f : Is
       let whole = e ∙ (resumed ∙ (ap (λ es. made ++ es) (ends_done proc.behavior n at (words_after proc.behavior.sites made more) over) ∙ append-nil made)) in
       ap (λ es. slice_get es (length made)) whole ∙ none_behind made
 
--- what a proc has made within its reach is a front of its trace
-pub reached_in_trace : (run : Run) (cut : Cut) (p : ℕ) (proc : Proc) → slice_get run.procs p ≡ Some proc → IsFront (cut p) (reach run cut p)
-    → IsFront (cut p) (trace_from proc.behavior run.activations (opened proc) (words_at run cut))
+-- what a proc has made within its reach is a prefix of its trace
+pub reached_in_trace : (run : Run) (cut : Cut) (p : ℕ) (proc : Proc) → slice_get run.procs p ≡ Some proc → IsPrefix (cut p) (reach run cut p)
+    → IsPrefix (cut p) (trace_from proc.behavior run.activations (opened proc) (words_at run cut))
 reached_in_trace run cut p proc e f =
     let r = reach_is run cut p proc e in
-    IsFront-trans _ _ _ (rw r at f) (longest_fit-front proc.behavior.sites (room_at run cut) [] _)
+    IsPrefix-trans _ _ _ (rw r at f) (longest_fit-front proc.behavior.sites (room_at run cut) [] _)
 
 -- what a proc waits for, by the machine: nothing where its activations have ended, else what its next event waits for
 abbrev pub machine_stall : Run → Cut → ℕ → Proc → Option Stall
@@ -107,7 +107,7 @@ machine_stall run cut p proc =
     let at = position_in run cut p proc in
     cond (nat_lt at.ends run.activations) (stall_for proc.behavior.sites at.ends (next_of proc.behavior at)) None
 
-pub stall_is : (run : Run) (cut : Cut) (p : ℕ) (proc : Proc) → IsFront (cut p) (trace_from proc.behavior run.activations (opened proc) (words_at run cut))
+pub stall_is : (run : Run) (cut : Cut) (p : ℕ) (proc : Proc) → IsPrefix (cut p) (trace_from proc.behavior run.activations (opened proc) (words_at run cut))
     → stall_in run cut p proc ≡ machine_stall run cut p proc
 unfolding stall_in next_in
 stall_is run cut p proc f = go (cases_lt (position_in run cut p proc).ends run.activations)

@@ -20,7 +20,7 @@ use Rattle.net_core.specs.Machine.{Position, opened, moved, position_after, posi
 use Rattle.net_core.specs.WellFormed.{AreWordsOf}
 use Rattle.net_core.specs.Shows.{Shows, progress_at, progress_of, channel_of}
 use Rattle.net_core.specs.Inner.Making.{IsReceiveMade, IsSendMade, IsEndMade}
-use Rattle.base.proofs.Lemmas.Lists.Fronts.{IsFront-length}
+use Rattle.base.proofs.Lemmas.Lists.Prefixes.{IsPrefix-length}
 use Rattle.net_core.proofs.Reach.{words_at_grow}
 use Rattle.xb_value.specs.Typing.{IsOfType}
 use Rattle.net_core.proofs.Resume.{words_after, words_after-drop, position_after-push}
@@ -28,7 +28,7 @@ use Rattle.net_core.proofs.Steps.{position_stays}
 use Rattle.net_core.proofs.Confluence.{final_fixed, step_grows, step_consistent, step_below}
 use Rattle.net_core.proofs.Openings.{open_send, open_receive, open_first}
 use Rattle.net_core.proofs.Flows.{words_at-receive, words_at-end, words_at-send_other, words_at-send, received_at-send, received_at-end, received_at-receive_other, received_at-receive, received_at-by, with_event-here, with_event-other}
-use Rattle.base.proofs.Lemmas.Lists.Places.{slice_get-set, slice_get-set_other}
+use Rattle.base.proofs.Lemmas.Lists.Indices.{slice_get-set, slice_get-set_other}
 use Rattle.net_core.proofs.Flows.{same_there}
 use Rattle.net_core.proofs.Shown.{site_data, stepped_is, chan_at-there}
 
@@ -221,7 +221,7 @@ send_shows run cut old new p proc i site chan word sh at_site turn is_word ours 
       below = more_below run cut old sh p proc at_site.proc_is (Send i word) next goes;
       stands = stands_after run cut old sh p proc at_site.proc_is (Send i word) next goes
           (subst (λ (x : Position). IsOpen b x.state x.got x.done) (sym stands_is) open_now);
-      received = λ c. omega (arith, received_same c, sh.received c, IsFront-length _ _ (words_at_grow run cut more (more_grows run cut old sh p proc at_site.proc_is (Send i word) next goes) c));
+      received = λ c. omega (arith, received_same c, sh.received c, IsPrefix-length _ _ (words_at_grow run cut more (more_grows run cut old sh p proc at_site.proc_is (Send i word) next goes) c));
       words = λ c ch e. words_fit c ch e (cases_eq c site.chan);
     }
   where

@@ -10,10 +10,10 @@ use Rattle.net_core.specs.declared.event.Event.TheVariants.{Recv, Send, End}
 use Rattle.net_core.specs.declared.outcome.Stall.{Stall}
 use Rattle.net_core.specs.Behavior.{chan_at}
 use Rattle.net_core.specs.Cuts.{Proc, Run, Cut, sites_of, sites_at, words_sent, count_received, words_at, room_at, fits_after, longest_fit, trace_of, round, final_cut}
-use Rattle.base.specs.Lists.Front.{IsFront}
+use Rattle.base.specs.Lists.Prefix.{IsPrefix}
 use Rattle.net_core.specs.Machine.{opened, position_in, next_of, finds_word, goes_by, goes}
 use Rattle.net_core.specs.Outcomes.{count_ends, stall_for, stall_in}
-use Rattle.base.proofs.Lemmas.Lists.Fronts.{IsFront-refl, IsFront-trans, IsFront-length}
+use Rattle.base.proofs.Lemmas.Lists.Prefixes.{IsPrefix-refl, IsPrefix-trans, IsPrefix-length}
 use Rattle.net_core.proofs.Reach.{longest_fit_step}
 use Rattle.net_core.proofs.Resume.{trace_from}
 use Rattle.net_core.proofs.Rounds.{final_stays}
@@ -26,25 +26,25 @@ use Rattle.net_core.proofs.Stalls.{stall_active}
 use Rattle.net_core.proofs.Counted.{final_trace, final_reach, final_in_trace, some_trace, no_trace}
 
 -- the first part of a front is one
-front_of_append : (xs ys zs : List Event) → IsFront (xs ++ ys) zs → IsFront xs zs
-front_of_append [] ys zs f = tt
-front_of_append (x ∷ xs) ys [] f = absurd f
-front_of_append (x ∷ xs) ys (z ∷ zs) f = (f.0, front_of_append xs ys zs f.1)
+prefix_of_append : (xs ys zs : List Event) → IsPrefix (xs ++ ys) zs → IsPrefix xs zs
+prefix_of_append [] ys zs f = tt
+prefix_of_append (x ∷ xs) ys [] f = absurd f
+prefix_of_append (x ∷ xs) ys (z ∷ zs) f = (f.0, prefix_of_append xs ys zs f.1)
 
-longer : (xs : List Event) (e : Event) → IsFront (xs ++ e ∷ []) xs → ⊥
-longer xs e f = absurd (omega (arith, IsFront-length _ _ f, length-append xs (e ∷ [])))
+longer : (xs : List Event) (e : Event) → IsPrefix (xs ++ e ∷ []) xs → ⊥
+longer xs e f = absurd (omega (arith, IsPrefix-length _ _ f, length-append xs (e ∷ [])))
 
 -- no proc can go
 pub final_stuck : (run : Run) (p : ℕ) → goes run (final_cut run) p ≡ false
 final_stuck run p = go (slice_get run.procs p) refl
   where
-    here : IsFront (final_cut run p) (round run (final_cut run) p)
-    here = subst (λ (c : Cut). IsFront (final_cut run p) (c p)) (sym (final_stays run)) (IsFront-refl (final_cut run p))
+    here : IsPrefix (final_cut run p) (round run (final_cut run) p)
+    here = subst (λ (c : Cut). IsPrefix (final_cut run p) (c p)) (sym (final_stays run)) (IsPrefix-refl (final_cut run p))
 
     by_test : (proc : Proc) → slice_get run.procs p ≡ Some proc → (b : Bool) → goes_by run (final_cut run) p (Some proc) ≡ b → goes_by run (final_cut run) p (Some proc) ≡ false
     by_test proc e true h =
         let more = goes_extends run (final_cut run) p proc e here h in
-        absurd (longer (final_cut run p) _ (IsFront-trans _ _ _ more (final_fixed run p)))
+        absurd (longer (final_cut run p) _ (IsPrefix-trans _ _ _ more (final_fixed run p)))
     by_test proc e false h = h
 
     go : (o : Option Proc) → slice_get run.procs p ≡ o → goes_by run (final_cut run) p o ≡ false
@@ -55,17 +55,17 @@ final_stuck run p = go (slice_get run.procs p) refl
 pub final_received : (run : Run) (p c : ℕ) → count_received (sites_at run p) c (final_cut run p) ≤ length (words_at run (final_cut run) c)
 final_received run p c = go (slice_get run.procs p) refl
   where
-    nothing : (xs : List Event) → IsFront xs [] → xs ≡ []
+    nothing : (xs : List Event) → IsPrefix xs [] → xs ≡ []
     nothing [] f = refl
     nothing (x ∷ xs) f = absurd f
 
     go : (o : Option Proc) → slice_get run.procs p ≡ o → count_received (sites_of o) c (final_cut run p) ≤ length (words_at run (final_cut run) c)
     go None e =
-        let f = subst (λ o. IsFront (final_cut run p) (trace_of run.activations (words_at run (final_cut run)) o)) e (final_in_trace run p) in
+        let f = subst (λ o. IsPrefix (final_cut run p) (trace_of run.activations (words_at run (final_cut run)) o)) e (final_in_trace run p) in
         let none = nothing _ (no_trace run.activations (words_at run (final_cut run)) _ f) in
         subst (λ xs. count_received [] c xs ≤ length (words_at run (final_cut run) c)) (sym none) (unfold count_received in omega arith)
     go (Some proc) e =
-        let f = subst (λ o. IsFront (final_cut run p) (trace_of run.activations (words_at run (final_cut run)) o)) e (final_in_trace run p) in
+        let f = subst (λ o. IsPrefix (final_cut run p) (trace_of run.activations (words_at run (final_cut run)) o)) e (final_in_trace run p) in
         received_within proc.behavior run.activations (final_cut run p) (opened proc) (words_at run (final_cut run))
         (some_trace run.activations (words_at run (final_cut run)) proc _ f) c
 
@@ -121,7 +121,7 @@ final_room run p c j l =
     (subst (λ ys. j < length (words_sent (sites_at run p) c ys)) (sym (final_reach run p)) l)
 
 -- a proc that can't go and isn't done waits for something
-pub stuck_stalls : (run : Run) (cut : Cut) (p : ℕ) (proc : Proc) → IsFront (cut p) (trace_from proc.behavior run.activations (opened proc) (words_at run cut))
+pub stuck_stalls : (run : Run) (cut : Cut) (p : ℕ) (proc : Proc) → IsPrefix (cut p) (trace_from proc.behavior run.activations (opened proc) (words_at run cut))
     → goes_by run cut p (Some proc) ≡ false → count_ends (cut p) < run.activations
     → (stall : Stall) × (stall_in run cut p proc ≡ Some stall)
 unfolding goes_by finds_word fits_after

@@ -11,7 +11,7 @@ use Rattle.net_core.specs.declared.outcome.Stall.{Stall}
 use Rattle.net_core.specs.Behavior.{Behavior, IsOpen, KeepsTypes, next_event}
 use Rattle.net_core.specs.Trace.{Histories, trace}
 use Rattle.net_core.specs.Cuts.{Proc, Run, Cut, IsWithin, empty_cut, sites_at, words_sent, count_received, words_at, room_at, trace_of, round, unbounded_round, final_cut, unbounded_cut}
-use Rattle.base.specs.Lists.Front.{IsFront}
+use Rattle.base.specs.Lists.Prefix.{IsPrefix}
 use Rattle.net_core.specs.Machine.{opened, position_after, position_in, next_of, finds_word, goes_by, goes, after_steps}
 use Rattle.net_core.specs.Outcomes.{count_ends, stall_for, stall_in, end_of, outcome_of}
 use Rattle.net_core.specs.declared.net.Net.{Net}
@@ -19,7 +19,7 @@ use Rattle.net_core.specs.WellFormed.{IsNet, IsInputs, IsOutcome, AreBehaviorsOf
 use Rattle.net_core.specs.Shows.{Shows}
 use Rattle.net_core.specs.Counted.{IsCounted}
 use Rattle.net_core.specs.Nexts.{EventFits, WaitsForAWord}
-use Rattle.base.proofs.Lemmas.Lists.Fronts.{IsFront-refl}
+use Rattle.base.proofs.Lemmas.Lists.Prefixes.{IsPrefix-refl}
 use Rattle.net_core.proofs.Traces.{trace_grows, longer_trace}
 use Rattle.net_core.proofs.Resume.{trace_opened, position_grows}
 use Rattle.net_core.proofs.Receives.{received_within, stops_at, goes_further}
@@ -47,27 +47,27 @@ pub use Rattle.net_core.proofs.TypedRuns.{final_typed}
 pub use Rattle.net_core.proofs.Shown.{shows_unchanged}
 
 -- traces
-pub traces_grow : (b : Behavior) (n : ℕ) (state : Value) (words more : Histories) → ((c : ℕ) → IsFront (words c) (more c))
-    → IsFront (trace b n state words) (trace b n state more)
+pub traces_grow : (b : Behavior) (n : ℕ) (state : Value) (words more : Histories) → ((c : ℕ) → IsPrefix (words c) (more c))
+    → IsPrefix (trace b n state words) (trace b n state more)
 traces_grow = trace_grows
 
-pub more_activations_go_on : (b : Behavior) (m n : ℕ) (state : Value) (words : Histories) → m ≤ n → IsFront (trace b m state words) (trace b n state words)
-more_activations_go_on b m n state words l = longer_trace b m n l state words words (λ c. IsFront-refl (words c))
+pub more_activations_go_on : (b : Behavior) (m n : ℕ) (state : Value) (words : Histories) → m ≤ n → IsPrefix (trace b m state words) (trace b n state words)
+more_activations_go_on b m n state words l = longer_trace b m n l state words words (λ c. IsPrefix-refl (words c))
 
-pub only_words_are_received : (proc : Proc) (n : ℕ) (words : Histories) (made : List Event) → IsFront made (trace proc.behavior n proc.opening words)
+pub only_words_are_received : (proc : Proc) (n : ℕ) (words : Histories) (made : List Event) → IsPrefix made (trace proc.behavior n proc.opening words)
     → (c : ℕ) → count_received proc.behavior.sites c made ≤ length (words c)
 only_words_are_received proc n words made f =
-    received_within proc.behavior n made (opened proc) words (subst (λ t. IsFront made t) (trace_opened proc n words) f)
+    received_within proc.behavior n made (opened proc) words (subst (λ t. IsPrefix made t) (trace_opened proc n words) f)
 
 pub next_is_the_traces : (proc : Proc) (n : ℕ) (words : Histories) (made rest : List Event) (event : Event)
     → trace proc.behavior n proc.opening words ≡ made ++ event ∷ rest
     → event ≡ next_of proc.behavior (position_after proc.behavior.sites (opened proc) made words)
 next_is_the_traces proc n words made rest event e = next_after proc n words made rest event (sym (trace_opened proc n words) ∙ e)
 
-pub traces_go_on_by_the_next : (proc : Proc) (n : ℕ) (words : Histories) (made : List Event) → IsFront made (trace proc.behavior n proc.opening words)
+pub traces_go_on_by_the_next : (proc : Proc) (n : ℕ) (words : Histories) (made : List Event) → IsPrefix made (trace proc.behavior n proc.opening words)
     → (position_after proc.behavior.sites (opened proc) made words).ends < n
     → finds_word proc.behavior.sites words made (next_of proc.behavior (position_after proc.behavior.sites (opened proc) made words)) ≡ true
-    → IsFront (made ++ next_of proc.behavior (position_after proc.behavior.sites (opened proc) made words) ∷ []) (trace proc.behavior n proc.opening words)
+    → IsPrefix (made ++ next_of proc.behavior (position_after proc.behavior.sites (opened proc) made words) ∷ []) (trace proc.behavior n proc.opening words)
 traces_go_on_by_the_next = goes_further
 
 pub traces_stop_at_a_missing_word : (proc : Proc) (n : ℕ) (words : Histories)
@@ -125,7 +125,7 @@ each_sent_word_had_room = final_room
 pub who_is_not_done_waits : (run : Run) (p : ℕ) (proc : Proc) → slice_get run.procs p ≡ Some proc → count_ends (final_cut run p) < run.activations
     → (stall : Stall) × (stall_in run (final_cut run) p proc ≡ Some stall)
 who_is_not_done_waits run p proc e l =
-    let made = subst (λ o. IsFront (final_cut run p) (trace_of run.activations (words_at run (final_cut run)) o)) e (final_in_trace run p) in
+    let made = subst (λ o. IsPrefix (final_cut run p) (trace_of run.activations (words_at run (final_cut run)) o)) e (final_in_trace run p) in
     stuck_stalls run (final_cut run) p proc (some_trace run.activations (words_at run (final_cut run)) proc (final_cut run p) made)
     (subst (λ o. goes_by run (final_cut run) p o ≡ false) e (final_stuck run p)) l
 
@@ -135,7 +135,7 @@ pub ends_by_position : (run : Run) (p : ℕ) (proc : Proc) → slice_get run.pro
     end_of run (final_cut run) p proc
     ≡ record { state = at.state; ends = at.ends; stall = if nat_lt at.ends run.activations then stall_for proc.behavior.sites at.ends (next_of proc.behavior at) else None }
 ends_by_position run p proc e =
-    let made = subst (λ o. IsFront (final_cut run p) (trace_of run.activations (words_at run (final_cut run)) o)) e (final_in_trace run p) in
+    let made = subst (λ o. IsPrefix (final_cut run p) (trace_of run.activations (words_at run (final_cut run)) o)) e (final_in_trace run p) in
     let front = some_trace run.activations (words_at run (final_cut run)) proc (final_cut run p) made in
     let stall = stall_is run (final_cut run) p proc front in
     let state = state_is proc (final_cut run p) (words_at run (final_cut run)) in

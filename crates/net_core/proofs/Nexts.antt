@@ -7,11 +7,11 @@ use Rattle.net_core.specs.declared.event.Event.{Event}
 use Rattle.net_core.specs.Behavior.{Behavior, IsInDirection, TurnFits, IsOpen, KeepsTypes, next_event}
 use Rattle.net_core.specs.Trace.{Histories}
 use Rattle.net_core.specs.Cuts.{Proc}
-use Rattle.base.specs.Lists.Front.{IsFront}
+use Rattle.base.specs.Lists.Prefix.{IsPrefix}
 use Rattle.net_core.specs.Machine.{opened, next_of, position_after}
 use Rattle.net_core.specs.Nexts.{EventFits}
-use Rattle.base.proofs.Lemmas.Lists.Fronts.{IsFront-append}
-use Rattle.net_core.proofs.Resume.{trace_from, trace_resumes, front_goes, words_after}
+use Rattle.base.proofs.Lemmas.Lists.Prefixes.{IsPrefix-append}
+use Rattle.net_core.proofs.Resume.{trace_from, trace_resumes, prefix_goes, words_after}
 use Rattle.net_core.proofs.Openings.{EventAt, receives_at, sends_at, ends_with, next_at}
 
 -- the event behind the front of a trace is the next one there
@@ -19,11 +19,11 @@ pub next_after : (proc : Proc) (n : ℕ) (words : Histories) (made rest : List E
     → event ≡ next_of proc.behavior (position_after proc.behavior.sites (opened proc) made words)
 next_after proc n words made rest event e =
     let b = proc.behavior in
-    let front = subst (λ xs. IsFront made xs) (sym e) (IsFront-append made (event ∷ rest)) in
+    let front = subst (λ xs. IsPrefix made xs) (sym e) (IsPrefix-append made (event ∷ rest)) in
     let resumed = trace_resumes b n made (opened proc) words front in
     let here = append_cancel_left made _ _ (sym resumed ∙ e) in
-    let first = subst (λ xs. IsFront (event ∷ []) xs) (sym here) (IsFront-append (event ∷ []) rest) in
-    (front_goes b n (position_after b.sites (opened proc) made words) (words_after b.sites made words) event [] first).0.next
+    let first = subst (λ xs. IsPrefix (event ∷ []) xs) (sym here) (IsPrefix-append (event ∷ []) rest) in
+    (prefix_goes b n (position_after b.sites (opened proc) made words) (words_after b.sites made words) event [] first).0.next
 
 fits_at : (b : Behavior) → KeepsTypes b → (s : Value) (got : List Word) (done : ℕ) (e : Event) → EventAt b s got done e → EventFits b e
 fits_at b keep s got done _ (receives_at i site later place stands turn) =

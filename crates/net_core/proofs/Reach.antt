@@ -13,26 +13,26 @@ use Rattle.net_core.specs.declared.event.Event.TheVariants.{Recv, Send, End}
 use Rattle.net_core.specs.Behavior.{chan_at}
 use Rattle.net_core.specs.Trace.{Histories}
 use Rattle.net_core.specs.Cuts.{Proc, Run, Cut, IsWithin, sites_at, sender, receiver, words_sent, count_received, words_by, words_at, received_at, room_by, room_at, fits_after, longest_fit, trace_of, reach}
-use Rattle.base.specs.Lists.Front.{IsFront}
-use Rattle.base.proofs.Lemmas.Lists.Fronts.{IsFront-refl}
+use Rattle.base.specs.Lists.Prefix.{IsPrefix}
+use Rattle.base.proofs.Lemmas.Lists.Prefixes.{IsPrefix-refl}
 use Rattle.net_core.proofs.Traces.{IsLonger, trace_grows}
 
 -- what is sent and received grows with the events
-front_if_push : (b : Bool) (w : Word) (xs ys : List Word) → IsFront xs ys → IsFront (cond b (w ∷ xs) xs) (cond b (w ∷ ys) ys)
-front_if_push true w xs ys f = (refl, f)
-front_if_push false w xs ys f = f
+prefix_if_push : (b : Bool) (w : Word) (xs ys : List Word) → IsPrefix xs ys → IsPrefix (cond b (w ∷ xs) xs) (cond b (w ∷ ys) ys)
+prefix_if_push true w xs ys f = (refl, f)
+prefix_if_push false w xs ys f = f
 
-words_sent_same : (sites : List Site) (c : ℕ) (e : Event) (xs ys : List Event) → IsFront (words_sent sites c xs) (words_sent sites c ys) → IsFront (words_sent sites c (e ∷ xs)) (words_sent sites c (e ∷ ys))
+words_sent_same : (sites : List Site) (c : ℕ) (e : Event) (xs ys : List Event) → IsPrefix (words_sent sites c xs) (words_sent sites c ys) → IsPrefix (words_sent sites c (e ∷ xs)) (words_sent sites c (e ∷ ys))
 unfolding words_sent
 words_sent_same sites c (Recv i) xs ys f = f
-words_sent_same sites c (Send i w) xs ys f = front_if_push (eqb (chan_at sites i) c) w _ _ f
+words_sent_same sites c (Send i w) xs ys f = prefix_if_push (eqb (chan_at sites i) c) w _ _ f
 words_sent_same sites c (End s) xs ys f = f
 
-pub words_sent_grow : (sites : List Site) (c : ℕ) (xs ys : List Event) → IsFront xs ys → IsFront (words_sent sites c xs) (words_sent sites c ys)
+pub words_sent_grow : (sites : List Site) (c : ℕ) (xs ys : List Event) → IsPrefix xs ys → IsPrefix (words_sent sites c xs) (words_sent sites c ys)
 words_sent_grow sites c [] ys f = unfold words_sent in tt
 words_sent_grow sites c (x ∷ xs) [] f = absurd f
 words_sent_grow sites c (x ∷ xs) (y ∷ ys) f =
-    subst (λ e. IsFront (words_sent sites c (x ∷ xs)) (words_sent sites c (e ∷ ys))) f.0 (words_sent_same sites c x xs ys (words_sent_grow sites c xs ys f.1))
+    subst (λ e. IsPrefix (words_sent sites c (x ∷ xs)) (words_sent sites c (e ∷ ys))) f.0 (words_sent_same sites c x xs ys (words_sent_grow sites c xs ys f.1))
 
 le_if_suc : (b : Bool) (m n : ℕ) → m ≤ n → cond b (suc m) m ≤ cond b (suc n) n
 le_if_suc true m n h = omega (arith, h)
@@ -44,24 +44,24 @@ received_same sites c (Recv i) xs ys h = le_if_suc (eqb (chan_at sites i) c) _ _
 received_same sites c (Send i w) xs ys h = h
 received_same sites c (End s) xs ys h = h
 
-pub received_grow : (sites : List Site) (c : ℕ) (xs ys : List Event) → IsFront xs ys → count_received sites c xs ≤ count_received sites c ys
+pub received_grow : (sites : List Site) (c : ℕ) (xs ys : List Event) → IsPrefix xs ys → count_received sites c xs ≤ count_received sites c ys
 received_grow sites c [] ys f = unfold count_received in omega arith
 received_grow sites c (x ∷ xs) [] f = absurd f
 received_grow sites c (x ∷ xs) (y ∷ ys) f =
     subst (λ e. count_received sites c (x ∷ xs) ≤ count_received sites c (e ∷ ys)) f.0 (received_same sites c x xs ys (received_grow sites c xs ys f.1))
 
-words_by_grow : (run : Run) (cut more : Cut) (c : ℕ) (chan : Option Chan) → IsWithin cut more → IsFront (words_by run cut c chan) (words_by run more c chan)
+words_by_grow : (run : Run) (cut more : Cut) (c : ℕ) (chan : Option Chan) → IsWithin cut more → IsPrefix (words_by run cut c chan) (words_by run more c chan)
 unfolding words_by
 words_by_grow run cut more c None f = tt
 words_by_grow run cut more c (Some chan) f = go chan.kind
   where
-    sent : IsFront (words_sent (sites_at run (sender run c)) c (cut (sender run c))) (words_sent (sites_at run (sender run c)) c (more (sender run c)))
+    sent : IsPrefix (words_sent (sites_at run (sender run c)) c (cut (sender run c))) (words_sent (sites_at run (sender run c)) c (more (sender run c)))
     sent = words_sent_grow _ c _ _ (f (sender run c))
 
-    go : (kind : Kind) → IsFront
+    go : (kind : Kind) → IsPrefix
         (elim kind as (λ _. List Word) [ Input ↦ get_or run.inputs c [] | Output ↦ words_sent (sites_at run (sender run c)) c (cut (sender run c)) | Inner ↦ words_sent (sites_at run (sender run c)) c (cut (sender run c)) ])
         (elim kind as (λ _. List Word) [ Input ↦ get_or run.inputs c [] | Output ↦ words_sent (sites_at run (sender run c)) c (more (sender run c)) | Inner ↦ words_sent (sites_at run (sender run c)) c (more (sender run c)) ])
-    go Input = IsFront-refl _
+    go Input = IsPrefix-refl _
     go Output = sent
     go Inner = sent
 
@@ -103,34 +103,34 @@ fits_grow sites room more before (Recv i) r h = refl
 fits_grow sites room more before (Send i w) r h = r _ _ h
 fits_grow sites room more before (End s) r h = refl
 
-front_by_tests : (b d : Bool) (e : Event) (xs ys : List Event) → (b ≡ true → d ≡ true) → IsFront xs ys → IsFront (cond b (e ∷ xs) []) (cond d (e ∷ ys) [])
-front_by_tests false d e xs ys h f = tt
-front_by_tests true true e xs ys h f = (refl, f)
-front_by_tests true false e xs ys h f = absurd (let k = h refl in cc)
+prefix_by_tests : (b d : Bool) (e : Event) (xs ys : List Event) → (b ≡ true → d ≡ true) → IsPrefix xs ys → IsPrefix (cond b (e ∷ xs) []) (cond d (e ∷ ys) [])
+prefix_by_tests false d e xs ys h f = tt
+prefix_by_tests true true e xs ys h f = (refl, f)
+prefix_by_tests true false e xs ys h f = absurd (let k = h refl in cc)
 
 longest_fit_same : (sites : List Site) (room more : ℕ → ℕ → Bool) (before : List Event) (x : Event) (xs ys : List Event) → IsRoomier room more
-    → IsFront (longest_fit sites room (before ++ x ∷ []) xs) (longest_fit sites more (before ++ x ∷ []) ys)
-    → IsFront (longest_fit sites room before (x ∷ xs)) (longest_fit sites more before (x ∷ ys))
+    → IsPrefix (longest_fit sites room (before ++ x ∷ []) xs) (longest_fit sites more (before ++ x ∷ []) ys)
+    → IsPrefix (longest_fit sites room before (x ∷ xs)) (longest_fit sites more before (x ∷ ys))
 unfolding longest_fit
 longest_fit_same sites room more before x xs ys r f =
-    front_by_tests (fits_after sites room before x) (fits_after sites more before x) x _ _ (λ h. fits_grow sites room more before x r h) f
+    prefix_by_tests (fits_after sites room before x) (fits_after sites more before x) x _ _ (λ h. fits_grow sites room more before x r h) f
 
-pub longest_fit_grows : (sites : List Site) (room more : ℕ → ℕ → Bool) (before xs ys : List Event) → IsRoomier room more → IsFront xs ys
-    → IsFront (longest_fit sites room before xs) (longest_fit sites more before ys)
+pub longest_fit_grows : (sites : List Site) (room more : ℕ → ℕ → Bool) (before xs ys : List Event) → IsRoomier room more → IsPrefix xs ys
+    → IsPrefix (longest_fit sites room before xs) (longest_fit sites more before ys)
 longest_fit_grows sites room more before [] ys r f = unfold longest_fit in tt
 longest_fit_grows sites room more before (x ∷ xs) [] r f = absurd f
 longest_fit_grows sites room more before (x ∷ xs) (y ∷ ys) r f =
     let ih = longest_fit_grows sites room more (before ++ x ∷ []) xs ys r f.1 in
-    subst (λ e. IsFront (longest_fit sites room before (x ∷ xs)) (longest_fit sites more before (e ∷ ys))) f.0
+    subst (λ e. IsPrefix (longest_fit sites room before (x ∷ xs)) (longest_fit sites more before (e ∷ ys))) f.0
     (longest_fit_same sites room more before x xs ys r ih)
 
-trace_of_grows : (n : ℕ) (words more : Histories) (proc : Option Proc) → IsLonger words more → IsFront (trace_of n words proc) (trace_of n more proc)
+trace_of_grows : (n : ℕ) (words more : Histories) (proc : Option Proc) → IsLonger words more → IsPrefix (trace_of n words proc) (trace_of n more proc)
 unfolding trace_of
 trace_of_grows n words more None f = tt
 trace_of_grows n words more (Some proc) f = trace_grows proc.behavior n proc.opening words more f
 
 -- a proc comes further by itself from a larger cut
-pub reach_grows : (run : Run) (cut more : Cut) (p : ℕ) → IsWithin cut more → IsFront (reach run cut p) (reach run more p)
+pub reach_grows : (run : Run) (cut more : Cut) (p : ℕ) → IsWithin cut more → IsPrefix (reach run cut p) (reach run more p)
 unfolding reach
 reach_grows run cut more p f =
     longest_fit_grows (sites_at run p) (room_at run cut) (room_at run more) [] _ _ (room_at_grow run cut more f)
@@ -138,13 +138,13 @@ reach_grows run cut more p f =
 
 -- the same without room
 pub trace_of_reach_grows : (run : Run) (cut more : Cut) (p : ℕ) → IsWithin cut more
-    → IsFront (trace_of run.activations (words_at run cut) (slice_get run.procs p)) (trace_of run.activations (words_at run more) (slice_get run.procs p))
+    → IsPrefix (trace_of run.activations (words_at run cut) (slice_get run.procs p)) (trace_of run.activations (words_at run more) (slice_get run.procs p))
 trace_of_reach_grows run cut more p f =
     trace_of_grows run.activations (words_at run cut) (words_at run more) (slice_get run.procs p) (words_at_grow run cut more f)
 
-front_of_test : (b : Bool) (e : Event) (xs ys : List Event) → IsFront xs ys → IsFront (cond b (e ∷ xs) []) (e ∷ ys)
-front_of_test true e xs ys f = (refl, f)
-front_of_test false e xs ys f = tt
+prefix_of_test : (b : Bool) (e : Event) (xs ys : List Event) → IsPrefix xs ys → IsPrefix (cond b (e ∷ xs) []) (e ∷ ys)
+prefix_of_test true e xs ys f = (refl, f)
+prefix_of_test false e xs ys f = tt
 
 pub longest_fit_step : (sites : List Site) (room : ℕ → ℕ → Bool) (before : List Event) (x : Event) (xs : List Event)
     → longest_fit sites room before (x ∷ xs) ≡ cond (fits_after sites room before x) (x ∷ longest_fit sites room (before ++ x ∷ []) xs) []
@@ -152,18 +152,18 @@ unfolding longest_fit
 longest_fit_step sites room before x xs = refl
 
 -- the longest fit is a front
-pub longest_fit-front : (sites : List Site) (room : ℕ → ℕ → Bool) (before xs : List Event) → IsFront (longest_fit sites room before xs) xs
+pub longest_fit-front : (sites : List Site) (room : ℕ → ℕ → Bool) (before xs : List Event) → IsPrefix (longest_fit sites room before xs) xs
 longest_fit-front sites room before [] = unfold longest_fit in tt
 longest_fit-front sites room before (x ∷ xs) =
     let ih = longest_fit-front sites room (before ++ x ∷ []) xs in
-    rw (longest_fit_step sites room before x xs) (front_of_test (fits_after sites room before x) x _ _ ih)
+    rw (longest_fit_step sites room before x xs) (prefix_of_test (fits_after sites room before x) x _ _ ih)
 
 -- it goes on where a front of it ends
-fit_true : (b : Bool) (x : Event) (t ws xs : List Event) → IsFront (x ∷ t) (cond b (x ∷ ws) xs) → xs ≡ [] → (b ≡ true) × IsFront t ws
+fit_true : (b : Bool) (x : Event) (t ws xs : List Event) → IsPrefix (x ∷ t) (cond b (x ∷ ws) xs) → xs ≡ [] → (b ≡ true) × IsPrefix t ws
 fit_true true x t ws xs f e = (refl, f.1)
 fit_true false x t ws xs f e = absurd (rw e at f)
 
-pub longest_fit_resumes : (sites : List Site) (room : ℕ → ℕ → Bool) (t before xs : List Event) → IsFront t (longest_fit sites room before (t ++ xs))
+pub longest_fit_resumes : (sites : List Site) (room : ℕ → ℕ → Bool) (t before xs : List Event) → IsPrefix t (longest_fit sites room before (t ++ xs))
     → longest_fit sites room before (t ++ xs) ≡ t ++ longest_fit sites room (before ++ t) xs
 longest_fit_resumes sites room [] before xs f = ap (λ z. longest_fit sites room z xs) (sym (append-nil before))
 longest_fit_resumes sites room (e ∷ t) before xs f =

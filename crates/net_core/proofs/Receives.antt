@@ -8,11 +8,11 @@ use Rattle.net_core.specs.declared.event.Event.TheVariants.{Recv, Send, End}
 use Rattle.net_core.specs.Behavior.{Behavior, chan_at}
 use Rattle.net_core.specs.Trace.{Histories, trace}
 use Rattle.net_core.specs.Cuts.{Proc, count_received}
-use Rattle.base.specs.Lists.Front.{IsFront}
+use Rattle.base.specs.Lists.Prefix.{IsPrefix}
 use Rattle.net_core.specs.Machine.{Position, opened, moved, left_after, position_after, next_of, finds_word}
 use Rattle.net_core.specs.Nexts.{WaitsForAWord}
-use Rattle.base.proofs.Lemmas.Lists.Fronts.{IsFront-refl, IsFront-append_both}
-use Rattle.net_core.proofs.Resume.{trace_from, trace_opened, has_word, is_left, goes_on, front_goes, words_after, trace_resumes, words_after-drop}
+use Rattle.base.proofs.Lemmas.Lists.Prefixes.{IsPrefix-refl, IsPrefix-append_both}
+use Rattle.net_core.proofs.Resume.{trace_from, trace_opened, has_word, is_left, goes_on, prefix_goes, words_after, trace_resumes, words_after-drop}
 use Rattle.net_core.proofs.Steps.{found_by_count}
 use Rattle.net_core.proofs.Confluence.{eqb-same}
 
@@ -40,11 +40,11 @@ counted sites words (Send i w) t c found h = h
 counted sites words (End s) t c found h = h
 
 -- each front of a trace receives words that are there
-pub received_within : (b : Behavior) (n : ℕ) (t : List Event) (at : Position) (words : Histories) → IsFront t (trace_from b n at words)
+pub received_within : (b : Behavior) (n : ℕ) (t : List Event) (at : Position) (words : Histories) → IsPrefix t (trace_from b n at words)
     → (c : ℕ) → count_received b.sites c t ≤ length (words c)
 received_within b n [] at words f c = unfold count_received in omega arith
 received_within b n (e ∷ t) at words f c =
-    let g = front_goes b n at words e t f in
+    let g = prefix_goes b n at words e t f in
     counted b.sites words e t c g.0.found (received_within b n t (moved b.sites at e words) (left_after b.sites e words) g.1 c)
 
 event_misses : (sites : List Site) (words : Histories) (e : Event) → has_word sites words e ≡ false → (i : ℕ) × (e ≡ Recv i) × (words (chan_at sites i) ≡ [])
@@ -67,7 +67,7 @@ rest_done : (b : Behavior) (n : ℕ) (at : Position) (words : Histories)
     → trace_from b n (position_after b.sites at (trace_from b n at words) words) (words_after b.sites (trace_from b n at words) words) ≡ []
 rest_done b n at words =
     let t = trace_from b n at words in
-    let resumed = trace_resumes b n t at words (IsFront-refl t) in
+    let resumed = trace_resumes b n t at words (IsPrefix-refl t) in
     append_cancel_left t _ [] (sym resumed ∙ sym (append-nil t))
 
 stops_from : (proc : Proc) (n : ℕ) (words : Histories)
@@ -81,7 +81,7 @@ stops_from proc n words l =
     let missed = misses_at b n at (words_after b.sites t words) l (rest_done b n start words) in
     let c = chan_at b.sites missed.0 in
     let left = sym (words_after-drop b.sites c t words) ∙ missed.2 in
-    let most = received_within b n t start words (IsFront-refl t) c in
+    let most = received_within b n t start words (IsPrefix-refl t) c in
     (missed.0, missed.1, omega (arith, most, ap length left, length-drop (count_received b.sites c t) (words c)))
 
 pub stops_at : (proc : Proc) (n : ℕ) (words : Histories)
@@ -92,14 +92,14 @@ stops_at proc n words =
     (sym (trace_opened proc n words)) (stops_from proc n words)
 
 -- a trace goes on where the next event finds its word
-pub goes_further : (proc : Proc) (n : ℕ) (words : Histories) (made : List Event) → IsFront made (trace proc.behavior n proc.opening words)
+pub goes_further : (proc : Proc) (n : ℕ) (words : Histories) (made : List Event) → IsPrefix made (trace proc.behavior n proc.opening words)
     → (position_after proc.behavior.sites (opened proc) made words).ends < n
     → finds_word proc.behavior.sites words made (next_of proc.behavior (position_after proc.behavior.sites (opened proc) made words)) ≡ true
-    → IsFront (made ++ next_of proc.behavior (position_after proc.behavior.sites (opened proc) made words) ∷ []) (trace proc.behavior n proc.opening words)
+    → IsPrefix (made ++ next_of proc.behavior (position_after proc.behavior.sites (opened proc) made words) ∷ []) (trace proc.behavior n proc.opening words)
 goes_further proc n words made f l found =
     let b = proc.behavior in
     let e = trace_opened proc n words in
     let at = position_after b.sites (opened proc) made words in
     let resumed = trace_resumes b n made (opened proc) words (rw e at f) in
     let on = goes_on b n at (words_after b.sites made words) l (found_by_count b.sites words made (next_of b at) ∙ found) in
-    rw (e, resumed, on.rest) (IsFront-append_both made (next_of b at ∷ []) _ (refl, tt))
+    rw (e, resumed, on.rest) (IsPrefix-append_both made (next_of b at ∷ []) _ (refl, tt))

@@ -12,7 +12,7 @@ use Rattle.net_core.specs.declared.event.Event.TheVariants.{Recv, Send, End}
 use Rattle.net_core.specs.Behavior.{Behavior, Turn, Skip, Receive, Give, chan_at, event_from, next_event}
 use Rattle.net_core.specs.Trace.{Histories, without_first, events_from, trace}
 use Rattle.net_core.specs.Cuts.{count_received, Proc}
-use Rattle.base.specs.Lists.Front.{IsFront}
+use Rattle.base.specs.Lists.Prefix.{IsPrefix}
 use Rattle.net_core.specs.Machine.{Position, opened, moved, left_after, position_after, next_of}
 use Rattle.net_core.proofs.Traces.{IsLonger, longer_without, at_turn, on_word, at_site}
 
@@ -182,22 +182,22 @@ ends_waiting b n at words l h =
     let e : n - at.ends ≡ suc (n - suc at.ends) = omega arith in
     from_active b n (n - suc at.ends) at words e ∙ event_waits b (n - suc at.ends) at words (next_of b at) h
 
-front_by_word : (b : Behavior) (n : ℕ) (at : Position) (words : Histories) (e : Event) (t : List Event) → at.ends < n
-    → (found : Bool) → has_word b.sites words (next_of b at) ≡ found → IsFront (e ∷ t) (trace_from b n at words)
-    → GoesOn b n at words e × IsFront t (trace_from b n (moved b.sites at e words) (left_after b.sites e words))
-front_by_word b n at words e t l false h f = absurd (rw (ends_waiting b n at words l h) at f)
-front_by_word b n at words e t l true h f =
+prefix_by_word : (b : Behavior) (n : ℕ) (at : Position) (words : Histories) (e : Event) (t : List Event) → at.ends < n
+    → (found : Bool) → has_word b.sites words (next_of b at) ≡ found → IsPrefix (e ∷ t) (trace_from b n at words)
+    → GoesOn b n at words e × IsPrefix t (trace_from b n (moved b.sites at e words) (left_after b.sites e words))
+prefix_by_word b n at words e t l false h f = absurd (rw (ends_waiting b n at words l h) at f)
+prefix_by_word b n at words e t l true h f =
     let on = goes_on b n at words l h in
     let g = rw on.rest at f in
-    subst (λ x. GoesOn b n at words x × IsFront t (trace_from b n (moved b.sites at x words) (left_after b.sites x words))) (sym g.0) (on, g.1)
+    subst (λ x. GoesOn b n at words x × IsPrefix t (trace_from b n (moved b.sites at x words) (left_after b.sites x words))) (sym g.0) (on, g.1)
 
 -- what stands at the front of a trace is its next event
-pub front_goes : (b : Behavior) (n : ℕ) (at : Position) (words : Histories) (e : Event) (t : List Event) → IsFront (e ∷ t) (trace_from b n at words)
-    → GoesOn b n at words e × IsFront t (trace_from b n (moved b.sites at e words) (left_after b.sites e words))
-front_goes b n at words e t f = go (cases_lt at.ends n)
+pub prefix_goes : (b : Behavior) (n : ℕ) (at : Position) (words : Histories) (e : Event) (t : List Event) → IsPrefix (e ∷ t) (trace_from b n at words)
+    → GoesOn b n at words e × IsPrefix t (trace_from b n (moved b.sites at e words) (left_after b.sites e words))
+prefix_goes b n at words e t f = go (cases_lt at.ends n)
   where
-    go : (at.ends < n) ⊎ (n ≤ at.ends) → GoesOn b n at words e × IsFront t (trace_from b n (moved b.sites at e words) (left_after b.sites e words))
-    go (inl l) = front_by_word b n at words e t l (has_word b.sites words (next_of b at)) refl f
+    go : (at.ends < n) ⊎ (n ≤ at.ends) → GoesOn b n at words e × IsPrefix t (trace_from b n (moved b.sites at e words) (left_after b.sites e words))
+    go (inl l) = prefix_by_word b n at words e t l (has_word b.sites words (next_of b at)) refl f
     go (inr l) = absurd (rw (ends_done b n at words l) at f)
 
 -- the words that are left after these events
@@ -206,23 +206,23 @@ words_after sites [] words = words
 words_after sites (e ∷ es) words = words_after sites es (left_after sites e words)
 
 -- a trace goes on behind each of its fronts, from the position there
-pub trace_resumes : (b : Behavior) (n : ℕ) (t : List Event) (at : Position) (words : Histories) → IsFront t (trace_from b n at words)
+pub trace_resumes : (b : Behavior) (n : ℕ) (t : List Event) (at : Position) (words : Histories) → IsPrefix t (trace_from b n at words)
     → trace_from b n at words ≡ t ++ trace_from b n (position_after b.sites at t words) (words_after b.sites t words)
 unfolding position_after words_after
 trace_resumes b n [] at words f = refl
 trace_resumes b n (e ∷ t) at words f =
-    let g = front_goes b n at words e t f in
+    let g = prefix_goes b n at words e t f in
     g.0.rest ∙ ap (λ es. e ∷ es) (trace_resumes b n t (moved b.sites at e words) (left_after b.sites e words) g.1)
 
-front_take : (xs ys : List Word) → IsFront xs ys → is_left xs ≡ true → take 1 xs ≡ take 1 ys
-front_take [] ys f h = cc
-front_take (x ∷ xs) [] f h = absurd f
-front_take (x ∷ xs) (y ∷ ys) f h = ap (λ z. z ∷ []) f.0
+prefix_take : (xs ys : List Word) → IsPrefix xs ys → is_left xs ≡ true → take 1 xs ≡ take 1 ys
+prefix_take [] ys f h = cc
+prefix_take (x ∷ xs) [] f h = absurd f
+prefix_take (x ∷ xs) (y ∷ ys) f h = ap (λ z. z ∷ []) f.0
 
 pub moved_grows : (sites : List Site) (at : Position) (e : Event) (words more : Histories) → IsLonger words more → has_word sites words e ≡ true
     → moved sites at e words ≡ moved sites at e more
 unfolding has_word
-moved_grows sites at (Recv i) words more f h = let e = front_take _ _ (f (chan_at sites i)) h in rw e
+moved_grows sites at (Recv i) words more f h = let e = prefix_take _ _ (f (chan_at sites i)) h in rw e
 moved_grows sites at (Send i w) words more f h = refl
 moved_grows sites at (End s) words more f h = refl
 
@@ -232,12 +232,12 @@ left_grows sites (Send i w) words more f = f
 left_grows sites (End s) words more f = f
 
 -- more words change nothing at the events that were made
-pub position_grows : (b : Behavior) (n : ℕ) (t : List Event) (at : Position) (words more : Histories) → IsLonger words more → IsFront t (trace_from b n at words)
+pub position_grows : (b : Behavior) (n : ℕ) (t : List Event) (at : Position) (words more : Histories) → IsLonger words more → IsPrefix t (trace_from b n at words)
     → position_after b.sites at t words ≡ position_after b.sites at t more
 unfolding position_after
 position_grows b n [] at words more l f = refl
 position_grows b n (e ∷ t) at words more l f =
-    let g = front_goes b n at words e t f in
+    let g = prefix_goes b n at words e t f in
     let m = moved_grows b.sites at e words more l g.0.found in
     position_grows b n t (moved b.sites at e words) (left_after b.sites e words) (left_after b.sites e more) (left_grows b.sites e words more l) g.1
     ∙ ap (λ x. position_after b.sites x t (left_after b.sites e more)) m

@@ -12,7 +12,7 @@ use Rattle.net_core.specs.declared.event.Event.{Event}
 use Rattle.net_core.specs.Behavior.{Behavior, Turn, Skip, Receive, Give}
 use Rattle.net_core.specs.Trace.{Histories, without_first, events_from, trace}
 use Rattle.net_core.specs.Cuts.{Proc, Run, Cut, IsWithin, trace_of, reach, round, unbounded_round, rounds, most_events, final_cut, unbounded_cut, sites_at, room_at, words_at}
-use Rattle.base.proofs.Lemmas.Lists.Fronts.{IsFront-length, IsFront-same}
+use Rattle.base.proofs.Lemmas.Lists.Prefixes.{IsPrefix-length, IsPrefix-same}
 use Rattle.net_core.proofs.Traces.{at_turn, on_word, at_site}
 use Rattle.net_core.proofs.Reach.{reach_grows, trace_of_reach_grows, longest_fit-front}
 
@@ -30,17 +30,17 @@ total_grows : (procs : List Proc) (cut more : Cut) → IsWithin cut more → tot
 unfolding total
 total_grows [] cut more f = omega arith
 total_grows (proc ∷ procs) cut more f =
-    omega (arith, IsFront-length _ _ (f 0), total_grows procs (λ p. cut (suc p)) (λ p. more (suc p)) (λ p. f (suc p)))
+    omega (arith, IsPrefix-length _ _ (f 0), total_grows procs (λ p. cut (suc p)) (λ p. more (suc p)) (λ p. f (suc p)))
 
 total_same : (n : ℕ) (procs : List Proc) (cut more : Cut) → IsWithin cut more → ((p : ℕ) → length (more p) ≤ size_of n (slice_get procs p))
     → total procs more ≤ total procs cut → (p : ℕ) → more p ≡ cut p
 unfolding total size_of
-total_same n [] cut more f small h p = sym (IsFront-same _ _ (f p) (omega (arith, small p)))
+total_same n [] cut more f small h p = sym (IsPrefix-same _ _ (f p) (omega (arith, small p)))
 total_same n (proc ∷ procs) cut more f small h zero =
-    sym (IsFront-same _ _ (f 0) (omega (arith, h, IsFront-length _ _ (f 0), total_grows procs (λ p. cut (suc p)) (λ p. more (suc p)) (λ p. f (suc p)))))
+    sym (IsPrefix-same _ _ (f 0) (omega (arith, h, IsPrefix-length _ _ (f 0), total_grows procs (λ p. cut (suc p)) (λ p. more (suc p)) (λ p. f (suc p)))))
 total_same n (proc ∷ procs) cut more f small h (suc p) =
     total_same n procs (λ q. cut (suc q)) (λ q. more (suc q)) (λ q. f (suc q)) (λ q. small (suc q))
-    (omega (arith, h, IsFront-length _ _ (f 0))) p
+    (omega (arith, h, IsPrefix-length _ _ (f 0))) p
 
 total_bound : (n : ℕ) (procs : List Proc) (cut : Cut) → ((p : ℕ) → length (cut p) ≤ size_of n (slice_get procs p))
     → total procs cut ≤ n * sum_by (λ proc. suc (length proc.behavior.sites)) procs
@@ -118,7 +118,7 @@ pub final_stays : (run : Run) → round run (final_cut run) ≡ final_cut run
 unfolding final_cut
 final_stays run =
     rounds_stop run (round run) (λ cut more f p. reach_grows run cut more p f)
-    (λ cut p. unfold reach in omega (arith, IsFront-length _ _ (longest_fit-front (sites_at run p) (room_at run cut) [] (trace_of run.activations (words_at run cut) (slice_get run.procs p))), trace_of_small run.activations (words_at run cut) (slice_get run.procs p)))
+    (λ cut p. unfold reach in omega (arith, IsPrefix-length _ _ (longest_fit-front (sites_at run p) (room_at run cut) [] (trace_of run.activations (words_at run cut) (slice_get run.procs p))), trace_of_small run.activations (words_at run cut) (slice_get run.procs p)))
 
 pub unbounded_stays : (run : Run) → unbounded_round run (unbounded_cut run) ≡ unbounded_cut run
 unfolding unbounded_cut

@@ -15,12 +15,12 @@ use Rattle.net_core.specs.Behavior.{Behavior, chan_at}
 use Rattle.net_core.specs.Cuts.{Proc, Run, Cut, words_at}
 use Rattle.net_core.specs.Machine.{opened, position_in, next_of}
 use Rattle.net_core.specs.Outcomes.{stream_of, state_after, stall_for, stall_in, end_of}
-use Rattle.base.specs.Lists.Front.{IsFront}
+use Rattle.base.specs.Lists.Prefix.{IsPrefix}
 use Rattle.base.specs.Lists.Indexed.{indexed}
 use Rattle.net_core.specs.Shows.{Shows, progress_of, channel_of, IsBehaviorOf}
 use Rattle.net_core.specs.Inner.Making.{end_with, stream_in}
 use Rattle.base.proofs.Lemmas.Lists.Indexed.{indexed_get}
-use Rattle.base.proofs.Lemmas.Lists.Places.{same_by_get}
+use Rattle.base.proofs.Lemmas.Lists.Indices.{same_by_get}
 use Rattle.std.proofs.lemmas.Option.{get_or_from_slice_get}
 use Rattle.std.proofs.lemmas.Option.{slice_get-map}
 use Rattle.net_core.proofs.Shown.{chan_at-there}
@@ -34,7 +34,7 @@ stall_arm sites i at ends activation chan sends place e f =
     let c = e ∙ sym (chan_at-there sites i at place) in
     ap (λ a. Some (record { activation = a; sends = sends; chan = chan })) f ∙ ap (λ k. Some (record { activation = ends; sends = sends; chan = k })) c
 
-pub stall_active : (run : Run) (cut : Cut) (p : ℕ) (proc : Proc) → IsFront (cut p) (trace_from proc.behavior run.activations (opened proc) (words_at run cut))
+pub stall_active : (run : Run) (cut : Cut) (p : ℕ) (proc : Proc) → IsPrefix (cut p) (trace_from proc.behavior run.activations (opened proc) (words_at run cut))
     → (position_in run cut p proc).ends < run.activations
     → stall_in run cut p proc ≡ stall_for proc.behavior.sites (position_in run cut p proc).ends (next_of proc.behavior (position_in run cut p proc))
 stall_active run cut p proc f l =

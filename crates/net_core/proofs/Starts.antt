@@ -13,7 +13,7 @@ use Rattle.net_core.specs.declared.net.Kind.{Kind}
 use Rattle.net_core.specs.declared.net.Kind.TheVariants.{Input, Output, Inner}
 use Rattle.net_core.specs.declared.config.Config.{Config}
 use Rattle.net_core.specs.Behavior.{Behavior, IsOpen}
-use Rattle.net_core.specs.Cuts.{Proc, empty_cut, place_of, sends_on, receives_on, sender, receiver, words_sent, count_received, words_by, words_at, received_at}
+use Rattle.net_core.specs.Cuts.{Proc, empty_cut, index_of, sends_on, receives_on, sender, receiver, words_sent, count_received, words_by, words_at, received_at}
 use Rattle.net_core.specs.Machine.{opened, position_after, position_in}
 use Rattle.net_core.specs.WellFormed.{IsNet, IsSiteOf, IsInputs, AreWordsOf, IsBehaviorFor, AreBehaviorsOf, EachKeepsTypes, procs_of, run_of, IsRun}
 use Rattle.base.specs.Lists.Indexed.{indexed}
@@ -77,15 +77,15 @@ some_there test (y ∷ ys) h = go (or_true (test y) (list_any test ys) h) (λ t.
 
 -- the first place that passes a test that passes at one place alone
 place_there : {A : Type 0} (test : A → Bool) (xs : List A) (p : ℕ) (x : A) → slice_get xs p ≡ Some x → test x ≡ true
-    → ((q : ℕ) (y : A) → slice_get xs q ≡ Some y → test y ≡ true → q ≡ p) → place_of test xs ≡ p
+    → ((q : ℕ) (y : A) → slice_get xs q ≡ Some y → test y ≡ true → q ≡ p) → index_of test xs ≡ p
 place_there test [] p x e h only = cc
 place_there test (y ∷ ys) zero x e h only =
     let same : y ≡ x = cc in
-    ap (λ (b : Bool). cond b 0 (suc (place_of test ys))) (ap test same ∙ h)
+    ap (λ (b : Bool). cond b 0 (suc (index_of test ys))) (ap test same ∙ h)
 place_there test (y ∷ ys) (suc p) x e h only =
     go (test y) refl (place_there test ys p x e h (λ q z f t. let g = only (suc q) z f t in omega (arith, g)))
   where
-    go : (b : Bool) → test y ≡ b → place_of test ys ≡ p → cond b 0 (suc (place_of test ys)) ≡ suc p
+    go : (b : Bool) → test y ≡ b → index_of test ys ≡ p → cond b 0 (suc (index_of test ys)) ≡ suc p
     go true t ih = let wrong = only 0 y refl t in absurd (omega (arith, wrong))
     go false t ih = ap suc ih
 

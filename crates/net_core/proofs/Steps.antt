@@ -10,9 +10,9 @@ use Rattle.net_core.specs.declared.event.Event.TheVariants.{Recv, Send, End}
 use Rattle.net_core.specs.Behavior.{Behavior, chan_at}
 use Rattle.net_core.specs.Trace.{Histories}
 use Rattle.net_core.specs.Cuts.{Proc, Run, Cut, IsWithin, sites_of, count_received, words_at, room_at, fits_after, longest_fit, trace_of, reach}
-use Rattle.base.specs.Lists.Front.{IsFront}
+use Rattle.base.specs.Lists.Prefix.{IsPrefix}
 use Rattle.net_core.specs.Machine.{Position, opened, moved, left_after, position_after, position_in, next_of, finds_word, goes_by}
-use Rattle.base.proofs.Lemmas.Lists.Fronts.{IsFront-trans, IsFront-append_both}
+use Rattle.base.proofs.Lemmas.Lists.Prefixes.{IsPrefix-trans, IsPrefix-append_both}
 use Rattle.net_core.proofs.Resume.{trace_from, trace_opened, has_word, is_left, goes_on, ends_done, ends_waiting, trace_resumes, words_after, words_after-drop, position_grows}
 use Rattle.net_core.proofs.Reach.{longest_fit-front, longest_fit_resumes, longest_fit_step, words_at_grow}
 
@@ -36,28 +36,28 @@ can_go b n at words room t =
     nat_lt at.ends n && (finds_word b.sites words t (next_of b at) && fits_after b.sites room t (next_of b at))
 
 module _ (b : Behavior) (n : ℕ) (start : Position) (words : Histories) (room : ℕ → ℕ → Bool) (t : List Event)
-    (within : IsFront t (longest_fit b.sites room [] (trace_from b n start words))) where
+    (within : IsPrefix t (longest_fit b.sites room [] (trace_from b n start words))) where
   resumed : longest_fit b.sites room [] (trace_from b n start words)
       ≡ t ++ longest_fit b.sites room t (trace_from b n (position_after b.sites start t words) (words_after b.sites t words))
   resumed =
       let whole = trace_from b n start words in
-      let f = IsFront-trans _ _ _ within (longest_fit-front b.sites room [] whole) in
+      let f = IsPrefix-trans _ _ _ within (longest_fit-front b.sites room [] whole) in
       let e = trace_resumes b n t start words f in
-      let g = subst (λ xs. IsFront t (longest_fit b.sites room [] xs)) e within in
+      let g = subst (λ xs. IsPrefix t (longest_fit b.sites room [] xs)) e within in
       ap (λ xs. longest_fit b.sites room [] xs) e ∙ longest_fit_resumes b.sites room t [] _ g
 
   -- a proc that can go makes an event within its reach
   goes_within : (l : (position_after b.sites start t words).ends < n)
       → finds_word b.sites words t (next_of b (position_after b.sites start t words)) ≡ true
       → fits_after b.sites room t (next_of b (position_after b.sites start t words)) ≡ true
-      → IsFront (t ++ next_of b (position_after b.sites start t words) ∷ []) (longest_fit b.sites room [] (trace_from b n start words))
+      → IsPrefix (t ++ next_of b (position_after b.sites start t words) ∷ []) (longest_fit b.sites room [] (trace_from b n start words))
   goes_within l found fits =
       let at = position_after b.sites start t words in
       let on = goes_on b n at (words_after b.sites t words) l (found_by_count b.sites words t (next_of b at) ∙ found) in
       let rest = trace_from b n (moved b.sites at (next_of b at) (words_after b.sites t words)) (left_after b.sites (next_of b at) (words_after b.sites t words)) in
       let e : longest_fit b.sites room [] (trace_from b n start words) ≡ t ++ next_of b at ∷ longest_fit b.sites room (t ++ next_of b at ∷ []) rest =
       resumed ∙ ap (λ xs. t ++ xs) (ap (λ xs. longest_fit b.sites room t xs) on.rest ∙ (longest_fit_step b.sites room t (next_of b at) rest ∙ ap (λ c. cond c (next_of b at ∷ longest_fit b.sites room (t ++ next_of b at ∷ []) rest) []) fits)) in
-      rw e (IsFront-append_both t (next_of b at ∷ []) _ (refl, tt))
+      rw e (IsPrefix-append_both t (next_of b at ∷ []) _ (refl, tt))
 
   -- one that can't has come as far as it can
   waits_done : n ≤ (position_after b.sites start t words).ends → longest_fit b.sites room [] (trace_from b n start words) ≡ t
@@ -113,8 +113,8 @@ unfolding reach trace_of longest_fit
 reach_none run cut p e = ap (λ o. longest_fit (sites_of o) (room_at run cut) [] (trace_of run.activations (words_at run cut) o)) e
 
 -- a step's event lies within the proc's reach
-pub goes_extends : (run : Run) (cut : Cut) (p : ℕ) (proc : Proc) → slice_get run.procs p ≡ Some proc → IsFront (cut p) (reach run cut p)
-    → goes_by run cut p (Some proc) ≡ true → IsFront (cut p ++ next_of proc.behavior (position_in run cut p proc) ∷ []) (reach run cut p)
+pub goes_extends : (run : Run) (cut : Cut) (p : ℕ) (proc : Proc) → slice_get run.procs p ≡ Some proc → IsPrefix (cut p) (reach run cut p)
+    → goes_by run cut p (Some proc) ≡ true → IsPrefix (cut p ++ next_of proc.behavior (position_in run cut p proc) ∷ []) (reach run cut p)
 unfolding goes_by
 goes_extends run cut p proc e f h =
     let r = reach_is run cut p proc e in
@@ -123,7 +123,7 @@ goes_extends run cut p proc e f h =
     rw r (goes_within proc.behavior run.activations (opened proc) (words_at run cut) (room_at run cut) (cut p) g (lt_true _ _ tests.0) tests.1 tests.2)
 
 -- a proc that can't go has made all of its reach
-pub stays_whole : (run : Run) (cut : Cut) (p : ℕ) (proc : Proc) → slice_get run.procs p ≡ Some proc → IsFront (cut p) (reach run cut p)
+pub stays_whole : (run : Run) (cut : Cut) (p : ℕ) (proc : Proc) → slice_get run.procs p ≡ Some proc → IsPrefix (cut p) (reach run cut p)
     → goes_by run cut p (Some proc) ≡ false → reach run cut p ≡ cut p
 unfolding goes_by
 stays_whole run cut p proc e f h =
@@ -135,9 +135,9 @@ stays_whole run cut p proc e f h =
     (λ l k m. waits_room proc.behavior run.activations (opened proc) (words_at run cut) (room_at run cut) (cut p) g (lt_true _ _ l) k m)
 
 -- what a proc has made within its reach leaves it at the same position, however much more others send
-pub position_stays : (run : Run) (cut more : Cut) (p : ℕ) (proc : Proc) → slice_get run.procs p ≡ Some proc → IsFront (cut p) (reach run cut p) → IsWithin cut more
+pub position_stays : (run : Run) (cut more : Cut) (p : ℕ) (proc : Proc) → slice_get run.procs p ≡ Some proc → IsPrefix (cut p) (reach run cut p) → IsWithin cut more
     → position_after proc.behavior.sites (opened proc) (cut p) (words_at run cut) ≡ position_after proc.behavior.sites (opened proc) (cut p) (words_at run more)
 position_stays run cut more p proc e f w =
     let r = reach_is run cut p proc e in
-    let g = IsFront-trans _ _ _ (rw r at f) (longest_fit-front proc.behavior.sites (room_at run cut) [] _) in
+    let g = IsPrefix-trans _ _ _ (rw r at f) (longest_fit-front proc.behavior.sites (room_at run cut) [] _) in
     position_grows proc.behavior run.activations (cut p) (opened proc) (words_at run cut) (words_at run more) (words_at_grow run cut more w) g

@@ -3,7 +3,7 @@ use Rattle.std.proofs.Common.{◌≡◌, ℕ, zero, suc, ◌<◌, ◌^◌, List,
 use Rattle.std.specs.Prelude.{slice_get, option_map, nat_lt, ◌⊎◌}
 use Rattle.std.proofs.lemmas.List.{length-map}
 use Rattle.std.proofs.lemmas.Option.{slice_get_within}
-use Rattle.base.specs.Lists.Front.{IsFront}
+use Rattle.base.specs.Lists.Prefix.{IsPrefix}
 use Rattle.base.proofs.Lemmas.Lists.Indexed.{indexed_get, length-indexed}
 use Rattle.xb_bits.specs.Word.{Word}
 use Rattle.xb_value.specs.declared.ty.Ty.{Ty}
@@ -28,7 +28,7 @@ use Rattle.net_core.specs.Machine.{Position, opened, moved, left_after, position
 use Rattle.net_core.specs.WellFormed.{IsNet, IsInputs, IsOutcome, AreWordsOf, AreBehaviorsOf, EachKeepsTypes, IsRun, procs_of, run_of}
 use Rattle.net_core.specs.Outcomes.{stream_of, stall_for, stall_in, end_of, outcome_of}
 use Rattle.net_core.specs.Nexts.{EventFits}
-use Rattle.net_core.proofs.Resume.{trace_from, has_word, is_left, front_goes}
+use Rattle.net_core.proofs.Resume.{trace_from, has_word, is_left, prefix_goes}
 use Rattle.net_core.proofs.Reach.{longest_fit-front}
 use Rattle.net_core.proofs.Steps.{reach_is, reach_none}
 use Rattle.net_core.proofs.Confluence.{eqb-same}
@@ -135,12 +135,12 @@ unfolding words_sent
 none_sent b c k w e = cc
 
 -- what the events of a trace over words of their widths send fits, and behind them an activation stands
-trace_fits : (b : Behavior) → KeepsTypes b → (n : ℕ) (t : List Event) (at : Position) (words : Histories) → IsFront t (trace_from b n at words) → StandsAt b at → AreTyped b words
+trace_fits : (b : Behavior) → KeepsTypes b → (n : ℕ) (t : List Event) (at : Position) (words : Histories) → IsPrefix t (trace_from b n at words) → StandsAt b at → AreTyped b words
     → AllSentFit b t × StandsAt b (position_after b.sites at t words)
 unfolding position_after
 trace_fits b keep n [] at words f stands typed = (none_sent b, stands)
 trace_fits b keep n (e ∷ t) at words f stands typed =
-    let g = front_goes b n at words e t f in
+    let g = prefix_goes b n at words e t f in
     let next = subst (λ x. EventAt b at.state at.got at.done x) (sym g.0.next) (next_at b at.state at.got at.done stands) in
     let ih = trace_fits b keep n t (moved b.sites at e words) (left_after b.sites e words) g.1 (stands_moved b keep at words typed e next g.0.found) (typed_left b e words typed) in
     (sent_more b e t (sends_fit b keep at.state at.got at.done e next) ih.0, ih.1)
@@ -173,13 +173,13 @@ module _ (run : Run) (fits : IsRun run) (opens : (p : ℕ) (proc : Proc) → sli
 
   -- what a proc makes over typed words
   made_fits : (cut : Cut) → IsTypedCut run cut → (p : ℕ) (proc : Proc) → slice_get run.procs p ≡ Some proc → (t : List Event)
-      → IsFront t (trace_from proc.behavior run.activations (opened proc) (words_at run cut))
+      → IsPrefix t (trace_from proc.behavior run.activations (opened proc) (words_at run cut))
       → AllSentFit proc.behavior t × StandsAt proc.behavior (position_after proc.behavior.sites (opened proc) t (words_at run cut))
   made_fits cut typed p proc e t f =
       trace_fits proc.behavior (fits.keeps_types p proc e) run.activations t (opened proc) (words_at run cut) f (open_first proc.behavior proc.opening (opens p proc e)) (typed_for cut typed p proc e)
 
   sent_typed : (cut : Cut) → IsTypedCut run cut → (p : ℕ) (proc : Proc) → slice_get run.procs p ≡ Some proc → (t : List Event)
-      → IsFront t (trace_from proc.behavior run.activations (opened proc) (words_at run cut))
+      → IsPrefix t (trace_from proc.behavior run.activations (opened proc) (words_at run cut))
       → (c : ℕ) (chan : Chan) → slice_get run.chans c ≡ Some chan → AreWordsOf (width_of chan.ty) (words_sent proc.behavior.sites c t)
   sent_typed cut typed p proc e t f c chan chan_is k w get =
       let s = (made_fits cut typed p proc e t f).0 c k w get in
@@ -194,7 +194,7 @@ module _ (run : Run) (fits : IsRun run) (opens : (p : ℕ) (proc : Proc) → sli
       go : (o : Option Proc) → slice_get run.procs q ≡ o → AreWordsOf (width_of chan.ty) (words_sent (sites_of o) c (reach run cut q))
       go None e = subst (λ es. AreWordsOf (width_of chan.ty) (words_sent [] c es)) (sym (reach_none run cut q e)) (empty_typed (width_of chan.ty) [] c)
       go (Some proc) e =
-          let front = subst (λ es. IsFront es (trace_from proc.behavior run.activations (opened proc) (words_at run cut))) (sym (reach_is run cut q proc e))
+          let front = subst (λ es. IsPrefix es (trace_from proc.behavior run.activations (opened proc) (words_at run cut))) (sym (reach_is run cut q proc e))
           (longest_fit-front proc.behavior.sites (room_at run cut) [] (trace_from proc.behavior run.activations (opened proc) (words_at run cut))) in
           sent_typed cut typed q proc e (reach run cut q) front c chan chan_is
 
@@ -209,9 +209,9 @@ module _ (run : Run) (fits : IsRun run) (opens : (p : ℕ) (proc : Proc) → sli
   unfolding final_cut
   final_typed = rounds_typed (most_events run)
 
-  final_made : (p : ℕ) (proc : Proc) → slice_get run.procs p ≡ Some proc → IsFront (final_cut run p) (trace_from proc.behavior run.activations (opened proc) (words_at run (final_cut run)))
+  final_made : (p : ℕ) (proc : Proc) → slice_get run.procs p ≡ Some proc → IsPrefix (final_cut run p) (trace_from proc.behavior run.activations (opened proc) (words_at run (final_cut run)))
   final_made p proc e =
-      let f = subst (λ o. IsFront (final_cut run p) (trace_of run.activations (words_at run (final_cut run)) o)) e (final_in_trace run p) in
+      let f = subst (λ o. IsPrefix (final_cut run p) (trace_of run.activations (words_at run (final_cut run)) o)) e (final_in_trace run p) in
       some_trace run.activations (words_at run (final_cut run)) proc (final_cut run p) f
 
   pub final_stands : (p : ℕ) (proc : Proc) → slice_get run.procs p ≡ Some proc → StandsAt proc.behavior (position_in run (final_cut run) p proc)

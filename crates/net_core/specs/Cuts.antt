@@ -12,7 +12,7 @@
 --   round 3: the same. c has sent 0 and 1, d has sent 1, all was received, and both are done.
 use Rattle.std.specs.Prelude.{ℕ, zero, suc, ◌+◌, ◌*◌, Bool, true, ◌&&◌, not, List, [], ◌∷◌, ◌++◌, length, get_or, slice_get, nat_lt, if◌then◌else◌, ◌==◌, sum_by, Option, Some, None}
 use Rattle.std.specs.List.{list_any}
-use Rattle.base.specs.Lists.Front.{IsFront}
+use Rattle.base.specs.Lists.Prefix.{IsPrefix}
 use Rattle.xb_bits.specs.Word.{Word}
 use Rattle.xb_value.specs.declared.value.Value.{Value}
 use Rattle.net_core.specs.declared.net.Site.{Site}
@@ -46,9 +46,9 @@ abbrev pub empty_cut : Cut
 empty_cut p = []
 
 -- the place of the first element that passes the test, or the length
-abbrev pub place_of : {A : Type 0} → (A → Bool) → List A → ℕ
-place_of test [] = 0
-place_of test (x ∷ xs) = if test x then 0 else suc (place_of test xs)
+abbrev pub index_of : {A : Type 0} → (A → Bool) → List A → ℕ
+index_of test [] = 0
+index_of test (x ∷ xs) = if test x then 0 else suc (index_of test xs)
 
 -- the proc that sends on channel c, and the one that receives there: all sites of one end stand in one proc
 abbrev pub sends_on : ℕ → Proc → Bool
@@ -58,10 +58,10 @@ abbrev pub receives_on : ℕ → Proc → Bool
 receives_on c proc = list_any (λ (site : Site). not site.sends && (site.chan == c)) proc.behavior.sites
 
 abbrev pub sender : Run → ℕ → ℕ
-sender run c = place_of (sends_on c) run.procs
+sender run c = index_of (sends_on c) run.procs
 
 abbrev pub receiver : Run → ℕ → ℕ
-receiver run c = place_of (receives_on c) run.procs
+receiver run c = index_of (receives_on c) run.procs
 
 abbrev pub sites_of : Option Proc → List Site
 sites_of None = []
@@ -164,4 +164,4 @@ unbounded_cut run = rounds (unbounded_round run) (most_events run)
 
 -- no proc is further in the one cut than in the other
 abbrev pub IsWithin : Cut → Cut → Type 0
-IsWithin cut limit = (p : ℕ) → IsFront (cut p) (limit p)
+IsWithin cut limit = (p : ℕ) → IsPrefix (cut p) (limit p)

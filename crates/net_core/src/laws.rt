@@ -10,7 +10,7 @@ ghost use Rattle.net_core.specs.declared.outcome.Stall.{Stall};
 ghost use Rattle.net_core.specs.Behavior.{Behavior, IsOpen, KeepsTypes, next_event};
 ghost use Rattle.net_core.specs.Trace.{Histories, trace};
 ghost use Rattle.net_core.specs.Cuts.{Proc, Run, Cut, IsWithin, empty_cut, sites_at, words_sent, count_received, words_at, room_at};
-ghost use Rattle.base.specs.Lists.Front.{IsFront};
+ghost use Rattle.base.specs.Lists.Prefix.{IsPrefix};
 ghost use Rattle.net_core.specs.Cuts.{round, unbounded_round, final_cut, unbounded_cut};
 ghost use Rattle.net_core.specs.Machine.{goes, opened, next_of, finds_word, position_after, after_steps};
 ghost use Rattle.net_core.specs.Outcomes.{count_ends, stall_in, outcome_of};
@@ -23,20 +23,20 @@ ghost use Rattle.net_core.specs.Nexts.{EventFits, WaitsForAWord};
 /// Longer histories give a longer trace, which begins with the shorter one.
 pub fn traces_grow()
     ensures { (b : Behavior) (n : ℕ) (state : Value) (words more : Histories) →
-        ((c : ℕ) → IsFront (words c) (more c)) →
-        IsFront (trace b n state words) (trace b n state more) }
+        ((c : ℕ) → IsPrefix (words c) (more c)) →
+        IsPrefix (trace b n state words) (trace b n state more) }
 {}
 
 /// More activations give a longer trace, which begins with the shorter one.
 pub fn more_activations_go_on()
     ensures { (b : Behavior) (m n : ℕ) (state : Value) (words : Histories) → m ≤ n →
-        IsFront (trace b m state words) (trace b n state words) }
+        IsPrefix (trace b m state words) (trace b n state words) }
 {}
 
 /// A trace, and each front of it, receives no more words than there are.
 pub fn only_words_are_received()
     ensures { (proc : Proc) (n : ℕ) (words : Histories) (made : List Event) →
-        IsFront made (trace proc.behavior n proc.opening words) →
+        IsPrefix made (trace proc.behavior n proc.opening words) →
         (c : ℕ) → count_received proc.behavior.sites c made ≤ length (words c) }
 {}
 
@@ -50,11 +50,11 @@ pub fn next_is_the_traces()
 /// Where an activation is open and the next event finds its word, or needs none, the trace goes on by it.
 pub fn traces_go_on_by_the_next()
     ensures { (proc : Proc) (n : ℕ) (words : Histories) (made : List Event) →
-        IsFront made (trace proc.behavior n proc.opening words) →
+        IsPrefix made (trace proc.behavior n proc.opening words) →
         (position_after proc.behavior.sites (opened proc) made words).ends < n →
         let next = next_of proc.behavior (position_after proc.behavior.sites (opened proc) made words) in
         finds_word proc.behavior.sites words made next ≡ true →
-        IsFront (made ++ next ∷ []) (trace proc.behavior n proc.opening words) }
+        IsPrefix (made ++ next ∷ []) (trace proc.behavior n proc.opening words) }
 {}
 
 /// A trace that ends before its activations are made stands before a receive from a channel all of whose words it

@@ -1,4 +1,4 @@
-use block_samples::{Action, Asked, Machine, Next, Ports, Sample, SampleSite, word};
+use block_samples::{Action, Asserted, Machine, Next, Ports, Sample, SampleSite, word};
 use block_stage::fifo::RowFifo;
 use block_stage::machine::{Handling, Logic, Table2, Table3, pipeline_logic};
 use xb_bits::Bits;
@@ -6,7 +6,7 @@ use xb_bits::Bits;
 /// What stands at the ports of channels 0 and 1.
 fn ports(first: Option<Bits>, second: Option<Bits>, first_room: bool, second_room: bool) -> Ports {
     Ports {
-        offer: [first, second, None, None],
+        valid_word: [first, second, None, None],
         room: [first_room, second_room, false, false],
     }
 }
@@ -41,12 +41,12 @@ fn add(machine: &mut Machine, input: u128, ready: bool) -> (bool, u128) {
         last: 0,
         next: Next::Add(0),
     };
-    let asked = machine.cycle(
+    let asserted = machine.cycle(
         &pipeline_logic(),
         &sample,
         &ports(Some(word(input)), None, false, ready),
     );
-    (asked.ready[0], number(asked.words[1]))
+    (asserted.ready[0], number(asserted.words[1]))
 }
 
 #[test]
@@ -94,8 +94,8 @@ fn ask(machine: &mut Machine) -> (u128, bool) {
         last: 1,
         next: Next::Word,
     };
-    let asked = machine.cycle(&pipeline_logic(), &sample, &ports(None, None, true, false));
-    (number(asked.words[0]), asked.ready[1])
+    let asserted = machine.cycle(&pipeline_logic(), &sample, &ports(None, None, true, false));
+    (number(asserted.words[0]), asserted.ready[1])
 }
 
 #[test]
@@ -131,8 +131,8 @@ fn send_twice(machine: &mut Machine) -> u128 {
         last: 1,
         next: Next::Add(2),
     };
-    let asked = machine.cycle(&pipeline_logic(), &sample, &ports(None, None, true, false));
-    number(asked.words[0])
+    let asserted = machine.cycle(&pipeline_logic(), &sample, &ports(None, None, true, false));
+    number(asserted.words[0])
 }
 
 #[test]
@@ -159,11 +159,11 @@ const RING: [SampleSite; 2] = [
 ];
 
 /// One cycle of a pipeline between two FIFOs.
-fn between(machine: &mut Machine, sample: &Sample, from: &RowFifo<1>, to: &RowFifo<1>) -> Asked {
+fn between(machine: &mut Machine, sample: &Sample, from: &RowFifo<1>, to: &RowFifo<1>) -> Asserted {
     machine.cycle(
         &pipeline_logic(),
         sample,
-        &ports(from.offer(), from.offer(), to.has_room(), to.has_room()),
+        &ports(from.valid_word(), from.valid_word(), to.has_room(), to.has_room()),
     )
 }
 
@@ -233,8 +233,8 @@ fn a_full_fifo_takes_no_word(rt: HostRuntime) {
     assert_eq!(rt; fifo.cycle(true, None), None);
 }
 
-/// Whether the words that were sent, with 999 for a cycle without one, are a front of those of the trace.
-fn is_front(sent: &[u128], trace: &[u128]) -> bool {
+/// Whether the words that were sent, with 999 for a cycle without one, are a prefix of those of the trace.
+fn is_prefix(sent: &[u128], trace: &[u128]) -> bool {
     let mut next: usize = 0;
     for word in sent {
         if *word != 999 {
@@ -262,12 +262,12 @@ fn stalled(logic: &Logic) -> [u128; 8] {
     for (k, slot) in sent.iter_mut().enumerate() {
         let ready = k != 2 && k != 3;
         let at = ports(Some(word(input)), None, false, ready);
-        let asked = machine.cycle(logic, &sample, &at);
-        if asked.ready[0] {
+        let asserted = machine.cycle(logic, &sample, &at);
+        if asserted.ready[0] {
             input = input.wrapping_add(1);
         }
         if ready {
-            *slot = number(asked.words[1]);
+            *slot = number(asserted.words[1]);
         }
     }
     sent
@@ -277,38 +277,38 @@ fn stalled(logic: &Logic) -> [u128; 8] {
 const ADDED: [u128; 8] = [4, 5, 6, 7, 8, 9, 10, 11];
 
 #[test]
-fn the_right_logic_sends_a_front(rt: HostRuntime) {
+fn the_right_logic_sends_a_prefix(rt: HostRuntime) {
     let sent = stalled(&pipeline_logic());
     assert_eq!(rt; sent, [999, 999, 999, 999, 4, 5, 6, 7]);
-    assert!(rt; is_front(&sent, &ADDED));
+    assert!(rt; is_prefix(&sent, &ADDED));
 }
 
 #[test]
 fn without_done_bits_it_takes_words_twice(rt: HostRuntime) {
     let mut logic = pipeline_logic();
     logic.done_next = Table3::of(|done, _goes, moves| done && !moves);
-    assert!(rt; !is_front(&stalled(&logic), &ADDED));
+    assert!(rt; !is_prefix(&stalled(&logic), &ADDED));
 }
 
 #[test]
 fn a_word_kept_in_every_cycle_is_lost(rt: HostRuntime) {
     let mut logic = pipeline_logic();
     logic.keeps = Table2::of(|_goes, there| there);
-    assert!(rt; !is_front(&stalled(&logic), &ADDED));
+    assert!(rt; !is_prefix(&stalled(&logic), &ADDED));
 }
 
 #[test]
 fn moving_into_a_full_stage_loses_a_word(rt: HostRuntime) {
     let mut logic = pipeline_logic();
     logic.frees = Table2::of(|_next_full, _next_moves| true);
-    assert!(rt; !is_front(&stalled(&logic), &ADDED));
+    assert!(rt; !is_prefix(&stalled(&logic), &ADDED));
 }
 
 #[test]
 fn moving_while_it_waits_loses_a_word(rt: HostRuntime) {
     let mut logic = pipeline_logic();
     logic.leaves = Table2::of(|full, _waits| full);
-    assert!(rt; !is_front(&stalled(&logic), &ADDED));
+    assert!(rt; !is_prefix(&stalled(&logic), &ADDED));
 }
 
 /// How many words the adding pipeline sends in eight cycles by this logic, always fed and its words always taken.
@@ -349,8 +349,8 @@ fn sent_twice(logic: &Logic) -> [u128; 4] {
     let mut machine = Machine::reset(word(0));
     let mut sent = [999; 4];
     for slot in sent.iter_mut() {
-        let asked = machine.cycle(logic, &sample, &ports(None, None, true, false));
-        *slot = number(asked.words[0]);
+        let asserted = machine.cycle(logic, &sample, &ports(None, None, true, false));
+        *slot = number(asserted.words[0]);
     }
     sent
 }
@@ -360,7 +360,7 @@ fn without_a_turn_bit_activations_overtake(rt: HostRuntime) {
     let mut logic = pipeline_logic();
     assert_eq!(rt; sent_twice(&logic), [0, 1, 2, 3]);
     logic.turn_next = Table3::of(|ends, turn, _moves| ends || turn);
-    assert!(rt; !is_front(&sent_twice(&logic), &[0, 1, 2, 3]));
+    assert!(rt; !is_prefix(&sent_twice(&logic), &[0, 1, 2, 3]));
 }
 
 /// Receives from channel 0 where its state is odd.
@@ -422,8 +422,8 @@ fn count_requests(logic: &Logic) -> u32 {
     let mut machine = Machine::reset(word(0));
     let mut count: u32 = 0;
     for _ in 0..4 {
-        let asked = machine.cycle(logic, &sample, &ports(None, None, true, false));
-        if asked.words[0].is_some() {
+        let asserted = machine.cycle(logic, &sample, &ports(None, None, true, false));
+        if asserted.words[0].is_some() {
             count = count.wrapping_add(1);
         }
     }

@@ -4,7 +4,7 @@ ghost use Rattle.net_tests.specs.Idle.{idle_run};
 
 use chan_queue::{ChanQueue, Streams};
 use net_core::Event;
-use proc_task::{Home, Task};
+use proc_task::{Runtime, Task};
 use std::alloc::{AllocError, Global};
 use std::test::Fail;
 use task_queue::Numbered;
@@ -27,7 +27,7 @@ struct Idle<'a> {
     lines: &'a [Option<ChanQueue<NoWords>>],
 }
 
-impl<'a> Home<NoWords> for Idle<'a> {
+impl<'a> Runtime<NoWords> for Idle<'a> {
     ghost run = { λ home. idle_run };
 
     ghost lines = { λ home. home.lines.now };

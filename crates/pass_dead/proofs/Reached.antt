@@ -8,7 +8,7 @@ use Rattle.ir_tree.specs.declared.package.Proc.{Proc}
 use Rattle.ir_tree.specs.NodeValues.{role_of}
 use Rattle.ir_rebuild.specs.Operands.{operands_in}
 use Rattle.ir_rebuild.specs.Kept.{is_site}
-use Rattle.ir_rebuild.specs.Normal.Normal.{IsReached, by_next, as_site, by_node, AreNeeded}
+use Rattle.ir_rebuild.specs.Normal.Normal.{IsReached, by_next, as_site, by_node, AreLive}
 use Rattle.pass_dead.specs.Inner.Marks.{marked, marked_all, visited_if, visited}
 
 -- among these operands one names the node of a place
@@ -46,27 +46,27 @@ none_marked zero j h = absurd (cc)
 none_marked (suc n) zero h = absurd (cc)
 none_marked (suc n) (suc j) h = none_marked n j h
 
-next_needed : (proc : Proc) (a : List Bool) → ((j : ℕ) → get_or a j false ≡ true → ⊥) → AreNeeded proc (marked a proc.next)
+next_needed : (proc : Proc) (a : List Bool) → ((j : ℕ) → get_or a j false ≡ true → ⊥) → AreLive proc (marked a proc.next)
 next_needed proc a none j h = ⊎_elim (λ own. absurd (none j own)) (λ e. by_next j e) (marked_only a proc.next j h)
 
-pub first_needed : (proc : Proc) (n : ℕ) (a b : List Bool) → a ≡ replicate n false → b ≡ marked a proc.next → AreNeeded proc b
+pub first_needed : (proc : Proc) (n : ℕ) (a b : List Bool) → a ≡ replicate n false → b ≡ marked a proc.next → AreLive proc b
 first_needed proc n a b e is =
-    subst (AreNeeded proc) (sym is) (next_needed proc a (λ j h. none_marked n j (subst (λ xs. get_or xs j false ≡ true) e h)))
+    subst (AreLive proc) (sym is) (next_needed proc a (λ j h. none_marked n j (subst (λ xs. get_or xs j false ≡ true) e h)))
 
-either_reached : (proc : Proc) (kept : List Bool) (place : ℕ) (n : Node) (a b : Bool) → AreNeeded proc kept → slice_get proc.nodes place ≡ Some n → get_or kept place false ≡ a → is_site (role_of n) ≡ b → a || b ≡ true → IsReached proc place
-either_reached proc kept place n true b needed there own site h = needed place own
-either_reached proc kept place n false true needed there own site h = as_site place n there site
-either_reached proc kept place n false false needed there own site h = absurd (cc)
+either_reached : (proc : Proc) (kept : List Bool) (place : ℕ) (n : Node) (a b : Bool) → AreLive proc kept → slice_get proc.nodes place ≡ Some n → get_or kept place false ≡ a → is_site (role_of n) ≡ b → a || b ≡ true → IsReached proc place
+either_reached proc kept place n true b live there own site h = live place own
+either_reached proc kept place n false true live there own site h = as_site place n there site
+either_reached proc kept place n false false live there own site h = absurd (cc)
 
-visit_needed : (proc : Proc) (kept : List Bool) (place : ℕ) (n : Node) (b : Bool) → AreNeeded proc kept → slice_get proc.nodes place ≡ Some n → (get_or kept place false || is_site (role_of n)) ≡ b → AreNeeded proc (visited_if b kept place n)
-visit_needed proc kept place n false needed there e j h = needed j h
-visit_needed proc kept place n true needed there e j h =
-    let own : IsReached proc place = either_reached proc kept place n (get_or kept place false) (is_site (role_of n)) needed there refl refl e in
+visit_needed : (proc : Proc) (kept : List Bool) (place : ℕ) (n : Node) (b : Bool) → AreLive proc kept → slice_get proc.nodes place ≡ Some n → (get_or kept place false || is_site (role_of n)) ≡ b → AreLive proc (visited_if b kept place n)
+visit_needed proc kept place n false live there e j h = live j h
+visit_needed proc kept place n true live there e j h =
+    let own : IsReached proc place = either_reached proc kept place n (get_or kept place false) (is_site (role_of n)) live there refl refl e in
     ⊎_elim
-    (λ marked_before. ⊎_elim (λ old. needed j old) (λ same. subst (IsReached proc) same own) (set_only kept place j marked_before))
+    (λ marked_before. ⊎_elim (λ old. live j old) (λ same. subst (IsReached proc) same own) (set_only kept place j marked_before))
     (λ named. by_node j place named.0 n own there named.1)
     (all_only (slice_set kept place true) (operands_in n) j h)
 
-pub visited_needed : (proc : Proc) (kept new : List Bool) (place : ℕ) (n : Node) → AreNeeded proc kept → slice_get proc.nodes place ≡ Some n → new ≡ visited kept place n → AreNeeded proc new
-visited_needed proc kept new place n needed there e =
-    subst (AreNeeded proc) (sym e) (visit_needed proc kept place n (get_or kept place false || is_site (role_of n)) needed there refl)
+pub visited_needed : (proc : Proc) (kept new : List Bool) (place : ℕ) (n : Node) → AreLive proc kept → slice_get proc.nodes place ≡ Some n → new ≡ visited kept place n → AreLive proc new
+visited_needed proc kept new place n live there e =
+    subst (AreLive proc) (sym e) (visit_needed proc kept place n (get_or kept place false || is_site (role_of n)) live there refl)

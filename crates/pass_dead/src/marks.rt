@@ -1,20 +1,20 @@
-//! Nodes that are needed, found from the last line to the first.
+//! Nodes that are live, found from the last line to the first.
 
 ghost use Rattle.std.specs.Prelude.{◌≡◌, ◌++◌, ◌<◌, true, false, length, replicate, get_or, slice_set, IfOk};
 ghost use Rattle.ir_tree.specs.NodeValues.{role_of};
 ghost use Rattle.ir_rebuild.specs.Operands.{operands_in, attribute_operands, optional_operand};
 ghost use Rattle.ir_rebuild.specs.Kept.{is_site, AreKept, StandBefore};
-ghost use Rattle.ir_rebuild.specs.Normal.Normal.{AreNeeded};
+ghost use Rattle.ir_rebuild.specs.Normal.Normal.{AreLive};
 ghost use Rattle.pass_dead.specs.Inner.Marks.{marked, marked_all, visited};
 
 use ir_tree::{Attributes, Node, Operand, Proc, Role};
 use std::alloc::{AllocError, Global};
 
 /// For each node whether it is needed: by a site, by the next state, or by a node that is. It takes time as there are operands.
-pub fn needed(alloc: Global, proc: &Proc) -> Result<Vec<bool>, AllocError>
+pub fn live(alloc: Global, proc: &Proc) -> Result<Vec<bool>, AllocError>
     requires { StandBefore proc.now }
     ensures kept { IfOk result (λ kept. AreKept proc.now kept.items) }
-    ensures needed { IfOk result (λ kept. AreNeeded proc.now kept.items) }
+    ensures live { IfOk result (λ kept. AreLive proc.now kept.items) }
 {
     let nodes = proc.nodes.as_slice();
     let mut kept = none_marked(alloc, nodes.len())?;
@@ -77,11 +77,11 @@ fn mark(kept: &mut Vec<bool>, operand: Operand)
 {
     match operand {
         Operand::State => {}
-        Operand::Node(place) => mark_place(kept, place),
+        Operand::Node(place) => mark_index(kept, place),
     }
 }
 
-fn mark_place(kept: &mut Vec<bool>, place: u32)
+fn mark_index(kept: &mut Vec<bool>, place: u32)
     ensures { kept.new.items ≡ slice_set kept.old.items place true }
 {
     let place = place as usize;

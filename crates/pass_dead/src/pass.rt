@@ -1,11 +1,11 @@
 ghost use Rattle.std.specs.Prelude.{◌≡◌, IfOk};
 ghost use Rattle.ir_tree.specs.SameBehavior.{SameBehavior};
 ghost use Rattle.ir_verify.specs.Verified.{IsVerified};
-ghost use Rattle.ir_rebuild.specs.Walks.{EachBecomes, SameHead};
-ghost use Rattle.ir_rebuild.specs.Normal.Normal.{AreNeeded};
+ghost use Rattle.ir_rebuild.specs.Walks.{EachProcRebuildsTo, SameHead};
+ghost use Rattle.ir_rebuild.specs.Normal.Normal.{AreLive};
 ghost use Rattle.pass_dead.specs.Stays.{Stays};
 
-use crate::marks::needed;
+use crate::marks::live;
 use ir_rebuild::{Rewrite, append, rebuild};
 use ir_tree::{IrType, Node, Operand, Package, Proc};
 use std::alloc::{AllocError, Global};
@@ -15,15 +15,15 @@ use std::alloc::{AllocError, Global};
 pub struct Dead;
 
 impl Rewrite for Dead {
-    ghost use Rattle.ir_rebuild.specs.Normal.Normal.{AreNeeded};
+    ghost use Rattle.ir_rebuild.specs.Normal.Normal.{AreLive};
     ghost use Rattle.pass_dead.specs.Stays.{Stays};
 
-    ghost marks = { AreNeeded };
+    ghost marks = { AreLive };
 
     ghost gives = { Stays };
 
     fn kept(&self, alloc: Global, proc: &Proc) -> Result<Vec<bool>, AllocError> {
-        needed(alloc, proc)
+        live(alloc, proc)
     }
 
     fn rewrite(
@@ -43,7 +43,7 @@ pub fn run(alloc: Global, ir: Package) -> Result<Package, AllocError>
     ensures verified { IfOk result (λ new. IsVerified new) }
     ensures same { IfOk result (λ new. SameBehavior ir new) }
     ensures head { IfOk result (λ new. SameHead ir new) }
-    ensures became { IfOk result (λ new. EachBecomes AreNeeded Stays ir.procs new.procs) }
+    ensures became { IfOk result (λ new. EachProcRebuildsTo AreLive Stays ir.procs new.procs) }
 {
     rebuild(alloc, &Dead, ir)
 }

@@ -22,7 +22,7 @@ use Rattle.ir_tree.proofs.Lemmas.NodeTypes.IrTypes.{type_cases}
 use Rattle.ir_verify.specs.Fitting.{Types, type_in, type_or, types_behind, types_fit, plain_fits, compare_fits, all_bits, all_bits_of, is_bit_slice, is_dynamic_bit_slice, is_extend, is_tuple_index, slice_fits, dynamic_fits, extend_fits, tuple_index_fits, index_fits, update_fits, part_is}
 use Rattle.ir_verify.specs.Lines.{is_literal_of}
 use Rattle.ir_verify.proofs.Lemmas.Typed.Tests.{bits_is, tuple_is, types_same, same_is, marks-Bits, marks-Tuple, marks-Token}
-use Rattle.ir_rebuild.specs.Built.{IsPlaced, AreBuilt, is_plain_op}
+use Rattle.ir_rebuild.specs.Built.{FitsAt, AreBuilt, is_plain_op}
 use Rattle.ir_rebuild.proofs.Lemmas.Normal.{op_is_literal, constant_there}
 use Rattle.pass_fold.specs.Folds.{is_literal_node, is_literal, are_folded, is_foldable, is_foldable_by}
 use Rattle.pass_fold.proofs.Values.{same_op, folded_all}
@@ -99,10 +99,10 @@ literal_free state nodes built (operand.Node i) h = by (slice_get nodes i) refl 
     by None e k = absurd (cc)
     by (Some m) e k =
         let literal = op_is_literal m.op (same_op m.op k) in
-        let placed = built.placed i m e (ap is_plain_op literal) in
+        let fits_at = built.fits_at i m e (ap is_plain_op literal) in
         let scope = types_behind state nodes in
-        let written = constant_there scope m m.attributes literal (both (is_met (count_of m.op) (length m.operands)) (types_fit [] scope m m.attributes) placed.fits).1 in
-        let own : is_literal_of m.ty (attributes.Value written.0) ≡ true = ap (is_literal_of m.ty) (sym written.1) ∙ (both (marks_of m.ty).sound (is_literal_of m.ty m.attributes) placed.typed).1 in
+        let written = constant_there scope m m.attributes literal (both (is_met (count_of m.op) (length m.operands)) (types_fit [] scope m m.attributes) fits_at.fits).1 in
+        let own : is_literal_of m.ty (attributes.Value written.0) ≡ true = ap (is_literal_of m.ty) (sym written.1) ∙ (both (marks_of m.ty).sound (is_literal_of m.ty m.attributes) fits_at.typed).1 in
         ap (λ x. has_token (type_or (Token []) x)) e ∙ negated (has_token m.ty) (both (not (has_token m.ty)) (constant_fits (ty_of m.ty) written.0) own).0
 
 or_parts : (a b : Bool) → a || b ≡ false → (a ≡ false) × (b ≡ false)
@@ -184,7 +184,7 @@ module _ (state : IrType) (nodes : List Node) (built : AreBuilt state nodes) whe
   by_attributes n (attributes.Value c) p h m f = absurd (cc)
   by_attributes n (attributes.Channel predicate c) p h m f = absurd (cc)
 
-pub no_token : (state : IrType) (nodes : List Node) (n : Node) → AreBuilt state nodes → IsPlaced state nodes (length nodes) n → is_plain_op n.op ≡ true → is_foldable nodes n ≡ true → has_token n.ty ≡ false
-no_token state nodes n built placed plain h =
-    let parts = both (is_met (count_of n.op) (length n.operands)) (types_fit [] (types_behind state nodes) n n.attributes) placed.fits in
+pub no_token : (state : IrType) (nodes : List Node) (n : Node) → AreBuilt state nodes → FitsAt state nodes (length nodes) n → is_plain_op n.op ≡ true → is_foldable nodes n ≡ true → has_token n.ty ≡ false
+no_token state nodes n built fits_at plain h =
+    let parts = both (is_met (count_of n.op) (length n.operands)) (types_fit [] (types_behind state nodes) n n.attributes) fits_at.fits in
     by_attributes state nodes built n n.attributes plain h parts.0 parts.1

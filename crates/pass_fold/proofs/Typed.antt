@@ -29,7 +29,7 @@ use Rattle.ir_verify.proofs.Lemmas.Typed.Scopes.{IsTyped, AreTyped, none_typed, 
 use Rattle.ir_verify.proofs.Lemmas.Typed.Nodes.{HasChannel, HasNoFault, node_typed}
 use Rattle.ir_rebuild.specs.Operands.{node_of, attribute_operands}
 use Rattle.ir_rebuild.specs.Moves.{moved, moved_attributes, moved_node}
-use Rattle.ir_rebuild.specs.Built.{IsPlaced, AreBuilt, is_plain_op}
+use Rattle.ir_rebuild.specs.Built.{FitsAt, AreBuilt, is_plain_op}
 use Rattle.ir_rebuild.proofs.Lemmas.{fits_moved}
 use Rattle.ir_rebuild.proofs.Lemmas.Normal.{op_is_literal, constant_there}
 use Rattle.pass_fold.specs.Folds.{is_literal_op, is_literal_node, is_literal, is_foldable, is_foldable_by, value_by as literal_by, value_at_op, value_in, value_there, literal_value, places_from, places_to, shown_attributes, index_values, shown_values, folded_value}
@@ -57,11 +57,11 @@ literal_typed state nodes i m built e h = record { value = value; sound = built.
     literal : m.op ≡ op.Literal
     literal = op_is_literal m.op (same_op m.op h)
 
-    placed : IsPlaced state nodes i m
-    placed = built.placed i m e (ap is_plain_op literal)
+    fits_at : FitsAt state nodes i m
+    fits_at = built.fits_at i m e (ap is_plain_op literal)
 
     written : (c : _) × (m.attributes ≡ attributes.Value c)
-    written = constant_there (types_behind state nodes) m m.attributes literal (both (is_met (count_of m.op) (length m.operands)) (types_fit [] (types_behind state nodes) m m.attributes) placed.fits).1
+    written = constant_there (types_behind state nodes) m m.attributes literal (both (is_met (count_of m.op) (length m.operands)) (types_fit [] (types_behind state nodes) m m.attributes) fits_at.fits).1
 
     x : Node
     x = record { id = 0; ty = m.ty; op = op.Literal; operands = []; attributes = attributes.Value written.0 }
@@ -69,8 +69,8 @@ literal_typed state nodes i m built e h = record { value = value; sound = built.
     fault : HasNoFault [] (types_behind (Token []) []) x
     fault = record {
       fits = refl;
-      literal = ap (is_literal_of m.ty) (sym written.1) ∙ (both (marks_of m.ty).sound (is_literal_of m.ty m.attributes) placed.typed).1;
-      limits = limited 0 m.ty 0 (built.types i m e) placed.limits;
+      literal = ap (is_literal_of m.ty) (sym written.1) ∙ (both (marks_of m.ty).sound (is_literal_of m.ty m.attributes) fits_at.typed).1;
+      limits = limited 0 m.ty 0 (built.types i m e) fits_at.limits;
       channel = tt;
     }
 
@@ -274,8 +274,8 @@ type_free t u o os k (attributes.Indices i) values = refl
 type_free t u o os k (attributes.Value c) values = refl
 type_free t u o os k (attributes.Channel predicate c) values = refl
 
-pub typed_value : (state : IrType) (nodes : List Node) (n : Node) → AreBuilt state nodes → IsPlaced state nodes (length nodes) n → is_foldable nodes n ≡ true → IsOfType (ty_of n.ty) (folded_value nodes n)
-typed_value state nodes n built placed h =
+pub typed_value : (state : IrType) (nodes : List Node) (n : Node) → AreBuilt state nodes → FitsAt state nodes (length nodes) n → is_foldable nodes n ≡ true → IsOfType (ty_of n.ty) (folded_value nodes n)
+typed_value state nodes n built fits_at h =
     subst (IsOfType (ty_of n.ty)) (ap (role_value setting values 0 x) pure ∙ ap (pure_value x no_value) (values_shown nodes n.operands n.attributes h)
     ∙ type_free n.ty (Token []) n.op (places_to (length n.operands)) (length n.operands) n.attributes (shown_values nodes n))
     (node_typed setting scope values 0 (operands_typed (Token []) no_value (named nodes os) values token_value (all_typed state nodes built os (all_literals nodes n.operands n.attributes h))) (λ c channel k. absurd (cc)) x fault)
@@ -308,12 +308,12 @@ typed_value state nodes n built placed h =
     fits =
         sym (fits_moved (is_place (length (n.operands ++ attribute_operands n.attributes))) (moved (n.operands ++ attribute_operands n.attributes)) (types_behind (Token []) (named nodes (n.operands ++ attribute_operands n.attributes))) (types_behind state nodes)
         (types_same state nodes (n.operands ++ attribute_operands n.attributes) (all_literals nodes n.operands n.attributes h)) [] (typed_node n) (shown_places n.operands n.attributes nodes h))
-        ∙ ap (node_fits [] (types_behind state nodes)) same ∙ placed.fits
+        ∙ ap (node_fits [] (types_behind state nodes)) same ∙ fits_at.fits
 
     fault : HasNoFault [] (types_behind (Token []) (named nodes (n.operands ++ attribute_operands n.attributes))) (typed_node n)
     fault = record {
       fits = fits;
       literal = no_literal n.ty (length n.operands) n.attributes nodes n.operands h;
-      limits = limited 0 n.ty 0 (both (marks_of n.ty).sound (is_literal_of n.ty n.attributes) placed.typed).0 placed.limits;
+      limits = limited 0 n.ty 0 (both (marks_of n.ty).sound (is_literal_of n.ty n.attributes) fits_at.typed).0 fits_at.limits;
       channel = subst (HasChannel []) (sym pure) tt;
     }

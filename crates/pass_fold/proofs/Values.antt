@@ -18,7 +18,7 @@ use Rattle.ir_tree.specs.Operations.{plain_value, on_word, on_words, on_tuple, o
 use Rattle.ir_tree.specs.NodeValues.{operand_value, pure_value}
 use Rattle.ir_verify.specs.Fitting.{types_behind, types_fit}
 use Rattle.ir_rebuild.specs.Built.{AreBuilt, AreValues, is_plain_op}
-use Rattle.ir_rebuild.specs.Normal.LeftSides as normal
+use Rattle.ir_rebuild.specs.Normal.Patterns as normal
 use Rattle.ir_rebuild.proofs.Lemmas.Normal.{op_is_literal, constant_there}
 use Rattle.pass_fold.specs.Folds.{is_literal_op, is_literal_node, is_literal, are_folded, is_foldable, is_foldable_by, value_by, value_at_op, value_in, value_there, literal_value, places_from, places_to, folded_value}
 
@@ -45,9 +45,9 @@ node_value state nodes s values built v i None e h = absurd (cc)
 node_value state nodes s values built v i (Some m) e h =
     let literal = op_is_literal m.op (same_op m.op h) in
     let plain : is_plain_op m.op ≡ true = ap is_plain_op literal in
-    let placed = built.placed i m e plain in
+    let fits_at = built.fits_at i m e plain in
     let scope = types_behind state nodes in
-    let fits = (both (is_met (count_of m.op) (length m.operands)) (types_fit [] scope m m.attributes) placed.fits).1 in
+    let fits = (both (is_met (count_of m.op) (length m.operands)) (types_fit [] scope m m.attributes) fits_at.fits).1 in
     written m s values m.attributes refl (constant_there scope m m.attributes literal fits) literal
     ∙ sym (v.plain i m e plain)
 

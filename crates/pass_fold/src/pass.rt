@@ -2,9 +2,9 @@ ghost use Rattle.std.specs.Prelude.{◌≡◌, true, length, IfOk};
 ghost use Rattle.ir_tree.specs.declared.ir_type.IrType.{IrType};
 ghost use Rattle.ir_tree.specs.SameBehavior.{SameBehavior};
 ghost use Rattle.ir_verify.specs.Verified.{IsVerified};
-ghost use Rattle.ir_rebuild.specs.Built.{AreBuilt, IsPlaced, Rewrites, is_plain_op};
+ghost use Rattle.ir_rebuild.specs.Built.{AreBuilt, FitsAt, Rewrites, is_plain_op};
 ghost use Rattle.ir_rebuild.specs.Kept.{AreAllKept};
-ghost use Rattle.ir_rebuild.specs.Walks.{EachBecomes, SameHead};
+ghost use Rattle.ir_rebuild.specs.Walks.{EachProcRebuildsTo, SameHead};
 ghost use Rattle.pass_fold.specs.Settled.{IsFolded, literal_node};
 
 use crate::constant::constant_of;
@@ -44,7 +44,7 @@ impl Rewrite for Fold {
 
 /// Appends a node, or the literal of its value where its operands are literals.
 pub fn settled(alloc: Global, nodes: &mut Vec<Node>, node: Node) -> Result<Operand, AllocError>
-    ensures rewrites { IfOk result (λ o. (state : IrType) → AreBuilt state nodes.old.items → IsPlaced state nodes.old.items (length nodes.old.items) node →
+    ensures rewrites { IfOk result (λ o. (state : IrType) → AreBuilt state nodes.old.items → FitsAt state nodes.old.items (length nodes.old.items) node →
         is_plain_op node.op ≡ true → Rewrites state nodes.old.items nodes.new.items node o) }
     ensures folded { IfOk result (λ o. IsFolded nodes.old.items nodes.new.items node o) }
 {
@@ -75,7 +75,7 @@ pub fn run(alloc: Global, ir: Package) -> Result<Package, AllocError>
     ensures verified { IfOk result (λ new. IsVerified new) }
     ensures same { IfOk result (λ new. SameBehavior ir new) }
     ensures head { IfOk result (λ new. SameHead ir new) }
-    ensures became { IfOk result (λ new. EachBecomes AreAllKept (λ _ old new n o. IsFolded old new n o) ir.procs new.procs) }
+    ensures became { IfOk result (λ new. EachProcRebuildsTo AreAllKept (λ _ old new n o. IsFolded old new n o) ir.procs new.procs) }
 {
     rebuild(alloc, &Fold, ir)
 }

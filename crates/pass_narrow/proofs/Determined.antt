@@ -10,14 +10,14 @@ use Rattle.ir_tree.specs.declared.node.Operand.{Operand}
 use Rattle.ir_tree.specs.declared.node.Operand.TheVariants as operand
 use Rattle.ir_tree.specs.declared.node.Node.{Node}
 use Rattle.ir_rebuild.specs.Built.{AreBuilt, numbered}
-use Rattle.pass_narrow.specs.declared.left_side.RightSide.{RightSide}
-use Rattle.pass_narrow.specs.declared.left_side.RightSide.TheVariants as right
-use Rattle.pass_narrow.specs.declared.stand_in.LongSlice.{LongSlice}
-use Rattle.pass_narrow.specs.declared.stand_in.StandIn.{StandIn}
-use Rattle.pass_narrow.specs.declared.stand_in.StandIn.TheVariants as stand_in
+use Rattle.pass_narrow.specs.declared.node_pattern.NodeReplacement.{NodeReplacement}
+use Rattle.pass_narrow.specs.declared.node_pattern.NodeReplacement.TheVariants as right
+use Rattle.pass_narrow.specs.declared.rewritten_node.LongSlice.{LongSlice}
+use Rattle.pass_narrow.specs.declared.rewritten_node.RewrittenNode.{RewrittenNode}
+use Rattle.pass_narrow.specs.declared.rewritten_node.RewrittenNode.TheVariants as rewritten_node
 use Rattle.pass_narrow.specs.Nodes.{extension_node, operation_node, comparison_node}
 use Rattle.pass_narrow.specs.Views.{width_in}
-use Rattle.pass_narrow.specs.RightSides.{slice_of}
+use Rattle.pass_narrow.specs.Replacements.{slice_of}
 use Rattle.pass_narrow.specs.Slices.{inner_by, inner_of, inside, depth, innermost_in, innermost, last_slice, narrowed_slice}
 use Rattle.pass_narrow.specs.Narrowings.{Grown, made_longer, IsMadeLonger, made_of, IsNarrowing, and_node}
 use Rattle.pass_narrow.proofs.Views.{none_some}
@@ -47,16 +47,16 @@ longer (Err x) state old new o w n other m e f = tt
 
 -- ---- operations and comparisons
 
-pub operation_made : (state : IrType) (old mid new : List Node) (m : Node) (o : Binary) (a b x y : Operand) (least total : ℕ) → IsMadeLonger state old mid a least x → IsMadeLonger state mid new b least y → m ≡ operation_node o x y least → IsNarrowing new (stand_in.Extended m total) (made_of state old total (right.Operation o a b least))
+pub operation_made : (state : IrType) (old mid new : List Node) (m : Node) (o : Binary) (a b x y : Operand) (least total : ℕ) → IsMadeLonger state old mid a least x → IsMadeLonger state mid new b least y → m ≡ operation_node o x y least → IsNarrowing new (rewritten_node.Extended m total) (made_of state old total (right.Operation o a b least))
 operation_made state old mid new m o a b x y least total first second is = (
   second.0 ∙ ap (λ ns. (made_longer state ns b least).nodes) first.0,
-  ap (λ n. stand_in.Extended n total) (is ∙ ap₂ (λ p q. operation_node o p q least) first.1 (second.1 ∙ ap (λ ns. (made_longer state ns b least).operand) first.0)),
+  ap (λ n. rewritten_node.Extended n total) (is ∙ ap₂ (λ p q. operation_node o p q least) first.1 (second.1 ∙ ap (λ ns. (made_longer state ns b least).operand) first.0)),
 )
 
-pub comparison_made : (state : IrType) (old mid new : List Node) (m : Node) (o : Compare) (a b x y : Operand) (least total : ℕ) → IsMadeLonger state old mid a least x → IsMadeLonger state mid new b least y → m ≡ comparison_node o x y → IsNarrowing new (stand_in.Node m) (made_of state old total (right.Comparison o a b least))
+pub comparison_made : (state : IrType) (old mid new : List Node) (m : Node) (o : Compare) (a b x y : Operand) (least total : ℕ) → IsMadeLonger state old mid a least x → IsMadeLonger state mid new b least y → m ≡ comparison_node o x y → IsNarrowing new (rewritten_node.Node m) (made_of state old total (right.Comparison o a b least))
 comparison_made state old mid new m o a b x y least total first second is = (
   second.0 ∙ ap (λ ns. (made_longer state ns b least).nodes) first.0,
-  ap stand_in.Node (is ∙ ap₂ (comparison_node o) first.1 (second.1 ∙ ap (λ ns. (made_longer state ns b least).operand) first.0)),
+  ap rewritten_node.Node (is ∙ ap₂ (comparison_node o) first.1 (second.1 ∙ ap (λ ns. (made_longer state ns b least).operand) first.0)),
 )
 
 -- ---- slices
@@ -65,7 +65,7 @@ comparison_made state old mid new m o a b x y least total first second is = (
 inner_first : (state : IrType) (nodes : List Node) (part inner : LongSlice) → AreBuilt state nodes → inner_of state nodes part ≡ Some inner → depth inner.operand < depth part.operand
 inner_first state nodes part inner built e = by (slice_of state nodes part.start part.width part.operand) refl e
   where
-    by : (q : Option RightSide) → slice_of state nodes part.start part.width part.operand ≡ q → inner_by part q ≡ Some inner → depth inner.operand < depth part.operand
+    by : (q : Option NodeReplacement) → slice_of state nodes part.start part.width part.operand ≡ q → inner_by part q ≡ Some inner → depth inner.operand < depth part.operand
     by None f k = none_some _ inner k
     by (Some r) f k = is_before state nodes part r (Some inner) built (sym f) (sym k)
 
@@ -105,6 +105,6 @@ pub none_inside : (state : IrType) (nodes : List Node) (part : LongSlice) → Ar
 none_inside state nodes part built e = ap (inside (innermost_in (depth part.operand) state nodes) part) e ∙ sym (one_more state nodes part built)
 
 -- the last slice of one that the loop came to
-pub slice_narrowed : {E : Type 0} (r : Result StandIn E) (state : IrType) (nodes : List Node) (part within : LongSlice) → AreBuilt state nodes → innermost state nodes within ≡ innermost state nodes part → None ≡ inner_of state nodes within → IfOk r (λ x. x ≡ last_slice state nodes within) → IfOk r (λ x. x ≡ narrowed_slice state nodes part)
+pub slice_narrowed : {E : Type 0} (r : Result RewrittenNode E) (state : IrType) (nodes : List Node) (part within : LongSlice) → AreBuilt state nodes → innermost state nodes within ≡ innermost state nodes part → None ≡ inner_of state nodes within → IfOk r (λ x. x ≡ last_slice state nodes within) → IfOk r (λ x. x ≡ narrowed_slice state nodes part)
 slice_narrowed (Ok x) state nodes part within built same none e = e ∙ ap (last_slice state nodes) (none_inside state nodes within built none ∙ same)
 slice_narrowed (Err x) state nodes part within built same none e = tt

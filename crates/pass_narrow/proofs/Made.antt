@@ -1,4 +1,4 @@
--- Nodes on right sides can stand where they are put, and what numbers they are.
+-- Nodes on replacements can stand where they are put, and what numbers they are.
 use Rattle.std.proofs.Common.{◌≡◌, ℕ, ◌+◌, ◌-◌, ◌^◌, ◌<◌, ◌≤◌, min, List, [], ◌∷◌, ◌++◌, map, length, Bool, true, false, ◌&&◌, IsTrue, refl, ap, ◌∙◌, arith}
 use Rattle.std.specs.Prelude.{nat_eq, nat_le, nat_lt, not, ◌==◌}
 use Rattle.std.specs.List.{list_all}
@@ -44,7 +44,7 @@ use Rattle.ir_verify.proofs.Lemmas.Typed.Checked.{and_true}
 use Rattle.ir_verify.proofs.Lemmas.Typed.Tests.{IsSound, marks-Bits}
 use Rattle.ir_verify.proofs.Lemmas.Typed.Scopes as scopes
 use Rattle.ir_verify.proofs.Lemmas.Typed.Scopes.{on_word-Bits, on_words-Bits}
-use Rattle.ir_rebuild.specs.Built.{IsPlaced, AreBuilt}
+use Rattle.ir_rebuild.specs.Built.{FitsAt, AreBuilt}
 use Rattle.pass_narrow.specs.Numbers.{number, IsNumber}
 use Rattle.pass_narrow.specs.Nodes.{bits_node, extension_node, slice_node, operation_node, comparison_node, zero_node}
 use Rattle.pass_narrow.specs.Inner.Meant.{extend_number, binary_number, compare_number}
@@ -77,7 +77,7 @@ limits_bits w h = (λ i. limits_by (widths i) (leaves i) (levels i)) ∙ small
         let within : nat_lt 128 (min w (2 ^ 64 - 1)) ≡ false = grind (arith, nat_tests, h) in
         ap (λ b. not b && true) within
 
-placed_bits : (state : IrType) (nodes : List Node) (w : ℕ) (o : Op) (os : List Operand) (a : Attributes) → 1 ≤ w → w ≤ 128 → IsTrue (are_there (length nodes) os) → IsTrue (attributes_there (length nodes) a) → IsTrue (node_fits [] (types_behind state nodes) (bits_node w o os a)) → IsTrue (is_literal_of (Bits w []) a) → IsPlaced state nodes (length nodes) (bits_node w o os a)
+placed_bits : (state : IrType) (nodes : List Node) (w : ℕ) (o : Op) (os : List Operand) (a : Attributes) → 1 ≤ w → w ≤ 128 → IsTrue (are_there (length nodes) os) → IsTrue (attributes_there (length nodes) a) → IsTrue (node_fits [] (types_behind state nodes) (bits_node w o os a)) → IsTrue (is_literal_of (Bits w []) a) → FitsAt state nodes (length nodes) (bits_node w o os a)
 placed_bits state nodes w o os a some most there attributes fits literal = record {
   operands = there;
   attributes = attributes;
@@ -122,7 +122,7 @@ extend_values kind p w u x within most h =
 
 pub made_extension : (state : IrType) (nodes : List Node) (kind : Extend) (a : Operand) (p w : ℕ) → AreBuilt state nodes → IsNumber state nodes a p → p ≤ w → w ≤ 128 → IsMade state nodes (extension_node kind a w) w (λ s values. extend_number kind p w (number s values a))
 made_extension state nodes kind a p w built h within most = record {
-  placed = placed_bits state nodes w (op.Extend kind) (a ∷ []) _ some most (and_true (is_there (length nodes) a) true h.there refl) refl fits refl;
+  fits_at = placed_bits state nodes w (op.Extend kind) (a ∷ []) _ some most (and_true (is_there (length nodes) a) true h.there refl) refl fits refl;
   plain = refl;
   result = record { ty = refl; value = λ s values v. extend_values kind p w (operand_value s values a) (number s values a) within most (operand_bits state nodes a p h s values v).is };
 }
@@ -150,7 +150,7 @@ slice_values k start w u x some within h =
 
 pub made_slice : (state : IrType) (nodes : List Node) (x : Operand) (k start w : ℕ) → IsNumber state nodes x k → start + w ≤ k → 1 ≤ w → w ≤ 128 → IsMade state nodes (slice_node x start w) w (λ s values. slice_bits (number s values x) start w)
 made_slice state nodes x k start w h within some most = record {
-  placed = placed_bits state nodes w op.BitSlice (x ∷ []) _ some most (and_true (is_there (length nodes) x) true h.there refl) refl fits refl;
+  fits_at = placed_bits state nodes w op.BitSlice (x ∷ []) _ some most (and_true (is_there (length nodes) x) true h.there refl) refl fits refl;
   plain = refl;
   result = record { ty = refl; value = λ s values v. slice_values k start w (operand_value s values x) (number s values x) some within (operand_bits state nodes x k h s values v).is };
 }
@@ -184,7 +184,7 @@ binary_values o w u v x y h k =
 
 pub made_operation : (state : IrType) (nodes : List Node) (o : Binary) (x y : Operand) (w : ℕ) → AreBuilt state nodes → IsNumber state nodes x w → IsNumber state nodes y w → w ≤ 128 → IsMade state nodes (operation_node o x y w) w (λ s values. binary_number o w (number s values x) (number s values y))
 made_operation state nodes o x y w built h k most = record {
-  placed = placed_bits state nodes w (op.Binary o) (x ∷ y ∷ []) _ (some_bits state nodes x w built h) most (both_there (length nodes) x y h.there k.there) refl fits refl;
+  fits_at = placed_bits state nodes w (op.Binary o) (x ∷ y ∷ []) _ (some_bits state nodes x w built h) most (both_there (length nodes) x y h.there k.there) refl fits refl;
   plain = refl;
   result = record {
     ty = refl;
@@ -208,7 +208,7 @@ compare_values o w u v x y h k =
 
 pub made_comparison : (state : IrType) (nodes : List Node) (o : Compare) (x y : Operand) (w : ℕ) → IsNumber state nodes x w → IsNumber state nodes y w → IsMade state nodes (comparison_node o x y) 1 (λ s values. compare_number o w (number s values x) (number s values y))
 made_comparison state nodes o x y w h k = record {
-  placed = placed_bits state nodes 1 (op.Compare o) (x ∷ y ∷ []) _ (omega arith) (omega arith) (both_there (length nodes) x y h.there k.there) refl fits refl;
+  fits_at = placed_bits state nodes 1 (op.Compare o) (x ∷ y ∷ []) _ (omega arith) (omega arith) (both_there (length nodes) x y h.there k.there) refl fits refl;
   plain = refl;
   result = record {
     ty = refl;
@@ -252,7 +252,7 @@ zero_value w some most =
 
 pub made_zero : (state : IrType) (nodes : List Node) (w : ℕ) → 1 ≤ w → w ≤ 128 → IsMade state nodes (zero_node w) w (λ s values. 0)
 made_zero state nodes w some most = record {
-  placed = placed_bits state nodes w op.Literal [] _ some most refl refl refl (zero_fits w);
+  fits_at = placed_bits state nodes w op.Literal [] _ some most refl refl refl (zero_fits w);
   plain = refl;
   result = record { ty = refl; value = λ s values v. zero_value w some most };
 }

@@ -1,4 +1,4 @@
--- Where no right side is found, a node has no left side.
+-- Where no right side is found, a node has no pattern.
 use Rattle.std.proofs.Common.{◌≡◌, ℕ, ◌+◌, ◌-◌, ◌^◌, ◌≤◌, max, List, [], ◌∷◌, map, sum, length, Bool, true, false, ◌&&◌, IsTrue, Option, Some, None, refl, sym, ap, ap₂, subst, ◌∙◌, arith, inl, inr}
 use Rattle.std.specs.Prelude.{◌⊎◌, slice_get, option_map, nat_eq, nat_le, nat_lt, ◌||◌, if◌then◌else◌}
 use Rattle.std.proofs.lemmas.Bool.Decides.{nat_tests}
@@ -27,15 +27,15 @@ use Rattle.ir_tree.specs.NodeTypes.Types.{bits_width, width_there, is_tuple_wher
 use Rattle.ir_verify.specs.Fitting.{Types, type_in, type_or, types_behind, part_is, types_fit, plain_fits, slice_fits, dynamic_fits, extend_fits, sel_fits, tuple_index_fits, index_fits, predicate_fits, first_is_token, site_fits, is_bit_slice, is_dynamic_bit_slice, is_extend, is_sel, is_tuple_index, is_literal}
 use Rattle.ir_verify.proofs.Lemmas.Typed.Checked.{both_true}
 use Rattle.ir_verify.proofs.Lemmas.Typed.Tests.{types_same, tuple_is}
-use Rattle.ir_rebuild.specs.Built.{IsPlaced, AreBuilt, is_plain_op}
+use Rattle.ir_rebuild.specs.Built.{FitsAt, AreBuilt, is_plain_op}
 use Rattle.ir_rebuild.specs.Normal.Origins.{Origin, made_by, origin}
-use Rattle.ir_rebuild.specs.Normal.LeftSides as left
-use Rattle.ir_rebuild.specs.Normal.LeftSides.{is_extension, width_if, extended_in, extended_from, is_made, is_slice_op, is_tuple_op, lie_in_one, has_left_side}
+use Rattle.ir_rebuild.specs.Normal.Patterns as left
+use Rattle.ir_rebuild.specs.Normal.Patterns.{is_extension, width_if, extended_in, extended_from, is_made, is_slice_op, is_tuple_op, lie_in_one, has_pattern}
 use Rattle.pass_narrow.specs.declared.operands.Part.{Part}
 use Rattle.pass_narrow.specs.Views.{width_at, width_in, same_kind, extension_in, extension_at, extended, slice_in, slice_at, sliced, part_inside, part_from, part_of, parts_in, parts_at, element_of, element_in, element_at as tuple_at}
-use Rattle.pass_narrow.specs.declared.left_side.RightSide.TheVariants as right
-use Rattle.pass_narrow.specs.RightSides as sides
-use Rattle.pass_narrow.specs.RightSides.{narrower, least_width, is_unsigned, right_side_of}
+use Rattle.pass_narrow.specs.declared.node_pattern.NodeReplacement.TheVariants as right
+use Rattle.pass_narrow.specs.Replacements as sides
+use Rattle.pass_narrow.specs.Replacements.{narrower, least_width, is_unsigned, replacement_of}
 use Rattle.pass_narrow.specs.Inner.Bare.{row_test}
 use Rattle.pass_narrow.proofs.Numbers.{width_is, number_width}
 use Rattle.pass_narrow.proofs.Shown.{HasParts, says_extension, says_slice, fitting}
@@ -169,12 +169,12 @@ one_operand [] h = absurd (cc)
 one_operand (a ∷ []) h = (a, refl)
 one_operand (a ∷ b ∷ os) h = absurd (let one : length (a ∷ b ∷ os) ≡ 1 = grind (arith, nat_tests, h) in omega arith)
 
-own_kind : (state : IrType) (nodes : List Node) (place : ℕ) (n : Node) (o : Op) → IsPlaced state nodes place n → n.op ≡ o → attribute_kind_of o ≡ kind_in n.attributes
+own_kind : (state : IrType) (nodes : List Node) (place : ℕ) (n : Node) (o : Op) → FitsAt state nodes place n → n.op ≡ o → attribute_kind_of o ≡ kind_in n.attributes
 own_kind state nodes place n o h e =
     ap attribute_kind_of (sym e)
     ∙ fits_kind (types_behind state nodes) n n.attributes (both_true (is_met (count_of n.op) (length n.operands)) (types_fit [] (types_behind state nodes) n n.attributes) h.fits).1
 
-own_count : (state : IrType) (nodes : List Node) (place : ℕ) (n : Node) (o : Op) → IsPlaced state nodes place n → n.op ≡ o → IsTrue (is_met (count_of o) (length n.operands))
+own_count : (state : IrType) (nodes : List Node) (place : ℕ) (n : Node) (o : Op) → FitsAt state nodes place n → n.op ≡ o → IsTrue (is_met (count_of o) (length n.operands))
 own_count state nodes place n o h e = subst (λ z. IsTrue (is_met (count_of z) (length n.operands))) e (both_true (is_met (count_of n.op) (length n.operands)) (types_fit [] (types_behind state nodes) n n.attributes) h.fits).0
 
 -- ---- the nodes of operands
@@ -242,7 +242,7 @@ shown_extension : (kind : Extend) (n : Node) (a : Operand) (w : ℕ) → HasPart
 shown_extension kind n a w p =
     (λ i. extension_in kind (p.op i) (p.operands i) (p.attributes i)) ∙ ap (λ b. if b then (Some a) else None) (same_own_kind kind)
 
-extension_shown : (state : IrType) (nodes : List Node) (place : ℕ) (kind : Extend) (n : Node) → IsPlaced state nodes place n → n.op ≡ op.Extend kind → (a : Operand) × (extension_in kind n.op n.operands n.attributes ≡ Some a)
+extension_shown : (state : IrType) (nodes : List Node) (place : ℕ) (kind : Extend) (n : Node) → FitsAt state nodes place n → n.op ≡ op.Extend kind → (a : Operand) × (extension_in kind n.op n.operands n.attributes ≡ Some a)
 extension_shown state nodes place kind n h e =
     let w = count_is n.attributes (own_kind state nodes place n (op.Extend kind) h e) in
     let a = one_operand n.operands (own_count state nodes place n (op.Extend kind) h e) in
@@ -256,7 +256,7 @@ from_none state nodes kind (operand.Node i) built h = by (slice_get nodes i) ref
     inside n e false t = refl
     inside n e true t =
         let o = op_is_extension kind n.op t in
-        let shown = extension_shown state nodes i kind n (built.placed i n e (ap is_plain_op o)) o in
+        let shown = extension_shown state nodes i kind n (built.fits_at i n e (ap is_plain_op o)) o in
         some_none _ shown.0 (sym shown.1 ∙ (ap (extension_at kind) (sym e) ∙ h))
 
     by : (m : Option Node) → slice_get nodes i ≡ m → extended_in kind (made_by state nodes (slice_get nodes i)) ≡ None
@@ -295,7 +295,7 @@ row_none binary.Udiv p q w h = refl
 row_none binary.Umod p q w h = refl
 
 -- a row of the table for two operands
-row_is : (o : Binary) (w : ℕ) (x y : Origin) (p q : Option ℕ) → extended_from extend.Zero x ≡ p → extended_from extend.Zero y ≡ q → left.both (row_test o w) p q ≡ false → left.binary_side o w (x ∷ y ∷ []) ≡ false
+row_is : (o : Binary) (w : ℕ) (x y : Origin) (p q : Option ℕ) → extended_from extend.Zero x ≡ p → extended_from extend.Zero y ≡ q → left.both (row_test o w) p q ≡ false → left.binary_pattern o w (x ∷ y ∷ []) ≡ false
 row_is binary.Add w x y p q e f h = ap₂ (left.both (row_test binary.Add w)) e f ∙ h
 row_is binary.Umul w x y p q e f h = ap₂ (left.both (row_test binary.Umul w)) e f ∙ h
 row_is binary.And w x y p q e f h = ap₂ (left.both (row_test binary.And w)) e f ∙ h
@@ -305,21 +305,21 @@ row_is binary.Sub w x y p q e f h = refl
 row_is binary.Udiv w x y p q e f h = refl
 row_is binary.Umod w x y p q e f h = refl
 
-pub row_of : (state : IrType) (nodes : List Node) (o : Binary) (w : ℕ) (x y : Operand) → AreBuilt state nodes → ((a b : Operand) → extended nodes extend.Zero x ≡ Some a → extended nodes extend.Zero y ≡ Some b → row_test o w (width_in state nodes a) (width_in state nodes b) ≡ false) → left.binary_side o w (origin state nodes x ∷ origin state nodes y ∷ []) ≡ false
+pub row_of : (state : IrType) (nodes : List Node) (o : Binary) (w : ℕ) (x y : Operand) → AreBuilt state nodes → ((a b : Operand) → extended nodes extend.Zero x ≡ Some a → extended nodes extend.Zero y ≡ Some b → row_test o w (width_in state nodes a) (width_in state nodes b) ≡ false) → left.binary_pattern o w (origin state nodes x ∷ origin state nodes y ∷ []) ≡ false
 row_of state nodes o w x y built h = first (extended nodes extend.Zero x) refl
   where
-    second : (a : Operand) → extended nodes extend.Zero x ≡ Some a → (q : Option Operand) → extended nodes extend.Zero y ≡ q → left.binary_side o w (origin state nodes x ∷ origin state nodes y ∷ []) ≡ false
+    second : (a : Operand) → extended nodes extend.Zero x ≡ Some a → (q : Option Operand) → extended nodes extend.Zero y ≡ q → left.binary_pattern o w (origin state nodes x ∷ origin state nodes y ∷ []) ≡ false
     second a e None f = row_is o w (origin state nodes x) (origin state nodes y) (Some (width_in state nodes a)) None (from_some state nodes extend.Zero x a built e) (from_none state nodes extend.Zero y built f) refl
     second a e (Some b) f = row_is o w (origin state nodes x) (origin state nodes y) (Some (width_in state nodes a)) (Some (width_in state nodes b)) (from_some state nodes extend.Zero x a built e) (from_some state nodes extend.Zero y b built f) (h a b e f)
 
-    first : (p : Option Operand) → extended nodes extend.Zero x ≡ p → left.binary_side o w (origin state nodes x ∷ origin state nodes y ∷ []) ≡ false
+    first : (p : Option Operand) → extended nodes extend.Zero x ≡ p → left.binary_pattern o w (origin state nodes x ∷ origin state nodes y ∷ []) ≡ false
     first None e = row_is o w (origin state nodes x) (origin state nodes y) None (extended_from extend.Zero (origin state nodes y)) (from_none state nodes extend.Zero x built e) refl (both_none (row_test o w) (extended_from extend.Zero (origin state nodes y)))
     first (Some a) e = second a e (extended nodes extend.Zero y) refl
 
-no_operation : (state : IrType) (nodes : List Node) (o : Binary) (w : ℕ) (os : List Operand) → AreBuilt state nodes → sides.operation_of state nodes o w os ≡ None → left.binary_side o w (map (origin state nodes) os) ≡ false
+no_operation : (state : IrType) (nodes : List Node) (o : Binary) (w : ℕ) (os : List Operand) → AreBuilt state nodes → sides.operation_of state nodes o w os ≡ None → left.binary_pattern o w (map (origin state nodes) os) ≡ false
 no_operation state nodes o w [] built h = short o
   where
-    short : (o : Binary) → left.binary_side o w [] ≡ false
+    short : (o : Binary) → left.binary_pattern o w [] ≡ false
     short binary.Add = refl
     short binary.Sub = refl
     short binary.Umul = refl
@@ -330,7 +330,7 @@ no_operation state nodes o w [] built h = short o
     short binary.Xor = refl
 no_operation state nodes o w (x ∷ []) built h = short o (origin state nodes x)
   where
-    short : (o : Binary) (z : Origin) → left.binary_side o w (z ∷ []) ≡ false
+    short : (o : Binary) (z : Origin) → left.binary_pattern o w (z ∷ []) ≡ false
     short binary.Add z = refl
     short binary.Sub z = refl
     short binary.Umul z = refl
@@ -347,7 +347,7 @@ no_operation state nodes o w (x ∷ y ∷ []) built h =
     (sym (ap₂ (sides.operation_first state nodes o w) e f) ∙ h)))
 no_operation state nodes o w (x ∷ y ∷ z ∷ os) built h = long o (origin state nodes x) (origin state nodes y) (origin state nodes z) (map (origin state nodes) os)
   where
-    long : (o : Binary) (x y z : Origin) (os : List Origin) → left.binary_side o w (x ∷ y ∷ z ∷ os) ≡ false
+    long : (o : Binary) (x y z : Origin) (os : List Origin) → left.binary_pattern o w (x ∷ y ∷ z ∷ os) ≡ false
     long binary.Add x y z os = refl
     long binary.Sub x y z os = refl
     long binary.Umul x y z os = refl
@@ -358,7 +358,7 @@ no_operation state nodes o w (x ∷ y ∷ z ∷ os) built h = long o (origin sta
     long binary.Xor x y z os = refl
 
 -- the same of comparisons
-pub compare_row : (state : IrType) (nodes : List Node) (o : Compare) (x y : Operand) → AreBuilt state nodes → ((a b : Operand) → extended nodes extend.Zero x ≡ Some a → extended nodes extend.Zero y ≡ Some b → is_unsigned o ≡ true → nat_lt (max (width_in state nodes a) (width_in state nodes b)) (width_in state nodes x) ≡ false) → left.compare_side o (origin state nodes x ∷ origin state nodes y ∷ []) ≡ false
+pub compare_row : (state : IrType) (nodes : List Node) (o : Compare) (x y : Operand) → AreBuilt state nodes → ((a b : Operand) → extended nodes extend.Zero x ≡ Some a → extended nodes extend.Zero y ≡ Some b → is_unsigned o ≡ true → nat_lt (max (width_in state nodes a) (width_in state nodes b)) (width_in state nodes x) ≡ false) → left.compare_pattern o (origin state nodes x ∷ origin state nodes y ∷ []) ≡ false
 compare_row state nodes o x y built h = by o refl
   where
     second : is_unsigned o ≡ true → (a : Operand) → extended nodes extend.Zero x ≡ Some a → (q : Option Operand) → extended nodes extend.Zero y ≡ q → left.both (λ p q. nat_lt (max p q) (bits_width (type_in (types_behind state nodes) x))) (extended_from extend.Zero (origin state nodes x)) (extended_from extend.Zero (origin state nodes y)) ≡ false
@@ -374,7 +374,7 @@ compare_row state nodes o x y built h = by o refl
         ∙ both_none (λ p q. nat_lt (max p q) (bits_width (type_in (types_behind state nodes) x))) (extended_from extend.Zero (origin state nodes y))
     first u (Some a) e = second u a e (extended nodes extend.Zero y) refl
 
-    by : (z : Compare) → z ≡ o → left.compare_side z (origin state nodes x ∷ origin state nodes y ∷ []) ≡ false
+    by : (z : Compare) → z ≡ o → left.compare_pattern z (origin state nodes x ∷ origin state nodes y ∷ []) ≡ false
     by compare.Slt e = refl
     by compare.Sle e = refl
     by compare.Sgt e = refl
@@ -386,10 +386,10 @@ compare_row state nodes o x y built h = by o refl
     by compare.Ugt e = first (ap is_unsigned (sym e)) (extended nodes extend.Zero x) refl
     by compare.Uge e = first (ap is_unsigned (sym e)) (extended nodes extend.Zero x) refl
 
-no_comparison : (state : IrType) (nodes : List Node) (o : Compare) (os : List Operand) → AreBuilt state nodes → sides.comparison_of state nodes o os ≡ None → left.compare_side o (map (origin state nodes) os) ≡ false
+no_comparison : (state : IrType) (nodes : List Node) (o : Compare) (os : List Operand) → AreBuilt state nodes → sides.comparison_of state nodes o os ≡ None → left.compare_pattern o (map (origin state nodes) os) ≡ false
 no_comparison state nodes o [] built h = short o
   where
-    short : (o : Compare) → left.compare_side o [] ≡ false
+    short : (o : Compare) → left.compare_pattern o [] ≡ false
     short compare.Slt = refl
     short compare.Sle = refl
     short compare.Sgt = refl
@@ -397,7 +397,7 @@ no_comparison state nodes o [] built h = short o
     short o = refl
 no_comparison state nodes o (x ∷ []) built h = short o (origin state nodes x)
   where
-    short : (o : Compare) (z : Origin) → left.compare_side o (z ∷ []) ≡ false
+    short : (o : Compare) (z : Origin) → left.compare_pattern o (z ∷ []) ≡ false
     short compare.Slt z = refl
     short compare.Sle z = refl
     short compare.Sgt z = refl
@@ -411,7 +411,7 @@ no_comparison state nodes o (x ∷ y ∷ []) built h =
     (comparison_none o a b (narrower (max (width_in state nodes a) (width_in state nodes b)) (width_in state nodes x)) k))
 no_comparison state nodes o (x ∷ y ∷ z ∷ os) built h = long o (origin state nodes x) (origin state nodes y) (origin state nodes z) (map (origin state nodes) os)
   where
-    long : (o : Compare) (x y z : Origin) (os : List Origin) → left.compare_side o (x ∷ y ∷ z ∷ os) ≡ false
+    long : (o : Compare) (x y z : Origin) (os : List Origin) → left.compare_pattern o (x ∷ y ∷ z ∷ os) ≡ false
     long compare.Slt x y z os = refl
     long compare.Sle x y z os = refl
     long compare.Sgt x y z os = refl
@@ -428,7 +428,7 @@ pub other_width : (m n : ℕ) → nat_eq m n ≡ false → nat_eq n m ≡ false
 other_width m n h = grind (arith, nat_tests, h)
 
 -- the rows of extensions, for an operand that is no such extension and has another width
-pub extend_row : (state : IrType) (nodes : List Node) (kind : Extend) (w : ℕ) (x : Operand) → AreBuilt state nodes → nat_eq (width_in state nodes x) w ≡ false → extended nodes kind x ≡ None → (kind ≡ extend.Sign → (a : Operand) → extended nodes extend.Zero x ≡ Some a → nat_lt (width_in state nodes a) (width_in state nodes x) ≡ false) → left.extend_side kind w (origin state nodes x ∷ []) ≡ false
+pub extend_row : (state : IrType) (nodes : List Node) (kind : Extend) (w : ℕ) (x : Operand) → AreBuilt state nodes → nat_eq (width_in state nodes x) w ≡ false → extended nodes kind x ≡ None → (kind ≡ extend.Sign → (a : Operand) → extended nodes extend.Zero x ≡ Some a → nat_lt (width_in state nodes a) (width_in state nodes x) ≡ false) → left.extend_pattern kind w (origin state nodes x ∷ []) ≡ false
 extend_row state nodes extend.Zero w x built other none sign =
     or_false (nat_eq w (bits_width (type_in (types_behind state nodes) x))) (left.is_some (extended_from extend.Zero (origin state nodes x)))
     (ap (nat_eq w) (width_by_type state nodes x) ∙ other_width (width_in state nodes x) w other)
@@ -465,7 +465,7 @@ sign_none state nodes x a h e = by (nat_lt (width_in state nodes a) (width_in st
     by true f k = some_none _ (right.Extension extend.Zero a) k
     by false f k = f
 
-no_extension : (state : IrType) (nodes : List Node) (kind : Extend) (x : Operand) (w : ℕ) → AreBuilt state nodes → sides.extension_of state nodes kind w (x ∷ []) ≡ None → left.extend_side kind w (origin state nodes x ∷ []) ≡ false
+no_extension : (state : IrType) (nodes : List Node) (kind : Extend) (x : Operand) (w : ℕ) → AreBuilt state nodes → sides.extension_of state nodes kind w (x ∷ []) ≡ None → left.extend_pattern kind w (origin state nodes x ∷ []) ≡ false
 no_extension state nodes kind x w built h =
     let first = extension_none state nodes kind x w h in
     let second = longer_none state nodes kind x first.1 in
@@ -495,9 +495,9 @@ no_slice_made state nodes (operand.Node i) built h = by (slice_get nodes i) refl
     inside n e false t = t
     inside n e true t =
         let o = op_is_slice n.op t in
-        let placed = built.placed i n e (ap is_plain_op o) in
-        let a = start_is n.attributes (own_kind state nodes i n op.BitSlice placed o) in
-        let y = one_operand n.operands (own_count state nodes i n op.BitSlice placed o) in
+        let fits_at = built.fits_at i n e (ap is_plain_op o) in
+        let a = start_is n.attributes (own_kind state nodes i n op.BitSlice fits_at o) in
+        let y = one_operand n.operands (own_count state nodes i n op.BitSlice fits_at o) in
         some_none _ (record { operand = y.0; start = a.0 }) (sym (slice_shown n y.0 a.0 a.1 (record { op = o; operands = y.1; attributes = a.2 })) ∙ (ap slice_at (sym e) ∙ h))
 
     by : (m : Option Node) → slice_get nodes i ≡ m → is_made is_slice_op (origin state nodes (operand.Node i)).made ≡ false
@@ -582,10 +582,10 @@ no_part_made state nodes (operand.Node i) start w some built h = by (slice_get n
     inside : (n : Node) → slice_get nodes i ≡ Some n → (n.op ≡ op.Concat) ⊎ ((ts : List IrType) → left.widths_if n.op ts ≡ []) → lie_in_one start w (left.widths_if n.op (map (type_in (types_behind state nodes)) n.operands)) ≡ false
     inside n e (inr none) = ap (lie_in_one start w) (none (map (type_in (types_behind state nodes)) n.operands))
     inside n e (inl o) =
-        let placed = built.placed i n e (ap is_plain_op o) in
-        let a = none_is n.attributes (own_kind state nodes i n op.Concat placed o) in
+        let fits_at = built.fits_at i n e (ap is_plain_op o) in
+        let a = none_is n.attributes (own_kind state nodes i n op.Concat fits_at o) in
         let less = slice_get_within nodes i n e in
-        let says = says_concat state nodes i n n.operands (omega (arith, less)) placed (record { op = o; operands = refl; attributes = a }) in
+        let says = says_concat state nodes i n n.operands (omega (arith, less)) fits_at (record { op = o; operands = refl; attributes = a }) in
         let total : bits_width n.ty ≡ says.total = ap bits_width says.wide.ty ∙ width_is says.total in
         let found : part_from state nodes n.operands says.total start w ≡ None =
         sym (ap (λ k. part_from state nodes n.operands k start w) total)
@@ -615,40 +615,40 @@ longer_some own start width a h = by (nat_le own start) (nat_le width (own - sta
     by false true k = some_none ⊥ (right.Slice a start) k
     by false false k = some_none ⊥ (right.LongerSlice a start (own - start)) k
 
-pub no_slice : (state : IrType) (nodes : List Node) (x : Operand) (start w : ℕ) → 1 ≤ w → AreBuilt state nodes → sides.slice_of state nodes start w x ≡ None → left.slice_side start w (origin state nodes x ∷ []) ≡ false
+pub no_slice : (state : IrType) (nodes : List Node) (x : Operand) (start w : ℕ) → 1 ≤ w → AreBuilt state nodes → sides.slice_of state nodes start w x ≡ None → left.slice_pattern start w (origin state nodes x ∷ []) ≡ false
 no_slice state nodes x start w some built h = whole (nat_eq (width_in state nodes x) w) refl h
   where
-    rows : nat_eq (width_in state nodes x) w ≡ false → left.is_narrower (extended_from extend.Zero (origin state nodes x)) (bits_width (type_in (types_behind state nodes) x)) ≡ false → is_made is_slice_op (origin state nodes x).made ≡ false → lie_in_one start w (left.parts_in (origin state nodes x).made) ≡ false → left.slice_side start w (origin state nodes x ∷ []) ≡ false
+    rows : nat_eq (width_in state nodes x) w ≡ false → left.is_narrower (extended_from extend.Zero (origin state nodes x)) (bits_width (type_in (types_behind state nodes) x)) ≡ false → is_made is_slice_op (origin state nodes x).made ≡ false → lie_in_one start w (left.parts_in (origin state nodes x).made) ≡ false → left.slice_pattern start w (origin state nodes x ∷ []) ≡ false
     rows a b c d =
         or_false (nat_eq w (bits_width (type_in (types_behind state nodes) x))) _ (ap (nat_eq w) (width_by_type state nodes x) ∙ other_width (width_in state nodes x) w a)
         (or_false (left.is_narrower (extended_from extend.Zero (origin state nodes x)) (bits_width (type_in (types_behind state nodes) x))) _ b
         (or_false (is_made is_slice_op (origin state nodes x).made) (lie_in_one start w (left.parts_in (origin state nodes x).made)) c d))
 
-    strict : nat_eq (width_in state nodes x) w ≡ false → (a : Operand) → extended nodes extend.Zero x ≡ Some a → (b : Bool) → nat_lt (width_in state nodes a) (width_in state nodes x) ≡ b → (if b then sides.slice_of_longer (width_in state nodes a) start w a else None) ≡ None → left.slice_side start w (origin state nodes x ∷ []) ≡ false
+    strict : nat_eq (width_in state nodes x) w ≡ false → (a : Operand) → extended nodes extend.Zero x ≡ Some a → (b : Bool) → nat_lt (width_in state nodes a) (width_in state nodes x) ≡ b → (if b then sides.slice_of_longer (width_in state nodes a) start w a else None) ≡ None → left.slice_pattern start w (origin state nodes x ∷ []) ≡ false
     strict t a e true f k = absurd (longer_some (width_in state nodes a) start w a k)
     strict t a e false f k =
         let none = no_slice_here state nodes extend.Zero x a start w e in
         rows t (ap₂ left.is_narrower (from_some state nodes extend.Zero x a built e) (width_by_type state nodes x) ∙ f) none.0 none.1
 
-    joined : nat_eq (width_in state nodes x) w ≡ false → extended nodes extend.Zero x ≡ None → sliced nodes x ≡ None → (q : Option Part) → part_of state nodes start w x ≡ q → sides.slice_part q ≡ None → left.slice_side start w (origin state nodes x ∷ []) ≡ false
+    joined : nat_eq (width_in state nodes x) w ≡ false → extended nodes extend.Zero x ≡ None → sliced nodes x ≡ None → (q : Option Part) → part_of state nodes start w x ≡ q → sides.slice_part q ≡ None → left.slice_pattern start w (origin state nodes x ∷ []) ≡ false
     joined t e f (Some part) g k = some_none _ (right.Slice part.operand part.start) k
     joined t e f None g k =
         rows t (ap (λ p. left.is_narrower p (bits_width (type_in (types_behind state nodes) x))) (from_none state nodes extend.Zero x built e))
         (no_slice_made state nodes x built f) (no_part_made state nodes x start w some built g)
 
-    added : (inner : Part) (b : Bool) → (if b then (Some (right.Slice inner.operand (inner.start + start))) else (Some right.Zero)) ≡ None → left.slice_side start w (origin state nodes x ∷ []) ≡ false
+    added : (inner : Part) (b : Bool) → (if b then (Some (right.Slice inner.operand (inner.start + start))) else (Some right.Zero)) ≡ None → left.slice_pattern start w (origin state nodes x ∷ []) ≡ false
     added inner true k = some_none _ (right.Slice inner.operand (inner.start + start)) k
     added inner false k = some_none _ right.Zero k
 
-    sliced_too : nat_eq (width_in state nodes x) w ≡ false → extended nodes extend.Zero x ≡ None → (q : Option Part) → sliced nodes x ≡ q → sides.slice_of_slice state nodes start w x q ≡ None → left.slice_side start w (origin state nodes x ∷ []) ≡ false
+    sliced_too : nat_eq (width_in state nodes x) w ≡ false → extended nodes extend.Zero x ≡ None → (q : Option Part) → sliced nodes x ≡ q → sides.slice_of_slice state nodes start w x q ≡ None → left.slice_pattern start w (origin state nodes x ∷ []) ≡ false
     sliced_too t e (Some inner) f k = added inner (nat_le start ((2 ^ 128 - 1) - inner.start)) k
     sliced_too t e None f k = joined t e f (part_of state nodes start w x) refl k
 
-    under : nat_eq (width_in state nodes x) w ≡ false → (q : Option Operand) → extended nodes extend.Zero x ≡ q → sides.slice_by state nodes start w x q ≡ None → left.slice_side start w (origin state nodes x ∷ []) ≡ false
+    under : nat_eq (width_in state nodes x) w ≡ false → (q : Option Operand) → extended nodes extend.Zero x ≡ q → sides.slice_by state nodes start w x q ≡ None → left.slice_pattern start w (origin state nodes x ∷ []) ≡ false
     under t None e k = sliced_too t e (sliced nodes x) refl k
     under t (Some a) e k = strict t a e (nat_lt (width_in state nodes a) (width_in state nodes x)) refl k
 
-    whole : (b : Bool) → nat_eq (width_in state nodes x) w ≡ b → (if b then (Some (right.Operand x)) else sides.slice_over state nodes start w x) ≡ None → left.slice_side start w (origin state nodes x ∷ []) ≡ false
+    whole : (b : Bool) → nat_eq (width_in state nodes x) w ≡ b → (if b then (Some (right.Operand x)) else sides.slice_over state nodes start w x) ≡ None → left.slice_pattern start w (origin state nodes x ∷ []) ≡ false
     whole true t k = some_none _ (right.Operand x) k
     whole false t k = under t (extended nodes extend.Zero x) refl k
 
@@ -660,21 +660,21 @@ no_part_type i t ts e h = let k = rw e at h in absurd (cc)
 element_shown : (index : ℕ) (m : Node) → HasParts m op.Tuple m.operands attributes.None → element_in index m.op m.operands m.attributes ≡ slice_get m.operands index
 element_shown index m p = λ i. element_in index (p.op i) m.operands (p.attributes i)
 
-no_tuple_made : (state : IrType) (nodes : List Node) (n : Node) (x : Operand) (index : ℕ) → AreBuilt state nodes → IsPlaced state nodes (length nodes) n → HasParts n op.TupleIndex (x ∷ []) (attributes.Index index) → element_of nodes index x ≡ None → is_made is_tuple_op (origin state nodes x).made ≡ false
-no_tuple_made state nodes n operand.State index built placed p h = refl
-no_tuple_made state nodes n (operand.Node i) index built placed p h = by (slice_get nodes i) refl
+no_tuple_made : (state : IrType) (nodes : List Node) (n : Node) (x : Operand) (index : ℕ) → AreBuilt state nodes → FitsAt state nodes (length nodes) n → HasParts n op.TupleIndex (x ∷ []) (attributes.Index index) → element_of nodes index x ≡ None → is_made is_tuple_op (origin state nodes x).made ≡ false
+no_tuple_made state nodes n operand.State index built fits_at p h = refl
+no_tuple_made state nodes n (operand.Node i) index built fits_at p h = by (slice_get nodes i) refl
   where
     inside : (m : Node) → slice_get nodes i ≡ Some m → (b : Bool) → is_tuple_op m.op ≡ b → is_tuple_op m.op ≡ false
     inside m e false t = t
     inside m e true t =
         let scope = types_behind state nodes in
         let o = op_is_tuple m.op t in
-        let own = built.placed i m e (ap is_plain_op o) in
+        let own = built.fits_at i m e (ap is_plain_op o) in
         let q : HasParts m op.Tuple m.operands attributes.None = record { op = o; operands = refl; attributes = none_is m.attributes (own_kind state nodes i m op.Tuple own o) } in
         let r = tuple_is (λ ts. each_same (map same_type ts) (map (type_in scope) m.operands)) m.ty (fitting state nodes i m op.Tuple m.operands attributes.None own q) in
         let same : r.parts ≡ map (type_in scope) m.operands = types_same r.parts (map (type_in scope) m.operands) r.test in
         let whole : type_in scope (operand.Node i) ≡ Tuple (map (type_in scope) m.operands) [] = ap (type_or (Token [])) e ∙ r.is ∙ ap (λ ts. Tuple ts []) same in
-        let fits = (both_true (is_tuple_index op.TupleIndex) (tuple_index_fits index scope (operand.Node i ∷ []) n.ty) (fitting state nodes (length nodes) n op.TupleIndex (operand.Node i ∷ []) (attributes.Index index) placed p)).1 in
+        let fits = (both_true (is_tuple_index op.TupleIndex) (tuple_index_fits index scope (operand.Node i ∷ []) n.ty) (fitting state nodes (length nodes) n op.TupleIndex (operand.Node i ∷ []) (attributes.Index index) fits_at p)).1 in
         let one = (both_true (is_tuple_where (part_is index n.ty) (type_in scope (operand.Node i))) true fits).0 in
         let test : IsTrue (part_is index n.ty (map (type_in scope) m.operands)) = sym (ap (is_tuple_where (part_is index n.ty)) whole ∙ ap (λ y. passes (part_is index n.ty) (parts_there y)) (ir_views.outs-Tuple (map (type_in scope) m.operands) [])) ∙ one in
         let none : slice_get m.operands index ≡ None = sym (element_shown index m q) ∙ (ap (tuple_at index) (sym e) ∙ h) in
@@ -690,52 +690,52 @@ element_none (Some o) h = absurd (cc)
 
 -- ---- any node
 
-alone_none : (state : IrType) (nodes : List Node) (os : List Operand) → sides.concat_of os ≡ None → left.concat_side (map (origin state nodes) os) ≡ false
+alone_none : (state : IrType) (nodes : List Node) (os : List Operand) → sides.concat_of os ≡ None → left.concat_pattern (map (origin state nodes) os) ≡ false
 alone_none state nodes [] h = refl
 alone_none state nodes (x ∷ []) h = absurd (cc)
 alone_none state nodes (x ∷ y ∷ os) h = refl
 
 -- what is found by the attributes that the operation has
-found_by : (state : IrType) (nodes : List Node) (n : Node) (o : Op) (a : Attributes) → n.op ≡ o → n.attributes ≡ a → right_side_of state nodes n ≡ None → sides.right_side_by state nodes o (bits_width n.ty) n.operands a ≡ None
-found_by state nodes n o a e f h = sym (ap₂ (λ z b. sides.right_side_by state nodes z (bits_width n.ty) n.operands b) e f) ∙ h
+found_by : (state : IrType) (nodes : List Node) (n : Node) (o : Op) (a : Attributes) → n.op ≡ o → n.attributes ≡ a → replacement_of state nodes n ≡ None → sides.replacement_by state nodes o (bits_width n.ty) n.operands a ≡ None
+found_by state nodes n o a e f h = sym (ap₂ (λ z b. sides.replacement_by state nodes z (bits_width n.ty) n.operands b) e f) ∙ h
 
-side_at : (state : IrType) (nodes : List Node) (n : Node) (o : Op) (w start : ℕ) (os : List Operand) → n.op ≡ o → bits_width n.ty ≡ w → left.first_bit n.attributes ≡ start → n.operands ≡ os → left.left_side o w start (map (origin state nodes) os) ≡ false → has_left_side state nodes n ≡ false
-side_at state nodes n o w start os e f g h k = (λ i. left.left_side (e i) (f i) (g i) (map (origin state nodes) (h i))) ∙ k
+side_at : (state : IrType) (nodes : List Node) (n : Node) (o : Op) (w start : ℕ) (os : List Operand) → n.op ≡ o → bits_width n.ty ≡ w → left.first_bit n.attributes ≡ start → n.operands ≡ os → left.node_pattern o w start (map (origin state nodes) os) ≡ false → has_pattern state nodes n ≡ false
+side_at state nodes n o w start os e f g h k = (λ i. left.node_pattern (e i) (f i) (g i) (map (origin state nodes) (h i))) ∙ k
 
-pub no_left_side : (state : IrType) (nodes : List Node) (n : Node) → AreBuilt state nodes → IsPlaced state nodes (length nodes) n → right_side_of state nodes n ≡ None → has_left_side state nodes n ≡ false
-no_left_side state nodes n built placed h = by n.op refl
+pub no_left_side : (state : IrType) (nodes : List Node) (n : Node) → AreBuilt state nodes → FitsAt state nodes (length nodes) n → replacement_of state nodes n ≡ None → has_pattern state nodes n ≡ false
+no_left_side state nodes n built fits_at h = by n.op refl
   where
     here : length nodes ≤ length nodes
     here = omega arith
 
     none_of : (o : Op) → n.op ≡ o → attribute_kind_of o ≡ kinds.None → n.attributes ≡ attributes.None
-    none_of o e k = none_is n.attributes (sym k ∙ own_kind state nodes (length nodes) n o placed e)
+    none_of o e k = none_is n.attributes (sym k ∙ own_kind state nodes (length nodes) n o fits_at e)
 
-    slice : n.op ≡ op.BitSlice → has_left_side state nodes n ≡ false
+    slice : n.op ≡ op.BitSlice → has_pattern state nodes n ≡ false
     slice e =
-        let a = start_is n.attributes (own_kind state nodes (length nodes) n op.BitSlice placed e) in
-        let x = one_operand n.operands (own_count state nodes (length nodes) n op.BitSlice placed e) in
-        let says = says_slice state nodes (length nodes) n op.BitSlice x.0 a.0 a.1 here placed (record { op = e; operands = x.1; attributes = a.2 }) in
+        let a = start_is n.attributes (own_kind state nodes (length nodes) n op.BitSlice fits_at e) in
+        let x = one_operand n.operands (own_count state nodes (length nodes) n op.BitSlice fits_at e) in
+        let says = says_slice state nodes (length nodes) n op.BitSlice x.0 a.0 a.1 here fits_at (record { op = e; operands = x.1; attributes = a.2 }) in
         let found : sides.slice_of state nodes a.0 a.1 x.0 ≡ None = sym (ap (sides.slice_of_one state nodes a.0 a.1) x.1) ∙ found_by state nodes n op.BitSlice (attributes.StartAndWidth a.0 a.1) e a.2 h in
         side_at state nodes n op.BitSlice a.1 a.0 (x.0 ∷ []) e (ap bits_width says.wide.ty ∙ width_is a.1) (ap left.first_bit a.2) x.1 (no_slice state nodes x.0 a.0 a.1 says.wide.some built found)
 
-    extension : (kind : Extend) → n.op ≡ op.Extend kind → has_left_side state nodes n ≡ false
+    extension : (kind : Extend) → n.op ≡ op.Extend kind → has_pattern state nodes n ≡ false
     extension kind e =
-        let a = count_is n.attributes (own_kind state nodes (length nodes) n (op.Extend kind) placed e) in
-        let x = one_operand n.operands (own_count state nodes (length nodes) n (op.Extend kind) placed e) in
-        let says = says_extension state nodes (length nodes) n kind x.0 a.0 here placed (record { op = e; operands = x.1; attributes = a.1 }) in
+        let a = count_is n.attributes (own_kind state nodes (length nodes) n (op.Extend kind) fits_at e) in
+        let x = one_operand n.operands (own_count state nodes (length nodes) n (op.Extend kind) fits_at e) in
+        let says = says_extension state nodes (length nodes) n kind x.0 a.0 here fits_at (record { op = e; operands = x.1; attributes = a.1 }) in
         let found : sides.extension_of state nodes kind a.0 (x.0 ∷ []) ≡ None = sym (ap (sides.extension_of state nodes kind a.0) x.1) ∙ found_by state nodes n (op.Extend kind) (attributes.NewBitCount a.0) e a.1 h in
         side_at state nodes n (op.Extend kind) a.0 (left.first_bit n.attributes) (x.0 ∷ []) e (ap bits_width says.wide.ty ∙ width_is a.0) refl x.1 (no_extension state nodes kind x.0 a.0 built found)
 
-    part : n.op ≡ op.TupleIndex → has_left_side state nodes n ≡ false
+    part : n.op ≡ op.TupleIndex → has_pattern state nodes n ≡ false
     part e =
-        let a = index_is n.attributes (own_kind state nodes (length nodes) n op.TupleIndex placed e) in
-        let x = one_operand n.operands (own_count state nodes (length nodes) n op.TupleIndex placed e) in
-        let found : sides.operand_if (element_of nodes a.0 x.0) ≡ None = sym (ap (sides.element_right_side nodes a.0) x.1) ∙ found_by state nodes n op.TupleIndex (attributes.Index a.0) e a.1 h in
+        let a = index_is n.attributes (own_kind state nodes (length nodes) n op.TupleIndex fits_at e) in
+        let x = one_operand n.operands (own_count state nodes (length nodes) n op.TupleIndex fits_at e) in
+        let found : sides.operand_if (element_of nodes a.0 x.0) ≡ None = sym (ap (sides.element_replacement nodes a.0) x.1) ∙ found_by state nodes n op.TupleIndex (attributes.Index a.0) e a.1 h in
         side_at state nodes n op.TupleIndex (bits_width n.ty) (left.first_bit n.attributes) (x.0 ∷ []) e refl refl x.1
-        (no_tuple_made state nodes n x.0 a.0 built placed (record { op = e; operands = x.1; attributes = a.1 }) (element_none (element_of nodes a.0 x.0) found))
+        (no_tuple_made state nodes n x.0 a.0 built fits_at (record { op = e; operands = x.1; attributes = a.1 }) (element_none (element_of nodes a.0 x.0) found))
 
-    by : (o : Op) → n.op ≡ o → has_left_side state nodes n ≡ false
+    by : (o : Op) → n.op ≡ o → has_pattern state nodes n ≡ false
     by (op.Binary o) e = side_at state nodes n (op.Binary o) (bits_width n.ty) (left.first_bit n.attributes) n.operands e refl refl refl (no_operation state nodes o (bits_width n.ty) n.operands built (found_by state nodes n (op.Binary o) attributes.None e (none_of (op.Binary o) e refl) h))
     by (op.Compare o) e = side_at state nodes n (op.Compare o) (bits_width n.ty) (left.first_bit n.attributes) n.operands e refl refl refl (no_comparison state nodes o n.operands built (found_by state nodes n (op.Compare o) attributes.None e (none_of (op.Compare o) e refl) h))
     by op.Concat e = side_at state nodes n op.Concat (bits_width n.ty) (left.first_bit n.attributes) n.operands e refl refl refl (alone_none state nodes n.operands (found_by state nodes n op.Concat attributes.None e (none_of op.Concat e refl) h))

@@ -1,4 +1,4 @@
--- Right sides over normal nodes have no left side, and what they need is normal.
+-- Replacements over normal nodes have no pattern, and what they need is normal.
 use Rattle.std.proofs.Common.{◌≡◌, ℕ, ◌+◌, ◌≤◌, ◌≢◌, max, List, [], ◌∷◌, ◌++◌, map, length, Bool, true, false, ◌&&◌, IsTrue, Option, Some, None, Result, Ok, Err, IfOk, refl, sym, ap, ap₂, subst, ◌∙◌, arith}
 use Rattle.std.specs.Prelude.{slice_get, nat_eq, nat_lt, ◌||◌, if◌then◌else◌}
 use Rattle.std.proofs.lemmas.Bool.Decides.{nat_tests}
@@ -20,25 +20,25 @@ use Rattle.ir_verify.specs.Fitting.{type_in, types_behind}
 use Rattle.ir_verify.specs.Lines.{is_there}
 use Rattle.ir_verify.proofs.Lemmas.Typed.Checked.{and_true}
 use Rattle.ir_rebuild.specs.Operands.{operands_in}
-use Rattle.ir_rebuild.specs.Built.{IsPlaced, AreBuilt, Extends, is_plain_op, numbered}
+use Rattle.ir_rebuild.specs.Built.{FitsAt, AreBuilt, Extends, is_plain_op, numbered}
 use Rattle.ir_rebuild.proofs.Lemmas.{node_there, before_more, last_there}
 use Rattle.ir_rebuild.specs.Normal.Origins.{Origin, origin}
-use Rattle.ir_rebuild.specs.Normal.LeftSides as left
-use Rattle.ir_rebuild.specs.Normal.LeftSides.{has_left_side}
+use Rattle.ir_rebuild.specs.Normal.Patterns as left
+use Rattle.ir_rebuild.specs.Normal.Patterns.{has_pattern}
 use Rattle.ir_rebuild.specs.Normal.Normal.{is_literal_node, names_literal, all_literals, IsNormalNode, AreNormal}
 use Rattle.ir_rebuild.proofs.Lemmas.Normal.{normal_more}
-use Rattle.pass_narrow.specs.declared.left_side.RightSide.{RightSide}
-use Rattle.pass_narrow.specs.declared.left_side.RightSide.TheVariants as right
-use Rattle.pass_narrow.specs.declared.stand_in.StandIn.{StandIn}
-use Rattle.pass_narrow.specs.declared.stand_in.StandIn.TheVariants as stand_in
-use Rattle.pass_narrow.specs.declared.stand_in.LongSlice.{LongSlice}
+use Rattle.pass_narrow.specs.declared.node_pattern.NodeReplacement.{NodeReplacement}
+use Rattle.pass_narrow.specs.declared.node_pattern.NodeReplacement.TheVariants as right
+use Rattle.pass_narrow.specs.declared.rewritten_node.RewrittenNode.{RewrittenNode}
+use Rattle.pass_narrow.specs.declared.rewritten_node.RewrittenNode.TheVariants as rewritten_node
+use Rattle.pass_narrow.specs.declared.rewritten_node.LongSlice.{LongSlice}
 use Rattle.pass_narrow.specs.Numbers.{number, IsNumber}
 use Rattle.pass_narrow.specs.Nodes.{extension_node, slice_node, operation_node, comparison_node}
-use Rattle.pass_narrow.specs.KeepsNormal.{IsNarrow, IsNarrowInside, HasNoLeftSide, KeepsNormal}
+use Rattle.pass_narrow.specs.KeepsNormal.{IsNarrow, IsNarrowInside, HasNoPattern, KeepsNormal}
 use Rattle.pass_narrow.specs.Views.{width_at, width_in, extension_at, extended, element_of}
-use Rattle.pass_narrow.specs.RightSides as sides
-use Rattle.pass_narrow.specs.RightSides.{narrower, least_width, is_unsigned, slice_of, right_side_of}
-use Rattle.pass_narrow.specs.Inner.Meant.{GivesNumber, HasLonger, IsOperation, IsComparison, IsSliceOf, IsWhole, IsRightSide, IsInnermost, SaysOfSlice, slice_at}
+use Rattle.pass_narrow.specs.Replacements as sides
+use Rattle.pass_narrow.specs.Replacements.{narrower, least_width, is_unsigned, slice_of, replacement_of}
+use Rattle.pass_narrow.specs.Inner.Meant.{GivesNumber, HasLonger, IsOperation, IsComparison, IsSliceOf, IsWhole, IsReplacement, IsInnermost, SaysOfSlice, slice_at}
 use Rattle.pass_narrow.specs.Slices.{inner_part}
 use Rattle.pass_narrow.specs.Inner.Bare.{row_test, IsBare, AreBare, IsNormalSide, IsLonger}
 use Rattle.pass_narrow.proofs.Numbers.{width_is, number_width, number_later, extends_twice}
@@ -65,7 +65,7 @@ bare_none state nodes a built h = by (extended nodes extend.Zero a) refl
 -- what is known of the extension of a normal list
 record IsNormalExtension (state : IrType) (nodes : List Node) (kind : Extend) (x a : Operand) : Type 0 where
   written : names_literal nodes a ≡ false
-  side : left.extend_side kind (width_in state nodes x) (origin state nodes a ∷ []) ≡ false
+  side : left.extend_pattern kind (width_in state nodes x) (origin state nodes a ∷ []) ≡ false
 
 literal_one : (b : Bool) → b && true ≡ false → b ≡ false
 literal_one true h = absurd (cc)
@@ -79,7 +79,7 @@ normal_extension state nodes kind x a normal h =
     let folded : names_literal nodes a && true ≡ false = sym (λ i. all_literals nodes (operands_in (record { id = f.node.id; ty = f.node.ty; op = f.node.op; operands = f.parts.operands i; attributes = f.parts.attributes i }))) ∙ own.folded in
     record {
       written = literal_one (names_literal nodes a) folded;
-      side = ap (λ w. left.extend_side kind w (origin state nodes a ∷ [])) width ∙ sym (λ i. left.left_side (f.parts.op i) (bits_width f.node.ty) (left.first_bit (f.parts.attributes i)) (map (origin state nodes) (f.parts.operands i))) ∙ own.narrowed;
+      side = ap (λ w. left.extend_pattern kind w (origin state nodes a ∷ [])) width ∙ sym (λ i. left.node_pattern (f.parts.op i) (bits_width f.node.ty) (left.first_bit (f.parts.attributes i)) (map (origin state nodes) (f.parts.operands i))) ∙ own.narrowed;
     }
 
 -- an operand under zeros in a normal list
@@ -91,16 +91,16 @@ bare_operand state nodes x a built normal h =
       bare = bare_none state nodes a built (or_parts (nat_eq (width_in state nodes x) (bits_width (type_in (types_behind state nodes) a))) (left.is_some (left.extended_from extend.Zero (origin state nodes a))) n.side).1;
     }
 
--- ---- the rows of right sides
+-- ---- the rows of replacements
 
-wider_side : (kind : Extend) (v w : ℕ) (z : Origin) → nat_eq w (bits_width z.ty) ≡ false → left.extend_side kind v (z ∷ []) ≡ false → left.extend_side kind w (z ∷ []) ≡ false
+wider_side : (kind : Extend) (v w : ℕ) (z : Origin) → nat_eq w (bits_width z.ty) ≡ false → left.extend_pattern kind v (z ∷ []) ≡ false → left.extend_pattern kind w (z ∷ []) ≡ false
 wider_side extend.Zero v w z other h = or_false (nat_eq w (bits_width z.ty)) (left.is_some (left.extended_from extend.Zero z)) other (or_parts (nat_eq v (bits_width z.ty)) (left.is_some (left.extended_from extend.Zero z)) h).1
 wider_side extend.Sign v w z other h = or_false (nat_eq w (bits_width z.ty)) (left.is_some (left.extended_from extend.Sign z) || left.is_narrower (left.extended_from extend.Zero z) (bits_width z.ty)) other (or_parts (nat_eq v (bits_width z.ty)) (left.is_some (left.extended_from extend.Sign z) || left.is_narrower (left.extended_from extend.Zero z) (bits_width z.ty)) h).1
 
-extension_side : (state : IrType) (nodes : List Node) (kind : Extend) (a : Operand) (w : ℕ) → left.extend_side kind w (origin state nodes a ∷ []) ≡ false → has_left_side state nodes (extension_node kind a w) ≡ false
-extension_side state nodes kind a w h = ap (λ k. left.extend_side kind k (origin state nodes a ∷ [])) (width_is w) ∙ h
+extension_side : (state : IrType) (nodes : List Node) (kind : Extend) (a : Operand) (w : ℕ) → left.extend_pattern kind w (origin state nodes a ∷ []) ≡ false → has_pattern state nodes (extension_node kind a w) ≡ false
+extension_side state nodes kind a w h = ap (λ k. left.extend_pattern kind k (origin state nodes a ∷ [])) (width_is w) ∙ h
 
-first_test : (kind : Extend) (v : ℕ) (z : Origin) → left.extend_side kind v (z ∷ []) ≡ false → nat_eq v (bits_width z.ty) ≡ false
+first_test : (kind : Extend) (v : ℕ) (z : Origin) → left.extend_pattern kind v (z ∷ []) ≡ false → nat_eq v (bits_width z.ty) ≡ false
 first_test extend.Zero v z h = (or_parts (nat_eq v (bits_width z.ty)) _ h).0
 first_test extend.Sign v z h = (or_parts (nat_eq v (bits_width z.ty)) _ h).0
 
@@ -108,7 +108,7 @@ unequal : (m n k l : ℕ) → nat_eq n m ≡ false → m ≤ n → n ≤ k → l
 unequal m n k l h a b e = grind (arith, nat_tests, h, a, b, e)
 
 -- an extension to as many bits or more
-wider_extension : (state : IrType) (nodes : List Node) (own kind : Extend) (x a : Operand) (w total : ℕ) → (f : ShowsExtension state nodes kind x a) → IsNormalExtension state nodes kind x a → width_in state nodes x ≤ total → left.extend_side own (width_in state nodes x) (origin state nodes a ∷ []) ≡ false → has_left_side state nodes (extension_node own a total) ≡ false
+wider_extension : (state : IrType) (nodes : List Node) (own kind : Extend) (x a : Operand) (w total : ℕ) → (f : ShowsExtension state nodes kind x a) → IsNormalExtension state nodes kind x a → width_in state nodes x ≤ total → left.extend_pattern own (width_in state nodes x) (origin state nodes a ∷ []) ≡ false → has_pattern state nodes (extension_node own a total) ≡ false
 wider_extension state nodes own kind x a w total f n more h =
     let p = number_width state nodes a f.own f.inner in
     let k = number_width state nodes x f.width f.outer in
@@ -139,7 +139,7 @@ least_row binary.Umod p q w m h = refl
 
 -- ---- each right side
 
-operation_side : (state : IrType) (nodes : List Node) (o : Binary) (w : ℕ) (os : List Operand) (r : RightSide) (total : ℕ) → AreBuilt state nodes → AreNormal state nodes → sides.operation_of state nodes o w os ≡ Some r → IsNormalSide state nodes total r
+operation_side : (state : IrType) (nodes : List Node) (o : Binary) (w : ℕ) (os : List Operand) (r : NodeReplacement) (total : ℕ) → AreBuilt state nodes → AreNormal state nodes → sides.operation_of state nodes o w os ≡ Some r → IsNormalSide state nodes total r
 operation_side state nodes o w [] r total built normal h = none_some _ r h
 operation_side state nodes o w (x ∷ []) r total built normal h = none_some _ r h
 operation_side state nodes o w (x ∷ y ∷ []) r total built normal h = first (extended nodes extend.Zero x) refl h
@@ -164,7 +164,7 @@ operation_side state nodes o w (x ∷ y ∷ []) r total built normal h = first (
     first (Some a) e k = second a e (extended nodes extend.Zero y) refl k
 operation_side state nodes o w (x ∷ y ∷ z ∷ os) r total built normal h = none_some _ r h
 
-comparison_side : (state : IrType) (nodes : List Node) (o : Compare) (os : List Operand) (r : RightSide) (total : ℕ) → AreBuilt state nodes → AreNormal state nodes → sides.comparison_of state nodes o os ≡ Some r → IsNormalSide state nodes total r
+comparison_side : (state : IrType) (nodes : List Node) (o : Compare) (os : List Operand) (r : NodeReplacement) (total : ℕ) → AreBuilt state nodes → AreNormal state nodes → sides.comparison_of state nodes o os ≡ Some r → IsNormalSide state nodes total r
 comparison_side state nodes o [] r total built normal h = none_some _ r h
 comparison_side state nodes o (x ∷ []) r total built normal h = none_some _ r h
 comparison_side state nodes o (x ∷ y ∷ []) r total built normal h = first (extended nodes extend.Zero x) refl h
@@ -193,7 +193,7 @@ comparison_side state nodes o (x ∷ y ∷ []) r total built normal h = first (e
     first (Some a) e k = second a e (extended nodes extend.Zero y) refl k
 comparison_side state nodes o (x ∷ y ∷ z ∷ os) r total built normal h = none_some _ r h
 
-extensions_side : (state : IrType) (nodes : List Node) (kind : Extend) (x : Operand) (w : ℕ) (r : RightSide) → AreBuilt state nodes → AreNormal state nodes → width_in state nodes x ≤ w → sides.extension_of state nodes kind w (x ∷ []) ≡ Some r → IsNormalSide state nodes w r
+extensions_side : (state : IrType) (nodes : List Node) (kind : Extend) (x : Operand) (w : ℕ) (r : NodeReplacement) → AreBuilt state nodes → AreNormal state nodes → width_in state nodes x ≤ w → sides.extension_of state nodes kind w (x ∷ []) ≡ Some r → IsNormalSide state nodes w r
 extensions_side state nodes kind x w r built normal within h = whole (nat_eq (width_in state nodes x) w) h
   where
     strict : (a : Operand) → extended nodes extend.Zero x ≡ Some a → (b : Bool) → (if b then (Some (right.Extension extend.Zero a)) else None) ≡ Some r → IsNormalSide state nodes w r
@@ -223,7 +223,7 @@ extensions_side state nodes kind x w r built normal within h = whole (nat_eq (wi
     whole false k = longer (extended nodes kind x) refl k
 
 -- those of slices and of parts need nothing
-needs_nothing : (state : IrType) (nodes : List Node) (total : ℕ) (n : Node) (part : LongSlice) (r : RightSide) → SaysOfSlice state nodes n part r → IsNormalSide state nodes total r
+needs_nothing : (state : IrType) (nodes : List Node) (total : ℕ) (n : Node) (part : LongSlice) (r : NodeReplacement) → SaysOfSlice state nodes n part r → IsNormalSide state nodes total r
 needs_nothing state nodes total n part (right.Operand o) h = tt
 needs_nothing state nodes total n part right.Zero h = tt
 needs_nothing state nodes total n part (right.Extension kind a) h = absurd h
@@ -232,12 +232,12 @@ needs_nothing state nodes total n part (right.LongerSlice y start width) h = tt
 needs_nothing state nodes total n part (right.Operation o a b m) h = absurd h
 needs_nothing state nodes total n part (right.Comparison o a b m) h = absurd h
 
-operand_side : (state : IrType) (nodes : List Node) (total : ℕ) (q : Option Operand) (r : RightSide) → sides.operand_if q ≡ Some r → IsNormalSide state nodes total r
+operand_side : (state : IrType) (nodes : List Node) (total : ℕ) (q : Option Operand) (r : NodeReplacement) → sides.operand_if q ≡ Some r → IsNormalSide state nodes total r
 operand_side state nodes total None r h = none_some _ r h
 operand_side state nodes total (Some o) r h = let same : right.Operand o ≡ r = cc in subst (IsNormalSide state nodes total) same tt
 
-pub normal_side : (state : IrType) (nodes : List Node) (n : Node) (r : RightSide) → AreBuilt state nodes → IsPlaced state nodes (length nodes) n → right_side_of state nodes n ≡ Some r → AreNormal state nodes → IsNormalSide state nodes (bits_width n.ty) r
-normal_side state nodes n r built placed h normal = by n.attributes refl h
+pub normal_side : (state : IrType) (nodes : List Node) (n : Node) (r : NodeReplacement) → AreBuilt state nodes → FitsAt state nodes (length nodes) n → replacement_of state nodes n ≡ Some r → AreNormal state nodes → IsNormalSide state nodes (bits_width n.ty) r
+normal_side state nodes n r built fits_at h normal = by n.attributes refl h
   where
     here : length nodes ≤ length nodes
     here = omega arith
@@ -247,7 +247,7 @@ normal_side state nodes n r built placed h normal = by n.attributes refl h
     alone (x ∷ []) k = let same : right.Operand x ≡ r = cc in subst (IsNormalSide state nodes (bits_width n.ty)) same tt
     alone (x ∷ y ∷ os) k = none_some _ r k
 
-    plain : (o : Op) → sides.plain_right_side state nodes o (bits_width n.ty) n.operands ≡ Some r → IsNormalSide state nodes (bits_width n.ty) r
+    plain : (o : Op) → sides.plain_replacement state nodes o (bits_width n.ty) n.operands ≡ Some r → IsNormalSide state nodes (bits_width n.ty) r
     plain (op.Binary o) k = operation_side state nodes o (bits_width n.ty) n.operands r (bits_width n.ty) built normal k
     plain (op.Compare o) k = comparison_side state nodes o n.operands r (bits_width n.ty) built normal k
     plain op.Concat k = alone n.operands k
@@ -256,14 +256,14 @@ normal_side state nodes n r built placed h normal = by n.attributes refl h
     slice : (start w : ℕ) (os : List Operand) → n.operands ≡ os → n.attributes ≡ attributes.StartAndWidth start w → sides.slice_of_one state nodes start w os ≡ Some r → IsNormalSide state nodes (bits_width n.ty) r
     slice start w [] f a k = none_some _ r k
     slice start w (x ∷ []) f a k =
-        let says = says_slice state nodes (length nodes) n n.op x start w here placed (record { op = refl; operands = f; attributes = a }) in
+        let says = says_slice state nodes (length nodes) n n.op x start w here fits_at (record { op = refl; operands = f; attributes = a }) in
         needs_nothing state nodes (bits_width n.ty) n (slice_at x start w w) r ((slice_says state nodes (slice_at x start w w) r built k).1 n (slice_of_node state nodes n x start w says))
     slice start w (x ∷ y ∷ os) f a k = none_some _ r k
 
     extension : (kind : Extend) (w : ℕ) (os : List Operand) → n.op ≡ op.Extend kind → n.operands ≡ os → n.attributes ≡ attributes.NewBitCount w → sides.extension_of state nodes kind w os ≡ Some r → IsNormalSide state nodes (bits_width n.ty) r
     extension kind w [] e f a k = none_some _ r k
     extension kind w (x ∷ []) e f a k =
-        let says = says_extension state nodes (length nodes) n kind x w here placed (record { op = e; operands = f; attributes = a }) in
+        let says = says_extension state nodes (length nodes) n kind x w here fits_at (record { op = e; operands = f; attributes = a }) in
         let own = number_width state nodes x says.own says.is in
         let longer = says.longer in
         subst (λ v. IsNormalSide state nodes v r) (sym (ap bits_width says.wide.ty ∙ width_is w)) (extensions_side state nodes kind x w r built normal (omega (arith, own, longer)) k)
@@ -273,12 +273,12 @@ normal_side state nodes n r built placed h normal = by n.attributes refl h
     extension_op (op.Extend kind) w e a k = extension kind w n.operands e refl a k
     extension_op o w e a k = absurd (cc)
 
-    part : (index : ℕ) (os : List Operand) → sides.element_right_side nodes index os ≡ Some r → IsNormalSide state nodes (bits_width n.ty) r
+    part : (index : ℕ) (os : List Operand) → sides.element_replacement nodes index os ≡ Some r → IsNormalSide state nodes (bits_width n.ty) r
     part index [] k = none_some _ r k
     part index (x ∷ []) k = operand_side state nodes (bits_width n.ty) (element_of nodes index x) r k
     part index (x ∷ y ∷ os) k = none_some _ r k
 
-    by : (t : Attributes) → n.attributes ≡ t → sides.right_side_by state nodes n.op (bits_width n.ty) n.operands t ≡ Some r → IsNormalSide state nodes (bits_width n.ty) r
+    by : (t : Attributes) → n.attributes ≡ t → sides.replacement_by state nodes n.op (bits_width n.ty) n.operands t ≡ Some r → IsNormalSide state nodes (bits_width n.ty) r
     by attributes.None a k = plain n.op k
     by (attributes.StartAndWidth start width) a k = slice start width n.operands refl a k
     by (attributes.Width width) a k = none_some _ r k
@@ -341,7 +341,7 @@ operation_normal state old mid new m o a b x y least mid_built built e f g ha hb
   second.normal,
   subst (IsNarrowInside state new) (sym is) (record {
     narrowed =
-        ap (λ k. left.binary_side o k (origin state new x ∷ origin state new y ∷ [])) (width_is least)
+        ap (λ k. left.binary_pattern o k (origin state new x ∷ origin state new y ∷ [])) (width_is least)
         ∙ row_of state new o least x y built
         (λ p q i j.
         ap₂ (row_test o least)
@@ -376,36 +376,36 @@ comparison_normal state old mid new n m o a b x y least built f g ha hb xn first
 
 -- ---- slices
 
-slice_side : (state : IrType) (nodes : List Node) (n : Node) (part : LongSlice) → AreBuilt state nodes → IsSliceOf state nodes n part → slice_of state nodes part.start part.width part.operand ≡ None → has_left_side state nodes (slice_node part.operand part.start part.width) ≡ false
-slice_side state nodes n part built h none = ap (λ k. left.slice_side part.start k (origin state nodes part.operand ∷ [])) (width_is part.width) ∙ no_slice state nodes part.operand part.start part.width h.some built none
+slice_pattern : (state : IrType) (nodes : List Node) (n : Node) (part : LongSlice) → AreBuilt state nodes → IsSliceOf state nodes n part → slice_of state nodes part.start part.width part.operand ≡ None → has_pattern state nodes (slice_node part.operand part.start part.width) ≡ false
+slice_pattern state nodes n part built h none = ap (λ k. left.slice_pattern part.start k (origin state nodes part.operand ∷ [])) (width_is part.width) ∙ no_slice state nodes part.operand part.start part.width h.some built none
 
 pub slice_narrow : (state : IrType) (nodes : List Node) (n m : Node) (part : LongSlice) → m ≡ slice_node part.operand part.start part.width → AreBuilt state nodes → IsSliceOf state nodes n part → slice_of state nodes part.start part.width part.operand ≡ None → IsNarrow state nodes n m
-slice_narrow state nodes n m part is built h none = subst (IsNarrow state nodes n) (sym is) (record { narrowed = slice_side state nodes n part built h none; select = λ k. absurd (cc) })
+slice_narrow state nodes n m part is built h none = subst (IsNarrow state nodes n) (sym is) (record { narrowed = slice_pattern state nodes n part built h none; select = λ k. absurd (cc) })
 
 pub slice_narrow_inside : (state : IrType) (nodes : List Node) (n m : Node) (part : LongSlice) → m ≡ slice_node part.operand part.start part.width → AreBuilt state nodes → IsSliceOf state nodes n part → slice_of state nodes part.start part.width part.operand ≡ None → IsNarrowInside state nodes m
-slice_narrow_inside state nodes n m part is built h none = subst (IsNarrowInside state nodes) (sym is) (record { narrowed = slice_side state nodes n part built h none; no_select = refl; no_extension = refl })
+slice_narrow_inside state nodes n m part is built h none = subst (IsNarrowInside state nodes) (sym is) (record { narrowed = slice_pattern state nodes n part built h none; no_select = refl; no_extension = refl })
 
-whole_narrow : (state : IrType) (nodes : List Node) (n : Node) (a : Operand) (total : ℕ) → has_left_side state nodes (extension_node extend.Zero a total) ≡ false → HasNoLeftSide state nodes n (stand_in.Node (extension_node extend.Zero a total))
+whole_narrow : (state : IrType) (nodes : List Node) (n : Node) (a : Operand) (total : ℕ) → has_pattern state nodes (extension_node extend.Zero a total) ≡ false → HasNoPattern state nodes n (rewritten_node.Node (extension_node extend.Zero a total))
 whole_narrow state nodes n a total h = record { narrowed = h; select = λ k. absurd (cc) }
 
-pub whole_extended_narrow : {E : Type 0} (r : Result StandIn E) (nodes : List Node) (o : Operand) (width total : ℕ) → width ≢ total → extended nodes extend.Zero o ≡ None → IfOk r (λ x. x ≡ stand_in.Node (extension_node extend.Zero o total)) → IfOk r (λ x. (state : IrType) (n : Node) → AreBuilt state nodes → IsWhole state nodes n o width total → AreNormal state nodes → HasNoLeftSide state nodes n x)
+pub whole_extended_narrow : {E : Type 0} (r : Result RewrittenNode E) (nodes : List Node) (o : Operand) (width total : ℕ) → width ≢ total → extended nodes extend.Zero o ≡ None → IfOk r (λ x. x ≡ rewritten_node.Node (extension_node extend.Zero o total)) → IfOk r (λ x. (state : IrType) (n : Node) → AreBuilt state nodes → IsWhole state nodes n o width total → AreNormal state nodes → HasNoPattern state nodes n x)
 whole_extended_narrow (Ok x) nodes o width total other none e = λ state n built h normal.
     let own = number_width state nodes o width h.is in
-    subst (HasNoLeftSide state nodes n) (sym e)
+    subst (HasNoPattern state nodes n) (sym e)
     (whole_narrow state nodes n o total (extension_side state nodes extend.Zero o total (extend_row state nodes extend.Zero total o built (ap (λ k. nat_eq k total) own ∙ unlike width total other) none (λ k. absurd (no_sign k)))))
 whole_extended_narrow (Err x) nodes o width total other none e = tt
 
-pub whole_merged_narrow : {E : Type 0} (r : Result StandIn E) (nodes : List Node) (o a : Operand) (width total : ℕ) → Some a ≡ extended nodes extend.Zero o → IfOk r (λ x. x ≡ stand_in.Node (extension_node extend.Zero a total)) → IfOk r (λ x. (state : IrType) (n : Node) → AreBuilt state nodes → IsWhole state nodes n o width total → AreNormal state nodes → HasNoLeftSide state nodes n x)
+pub whole_merged_narrow : {E : Type 0} (r : Result RewrittenNode E) (nodes : List Node) (o a : Operand) (width total : ℕ) → Some a ≡ extended nodes extend.Zero o → IfOk r (λ x. x ≡ rewritten_node.Node (extension_node extend.Zero a total)) → IfOk r (λ x. (state : IrType) (n : Node) → AreBuilt state nodes → IsWhole state nodes n o width total → AreNormal state nodes → HasNoPattern state nodes n x)
 whole_merged_narrow (Ok x) nodes o a width total f e = λ state n built h normal.
     let own = number_width state nodes o width h.is in
     let longer = h.longer in
     let known = normal_extension state nodes extend.Zero o a normal (sym f) in
-    subst (HasNoLeftSide state nodes n) (sym e)
+    subst (HasNoPattern state nodes n) (sym e)
     (whole_narrow state nodes n a total (wider_extension state nodes extend.Zero extend.Zero o a total total (shows_extension state nodes extend.Zero o a built (sym f)) known (omega (arith, own, longer)) known.side))
 whole_merged_narrow (Err x) nodes o a width total f e = tt
 
 -- a slice with none inside is an operand, zeros, or itself
-pub last_is : (state : IrType) (nodes : List Node) (part : LongSlice) (r : RightSide) → inner_part r part ≡ None → (n : Node) → SaysOfSlice state nodes n part r → (P : Type 0) → ((o : Operand) → r ≡ right.Operand o → P) → (r ≡ right.Zero → P) → P
+pub last_is : (state : IrType) (nodes : List Node) (part : LongSlice) (r : NodeReplacement) → inner_part r part ≡ None → (n : Node) → SaysOfSlice state nodes n part r → (P : Type 0) → ((o : Operand) → r ≡ right.Operand o → P) → (r ≡ right.Zero → P) → P
 last_is state nodes part (right.Operand o) e n h P f g = f o refl
 last_is state nodes part right.Zero e n h P f g = g refl
 last_is state nodes part (right.Extension kind a) e n h P f g = absurd h
@@ -435,20 +435,20 @@ comparison_keeps state old mid new n m o a b x y least built first first_normal 
     comparison_normal state old mid new n m o a b x y least g.built g.extends (extends_twice old mid new f.extends g.extends) h.first h.second f.is one two is bare
 
 -- a node that stays
-pub stays_normal : (state : IrType) (nodes : List Node) (n : Node) → AreBuilt state nodes → IsPlaced state nodes (length nodes) n → right_side_of state nodes n ≡ None → AreNormal state nodes → AreNormal state nodes × IsNarrow state nodes n n
-stays_normal state nodes n built placed none normal = (normal, record { narrowed = no_left_side state nodes n built placed none; select = λ k. refl })
+pub stays_normal : (state : IrType) (nodes : List Node) (n : Node) → AreBuilt state nodes → FitsAt state nodes (length nodes) n → replacement_of state nodes n ≡ None → AreNormal state nodes → AreNormal state nodes × IsNarrow state nodes n n
+stays_normal state nodes n built fits_at none normal = (normal, record { narrowed = no_left_side state nodes n built fits_at none; select = λ k. refl })
 
-pub right_keeps : {E : Type 0} (r : Result StandIn E) (state : IrType) (old new seen : List Node) (n : Node) (side : RightSide) (total : ℕ) → seen ≡ old → total ≡ bits_width n.ty → AreBuilt state old → IsPlaced state old (length old) n → Some side ≡ right_side_of state seen n → IfOk r (λ x. (n : Node) → IsRightSide state old n total side → (AreNormal state old → IsNormalSide state old total side) → KeepsNormal state old new n x) → IfOk r (λ x. KeepsNormal state old new n x)
-right_keeps (Ok x) state old new seen n side total e t built placed h f =
-    let found : right_side_of state old n ≡ Some side = ap (λ ns. right_side_of state ns n) (sym e) ∙ sym h in
-    f n (subst (λ k. IsRightSide state old n k side) (sym t) (right_says state old n side built placed found))
-    (λ normal. subst (λ k. IsNormalSide state old k side) (sym t) (normal_side state old n side built placed found normal))
-right_keeps (Err x) state old new seen n side total e t built placed h f = tt
+pub right_keeps : {E : Type 0} (r : Result RewrittenNode E) (state : IrType) (old new seen : List Node) (n : Node) (side : NodeReplacement) (total : ℕ) → seen ≡ old → total ≡ bits_width n.ty → AreBuilt state old → FitsAt state old (length old) n → Some side ≡ replacement_of state seen n → IfOk r (λ x. (n : Node) → IsReplacement state old n total side → (AreNormal state old → IsNormalSide state old total side) → KeepsNormal state old new n x) → IfOk r (λ x. KeepsNormal state old new n x)
+right_keeps (Ok x) state old new seen n side total e t built fits_at h f =
+    let found : replacement_of state old n ≡ Some side = ap (λ ns. replacement_of state ns n) (sym e) ∙ sym h in
+    f n (subst (λ k. IsReplacement state old n k side) (sym t) (right_says state old n side built fits_at found))
+    (λ normal. subst (λ k. IsNormalSide state old k side) (sym t) (normal_side state old n side built fits_at found normal))
+right_keeps (Err x) state old new seen n side total e t built fits_at h f = tt
 
-pub some_part_normal : {E : Type 0} (r : Result StandIn E) (state : IrType) (nodes : List Node) (side : RightSide) (part : LongSlice) → AreBuilt state nodes → Some side ≡ slice_of state nodes part.start part.width part.operand → IfOk r (λ x. (state : IrType) (n : Node) → AreBuilt state nodes → IsSliceOf state nodes n part → SaysOfSlice state nodes n part side → inner_part side part ≡ None → AreNormal state nodes → HasNoLeftSide state nodes n x) → IfOk r (λ x. (n : Node) → IsInnermost state nodes part → IsSliceOf state nodes n part → AreNormal state nodes → HasNoLeftSide state nodes n x)
+pub some_part_normal : {E : Type 0} (r : Result RewrittenNode E) (state : IrType) (nodes : List Node) (side : NodeReplacement) (part : LongSlice) → AreBuilt state nodes → Some side ≡ slice_of state nodes part.start part.width part.operand → IfOk r (λ x. (state : IrType) (n : Node) → AreBuilt state nodes → IsSliceOf state nodes n part → SaysOfSlice state nodes n part side → inner_part side part ≡ None → AreNormal state nodes → HasNoPattern state nodes n x) → IfOk r (λ x. (n : Node) → IsInnermost state nodes part → IsSliceOf state nodes n part → AreNormal state nodes → HasNoPattern state nodes n x)
 some_part_normal (Ok x) state nodes side part built e f = λ n last h normal. f state n built h ((slice_says state nodes part side built (sym e)).1 n h) (last side (sym e)) normal
 some_part_normal (Err x) state nodes side part built e f = tt
 
-pub pair_keeps : {E : Type 0} (r : Result StandIn E) (state : IrType) (old new : List Node) (P : Node → Type 0) (Q : Type 0) → IfOk r (λ x. (n : Node) → P n → Q → KeepsNormal state old new n x) → IfOk r (λ x. (n : Node) → P n → (AreNormal state old → Q) → KeepsNormal state old new n x)
+pub pair_keeps : {E : Type 0} (r : Result RewrittenNode E) (state : IrType) (old new : List Node) (P : Node → Type 0) (Q : Type 0) → IfOk r (λ x. (n : Node) → P n → Q → KeepsNormal state old new n x) → IfOk r (λ x. (n : Node) → P n → (AreNormal state old → Q) → KeepsNormal state old new n x)
 pair_keeps (Ok x) state old new P Q f = λ n p q normal. f n p (q normal) normal
 pair_keeps (Err x) state old new P Q f = tt

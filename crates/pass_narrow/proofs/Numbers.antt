@@ -25,7 +25,7 @@ use Rattle.ir_verify.specs.Lines.{is_there}
 use Rattle.ir_verify.proofs.Lemmas.Typed.Checked.{both_true, and_true}
 use Rattle.ir_verify.proofs.Lemmas.Typed.Tests.{IsSound, marks-Bits}
 use Rattle.ir_verify.proofs.Lemmas.Typed.Scopes.{word_there, bits_there, on_word-Bits}
-use Rattle.ir_rebuild.specs.Built.{IsPlaced, AreBuilt, AreValues, StandsFor, Extends, is_plain_op, numbered}
+use Rattle.ir_rebuild.specs.Built.{FitsAt, AreBuilt, AreValues, OperandSimulates, Extends, is_plain_op, numbered}
 use Rattle.ir_rebuild.proofs.Lemmas.{node_there, has_type, appended, values_before, there_more, type_more}
 use Rattle.pass_narrow.specs.Numbers.{number_there, number_of, number, IsNumber}
 use Rattle.pass_narrow.specs.Narrowing.{IsLike, IsLikeLonger}
@@ -108,13 +108,13 @@ extends_twice a b c h k = record {
 
 -- the node is a number of so many bits, this one, and can stand there
 pub record IsMade (state : IrType) (nodes : List Node) (n : Node) (w : ℕ) (f : Value → List Value → ℕ) : Type 0 where
-  pub placed : IsPlaced state nodes (length nodes) n
+  pub fits_at : FitsAt state nodes (length nodes) n
   pub plain : is_plain_op n.op ≡ true
   pub result : IsResult state nodes n w f
 
 pub gives : (state : IrType) (nodes : List Node) (n : Node) (w : ℕ) (f : Value → List Value → ℕ) → AreBuilt state nodes → IsMade state nodes n w f → GivesNumber state nodes (nodes ++ numbered (length nodes) n ∷ []) (operand.Node (length nodes)) w f
 gives state nodes n w f built m =
-    let r = appended state nodes n built m.placed m.plain in
+    let r = appended state nodes n built m.fits_at m.plain in
     record {
       built = r.built;
       extends = r.extends;
@@ -132,7 +132,7 @@ gives_itself state nodes o w built h = record { built = built; extends = extends
 
 pub like_of : (state : IrType) (old new : List Node) (n m : Node) (w : ℕ) (f : Value → List Value → ℕ) → Extends old new → IsResult state old n w f → IsMade state new m w f → IsLike state new n m
 like_of state old new n m w f e r k = record {
-  placed = k.placed;
+  fits_at = k.fits_at;
   plain = k.plain;
   ty = k.result.ty ∙ sym r.ty;
   value = λ s values v. k.result.value s values v ∙ sym (r.value s values (values_earlier state old new s values e v));
@@ -146,7 +146,7 @@ longer_word v w n h k =
 
 pub like_longer : (state : IrType) (old new : List Node) (n m : Node) (own w : ℕ) (f : Value → List Value → ℕ) → Extends old new → own < w → w ≤ 128 → IsResult state old n w f → IsMade state new m own f → IsLikeLonger state new n m w
 like_longer state old new n m own w f e fewer most r k = record {
-  placed = k.placed;
+  fits_at = k.fits_at;
   plain = k.plain;
   own = own;
   own_ty = k.result.ty;
@@ -159,7 +159,7 @@ like_longer state old new n m own w f e fewer most r k = record {
       ∙ sym (r.value s values (values_earlier state old new s values e v));
 }
 
-pub stands_of : (state : IrType) (nodes : List Node) (n : Node) (o : Operand) (w : ℕ) → IsNumber state nodes o w → IsResult state nodes n w (λ s values. number s values o) → StandsFor state nodes n o
+pub stands_of : (state : IrType) (nodes : List Node) (n : Node) (o : Operand) (w : ℕ) → IsNumber state nodes o w → IsResult state nodes n w (λ s values. number s values o) → OperandSimulates state nodes n o
 stands_of state nodes n o w h r = record {
   there = h.there;
   ty = h.ty ∙ sym r.ty;

@@ -26,15 +26,15 @@ use Rattle.ir_verify.specs.Lines.{is_there}
 use Rattle.ir_verify.proofs.Lemmas.Typed.Checked.{both_true}
 use Rattle.ir_verify.proofs.Lemmas.Typed.Tests.{same_is, types_same, tuple_is}
 use Rattle.ir_verify.proofs.Lemmas.Typed.Scopes.{on_tuple-Tuple}
-use Rattle.ir_rebuild.specs.Built.{IsPlaced, AreBuilt, StandsFor, is_plain_op}
+use Rattle.ir_rebuild.specs.Built.{FitsAt, AreBuilt, OperandSimulates, is_plain_op}
 use Rattle.ir_rebuild.proofs.Lemmas.{there_more}
-use Rattle.pass_narrow.specs.declared.left_side.RightSide.{RightSide}
-use Rattle.pass_narrow.specs.declared.left_side.RightSide.TheVariants as right
+use Rattle.pass_narrow.specs.declared.node_pattern.NodeReplacement.{NodeReplacement}
+use Rattle.pass_narrow.specs.declared.node_pattern.NodeReplacement.TheVariants as right
 use Rattle.pass_narrow.specs.Numbers.{number, IsNumber}
 use Rattle.pass_narrow.specs.Views.{element_by, element_in, element_at as tuple_at, element_of}
-use Rattle.pass_narrow.specs.RightSides as sides
-use Rattle.pass_narrow.specs.RightSides.{right_side_of}
-use Rattle.pass_narrow.specs.Inner.Meant.{IsRightSide, IsSliceOf, SaysOfSlice, slice_at}
+use Rattle.pass_narrow.specs.Replacements as sides
+use Rattle.pass_narrow.specs.Replacements.{replacement_of}
+use Rattle.pass_narrow.specs.Inner.Meant.{IsReplacement, IsSliceOf, SaysOfSlice, slice_at}
 use Rattle.pass_narrow.proofs.Numbers.{width_is, stands_of, result_as}
 use Rattle.pass_narrow.proofs.Shown.{HasParts, IsWide, says_extension, SaysSlice, says_slice, says_operation, says_comparison, fitting, value_by_parts, is_named, named_value}
 use Rattle.pass_narrow.proofs.Views.{none_some, SaysConcat, says_concat, joined_of, own_word}
@@ -45,7 +45,7 @@ use Rattle.pass_narrow.proofs.Rules.{slice_says, operation_says, comparison_says
 one_value : (k : ℕ) → k * 2 ^ 0 + 0 ≡ k
 one_value k = omega arith
 
-one_number : (state : IrType) (nodes : List Node) (place : ℕ) (n : Node) (x : Operand) → SaysConcat state nodes place n (x ∷ []) → StandsFor state nodes n x
+one_number : (state : IrType) (nodes : List Node) (place : ℕ) (n : Node) (x : Operand) → SaysConcat state nodes place n (x ∷ []) → OperandSimulates state nodes n x
 one_number state nodes place n x h =
     let all = h.numbers in
     let none = all.4 in
@@ -89,22 +89,22 @@ element_parts n (attributes.Indices i) index o h e = absurd (cc)
 element_parts n (attributes.Value c) index o h e = absurd (cc)
 element_parts n (attributes.Channel predicate c) index o h e = absurd (cc)
 
-element_stands : (state : IrType) (nodes : List Node) (n : Node) (x : Operand) (index : ℕ) (o : Operand) → AreBuilt state nodes → IsPlaced state nodes (length nodes) n → HasParts n n.op (x ∷ []) (attributes.Index index) → element_of nodes index x ≡ Some o → StandsFor state nodes n o
-element_stands state nodes n operand.State index o built placed p h = none_some (StandsFor state nodes n o) o h
-element_stands state nodes n (operand.Node i) index o built placed p h = by (slice_get nodes i) refl
+element_stands : (state : IrType) (nodes : List Node) (n : Node) (x : Operand) (index : ℕ) (o : Operand) → AreBuilt state nodes → FitsAt state nodes (length nodes) n → HasParts n n.op (x ∷ []) (attributes.Index index) → element_of nodes index x ≡ Some o → OperandSimulates state nodes n o
+element_stands state nodes n operand.State index o built fits_at p h = none_some (OperandSimulates state nodes n o) o h
+element_stands state nodes n (operand.Node i) index o built fits_at p h = by (slice_get nodes i) refl
   where
-    by : (m : Option Node) → slice_get nodes i ≡ m → StandsFor state nodes n o
-    by None e = none_some (StandsFor state nodes n o) o (ap (tuple_at index) (sym e) ∙ h)
+    by : (m : Option Node) → slice_get nodes i ≡ m → OperandSimulates state nodes n o
+    by None e = none_some (OperandSimulates state nodes n o) o (ap (tuple_at index) (sym e) ∙ h)
     by (Some m) e =
         let scope = types_behind state nodes in
         let q = element_parts m m.attributes index o refl (ap (tuple_at index) (sym e) ∙ h) in
         let named = is_named state nodes i m built e (ap is_plain_op q.0.op) in
-        let own = built.placed i m e (ap is_plain_op q.0.op) in
+        let own = built.fits_at i m e (ap is_plain_op q.0.op) in
         let less = slice_get_within nodes i m e in
         let r = tuple_is (λ ts. each_same (map same_type ts) (map (type_in scope) m.operands)) m.ty (fitting state nodes i m op.Tuple m.operands attributes.None own q.0) in
         let same : r.parts ≡ map (type_in scope) m.operands = types_same r.parts (map (type_in scope) m.operands) r.test in
         let whole : type_in scope (operand.Node i) ≡ Tuple (map (type_in scope) m.operands) [] = ap (type_or (Token [])) e ∙ r.is ∙ ap (λ ts. Tuple ts []) same in
-        let fits = (both_true (is_tuple_index n.op) (tuple_index_fits index scope (operand.Node i ∷ []) n.ty) (fitting state nodes (length nodes) n n.op (operand.Node i ∷ []) (attributes.Index index) placed p)).1 in
+        let fits = (both_true (is_tuple_index n.op) (tuple_index_fits index scope (operand.Node i ∷ []) n.ty) (fitting state nodes (length nodes) n n.op (operand.Node i ∷ []) (attributes.Index index) fits_at p)).1 in
         let one = (both_true (is_tuple_where (part_is index n.ty) (type_in scope (operand.Node i))) true fits).0 in
         let test : IsTrue (part_is index n.ty (map (type_in scope) m.operands)) = sym (ap (is_tuple_where (part_is index n.ty)) whole ∙ tuple_test (part_is index n.ty) (map (type_in scope) m.operands)) ∙ one in
         let there : slice_get (map (type_in scope) m.operands) index ≡ Some (type_in scope o) = slice_get-map (type_in scope) m.operands index ∙ ap (option_map (type_in scope)) q.1 in
@@ -120,8 +120,8 @@ element_stands state nodes n (operand.Node i) index o built placed p h = by (sli
 
 -- ---- any node
 
-right_of_slice : (state : IrType) (nodes : List Node) (n : Node) (x : Operand) (start w : ℕ) (r : RightSide) → 1 ≤ w → w ≤ 128 → SaysOfSlice state nodes n (slice_at x start w w) r → IsRightSide state nodes n w r
-right_of_slice state nodes n x start w (right.Operand o) some most h = subst (StandsFor state nodes n) h.2 (stands_of state nodes n x w h.0 h.1)
+right_of_slice : (state : IrType) (nodes : List Node) (n : Node) (x : Operand) (start w : ℕ) (r : NodeReplacement) → 1 ≤ w → w ≤ 128 → SaysOfSlice state nodes n (slice_at x start w w) r → IsReplacement state nodes n w r
+right_of_slice state nodes n x start w (right.Operand o) some most h = subst (OperandSimulates state nodes n) h.2 (stands_of state nodes n x w h.0 h.1)
 right_of_slice state nodes n x start w right.Zero some most h = record { some = some; most = most; result = h }
 right_of_slice state nodes n x start w (right.Extension kind a) some most h = absurd h
 right_of_slice state nodes n x start w (right.Slice y from) some most h = h
@@ -140,76 +140,76 @@ slice_of_node state nodes n x start w h = record {
   result = h.result;
 }
 
-pub right_says : (state : IrType) (nodes : List Node) (n : Node) (r : RightSide) → AreBuilt state nodes → IsPlaced state nodes (length nodes) n → right_side_of state nodes n ≡ Some r → IsRightSide state nodes n (bits_width n.ty) r
-right_says state nodes n r built placed h = by n.attributes refl h
+pub right_says : (state : IrType) (nodes : List Node) (n : Node) (r : NodeReplacement) → AreBuilt state nodes → FitsAt state nodes (length nodes) n → replacement_of state nodes n ≡ Some r → IsReplacement state nodes n (bits_width n.ty) r
+right_says state nodes n r built fits_at h = by n.attributes refl h
   where
     here : length nodes ≤ length nodes
     here = omega arith
 
-    as_wide : (w : ℕ) → IsWide n.ty w → IsRightSide state nodes n w r → IsRightSide state nodes n (bits_width n.ty) r
-    as_wide w wide k = subst (λ v. IsRightSide state nodes n v r) (sym (ap bits_width wide.ty ∙ width_is w)) k
+    as_wide : (w : ℕ) → IsWide n.ty w → IsReplacement state nodes n w r → IsReplacement state nodes n (bits_width n.ty) r
+    as_wide w wide k = subst (λ v. IsReplacement state nodes n v r) (sym (ap bits_width wide.ty ∙ width_is w)) k
 
-    operation : (o : Binary) (os : List Operand) → n.op ≡ op.Binary o → n.operands ≡ os → n.attributes ≡ attributes.None → sides.operation_of state nodes o (bits_width n.ty) os ≡ Some r → IsRightSide state nodes n (bits_width n.ty) r
+    operation : (o : Binary) (os : List Operand) → n.op ≡ op.Binary o → n.operands ≡ os → n.attributes ≡ attributes.None → sides.operation_of state nodes o (bits_width n.ty) os ≡ Some r → IsReplacement state nodes n (bits_width n.ty) r
     operation o [] e f a g = none_some _ r g
     operation o (x ∷ []) e f a g = none_some _ r g
     operation o (x ∷ y ∷ []) e f a g =
-        let says = says_operation state nodes (length nodes) n o x y here placed (record { op = e; operands = f; attributes = a }) in
+        let says = says_operation state nodes (length nodes) n o x y here fits_at (record { op = e; operands = f; attributes = a }) in
         as_wide says.width says.wide
         (operation_says state nodes n o x y r built says (subst (λ k. sides.operation_of state nodes o k (x ∷ y ∷ []) ≡ Some r) (ap bits_width says.wide.ty ∙ width_is says.width) g))
     operation o (x ∷ y ∷ z ∷ os) e f a g = none_some _ r g
 
-    comparison : (o : Compare) (os : List Operand) → n.op ≡ op.Compare o → n.operands ≡ os → n.attributes ≡ attributes.None → sides.comparison_of state nodes o os ≡ Some r → IsRightSide state nodes n (bits_width n.ty) r
+    comparison : (o : Compare) (os : List Operand) → n.op ≡ op.Compare o → n.operands ≡ os → n.attributes ≡ attributes.None → sides.comparison_of state nodes o os ≡ Some r → IsReplacement state nodes n (bits_width n.ty) r
     comparison o [] e f a g = none_some _ r g
     comparison o (x ∷ []) e f a g = none_some _ r g
     comparison o (x ∷ y ∷ []) e f a g =
-        let says = says_comparison state nodes (length nodes) n o x y here placed (record { op = e; operands = f; attributes = a }) in
+        let says = says_comparison state nodes (length nodes) n o x y here fits_at (record { op = e; operands = f; attributes = a }) in
         comparison_says state nodes n o x y (bits_width n.ty) r built says g
     comparison o (x ∷ y ∷ z ∷ os) e f a g = none_some _ r g
 
-    alone : (os : List Operand) → n.op ≡ op.Concat → n.operands ≡ os → n.attributes ≡ attributes.None → sides.concat_of os ≡ Some r → IsRightSide state nodes n (bits_width n.ty) r
+    alone : (os : List Operand) → n.op ≡ op.Concat → n.operands ≡ os → n.attributes ≡ attributes.None → sides.concat_of os ≡ Some r → IsReplacement state nodes n (bits_width n.ty) r
     alone [] e f a g = none_some _ r g
     alone (x ∷ []) e f a g =
         let same : right.Operand x ≡ r = cc in
-        subst (IsRightSide state nodes n (bits_width n.ty)) same (one_number state nodes (length nodes) n x (says_concat state nodes (length nodes) n (x ∷ []) here placed (record { op = e; operands = f; attributes = a })))
+        subst (IsReplacement state nodes n (bits_width n.ty)) same (one_number state nodes (length nodes) n x (says_concat state nodes (length nodes) n (x ∷ []) here fits_at (record { op = e; operands = f; attributes = a })))
     alone (x ∷ y ∷ os) e f a g = none_some _ r g
 
-    plain : (o : Op) → n.op ≡ o → n.attributes ≡ attributes.None → sides.plain_right_side state nodes o (bits_width n.ty) n.operands ≡ Some r → IsRightSide state nodes n (bits_width n.ty) r
+    plain : (o : Op) → n.op ≡ o → n.attributes ≡ attributes.None → sides.plain_replacement state nodes o (bits_width n.ty) n.operands ≡ Some r → IsReplacement state nodes n (bits_width n.ty) r
     plain (op.Binary o) e a g = operation o n.operands e refl a g
     plain (op.Compare o) e a g = comparison o n.operands e refl a g
     plain op.Concat e a g = alone n.operands e refl a g
     plain o e a g = absurd (cc)
 
-    slice : (start w : ℕ) (os : List Operand) → n.operands ≡ os → n.attributes ≡ attributes.StartAndWidth start w → sides.slice_of_one state nodes start w os ≡ Some r → IsRightSide state nodes n (bits_width n.ty) r
+    slice : (start w : ℕ) (os : List Operand) → n.operands ≡ os → n.attributes ≡ attributes.StartAndWidth start w → sides.slice_of_one state nodes start w os ≡ Some r → IsReplacement state nodes n (bits_width n.ty) r
     slice start w [] f a g = none_some _ r g
     slice start w (x ∷ []) f a g =
-        let says = says_slice state nodes (length nodes) n n.op x start w here placed (record { op = refl; operands = f; attributes = a }) in
+        let says = says_slice state nodes (length nodes) n n.op x start w here fits_at (record { op = refl; operands = f; attributes = a }) in
         as_wide w says.wide
         (right_of_slice state nodes n x start w r says.wide.some says.wide.most ((slice_says state nodes (slice_at x start w w) r built g).1 n (slice_of_node state nodes n x start w says)))
     slice start w (x ∷ y ∷ os) f a g = none_some _ r g
 
-    extension : (kind : Extend) (w : ℕ) (os : List Operand) → n.op ≡ op.Extend kind → n.operands ≡ os → n.attributes ≡ attributes.NewBitCount w → sides.extension_of state nodes kind w os ≡ Some r → IsRightSide state nodes n (bits_width n.ty) r
+    extension : (kind : Extend) (w : ℕ) (os : List Operand) → n.op ≡ op.Extend kind → n.operands ≡ os → n.attributes ≡ attributes.NewBitCount w → sides.extension_of state nodes kind w os ≡ Some r → IsReplacement state nodes n (bits_width n.ty) r
     extension kind w [] e f a g = none_some _ r g
     extension kind w (x ∷ []) e f a g =
-        let says = says_extension state nodes (length nodes) n kind x w here placed (record { op = e; operands = f; attributes = a }) in
+        let says = says_extension state nodes (length nodes) n kind x w here fits_at (record { op = e; operands = f; attributes = a }) in
         as_wide w says.wide (extension_says state nodes (length nodes) n kind x w r built says g)
     extension kind w (x ∷ y ∷ os) e f a g = none_some _ r g
 
-    extension_op : (o : Op) (w : ℕ) → n.op ≡ o → n.attributes ≡ attributes.NewBitCount w → sides.extension_by_op state nodes w n.operands o ≡ Some r → IsRightSide state nodes n (bits_width n.ty) r
+    extension_op : (o : Op) (w : ℕ) → n.op ≡ o → n.attributes ≡ attributes.NewBitCount w → sides.extension_by_op state nodes w n.operands o ≡ Some r → IsReplacement state nodes n (bits_width n.ty) r
     extension_op (op.Extend kind) w e a g = extension kind w n.operands e refl a g
     extension_op o w e a g = absurd (cc)
 
-    element : (index : ℕ) (x : Operand) → HasParts n n.op (x ∷ []) (attributes.Index index) → (q : Option Operand) → element_of nodes index x ≡ q → sides.operand_if q ≡ Some r → IsRightSide state nodes n (bits_width n.ty) r
+    element : (index : ℕ) (x : Operand) → HasParts n n.op (x ∷ []) (attributes.Index index) → (q : Option Operand) → element_of nodes index x ≡ q → sides.operand_if q ≡ Some r → IsReplacement state nodes n (bits_width n.ty) r
     element index x p None f g = none_some _ r g
     element index x p (Some o) f g =
         let same : right.Operand o ≡ r = cc in
-        subst (IsRightSide state nodes n (bits_width n.ty)) same (element_stands state nodes n x index o built placed p f)
+        subst (IsReplacement state nodes n (bits_width n.ty)) same (element_stands state nodes n x index o built fits_at p f)
 
-    part : (index : ℕ) (os : List Operand) → n.operands ≡ os → n.attributes ≡ attributes.Index index → sides.element_right_side nodes index os ≡ Some r → IsRightSide state nodes n (bits_width n.ty) r
+    part : (index : ℕ) (os : List Operand) → n.operands ≡ os → n.attributes ≡ attributes.Index index → sides.element_replacement nodes index os ≡ Some r → IsReplacement state nodes n (bits_width n.ty) r
     part index [] f a g = none_some _ r g
     part index (x ∷ []) f a g = element index x (record { op = refl; operands = f; attributes = a }) (element_of nodes index x) refl g
     part index (x ∷ y ∷ os) f a g = none_some _ r g
 
-    by : (t : Attributes) → n.attributes ≡ t → sides.right_side_by state nodes n.op (bits_width n.ty) n.operands t ≡ Some r → IsRightSide state nodes n (bits_width n.ty) r
+    by : (t : Attributes) → n.attributes ≡ t → sides.replacement_by state nodes n.op (bits_width n.ty) n.operands t ≡ Some r → IsReplacement state nodes n (bits_width n.ty) r
     by attributes.None a g = plain n.op refl a g
     by (attributes.StartAndWidth start width) a g = slice start width n.operands refl a g
     by (attributes.Width width) a g = none_some _ r g

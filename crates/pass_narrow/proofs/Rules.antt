@@ -1,4 +1,4 @@
--- What right sides say holds of the nodes that have the left sides.
+-- What replacements say holds of the nodes that have the patterns.
 use Rattle.std.proofs.Common.{◌≡◌, ℕ, ◌+◌, ◌-◌, ◌*◌, ◌%◌, ◌^◌, ◌<◌, ◌≤◌, max, List, [], ◌∷◌, Bool, true, false, Option, Some, None, refl, sym, ap, ap₂, subst, ◌∙◌, arith}
 use Rattle.std.specs.Prelude.{nat_eq, nat_le, nat_lt, if◌then◌else◌}
 use Rattle.std.proofs.lemmas.Bool.Decides.{nat_tests}
@@ -14,16 +14,16 @@ use Rattle.ir_tree.specs.declared.ir_type.IrType.{IrType}
 use Rattle.ir_tree.specs.declared.node.Operand.{Operand}
 use Rattle.ir_tree.specs.declared.node.Node.{Node}
 use Rattle.ir_verify.proofs.Lemmas.Typed.Tests.{nat_same}
-use Rattle.ir_rebuild.specs.Built.{AreBuilt, AreValues, StandsFor}
+use Rattle.ir_rebuild.specs.Built.{AreBuilt, AreValues, OperandSimulates}
 use Rattle.pass_narrow.specs.declared.operands.Part.{Part}
-use Rattle.pass_narrow.specs.declared.left_side.RightSide.{RightSide}
-use Rattle.pass_narrow.specs.declared.left_side.RightSide.TheVariants as right
-use Rattle.pass_narrow.specs.declared.stand_in.LongSlice.{LongSlice}
+use Rattle.pass_narrow.specs.declared.node_pattern.NodeReplacement.{NodeReplacement}
+use Rattle.pass_narrow.specs.declared.node_pattern.NodeReplacement.TheVariants as right
+use Rattle.pass_narrow.specs.declared.rewritten_node.LongSlice.{LongSlice}
 use Rattle.pass_narrow.specs.Numbers.{number, IsNumber}
 use Rattle.pass_narrow.specs.Views.{width_in, extended, sliced, part_of}
-use Rattle.pass_narrow.specs.RightSides as sides
-use Rattle.pass_narrow.specs.RightSides.{narrower, least_width, is_unsigned, right_side_of}
-use Rattle.pass_narrow.specs.Inner.Meant.{IsResult, SaysOfSlice, slice_at, IsExtension, IsOperation, IsComparison, IsSliceOf, IsRightSide, extend_number, binary_number, compare_number}
+use Rattle.pass_narrow.specs.Replacements as sides
+use Rattle.pass_narrow.specs.Replacements.{narrower, least_width, is_unsigned, replacement_of}
+use Rattle.pass_narrow.specs.Inner.Meant.{IsResult, SaysOfSlice, slice_at, IsExtension, IsOperation, IsComparison, IsSliceOf, IsReplacement, extend_number, binary_number, compare_number}
 use Rattle.pass_narrow.specs.Slices.{depth}
 use Rattle.pass_narrow.proofs.Arithmetic.{sum_narrows, product_narrows, slice_twice, slice_past, slice_to_end, slice_whole, sign_of_zero, sign_same, sign_twice}
 use Rattle.pass_narrow.proofs.Numbers.{operand_bits, number_width, some_bits, stands_of, result_as}
@@ -108,21 +108,21 @@ operation_rule state nodes n o x y a b m h f g e =
           h.result;
     }
 
-operation_if_is : (o : Binary) (a b : Operand) (l : Option ℕ) (r : RightSide) → sides.operation_if o a b l ≡ Some r → (m : ℕ) × (l ≡ Some m) × (right.Operation o a b m ≡ r)
+operation_if_is : (o : Binary) (a b : Operand) (l : Option ℕ) (r : NodeReplacement) → sides.operation_if o a b l ≡ Some r → (m : ℕ) × (l ≡ Some m) × (right.Operation o a b m ≡ r)
 operation_if_is o a b None r h = none_some _ r h
 operation_if_is o a b (Some m) r h = (m, refl, let same : right.Operation o a b m ≡ r = cc in same)
 
-pub operation_says : (state : IrType) (nodes : List Node) (n : Node) (o : Binary) (x y : Operand) (r : RightSide) → AreBuilt state nodes → (h : SaysOperation state nodes n o x y) → sides.operation_of state nodes o h.width (x ∷ y ∷ []) ≡ Some r → IsRightSide state nodes n h.width r
+pub operation_says : (state : IrType) (nodes : List Node) (n : Node) (o : Binary) (x y : Operand) (r : NodeReplacement) → AreBuilt state nodes → (h : SaysOperation state nodes n o x y) → sides.operation_of state nodes o h.width (x ∷ y ∷ []) ≡ Some r → IsReplacement state nodes n h.width r
 operation_says state nodes n o x y r built h e = first (extended nodes extend.Zero x) refl e
   where
-    second : (a : Operand) → extended nodes extend.Zero x ≡ Some a → (q : Option Operand) → extended nodes extend.Zero y ≡ q → sides.operation_second state nodes o h.width a q ≡ Some r → IsRightSide state nodes n h.width r
+    second : (a : Operand) → extended nodes extend.Zero x ≡ Some a → (q : Option Operand) → extended nodes extend.Zero y ≡ q → sides.operation_second state nodes o h.width a q ≡ Some r → IsReplacement state nodes n h.width r
     second a f None g k = none_some _ r k
     second a f (Some b) g k =
         let is = operation_if_is o a b (least_width o (width_in state nodes a) (width_in state nodes b) h.width) r k in
-        subst (IsRightSide state nodes n h.width) is.2
+        subst (IsReplacement state nodes n h.width) is.2
         (operation_rule state nodes n o x y a b is.0 h (shows_extension state nodes extend.Zero x a built f) (shows_extension state nodes extend.Zero y b built g) is.1)
 
-    first : (p : Option Operand) → extended nodes extend.Zero x ≡ p → sides.operation_first state nodes o h.width p (extended nodes extend.Zero y) ≡ Some r → IsRightSide state nodes n h.width r
+    first : (p : Option Operand) → extended nodes extend.Zero x ≡ p → sides.operation_first state nodes o h.width p (extended nodes extend.Zero y) ≡ Some r → IsReplacement state nodes n h.width r
     first None f k = none_some _ r k
     first (Some a) f k = second a f (extended nodes extend.Zero y) refl k
 
@@ -153,14 +153,14 @@ comparison_rule state nodes n o x y a b m h f g unsigned e most = record {
       h.result;
 }
 
-comparison_if_is : (o : Compare) (a b : Operand) (l : Option ℕ) (r : RightSide) → sides.comparison_if o a b l ≡ Some r → (m : ℕ) × (l ≡ Some m) × (right.Comparison o a b m ≡ r)
+comparison_if_is : (o : Compare) (a b : Operand) (l : Option ℕ) (r : NodeReplacement) → sides.comparison_if o a b l ≡ Some r → (m : ℕ) × (l ≡ Some m) × (right.Comparison o a b m ≡ r)
 comparison_if_is o a b None r h = none_some _ r h
 comparison_if_is o a b (Some m) r h = (m, refl, let same : right.Comparison o a b m ≡ r = cc in same)
 
-pub comparison_says : (state : IrType) (nodes : List Node) (n : Node) (o : Compare) (x y : Operand) (total : ℕ) (r : RightSide) → AreBuilt state nodes → SaysComparison state nodes n o x y → sides.comparison_of state nodes o (x ∷ y ∷ []) ≡ Some r → IsRightSide state nodes n total r
+pub comparison_says : (state : IrType) (nodes : List Node) (n : Node) (o : Compare) (x y : Operand) (total : ℕ) (r : NodeReplacement) → AreBuilt state nodes → SaysComparison state nodes n o x y → sides.comparison_of state nodes o (x ∷ y ∷ []) ≡ Some r → IsReplacement state nodes n total r
 comparison_says state nodes n o x y total r built h e = first (extended nodes extend.Zero x) refl e
   where
-    found : (a b : Operand) → ShowsExtension state nodes extend.Zero x a → ShowsExtension state nodes extend.Zero y b → (c : Bool) → is_unsigned o ≡ c → (if c then (sides.comparison_if o a b (narrower (max (width_in state nodes a) (width_in state nodes b)) (width_in state nodes x))) else None) ≡ Some r → IsRightSide state nodes n total r
+    found : (a b : Operand) → ShowsExtension state nodes extend.Zero x a → ShowsExtension state nodes extend.Zero y b → (c : Bool) → is_unsigned o ≡ c → (if c then (sides.comparison_if o a b (narrower (max (width_in state nodes a) (width_in state nodes b)) (width_in state nodes x))) else None) ≡ Some r → IsReplacement state nodes n total r
     found a b f g false u k = none_some _ r k
     found a b f g true u k =
         let is = comparison_if_is o a b (narrower (max (width_in state nodes a) (width_in state nodes b)) (width_in state nodes x)) r k in
@@ -172,14 +172,14 @@ comparison_says state nodes n o x y total r built h e = first (extended nodes ex
         let fewer = m.1 in
         let same = m.0 in
         let most = f.most in
-        subst (IsRightSide state nodes n total) is.2
+        subst (IsReplacement state nodes n total) is.2
         (comparison_rule state nodes n o x y a b is.0 h f g u least (omega (arith, fewer, same, w, most)))
 
-    second : (a : Operand) → extended nodes extend.Zero x ≡ Some a → (q : Option Operand) → extended nodes extend.Zero y ≡ q → sides.comparison_second state nodes o (width_in state nodes x) a q ≡ Some r → IsRightSide state nodes n total r
+    second : (a : Operand) → extended nodes extend.Zero x ≡ Some a → (q : Option Operand) → extended nodes extend.Zero y ≡ q → sides.comparison_second state nodes o (width_in state nodes x) a q ≡ Some r → IsReplacement state nodes n total r
     second a f None g k = none_some _ r k
     second a f (Some b) g k = found a b (shows_extension state nodes extend.Zero x a built f) (shows_extension state nodes extend.Zero y b built g) (is_unsigned o) refl k
 
-    first : (p : Option Operand) → extended nodes extend.Zero x ≡ p → sides.comparison_first state nodes o (width_in state nodes x) p (extended nodes extend.Zero y) ≡ Some r → IsRightSide state nodes n total r
+    first : (p : Option Operand) → extended nodes extend.Zero x ≡ p → sides.comparison_first state nodes o (width_in state nodes x) p (extended nodes extend.Zero y) ≡ Some r → IsReplacement state nodes n total r
     first None f k = none_some _ r k
     first (Some a) f k = second a f (extended nodes extend.Zero y) refl k
 
@@ -195,7 +195,7 @@ extension_twice : (kind : Extend) (p k w x : ℕ) → 1 ≤ p → p ≤ k → x 
 extension_twice extend.Zero p k w x some longer range = refl
 extension_twice extend.Sign p k w x some longer range = sign_twice p k w x some longer range
 
-extension_itself : (state : IrType) (nodes : List Node) (place : ℕ) (n : Node) (kind : Extend) (x : Operand) (w : ℕ) → (h : SaysExtension state nodes place n kind x w) → width_in state nodes x ≡ w → StandsFor state nodes n x
+extension_itself : (state : IrType) (nodes : List Node) (place : ℕ) (n : Node) (kind : Extend) (x : Operand) (w : ℕ) → (h : SaysExtension state nodes place n kind x w) → width_in state nodes x ≡ w → OperandSimulates state nodes n x
 extension_itself state nodes place n kind x w h e =
     let same : h.own ≡ w = sym (number_width state nodes x h.own h.is) ∙ e in
     stands_of state nodes n x w (subst (IsNumber state nodes x) same h.is)
@@ -245,34 +245,34 @@ sign_rule state nodes place n x a w h f less =
           h.result;
     }
 
-pub extension_says : (state : IrType) (nodes : List Node) (place : ℕ) (n : Node) (kind : Extend) (x : Operand) (w : ℕ) (r : RightSide) → AreBuilt state nodes → SaysExtension state nodes place n kind x w → sides.extension_of state nodes kind w (x ∷ []) ≡ Some r → IsRightSide state nodes n w r
+pub extension_says : (state : IrType) (nodes : List Node) (place : ℕ) (n : Node) (kind : Extend) (x : Operand) (w : ℕ) (r : NodeReplacement) → AreBuilt state nodes → SaysExtension state nodes place n kind x w → sides.extension_of state nodes kind w (x ∷ []) ≡ Some r → IsReplacement state nodes n w r
 extension_says state nodes place n kind x w r built h e = whole (nat_eq (width_in state nodes x) w) refl e
   where
-    strict : (a : Operand) → kind ≡ extend.Sign → ShowsExtension state nodes extend.Zero x a → (b : Bool) → nat_lt (width_in state nodes a) (width_in state nodes x) ≡ b → (if b then (Some (right.Extension extend.Zero a)) else None) ≡ Some r → IsRightSide state nodes n w r
+    strict : (a : Operand) → kind ≡ extend.Sign → ShowsExtension state nodes extend.Zero x a → (b : Bool) → nat_lt (width_in state nodes a) (width_in state nodes x) ≡ b → (if b then (Some (right.Extension extend.Zero a)) else None) ≡ Some r → IsReplacement state nodes n w r
     strict a k f false t g = none_some _ r g
     strict a k f true t g =
         let same : right.Extension extend.Zero a ≡ r = cc in
-        subst (IsRightSide state nodes n w) same
+        subst (IsReplacement state nodes n w) same
         (sign_rule state nodes place n x a w (subst (λ z. SaysExtension state nodes place n z x w) k h) f (less_is (width_in state nodes a) (width_in state nodes x) t))
 
-    signed : kind ≡ extend.Sign → (q : Option Operand) → extended nodes extend.Zero x ≡ q → sides.sign_by state nodes x q ≡ Some r → IsRightSide state nodes n w r
+    signed : kind ≡ extend.Sign → (q : Option Operand) → extended nodes extend.Zero x ≡ q → sides.sign_by state nodes x q ≡ Some r → IsReplacement state nodes n w r
     signed k None f g = none_some _ r g
     signed k (Some a) f g = strict a k (shows_extension state nodes extend.Zero x a built f) (nat_lt (width_in state nodes a) (width_in state nodes x)) refl g
 
-    other : (z : Extend) → kind ≡ z → sides.other_extension state nodes x z ≡ Some r → IsRightSide state nodes n w r
+    other : (z : Extend) → kind ≡ z → sides.other_extension state nodes x z ≡ Some r → IsReplacement state nodes n w r
     other extend.Zero k g = none_some _ r g
     other extend.Sign k g = signed k (extended nodes extend.Zero x) refl g
 
-    longer : (q : Option Operand) → extended nodes kind x ≡ q → sides.longer_by state nodes kind x q ≡ Some r → IsRightSide state nodes n w r
+    longer : (q : Option Operand) → extended nodes kind x ≡ q → sides.longer_by state nodes kind x q ≡ Some r → IsReplacement state nodes n w r
     longer None f g = other kind refl g
     longer (Some a) f g =
         let same : right.Extension kind a ≡ r = cc in
-        subst (IsRightSide state nodes n w) same (longer_rule state nodes place n kind x a w built h (shows_extension state nodes kind x a built f))
+        subst (IsReplacement state nodes n w) same (longer_rule state nodes place n kind x a w built h (shows_extension state nodes kind x a built f))
 
-    whole : (b : Bool) → nat_eq (width_in state nodes x) w ≡ b → (if b then (Some (right.Operand x)) else sides.longer_of state nodes kind x) ≡ Some r → IsRightSide state nodes n w r
+    whole : (b : Bool) → nat_eq (width_in state nodes x) w ≡ b → (if b then (Some (right.Operand x)) else sides.longer_of state nodes kind x) ≡ Some r → IsReplacement state nodes n w r
     whole true t g =
         let same : right.Operand x ≡ r = cc in
-        subst (IsRightSide state nodes n w) same (extension_itself state nodes place n kind x w h (nat_same (width_in state nodes x) w t))
+        subst (IsReplacement state nodes n w) same (extension_itself state nodes place n kind x w h (nat_same (width_in state nodes x) w t))
     whole false t g = longer (extended nodes kind x) refl g
 
 -- ---- slices
@@ -386,7 +386,7 @@ part_slice state nodes n part inner h f = record {
 }
 
 -- the operand of what is inside stands before
-abbrev pub StandsBefore : Operand → RightSide → Type 0
+abbrev pub StandsBefore : Operand → NodeReplacement → Type 0
 StandsBefore x (right.Operand o) = Unit {0}
 StandsBefore x right.Zero = Unit {0}
 StandsBefore x (right.Extension kind a) = Unit {0}
@@ -395,7 +395,7 @@ StandsBefore x (right.LongerSlice y start width) = depth y < depth x
 StandsBefore x (right.Operation o a b m) = Unit {0}
 StandsBefore x (right.Comparison o a b m) = Unit {0}
 
-pub slice_says : (state : IrType) (nodes : List Node) (part : LongSlice) (r : RightSide) → AreBuilt state nodes → sides.slice_of state nodes part.start part.width part.operand ≡ Some r → StandsBefore part.operand r × ((n : Node) → IsSliceOf state nodes n part → SaysOfSlice state nodes n part r)
+pub slice_says : (state : IrType) (nodes : List Node) (part : LongSlice) (r : NodeReplacement) → AreBuilt state nodes → sides.slice_of state nodes part.start part.width part.operand ≡ Some r → StandsBefore part.operand r × ((n : Node) → IsSliceOf state nodes n part → SaysOfSlice state nodes n part r)
 slice_says state nodes part r built e = whole (nat_eq (width_in state nodes part.operand) part.width) refl e
   where
     fits : (a : Operand) (f : ShowsExtension state nodes extend.Zero part.operand a) (own : ℕ) → own ≡ f.own → part.start < own → (b : Bool) → nat_le part.width (own - part.start) ≡ b → (if b then (Some (right.Slice a part.start)) else (Some (right.LongerSlice a part.start (own - part.start)))) ≡ Some r → StandsBefore part.operand r × ((n : Node) → IsSliceOf state nodes n part → SaysOfSlice state nodes n part r)

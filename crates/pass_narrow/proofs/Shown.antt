@@ -24,7 +24,7 @@ use Rattle.ir_verify.specs.Fitting.{type_in, type_or, types_behind, all_bits_of,
 use Rattle.ir_verify.specs.Lines.{is_there, are_there, is_literal_of}
 use Rattle.ir_verify.proofs.Lemmas.Typed.Checked.{both_true}
 use Rattle.ir_verify.proofs.Lemmas.Typed.Tests.{IsLimited, limited, limited_bits, bits_is, nat_same}
-use Rattle.ir_rebuild.specs.Built.{IsPlaced, AreBuilt, AreValues, is_plain_op}
+use Rattle.ir_rebuild.specs.Built.{FitsAt, AreBuilt, AreValues, is_plain_op}
 use Rattle.ir_rebuild.proofs.Lemmas.{there_more}
 use Rattle.pass_narrow.specs.Numbers.{number, IsNumber}
 use Rattle.pass_narrow.specs.Inner.Meant.{IsResult, extend_number, binary_number, compare_number}
@@ -47,7 +47,7 @@ by_parts n o os a h = λ i. record { id = n.id; ty = n.ty; op = h.op i; operands
 
 -- ---- widths
 
-pub limited_node : (state : IrType) (nodes : List Node) (place : ℕ) (n : Node) → IsPlaced state nodes place n → IsLimited n.ty
+pub limited_node : (state : IrType) (nodes : List Node) (place : ℕ) (n : Node) → FitsAt state nodes place n → IsLimited n.ty
 limited_node state nodes place n h = limited 0 n.ty 0 (both_true _ (is_literal_of n.ty n.attributes) h.typed).0 h.limits
 
 pub record IsWide (t : IrType) (w : ℕ) : Type 0 where
@@ -79,14 +79,14 @@ number_at state nodes place o w within there h =
 
 -- ---- what a node that fits says, by its parts
 
-pub fitting : (state : IrType) (nodes : List Node) (place : ℕ) (n : Node) (o : Op) (os : List Operand) (a : Attributes) → IsPlaced state nodes place n → HasParts n o os a → IsTrue (types_fit [] (types_behind state nodes) (parts n.id n.ty o os a) a)
+pub fitting : (state : IrType) (nodes : List Node) (place : ℕ) (n : Node) (o : Op) (os : List Operand) (a : Attributes) → FitsAt state nodes place n → HasParts n o os a → IsTrue (types_fit [] (types_behind state nodes) (parts n.id n.ty o os a) a)
 fitting state nodes place n o os a h p =
     (both_true (is_met (count_of o) (length os)) (types_fit [] (types_behind state nodes) (parts n.id n.ty o os a) a) (subst (λ m. IsTrue (node_fits [] (types_behind state nodes) m)) (by_parts n o os a p) h.fits)).1
 
-pub before_one : (state : IrType) (nodes : List Node) (place : ℕ) (n : Node) (x : Operand) → IsPlaced state nodes place n → n.operands ≡ x ∷ [] → IsTrue (is_there place x)
+pub before_one : (state : IrType) (nodes : List Node) (place : ℕ) (n : Node) (x : Operand) → FitsAt state nodes place n → n.operands ≡ x ∷ [] → IsTrue (is_there place x)
 before_one state nodes place n x h e = (both_true (is_there place x) true (subst (λ os. IsTrue (are_there place os)) e h.operands)).0
 
-before_two : (state : IrType) (nodes : List Node) (place : ℕ) (n : Node) (x y : Operand) → IsPlaced state nodes place n → n.operands ≡ x ∷ y ∷ [] → IsTrue (is_there place x) × IsTrue (is_there place y)
+before_two : (state : IrType) (nodes : List Node) (place : ℕ) (n : Node) (x y : Operand) → FitsAt state nodes place n → n.operands ≡ x ∷ y ∷ [] → IsTrue (is_there place x) × IsTrue (is_there place y)
 before_two state nodes place n x y h e =
     let both = both_true (is_there place x) (is_there place y && true) (subst (λ os. IsTrue (are_there place os)) e h.operands) in
     (both.0, (both_true (is_there place y) true both.1).0)
@@ -104,7 +104,7 @@ pub record SaysExtension (state : IrType) (nodes : List Node) (place : ℕ) (n :
   pub wide : IsWide n.ty w
   pub result : IsResult state nodes n w (λ s values. extend_number kind own w (number s values a))
 
-pub says_extension : (state : IrType) (nodes : List Node) (place : ℕ) (n : Node) (kind : Extend) (a : Operand) (w : ℕ) → place ≤ length nodes → IsPlaced state nodes place n → HasParts n (op.Extend kind) (a ∷ []) (attributes.NewBitCount w) → SaysExtension state nodes place n kind a w
+pub says_extension : (state : IrType) (nodes : List Node) (place : ℕ) (n : Node) (kind : Extend) (a : Operand) (w : ℕ) → place ≤ length nodes → FitsAt state nodes place n → HasParts n (op.Extend kind) (a ∷ []) (attributes.NewBitCount w) → SaysExtension state nodes place n kind a w
 says_extension state nodes place n kind a w within h p =
     let scope = types_behind state nodes in
     let fits = both_true (is_bits_of w n.ty) (list_all (λ o. is_bits_where (λ v. nat_le v w) (type_in scope o)) (a ∷ [])) (fitting state nodes place n (op.Extend kind) (a ∷ []) (attributes.NewBitCount w) h p) in
@@ -138,7 +138,7 @@ pub record SaysSlice (state : IrType) (nodes : List Node) (place : ℕ) (n : Nod
   pub wide : IsWide n.ty w
   pub result : IsResult state nodes n w (λ s values. slice_bits (number s values x) start w)
 
-pub says_slice : (state : IrType) (nodes : List Node) (place : ℕ) (n : Node) (o : Op) (x : Operand) (start w : ℕ) → place ≤ length nodes → IsPlaced state nodes place n → HasParts n o (x ∷ []) (attributes.StartAndWidth start w) → SaysSlice state nodes place n x start w
+pub says_slice : (state : IrType) (nodes : List Node) (place : ℕ) (n : Node) (o : Op) (x : Operand) (start w : ℕ) → place ≤ length nodes → FitsAt state nodes place n → HasParts n o (x ∷ []) (attributes.StartAndWidth start w) → SaysSlice state nodes place n x start w
 says_slice state nodes place n o x start w within h p =
     let scope = types_behind state nodes in
     let fits = both_true (is_bits_of w n.ty) (list_all (λ o. is_bits_where (nat_le (start + w)) (type_in scope o)) (x ∷ [])) (both_true (is_bit_slice o) (slice_fits start w scope (x ∷ []) n.ty) (fitting state nodes place n o (x ∷ []) (attributes.StartAndWidth start w) h p)).1 in
@@ -171,7 +171,7 @@ pub record SaysOperation (state : IrType) (nodes : List Node) (n : Node) (o : Bi
   pub second : IsNumber state nodes y width
   pub result : IsResult state nodes n width (λ s values. binary_number o width (number s values x) (number s values y))
 
-pub says_operation : (state : IrType) (nodes : List Node) (place : ℕ) (n : Node) (o : Binary) (x y : Operand) → place ≤ length nodes → IsPlaced state nodes place n → HasParts n (op.Binary o) (x ∷ y ∷ []) attributes.None → SaysOperation state nodes n o x y
+pub says_operation : (state : IrType) (nodes : List Node) (place : ℕ) (n : Node) (o : Binary) (x y : Operand) → place ≤ length nodes → FitsAt state nodes place n → HasParts n (op.Binary o) (x ∷ y ∷ []) attributes.None → SaysOperation state nodes n o x y
 says_operation state nodes place n o x y within h p =
     let scope = types_behind state nodes in
     let wide = wide_where (λ w. all_bits_of w scope (x ∷ y ∷ [])) n.ty (limited_node state nodes place n h) (fitting state nodes place n (op.Binary o) (x ∷ y ∷ []) attributes.None h p) in
@@ -199,7 +199,7 @@ pub record SaysComparison (state : IrType) (nodes : List Node) (n : Node) (o : C
   pub second : IsNumber state nodes y width
   pub result : IsResult state nodes n 1 (λ s values. compare_number o width (number s values x) (number s values y))
 
-pub says_comparison : (state : IrType) (nodes : List Node) (place : ℕ) (n : Node) (o : Compare) (x y : Operand) → place ≤ length nodes → IsPlaced state nodes place n → HasParts n (op.Compare o) (x ∷ y ∷ []) attributes.None → SaysComparison state nodes n o x y
+pub says_comparison : (state : IrType) (nodes : List Node) (place : ℕ) (n : Node) (o : Compare) (x y : Operand) → place ≤ length nodes → FitsAt state nodes place n → HasParts n (op.Compare o) (x ∷ y ∷ []) attributes.None → SaysComparison state nodes n o x y
 says_comparison state nodes place n o x y within h p =
     let scope = types_behind state nodes in
     let fits = both_true (is_bits_where (λ w. all_bits_of w scope (y ∷ [])) (type_in scope x)) (is_bits_of 1 n.ty) (fitting state nodes place n (op.Compare o) (x ∷ y ∷ []) attributes.None h p) in
@@ -228,11 +228,11 @@ pub record IsNamed (state : IrType) (nodes : List Node) (x : Operand) (n : Node)
   pub is : x ≡ operand.Node place
   pub there : slice_get nodes place ≡ Some n
   pub within : place < length nodes
-  pub placed : IsPlaced state nodes place n
+  pub fits_at : FitsAt state nodes place n
   pub plain : is_plain_op n.op ≡ true
 
 pub is_named : (state : IrType) (nodes : List Node) (place : ℕ) (n : Node) → AreBuilt state nodes → slice_get nodes place ≡ Some n → is_plain_op n.op ≡ true → IsNamed state nodes (operand.Node place) n
-is_named state nodes place n built e plain = record { place = place; is = refl; there = e; within = slice_get_within nodes place n e; placed = built.placed place n e plain; plain = plain }
+is_named state nodes place n built e plain = record { place = place; is = refl; there = e; within = slice_get_within nodes place n e; fits_at = built.fits_at place n e plain; plain = plain }
 
 -- its value is the operand's
 pub named_value : (state : IrType) (nodes : List Node) (x : Operand) (n : Node) → IsNamed state nodes x n → (s : Value) (values : List Value) → AreValues state nodes s values → operand_value s values x ≡ pure_value n s values

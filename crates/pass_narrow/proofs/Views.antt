@@ -29,7 +29,7 @@ use Rattle.ir_verify.specs.Lines.{is_there, are_there}
 use Rattle.ir_verify.proofs.Lemmas.Typed.Checked.{both_true, and_true}
 use Rattle.ir_verify.proofs.Lemmas.Typed.Tests.{nat_same}
 use Rattle.ir_verify.proofs.Lemmas.Typed.Scopes as scopes
-use Rattle.ir_rebuild.specs.Built.{IsPlaced, AreBuilt, AreValues, is_plain_op}
+use Rattle.ir_rebuild.specs.Built.{FitsAt, AreBuilt, AreValues, is_plain_op}
 use Rattle.pass_narrow.specs.declared.operands.Part.{Part}
 use Rattle.pass_narrow.specs.Numbers.{number, IsNumber}
 use Rattle.pass_narrow.specs.Views.{width_in, only, same_kind, extension_by, extension_in, extension_at, extended, slice_over, slice_by, slice_in, slice_at, sliced, part_inside, part_from, parts_by, parts_in, parts_at, part_of}
@@ -96,7 +96,7 @@ shows_extension state nodes kind (operand.Node i) a built h = by (slice_get node
         let p = extension_parts kind n n.attributes a refl (ap (extension_at kind) (sym e) ∙ h) in
         let named = is_named state nodes i n built e (ap is_plain_op p.1.op) in
         let less = slice_get_within nodes i n e in
-        let says = says_extension state nodes i n kind a p.0 (omega arith) (built.placed i n e (ap is_plain_op p.1.op)) p.1 in
+        let says = says_extension state nodes i n kind a p.0 (omega arith) (built.fits_at i n e (ap is_plain_op p.1.op)) p.1 in
         record {
           own = says.own;
           width = p.0;
@@ -155,7 +155,7 @@ shows_slice state nodes (operand.Node i) part built h = by (slice_get nodes i) r
         let p = slice_parts n n.attributes part refl (ap slice_at (sym e) ∙ h) in
         let named = is_named state nodes i n built e (ap is_plain_op p.1.op) in
         let less = slice_get_within nodes i n e in
-        let says = says_slice state nodes i n op.BitSlice part.operand part.start p.0 (omega arith) (built.placed i n e (ap is_plain_op p.1.op)) p.1 in
+        let says = says_slice state nodes i n op.BitSlice part.operand part.start p.0 (omega arith) (built.fits_at i n e (ap is_plain_op p.1.op)) p.1 in
         record {
           own = says.own;
           width = p.0;
@@ -297,7 +297,7 @@ joined_value total x some most h =
     scopes.bits_there (nat_le 1 x.width && nat_le x.width 128) x (and_true _ _ first second)
     ∙ (λ i. value.Bits (record { width = h.width i; value = x.value }))
 
-pub says_concat : (state : IrType) (nodes : List Node) (place : ℕ) (n : Node) (os : List Operand) → place ≤ length nodes → IsPlaced state nodes place n → HasParts n op.Concat os attributes.None → SaysConcat state nodes place n os
+pub says_concat : (state : IrType) (nodes : List Node) (place : ℕ) (n : Node) (os : List Operand) → place ≤ length nodes → FitsAt state nodes place n → HasParts n op.Concat os attributes.None → SaysConcat state nodes place n os
 says_concat state nodes place n os within h p =
     let scope = types_behind state nodes in
     let widths = sum (map (λ o. bits_width (type_in scope o)) os) in
@@ -354,7 +354,7 @@ shows_part state nodes (operand.Node i) start width part built h = by (slice_get
         let p = concat_parts state nodes start width n n.attributes part refl (ap (parts_at state nodes start width) (sym e) ∙ h) in
         let named = is_named state nodes i n built e (ap is_plain_op p.0.op) in
         let less = slice_get_within nodes i n e in
-        let says = says_concat state nodes i n n.operands (omega arith) (built.placed i n e (ap is_plain_op p.0.op)) p.0 in
+        let says = says_concat state nodes i n n.operands (omega arith) (built.fits_at i n e (ap is_plain_op p.0.op)) p.0 in
         let total : bits_width n.ty ≡ says.total = ap bits_width says.wide.ty ∙ width_is says.total in
         let is = part_is state nodes i n.operands says.total start width part says.numbers (subst (λ k. part_from state nodes n.operands k start width ≡ Some part) total p.1) in
         record {

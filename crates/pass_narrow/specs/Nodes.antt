@@ -1,4 +1,4 @@
--- The nodes on right sides, before they get their ids.
+-- The nodes on replacements, before they get their ids.
 use Rattle.std.specs.Prelude.{ℕ, List, [], ◌∷◌}
 use Rattle.delay_model.specs.declared.op.Op.{Op}
 use Rattle.delay_model.specs.declared.op.Op.TheVariants as op

@@ -5,19 +5,19 @@ use Rattle.ir_tree.specs.declared.ir_type.IrType.{IrType}
 use Rattle.ir_tree.specs.declared.node.Operand.{Operand}
 use Rattle.ir_tree.specs.declared.node.Operand.TheVariants as operand
 use Rattle.ir_tree.specs.declared.node.Node.{Node}
-use Rattle.pass_narrow.specs.declared.left_side.RightSide.{RightSide}
-use Rattle.pass_narrow.specs.declared.left_side.RightSide.TheVariants as right
-use Rattle.pass_narrow.specs.declared.stand_in.LongSlice.{LongSlice}
-use Rattle.pass_narrow.specs.declared.stand_in.StandIn.{StandIn}
-use Rattle.pass_narrow.specs.declared.stand_in.StandIn.TheVariants as stand_in
+use Rattle.pass_narrow.specs.declared.node_pattern.NodeReplacement.{NodeReplacement}
+use Rattle.pass_narrow.specs.declared.node_pattern.NodeReplacement.TheVariants as right
+use Rattle.pass_narrow.specs.declared.rewritten_node.LongSlice.{LongSlice}
+use Rattle.pass_narrow.specs.declared.rewritten_node.RewrittenNode.{RewrittenNode}
+use Rattle.pass_narrow.specs.declared.rewritten_node.RewrittenNode.TheVariants as rewritten_node
 use Rattle.pass_narrow.specs.Nodes.{extension_node, slice_node, zero_node}
 use Rattle.pass_narrow.specs.Views.{extended}
-use Rattle.pass_narrow.specs.RightSides.{slice_of}
+use Rattle.pass_narrow.specs.Replacements.{slice_of}
 
 -- ---- the slice inside a slice
 
--- the slice that a right side is
-abbrev pub inner_part : RightSide → LongSlice → Option LongSlice
+-- the slice that a replacement is
+abbrev pub inner_part : NodeReplacement → LongSlice → Option LongSlice
 inner_part (right.Operand o) part = None
 inner_part right.Zero part = None
 inner_part (right.Extension kind a) part = None
@@ -26,7 +26,7 @@ inner_part (right.LongerSlice x start width) part = Some (record { operand = x; 
 inner_part (right.Operation o a b least) part = None
 inner_part (right.Comparison o a b least) part = None
 
-abbrev pub inner_by : LongSlice → Option RightSide → Option LongSlice
+abbrev pub inner_by : LongSlice → Option NodeReplacement → Option LongSlice
 inner_by part None = None
 inner_by part (Some r) = inner_part r part
 
@@ -56,33 +56,33 @@ innermost state nodes part = innermost_in (depth part.operand) state nodes part
 -- ---- what stands for it
 
 -- the slice, with zeros before it
-abbrev pub slice_itself : LongSlice → StandIn
-slice_itself part = if nat_eq part.width part.total then (stand_in.Node (slice_node part.operand part.start part.width)) else (stand_in.Extended (slice_node part.operand part.start part.width) part.total)
+abbrev pub slice_itself : LongSlice → RewrittenNode
+slice_itself part = if nat_eq part.width part.total then (rewritten_node.Node (slice_node part.operand part.start part.width)) else (rewritten_node.Extended (slice_node part.operand part.start part.width) part.total)
 
-abbrev pub whole_by : Operand → ℕ → Option Operand → StandIn
-whole_by o total None = stand_in.Node (extension_node extend.Zero o total)
-whole_by o total (Some a) = stand_in.Node (extension_node extend.Zero a total)
+abbrev pub whole_by : Operand → ℕ → Option Operand → RewrittenNode
+whole_by o total None = rewritten_node.Node (extension_node extend.Zero o total)
+whole_by o total (Some a) = rewritten_node.Node (extension_node extend.Zero a total)
 
 -- an operand of `width` bits with zeros before it, in one extension
-abbrev pub whole : List Node → Operand → ℕ → ℕ → StandIn
-whole nodes o width total = if nat_eq width total then (stand_in.Operand o) else (whole_by o total (extended nodes extend.Zero o))
+abbrev pub whole : List Node → Operand → ℕ → ℕ → RewrittenNode
+whole nodes o width total = if nat_eq width total then (rewritten_node.Operand o) else (whole_by o total (extended nodes extend.Zero o))
 
-abbrev pub last_part : List Node → LongSlice → RightSide → StandIn
+abbrev pub last_part : List Node → LongSlice → NodeReplacement → RewrittenNode
 last_part nodes part (right.Operand o) = whole nodes part.operand part.width part.total
-last_part nodes part right.Zero = stand_in.Node (zero_node part.total)
+last_part nodes part right.Zero = rewritten_node.Node (zero_node part.total)
 last_part nodes part (right.Extension kind a) = slice_itself part
 last_part nodes part (right.Slice x start) = slice_itself part
 last_part nodes part (right.LongerSlice x start width) = slice_itself part
 last_part nodes part (right.Operation o a b least) = slice_itself part
 last_part nodes part (right.Comparison o a b least) = slice_itself part
 
-abbrev pub last_by : List Node → LongSlice → Option RightSide → StandIn
+abbrev pub last_by : List Node → LongSlice → Option NodeReplacement → RewrittenNode
 last_by nodes part None = slice_itself part
 last_by nodes part (Some r) = last_part nodes part r
 
 -- a slice with none inside: the operand, zeros, or the slice itself
-abbrev pub last_slice : IrType → List Node → LongSlice → StandIn
+abbrev pub last_slice : IrType → List Node → LongSlice → RewrittenNode
 last_slice state nodes part = last_by nodes part (slice_of state nodes part.start part.width part.operand)
 
-abbrev pub narrowed_slice : IrType → List Node → LongSlice → StandIn
+abbrev pub narrowed_slice : IrType → List Node → LongSlice → RewrittenNode
 narrowed_slice state nodes part = last_slice state nodes (innermost state nodes part)

@@ -2,12 +2,12 @@
 //! extensions go to what they are of.
 #![tactic(auto)]
 
-mod left_side;
+mod node_pattern;
 mod nodes;
 mod operands;
 mod pass;
-mod stand_in;
+mod rewritten_node;
 
 pub use nodes::extension;
 pub use pass::{Narrow, run};
-pub use stand_in::{StandIn, narrowed};
+pub use rewritten_node::{RewrittenNode, narrowed};

@@ -1,4 +1,4 @@
-//! The nodes on right sides.
+//! The nodes on replacements.
 
 ghost use Rattle.std.specs.Prelude.{◌≡◌, ◌∷◌, [], IfOk};
 ghost use Rattle.pass_narrow.specs.Nodes.{bits_node, extension_node, slice_node, operation_node, comparison_node, zero_node};

@@ -2,11 +2,11 @@ ghost use Rattle.std.specs.Prelude.{◌≡◌, IfOk};
 ghost use Rattle.ir_tree.specs.SameBehavior.{SameBehavior};
 ghost use Rattle.ir_verify.specs.Verified.{IsVerified};
 ghost use Rattle.ir_rebuild.specs.Kept.{AreAllKept};
-ghost use Rattle.ir_rebuild.specs.Walks.{EachBecomes, SameHead};
+ghost use Rattle.ir_rebuild.specs.Walks.{EachProcRebuildsTo, SameHead};
 ghost use Rattle.pass_narrow.specs.Narrowed.{IsNarrowed};
 
 use crate::nodes::extension;
-use crate::stand_in::{StandIn, narrowed};
+use crate::rewritten_node::{RewrittenNode, narrowed};
 use delay_model::Extend;
 use ir_rebuild::{Rewrite, append, keep_all, rebuild};
 use ir_tree::{IrType, Node, Operand, Package, Proc};
@@ -36,9 +36,9 @@ impl Rewrite for Narrow {
         node: Node,
     ) -> Result<Operand, AllocError> {
         match narrowed(alloc, state, nodes, node)? {
-            StandIn::Operand(operand) => Ok(operand),
-            StandIn::Node(node) => append(nodes, node),
-            StandIn::Extended(node, width) => {
+            RewrittenNode::Operand(operand) => Ok(operand),
+            RewrittenNode::Node(node) => append(nodes, node),
+            RewrittenNode::Extended(node, width) => {
                 let operand = append(nodes, node)?;
                 let longer = extension(alloc, Extend::Zero, operand, width)?;
                 append(nodes, longer)
@@ -53,7 +53,7 @@ pub fn run(alloc: Global, ir: Package) -> Result<Package, AllocError>
     ensures verified { IfOk result (λ new. IsVerified new) }
     ensures same { IfOk result (λ new. SameBehavior ir new) }
     ensures head { IfOk result (λ new. SameHead ir new) }
-    ensures became { IfOk result (λ new. EachBecomes AreAllKept IsNarrowed ir.procs new.procs) }
+    ensures became { IfOk result (λ new. EachProcRebuildsTo AreAllKept IsNarrowed ir.procs new.procs) }
 {
     rebuild(alloc, &Narrow, ir)
 }

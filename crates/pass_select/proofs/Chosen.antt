@@ -32,7 +32,7 @@ use Rattle.ir_verify.specs.Lines.{is_there, is_there_if, are_there, attributes_t
 use Rattle.ir_tree.proofs.Lemmas.NodeTypes.IrTypes.{ty_of-Bits}
 use Rattle.ir_verify.proofs.Lemmas.Typed.Tests.{bits_is, same_is}
 use Rattle.ir_verify.proofs.Lemmas.Typed.Scopes.{HasWord, word_there}
-use Rattle.ir_rebuild.specs.Built.{IsPlaced, AreBuilt, AreValues, StandsFor, Rewrites, is_plain_op}
+use Rattle.ir_rebuild.specs.Built.{FitsAt, AreBuilt, AreValues, OperandSimulates, Rewrites, is_plain_op}
 use Rattle.ir_rebuild.proofs.Lemmas.{answered, node_there, has_type}
 use Rattle.ir_rebuild.specs.Normal.Normal.{same_operand}
 use Rattle.pass_select.specs.Choices.{number_there, literal_of, literal_at, number_in, literal_number, is_default, one_of, choice_by, choice_among, choice_in, choice_of}
@@ -172,7 +172,7 @@ record IsSel (state : IrType) (nodes : List Node) (n : Node) (cases : List Opera
   cases_there : are_there (length nodes) cases ≡ true
   default_there : is_there_if (length nodes) default ≡ true
 
-is_sel_node : (state : IrType) (nodes : List Node) (n : Node) (cases : List Operand) (default : Option Operand) (s : Operand) → IsPlaced state nodes (length nodes) n → n.attributes ≡ attributes.Cases cases default → n.operands ≡ s ∷ [] → IsSel state nodes n cases default s
+is_sel_node : (state : IrType) (nodes : List Node) (n : Node) (cases : List Operand) (default : Option Operand) (s : Operand) → FitsAt state nodes (length nodes) n → n.attributes ≡ attributes.Cases cases default → n.operands ≡ s ∷ [] → IsSel state nodes n cases default s
 is_sel_node state nodes n cases default s h e f =
     let fits : types_fit [] (types_behind state nodes) n (attributes.Cases cases default) ≡ true = ap (types_fit [] (types_behind state nodes) n) (sym e) ∙ (both (is_met (count_of n.op) (length n.operands)) (types_fit [] (types_behind state nodes) n n.attributes) h.fits).1 in
     let sel : sel_fits cases default (types_behind state nodes) (s ∷ []) n.ty ≡ true = ap (λ os. sel_fits cases default (types_behind state nodes) os n.ty) (sym f) ∙ (both (is_sel n.op) (sel_fits cases default (types_behind state nodes) n.operands n.ty) fits).1 in
@@ -187,7 +187,7 @@ is_sel_node state nodes n cases default s h e f =
     }
 
 -- one that is chosen whatever the selector's value is
-stands : (state : IrType) (nodes : List Node) (n : Node) (cases : List Operand) (default : Option Operand) (s o : Operand) (k : ℕ) (h : IsSel state nodes n cases default s) → chosen cases default k ≡ Some o → ((st : Value) (values : List Value) → AreValues state nodes st values → (x : HasWord h.select.width (operand_value st values s)) → chosen cases default x.word.value ≡ Some o) → StandsFor state nodes n o
+stands : (state : IrType) (nodes : List Node) (n : Node) (cases : List Operand) (default : Option Operand) (s o : Operand) (k : ℕ) (h : IsSel state nodes n cases default s) → chosen cases default k ≡ Some o → ((st : Value) (values : List Value) → AreValues state nodes st values → (x : HasWord h.select.width (operand_value st values s)) → chosen cases default x.word.value ≡ Some o) → OperandSimulates state nodes n o
 stands state nodes n cases default s o k h e always = record {
   there = chosen_passes (is_there (length nodes)) cases default k o h.cases_there (default_there (length nodes) default h.default_there) e;
   ty = sym (same_is n.ty (type_in (types_behind state nodes) o) (chosen_passes (λ c. same_type n.ty (type_in (types_behind state nodes) c)) cases default k o h.select.alike (default_like state nodes n.ty default h.select.default_alike) e));
@@ -199,7 +199,7 @@ stands state nodes n cases default s o k h e always = record {
 }
 
 -- the case of a literal
-literal_stands : (state : IrType) (nodes : List Node) (n : Node) (cases : List Operand) (default : Option Operand) (s o : Operand) (k : ℕ) → IsSel state nodes n cases default s → literal_number nodes s ≡ Some k → chosen cases default k ≡ Some o → StandsFor state nodes n o
+literal_stands : (state : IrType) (nodes : List Node) (n : Node) (cases : List Operand) (default : Option Operand) (s o : Operand) (k : ℕ) → IsSel state nodes n cases default s → literal_number nodes s ≡ Some k → chosen cases default k ≡ Some o → OperandSimulates state nodes n o
 literal_stands state nodes n cases default operand.State o k h l e = absurd (cc)
 literal_stands state nodes n cases default (operand.Node j) o k h l e =
     let there = node_there nodes j h.selector_there in
@@ -238,7 +238,7 @@ if_some : (b : Bool) (c o : Operand) → (if b then Some c else None) ≡ Some o
 if_some true c o e = (refl, cc)
 if_some false c o e = absurd (cc)
 
-one_stands : (state : IrType) (nodes : List Node) (n : Node) (cases : List Operand) (default : Option Operand) (s o : Operand) → IsSel state nodes n cases default s → one_of cases default ≡ Some o → StandsFor state nodes n o
+one_stands : (state : IrType) (nodes : List Node) (n : Node) (cases : List Operand) (default : Option Operand) (s o : Operand) → IsSel state nodes n cases default s → one_of cases default ≡ Some o → OperandSimulates state nodes n o
 one_stands state nodes n [] default s o h e = absurd (cc)
 one_stands state nodes n (c ∷ cs) default s o h e =
     let found = if_some (is_default c default && list_all (same_operand c) (c ∷ cs)) c o e in
@@ -256,16 +256,16 @@ one_stands state nodes n (c ∷ cs) default s o h e =
     default_is c default (nat_lt (length (c ∷ cs)) (2 ^ min h.select.width 128)) (grind (arith, nat_tests, fewer)) by_default tests.0)
     ∙ ap Some found.1)
 
-choice_stands : (state : IrType) (nodes : List Node) (n : Node) (cases : List Operand) (default : Option Operand) (s o : Operand) (l : Option ℕ) → IsSel state nodes n cases default s → literal_number nodes s ≡ l → choice_by cases default l ≡ Some o → StandsFor state nodes n o
+choice_stands : (state : IrType) (nodes : List Node) (n : Node) (cases : List Operand) (default : Option Operand) (s o : Operand) (l : Option ℕ) → IsSel state nodes n cases default s → literal_number nodes s ≡ l → choice_by cases default l ≡ Some o → OperandSimulates state nodes n o
 choice_stands state nodes n cases default s o None h e f = one_stands state nodes n cases default s o h f
 choice_stands state nodes n cases default s o (Some k) h e f = literal_stands state nodes n cases default s o k h e f
 
-among_stands : (state : IrType) (nodes : List Node) (n : Node) (cases : List Operand) (default : Option Operand) (o : Operand) (os : List Operand) → IsPlaced state nodes (length nodes) n → n.attributes ≡ attributes.Cases cases default → n.operands ≡ os → choice_among nodes cases default os ≡ Some o → StandsFor state nodes n o
+among_stands : (state : IrType) (nodes : List Node) (n : Node) (cases : List Operand) (default : Option Operand) (o : Operand) (os : List Operand) → FitsAt state nodes (length nodes) n → n.attributes ≡ attributes.Cases cases default → n.operands ≡ os → choice_among nodes cases default os ≡ Some o → OperandSimulates state nodes n o
 among_stands state nodes n cases default o [] h e f g = absurd (cc)
 among_stands state nodes n cases default o (s ∷ []) h e f g = choice_stands state nodes n cases default s o (literal_number nodes s) (is_sel_node state nodes n cases default s h e f) refl g
 among_stands state nodes n cases default o (s ∷ t ∷ os) h e f g = absurd (cc)
 
-in_stands : (state : IrType) (nodes : List Node) (n : Node) (o : Operand) (a : Attributes) → IsPlaced state nodes (length nodes) n → n.attributes ≡ a → choice_in nodes n.operands a ≡ Some o → StandsFor state nodes n o
+in_stands : (state : IrType) (nodes : List Node) (n : Node) (o : Operand) (a : Attributes) → FitsAt state nodes (length nodes) n → n.attributes ≡ a → choice_in nodes n.operands a ≡ Some o → OperandSimulates state nodes n o
 in_stands state nodes n o attributes.None h e g = absurd (cc)
 in_stands state nodes n o (attributes.StartAndWidth start width) h e g = absurd (cc)
 in_stands state nodes n o (attributes.Width width) h e g = absurd (cc)
@@ -276,5 +276,5 @@ in_stands state nodes n o (attributes.Indices i) h e g = absurd (cc)
 in_stands state nodes n o (attributes.Value c) h e g = absurd (cc)
 in_stands state nodes n o (attributes.Channel predicate c) h e g = absurd (cc)
 
-pub choice_rewrites : (state : IrType) (nodes : List Node) (n : Node) (o : Operand) → AreBuilt state nodes → IsPlaced state nodes (length nodes) n → choice_of nodes n ≡ Some o → Rewrites state nodes nodes n o
+pub choice_rewrites : (state : IrType) (nodes : List Node) (n : Node) (o : Operand) → AreBuilt state nodes → FitsAt state nodes (length nodes) n → choice_of nodes n ≡ Some o → Rewrites state nodes nodes n o
 choice_rewrites state nodes n o built h g = answered state nodes n o built (in_stands state nodes n o n.attributes h refl g)

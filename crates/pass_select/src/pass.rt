@@ -2,7 +2,7 @@ ghost use Rattle.std.specs.Prelude.{◌≡◌, IfOk};
 ghost use Rattle.ir_tree.specs.SameBehavior.{SameBehavior};
 ghost use Rattle.ir_verify.specs.Verified.{IsVerified};
 ghost use Rattle.ir_rebuild.specs.Kept.{AreAllKept};
-ghost use Rattle.ir_rebuild.specs.Walks.{EachBecomes, SameHead};
+ghost use Rattle.ir_rebuild.specs.Walks.{EachProcRebuildsTo, SameHead};
 ghost use Rattle.pass_select.specs.Selected.{IsSelected};
 
 use crate::selects::choice;
@@ -46,7 +46,7 @@ pub fn run(alloc: Global, ir: Package) -> Result<Package, AllocError>
     ensures verified { IfOk result (λ new. IsVerified new) }
     ensures same { IfOk result (λ new. SameBehavior ir new) }
     ensures head { IfOk result (λ new. SameHead ir new) }
-    ensures became { IfOk result (λ new. EachBecomes AreAllKept IsSelected ir.procs new.procs) }
+    ensures became { IfOk result (λ new. EachProcRebuildsTo AreAllKept IsSelected ir.procs new.procs) }
 {
     rebuild(alloc, &Select, ir)
 }

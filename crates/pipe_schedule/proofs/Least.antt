@@ -9,8 +9,8 @@ use Rattle.ir_tree.specs.declared.node.Role.TheVariants as role
 use Rattle.pipe_schedule.specs.declared.slot.Slot.{Slot}
 use Rattle.pipe_schedule.specs.declared.slot.Floor.{Floor}
 use Rattle.pipe_schedule.specs.Timed.{TimedNode, node_at, no_node, IsSource, is_site, is_receive, is_send, IsSite, IsReceive, IsSend}
-use Rattle.pipe_schedule.specs.Legal.{stage_of, IsPath, StandIn, path_delay, IsLegalAt, IsLeastAt}
-use Rattle.pipe_schedule.specs.Inner.Slots.{lowest, raised, stages_of, no_slot, slot_at, floor_at, start_at, ArePlaced}
+use Rattle.pipe_schedule.specs.Legal.{stage_of, IsPath, AreInStage, path_delay, IsLegalAt, IsLeastAt}
+use Rattle.pipe_schedule.specs.Inner.Slots.{lowest, raised, stages_of, no_slot, slot_at, floor_at, start_at, AreSlotted}
 use Rattle.pipe_schedule.proofs.Placing.{IsUnder, contains_none, latest_over, latest_source, LatestIs, start, source, latest_is, PlacedIs, here, next, placed_is, placed_over, placed_takes, placed_adds, placed_within}
 
 pub stage_at : (slots : List Slot) (i : ℕ) → stage_of (stages_of slots) i ≡ (slot_at slots i).stage
@@ -44,28 +44,28 @@ send_is_site (role.Send predicate c) e = refl
 
 -- ---- one node behind the others
 
-behind : (nodes : List TimedNode) (clock : ℕ) (slots : List Slot) → ArePlaced nodes clock slots → (i : ℕ) → i < length nodes → PlacedIs clock (node_at nodes i).delay (start_at nodes slots i) (slot_at slots i)
+behind : (nodes : List TimedNode) (clock : ℕ) (slots : List Slot) → AreSlotted nodes clock slots → (i : ℕ) → i < length nodes → PlacedIs clock (node_at nodes i).delay (start_at nodes slots i) (slot_at slots i)
 behind nodes clock slots p i h =
-    subst (PlacedIs clock (node_at nodes i).delay (start_at nodes slots i)) (sym (p.placed i h)) (placed_is clock (node_at nodes i).delay (start_at nodes slots i))
+    subst (PlacedIs clock (node_at nodes i).delay (start_at nodes slots i)) (sym (p.slotted i h)) (placed_is clock (node_at nodes i).delay (start_at nodes slots i))
 
-earlier : (nodes : List TimedNode) (clock : ℕ) (slots : List Slot) → ArePlaced nodes clock slots → (i j : ℕ) → IsSource nodes i j → j < length slots
+earlier : (nodes : List TimedNode) (clock : ℕ) (slots : List Slot) → AreSlotted nodes clock slots → (i j : ℕ) → IsSource nodes i j → j < length slots
 earlier nodes clock slots p i j s =
     let a = p.order i j s in
     let b = source_there nodes i j s in
     let c = p.count in
     omega arith
 
-under : (nodes : List TimedNode) (clock : ℕ) (slots : List Slot) → ArePlaced nodes clock slots → (i j : ℕ) → IsSource nodes i j → IsUnder (slot_at slots j) (start_at nodes slots i)
+under : (nodes : List TimedNode) (clock : ℕ) (slots : List Slot) → AreSlotted nodes clock slots → (i j : ℕ) → IsSource nodes i j → IsUnder (slot_at slots j) (start_at nodes slots i)
 under nodes clock slots p i j s = latest_source slots (record { stage = lowest (floor_at nodes slots i) (node_at nodes i).role; time = 0 }) (node_at nodes i).sources j s (earlier nodes clock slots p i j s)
 
-source_stage : (nodes : List TimedNode) (clock : ℕ) (slots : List Slot) → ArePlaced nodes clock slots → (i j : ℕ) → IsSource nodes i j → (slot_at slots j).stage ≤ (slot_at slots i).stage
+source_stage : (nodes : List TimedNode) (clock : ℕ) (slots : List Slot) → AreSlotted nodes clock slots → (i j : ℕ) → IsSource nodes i j → (slot_at slots j).stage ≤ (slot_at slots i).stage
 source_stage nodes clock slots p i j s =
     let u = (under nodes clock slots p i j s).stage in
     let v = placed_over clock (node_at nodes i).delay (start_at nodes slots i) (slot_at slots i) (behind nodes clock slots p i (source_there nodes i j s)) in
     omega arith
 
 -- a node stands as high as the sites before it ask
-above : (nodes : List TimedNode) (clock : ℕ) (slots : List Slot) → ArePlaced nodes clock slots → (i : ℕ) → i < length nodes → lowest (floor_at nodes slots i) (node_at nodes i).role ≤ (slot_at slots i).stage
+above : (nodes : List TimedNode) (clock : ℕ) (slots : List Slot) → AreSlotted nodes clock slots → (i : ℕ) → i < length nodes → lowest (floor_at nodes slots i) (node_at nodes i).role ≤ (slot_at slots i).stage
 above nodes clock slots p i h =
     let u = (latest_over slots (record { stage = lowest (floor_at nodes slots i) (node_at nodes i).role; time = 0 }) (node_at nodes i).sources).stage in
     let v = placed_over clock (node_at nodes i).delay (start_at nodes slots i) (slot_at slots i) (behind nodes clock slots p i h) in
@@ -74,7 +74,7 @@ above nodes clock slots p i h =
 -- ---- paths
 
 -- no path in one stage takes longer than its last node's time
-times : (nodes : List TimedNode) (clock : ℕ) (slots : List Slot) → ArePlaced nodes clock slots → (k i : ℕ) (path : List ℕ) → IsPath nodes (i ∷ path) → StandIn (stages_of slots) k (i ∷ path) → path_delay nodes (i ∷ path) ≤ (slot_at slots i).time
+times : (nodes : List TimedNode) (clock : ℕ) (slots : List Slot) → AreSlotted nodes clock slots → (k i : ℕ) (path : List ℕ) → IsPath nodes (i ∷ path) → AreInStage (stages_of slots) k (i ∷ path) → path_delay nodes (i ∷ path) ≤ (slot_at slots i).time
 times nodes clock slots p k i [] there stand =
     let t = placed_takes clock (node_at nodes i).delay (start_at nodes slots i) (slot_at slots i) (behind nodes clock slots p i there) in
     omega arith
@@ -88,7 +88,7 @@ path_there : (nodes : List TimedNode) (i : ℕ) (path : List ℕ) → IsPath nod
 path_there nodes i [] there = there
 path_there nodes i (j ∷ path) (s, there) = source_there nodes i j s
 
-paths : (nodes : List TimedNode) (clock : ℕ) (slots : List Slot) → ArePlaced nodes clock slots → (k : ℕ) (path : List ℕ) → IsPath nodes path → StandIn (stages_of slots) k path → path_delay nodes path ≤ clock
+paths : (nodes : List TimedNode) (clock : ℕ) (slots : List Slot) → AreSlotted nodes clock slots → (k : ℕ) (path : List ℕ) → IsPath nodes path → AreInStage (stages_of slots) k path → path_delay nodes path ≤ clock
 paths nodes clock slots p k [] there stand = omega arith
 paths nodes clock slots p k (i ∷ path) there stand =
     let t = times nodes clock slots p k i path there stand in
@@ -99,7 +99,7 @@ paths nodes clock slots p k (i ∷ path) there stand =
 pub record EndsAt (nodes : List TimedNode) (slots : List Slot) (i total : ℕ) : Type 0 where
   pub path : List ℕ
   pub is : IsPath nodes (i ∷ path)
-  pub stand : StandIn (stages_of slots) (slot_at slots i).stage (i ∷ path)
+  pub stand : AreInStage (stages_of slots) (slot_at slots i).stage (i ∷ path)
   pub takes : path_delay nodes (i ∷ path) ≡ total
 
 alone : (nodes : List TimedNode) (slots : List Slot) (i : ℕ) → i < length nodes → EndsAt nodes slots i (node_at nodes i).delay
@@ -109,11 +109,11 @@ longer : (nodes : List TimedNode) (slots : List Slot) (i j : ℕ) → IsSource n
 longer nodes slots i j s e w = record {
   path = j ∷ w.path;
   is = (s, w.is);
-  stand = (stage_at slots i, subst (λ k. StandIn (stages_of slots) k (j ∷ w.path)) (sym e) w.stand);
+  stand = (stage_at slots i, subst (λ k. AreInStage (stages_of slots) k (j ∷ w.path)) (sym e) w.stand);
   takes = let t = w.takes in omega arith;
 }
 
-witness_step : (nodes : List TimedNode) (clock : ℕ) (slots : List Slot) → ArePlaced nodes clock slots → (i : ℕ) → i < length nodes → ((j : ℕ) → j < i → EndsAt nodes slots j (slot_at slots j).time)
+witness_step : (nodes : List TimedNode) (clock : ℕ) (slots : List Slot) → AreSlotted nodes clock slots → (i : ℕ) → i < length nodes → ((j : ℕ) → j < i → EndsAt nodes slots j (slot_at slots j).time)
     → (at s : Slot) → slot_at slots i ≡ s → LatestIs slots (record { stage = lowest (floor_at nodes slots i) (node_at nodes i).role; time = 0 }) (node_at nodes i).sources at → PlacedIs clock (node_at nodes i).delay at s → EndsAt nodes slots i s.time
 witness_step nodes clock slots p i h before at s e o (next m) = alone nodes slots i h
 witness_step nodes clock slots p i h before at s e start (here m) = subst (EndsAt nodes slots i) (omega arith) (alone nodes slots i h)
@@ -121,7 +121,7 @@ witness_step nodes clock slots p i h before at s e (source j c) (here m) =
     longer nodes slots i j c (ap (λ (x : Slot). x.stage) e) (before j (p.order i j c))
 
 -- the time of a node is that of a path
-witness : (nodes : List TimedNode) (clock : ℕ) (slots : List Slot) → ArePlaced nodes clock slots → (n i : ℕ) → i < n → i < length nodes → EndsAt nodes slots i (slot_at slots i).time
+witness : (nodes : List TimedNode) (clock : ℕ) (slots : List Slot) → AreSlotted nodes clock slots → (n i : ℕ) → i < n → i < length nodes → EndsAt nodes slots i (slot_at slots i).time
 witness nodes clock slots p zero i l h = absurd (omega arith)
 witness nodes clock slots p (suc n) i l h =
     witness_step nodes clock slots p i h (λ j k. witness nodes clock slots p n j (omega arith) (omega arith)) (start_at nodes slots i) (slot_at slots i) refl
@@ -154,7 +154,7 @@ own_below floor role.Pure m s = absurd (cc)
 own_below floor (role.Receive predicate c) m s = record { send = omega arith; receive = omega arith; answer = λ t. absurd (cc) }
 own_below floor (role.Send predicate c) m s = record { send = omega arith; receive = omega arith; answer = λ t. omega arith }
 
-below_step : (nodes : List TimedNode) (clock : ℕ) (slots : List Slot) → ArePlaced nodes clock slots → (j i : ℕ) → suc j ≤ length nodes → i < suc j → IsSite nodes i
+below_step : (nodes : List TimedNode) (clock : ℕ) (slots : List Slot) → AreSlotted nodes clock slots → (j i : ℕ) → suc j ≤ length nodes → i < suc j → IsSite nodes i
     → (i < j → IsBelow (slot_at slots i).stage (is_send (node_at nodes i).role) (floor_at nodes slots j)) → (i < j) ⊎ (j ≤ i) → IsBelow (slot_at slots i).stage (is_send (node_at nodes i).role) (floor_at nodes slots (suc j))
 below_step nodes clock slots p j i h l s before (inl less) =
     more_below (slot_at slots i).stage (is_send (node_at nodes i).role) (floor_at nodes slots j) (node_at nodes j).role (slot_at slots j).stage
@@ -164,7 +164,7 @@ below_step nodes clock slots p j i h l s before (inr past) =
     subst (λ x. IsBelow (slot_at slots i).stage (is_send (node_at nodes i).role) (raised (floor_at nodes slots x) (node_at nodes x).role (slot_at slots x).stage)) same
     (own_below (floor_at nodes slots i) (node_at nodes i).role (slot_at slots i).stage s)
 
-below : (nodes : List TimedNode) (clock : ℕ) (slots : List Slot) → ArePlaced nodes clock slots → (j i : ℕ) → i < j → j ≤ length nodes → IsSite nodes i → IsBelow (slot_at slots i).stage (is_send (node_at nodes i).role) (floor_at nodes slots j)
+below : (nodes : List TimedNode) (clock : ℕ) (slots : List Slot) → AreSlotted nodes clock slots → (j i : ℕ) → i < j → j ≤ length nodes → IsSite nodes i → IsBelow (slot_at slots i).stage (is_send (node_at nodes i).role) (floor_at nodes slots j)
 below nodes clock slots p zero i l h s = absurd (omega arith)
 below nodes clock slots p (suc j) i l h s = below_step nodes clock slots p j i h l s (λ less. below nodes clock slots p j i less (omega arith) s) (cases_lt i j)
 
@@ -178,13 +178,13 @@ answer_low floor role.Pure k m sends s t b l = absurd (cc)
 answer_low floor (role.Receive predicate c) k m sends s t b l = let x = b.answer t in omega arith
 answer_low floor (role.Send predicate c) k m sends s t b l = absurd (cc)
 
-chain : (nodes : List TimedNode) (clock : ℕ) (slots : List Slot) → ArePlaced nodes clock slots → (i j : ℕ) → i < j → IsSite nodes i → IsSite nodes j → (slot_at slots i).stage ≤ (slot_at slots j).stage
+chain : (nodes : List TimedNode) (clock : ℕ) (slots : List Slot) → AreSlotted nodes clock slots → (i j : ℕ) → i < j → IsSite nodes i → IsSite nodes j → (slot_at slots i).stage ≤ (slot_at slots j).stage
 chain nodes clock slots p i j l s t =
     let h = site_there nodes j t in
     site_low (floor_at nodes slots j) (node_at nodes j).role (slot_at slots i).stage (slot_at slots j).stage (is_send (node_at nodes i).role) t
     (below nodes clock slots p j i l (omega arith) s) (above nodes clock slots p j h)
 
-answers : (nodes : List TimedNode) (clock : ℕ) (slots : List Slot) → ArePlaced nodes clock slots → (i j : ℕ) → i < j → IsSend nodes i → IsReceive nodes j → (slot_at slots i).stage < (slot_at slots j).stage
+answers : (nodes : List TimedNode) (clock : ℕ) (slots : List Slot) → AreSlotted nodes clock slots → (i j : ℕ) → i < j → IsSend nodes i → IsReceive nodes j → (slot_at slots i).stage < (slot_at slots j).stage
 answers nodes clock slots p i j l s t =
     let h = site_there nodes j (receive_is_site (node_at nodes j).role t) in
     answer_low (floor_at nodes slots j) (node_at nodes j).role (slot_at slots i).stage (slot_at slots j).stage (is_send (node_at nodes i).role) t s
@@ -192,7 +192,7 @@ answers nodes clock slots p i j l s t =
 
 -- ---- the schedule is legal
 
-pub legal : (nodes : List TimedNode) (clock : ℕ) (slots : List Slot) → ArePlaced nodes clock slots → IsLegalAt nodes clock (stages_of slots)
+pub legal : (nodes : List TimedNode) (clock : ℕ) (slots : List Slot) → AreSlotted nodes clock slots → IsLegalAt nodes clock (stages_of slots)
 legal nodes clock slots p = record {
   count = length-map slots (λ (s : Slot). s.stage) ∙ p.count;
   operands = λ i j s. (let x = source_stage nodes clock slots p i j s in let a = stage_at slots i in let b = stage_at slots j in omega arith);
@@ -234,8 +234,8 @@ lowest_floor nodes other floor j (role.Receive predicate c) e f = f.receive j (o
 lowest_floor nodes other floor j (role.Send predicate c) e f = f.send j (omega arith) (ap is_site e)
 
 -- a path in one stage that ends where another schedule has the same stage stands in that stage there
-stands : (nodes : List TimedNode) (clock : ℕ) (slots : List Slot) → ArePlaced nodes clock slots → (other : List ℕ) → IsLegalAt nodes clock other → (i : ℕ) → ((j : ℕ) → j < i → (slot_at slots j).stage ≤ stage_of other j)
-    → (k j : ℕ) (path : List ℕ) → j < i → stage_of other j ≡ k → IsPath nodes (j ∷ path) → StandIn (stages_of slots) k (j ∷ path) → StandIn other k (j ∷ path)
+stands : (nodes : List TimedNode) (clock : ℕ) (slots : List Slot) → AreSlotted nodes clock slots → (other : List ℕ) → IsLegalAt nodes clock other → (i : ℕ) → ((j : ℕ) → j < i → (slot_at slots j).stage ≤ stage_of other j)
+    → (k j : ℕ) (path : List ℕ) → j < i → stage_of other j ≡ k → IsPath nodes (j ∷ path) → AreInStage (stages_of slots) k (j ∷ path) → AreInStage other k (j ∷ path)
 stands nodes clock slots p other o i h k j [] l e there stand = (e, tt)
 stands nodes clock slots p other o i h k j (q ∷ path) l e (s, there) (a, (b, stand)) =
     let before = p.order j q s in
@@ -245,7 +245,7 @@ stands nodes clock slots p other o i h k j (q ∷ path) l e (s, there) (a, (b, s
     (e, stands nodes clock slots p other o i h k q path (omega arith) (omega arith) there (b, stand))
 
 -- a source whose path leaves too little time isn't of the same stage
-tight : (nodes : List TimedNode) (clock : ℕ) (slots : List Slot) → ArePlaced nodes clock slots → (other : List ℕ) → IsLegalAt nodes clock other → (i : ℕ) → i < length nodes → ((j : ℕ) → j < i → (slot_at slots j).stage ≤ stage_of other j)
+tight : (nodes : List TimedNode) (clock : ℕ) (slots : List Slot) → AreSlotted nodes clock slots → (other : List ℕ) → IsLegalAt nodes clock other → (i : ℕ) → i < length nodes → ((j : ℕ) → j < i → (slot_at slots j).stage ≤ stage_of other j)
     → (j : ℕ) → IsSource nodes i j → clock < (slot_at slots j).time + (node_at nodes i).delay → stage_of other i ≡ (slot_at slots j).stage → ⊥
 tight nodes clock slots p other o i h before j s m e =
     let l = p.order i j s in
@@ -258,7 +258,7 @@ tight nodes clock slots p other o i h before j s m e =
     let t = w.takes in
     omega arith
 
-least_step : (nodes : List TimedNode) (clock : ℕ) (slots : List Slot) → ArePlaced nodes clock slots → (other : List ℕ) → IsLegalAt nodes clock other → (i : ℕ) → i < length nodes → ((j : ℕ) → j < i → (slot_at slots j).stage ≤ stage_of other j)
+least_step : (nodes : List TimedNode) (clock : ℕ) (slots : List Slot) → AreSlotted nodes clock slots → (other : List ℕ) → IsLegalAt nodes clock other → (i : ℕ) → i < length nodes → ((j : ℕ) → j < i → (slot_at slots j).stage ≤ stage_of other j)
     → (at s : Slot) → LatestIs slots (record { stage = lowest (floor_at nodes slots i) (node_at nodes i).role; time = 0 }) (node_at nodes i).sources at → PlacedIs clock (node_at nodes i).delay at s → s.stage ≤ stage_of other i
 least_step nodes clock slots p other o i h before at s start (here m) =
     lowest_floor nodes other (floor_at nodes slots i) i (node_at nodes i).role refl (floors nodes clock slots other o i before)
@@ -270,7 +270,7 @@ least_step nodes clock slots p other o i h before at s (source j c) (next m) =
     let apart : stage_of other i ≡ (slot_at slots j).stage → ⊥ = tight nodes clock slots p other o i h before j c m in
     omega arith
 
-least_at : (nodes : List TimedNode) (clock : ℕ) (slots : List Slot) → ArePlaced nodes clock slots → (other : List ℕ) → IsLegalAt nodes clock other → (n i : ℕ) → i < n → i < length nodes → (slot_at slots i).stage ≤ stage_of other i
+least_at : (nodes : List TimedNode) (clock : ℕ) (slots : List Slot) → AreSlotted nodes clock slots → (other : List ℕ) → IsLegalAt nodes clock other → (n i : ℕ) → i < n → i < length nodes → (slot_at slots i).stage ≤ stage_of other i
 least_at nodes clock slots p other o zero i l h = absurd (omega arith)
 least_at nodes clock slots p other o (suc n) i l h =
     least_step nodes clock slots p other o i h (λ j k. least_at nodes clock slots p other o n j (omega arith) (omega arith)) (start_at nodes slots i) (slot_at slots i)
@@ -282,7 +282,7 @@ past_slots [] i h = refl
 past_slots (s ∷ slots) zero h = absurd (omega arith)
 past_slots (s ∷ slots) (suc i) h = past_slots slots i (omega arith)
 
-pub least : (nodes : List TimedNode) (clock : ℕ) (slots : List Slot) → ArePlaced nodes clock slots → IsLeastAt nodes clock (stages_of slots)
+pub least : (nodes : List TimedNode) (clock : ℕ) (slots : List Slot) → AreSlotted nodes clock slots → IsLeastAt nodes clock (stages_of slots)
 least nodes clock slots p = record { legal = legal nodes clock slots p; least = each }
   where
     each : (other : List ℕ) → IsLegalAt nodes clock other → (i : ℕ) → stage_of (stages_of slots) i ≤ stage_of other i

@@ -6,7 +6,7 @@ use Rattle.std.proofs.lemmas.List.{get_or_append_left, get_or-append_right}
 use Rattle.pipe_schedule.specs.declared.slot.Slot.{Slot}
 use Rattle.pipe_schedule.specs.declared.slot.Floor.{Floor}
 use Rattle.pipe_schedule.specs.Timed.{TimedNode, node_at}
-use Rattle.pipe_schedule.specs.Inner.Slots.{later, later_if, latest, placed, lowest, raised, no_floor, slot_of, slots_from, slots_of, no_slot, slot_at, floor_at, start_at, AreSourcesEarlier, AreSlotsInTime, ArePlaced}
+use Rattle.pipe_schedule.specs.Inner.Slots.{later, later_if, latest, slotted, lowest, raised, no_floor, slot_of, slots_from, slots_of, no_slot, slot_at, floor_at, start_at, AreSourcesEarlier, AreSlotsInTime, AreSlotted}
 use Rattle.pipe_schedule.proofs.Placing.{contains_first, contains_more, there}
 use Rattle.pipe_schedule.proofs.Walk.{slots_end, slots_more}
 use Rattle.pipe_schedule.proofs.Least.{past}
@@ -67,7 +67,7 @@ next_floor all clock n rest slots floor m e same f =
 
 first_stands : (all : List TimedNode) (clock : ℕ) (order : AreSourcesEarlier all) (n : TimedNode) (rest : List TimedNode) (slots : List Slot) (floor : Floor) (m : ℕ) → length slots ≡ m
     → ((k : ℕ) → node_at all (m + k) ≡ node_at (n ∷ rest) k) → floor ≡ floor_at all (slots_from clock slots floor (n ∷ rest)) m
-    → slot_at (slots_from clock slots floor (n ∷ rest)) (m + 0) ≡ placed clock n.delay (start_at all (slots_from clock slots floor (n ∷ rest)) (m + 0))
+    → slot_at (slots_from clock slots floor (n ∷ rest)) (m + 0) ≡ slotted clock n.delay (start_at all (slots_from clock slots floor (n ∷ rest)) (m + 0))
 first_stands all clock order n rest slots floor m e same f =
     let whole = slots_from clock slots floor (n ∷ rest) in
     let place : m + 0 ≡ m = omega arith in
@@ -79,13 +79,13 @@ first_stands all clock order n rest slots floor m e same f =
     ∙ ap (λ (x : TimedNode). latest whole (record { stage = lowest (floor_at all whole m) x.role; time = 0 }) x.sources) node in
     ap (slot_at whole) place
     ∙ made clock n rest slots floor m e
-    ∙ ap (placed clock n.delay) start
-    ∙ ap (λ j. placed clock n.delay (start_at all whole j)) (sym place)
+    ∙ ap (slotted clock n.delay) start
+    ∙ ap (λ j. slotted clock n.delay (start_at all whole j)) (sym place)
 
 -- the slots of the rest, where those before are made and their floor is the floor there
 stand_from : (all : List TimedNode) (clock : ℕ) (order : AreSourcesEarlier all) (rest : List TimedNode) (slots : List Slot) (floor : Floor) (m : ℕ) → length slots ≡ m
     → ((k : ℕ) → node_at all (m + k) ≡ node_at rest k) → floor ≡ floor_at all (slots_from clock slots floor rest) m
-    → (k : ℕ) → k < length rest → slot_at (slots_from clock slots floor rest) (m + k) ≡ placed clock (node_at rest k).delay (start_at all (slots_from clock slots floor rest) (m + k))
+    → (k : ℕ) → k < length rest → slot_at (slots_from clock slots floor rest) (m + k) ≡ slotted clock (node_at rest k).delay (start_at all (slots_from clock slots floor rest) (m + k))
 stand_from all clock order [] slots floor m e same f k h = absurd (omega arith)
 stand_from all clock order (n ∷ rest) slots floor m e same f zero h = first_stands all clock order n rest slots floor m e same f
 stand_from all clock order (n ∷ rest) slots floor m e same f (suc k) h =
@@ -95,19 +95,19 @@ stand_from all clock order (n ∷ rest) slots floor m e same f (suc k) h =
     let f' : raised floor n.role s.stage ≡ floor_at all (slots_from clock (slots ++ s ∷ []) (raised floor n.role s.stage) rest) (suc m) = next_floor all clock n rest slots floor m e same f in
     let rest_stands = stand_from all clock order rest (slots ++ s ∷ []) (raised floor n.role s.stage) (suc m) (omega (arith, length-append slots (s ∷ [])))
     (λ j. (let p : suc m + j ≡ m + suc j = omega arith in ap (node_at all) p ∙ same (suc j))) f' k (omega arith) in
-    subst (λ xs. slot_at xs (m + suc k) ≡ placed clock (node_at rest k).delay (start_at all xs (m + suc k))) (sym more)
-    (subst (λ j. slot_at (slots_from clock (slots ++ s ∷ []) (raised floor n.role s.stage) rest) j ≡ placed clock (node_at rest k).delay (start_at all (slots_from clock (slots ++ s ∷ []) (raised floor n.role s.stage) rest) j)) (sym place) rest_stands)
+    subst (λ xs. slot_at xs (m + suc k) ≡ slotted clock (node_at rest k).delay (start_at all xs (m + suc k))) (sym more)
+    (subst (λ j. slot_at (slots_from clock (slots ++ s ∷ []) (raised floor n.role s.stage) rest) j ≡ slotted clock (node_at rest k).delay (start_at all (slots_from clock (slots ++ s ∷ []) (raised floor n.role s.stage) rest) j)) (sym place) rest_stands)
 
-pub are_placed : (nodes : List TimedNode) (clock : ℕ) (slots : List Slot) → AreSlotsInTime nodes clock slots → AreSourcesEarlier nodes → ArePlaced nodes clock slots
+pub are_placed : (nodes : List TimedNode) (clock : ℕ) (slots : List Slot) → AreSlotsInTime nodes clock slots → AreSourcesEarlier nodes → AreSlotted nodes clock slots
 are_placed nodes clock slots s order = record {
   count = s.count;
   order = order;
   in_time = λ i. ⊎_elim (s.in_time i) (λ h. (let e = ap (λ (n : TimedNode). n.delay) (past nodes i h) in omega arith)) (cases_lt i (length nodes));
-  placed = λ i h. subst (λ xs. slot_at xs i ≡ placed clock (node_at nodes i).delay (start_at nodes xs i)) (sym s.exact) (stands i h);
+  slotted = λ i h. subst (λ xs. slot_at xs i ≡ slotted clock (node_at nodes i).delay (start_at nodes xs i)) (sym s.exact) (stands i h);
 }
   where
-    stands : (i : ℕ) → i < length nodes → slot_at (slots_of clock nodes) i ≡ placed clock (node_at nodes i).delay (start_at nodes (slots_of clock nodes) i)
+    stands : (i : ℕ) → i < length nodes → slot_at (slots_of clock nodes) i ≡ slotted clock (node_at nodes i).delay (start_at nodes (slots_of clock nodes) i)
     stands i h =
         let z : 0 + i ≡ i = omega arith in
-        subst (λ j. slot_at (slots_of clock nodes) j ≡ placed clock (node_at nodes i).delay (start_at nodes (slots_of clock nodes) j)) z
+        subst (λ j. slot_at (slots_of clock nodes) j ≡ slotted clock (node_at nodes i).delay (start_at nodes (slots_of clock nodes) j)) z
         (stand_from nodes clock order nodes [] no_floor 0 refl (λ k. (let y : 0 + k ≡ k = omega arith in ap (node_at nodes) y)) refl i h)

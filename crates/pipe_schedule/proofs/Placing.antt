@@ -5,7 +5,7 @@ use Rattle.std.proofs.lemmas.Bool.{cases_lt, ltb-true, leb-true}
 use Rattle.std.proofs.lemmas.Bool.Decides.{nat_tests}
 use Rattle.std.proofs.lemmas.Option.{slice_get-get_or}
 use Rattle.pipe_schedule.specs.declared.slot.Slot.{Slot}
-use Rattle.pipe_schedule.specs.Inner.Slots.{later, later_if, latest, placed, no_slot, slot_at}
+use Rattle.pipe_schedule.specs.Inner.Slots.{later, later_if, latest, slotted, no_slot, slot_at}
 
 le_from_not_less : (a b : ℕ) → nat_lt a b ≡ false → b ≤ a
 le_from_not_less a b h = grind (arith, nat_tests)
@@ -132,7 +132,7 @@ pub data PlacedIs (clock delay : ℕ) (at : Slot) : Slot → Type 0 where
   here : at.time + delay ≤ clock → PlacedIs clock delay at (record { stage = at.stage; time = at.time + delay })
   next : clock < at.time + delay → PlacedIs clock delay at (record { stage = suc at.stage; time = delay })
 
-pub placed_is : (clock delay : ℕ) (at : Slot) → PlacedIs clock delay at (placed clock delay at)
+pub placed_is : (clock delay : ℕ) (at : Slot) → PlacedIs clock delay at (slotted clock delay at)
 placed_is clock delay at = go (nat_le (at.time + delay) clock) refl
   where
     go : (x : Bool) → nat_le (at.time + delay) clock ≡ x → PlacedIs clock delay at (if x then record { stage = at.stage; time = at.time + delay } else record { stage = suc at.stage; time = delay })

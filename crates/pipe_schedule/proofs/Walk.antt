@@ -11,7 +11,7 @@ use Rattle.pipe_schedule.specs.declared.slot.Slot.{Slot}
 use Rattle.pipe_schedule.specs.declared.slot.Floor.{Floor}
 use Rattle.pipe_schedule.specs.Timed.{TimedNode, node_at, no_node}
 use Rattle.pipe_schedule.specs.Inner.Delays.{timed_node_within, timed_within}
-use Rattle.pipe_schedule.specs.Inner.Slots.{later, later_if, latest, placed, lowest, raised, slot_of, slots_from, slots_of, AreUpTo, AreSlotsInTime}
+use Rattle.pipe_schedule.specs.Inner.Slots.{later, later_if, latest, slotted, lowest, raised, slot_of, slots_from, slots_of, AreUpTo, AreSlotsInTime}
 use Rattle.pipe_schedule.proofs.Placing.{later_is, one_of, placed_is, placed_most}
 
 pub slots_end : (clock : ℕ) (slots : List Slot) (floor : Floor) → slots_from clock slots floor [] ≡ slots
@@ -46,8 +46,8 @@ pub latest_most : (slots : List Slot) (at : Slot) (js : List ℕ) (m : ℕ) → 
 latest_most slots at [] m h k = k
 latest_most slots at (j ∷ js) m h k = latest_most slots (later_if at (slice_get slots j)) js m h (if_most slots at j m h k)
 
-pub placed_up : (clock delay : ℕ) (at : Slot) (m : ℕ) → at.stage ≤ m → (placed clock delay at).stage ≤ m + 1
-placed_up clock delay at m h = let x = placed_most clock delay at (placed clock delay at) (placed_is clock delay at) in omega arith
+pub placed_up : (clock delay : ℕ) (at : Slot) (m : ℕ) → at.stage ≤ m → (slotted clock delay at).stage ≤ m + 1
+placed_up clock delay at m h = let x = placed_most clock delay at (slotted clock delay at) (placed_is clock delay at) in omega arith
 
 pub lowest_up : (floor : Floor) (r : Role) (m : ℕ) → floor.send ≤ m → floor.receive ≤ m → lowest floor r ≤ m
 lowest_up floor role.Pure m h k = omega arith
@@ -94,18 +94,18 @@ latest_low slots floor r js i at e u s t =
     let f : at.stage ≡ (latest slots (record { stage = lowest floor r; time = 0 }) js).stage = ap (λ (s : Slot). s.stage) e in
     omega arith
 
-pub placed_low : (clock delay i : ℕ) (at s : Slot) → s ≡ placed clock delay at → at.stage ≤ 2 * i + 1 → s.stage ≤ 2 * i + 2
+pub placed_low : (clock delay i : ℕ) (at s : Slot) → s ≡ slotted clock delay at → at.stage ≤ 2 * i + 1 → s.stage ≤ 2 * i + 2
 placed_low clock delay i at s e h =
     let x = placed_up clock delay at (2 * i + 1) h in
-    let f : s.stage ≡ (placed clock delay at).stage = ap (λ (s : Slot). s.stage) e in
+    let f : s.stage ≡ (slotted clock delay at).stage = ap (λ (s : Slot). s.stage) e in
     omega arith
 
 pub slot_is : (clock : ℕ) (slots : List Slot) (floor : Floor) (n : TimedNode) (delay : ℕ) (r : Role) (start at s : Slot)
-    → n.delay ≡ delay → n.role ≡ r → start ≡ record { stage = lowest floor r; time = 0 } → at ≡ latest slots start n.sources → s ≡ placed clock delay at → s ≡ slot_of clock slots floor n
+    → n.delay ≡ delay → n.role ≡ r → start ≡ record { stage = lowest floor r; time = 0 } → at ≡ latest slots start n.sources → s ≡ slotted clock delay at → s ≡ slot_of clock slots floor n
 slot_is clock slots floor n delay r start at s d e f g h =
     h
-    ∙ ap (placed clock delay) (g ∙ ap (λ x. latest slots x n.sources) (f ∙ ap (λ x. record { stage = lowest floor x; time = 0 }) (sym e)))
-    ∙ ap (λ x. placed clock x (latest slots (record { stage = lowest floor n.role; time = 0 }) n.sources)) (sym d)
+    ∙ ap (slotted clock delay) (g ∙ ap (λ x. latest slots x n.sources) (f ∙ ap (λ x. record { stage = lowest floor x; time = 0 }) (sym e)))
+    ∙ ap (λ x. slotted clock x (latest slots (record { stage = lowest floor n.role; time = 0 }) n.sources)) (sym d)
 
 up_at_end : (i : ℕ) (s : Slot) (slots : List Slot) → AreUpTo slots (2 * i) → s.stage ≤ 2 * i + 2 → AreUpTo (slots ++ s ∷ []) (2 * (i + 1))
 up_at_end i s slots u l = up_more slots s (2 * i) (2 * (i + 1)) (omega arith) u (omega arith)

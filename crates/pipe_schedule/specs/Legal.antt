@@ -18,9 +18,9 @@ IsPath nodes (i ∷ []) = i < length nodes
 IsPath nodes (i ∷ j ∷ path) = IsSource nodes i j × IsPath nodes (j ∷ path)
 
 -- all nodes of the path stand in stage k
-abbrev pub StandIn : List ℕ → ℕ → List ℕ → Type 0
-StandIn stages k [] = Unit {0}
-StandIn stages k (i ∷ path) = (stage_of stages i ≡ k) × StandIn stages k path
+abbrev pub AreInStage : List ℕ → ℕ → List ℕ → Type 0
+AreInStage stages k [] = Unit {0}
+AreInStage stages k (i ∷ path) = (stage_of stages i ≡ k) × AreInStage stages k path
 
 -- how long the nodes of a path take, one after the other
 abbrev pub path_delay : List TimedNode → List ℕ → ℕ
@@ -35,7 +35,7 @@ pub record IsLegalAt (nodes : List TimedNode) (clock : ℕ) (stages : List ℕ) 
   -- no operand is later
   pub operands : (i j : ℕ) → IsSource nodes i j → stage_of stages j ≤ stage_of stages i
   -- no path inside a stage takes longer than the clock
-  pub paths : (k : ℕ) (path : List ℕ) → IsPath nodes path → StandIn stages k path → path_delay nodes path ≤ clock
+  pub paths : (k : ℕ) (path : List ℕ) → IsPath nodes path → AreInStage stages k path → path_delay nodes path ≤ clock
   -- sites go in their order
   pub chain : (i j : ℕ) → i < j → IsSite nodes i → IsSite nodes j → stage_of stages i ≤ stage_of stages j
   -- a receive behind a send is strictly later

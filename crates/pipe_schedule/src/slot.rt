@@ -1,7 +1,7 @@
 //! Where in a pipeline a node's value is ready.
 
 ghost use Rattle.std.specs.Prelude.{◌≡◌, ◌-◌, ◌<◌, ◌^◌};
-ghost use Rattle.pipe_schedule.specs.Inner.Slots.{later, placed, lowest, raised};
+ghost use Rattle.pipe_schedule.specs.Inner.Slots.{later, slotted, lowest, raised};
 
 use ir_tree::Role;
 
@@ -32,7 +32,7 @@ impl Slot {
     /// Where a node is ready that may start here and takes so long: in this stage if there is time left, else in the next.
     pub fn place(self, clock: u32, delay: u32) -> Slot
         requires { self.stage < 2 ^ 64 - 1 }
-        ensures { result ≡ placed clock delay self }
+        ensures { result ≡ slotted clock delay self }
     {
         if u64::from(self.time) + u64::from(delay) <= u64::from(clock) {
             Slot {

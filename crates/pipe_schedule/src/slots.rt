@@ -4,7 +4,7 @@ ghost use Rattle.std.specs.Prelude.{◌≡◌, ◌≤◌, ◌+◌, ◌*◌, ◌<
 ghost use Rattle.ir_tree.specs.NodeValues.{role_of};
 ghost use Rattle.pipe_schedule.specs.Timed.{nodes_among, if_there, sources_of};
 ghost use Rattle.pipe_schedule.specs.Inner.Delays.{delay_within, timed_within};
-ghost use Rattle.pipe_schedule.specs.Inner.Slots.{latest, lowest, placed, slots_of, AreUpTo, AreSlotsInTime, IsFirstSlow};
+ghost use Rattle.pipe_schedule.specs.Inner.Slots.{latest, lowest, slotted, slots_of, AreUpTo, AreSlotsInTime, IsFirstSlow};
 
 use crate::delays::delay;
 use crate::schedule::NoSchedule;

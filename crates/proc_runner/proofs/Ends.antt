@@ -8,12 +8,12 @@ use Rattle.net_core.specs.declared.net.Site.{Site}
 use Rattle.proc_task.specs.declared.port.Outlet.{Outlet}
 use Rattle.proc_task.specs.declared.port.Inlet.{Inlet}
 use Rattle.proc_task.specs.Moving.{HasOutlet, HasInlet}
-use Rattle.proc_runner.specs.Inner.Ended.{IsEndAt, HasEndOn, AreEndsOf, HasPlaces, out_chan, in_chan}
+use Rattle.proc_runner.specs.Inner.Ended.{IsEndAt, HasEndOn, AreEndsOf, HasIndices, out_chan, in_chan}
 
-pub in_front : {A : Type 0} (xs ys : List A) (k : ℕ) (y : A) → slice_get xs k ≡ Some y → slice_get (xs ++ ys) k ≡ Some y
-in_front [] ys k y e = cc
-in_front (x ∷ xs) ys zero y e = e
-in_front (x ∷ xs) ys (suc k) y e = in_front xs ys k y e
+pub in_prefix : {A : Type 0} (xs ys : List A) (k : ℕ) (y : A) → slice_get xs k ≡ Some y → slice_get (xs ++ ys) k ≡ Some y
+in_prefix [] ys k y e = cc
+in_prefix (x ∷ xs) ys zero y e = e
+in_prefix (x ∷ xs) ys (suc k) y e = in_prefix xs ys k y e
 
 pub last_there : {A : Type 0} (xs : List A) (x : A) (k : ℕ) → length xs ≡ k → slice_get (xs ++ x ∷ []) k ≡ Some x
 last_there [] x zero e = refl
@@ -93,49 +93,49 @@ module _ {E : Type 0} (chan : E → ℕ) (ours : ℕ → Type 0) (new : E → Ty
       all_at : (d : ℕ) → d < c + 1 → ours d → (d < c) ⊎ (c ≤ d) → HasEndOn chan (ends ++ end ∷ []) d
       all_at d l mine (inl m) =
           let has = are.all d m mine in
-          (has.0, (has.1.0, in_front ends (end ∷ []) has.0 has.1.0 has.1.1, has.1.2))
+          (has.0, (has.1.0, in_prefix ends (end ∷ []) has.0 has.1.0 has.1.1, has.1.2))
       all_at d l mine (inr m) = let same : c ≡ d = omega (arith, l, m) in (length ends, (end, last_there ends end (length ends) refl, here ∙ same))
 
 -- one place of a site more
 module _ {S : Type 0} (sites : List Site) (outlets : List (Outlet S)) (inlets : List (Inlet S)) where
   abbrev pub HaveOutlets : List ℕ → ℕ → Type 0
-  HaveOutlets places k = (i : ℕ) (site : Site) → i < k → slice_get sites i ≡ Some site → site.sends ≡ true → HasOutlet sites places outlets i site
+  HaveOutlets indices k = (i : ℕ) (site : Site) → i < k → slice_get sites i ≡ Some site → site.sends ≡ true → HasOutlet sites indices outlets i site
 
   abbrev pub HaveInlets : List ℕ → ℕ → Type 0
-  HaveInlets places k = (i : ℕ) (site : Site) → i < k → slice_get sites i ≡ Some site → site.sends ≡ false → HasInlet sites places inlets i site
+  HaveInlets indices k = (i : ℕ) (site : Site) → i < k → slice_get sites i ≡ Some site → site.sends ≡ false → HasInlet sites indices inlets i site
 
-  module _ (places : List ℕ) (k : ℕ) (site : Site) (place : ℕ) (count : length places ≡ k) (at : slice_get sites k ≡ Some site)
+  module _ (indices : List ℕ) (k : ℕ) (site : Site) (place : ℕ) (count : length indices ≡ k) (at : slice_get sites k ≡ Some site)
       (end : MatchBool site.sends (IsEndAt out_chan outlets site.chan place) (IsEndAt in_chan inlets site.chan place)) where
-    pub outlets_placed : HaveOutlets places k → HaveOutlets (places ++ place ∷ []) (k + 1)
+    pub outlets_placed : HaveOutlets indices k → HaveOutlets (indices ++ place ∷ []) (k + 1)
     outlets_placed had i other l e s = go (cases_lt i k)
       where
-        go : (i < k) ⊎ (k ≤ i) → HasOutlet sites (places ++ place ∷ []) outlets i other
+        go : (i < k) ⊎ (k ≤ i) → HasOutlet sites (indices ++ place ∷ []) outlets i other
         go (inl m) =
             let has = had i other m e s in
-            record { place = has.place; outlet = has.outlet; place_is = in_front places (place ∷ []) i has.place has.place_is; outlet_is = has.outlet_is; chan_is = has.chan_is }
+            record { place = has.place; outlet = has.outlet; place_is = in_prefix indices (place ∷ []) i has.place has.place_is; outlet_is = has.outlet_is; chan_is = has.chan_is }
         go (inr m) =
             let here : k ≡ i = omega (arith, l, m) in
             let there = ap (λ j. slice_get sites j) here ∙ e in
             let same : site ≡ other = cc in
             let is = MatchBool-at_true _ _ (ap (λ (x : Site). x.sends) same ∙ s) end in
-            record { place = place; outlet = is.0; place_is = last_there places place i (count ∙ here); outlet_is = is.1; chan_is = is.2 ∙ ap (λ (x : Site). x.chan) same }
+            record { place = place; outlet = is.0; place_is = last_there indices place i (count ∙ here); outlet_is = is.1; chan_is = is.2 ∙ ap (λ (x : Site). x.chan) same }
 
-    pub inlets_placed : HaveInlets places k → HaveInlets (places ++ place ∷ []) (k + 1)
+    pub inlets_placed : HaveInlets indices k → HaveInlets (indices ++ place ∷ []) (k + 1)
     inlets_placed had i other l e s = go (cases_lt i k)
       where
-        go : (i < k) ⊎ (k ≤ i) → HasInlet sites (places ++ place ∷ []) inlets i other
+        go : (i < k) ⊎ (k ≤ i) → HasInlet sites (indices ++ place ∷ []) inlets i other
         go (inl m) =
             let has = had i other m e s in
-            record { place = has.place; inlet = has.inlet; place_is = in_front places (place ∷ []) i has.place has.place_is; inlet_is = has.inlet_is; chan_is = has.chan_is }
+            record { place = has.place; inlet = has.inlet; place_is = in_prefix indices (place ∷ []) i has.place has.place_is; inlet_is = has.inlet_is; chan_is = has.chan_is }
         go (inr m) =
             let here : k ≡ i = omega (arith, l, m) in
             let there = ap (λ j. slice_get sites j) here ∙ e in
             let same : site ≡ other = cc in
             let is = MatchBool-at_false _ _ (ap (λ (x : Site). x.sends) same ∙ s) end in
-            record { place = place; inlet = is.0; place_is = last_there places place i (count ∙ here); inlet_is = is.1; chan_is = is.2 ∙ ap (λ (x : Site). x.chan) same }
+            record { place = place; inlet = is.0; place_is = last_there indices place i (count ∙ here); inlet_is = is.1; chan_is = is.2 ∙ ap (λ (x : Site). x.chan) same }
 
 -- a site has an end, whichever it is
-pub site_has : {S : Type 0} (sites : List Site) (outlets : List (Outlet S)) (inlets : List (Inlet S)) → HasPlaces sites outlets inlets → (i : ℕ) (site : Site) → slice_get sites i ≡ Some site
+pub site_has : {S : Type 0} (sites : List Site) (outlets : List (Outlet S)) (inlets : List (Inlet S)) → HasIndices sites outlets inlets → (i : ℕ) (site : Site) → slice_get sites i ≡ Some site
     → MatchBool site.sends (HasEndOn out_chan outlets site.chan) (HasEndOn in_chan inlets site.chan)
 site_has sites outlets inlets has i site e = go site.sends refl
   where

@@ -17,16 +17,16 @@ use Rattle.chan_queue.specs.Streams.Streams.{stream_in}
 use Rattle.proc_task.specs.Ports.{OutRight, InRight}
 use Rattle.proc_runner.specs.declared.lines.Line.{Line}
 use Rattle.proc_runner.specs.Inner.Opened.{IsLine, HasSend, HasRecv, AreOpened}
-use Rattle.proc_runner.proofs.Ends.{in_front, last_there}
+use Rattle.proc_runner.proofs.Ends.{in_prefix, last_there}
 
 module _ {S : Type 0} (run : Run) where
   out_grows : (queues more : List (Option (ChanQueue S))) (c : ℕ) (kind : Kind) (pass : Option (SendPass S)) → OutRight run queues c kind 0 pass → OutRight run (queues ++ more) c kind 0 pass
   out_grows queues more c kind None r = r
-  out_grows queues more c kind (Some pass) r = (r.0, (r.1.0, in_front queues more c (Some r.1.0) r.1.1, r.1.2, r.1.3))
+  out_grows queues more c kind (Some pass) r = (r.0, (r.1.0, in_prefix queues more c (Some r.1.0) r.1.1, r.1.2, r.1.3))
 
   in_grows : (queues more : List (Option (ChanQueue S))) (c : ℕ) (kind : Kind) (pass : Option (RecvPass S)) → InRight run queues c kind 0 pass → InRight run (queues ++ more) c kind 0 pass
   in_grows queues more c kind None r = r
-  in_grows queues more c kind (Some pass) r = (r.0, (r.1.0, in_front queues more c (Some r.1.0) r.1.1, r.1.2, r.1.3))
+  in_grows queues more c kind (Some pass) r = (r.0, (r.1.0, in_prefix queues more c (Some r.1.0) r.1.1, r.1.2, r.1.3))
 
   new_send : (queues : List (Option (ChanQueue S))) (c depth : ℕ) (kind : Kind) (stream : Stream) (line : Line S) → length queues ≡ c → IsLine kind stream depth line → stream ≡ stream_in run c → depth ≡ get_or run.depths c 0
       → kind ≢ Input → OutRight run (queues ++ line.queue ∷ []) c kind 0 line.send
@@ -62,7 +62,7 @@ module _ {S : Type 0} (run : Run) where
       send_at : (k : ℕ) (other : Chan) → k < c + 1 → slice_get run.chans k ≡ Some other → other.kind ≢ Input → (k < c) ⊎ (c ≤ k) → HasSend run (queues ++ line.queue ∷ []) (sends ++ line.send ∷ []) k other
       send_at k other l e not_in (inl m) =
           let has = are.send k other m e not_in in
-          (has.0, in_front sends (line.send ∷ []) k has.0 has.1, out_grows queues (line.queue ∷ []) k other.kind has.0 has.2)
+          (has.0, in_prefix sends (line.send ∷ []) k has.0 has.1, out_grows queues (line.queue ∷ []) k other.kind has.0 has.2)
       send_at k other l e not_in (inr m) =
           let here : c ≡ k = omega (arith, l, m) in
           let g = ap (λ j. slice_get run.chans j) here ∙ e in
@@ -78,7 +78,7 @@ module _ {S : Type 0} (run : Run) where
       recv_at : (k : ℕ) (other : Chan) → k < c + 1 → slice_get run.chans k ≡ Some other → other.kind ≢ Output → (k < c) ⊎ (c ≤ k) → HasRecv run (queues ++ line.queue ∷ []) (recvs ++ line.recv ∷ []) k other
       recv_at k other l e not_out (inl m) =
           let has = are.recv k other m e not_out in
-          (has.0, in_front recvs (line.recv ∷ []) k has.0 has.1, in_grows queues (line.queue ∷ []) k other.kind has.0 has.2)
+          (has.0, in_prefix recvs (line.recv ∷ []) k has.0 has.1, in_grows queues (line.queue ∷ []) k other.kind has.0 has.2)
       recv_at k other l e not_out (inr m) =
           let here : c ≡ k = omega (arith, l, m) in
           let g = ap (λ j. slice_get run.chans j) here ∙ e in

@@ -14,7 +14,7 @@ use Rattle.net_core.specs.declared.net.Net.{Net}
 use Rattle.net_core.specs.declared.net.ProcHead.{ProcHead}
 use Rattle.net_core.specs.declared.net.Chan.{Chan}
 use Rattle.net_core.specs.Behavior.{Behavior}
-use Rattle.net_core.specs.Cuts.{Proc, place_of, sender, receiver}
+use Rattle.net_core.specs.Cuts.{Proc, index_of, sender, receiver}
 use Rattle.net_core.specs.WellFormed.{IsNet, IsInputs, AreBehaviorsOf, EachKeepsTypes, procs_of, run_of}
 use Rattle.net_core.proofs.Lemmas.{zipped, run_fits, opening_typed, final_typed, behaviors_zipped}
 use Rattle.chan_queue.specs.Streams.Moves.{IsTyped}
@@ -66,9 +66,9 @@ module _ {X : Type 0} (behavior : X → Behavior) (heads : List ProcHead) (bodie
       cc
 
 -- one channel's end more
-pub place_more : (f : ℕ → ℕ) (chans : List Chan) (places : List ℕ) (k : ℕ) → k < length chans → places ≡ indexed (λ c (chan : Chan). f c) 0 (take k chans)
-    → places ++ f k ∷ [] ≡ indexed (λ c (chan : Chan). f c) 0 (take (k + 1) chans)
-place_more f chans places k l are =
+pub place_more : (f : ℕ → ℕ) (chans : List Chan) (indices : List ℕ) (k : ℕ) → k < length chans → indices ≡ indexed (λ c (chan : Chan). f c) 0 (take k chans)
+    → indices ++ f k ∷ [] ≡ indexed (λ c (chan : Chan). f c) 0 (take (k + 1) chans)
+place_more f chans indices k l are =
     let there = some_there chans k l in
     ap (λ (xs : List ℕ). xs ++ f k ∷ []) are
     ∙ sym (indexed_more (λ c (chan : Chan). f c) chans k there.0 l (sym (get_or_from_slice_get chans k there.0 there.0 there.1)))
@@ -107,9 +107,9 @@ module _ (net : Net) (well : IsNet net) (bs : List Behavior) (fit : AreBehaviors
       }
 
   module _ {S : Type 0} (senders receivers : List ℕ) (queues : List (Option (ChanQueue S))) (sends : List (Option (SendPass S))) (recvs : List (Option (RecvPass S))) where
-    at_end : (place : ℕ → ℕ) (ends : ℕ → ℕ) (places : List ℕ) → places ≡ indexed (λ c (chan : Chan). place c) 0 net.chans → ((c : ℕ) → place c ≡ ends c) → (c : ℕ) → c < length net.chans
-        → slice_get places c ≡ Some (ends c)
-    at_end place ends places are same c l =
+    at_end : (place : ℕ → ℕ) (ends : ℕ → ℕ) (indices : List ℕ) → indices ≡ indexed (λ c (chan : Chan). place c) 0 net.chans → ((c : ℕ) → place c ≡ ends c) → (c : ℕ) → c < length net.chans
+        → slice_get indices c ≡ Some (ends c)
+    at_end place ends indices are same c l =
         ap (λ (xs : List ℕ). slice_get xs c) are
         ∙ (indexed_get (λ d (chan : Chan). place d) 0 c c net.chans (omega arith)
         ∙ (some_chan (slice_get net.chans c) (slice_get_some net.chans c l) ∙ ap Some (same c)))
@@ -123,18 +123,18 @@ module _ (net : Net) (well : IsNet net) (bs : List Behavior) (fit : AreBehaviors
         slice_get_some (x ∷ xs) (suc k) m = slice_get_some xs k (omega (arith, m))
 
     -- no proc has taken its rights
-    pub all_left : senders ≡ indexed (λ c (chan : Chan). place_of (head_sends c) net.procs) 0 net.chans → receivers ≡ indexed (λ c (chan : Chan). place_of (head_receives c) net.procs) 0 net.chans
+    pub all_left : senders ≡ indexed (λ c (chan : Chan). index_of (head_sends c) net.procs) 0 net.chans → receivers ≡ indexed (λ c (chan : Chan). index_of (head_receives c) net.procs) 0 net.chans
         → AreOpened (run_of net bs inputs n depths) (length net.chans) queues sends recvs → AreLeft (run_of net bs inputs n depths) queues 0 senders receivers sends recvs
     all_left senders_are receivers_are opened =
         let run = run_of net bs inputs n depths in
         record {
           few = well.few_chans;
-          senders_count = ap length senders_are ∙ length-indexed (λ c (chan : Chan). place_of (head_sends c) net.procs) 0 net.chans;
-          receivers_count = ap length receivers_are ∙ length-indexed (λ c (chan : Chan). place_of (head_receives c) net.procs) 0 net.chans;
+          senders_count = ap length senders_are ∙ length-indexed (λ c (chan : Chan). index_of (head_sends c) net.procs) 0 net.chans;
+          receivers_count = ap length receivers_are ∙ length-indexed (λ c (chan : Chan). index_of (head_receives c) net.procs) 0 net.chans;
           sends_count = opened.sends_are;
           recvs_count = opened.recvs_are;
-          senders_are = at_end (λ c. place_of (head_sends c) net.procs) (sender run) senders senders_are (λ c. sender_is net run c is_run);
-          receivers_are = at_end (λ c. place_of (head_receives c) net.procs) (receiver run) receivers receivers_are (λ c. receiver_is net run c is_run);
+          senders_are = at_end (λ c. index_of (head_sends c) net.procs) (sender run) senders senders_are (λ c. sender_is net run c is_run);
+          receivers_are = at_end (λ c. index_of (head_receives c) net.procs) (receiver run) receivers receivers_are (λ c. receiver_is net run c is_run);
           send = λ c chan e kind l. opened.send c chan (slice_get_within net.chans c chan e) e kind;
           recv = λ c chan e kind l. opened.recv c chan (slice_get_within net.chans c chan e) e kind;
         }

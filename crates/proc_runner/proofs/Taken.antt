@@ -16,7 +16,7 @@ use Rattle.proc_task.specs.declared.port.Inlet.{Inlet}
 use Rattle.proc_task.specs.Ports.{IsOutlet, IsInlet, OutRight, InRight}
 use Rattle.proc_task.specs.Moving.{IsNewTask}
 use Rattle.proc_task.proofs.Lemmas.Outcome.{place_passes, sends_site, receives_site}
-use Rattle.proc_runner.specs.Inner.Ended.{AreOutletsOf, AreInletsOf, HasPlaces, AreSitePlaces}
+use Rattle.proc_runner.specs.Inner.Ended.{AreOutletsOf, AreInletsOf, HasIndices, AreSiteIndices}
 use Rattle.proc_runner.specs.Inner.Started.{IsHead, AreLeft}
 
 some_there : {A : Type 0} (xs : List A) (k : ℕ) → k < length xs → (x : A) × (slice_get xs k ≡ Some x)
@@ -83,7 +83,7 @@ module _ {S : Type 0} (run : Run) (typed : IsTyped run) (lines : List (Option (C
       }
 
   -- each site of the proc has an end
-  pub sites_have : HasPlaces head.sites outlets inlets
+  pub sites_have : HasIndices head.sites outlets inlets
   sites_have = record {
     sends = λ i site e s.
         let place = ap (λ (ss : List Site). slice_get ss i) (sym is.sites) ∙ e in
@@ -97,8 +97,8 @@ module _ {S : Type 0} (run : Run) (typed : IsTyped run) (lines : List (Option (C
         inn.all site.chan (omega (arith, within, left.receivers_count)) (left.receivers_are site.chan within ∙ ap Some (fits.receives s));
   }
 
-  pub is_new : (places : List ℕ) → AreSitePlaces head.sites places outlets inlets → IsNewTask run lines p head.sites head.init places outlets inlets
-  is_new places at = record {
+  pub is_new : (indices : List ℕ) → AreSiteIndices head.sites indices outlets inlets → IsNewTask run lines p head.sites head.init indices outlets inlets
+  is_new indices at = record {
     typed = typed;
     proc = is.proc;
     proc_is = is.proc_is;

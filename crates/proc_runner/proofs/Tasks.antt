@@ -18,28 +18,28 @@ module _ {S H : Type 0} (run : H → Run) (lines : H → List (Option (ChanQueue
   abbrev pub number_of : Task S H → ℕ
   number_of task = task.number
 
-  abbrev pub home_of : Task S H → H
-  home_of task = task.home
+  abbrev pub runtime_of : Task S H → H
+  runtime_of task = task.runtime
 
   abbrev pub Fact : Task S H → Type 0
-  Fact task = IsTask (run task.home) (lines task.home) task
+  Fact task = IsTask (run task.runtime) (lines task.runtime) task
 
-  pub are_tasks : (home : H) (queue : TaskQueue H (Task S H)) (old : Hand H) (share : Share H (Task S H)) → IsTyped (run home) → old.run ≡ Some home → old.count ≡ length (run home).procs
-      → IsShareOf number_of home_of Fact queue old share → AreAll number_of old.count share.parked.items → (tasks : List (Task S H)) → tasks ≡ share.parked.items → AreTasksOf run lines home tasks
-  are_tasks home queue old share typed is_home count is all tasks are =
-      subst (λ (xs : List (Task S H)). AreTasksOf run lines home xs) (sym are) (record {
+  pub are_tasks : (runtime : H) (queue : TaskQueue H (Task S H)) (old : Hand H) (share : Share H (Task S H)) → IsTyped (run runtime) → old.run ≡ Some runtime → old.count ≡ length (run runtime).procs
+      → IsShareOf number_of runtime_of Fact queue old share → AreAll number_of old.count share.parked.items → (tasks : List (Task S H)) → tasks ≡ share.parked.items → AreTasksOf run lines runtime tasks
+  are_tasks runtime queue old share typed is_runtime count is all tasks are =
+      subst (λ (xs : List (Task S H)). AreTasksOf run lines runtime xs) (sym are) (record {
         typed = typed;
         each = λ k task e. own task (is.each k task e);
         all = λ h. all h ∙ ap (λ (n : ℕ). sum_below h n) count;
       })
     where
-      own : (task : Task S H) → (old.run ≡ Some task.home) × Fact task → (task.home ≡ home) × IsTask (run task.home) (lines task.home) task
+      own : (task : Task S H) → (old.run ≡ Some task.runtime) × Fact task → (task.runtime ≡ runtime) × IsTask (run task.runtime) (lines task.runtime) task
       own task has =
-          let both : ◌≡◌ {A = Option H} (Some task.home) (Some home) = sym has.0 ∙ is_home in
-          let same : task.home ≡ home = cc in (same, has.1)
+          let both : ◌≡◌ {A = Option H} (Some task.runtime) (Some runtime) = sym has.0 ∙ is_runtime in
+          let same : task.runtime ≡ runtime = cc in (same, has.1)
 
   -- a share is that of a worker whose pass knew what this one knows
-  pub by_itself : (queue : TaskQueue H (Task S H)) (old : Hand H) (share : Share H (Task S H)) → IsShareOf number_of home_of Fact queue old share → IsShareOf number_of home_of Fact queue (knows share.pass) share
+  pub by_itself : (queue : TaskQueue H (Task S H)) (old : Hand H) (share : Share H (Task S H)) → IsShareOf number_of runtime_of Fact queue old share → IsShareOf number_of runtime_of Fact queue (knows share.pass) share
   by_itself queue old share is = record {
     pass = is.pass;
     parts = refl;

@@ -4,7 +4,7 @@ ghost use Rattle.net_core.specs.Cuts.{Proc, Run};
 
 use chan_queue::{ChanQueue, Streams};
 use net_core::{Body, Event, Inputs, Net};
-use proc_task::Home;
+use proc_task::Runtime;
 use std::alloc::{AllocError, Global};
 use xb_bits::Bits;
 use xb_value::Value;
@@ -87,15 +87,15 @@ impl<'a, B: Body> Running for &'a Given<'a, B> {
 
 /// What a run is made of, and the queues of its channels.
 #[derive(Clone, Copy)]
-pub(crate) struct Hall<'h, S> {
+pub(crate) struct RunContext<'h, S> {
     pub(crate) given: S,
     pub(crate) queues: &'h [Option<ChanQueue<S>>],
 }
 
-impl<'h, S: Running> Home<S> for Hall<'h, S> {
-    ghost run = { λ home. S.run home.given };
+impl<'h, S: Running> Runtime<S> for RunContext<'h, S> {
+    ghost run = { λ runtime. S.run runtime.given };
 
-    ghost lines = { λ home. home.queues.now };
+    ghost lines = { λ runtime. runtime.queues.now };
 
     fn activations(&self) -> u32 {
         self.given.activations()

@@ -10,7 +10,7 @@ use std::sync::Wait;
 
 /// The queues of a run's channels, and the rights to send on them and to receive from them. An input and an output have none.
 #[derive(Drop)]
-pub(crate) struct Lines<S> {
+pub(crate) struct Channels<S> {
     pub(crate) queues: Vec<Option<ChanQueue<S>>>,
     pub(crate) sends: Vec<Option<SendPass<S>>>,
     pub(crate) recvs: Vec<Option<RecvPass<S>>>,
@@ -24,7 +24,7 @@ struct Line<S> {
     recv: Option<RecvPass<S>>,
 }
 
-impl<S: Streams> Lines<S> {
+impl<S: Streams> Channels<S> {
     /// The next channel is opened.
     fn push(&mut self, line: Line<S>) -> Result<(), AllocError>
         ensures queues { OnOk result (self.new.queues.items ≡ self.old.queues.items ++ line.queue ∷ []) }
@@ -46,13 +46,13 @@ pub(crate) fn open<S: Streams + Copy, R: Wait>(
     given: S,
     chans: &[Chan],
     depths: &[u32],
-) -> Result<Lines<S>, AllocError>
+) -> Result<Channels<S>, AllocError>
     requires few { length chans.now < 2 ^ 32 }
     requires depths { (length depths.now ≡ length chans.now) × ((c : ℕ) → c < length depths.now → 0 < get_or depths.now c 0) }
     ensures { IfOk result (λ made. (run : Run) → run.chans ≡ chans.now → run.depths ≡ depths.now → ((c : ℕ) → S.stream given c ≡ stream_in run c) →
         AreOpened run (length chans.now) made.queues.items made.sends.items made.recvs.items) }
 {
-    let mut lines = Lines {
+    let mut lines = Channels {
         queues: Vec::new(alloc),
         sends: Vec::new(alloc),
         recvs: Vec::new(alloc),

@@ -1,5 +1,5 @@
 ghost use Rattle.std.specs.Prelude.{◌≡◌, ◌≢◌, ◌<◌, ◌^◌, ℕ, IfOk, MatchBool, Some, length, slice_get};
-ghost use Rattle.proc_runner.specs.Inner.Ended.{AreOutletsOf, AreInletsOf, HasPlaces, AreSitePlaces, HasEndOn, IsEndAt, out_chan, in_chan};
+ghost use Rattle.proc_runner.specs.Inner.Ended.{AreOutletsOf, AreInletsOf, HasIndices, AreSiteIndices, HasEndOn, IsEndAt, out_chan, in_chan};
 
 use chan_queue::{RecvPass, SendPass};
 use net_core::Site;
@@ -61,37 +61,37 @@ pub(crate) fn inlets<S>(
 }
 
 /// The place of each site's outlet, or inlet.
-pub(crate) fn places<S>(
+pub(crate) fn indices<S>(
     alloc: Global,
     sites: &[Site],
     outlets: &[Outlet<S>],
     inlets: &[Inlet<S>],
 ) -> Result<Vec<u32>, AllocError>
-    requires { HasPlaces sites.now outlets.now inlets.now × (length outlets.now < 2 ^ 32) × (length inlets.now < 2 ^ 32) }
-    ensures { IfOk result (λ places. AreSitePlaces sites.now places.items outlets.now inlets.now) }
+    requires { HasIndices sites.now outlets.now inlets.now × (length outlets.now < 2 ^ 32) × (length inlets.now < 2 ^ 32) }
+    ensures { IfOk result (λ indices. AreSiteIndices sites.now indices.items outlets.now inlets.now) }
 {
-    let mut places = Vec::new(alloc);
+    let mut indices = Vec::new(alloc);
     for site in sites {
-        places.push(place_of(site, outlets, inlets))?;
+        indices.push(index_of(site, outlets, inlets))?;
     }
-    Ok(places)
+    Ok(indices)
 }
 
 /// The place of a site's outlet, or inlet.
-fn place_of<S>(site: &Site, outlets: &[Outlet<S>], inlets: &[Inlet<S>]) -> u32
+fn index_of<S>(site: &Site, outlets: &[Outlet<S>], inlets: &[Inlet<S>]) -> u32
     requires end { MatchBool site.now.sends (HasEndOn out_chan outlets.now site.now.chan) (HasEndOn in_chan inlets.now site.now.chan) }
     requires few { (length outlets.now < 2 ^ 32) × (length inlets.now < 2 ^ 32) }
     ensures { MatchBool site.now.sends (IsEndAt out_chan outlets.now site.now.chan result) (IsEndAt in_chan inlets.now site.now.chan result) }
 {
     if site.sends {
-        outlet_place(outlets, site.chan) as u32
+        outlet_index(outlets, site.chan) as u32
     } else {
-        inlet_place(inlets, site.chan) as u32
+        inlet_index(inlets, site.chan) as u32
     }
 }
 
 /// The place of a channel's outlet.
-fn outlet_place<S>(outlets: &[Outlet<S>], chan: u32) -> usize
+fn outlet_index<S>(outlets: &[Outlet<S>], chan: u32) -> usize
     requires { HasEndOn out_chan outlets.now chan }
     ensures end { IsEndAt out_chan outlets.now chan result }
     ensures within { result < length outlets.now }
@@ -105,7 +105,7 @@ fn outlet_place<S>(outlets: &[Outlet<S>], chan: u32) -> usize
 }
 
 /// The place of a channel's inlet.
-fn inlet_place<S>(inlets: &[Inlet<S>], chan: u32) -> usize
+fn inlet_index<S>(inlets: &[Inlet<S>], chan: u32) -> usize
     requires { HasEndOn in_chan inlets.now chan }
     ensures end { IsEndAt in_chan inlets.now chan result }
     ensures within { result < length inlets.now }

@@ -9,7 +9,7 @@ ghost use Rattle.proc_task.specs.Outcome.Tasks.{IsRunOf};
 use chan_queue::Streams;
 use net_core::{Inputs, Net, Outcome};
 use proc_task::outcome::outcome;
-use proc_task::{Home, Task};
+use proc_task::{Runtime, Task};
 use std::alloc::{AllocError, Global};
 use std::sync::Wait;
 use std::thread::Threads;
@@ -20,13 +20,13 @@ use xb_io::Gate;
 /// Goes on by rounds of the workers, until a round makes no event and the counts show that no proc can go.
 pub(crate) fn run_to_end<
     S: Streams + Send + Sync,
-    H: Home<S> + Send + Sync,
+    H: Runtime<S> + Send + Sync,
     R: Threads + Wait + Sync,
     G: Gate + Sync,
 >(
     rt: &R,
     alloc: Global,
-    home: &H,
+    runtime: &H,
     net: &Net,
     inputs: &Inputs,
     depths: &[u32],
@@ -35,20 +35,20 @@ pub(crate) fn run_to_end<
     workers: u32,
     gate: &G,
 ) -> Result<Outcome, AllocError>
-    requires typed { IsTyped (H.run home.now) }
-    requires run { IsRunOf net.now (H.run home.now) }
-    requires inputs { ((H.run home.now).inputs ≡ inputs.now.words) × (length inputs.now.words ≡ length net.now.chans) }
-    requires depths { ((H.run home.now).depths ≡ depths.now) × (length depths.now ≡ length net.now.chans) }
+    requires typed { IsTyped (H.run runtime.now) }
+    requires run { IsRunOf net.now (H.run runtime.now) }
+    requires inputs { ((H.run runtime.now).inputs ≡ inputs.now.words) × (length inputs.now.words ≡ length net.now.chans) }
+    requires depths { ((H.run runtime.now).depths ≡ depths.now) × (length depths.now ≡ length net.now.chans) }
     requires pass { IsTaskPass queue.now pass × HoldsNone (knows pass) }
-    requires tasks { ((knows pass).parts ≡ 1024) × ((knows pass).count ≡ length (H.run home.now).procs) × ((knows pass).run ≡ Some home.now) }
+    requires tasks { ((knows pass).parts ≡ 1024) × ((knows pass).count ≡ length (H.run runtime.now).procs) × ((knows pass).run ≡ Some runtime.now) }
     requires workers { (1 ≤ workers) × (workers ≤ 16) }
-    ensures { IfOk result (λ outcome. outcome ≡ outcome_of (H.run home.now) (final_cut (H.run home.now))) }
+    ensures { IfOk result (λ outcome. outcome ≡ outcome_of (H.run runtime.now) (final_cut (H.run runtime.now))) }
 {
     for _ in rt.forever() {
         let share = round(rt, alloc, queue, pass, workers, gate)?;
         if !share.moved {
             let tasks = share.parked.as_slice();
-            if let Some(over) = outcome(alloc, home, net, inputs, depths, tasks)? {
+            if let Some(over) = outcome(alloc, runtime, net, inputs, depths, tasks)? {
                 return Ok(over);
             }
         }

@@ -3,8 +3,8 @@ ghost use Rattle.net_core.specs.Cuts.{final_cut};
 ghost use Rattle.net_core.specs.Outcomes.{outcome_of};
 ghost use Rattle.net_core.specs.WellFormed.{IsNet, IsInputs, IsDepths, IsOutcome, AreBehaviorsOf, EachKeepsTypes, run_of};
 
-use crate::given::{Given, Hall};
-use crate::lines::{Lines, open};
+use crate::given::{Given, RunContext};
+use crate::lines::{Channels, open};
 use crate::rounds::run_to_end;
 use crate::start::{Ends, receivers, senders, start};
 use net_core::{Body, Inputs, Net, Outcome};
@@ -56,7 +56,7 @@ pub fn run_threads<B: Body + Sync, R: Threads + Wait + Sync, G: Gate + Sync>(
         n,
         depths,
     };
-    let Lines {
+    let Channels {
         queues,
         sends,
         recvs,
@@ -67,12 +67,12 @@ pub fn run_threads<B: Body + Sync, R: Threads + Wait + Sync, G: Gate + Sync>(
         sends,
         recvs,
     };
-    let home = Hall {
+    let runtime = RunContext {
         given: &given,
         queues: queues.as_slice(),
     };
-    let (queue, pass) = start(rt, alloc, &home, net.procs.as_slice(), ends)?;
+    let (queue, pass) = start(rt, alloc, &runtime, net.procs.as_slice(), ends)?;
     run_to_end(
-        rt, alloc, &home, net, inputs, depths, &queue, pass, workers, gate,
+        rt, alloc, &runtime, net, inputs, depths, &queue, pass, workers, gate,
     )
 }

@@ -1,7 +1,7 @@
 ghost use Rattle.std.specs.Prelude.{◌≡◌, ◌<◌, ◌+◌, ◌^◌, IfOk, Some, length};
 ghost use Rattle.base.specs.Lists.Indexed.{indexed};
 ghost use Rattle.net_core.specs.declared.net.Chan.{Chan};
-ghost use Rattle.net_core.specs.Cuts.{place_of};
+ghost use Rattle.net_core.specs.Cuts.{index_of};
 ghost use Rattle.chan_queue.specs.Streams.Moves.{IsTyped};
 ghost use Rattle.task_queue.specs.Passes.{IsTaskPass, knows};
 ghost use Rattle.proc_task.specs.Moving.{IsTask};
@@ -9,11 +9,11 @@ ghost use Rattle.task_queue.specs.Round.Shares.{HoldsNone};
 ghost use Rattle.proc_task.specs.Outcome.Places.{head_sends, head_receives};
 ghost use Rattle.proc_runner.specs.Inner.Started.{AreHeads, IsHead, AreLeft};
 
-use crate::ports::{inlets, outlets, places};
+use crate::ports::{inlets, outlets, indices};
 use chan_queue::{RecvPass, SendPass, Streams};
 use net_core::{Net, ProcHead};
 use proc_task::outcome::{receiver, sender};
-use proc_task::{Home, Task};
+use proc_task::{Runtime, Task};
 use std::alloc::{AllocError, Global};
 use std::sync::Wait;
 use task_queue::{TaskPass, TaskQueue, make};
@@ -30,7 +30,7 @@ pub(crate) struct Ends<S> {
 /// The proc that sends on each channel.
 pub(crate) fn senders(alloc: Global, net: &Net) -> Result<Vec<usize>, AllocError>
     requires { length net.now.chans < 2 ^ 32 }
-    ensures { IfOk result (λ procs. procs.items ≡ indexed (λ c (chan : Chan). place_of (head_sends c) net.now.procs) 0 net.now.chans) }
+    ensures { IfOk result (λ procs. procs.items ≡ indexed (λ c (chan : Chan). index_of (head_sends c) net.now.procs) 0 net.now.chans) }
 {
     let mut procs = Vec::new(alloc);
     for c in 0..net.chans.len() {
@@ -42,7 +42,7 @@ pub(crate) fn senders(alloc: Global, net: &Net) -> Result<Vec<usize>, AllocError
 /// The proc that receives from each channel.
 pub(crate) fn receivers(alloc: Global, net: &Net) -> Result<Vec<usize>, AllocError>
     requires { length net.now.chans < 2 ^ 32 }
-    ensures { IfOk result (λ procs. procs.items ≡ indexed (λ c (chan : Chan). place_of (head_receives c) net.now.procs) 0 net.now.chans) }
+    ensures { IfOk result (λ procs. procs.items ≡ indexed (λ c (chan : Chan). index_of (head_receives c) net.now.procs) 0 net.now.chans) }
 {
     let mut procs = Vec::new(alloc);
     for c in 0..net.chans.len() {
@@ -52,49 +52,49 @@ pub(crate) fn receivers(alloc: Global, net: &Net) -> Result<Vec<usize>, AllocErr
 }
 
 /// All tasks of a run wait in a new queue.
-pub(crate) fn start<S: Streams, H: Home<S>, R: Wait>(
+pub(crate) fn start<S: Streams, H: Runtime<S>, R: Wait>(
     rt: &R,
     alloc: Global,
-    home: &H,
+    runtime: &H,
     heads: &[ProcHead],
     mut ends: Ends<S>,
 ) -> Result<(TaskQueue<H, Task<S, H>>, TaskPass<H, Task<S, H>>), AllocError>
     requires heads { (0 < length heads.now) × (length heads.now < 2 ^ 32) }
-    requires typed { IsTyped (H.run home.now) }
-    requires run { AreHeads (H.run home.now) heads.now }
-    requires ends { AreLeft (H.run home.now) (H.lines home.now) 0 ends.senders.items ends.receivers.items ends.sends.items ends.recvs.items }
+    requires typed { IsTyped (H.run runtime.now) }
+    requires run { AreHeads (H.run runtime.now) heads.now }
+    requires ends { AreLeft (H.run runtime.now) (H.lines runtime.now) 0 ends.senders.items ends.receivers.items ends.sends.items ends.recvs.items }
     ensures { IfOk result (λ made. IsTaskPass made.0 made.1 × HoldsNone (knows made.1) × ((knows made.1).parts ≡ 1024)
-        × ((knows made.1).count ≡ length heads.now) × ((knows made.1).run ≡ Some home.now)) }
+        × ((knows made.1).count ≡ length heads.now) × ((knows made.1).run ≡ Some runtime.now)) }
 {
     let (queue, mut pass) = make(alloc, heads.len() as u32)?;
     for (p, head) in heads.iter().enumerate() {
-        let task = new_task(alloc, home, p, head, &mut ends)?;
+        let task = new_task(alloc, runtime, p, head, &mut ends)?;
         queue.start(rt, &mut pass, task);
     }
     Ok((queue, pass))
 }
 
 /// The task of a proc, which takes its rights.
-fn new_task<S: Streams, H: Home<S>>(
+fn new_task<S: Streams, H: Runtime<S>>(
     alloc: Global,
-    home: &H,
+    runtime: &H,
     p: usize,
     head: &ProcHead,
     ends: &mut Ends<S>,
 ) -> Result<Task<S, H>, AllocError>
-    requires typed { IsTyped (H.run home.now) }
-    requires head { IsHead (H.run home.now) p head.now }
-    requires ends { AreLeft (H.run home.now) (H.lines home.now) p ends.old.senders.items ends.old.receivers.items ends.old.sends.items ends.old.recvs.items }
-    ensures task { IfOk result (λ task. (task.number ≡ p) × (task.home ≡ home.now) × IsTask (H.run home.now) (H.lines home.now) task) }
-    ensures ends { IfOk result (λ _. AreLeft (H.run home.now) (H.lines home.now) (p + 1) ends.new.senders.items ends.new.receivers.items ends.new.sends.items ends.new.recvs.items) }
+    requires typed { IsTyped (H.run runtime.now) }
+    requires head { IsHead (H.run runtime.now) p head.now }
+    requires ends { AreLeft (H.run runtime.now) (H.lines runtime.now) p ends.old.senders.items ends.old.receivers.items ends.old.sends.items ends.old.recvs.items }
+    ensures task { IfOk result (λ task. (task.number ≡ p) × (task.runtime ≡ runtime.now) × IsTask (H.run runtime.now) (H.lines runtime.now) task) }
+    ensures ends { IfOk result (λ _. AreLeft (H.run runtime.now) (H.lines runtime.now) (p + 1) ends.new.senders.items ends.new.receivers.items ends.new.sends.items ends.new.recvs.items) }
 {
     let outlets = outlets(alloc, p, ends.senders.as_slice(), &mut ends.sends)?;
     let inlets = inlets(alloc, p, ends.receivers.as_slice(), &mut ends.recvs)?;
     let sites = head.sites.as_slice();
-    let places = places(alloc, sites, outlets.as_slice(), inlets.as_slice())?;
+    let indices = indices(alloc, sites, outlets.as_slice(), inlets.as_slice())?;
     let sites = Vec::from_slice(alloc, sites)?;
     let state = head.init.copy(alloc)?;
     Ok(Task::new(
-        alloc, *home, p as u32, sites, state, places, outlets, inlets,
+        alloc, *runtime, p as u32, sites, state, indices, outlets, inlets,
     ))
 }

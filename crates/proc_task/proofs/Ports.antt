@@ -2,7 +2,7 @@
 use Rattle.std.proofs.Common.{◌≡◌, ◌≢◌, ℕ, zero, suc, ◌<◌, List, [], ◌∷◌, length, Option, Some, get_or, sym, ap, ◌∙◌, subst, arith, inl, inr}
 use Rattle.std.specs.Prelude.{slice_get, slice_set, option_map, ◌⊎◌}
 use Rattle.std.proofs.lemmas.Bool.{cases_eq}
-use Rattle.base.proofs.Lemmas.Lists.Places.{read_is, slice_get-set, slice_get-set_other}
+use Rattle.base.proofs.Lemmas.Lists.Indices.{read_is, slice_get-set, slice_get-set_other}
 use Rattle.chan_queue.specs.declared.queue.ChanQueue.{ChanQueue}
 use Rattle.net_core.specs.declared.net.Site.{Site}
 use Rattle.net_core.specs.Cuts.{Run}
@@ -45,10 +45,10 @@ told_set told xs i old new was same k = go (cases_eq k i)
         ∙ (ap (option_map told) (slice_get-set xs i old new was) ∙ (ap Some same ∙ (ap (option_map told) (sym was) ∙ ap (λ j. option_map told (slice_get xs j)) (sym e))))
     go (inr apart) = ap (option_map told) (slice_get-set_other xs i k new apart)
 
-module _ {S : Type 0} (run : Run) (lines : List (Option (ChanQueue S))) (sites : List Site) (places : List ℕ) (outlets : List (Outlet S)) (inlets : List (Inlet S)) (has : HasEnds run lines sites places outlets inlets) where
+module _ {S : Type 0} (run : Run) (lines : List (Option (ChanQueue S))) (sites : List Site) (indices : List ℕ) (outlets : List (Outlet S)) (inlets : List (Inlet S)) (has : HasEnds run lines sites indices outlets inlets) where
   -- one outlet more was used
   pub with_outlet : (place : ℕ) (old new : Outlet S) → slice_get outlets place ≡ Some old → new.chan ≡ old.chan → IsOutlet run lines new
-      → HasEnds run lines sites places (slice_set outlets place new) inlets
+      → HasEnds run lines sites indices (slice_set outlets place new) inlets
   with_outlet place old new was chan is = record {
     senders = λ i site e s.
         let h = has.senders i site e s in
@@ -74,7 +74,7 @@ module _ {S : Type 0} (run : Run) (lines : List (Option (ChanQueue S))) (sites :
 
   -- one inlet more was used
   pub with_inlet : (place : ℕ) (old new : Inlet S) → slice_get inlets place ≡ Some old → new.chan ≡ old.chan → IsInlet run lines new
-      → HasEnds run lines sites places outlets (slice_set inlets place new)
+      → HasEnds run lines sites indices outlets (slice_set inlets place new)
   with_inlet place old new was chan is = record {
     senders = has.senders;
     receivers = λ i site e s.

@@ -5,8 +5,8 @@ use Rattle.std.proofs.lemmas.Bool.Decides.{nat_tests}
 use Rattle.std.proofs.lemmas.Nat.{mul-le}
 use Rattle.std.proofs.lemmas.List.{append-nil, length-take-le}
 use Rattle.std.proofs.lemmas.Option.{slice_get_within}
-use Rattle.base.specs.Lists.Front.{IsFront}
-use Rattle.base.proofs.Lemmas.Lists.Places.{slice_get-set}
+use Rattle.base.specs.Lists.Prefix.{IsPrefix}
+use Rattle.base.proofs.Lemmas.Lists.Indices.{slice_get-set}
 use Rattle.xb_bits.specs.Word.{Word}
 use Rattle.xb_value.specs.declared.value.Value.{Value}
 use Rattle.xb_value.specs.Typing.{IsOfType}
@@ -93,28 +93,28 @@ product ends n e f =
 
 module _ {S H : Type 0} (run : Run) (lines : List (Option (ChanQueue S))) where
   -- a task by its parts
-  build : (t u : Task S H) (is : IsTask run lines t) → u.number ≡ t.number → u.sites.items ≡ t.sites.items → u.places.items ≡ t.places.items
+  build : (t u : Task S H) (is : IsTask run lines t) → u.number ≡ t.number → u.sites.items ≡ t.sites.items → u.indices.items ≡ t.indices.items
       → (k : ℕ) → u.count ≡ k → (at : Position) → position_of u ≡ at → IsStanding run t.number is.proc k at
-      → HasEnds run lines t.sites.items t.places.items u.outlets.items u.inlets.items
+      → HasEnds run lines t.sites.items t.indices.items u.outlets.items u.inlets.items
       → ((j : ℕ) (o : Outlet S) → slice_get u.outlets.items j ≡ Some o → o.words.items ≡ sent_first run t.number is.proc k o.chan)
       → ((j : ℕ) (o : Inlet S) → slice_get u.inlets.items j ≡ Some o → o.received ≡ received_first run t.number is.proc k o.chan)
       → IsTask run lines u
-  build t u is number sites places k count at here stands ports words received = record {
+  build t u is number sites indices k count at here stands ports words received = record {
     typed = is.typed;
     proc = is.proc;
     standing = subst (λ (x : ℕ × ℕ × Position). IsStanding run x.0 is.proc x.1 x.2) (λ i. (sym number i, sym count i, sym here i)) stands;
     sites = sites ∙ is.sites;
-    ports = subst (λ (x : List Site × List ℕ). HasEnds run lines x.0 x.1 u.outlets.items u.inlets.items) (λ i. (sym sites i, sym places i)) ports;
+    ports = subst (λ (x : List Site × List ℕ). HasEnds run lines x.0 x.1 u.outlets.items u.inlets.items) (λ i. (sym sites i, sym indices i)) ports;
     words = λ j o e. subst (λ (x : ℕ × ℕ). o.words.items ≡ sent_first run x.0 is.proc x.1 o.chan) (λ i. (sym number i, sym count i)) (words j o e);
     received = λ j o e. subst (λ (x : ℕ × ℕ). o.received ≡ received_first run x.0 is.proc x.1 o.chan) (λ i. (sym number i, sym count i)) (received j o e);
   }
 
   -- where only memory was asked for, nothing has changed
-  pub unchanged : (t u : Task S H) → IsTask run lines t → u.number ≡ t.number → u.sites.items ≡ t.sites.items → u.places.items ≡ t.places.items
+  pub unchanged : (t u : Task S H) → IsTask run lines t → u.number ≡ t.number → u.sites.items ≡ t.sites.items → u.indices.items ≡ t.indices.items
       → u.count ≡ t.count → position_of u ≡ position_of t → u.outlets.items ≡ t.outlets.items → u.inlets.items ≡ t.inlets.items → IsTask run lines u
-  unchanged t u is number sites places count here outlets inlets =
-      build t u is number sites places t.count count (position_of t) here is.standing
-      (subst (λ (x : List (Outlet S) × List (Inlet S)). HasEnds run lines t.sites.items t.places.items x.0 x.1) (λ i. (sym outlets i, sym inlets i)) is.ports)
+  unchanged t u is number sites indices count here outlets inlets =
+      build t u is number sites indices t.count count (position_of t) here is.standing
+      (subst (λ (x : List (Outlet S) × List (Inlet S)). HasEnds run lines t.sites.items t.indices.items x.0 x.1) (λ i. (sym outlets i, sym inlets i)) is.ports)
       (λ j o e. is.words j o (ap (λ xs. slice_get xs j) (sym outlets) ∙ e))
       (λ j o e. is.received j o (ap (λ xs. slice_get xs j) (sym inlets) ∙ e))
 
@@ -141,12 +141,12 @@ module _ {S H : Type 0} (run : Run) (lines : List (Option (ChanQueue S))) where
     -- the inlet was looked at
     pub set_inlet : (place : ℕ) (old new : Inlet S) (u : Task S H) → slice_get t.inlets.items place ≡ Some old
         → IsInlet run lines new → new.chan ≡ old.chan → new.received ≡ old.received
-        → u.number ≡ t.number → u.sites.items ≡ t.sites.items → u.places.items ≡ t.places.items → u.count ≡ t.count → position_of u ≡ position_of t
+        → u.number ≡ t.number → u.sites.items ≡ t.sites.items → u.indices.items ≡ t.indices.items → u.count ≡ t.count → position_of u ≡ position_of t
         → u.outlets.items ≡ t.outlets.items → u.inlets.items ≡ slice_set t.inlets.items place new → IsTask run lines u
-    set_inlet place old new u was ok chan same_count number sites places count here outlets inlets =
-        build t u is number sites places t.count count (position_of t) here is.standing
-        (subst (λ (x : List (Outlet S) × List (Inlet S)). HasEnds run lines t.sites.items t.places.items x.0 x.1) (λ j. (sym outlets j, sym inlets j))
-        (with_inlet run lines t.sites.items t.places.items t.outlets.items t.inlets.items is.ports place old new was chan ok))
+    set_inlet place old new u was ok chan same_count number sites indices count here outlets inlets =
+        build t u is number sites indices t.count count (position_of t) here is.standing
+        (subst (λ (x : List (Outlet S) × List (Inlet S)). HasEnds run lines t.sites.items t.indices.items x.0 x.1) (λ j. (sym outlets j, sym inlets j))
+        (with_inlet run lines t.sites.items t.indices.items t.outlets.items t.inlets.items is.ports place old new was chan ok))
         (λ j o e. is.words j o (ap (λ xs. slice_get xs j) (sym outlets) ∙ e))
         (λ j o e. one j o (at_set t.inlets.items place old new j o was (ap (λ xs. slice_get xs j) (sym inlets) ∙ e)))
       where
@@ -159,12 +159,12 @@ module _ {S H : Type 0} (run : Run) (lines : List (Option (ChanQueue S))) where
     -- the outlet was tried
     pub set_outlet : (place : ℕ) (old new : Outlet S) (u : Task S H) → slice_get t.outlets.items place ≡ Some old
         → IsOutlet run lines new → new.chan ≡ old.chan → new.words.items ≡ old.words.items
-        → u.number ≡ t.number → u.sites.items ≡ t.sites.items → u.places.items ≡ t.places.items → u.count ≡ t.count → position_of u ≡ position_of t
+        → u.number ≡ t.number → u.sites.items ≡ t.sites.items → u.indices.items ≡ t.indices.items → u.count ≡ t.count → position_of u ≡ position_of t
         → u.outlets.items ≡ slice_set t.outlets.items place new → u.inlets.items ≡ t.inlets.items → IsTask run lines u
-    set_outlet place old new u was ok chan same_words number sites places count here outlets inlets =
-        build t u is number sites places t.count count (position_of t) here is.standing
-        (subst (λ (x : List (Outlet S) × List (Inlet S)). HasEnds run lines t.sites.items t.places.items x.0 x.1) (λ j. (sym outlets j, sym inlets j))
-        (with_outlet run lines t.sites.items t.places.items t.outlets.items t.inlets.items is.ports place old new was chan ok))
+    set_outlet place old new u was ok chan same_words number sites indices count here outlets inlets =
+        build t u is number sites indices t.count count (position_of t) here is.standing
+        (subst (λ (x : List (Outlet S) × List (Inlet S)). HasEnds run lines t.sites.items t.indices.items x.0 x.1) (λ j. (sym outlets j, sym inlets j))
+        (with_outlet run lines t.sites.items t.indices.items t.outlets.items t.inlets.items is.ports place old new was chan ok))
         (λ j o e. one j o (at_set t.outlets.items place old new j o was (ap (λ xs. slice_get xs j) (sym outlets) ∙ e)))
         (λ j o e. is.received j o (ap (λ xs. slice_get xs j) (sym inlets) ∙ e))
       where
@@ -185,7 +185,7 @@ module _ {S H : Type 0} (run : Run) (lines : List (Option (ChanQueue S))) where
 
     -- a receive
     module _ (i : ℕ) (next : IsBefore run t (Recv i)) where
-      pub inlet_there : (site : Site) × (slice_get t.sites.items i ≡ Some site) × HasInlet t.sites.items t.places.items t.inlets.items i site
+      pub inlet_there : (site : Site) × (slice_get t.sites.items i ≡ Some site) × HasInlet t.sites.items t.indices.items t.inlets.items i site
       inlet_there =
           let fit = fits (Recv i) next in
           let there = ap (λ (xs : List Site). slice_get xs i) is.sites ∙ fit.1 in
@@ -204,7 +204,7 @@ module _ {S H : Type 0} (run : Run) (lines : List (Option (ChanQueue S))) where
               let l = length-take-le t.count (final_cut run t.number) is.standing.within in
               omega (arith, r, c, l, small_count is.standing.ends)
 
-          fit : (site : Site) × (slice_get t.sites.items i ≡ Some site) × HasInlet t.sites.items t.places.items t.inlets.items i site
+          fit : (site : Site) × (slice_get t.sites.items i ≡ Some site) × HasInlet t.sites.items t.indices.items t.inlets.items i site
           fit = inlet_there
 
           chan : inlet.chan ≡ fit.0.chan
@@ -230,7 +230,7 @@ module _ {S H : Type 0} (run : Run) (lines : List (Option (ChanQueue S))) where
               subst (λ x. TakeBy run inlet.chan inlet.received x) (sym p) (go counted answer)
             where
               go : count_received proc.behavior.sites fit.0.chan (first_events run t.number t.count) ≡ inlet.received
-                  → ((count_received proc.behavior.sites fit.0.chan (first_events run t.number t.count) < received_at run (final_cut run) fit.0.chan) × IsFront (first_events run t.number t.count ++ Recv i ∷ []) (final_cut run t.number))
+                  → ((count_received proc.behavior.sites fit.0.chan (first_events run t.number t.count) < received_at run (final_cut run) fit.0.chan) × IsPrefix (first_events run t.number t.count ++ Recv i ∷ []) (final_cut run t.number))
                   ⊎ ((count_received proc.behavior.sites fit.0.chan (first_events run t.number t.count) ≡ received_at run (final_cut run) fit.0.chan) × (received_at run (final_cut run) fit.0.chan ≡ length (words_at run (final_cut run) fit.0.chan)))
                   → (inlet.received < received_at run (final_cut run) inlet.chan) ⊎ ((inlet.received ≡ received_at run (final_cut run) inlet.chan) × (received_at run (final_cut run) inlet.chan ≡ length (words_at run (final_cut run) inlet.chan)))
               go counted (inl h) = inl (omega (arith, counted, h.0, ap (λ c. received_at run (final_cut run) c) chan))
@@ -241,18 +241,18 @@ module _ {S H : Type 0} (run : Run) (lines : List (Option (ChanQueue S))) where
       -- behind it
       pub after_receive : (place : ℕ) (old new : Inlet S) (w : Word) (u : Task S H) → inlet_there.2.place ≡ place → slice_get t.inlets.items place ≡ Some old
           → IsInlet run lines new → new.chan ≡ old.chan → new.received ≡ suc old.received → slice_get (words_at run (final_cut run) old.chan) old.received ≡ Some w
-          → u.number ≡ t.number → u.sites.items ≡ t.sites.items → u.places.items ≡ t.places.items → u.count ≡ suc t.count
+          → u.number ≡ t.number → u.sites.items ≡ t.sites.items → u.indices.items ≡ t.indices.items → u.count ≡ suc t.count
           → u.state ≡ t.state → u.got.items ≡ t.got.items ++ w ∷ [] → u.done ≡ suc i → u.ends ≡ t.ends
           → u.outlets.items ≡ t.outlets.items → u.inlets.items ≡ slice_set t.inlets.items place new → IsTask run lines u
-      after_receive place old new w u at was ok chan more there number sites places count state got done ends outlets inlets =
-          build t u is number sites places (suc t.count) count to (λ j. record { state = state j; got = got j; done = done j; ends = ends j }) goes.standing
-          (subst (λ (x : List (Outlet S) × List (Inlet S)). HasEnds run lines t.sites.items t.places.items x.0 x.1) (λ j. (sym outlets j, sym inlets j))
-          (with_inlet run lines t.sites.items t.places.items t.outlets.items t.inlets.items is.ports place old new was chan ok))
+      after_receive place old new w u at was ok chan more there number sites indices count state got done ends outlets inlets =
+          build t u is number sites indices (suc t.count) count to (λ j. record { state = state j; got = got j; done = done j; ends = ends j }) goes.standing
+          (subst (λ (x : List (Outlet S) × List (Inlet S)). HasEnds run lines t.sites.items t.indices.items x.0 x.1) (λ j. (sym outlets j, sym inlets j))
+          (with_inlet run lines t.sites.items t.indices.items t.outlets.items t.inlets.items is.ports place old new was chan ok))
           (λ j o e. is.words j o (ap (λ xs. slice_get xs j) (sym outlets) ∙ e)
           ∙ sym (goes.sent o.chan ∙ (ap (λ ws. sent_first run t.number proc t.count o.chan ++ ws) (words_recv proc.behavior.sites i o.chan) ∙ append-nil _)))
           (λ j o e. one j o (at_set t.inlets.items place old new j o was (ap (λ xs. slice_get xs j) (sym inlets) ∙ e)))
         where
-          fit : (site : Site) × (slice_get t.sites.items i ≡ Some site) × HasInlet t.sites.items t.places.items t.inlets.items i site
+          fit : (site : Site) × (slice_get t.sites.items i ≡ Some site) × HasInlet t.sites.items t.indices.items t.inlets.items i site
           fit = inlet_there
 
           to : Position
@@ -299,7 +299,7 @@ module _ {S H : Type 0} (run : Run) (lines : List (Option (ChanQueue S))) where
 
     -- a send
     module _ (i : ℕ) (w : Word) (next : IsBefore run t (Send i w)) where
-      pub outlet_there : (site : Site) × (slice_get t.sites.items i ≡ Some site) × HasOutlet t.sites.items t.places.items t.outlets.items i site
+      pub outlet_there : (site : Site) × (slice_get t.sites.items i ≡ Some site) × HasOutlet t.sites.items t.indices.items t.outlets.items i site
       outlet_there =
           let fit = fits (Send i w) next in
           let there = ap (λ (xs : List Site). slice_get xs i) is.sites ∙ fit.1 in
@@ -324,7 +324,7 @@ module _ {S H : Type 0} (run : Run) (lines : List (Option (ChanQueue S))) where
       pub may_put : (place : ℕ) (outlet : Outlet S) → outlet_there.2.place ≡ place → slice_get t.outlets.items place ≡ Some outlet → MayPut run outlet w
       may_put place outlet at e = by_right outlet.pass refl
         where
-          fit : (site : Site) × (slice_get t.sites.items i ≡ Some site) × HasOutlet t.sites.items t.places.items t.outlets.items i site
+          fit : (site : Site) × (slice_get t.sites.items i ≡ Some site) × HasOutlet t.sites.items t.indices.items t.outlets.items i site
           fit = outlet_there
 
           chan : outlet.chan ≡ fit.0.chan
@@ -342,7 +342,7 @@ module _ {S H : Type 0} (run : Run) (lines : List (Option (ChanQueue S))) where
               subst (λ x. PutBy run outlet.chan (length outlet.words.items) w x) (sym p) (go counted answer)
             where
               go : length (words_sent proc.behavior.sites fit.0.chan (first_events run t.number t.count)) ≡ length outlet.words.items
-                  → ((slice_get (words_at run (final_cut run) fit.0.chan) (length (words_sent proc.behavior.sites fit.0.chan (first_events run t.number t.count))) ≡ Some w) × IsFront (first_events run t.number t.count ++ Send i w ∷ []) (final_cut run t.number))
+                  → ((slice_get (words_at run (final_cut run) fit.0.chan) (length (words_sent proc.behavior.sites fit.0.chan (first_events run t.number t.count))) ≡ Some w) × IsPrefix (first_events run t.number t.count ++ Send i w ∷ []) (final_cut run t.number))
                   ⊎ ((length (words_sent proc.behavior.sites fit.0.chan (first_events run t.number t.count)) ≡ length (words_at run (final_cut run) fit.0.chan))
                   × (length (words_sent proc.behavior.sites fit.0.chan (first_events run t.number t.count)) ≡ received_at run (final_cut run) fit.0.chan + get_or run.depths fit.0.chan 0))
                   → (slice_get (words_at run (final_cut run) outlet.chan) (length outlet.words.items) ≡ Some w)
@@ -354,17 +354,17 @@ module _ {S H : Type 0} (run : Run) (lines : List (Option (ChanQueue S))) where
       -- behind it
       pub after_send : (place : ℕ) (old new : Outlet S) (u : Task S H) → outlet_there.2.place ≡ place → slice_get t.outlets.items place ≡ Some old
           → IsOutlet run lines new → new.chan ≡ old.chan → new.words.items ≡ old.words.items ++ w ∷ [] → IsNextOn run old w
-          → u.number ≡ t.number → u.sites.items ≡ t.sites.items → u.places.items ≡ t.places.items → u.count ≡ suc t.count
+          → u.number ≡ t.number → u.sites.items ≡ t.sites.items → u.indices.items ≡ t.indices.items → u.count ≡ suc t.count
           → u.state ≡ t.state → u.got.items ≡ t.got.items → u.done ≡ suc i → u.ends ≡ t.ends
           → u.outlets.items ≡ slice_set t.outlets.items place new → u.inlets.items ≡ t.inlets.items → IsTask run lines u
-      after_send place old new u at was ok chan more there number sites places count state got done ends outlets inlets =
-          build t u is number sites places (suc t.count) count to (λ j. record { state = state j; got = got j; done = done j; ends = ends j }) goes.standing
-          (subst (λ (x : List (Outlet S) × List (Inlet S)). HasEnds run lines t.sites.items t.places.items x.0 x.1) (λ j. (sym outlets j, sym inlets j))
-          (with_outlet run lines t.sites.items t.places.items t.outlets.items t.inlets.items is.ports place old new was chan ok))
+      after_send place old new u at was ok chan more there number sites indices count state got done ends outlets inlets =
+          build t u is number sites indices (suc t.count) count to (λ j. record { state = state j; got = got j; done = done j; ends = ends j }) goes.standing
+          (subst (λ (x : List (Outlet S) × List (Inlet S)). HasEnds run lines t.sites.items t.indices.items x.0 x.1) (λ j. (sym outlets j, sym inlets j))
+          (with_outlet run lines t.sites.items t.indices.items t.outlets.items t.inlets.items is.ports place old new was chan ok))
           (λ j o e. one j o (at_set t.outlets.items place old new j o was (ap (λ xs. slice_get xs j) (sym outlets) ∙ e)))
           (λ j o e. is.received j o (ap (λ xs. slice_get xs j) (sym inlets) ∙ e) ∙ omega (arith, goes.received o.chan, count_send proc.behavior.sites i o.chan w))
         where
-          fit : (site : Site) × (slice_get t.sites.items i ≡ Some site) × HasOutlet t.sites.items t.places.items t.outlets.items i site
+          fit : (site : Site) × (slice_get t.sites.items i ≡ Some site) × HasOutlet t.sites.items t.indices.items t.outlets.items i site
           fit = outlet_there
 
           to : Position
@@ -420,11 +420,11 @@ module _ {S H : Type 0} (run : Run) (lines : List (Option (ChanQueue S))) where
           )
 
     -- an end
-    pub after_end : (s : Value) → IsBefore run t (End s) → (u : Task S H) → u.number ≡ t.number → u.sites.items ≡ t.sites.items → u.places.items ≡ t.places.items → u.count ≡ suc t.count
+    pub after_end : (s : Value) → IsBefore run t (End s) → (u : Task S H) → u.number ≡ t.number → u.sites.items ≡ t.sites.items → u.indices.items ≡ t.indices.items → u.count ≡ suc t.count
         → u.state ≡ s → u.got.items ≡ [] → u.done ≡ 0 → u.ends ≡ suc t.ends → u.outlets.items ≡ t.outlets.items → u.inlets.items ≡ t.inlets.items → IsTask run lines u
-    after_end s next u number sites places count state got done ends outlets inlets =
-        build t u is number sites places (suc t.count) count (record { state = s; got = []; done = 0; ends = suc t.ends }) (λ j. record { state = state j; got = got j; done = done j; ends = ends j }) goes.standing
-        (subst (λ (x : List (Outlet S) × List (Inlet S)). HasEnds run lines t.sites.items t.places.items x.0 x.1) (λ j. (sym outlets j, sym inlets j)) is.ports)
+    after_end s next u number sites indices count state got done ends outlets inlets =
+        build t u is number sites indices (suc t.count) count (record { state = s; got = []; done = 0; ends = suc t.ends }) (λ j. record { state = state j; got = got j; done = done j; ends = ends j }) goes.standing
+        (subst (λ (x : List (Outlet S) × List (Inlet S)). HasEnds run lines t.sites.items t.indices.items x.0 x.1) (λ j. (sym outlets j, sym inlets j)) is.ports)
         (λ j o e. is.words j o (ap (λ xs. slice_get xs j) (sym outlets) ∙ e)
         ∙ sym (goes.sent o.chan ∙ (ap (λ ws. sent_first run t.number proc t.count o.chan ++ ws) (words_end proc.behavior.sites s o.chan) ∙ append-nil _)))
         (λ j o e. is.received j o (ap (λ xs. slice_get xs j) (sym inlets) ∙ e) ∙ omega (arith, goes.received o.chan, count_end proc.behavior.sites s o.chan))
@@ -434,7 +434,7 @@ module _ {S H : Type 0} (run : Run) (lines : List (Option (ChanQueue S))) where
 
 module _ {S H : Type 0} where
   -- a task that has made no event
-  pub opens : (run : Run) (lines : List (Option (ChanQueue S))) (t : Task S H) → IsNewTask run lines t.number t.sites.items t.state t.places.items t.outlets.items t.inlets.items
+  pub opens : (run : Run) (lines : List (Option (ChanQueue S))) (t : Task S H) → IsNewTask run lines t.number t.sites.items t.state t.indices.items t.outlets.items t.inlets.items
       → t.got.items ≡ [] → t.done ≡ 0 → t.ends ≡ 0 → t.count ≡ 0 → IsTask run lines t
   unfolding words_sent count_received
   opens run lines t o got done ends count = record {
@@ -449,11 +449,11 @@ module _ {S H : Type 0} where
   }
 
   pub same_refl : (t : Task S H) → IsSameTask t t
-  same_refl t = record { home = refl; number = refl; outlets = λ k. refl; inlets = λ k. refl }
+  same_refl t = record { runtime = refl; number = refl; outlets = λ k. refl; inlets = λ k. refl }
 
   pub same_trans : (s t u : Task S H) → IsSameTask s t → IsSameTask t u → IsSameTask s u
   same_trans s t u a b = record {
-    home = b.home ∙ a.home;
+    runtime = b.runtime ∙ a.runtime;
     number = b.number ∙ a.number;
     outlets = λ k. b.outlets k ∙ a.outlets k;
     inlets = λ k. b.inlets k ∙ a.inlets k;

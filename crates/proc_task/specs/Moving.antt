@@ -18,24 +18,24 @@ use Rattle.proc_task.specs.Ports.{IsOutlet, IsInlet, IsFull, IsDry, told_out, to
 
 module _ {S : Type 0} where
   -- a site that sends has this outlet, one that receives this inlet
-  pub record HasOutlet (sites : List Site) (places : List ℕ) (outlets : List (Outlet S)) (i : ℕ) (site : Site) : Type 0 where
+  pub record HasOutlet (sites : List Site) (indices : List ℕ) (outlets : List (Outlet S)) (i : ℕ) (site : Site) : Type 0 where
     pub place : ℕ
     pub outlet : Outlet S
-    pub place_is : slice_get places i ≡ Some place
+    pub place_is : slice_get indices i ≡ Some place
     pub outlet_is : slice_get outlets place ≡ Some outlet
     pub chan_is : outlet.chan ≡ site.chan
 
-  pub record HasInlet (sites : List Site) (places : List ℕ) (inlets : List (Inlet S)) (i : ℕ) (site : Site) : Type 0 where
+  pub record HasInlet (sites : List Site) (indices : List ℕ) (inlets : List (Inlet S)) (i : ℕ) (site : Site) : Type 0 where
     pub place : ℕ
     pub inlet : Inlet S
-    pub place_is : slice_get places i ≡ Some place
+    pub place_is : slice_get indices i ≡ Some place
     pub inlet_is : slice_get inlets place ≡ Some inlet
     pub chan_is : inlet.chan ≡ site.chan
 
   -- the ends of channels of a proc with these sites: one for each end that has a site, with its right
-  pub record HasEnds (run : Run) (lines : List (Option (ChanQueue S))) (sites : List Site) (places : List ℕ) (outlets : List (Outlet S)) (inlets : List (Inlet S)) : Type 0 where
-    pub senders : (i : ℕ) (site : Site) → slice_get sites i ≡ Some site → site.sends ≡ true → HasOutlet sites places outlets i site
-    pub receivers : (i : ℕ) (site : Site) → slice_get sites i ≡ Some site → site.sends ≡ false → HasInlet sites places inlets i site
+  pub record HasEnds (run : Run) (lines : List (Option (ChanQueue S))) (sites : List Site) (indices : List ℕ) (outlets : List (Outlet S)) (inlets : List (Inlet S)) : Type 0 where
+    pub senders : (i : ℕ) (site : Site) → slice_get sites i ≡ Some site → site.sends ≡ true → HasOutlet sites indices outlets i site
+    pub receivers : (i : ℕ) (site : Site) → slice_get sites i ≡ Some site → site.sends ≡ false → HasInlet sites indices inlets i site
     pub outlet : (k : ℕ) (outlet : Outlet S) → slice_get outlets k ≡ Some outlet → IsOutlet run lines outlet
     pub inlet : (k : ℕ) (inlet : Inlet S) → slice_get inlets k ≡ Some inlet → IsInlet run lines inlet
     pub one_outlet : (j k : ℕ) (a b : Outlet S) → slice_get outlets j ≡ Some a → slice_get outlets k ≡ Some b → a.chan ≡ b.chan → j ≡ k
@@ -59,14 +59,14 @@ module _ {S : Type 0} where
     pub met : HaveMet run outlet inlet
 
   -- the parts of a task that has made no event
-  pub record IsNewTask (run : Run) (lines : List (Option (ChanQueue S))) (number : ℕ) (sites : List Site) (state : Value) (places : List ℕ) (outlets : List (Outlet S)) (inlets : List (Inlet S)) : Type 0 where
+  pub record IsNewTask (run : Run) (lines : List (Option (ChanQueue S))) (number : ℕ) (sites : List Site) (state : Value) (indices : List ℕ) (outlets : List (Outlet S)) (inlets : List (Inlet S)) : Type 0 where
     pub typed : IsTyped run
     pub proc : Proc
     pub proc_is : slice_get run.procs number ≡ Some proc
     pub opening : proc.opening ≡ state
     pub of_type : IsOfType proc.behavior.state state
     pub sites_are : sites ≡ proc.behavior.sites
-    pub ports : HasEnds run lines sites places outlets inlets
+    pub ports : HasEnds run lines sites indices outlets inlets
     pub no_words : (k : ℕ) (outlet : Outlet S) → slice_get outlets k ≡ Some outlet → outlet.words.items ≡ []
     pub none_received : (k : ℕ) (inlet : Inlet S) → slice_get inlets k ≡ Some inlet → inlet.received ≡ 0
 
@@ -95,7 +95,7 @@ module _ {S H : Type 0} where
     pub proc : Proc
     pub standing : IsStanding run task.number proc task.count (position_of task)
     pub sites : task.sites.items ≡ proc.behavior.sites
-    pub ports : HasEnds run lines task.sites.items task.places.items task.outlets.items task.inlets.items
+    pub ports : HasEnds run lines task.sites.items task.indices.items task.outlets.items task.inlets.items
     pub words : (k : ℕ) (outlet : Outlet S) → slice_get task.outlets.items k ≡ Some outlet → outlet.words.items ≡ sent_first run task.number proc task.count outlet.chan
     pub received : (k : ℕ) (inlet : Inlet S) → slice_get task.inlets.items k ≡ Some inlet → inlet.received ≡ received_first run task.number proc task.count inlet.chan
 
@@ -118,14 +118,14 @@ module _ {S H : Type 0} where
 
   -- what no event changes: which proc of which run it is, the channels of its ports, and what their passes were told
   pub record IsSameTask (old new : Task S H) : Type 0 where
-    pub home : new.home ≡ old.home
+    pub runtime : new.runtime ≡ old.runtime
     pub number : new.number ≡ old.number
     pub outlets : (k : ℕ) → option_map told_out (slice_get new.outlets.items k) ≡ option_map told_out (slice_get old.outlets.items k)
     pub inlets : (k : ℕ) → option_map told_in (slice_get new.inlets.items k) ≡ option_map told_in (slice_get old.inlets.items k)
 
   -- what a meeting changes: what the pass of one outlet, or of one inlet, was told
   pub record IsSameButOutlet (k : ℕ) (old new : Task S H) : Type 0 where
-    pub home : new.home ≡ old.home
+    pub runtime : new.runtime ≡ old.runtime
     pub number : new.number ≡ old.number
     pub count : new.count ≡ old.count
     pub stands : position_of new ≡ position_of old
@@ -133,7 +133,7 @@ module _ {S H : Type 0} where
     pub inlets : new.inlets.items ≡ old.inlets.items
 
   pub record IsSameButInlet (k : ℕ) (old new : Task S H) : Type 0 where
-    pub home : new.home ≡ old.home
+    pub runtime : new.runtime ≡ old.runtime
     pub number : new.number ≡ old.number
     pub count : new.count ≡ old.count
     pub stands : position_of new ≡ position_of old
@@ -141,7 +141,7 @@ module _ {S H : Type 0} where
     pub inlets : (j : ℕ) → j ≢ k → slice_get new.inlets.items j ≡ slice_get old.inlets.items j
 
   pub record IsSameButPorts (o i : ℕ) (old new : Task S H) : Type 0 where
-    pub home : new.home ≡ old.home
+    pub runtime : new.runtime ≡ old.runtime
     pub number : new.number ≡ old.number
     pub count : new.count ≡ old.count
     pub stands : position_of new ≡ position_of old

@@ -1,11 +1,11 @@
 //! A proc that moves from thread to thread: where it stands, what it sent and received, and its rights to its channels.
 #![tactic(auto)]
 
-mod home;
+mod runtime;
 pub mod outcome;
 mod port;
 mod task;
 
-pub use home::Home;
+pub use runtime::Runtime;
 pub use port::{Inlet, Outlet};
 pub use task::{Ended, Task};

@@ -2,7 +2,7 @@ ghost use Rattle.std.specs.Prelude.{◌≡◌, ◌∷◌, ◌++◌, [], suc, len
 ghost use Rattle.net_core.specs.Cuts.{words_at, final_cut};
 ghost use Rattle.proc_task.specs.Ports.{IsOutlet, IsInlet, IsNextOn, SentOne, ReceivedOne, MayPut, MayTake, IsFull, IsDry, told_out, told_in, AreEnds, HaveMet, IsOutletOn, NoOutletOn, IsInletOn, NoInletOn};
 
-use crate::home::Home;
+use crate::runtime::Runtime;
 use chan_queue::{RecvPass, SendPass, Streams};
 use std::alloc::AllocError;
 use std::sync::Wait;
@@ -27,23 +27,23 @@ pub struct Inlet<S> {
 
 impl<S: Streams> Outlet<S> {
     /// Sends a word, which is kept, unless the channel is full. Where memory is wanting nothing was sent.
-    pub(crate) fn put<H: Home<S>, R: Wait>(
+    pub(crate) fn put<H: Runtime<S>, R: Wait>(
         &mut self,
         rt: &R,
-        home: &H,
+        runtime: &H,
         word: Bits,
     ) -> Result<bool, AllocError>
-        requires outlet { IsOutlet (H.run home.now) (H.lines home.now) self.old }
-        requires word { MayPut (H.run home.now) self.old word }
-        ensures outlet { IsOutlet (H.run home.now) (H.lines home.now) self.new }
+        requires outlet { IsOutlet (H.run runtime.now) (H.lines runtime.now) self.old }
+        requires word { MayPut (H.run runtime.now) self.old word }
+        ensures outlet { IsOutlet (H.run runtime.now) (H.lines runtime.now) self.new }
         ensures told { told_out self.new ≡ told_out self.old }
         ensures put { IfOk result (λ landed. MatchBool landed
-            (IsNextOn (H.run home.now) self.old word × (self.new.words.items ≡ self.old.words.items ++ word ∷ []))
+            (IsNextOn (H.run runtime.now) self.old word × (self.new.words.items ≡ self.old.words.items ++ word ∷ []))
             ((self.new.words.items ≡ self.old.words.items) × IsFull self.new)) }
         ensures err { OnErr result (self.new.words.items ≡ self.old.words.items) }
     {
         self.words.reserve(1)?;
-        let landed = self.send(rt, home, word);
+        let landed = self.send(rt, runtime, word);
         if landed {
             self.words.push_reserved(word);
         }
@@ -51,71 +51,71 @@ impl<S: Streams> Outlet<S> {
     }
 
     /// Sends a word, unless the channel is full.
-    fn send<H: Home<S>, R: Wait>(&mut self, rt: &R, home: &H, word: Bits) -> bool
-        requires outlet { IsOutlet (H.run home.now) (H.lines home.now) self.old }
-        requires word { MayPut (H.run home.now) self.old word }
+    fn send<H: Runtime<S>, R: Wait>(&mut self, rt: &R, runtime: &H, word: Bits) -> bool
+        requires outlet { IsOutlet (H.run runtime.now) (H.lines runtime.now) self.old }
+        requires word { MayPut (H.run runtime.now) self.old word }
         ensures words { self.new.words ≡ self.old.words }
         ensures told { told_out self.new ≡ told_out self.old }
         ensures sent { MatchBool result
-            (IsNextOn (H.run home.now) self.old word × SentOne (H.run home.now) (H.lines home.now) self.new)
-            (IsOutlet (H.run home.now) (H.lines home.now) self.new × IsFull self.new) }
+            (IsNextOn (H.run runtime.now) self.old word × SentOne (H.run runtime.now) (H.lines runtime.now) self.new)
+            (IsOutlet (H.run runtime.now) (H.lines runtime.now) self.new × IsFull self.new) }
     {
         match &mut self.pass {
             None => true,
-            Some(pass) => home.line(self.chan).send(rt, pass, word).is_ok(),
+            Some(pass) => runtime.line(self.chan).send(rt, pass, word).is_ok(),
         }
     }
 }
 
 impl<S: Streams> Inlet<S> {
     /// Receives a word, unless there is none.
-    pub(crate) fn take<H: Home<S>, R: Wait>(&mut self, rt: &R, home: &H) -> Option<Bits>
-        requires inlet { IsInlet (H.run home.now) (H.lines home.now) self.old }
-        requires word { MayTake (H.run home.now) self.old }
-        ensures inlet { IsInlet (H.run home.now) (H.lines home.now) self.new }
+    pub(crate) fn take<H: Runtime<S>, R: Wait>(&mut self, rt: &R, runtime: &H) -> Option<Bits>
+        requires inlet { IsInlet (H.run runtime.now) (H.lines runtime.now) self.old }
+        requires word { MayTake (H.run runtime.now) self.old }
+        ensures inlet { IsInlet (H.run runtime.now) (H.lines runtime.now) self.new }
         ensures told { told_in self.new ≡ told_in self.old }
         ensures taken { MatchOption result
-            ((self.new.received ≡ self.old.received) × IsDry (H.run home.now) self.new)
+            ((self.new.received ≡ self.old.received) × IsDry (H.run runtime.now) self.new)
             (λ word. (self.new.received ≡ suc self.old.received)
-            × (slice_get (words_at (H.run home.now) (final_cut (H.run home.now)) self.old.chan) self.old.received ≡ Some word)) }
+            × (slice_get (words_at (H.run runtime.now) (final_cut (H.run runtime.now)) self.old.chan) self.old.received ≡ Some word)) }
     {
-        let word = self.receive(rt, home)?;
+        let word = self.receive(rt, runtime)?;
         self.received += 1;
         Some(word)
     }
 
     /// Receives a word, which isn't counted yet.
-    fn receive<H: Home<S>, R: Wait>(&mut self, rt: &R, home: &H) -> Option<Bits>
-        requires inlet { IsInlet (H.run home.now) (H.lines home.now) self.old }
-        requires word { MayTake (H.run home.now) self.old }
+    fn receive<H: Runtime<S>, R: Wait>(&mut self, rt: &R, runtime: &H) -> Option<Bits>
+        requires inlet { IsInlet (H.run runtime.now) (H.lines runtime.now) self.old }
+        requires word { MayTake (H.run runtime.now) self.old }
         ensures same { self.new.received ≡ self.old.received }
         ensures told { told_in self.new ≡ told_in self.old }
         ensures taken { MatchOption result
-            (IsInlet (H.run home.now) (H.lines home.now) self.new × IsDry (H.run home.now) self.new)
-            (λ word. ReceivedOne (H.run home.now) (H.lines home.now) self.new
-            × (slice_get (words_at (H.run home.now) (final_cut (H.run home.now)) self.old.chan) self.old.received ≡ Some word)) }
+            (IsInlet (H.run runtime.now) (H.lines runtime.now) self.new × IsDry (H.run runtime.now) self.new)
+            (λ word. ReceivedOne (H.run runtime.now) (H.lines runtime.now) self.new
+            × (slice_get (words_at (H.run runtime.now) (final_cut (H.run runtime.now)) self.old.chan) self.old.received ≡ Some word)) }
     {
         match &mut self.pass {
-            None => home.input_word(self.chan, self.received),
-            Some(pass) => home.line(self.chan).recv(rt, pass),
+            None => runtime.input_word(self.chan, self.received),
+            Some(pass) => runtime.line(self.chan).recv(rt, pass),
         }
     }
 }
 
 /// The two ends of a channel tell each other how many words they sent and received.
-pub(crate) fn meet<S: Streams, H: Home<S>>(home: &H, outlet: &mut Outlet<S>, inlet: &mut Inlet<S>)
-    requires outlet { IsOutlet (H.run home.now) (H.lines home.now) outlet.old }
-    requires inlet { IsInlet (H.run home.now) (H.lines home.now) inlet.old }
+pub(crate) fn meet<S: Streams, H: Runtime<S>>(runtime: &H, outlet: &mut Outlet<S>, inlet: &mut Inlet<S>)
+    requires outlet { IsOutlet (H.run runtime.now) (H.lines runtime.now) outlet.old }
+    requires inlet { IsInlet (H.run runtime.now) (H.lines runtime.now) inlet.old }
     requires ends { AreEnds outlet.old inlet.old }
-    ensures outlet { IsOutlet (H.run home.now) (H.lines home.now) outlet.new × (outlet.new.chan ≡ outlet.old.chan) × (outlet.new.words ≡ outlet.old.words) }
-    ensures inlet { IsInlet (H.run home.now) (H.lines home.now) inlet.new × (inlet.new.chan ≡ inlet.old.chan) × (inlet.new.received ≡ inlet.old.received) }
-    ensures met { HaveMet (H.run home.now) outlet.new inlet.new }
+    ensures outlet { IsOutlet (H.run runtime.now) (H.lines runtime.now) outlet.new × (outlet.new.chan ≡ outlet.old.chan) × (outlet.new.words ≡ outlet.old.words) }
+    ensures inlet { IsInlet (H.run runtime.now) (H.lines runtime.now) inlet.new × (inlet.new.chan ≡ inlet.old.chan) × (inlet.new.received ≡ inlet.old.received) }
+    ensures met { HaveMet (H.run runtime.now) outlet.new inlet.new }
     ensures ends { AreEnds outlet.new inlet.new }
 {
     let chan = outlet.chan;
     match (outlet.pass.take(), inlet.pass.take()) {
         (Some(sender), Some(receiver)) => {
-            let (sender, receiver) = home.line(chan).meet(sender, receiver);
+            let (sender, receiver) = runtime.line(chan).meet(sender, receiver);
             outlet.pass = Some(sender);
             inlet.pass = Some(receiver);
         }

@@ -6,7 +6,7 @@ ghost use Rattle.net_core.specs.Outcomes.{stall_for};
 ghost use Rattle.chan_queue.specs.Streams.Moves.{sent_first, received_first};
 ghost use Rattle.proc_task.specs.Moving.{IsTask, IsNewTask, IsBefore, IsHeldAt, Waits, IsSameTask, IsSameButOutlet, IsSameButInlet, IsSameButPorts, MeetAt, HasMetAt, IsAtSiteIn, HasSiteOn, end_at, position_of};
 
-use crate::home::Home;
+use crate::runtime::Runtime;
 use crate::port::{Inlet, Outlet, inlet_on, meet, outlet_on};
 use chan_queue::Streams;
 use net_core::{Event, ProcEnd, Site, Stall};
@@ -20,10 +20,10 @@ use xb_value::Value;
 /// A proc that moves from thread to thread: where it stands, what went over its channels, and its rights to them.
 #[derive(Drop)]
 pub struct Task<S, H> {
-    home: H,
+    runtime: H,
     number: u32,
     sites: Vec<Site>,
-    places: Vec<u32>,
+    indices: Vec<u32>,
     state: Value,
     got: Vec<Bits>,
     done: u32,
@@ -41,22 +41,22 @@ pub struct Ended<S> {
     pub inlets: Vec<Inlet<S>>,
 }
 
-impl<S: Streams, H: Home<S>> Numbered<H> for Task<S, H> {
+impl<S: Streams, H: Runtime<S>> Numbered<H> for Task<S, H> {
     ghost number_of = { λ task. task.number };
 
-    ghost run_of = { λ task. task.home };
+    ghost run_of = { λ task. task.runtime };
 
-    ghost fact = { λ task. IsTask (H.run task.home) (H.lines task.home) task };
+    ghost fact = { λ task. IsTask (H.run task.runtime) (H.lines task.runtime) task };
 
     fn number(&self) -> u32 {
         self.number
     }
 }
 
-impl<S: Streams, H: Home<S>> Steps<H> for Task<S, H> {
+impl<S: Streams, H: Runtime<S>> Steps<H> for Task<S, H> {
     ghost moves = { λ old new made. new.count ≡ old.count + made };
 
-    ghost waits = { λ task. Waits (H.run task.home) task };
+    ghost waits = { λ task. Waits (H.run task.runtime) task };
 
     fn make_events<R: Wait>(
         &mut self,
@@ -68,28 +68,28 @@ impl<S: Streams, H: Home<S>> Steps<H> for Task<S, H> {
     }
 }
 
-impl<S: Streams, H: Home<S>> Task<S, H> {
+impl<S: Streams, H: Runtime<S>> Task<S, H> {
     /// A proc that has made no event, with one outlet or inlet for each end of a channel that has a site, and the place
     /// of its outlet or inlet for each site.
     pub fn new(
         alloc: Global,
-        home: H,
+        runtime: H,
         number: u32,
         sites: Vec<Site>,
         state: Value,
-        places: Vec<u32>,
+        indices: Vec<u32>,
         outlets: Vec<Outlet<S>>,
         inlets: Vec<Inlet<S>>,
     ) -> Task<S, H>
-        requires { IsNewTask (H.run home) (H.lines home) number sites.items state places.items outlets.items inlets.items }
-        ensures task { IsTask (H.run home) (H.lines home) result }
-        ensures of { (result.home ≡ home) × (result.number ≡ number) × (result.count ≡ 0) }
+        requires { IsNewTask (H.run runtime) (H.lines runtime) number sites.items state indices.items outlets.items inlets.items }
+        ensures task { IsTask (H.run runtime) (H.lines runtime) result }
+        ensures of { (result.runtime ≡ runtime) × (result.number ≡ number) × (result.count ≡ 0) }
     {
         Task {
-            home,
+            runtime,
             number,
             sites,
-            places,
+            indices,
             state,
             got: Vec::new(alloc),
             done: 0,
@@ -102,16 +102,16 @@ impl<S: Streams, H: Home<S>> Task<S, H> {
 
     /// An outlet of the task meets the inlet of the same channel of another one.
     pub fn meet(&mut self, outlet: u32, other: &mut Task<S, H>, inlet: u32)
-        requires task { IsTask (H.run self.old.home) (H.lines self.old.home) self.old }
-        requires other { IsTask (H.run self.old.home) (H.lines self.old.home) other.old }
+        requires task { IsTask (H.run self.old.runtime) (H.lines self.old.runtime) self.old }
+        requires other { IsTask (H.run self.old.runtime) (H.lines self.old.runtime) other.old }
         requires ends { MeetAt self.old.outlets.items outlet other.old.inlets.items inlet }
-        ensures task { IsTask (H.run self.new.home) (H.lines self.new.home) self.new }
-        ensures other { IsTask (H.run self.new.home) (H.lines self.new.home) other.new }
+        ensures task { IsTask (H.run self.new.runtime) (H.lines self.new.runtime) self.new }
+        ensures other { IsTask (H.run self.new.runtime) (H.lines self.new.runtime) other.new }
         ensures same { IsSameButOutlet outlet self.old self.new × IsSameButInlet inlet other.old other.new }
-        ensures met { HasMetAt (H.run self.new.home) self.new.outlets.items outlet other.new.inlets.items inlet }
+        ensures met { HasMetAt (H.run self.new.runtime) self.new.outlets.items outlet other.new.inlets.items inlet }
     {
         meet(
-            &self.home,
+            &self.runtime,
             &mut self.outlets[outlet as usize],
             &mut other.inlets[inlet as usize],
         );
@@ -119,14 +119,14 @@ impl<S: Streams, H: Home<S>> Task<S, H> {
 
     /// An outlet of the task meets its own inlet of the same channel.
     pub fn meet_self(&mut self, outlet: u32, inlet: u32)
-        requires task { IsTask (H.run self.old.home) (H.lines self.old.home) self.old }
+        requires task { IsTask (H.run self.old.runtime) (H.lines self.old.runtime) self.old }
         requires ends { MeetAt self.old.outlets.items outlet self.old.inlets.items inlet }
-        ensures task { IsTask (H.run self.new.home) (H.lines self.new.home) self.new }
+        ensures task { IsTask (H.run self.new.runtime) (H.lines self.new.runtime) self.new }
         ensures same { IsSameButPorts outlet inlet self.old self.new }
-        ensures met { HasMetAt (H.run self.new.home) self.new.outlets.items outlet self.new.inlets.items inlet }
+        ensures met { HasMetAt (H.run self.new.runtime) self.new.outlets.items outlet self.new.inlets.items inlet }
     {
         meet(
-            &self.home,
+            &self.runtime,
             &mut self.outlets[outlet as usize],
             &mut self.inlets[inlet as usize],
         );
@@ -134,9 +134,9 @@ impl<S: Streams, H: Home<S>> Task<S, H> {
 
     /// Where the task stands, and what went over its channels. It asks the body once, unless the proc is done.
     pub fn finish(self, alloc: Global) -> Result<Ended<S>, AllocError>
-        requires { IsTask (H.run self.home) (H.lines self.home) self }
-        ensures { IfOk result (λ ended. (proc : Proc) → slice_get (H.run self.home).procs self.number ≡ Some proc →
-            (ended.end ≡ end_at (H.run self.home) proc (position_of self)) × (ended.outlets.items ≡ self.outlets.items) × (ended.inlets.items ≡ self.inlets.items)) }
+        requires { IsTask (H.run self.runtime) (H.lines self.runtime) self }
+        ensures { IfOk result (λ ended. (proc : Proc) → slice_get (H.run self.runtime).procs self.number ≡ Some proc →
+            (ended.end ≡ end_at (H.run self.runtime) proc (position_of self)) × (ended.outlets.items ≡ self.outlets.items) × (ended.inlets.items ≡ self.inlets.items)) }
     {
         let stall = self.stall(alloc)?;
         let Task {
@@ -156,9 +156,9 @@ impl<S: Streams, H: Home<S>> Task<S, H> {
 
     /// Where it stands, and what it waits for. It asks the body once, unless the proc is done.
     pub fn end(&self, alloc: Global) -> Result<ProcEnd, AllocError>
-        requires { IsTask (H.run self.now.home) (H.lines self.now.home) self.now }
-        ensures { IfOk result (λ end. (proc : Proc) → slice_get (H.run self.now.home).procs self.now.number ≡ Some proc →
-            end ≡ end_at (H.run self.now.home) proc (position_of self.now)) }
+        requires { IsTask (H.run self.now.runtime) (H.lines self.now.runtime) self.now }
+        ensures { IfOk result (λ end. (proc : Proc) → slice_get (H.run self.now.runtime).procs self.now.number ≡ Some proc →
+            end ≡ end_at (H.run self.now.runtime) proc (position_of self.now)) }
     {
         let stall = self.stall(alloc)?;
         let state = self.state.copy(alloc)?;
@@ -171,9 +171,9 @@ impl<S: Streams, H: Home<S>> Task<S, H> {
 
     /// The words that it sent on a channel of one of its sites.
     pub fn words_on(&self, chan: u32) -> &[Bits]
-        requires { IsTask (H.run self.now.home) (H.lines self.now.home) self.now }
-        ensures { (proc : Proc) → slice_get (H.run self.now.home).procs self.now.number ≡ Some proc → HasSiteOn proc chan true →
-            result.now ≡ sent_first (H.run self.now.home) self.now.number proc self.now.count chan }
+        requires { IsTask (H.run self.now.runtime) (H.lines self.now.runtime) self.now }
+        ensures { (proc : Proc) → slice_get (H.run self.now.runtime).procs self.now.number ≡ Some proc → HasSiteOn proc chan true →
+            result.now ≡ sent_first (H.run self.now.runtime) self.now.number proc self.now.count chan }
     {
         match outlet_on(self.outlets.as_slice(), chan) {
             Some(outlet) => outlet.words.as_slice(),
@@ -183,9 +183,9 @@ impl<S: Streams, H: Home<S>> Task<S, H> {
 
     /// How many words it received from a channel of one of its sites.
     pub fn received_on(&self, chan: u32) -> u64
-        requires { IsTask (H.run self.now.home) (H.lines self.now.home) self.now }
-        ensures { (proc : Proc) → slice_get (H.run self.now.home).procs self.now.number ≡ Some proc → HasSiteOn proc chan false →
-            result ≡ received_first (H.run self.now.home) self.now.number proc self.now.count chan }
+        requires { IsTask (H.run self.now.runtime) (H.lines self.now.runtime) self.now }
+        ensures { (proc : Proc) → slice_get (H.run self.now.runtime).procs self.now.number ≡ Some proc → HasSiteOn proc chan false →
+            result ≡ received_first (H.run self.now.runtime) self.now.number proc self.now.count chan }
     {
         match inlet_on(self.inlets.as_slice(), chan) {
             Some(inlet) => inlet.received,
@@ -195,14 +195,14 @@ impl<S: Streams, H: Home<S>> Task<S, H> {
 
     /// What it waits for, unless it is done.
     fn stall(&self, alloc: Global) -> Result<Option<Stall>, AllocError>
-        requires { IsTask (H.run self.now.home) (H.lines self.now.home) self.now }
-        ensures { IfOk result (λ stall. (proc : Proc) → slice_get (H.run self.now.home).procs self.now.number ≡ Some proc →
-            stall ≡ (end_at (H.run self.now.home) proc (position_of self.now)).stall) }
+        requires { IsTask (H.run self.now.runtime) (H.lines self.now.runtime) self.now }
+        ensures { IfOk result (λ stall. (proc : Proc) → slice_get (H.run self.now.runtime).procs self.now.number ≡ Some proc →
+            stall ≡ (end_at (H.run self.now.runtime) proc (position_of self.now)).stall) }
     {
-        if self.ends >= self.home.activations() {
+        if self.ends >= self.runtime.activations() {
             return Ok(None);
         }
-        let event = self.home.next(
+        let event = self.runtime.next(
             alloc,
             self.number,
             &self.state,
@@ -245,11 +245,11 @@ impl<S: Streams, H: Home<S>> Task<S, H> {
     ///
     /// It asks the body once for each event that it makes, and once for one that waits.
     pub fn advance<R: Wait>(&mut self, rt: &R, alloc: Global, most: u32) -> Result<u32, AllocError>
-        requires { IsTask (H.run self.old.home) (H.lines self.old.home) self.old }
-        ensures task { IsTask (H.run self.new.home) (H.lines self.new.home) self.new }
+        requires { IsTask (H.run self.old.runtime) (H.lines self.old.runtime) self.old }
+        ensures task { IsTask (H.run self.new.runtime) (H.lines self.new.runtime) self.new }
         ensures same { IsSameTask self.old self.new }
         ensures made { IfOk result (λ made. (made ≤ most) × (self.new.count ≡ self.old.count + made)) }
-        ensures fewer { IfOk result (λ made. made < most → Waits (H.run self.new.home) self.new) }
+        ensures fewer { IfOk result (λ made. made < most → Waits (H.run self.new.runtime) self.new) }
         ensures err { OnErr result (self.old.count ≤ self.new.count) }
     {
         for made in 0..most {
@@ -262,17 +262,17 @@ impl<S: Streams, H: Home<S>> Task<S, H> {
 
     /// Makes the next event, if the proc isn't done and there is a word, or room.
     fn step<R: Wait>(&mut self, rt: &R, alloc: Global) -> Result<bool, AllocError>
-        requires { IsTask (H.run self.old.home) (H.lines self.old.home) self.old }
-        ensures task { IsTask (H.run self.new.home) (H.lines self.new.home) self.new }
+        requires { IsTask (H.run self.old.runtime) (H.lines self.old.runtime) self.old }
+        ensures task { IsTask (H.run self.new.runtime) (H.lines self.new.runtime) self.new }
         ensures same { IsSameTask self.old self.new }
         ensures made { IfOk result (λ made. MatchBool made (self.new.count ≡ suc self.old.count)
-            ((self.new.count ≡ self.old.count) × Waits (H.run self.new.home) self.new)) }
+            ((self.new.count ≡ self.old.count) × Waits (H.run self.new.runtime) self.new)) }
         ensures err { OnErr result (self.new.count ≡ self.old.count) }
     {
-        if self.ends >= self.home.activations() {
+        if self.ends >= self.runtime.activations() {
             return Ok(false);
         }
-        let event = self.home.next(
+        let event = self.runtime.next(
             alloc,
             self.number,
             &self.state,
@@ -291,17 +291,17 @@ impl<S: Streams, H: Home<S>> Task<S, H> {
 
     /// Receives at a site, if there is a word.
     fn try_receive<R: Wait>(&mut self, rt: &R, site: u32) -> Result<bool, AllocError>
-        requires task { IsTask (H.run self.old.home) (H.lines self.old.home) self.old }
-        requires next { IsBefore (H.run self.old.home) self.old (event.Recv site) }
-        ensures task { IsTask (H.run self.new.home) (H.lines self.new.home) self.new }
+        requires task { IsTask (H.run self.old.runtime) (H.lines self.old.runtime) self.old }
+        requires next { IsBefore (H.run self.old.runtime) self.old (event.Recv site) }
+        ensures task { IsTask (H.run self.new.runtime) (H.lines self.new.runtime) self.new }
         ensures same { IsSameTask self.old self.new }
         ensures made { IfOk result (λ made. MatchBool made (self.new.count ≡ suc self.old.count)
-            ((self.new.count ≡ self.old.count) × Waits (H.run self.new.home) self.new)) }
+            ((self.new.count ≡ self.old.count) × Waits (H.run self.new.runtime) self.new)) }
         ensures err { OnErr result (self.new.count ≡ self.old.count) }
     {
         self.got.reserve(1)?;
-        let place = self.places[site as usize] as usize;
-        match self.inlets[place].take(rt, &self.home) {
+        let place = self.indices[site as usize] as usize;
+        match self.inlets[place].take(rt, &self.runtime) {
             Some(word) => {
                 self.got.push_reserved(word);
                 self.done = site + 1;
@@ -314,16 +314,16 @@ impl<S: Streams, H: Home<S>> Task<S, H> {
 
     /// Sends a word at a site, if there is room.
     fn try_send<R: Wait>(&mut self, rt: &R, site: u32, word: Bits) -> Result<bool, AllocError>
-        requires task { IsTask (H.run self.old.home) (H.lines self.old.home) self.old }
-        requires next { IsBefore (H.run self.old.home) self.old (event.Send site word) }
-        ensures task { IsTask (H.run self.new.home) (H.lines self.new.home) self.new }
+        requires task { IsTask (H.run self.old.runtime) (H.lines self.old.runtime) self.old }
+        requires next { IsBefore (H.run self.old.runtime) self.old (event.Send site word) }
+        ensures task { IsTask (H.run self.new.runtime) (H.lines self.new.runtime) self.new }
         ensures same { IsSameTask self.old self.new }
         ensures made { IfOk result (λ made. MatchBool made (self.new.count ≡ suc self.old.count)
-            ((self.new.count ≡ self.old.count) × Waits (H.run self.new.home) self.new)) }
+            ((self.new.count ≡ self.old.count) × Waits (H.run self.new.runtime) self.new)) }
         ensures err { OnErr result (self.new.count ≡ self.old.count) }
     {
-        let place = self.places[site as usize] as usize;
-        if self.outlets[place].put(rt, &self.home, word)? {
+        let place = self.indices[site as usize] as usize;
+        if self.outlets[place].put(rt, &self.runtime, word)? {
             self.done = site + 1;
             self.count += 1;
             Ok(true)
@@ -334,9 +334,9 @@ impl<S: Streams, H: Home<S>> Task<S, H> {
 
     /// The activation ends with a state, and the next one begins.
     fn end_with(&mut self, state: Value)
-        requires task { IsTask (H.run self.old.home) (H.lines self.old.home) self.old }
-        requires next { IsBefore (H.run self.old.home) self.old (event.End state) }
-        ensures task { IsTask (H.run self.new.home) (H.lines self.new.home) self.new }
+        requires task { IsTask (H.run self.old.runtime) (H.lines self.old.runtime) self.old }
+        requires next { IsBefore (H.run self.old.runtime) self.old (event.End state) }
+        ensures task { IsTask (H.run self.new.runtime) (H.lines self.new.runtime) self.new }
         ensures same { IsSameTask self.old self.new }
         ensures made { self.new.count ≡ suc self.old.count }
     {

@@ -7,8 +7,8 @@ use Rattle.topo_order.specs.declared.walk.Mark.{Mark}
 use Rattle.topo_order.specs.declared.walk.Mark.TheVariants.{New, Open, Done}
 use Rattle.topo_order.specs.Needs.{needs_of, Needs, Reaches, itself, by_way}
 use Rattle.topo_order.specs.Inner.Walk.{mark_of, taken_of, GoOn}
-use Rattle.topo_order.specs.Inner.Groups.{place_of, flag_of, IsNotBelow, IsOpenAbove, IsGrouping, Rises, AreJoined, all_done, all_flagged}
-use Rattle.topo_order.proofs.Steps.{mark_of-set, mark_of-set_other, get_pushed, get_front, get_last, new_done, new_open, open_done, done_open}
+use Rattle.topo_order.specs.Inner.Groups.{position_of, flag_of, IsNotBelow, IsOpenAbove, IsGrouping, Rises, AreJoined, all_done, all_flagged}
+use Rattle.topo_order.proofs.Steps.{mark_of-set, mark_of-set_other, get_pushed, get_start, get_last, new_done, new_open, open_done, done_open}
 use Rattle.topo_order.proofs.Work.{known_inside}
 use Rattle.topo_order.proofs.Grouping.{flag_of-set, flag_of-set_other, joined, order_of, stands_once}
 
@@ -95,27 +95,27 @@ unflagged (t ∷ things) loops i none =
 -- ---- the last group is done
 
 -- what is known of a group that ends
-pub record Ends (needs : List (List ℕ)) (marks : List Mark) (taken places path stack starts : List ℕ) (loops : List Bool) (front starts' : List ℕ) (top b : ℕ) : Type 0 where
-  pub grouping : IsGrouping needs marks taken places path stack starts loops
+pub record Ends (needs : List (List ℕ)) (marks : List Mark) (taken positions path stack starts : List ℕ) (loops : List Bool) (front starts' : List ℕ) (top b : ℕ) : Type 0 where
+  pub grouping : IsGrouping needs marks taken positions path stack starts loops
   pub path_is : path ≡ front ++ top ∷ []
   pub starts_is : starts ≡ starts' ++ b ∷ []
-  pub begins_at : place_of places top ≡ b
+  pub begins_at : position_of positions top ≡ b
   pub all : length (needs_of needs top) ≤ taken_of taken top
 
 abbrev pub flags_after : List ℕ → ℕ → List Bool → List Bool
 flags_after stack b loops = if nat_lt (b + 1) (length stack) then all_flagged (drop b stack) loops else loops
 
-pub record HasEnded (needs : List (List ℕ)) (marks : List Mark) (taken places front stack starts' : List ℕ) (loops : List Bool) (b : ℕ) : Type 0 where
-  pub grouping : IsGrouping needs (all_done (drop b stack) marks) taken places front (take b stack) starts' (flags_after stack b loops)
+pub record HasEnded (needs : List (List ℕ)) (marks : List Mark) (taken positions front stack starts' : List ℕ) (loops : List Bool) (b : ℕ) : Type 0 where
+  pub grouping : IsGrouping needs (all_done (drop b stack) marks) taken positions front (take b stack) starts' (flags_after stack b loops)
   pub on : GoOn marks (all_done (drop b stack) marks)
 
-pub ended : (needs : List (List ℕ)) (marks : List Mark) (taken places path stack starts : List ℕ) (loops : List Bool) (front starts' : List ℕ) (top b : ℕ)
-    → Ends needs marks taken places path stack starts loops front starts' top b → HasEnded needs marks taken places front stack starts' loops b
-ended needs marks taken places path stack starts loops front starts' top b e = record {
+pub ended : (needs : List (List ℕ)) (marks : List Mark) (taken positions path stack starts : List ℕ) (loops : List Bool) (front starts' : List ℕ) (top b : ℕ)
+    → Ends needs marks taken positions path stack starts loops front starts' top b → HasEnded needs marks taken positions front stack starts' loops b
+ended needs marks taken positions path stack starts loops front starts' top b e = record {
   grouping = record {
     marks_size = length-all_done (drop b stack) marks ∙ g.marks_size;
     taken_size = g.taken_size;
-    places_size = g.places_size;
+    positions_size = g.positions_size;
     loops_size = flags_size (nat_lt (b + 1) (length stack)) ∙ g.loops_size;
     open_on = λ i h. open_on i h (where_is i);
     on_open = λ p i h. let (low, at) = get_take b stack p i h in kept i (λ q far there. omega (arith, low, far, sym (g.placed q i there), g.placed p i at)) ∙ g.on_open p i at;
@@ -136,11 +136,11 @@ ended needs marks taken places path stack starts loops front starts' top b e = r
   on = record { done = λ i h. kept i (not_there i (λ o. open_done (sym o ∙ h))) ∙ h; begun = λ i h. met i h (where_is i) };
 }
   where
-    g : IsGrouping needs marks taken places path stack starts loops
+    g : IsGrouping needs marks taken positions path stack starts loops
     g = e.grouping
 
     on_path : (k i : ℕ) → slice_get front k ≡ Some i → slice_get path k ≡ Some i
-    on_path k i h = ap (λ xs. slice_get xs k) e.path_is ∙ get_front front top i k h
+    on_path k i h = ap (λ xs. slice_get xs k) e.path_is ∙ get_start front top i k h
 
     top_at : slice_get path (length front) ≡ Some top
     top_at = ap (λ xs. slice_get xs (length front)) e.path_is ∙ get_last front top
@@ -152,7 +152,7 @@ ended needs marks taken places path stack starts loops front starts' top b e = r
     off_path k i h = elim (get_pushed front top i k (ap (λ xs. slice_get xs k) (sym e.path_is) ∙ h)) [ inl old ↦ inl old | inr w ↦ inr w.1 ]
 
     on_starts : (q c : ℕ) → slice_get starts' q ≡ Some c → slice_get starts q ≡ Some c
-    on_starts q c h = ap (λ xs. slice_get xs q) e.starts_is ∙ get_front starts' b c q h
+    on_starts q c h = ap (λ xs. slice_get xs q) e.starts_is ∙ get_start starts' b c q h
 
     off_starts : (q c : ℕ) → slice_get starts q ≡ Some c → (slice_get starts' q ≡ Some c) ⊎ (b ≡ c)
     off_starts q c h = elim (get_pushed starts' b c q (ap (λ xs. slice_get xs q) (sym e.starts_is) ∙ h)) [ inl old ↦ inl old | inr w ↦ inr w.1 ]
@@ -170,31 +170,31 @@ ended needs marks taken places path stack starts loops front starts' top b e = r
         split (inl old) = let low = start_low q c old in omega (arith, low)
         split (inr same) = omega (arith, same)
 
-    front_low : (k i : ℕ) → slice_get front k ≡ Some i → place_of places i < b
+    front_low : (k i : ℕ) → slice_get front k ≡ Some i → position_of positions i < b
     front_low k i h =
         let less = g.path_rises k (length front) i top (slice_get_within front k i h) (on_path k i h) top_at in
         omega (arith, less, e.begins_at)
 
     -- ---- what stands from there on, and what doesn't
 
-    below : (i : ℕ) → place_of places i < b → (p : ℕ) → b ≤ p → slice_get stack p ≢ Some i
+    below : (i : ℕ) → position_of positions i < b → (p : ℕ) → b ≤ p → slice_get stack p ≢ Some i
     below i low p far at = let place = g.placed p i at in omega (arith, low, far, place)
 
     not_there : (i : ℕ) → (mark_of marks i ≢ Open) → (p : ℕ) → b ≤ p → slice_get stack p ≢ Some i
     not_there i closed p far at = closed (g.on_open p i at)
 
     -- it is open and stands from there on, or it isn't
-    where_is : (i : ℕ) → ((mark_of marks i ≡ Open) × (b ≤ place_of places i)) ⊎ ((p : ℕ) → b ≤ p → slice_get stack p ≢ Some i)
+    where_is : (i : ℕ) → ((mark_of marks i ≡ Open) × (b ≤ position_of positions i)) ⊎ ((p : ℕ) → b ≤ p → slice_get stack p ≢ Some i)
     where_is i = by_mark (mark_of marks i) refl
       where
-        by_place : mark_of marks i ≡ Open → (place_of places i < b) ⊎ ((place_of places i ≡ b) ⊎ (b < place_of places i)) → ((mark_of marks i ≡ Open) × (b ≤ place_of places i)) ⊎ ((p : ℕ) → b ≤ p → slice_get stack p ≢ Some i)
+        by_place : mark_of marks i ≡ Open → (position_of positions i < b) ⊎ ((position_of positions i ≡ b) ⊎ (b < position_of positions i)) → ((mark_of marks i ≡ Open) × (b ≤ position_of positions i)) ⊎ ((p : ℕ) → b ≤ p → slice_get stack p ≢ Some i)
         by_place h (inl low) = inr (below i low)
         by_place h (inr (inl same)) = inl (h, omega (arith, same))
         by_place h (inr (inr far)) = inl (h, omega (arith, far))
 
-        by_mark : (m : Mark) → mark_of marks i ≡ m → ((mark_of marks i ≡ Open) × (b ≤ place_of places i)) ⊎ ((p : ℕ) → b ≤ p → slice_get stack p ≢ Some i)
+        by_mark : (m : Mark) → mark_of marks i ≡ m → ((mark_of marks i ≡ Open) × (b ≤ position_of positions i)) ⊎ ((p : ℕ) → b ≤ p → slice_get stack p ≢ Some i)
         by_mark New h = inr (not_there i (λ o. new_open (sym h ∙ o)))
-        by_mark Open h = by_place h (order_of (place_of places i) b)
+        by_mark Open h = by_place h (order_of (position_of positions i) b)
         by_mark Done h = inr (not_there i (λ o. done_open (sym h ∙ o)))
 
     kept : (i : ℕ) → ((p : ℕ) → b ≤ p → slice_get stack p ≢ Some i) → mark_of (all_done (drop b stack) marks) i ≡ mark_of marks i
@@ -206,46 +206,46 @@ ended needs marks taken places path stack starts loops front starts' top b e = r
     inside : (i : ℕ) → mark_of marks i ≡ Open → i < length marks
     inside i h = known_inside marks i (λ n. new_open (sym n ∙ h))
 
-    closed : (i : ℕ) → mark_of marks i ≡ Open → b ≤ place_of places i → mark_of (all_done (drop b stack) marks) i ≡ Done
-    closed i h far = let (q, at) = drop_get b stack (place_of places i) i far (g.open_on i h) in done_at (drop b stack) marks q i (inside i h) at
+    closed : (i : ℕ) → mark_of marks i ≡ Open → b ≤ position_of positions i → mark_of (all_done (drop b stack) marks) i ≡ Done
+    closed i h far = let (q, at) = drop_get b stack (position_of positions i) i far (g.open_on i h) in done_at (drop b stack) marks q i (inside i h) at
 
-    set_flag : (i : ℕ) → mark_of marks i ≡ Open → b ≤ place_of places i → flag_of (all_flagged (drop b stack) loops) i ≡ true
+    set_flag : (i : ℕ) → mark_of marks i ≡ Open → b ≤ position_of positions i → flag_of (all_flagged (drop b stack) loops) i ≡ true
     set_flag i h far =
-        let (q, at) = drop_get b stack (place_of places i) i far (g.open_on i h) in
+        let (q, at) = drop_get b stack (position_of positions i) i far (g.open_on i h) in
         flagged_at (drop b stack) loops q i (rw (g.loops_size, ← g.marks_size) (inside i h)) at
 
     flags_size : (many : Bool) → length (if many then all_flagged (drop b stack) loops else loops) ≡ length loops
     flags_size true = length-all_flagged (drop b stack) loops
     flags_size false = refl
 
-    met : (i : ℕ) → mark_of marks i ≢ New → ((mark_of marks i ≡ Open) × (b ≤ place_of places i)) ⊎ ((p : ℕ) → b ≤ p → slice_get stack p ≢ Some i) → mark_of (all_done (drop b stack) marks) i ≢ New
+    met : (i : ℕ) → mark_of marks i ≢ New → ((mark_of marks i ≡ Open) × (b ≤ position_of positions i)) ⊎ ((p : ℕ) → b ≤ p → slice_get stack p ≢ Some i) → mark_of (all_done (drop b stack) marks) i ≢ New
     met i h (inl w) n = new_done (sym n ∙ closed i w.0 w.1)
     met i h (inr none) n = h (sym (kept i none) ∙ n)
 
-    was_met : (i : ℕ) → mark_of (all_done (drop b stack) marks) i ≢ New → ((mark_of marks i ≡ Open) × (b ≤ place_of places i)) ⊎ ((p : ℕ) → b ≤ p → slice_get stack p ≢ Some i) → mark_of marks i ≢ New
+    was_met : (i : ℕ) → mark_of (all_done (drop b stack) marks) i ≢ New → ((mark_of marks i ≡ Open) × (b ≤ position_of positions i)) ⊎ ((p : ℕ) → b ≤ p → slice_get stack p ≢ Some i) → mark_of marks i ≢ New
     was_met i h (inl w) n = new_open (sym n ∙ w.0)
     was_met i h (inr none) n = h (kept i none ∙ n)
 
-    open_on : (i : ℕ) → mark_of (all_done (drop b stack) marks) i ≡ Open → ((mark_of marks i ≡ Open) × (b ≤ place_of places i)) ⊎ ((p : ℕ) → b ≤ p → slice_get stack p ≢ Some i)
-        → slice_get (take b stack) (place_of places i) ≡ Some i
+    open_on : (i : ℕ) → mark_of (all_done (drop b stack) marks) i ≡ Open → ((mark_of marks i ≡ Open) × (b ≤ position_of positions i)) ⊎ ((p : ℕ) → b ≤ p → slice_get stack p ≢ Some i)
+        → slice_get (take b stack) (position_of positions i) ≡ Some i
     open_on i h (inl w) = absurd (open_done (sym h ∙ closed i w.0 w.1))
     open_on i h (inr none) =
         let op : mark_of marks i ≡ Open = sym (kept i none) ∙ h in
         let at = g.open_on i op in
-        by_order at (order_of (place_of places i) b)
+        by_order at (order_of (position_of positions i) b)
       where
-        by_order : slice_get stack (place_of places i) ≡ Some i → (place_of places i < b) ⊎ ((place_of places i ≡ b) ⊎ (b < place_of places i)) → slice_get (take b stack) (place_of places i) ≡ Some i
-        by_order at (inl low) = take_get b stack (place_of places i) i low at
-        by_order at (inr (inl same)) = absurd (none (place_of places i) (omega (arith, same)) at)
-        by_order at (inr (inr far)) = absurd (none (place_of places i) (omega (arith, far)) at)
+        by_order : slice_get stack (position_of positions i) ≡ Some i → (position_of positions i < b) ⊎ ((position_of positions i ≡ b) ⊎ (b < position_of positions i)) → slice_get (take b stack) (position_of positions i) ≡ Some i
+        by_order at (inl low) = take_get b stack (position_of positions i) i low at
+        by_order at (inr (inl same)) = absurd (none (position_of positions i) (omega (arith, same)) at)
+        by_order at (inr (inr far)) = absurd (none (position_of positions i) (omega (arith, far)) at)
 
-    begins : (q c : ℕ) → slice_get starts' q ≡ Some c → ((k : ℕ) × (i : ℕ) × (slice_get path k ≡ Some i) × (place_of places i ≡ c))
-        → (k : ℕ) × (i : ℕ) × (slice_get front k ≡ Some i) × (place_of places i ≡ c)
+    begins : (q c : ℕ) → slice_get starts' q ≡ Some c → ((k : ℕ) × (i : ℕ) × (slice_get path k ≡ Some i) × (position_of positions i ≡ c))
+        → (k : ℕ) × (i : ℕ) × (slice_get front k ≡ Some i) × (position_of positions i ≡ c)
     begins q c h (k, i, at, place) = split (off_path k i at)
       where
-        split : (slice_get front k ≡ Some i) ⊎ (top ≡ i) → (k : ℕ) × (i : ℕ) × (slice_get front k ≡ Some i) × (place_of places i ≡ c)
+        split : (slice_get front k ≡ Some i) ⊎ (top ≡ i) → (k : ℕ) × (i : ℕ) × (slice_get front k ≡ Some i) × (position_of positions i ≡ c)
         split (inl old) = (k, i, old, place)
-        split (inr same) = let low = start_low q c h in let there = ap (place_of places) same in absurd (omega (arith, low, place, there, e.begins_at))
+        split (inr same) = let low = start_low q c h in let there = ap (position_of positions) same in absurd (omega (arith, low, place, there, e.begins_at))
 
     grouped : (p : ℕ) → p < b → ((q : ℕ) × (c : ℕ) × (slice_get starts q ≡ Some c) × (c ≤ p)) → (q : ℕ) × (c : ℕ) × (slice_get starts' q ≡ Some c) × (c ≤ p)
     grouped p low (q, c, at, less) = split (off_starts q c at)
@@ -261,26 +261,26 @@ ended needs marks taken places path stack starts loops front starts' top b e = r
         split (inl old) = n r c old less
         split (inr same) = absurd (omega (arith, low, less, same))
 
-    settled : (i j : ℕ) → (mark_of marks j ≡ Done) ⊎ IsOpenAbove marks places starts i j
-        → (mark_of (all_done (drop b stack) marks) j ≡ Done) ⊎ IsOpenAbove (all_done (drop b stack) marks) places starts' i j
+    settled : (i j : ℕ) → (mark_of marks j ≡ Done) ⊎ IsOpenAbove marks positions starts i j
+        → (mark_of (all_done (drop b stack) marks) j ≡ Done) ⊎ IsOpenAbove (all_done (drop b stack) marks) positions starts' i j
     settled i j (inl done) = inl (kept j (not_there j (λ o. open_done (sym o ∙ done))) ∙ done)
-    settled i j (inr w) = split (order_of (place_of places j) b)
+    settled i j (inr w) = split (order_of (position_of positions j) b)
       where
-        split : (place_of places j < b) ⊎ ((place_of places j ≡ b) ⊎ (b < place_of places j))
-            → (mark_of (all_done (drop b stack) marks) j ≡ Done) ⊎ IsOpenAbove (all_done (drop b stack) marks) places starts' i j
+        split : (position_of positions j < b) ⊎ ((position_of positions j ≡ b) ⊎ (b < position_of positions j))
+            → (mark_of (all_done (drop b stack) marks) j ≡ Done) ⊎ IsOpenAbove (all_done (drop b stack) marks) positions starts' i j
         split (inr (inl same)) = inl (closed j w.second (omega (arith, same)))
         split (inr (inr far)) = inl (closed j w.second (omega (arith, far)))
-        split (inl low) = first (order_of (place_of places i) b)
+        split (inl low) = first (order_of (position_of positions i) b)
           where
-            within : place_of places i < b → IsOpenAbove (all_done (drop b stack) marks) places starts' i j
+            within : position_of positions i < b → IsOpenAbove (all_done (drop b stack) marks) positions starts' i j
             within less = record {
               first = kept i (below i less) ∙ w.first;
               second = kept j (below j low) ∙ w.second;
               above = λ q c h up. w.above q c (on_starts q c h) up;
             }
 
-            first : (place_of places i < b) ⊎ ((place_of places i ≡ b) ⊎ (b < place_of places i))
-                → (mark_of (all_done (drop b stack) marks) j ≡ Done) ⊎ IsOpenAbove (all_done (drop b stack) marks) places starts' i j
+            first : (position_of positions i < b) ⊎ ((position_of positions i ≡ b) ⊎ (b < position_of positions i))
+                → (mark_of (all_done (drop b stack) marks) j ≡ Done) ⊎ IsOpenAbove (all_done (drop b stack) marks) positions starts' i j
             first (inl less) = inr (within less)
             first (inr (inl same)) = let up = w.above (length starts') b last_start (omega (arith, same)) in absurd (omega (arith, up, low))
             first (inr (inr far)) = let up = w.above (length starts') b last_start (omega (arith, far)) in absurd (omega (arith, up, low))
@@ -299,24 +299,24 @@ ended needs marks taken places path stack starts loops front starts' top b e = r
     both : (p q i j : ℕ) → p < q → b ≤ p → slice_get stack p ≡ Some i → slice_get stack q ≡ Some j → Reaches needs i j × Reaches needs j i
     both p q i j less far x y = (g.down p q i j less x y, g.up p q i j less x y (λ r c at low. let most = start_most r c at in omega (arith, most, far)))
 
-    another : (i : ℕ) → mark_of marks i ≡ Open → b ≤ place_of places i → b + 1 < length stack → Reaches needs i i
-    another i h far many = split (order_of b (place_of places i))
+    another : (i : ℕ) → mark_of marks i ≡ Open → b ≤ position_of positions i → b + 1 < length stack → Reaches needs i i
+    another i h far many = split (order_of b (position_of positions i))
       where
-        at : slice_get stack (place_of places i) ≡ Some i
+        at : slice_get stack (position_of positions i) ≡ Some i
         at = g.open_on i h
 
-        split : (b < place_of places i) ⊎ ((b ≡ place_of places i) ⊎ (place_of places i < b)) → Reaches needs i i
-        split (inl more) = let (j, there) = get_some stack b (omega (arith, many)) in let w = both b (place_of places i) j i more (omega arith) there at in joined needs i j i w.1 w.0
-        split (inr (inl same)) = let (j, there) = get_some stack (b + 1) many in let w = both (place_of places i) (b + 1) i j (omega (arith, same)) far at there in joined needs i j i w.0 w.1
+        split : (b < position_of positions i) ⊎ ((b ≡ position_of positions i) ⊎ (position_of positions i < b)) → Reaches needs i i
+        split (inl more) = let (j, there) = get_some stack b (omega (arith, many)) in let w = both b (position_of positions i) j i more (omega arith) there at in joined needs i j i w.1 w.0
+        split (inr (inl same)) = let (j, there) = get_some stack (b + 1) many in let w = both (position_of positions i) (b + 1) i j (omega (arith, same)) far at there in joined needs i j i w.0 w.1
         split (inr (inr less)) = absurd (omega (arith, less, far))
 
     sound : (many : Bool) → nat_lt (b + 1) (length stack) ≡ many → (i : ℕ) → flag_of (if many then all_flagged (drop b stack) loops else loops) i ≡ true
-        → ((mark_of marks i ≡ Open) × (b ≤ place_of places i)) ⊎ ((p : ℕ) → b ≤ p → slice_get stack p ≢ Some i) → Reaches needs i i
+        → ((mark_of marks i ≡ Open) × (b ≤ position_of positions i)) ⊎ ((p : ℕ) → b ≤ p → slice_get stack p ≢ Some i) → Reaches needs i i
     sound false is i h w = g.sound i h
     sound true is i h (inl w) = another i w.0 w.1 (ltb-true (b + 1) (length stack) is)
     sound true is i h (inr none) = g.sound i (sym (kept_flag i none) ∙ h)
 
-    still : (many : Bool) (i : ℕ) → flag_of loops i ≡ true → ((mark_of marks i ≡ Open) × (b ≤ place_of places i)) ⊎ ((p : ℕ) → b ≤ p → slice_get stack p ≢ Some i)
+    still : (many : Bool) (i : ℕ) → flag_of loops i ≡ true → ((mark_of marks i ≡ Open) × (b ≤ position_of positions i)) ⊎ ((p : ℕ) → b ≤ p → slice_get stack p ≢ Some i)
         → flag_of (if many then all_flagged (drop b stack) loops else loops) i ≡ true
     still false i h w = h
     still true i h (inl w) = set_flag i w.0 w.1
@@ -329,7 +329,7 @@ ended needs marks taken places path stack starts loops front starts' top b e = r
         let within = slice_get_within (needs_of needs i) k j at in
         split (g.settled i k j (omega (arith, all, within)) at)
       where
-        split : (mark_of marks j ≡ Done) ⊎ IsOpenAbove marks places starts i j → mark_of marks j ≡ Done
+        split : (mark_of marks j ≡ Done) ⊎ IsOpenAbove marks positions starts i j → mark_of marks j ≡ Done
         split (inl done) = done
         split (inr w) = absurd (open_done (sym w.first ∙ h))
 
@@ -338,11 +338,11 @@ ended needs marks taken places path stack starts loops front starts' top b e = r
     done_far i j (by_way _ k _ n rest) h = done_far k j rest (done_on i k h n)
 
     -- a group of one thing that isn't known to need itself
-    alone : (i : ℕ) → mark_of marks i ≡ Open → b ≤ place_of places i → length stack ≤ b + 1 → top ≡ i
+    alone : (i : ℕ) → mark_of marks i ≡ Open → b ≤ position_of positions i → length stack ≤ b + 1 → top ≡ i
     alone i h far few =
         let at = g.open_on i h in
-        let within = slice_get_within stack (place_of places i) i at in
-        stands_once stack (place_of places top) (place_of places i) top i (omega (arith, within, far, few, e.begins_at)) (g.open_on top top_open) at
+        let within = slice_get_within stack (position_of positions i) i at in
+        stands_once stack (position_of positions top) (position_of positions i) top i (omega (arith, within, far, few, e.begins_at)) (g.open_on top top_open) at
 
     lonely : length stack ≤ b + 1 → flag_of loops top ≡ false → (j : ℕ) → Needs needs top j → mark_of marks j ≡ Done
     lonely few free_top j (k, at) =
@@ -350,7 +350,7 @@ ended needs marks taken places path stack starts loops front starts' top b e = r
         let low : k < taken_of taken top = omega (arith, within, e.all) in
         split low (g.settled top k j low at)
       where
-        split : k < taken_of taken top → (mark_of marks j ≡ Done) ⊎ IsOpenAbove marks places starts top j → mark_of marks j ≡ Done
+        split : k < taken_of taken top → (mark_of marks j ≡ Done) ⊎ IsOpenAbove marks positions starts top j → mark_of marks j ≡ Done
         split low (inl done) = done
         split low (inr w) =
             let up = w.above (length starts') b last_start (omega (arith, e.begins_at)) in
@@ -366,7 +366,7 @@ ended needs marks taken places path stack starts loops front starts' top b e = r
 
     free : (many : Bool) → nat_lt (b + 1) (length stack) ≡ many → (i : ℕ) → mark_of (all_done (drop b stack) marks) i ≡ Done
         → flag_of (if many then all_flagged (drop b stack) loops else loops) i ≡ false
-        → ((mark_of marks i ≡ Open) × (b ≤ place_of places i)) ⊎ ((p : ℕ) → b ≤ p → slice_get stack p ≢ Some i) → ¬ (Reaches needs i i)
+        → ((mark_of marks i ≡ Open) × (b ≤ position_of positions i)) ⊎ ((p : ℕ) → b ≤ p → slice_get stack p ≢ Some i) → ¬ (Reaches needs i i)
     free true is i h unset (inl w) r = let wrong : true ≡ false = sym (set_flag i w.0 w.1) ∙ unset in cc
     free true is i h unset (inr none) r = g.free i (sym (kept i none) ∙ h) (sym (kept_flag i none) ∙ unset) r
     free false is i h unset (inr none) r = g.free i (sym (kept i none) ∙ h) unset r
@@ -389,7 +389,7 @@ join_begins starts at = record { kept = λ q b h low. h; only = λ q b h. h }
 pub join_goes_on : (first starts starts' : List ℕ) (at last : ℕ) → IsJoining first starts at → starts ≡ starts' ++ last ∷ [] → at < last → IsJoining first starts' at
 join_goes_on first starts starts' at last is e far = record {
   kept = λ q b h low. split q b low (get_pushed starts' last b q (ap (λ xs. slice_get xs q) (sym e) ∙ is.kept q b h low));
-  only = λ q b h. is.only q b (ap (λ xs. slice_get xs q) e ∙ get_front starts' last b q h);
+  only = λ q b h. is.only q b (ap (λ xs. slice_get xs q) e ∙ get_start starts' last b q h);
 }
   where
     split : (q b : ℕ) → b ≤ at → (slice_get starts' q ≡ Some b) ⊎ ((q ≡ length starts') × (last ≡ b)) → slice_get starts' q ≡ Some b

@@ -4,21 +4,21 @@ use Rattle.std.proofs.lemmas.Bool.{cases_eq}
 use Rattle.std.specs.Prelude.{slice_get, slice_set, unwrap_or, replicate}
 use Rattle.std.proofs.lemmas.Option.{slice_get_within}
 use Rattle.std.proofs.lemmas.List.{length-replicate}
-use Rattle.base.proofs.Lemmas.Lists.Places.{slice_get-set_other}
+use Rattle.base.proofs.Lemmas.Lists.Indices.{slice_get-set_other}
 use Rattle.topo_order.specs.declared.walk.Mark.{Mark}
 use Rattle.topo_order.specs.declared.walk.Mark.TheVariants.{New, Open, Done}
 use Rattle.topo_order.specs.Needs.{needs_of, Needs, Reaches, itself, by_way}
 use Rattle.topo_order.specs.Inner.Walk.{mark_of, taken_of}
-use Rattle.topo_order.specs.Inner.Groups.{place_of, flag_of, IsNotBelow, IsOpenAbove, IsGrouping, AreJoined}
-use Rattle.topo_order.proofs.Steps.{mark_of-set, mark_of-set_other, get_pushed, get_front, get_last, taken_of-set, taken_of-set_other, new_done, new_open, open_done}
+use Rattle.topo_order.specs.Inner.Groups.{position_of, flag_of, IsNotBelow, IsOpenAbove, IsGrouping, AreJoined}
+use Rattle.topo_order.proofs.Steps.{mark_of-set, mark_of-set_other, get_pushed, get_start, get_last, taken_of-set, taken_of-set_other, new_done, new_open, open_done}
 
-pub place_of-set : (places : List ℕ) (i n : ℕ) → i < length places → place_of (slice_set places i n) i ≡ n
-place_of-set [] i n h = absurd (omega arith)
-place_of-set (x ∷ xs) zero n h = refl
-place_of-set (x ∷ xs) (suc i) n h = place_of-set xs i n (omega arith)
+pub position_of-set : (positions : List ℕ) (i n : ℕ) → i < length positions → position_of (slice_set positions i n) i ≡ n
+position_of-set [] i n h = absurd (omega arith)
+position_of-set (x ∷ xs) zero n h = refl
+position_of-set (x ∷ xs) (suc i) n h = position_of-set xs i n (omega arith)
 
-pub place_of-set_other : (places : List ℕ) (i j n : ℕ) → j ≢ i → place_of (slice_set places i n) j ≡ place_of places j
-place_of-set_other places i j n h = ap (λ o. unwrap_or o 0) (slice_get-set_other places i j n h)
+pub position_of-set_other : (positions : List ℕ) (i j n : ℕ) → j ≢ i → position_of (slice_set positions i n) j ≡ position_of positions j
+position_of-set_other positions i j n h = ap (λ o. unwrap_or o 0) (slice_get-set_other positions i j n h)
 
 pub flag_of-set : (loops : List Bool) (i : ℕ) → i < length loops → flag_of (slice_set loops i true) i ≡ true
 flag_of-set [] i h = absurd (omega arith)
@@ -38,7 +38,7 @@ pub grouping_begins : (needs : List (List ℕ)) → IsGrouping needs (replicate 
 grouping_begins needs = record {
   marks_size = length-replicate (length needs) New;
   taken_size = length-replicate (length needs) 0;
-  places_size = length-replicate (length needs) 0;
+  positions_size = length-replicate (length needs) 0;
   loops_size = length-replicate (length needs) false;
   open_on = λ i h. absurd (new_open (sym (fresh (length needs) i) ∙ h));
   on_open = λ p i h. cc;
@@ -74,14 +74,14 @@ grouping_begins needs = record {
 
 -- ---- a new thing is met
 
-pub grouping_entered : (needs : List (List ℕ)) (marks : List Mark) (taken places path stack starts : List ℕ) (loops : List Bool) (child : ℕ)
-    → IsGrouping needs marks taken places path stack starts loops → child < length needs → mark_of marks child ≡ New
+pub grouping_entered : (needs : List (List ℕ)) (marks : List Mark) (taken positions path stack starts : List ℕ) (loops : List Bool) (child : ℕ)
+    → IsGrouping needs marks taken positions path stack starts loops → child < length needs → mark_of marks child ≡ New
     → ((p i : ℕ) → slice_get stack p ≡ Some i → Reaches needs i child)
-    → IsGrouping needs (slice_set marks child Open) taken (slice_set places child (length stack)) (path ++ child ∷ []) (stack ++ child ∷ []) (starts ++ length stack ∷ []) loops
-grouping_entered needs marks taken places path stack starts loops child g inside new reached = record {
+    → IsGrouping needs (slice_set marks child Open) taken (slice_set positions child (length stack)) (path ++ child ∷ []) (stack ++ child ∷ []) (starts ++ length stack ∷ []) loops
+grouping_entered needs marks taken positions path stack starts loops child g inside new reached = record {
   marks_size = length-set marks child Open ∙ g.marks_size;
   taken_size = g.taken_size;
-  places_size = length-set places child (length stack) ∙ g.places_size;
+  positions_size = length-set positions child (length stack) ∙ g.positions_size;
   loops_size = g.loops_size;
   open_on = λ i h. open_on i h (cases_eq i child);
   on_open = λ p i h. on_open i (on_stack p i h);
@@ -94,7 +94,7 @@ grouping_entered needs marks taken places path stack starts loops child g inside
   down = λ p q i j h a b. down p q i j h (on_stack p i a) (on_stack q j b);
   up = λ p q i j h a b n. up p q i j h (on_stack p i a) (on_stack q j b) n;
   settled = λ i k j below h. settled i j (g.settled i k j below h);
-  finished = λ i h none. g.finished i (was_met i h none) (λ k at. none k (get_front path child i k at));
+  finished = λ i h none. g.finished i (was_met i h none) (λ k at. none k (get_start path child i k at));
   sound = g.sound;
   noticed = g.noticed;
   free = λ i h e. g.free i (was_done i h) e;
@@ -103,8 +103,8 @@ grouping_entered needs marks taken places path stack starts loops child g inside
     in_marks : child < length marks
     in_marks = rw g.marks_size inside
 
-    in_places : child < length places
-    in_places = rw g.places_size inside
+    in_places : child < length positions
+    in_places = rw g.positions_size inside
 
     opened : mark_of (slice_set marks child Open) child ≡ Open
     opened = mark_of-set marks child Open in_marks
@@ -112,11 +112,11 @@ grouping_entered needs marks taken places path stack starts loops child g inside
     kept : (i : ℕ) → i ≢ child → mark_of (slice_set marks child Open) i ≡ mark_of marks i
     kept i h = mark_of-set_other marks child i Open h
 
-    new_place : place_of (slice_set places child (length stack)) child ≡ length stack
-    new_place = place_of-set places child (length stack) in_places
+    new_place : position_of (slice_set positions child (length stack)) child ≡ length stack
+    new_place = position_of-set positions child (length stack) in_places
 
-    old_place : (i : ℕ) → i ≢ child → place_of (slice_set places child (length stack)) i ≡ place_of places i
-    old_place i h = place_of-set_other places child i (length stack) h
+    old_place : (i : ℕ) → i ≢ child → position_of (slice_set positions child (length stack)) i ≡ position_of positions i
+    old_place i h = position_of-set_other positions child i (length stack) h
 
     -- what is open is another thing
     other : (i : ℕ) → mark_of marks i ≡ Open → i ≢ child
@@ -129,30 +129,30 @@ grouping_entered needs marks taken places path stack starts loops child g inside
     old_on p i h = other i (g.on_open p i h)
 
     open_on : (i : ℕ) → mark_of (slice_set marks child Open) i ≡ Open → (i ≡ child) ⊎ (i ≢ child)
-        → slice_get (stack ++ child ∷ []) (place_of (slice_set places child (length stack)) i) ≡ Some i
+        → slice_get (stack ++ child ∷ []) (position_of (slice_set positions child (length stack)) i) ≡ Some i
     open_on i h (inl e) =
-        subst (λ k. slice_get (stack ++ child ∷ []) (place_of (slice_set places child (length stack)) k) ≡ Some k) (sym e)
+        subst (λ k. slice_get (stack ++ child ∷ []) (position_of (slice_set positions child (length stack)) k) ≡ Some k) (sym e)
         (ap (slice_get (stack ++ child ∷ [])) new_place ∙ get_last stack child)
-    open_on i h (inr ne) = ap (slice_get (stack ++ child ∷ [])) (old_place i ne) ∙ get_front stack child i (place_of places i) (g.open_on i (sym (kept i ne) ∙ h))
+    open_on i h (inr ne) = ap (slice_get (stack ++ child ∷ [])) (old_place i ne) ∙ get_start stack child i (position_of positions i) (g.open_on i (sym (kept i ne) ∙ h))
 
     on_open : {p : ℕ} → (i : ℕ) → (slice_get stack p ≡ Some i) ⊎ ((p ≡ length stack) × (child ≡ i)) → mark_of (slice_set marks child Open) i ≡ Open
     on_open {p} i (inl h) = kept i (old_on p i h) ∙ g.on_open p i h
     on_open i (inr (_, e)) = subst (λ k. mark_of (slice_set marks child Open) k ≡ Open) e opened
 
-    placed : (p i : ℕ) → (slice_get stack p ≡ Some i) ⊎ ((p ≡ length stack) × (child ≡ i)) → place_of (slice_set places child (length stack)) i ≡ p
+    placed : (p i : ℕ) → (slice_get stack p ≡ Some i) ⊎ ((p ≡ length stack) × (child ≡ i)) → position_of (slice_set positions child (length stack)) i ≡ p
     placed p i (inl h) = old_place i (old_on p i h) ∙ g.placed p i h
-    placed p i (inr (at, e)) = subst (λ k. place_of (slice_set places child (length stack)) k ≡ p) e (new_place ∙ sym at)
+    placed p i (inr (at, e)) = subst (λ k. position_of (slice_set positions child (length stack)) k ≡ p) e (new_place ∙ sym at)
 
     path_open : (k i : ℕ) → (slice_get path k ≡ Some i) ⊎ ((k ≡ length path) × (child ≡ i)) → mark_of (slice_set marks child Open) i ≡ Open
     path_open k i (inl h) = kept i (other i (g.path_open k i h)) ∙ g.path_open k i h
     path_open k i (inr (_, e)) = subst (λ k. mark_of (slice_set marks child Open) k ≡ Open) e opened
 
     -- an open thing stands on the stack that was
-    below : (i : ℕ) → mark_of marks i ≡ Open → place_of places i < length stack
-    below i h = slice_get_within stack (place_of places i) i (g.open_on i h)
+    below : (i : ℕ) → mark_of marks i ≡ Open → position_of positions i < length stack
+    below i h = slice_get_within stack (position_of positions i) i (g.open_on i h)
 
     path_rises : (k l i j : ℕ) → k < l → (slice_get path k ≡ Some i) ⊎ ((k ≡ length path) × (child ≡ i)) → (slice_get path l ≡ Some j) ⊎ ((l ≡ length path) × (child ≡ j))
-        → place_of (slice_set places child (length stack)) i < place_of (slice_set places child (length stack)) j
+        → position_of (slice_set positions child (length stack)) i < position_of (slice_set positions child (length stack)) j
     path_rises k l i j h (inl a) (inl b) =
         let x = old_place i (other i (g.path_open k i a)) in
         let y = old_place j (other j (g.path_open l j b)) in
@@ -160,7 +160,7 @@ grouping_entered needs marks taken places path stack starts loops child g inside
         omega (arith, x, y, z)
     path_rises k l i j h (inl a) (inr (_, e)) =
         let x = old_place i (other i (g.path_open k i a)) in
-        let y : place_of (slice_set places child (length stack)) j ≡ length stack = subst (λ k. place_of (slice_set places child (length stack)) k ≡ length stack) e new_place in
+        let y : position_of (slice_set positions child (length stack)) j ≡ length stack = subst (λ k. position_of (slice_set positions child (length stack)) k ≡ length stack) e new_place in
         let z = below i (g.path_open k i a) in
         omega (arith, x, y, z)
     path_rises k l i j h (inr (at, _)) (inl b) = let far = slice_get_within path l j b in absurd (omega (arith, far, at, h))
@@ -176,12 +176,12 @@ grouping_entered needs marks taken places path stack starts loops child g inside
     starts_rise q r b c h (inr (at, _)) (inr (too, _)) = absurd (omega (arith, at, too, h))
 
     begins : (q b : ℕ) → (slice_get starts q ≡ Some b) ⊎ ((q ≡ length starts) × (length stack ≡ b))
-        → (k : ℕ) × (i : ℕ) × (slice_get (path ++ child ∷ []) k ≡ Some i) × (place_of (slice_set places child (length stack)) i ≡ b)
-    begins q b (inl h) = let (k, i, at, is) = g.begins q b h in (k, i, get_front path child i k at, old_place i (other i (g.path_open k i at)) ∙ is)
+        → (k : ℕ) × (i : ℕ) × (slice_get (path ++ child ∷ []) k ≡ Some i) × (position_of (slice_set positions child (length stack)) i ≡ b)
+    begins q b (inl h) = let (k, i, at, is) = g.begins q b h in (k, i, get_start path child i k at, old_place i (other i (g.path_open k i at)) ∙ is)
     begins q b (inr (_, is)) = (length path, child, get_last path child, new_place ∙ is)
 
     grouped : (p i : ℕ) → (slice_get stack p ≡ Some i) ⊎ ((p ≡ length stack) × (child ≡ i)) → (q : ℕ) × (b : ℕ) × (slice_get (starts ++ length stack ∷ []) q ≡ Some b) × (b ≤ p)
-    grouped p i (inl h) = let (q, b, at, low) = g.grouped p i h in (q, b, get_front starts (length stack) b q at, low)
+    grouped p i (inl h) = let (q, b, at, low) = g.grouped p i h in (q, b, get_start starts (length stack) b q at, low)
     grouped p i (inr (at, _)) = (length starts, length stack, get_last starts (length stack), omega (arith, at))
 
     down : (p q i j : ℕ) → p < q → (slice_get stack p ≡ Some i) ⊎ ((p ≡ length stack) × (child ≡ i)) → (slice_get stack q ≡ Some j) ⊎ ((q ≡ length stack) × (child ≡ j)) → Reaches needs i j
@@ -192,13 +192,13 @@ grouping_entered needs marks taken places path stack starts loops child g inside
 
     up : (p q i j : ℕ) → p < q → (slice_get stack p ≡ Some i) ⊎ ((p ≡ length stack) × (child ≡ i)) → (slice_get stack q ≡ Some j) ⊎ ((q ≡ length stack) × (child ≡ j))
         → IsNotBelow (starts ++ length stack ∷ []) q p → Reaches needs j i
-    up p q i j h (inl a) (inl b) n = g.up p q i j h a b (λ r c at low. n r c (get_front starts (length stack) c r at) low)
+    up p q i j h (inl a) (inl b) n = g.up p q i j h a b (λ r c at low. n r c (get_start starts (length stack) c r at) low)
     up p q i j h (inl a) (inr (at, _)) n = let low = n (length starts) (length stack) (get_last starts (length stack)) (omega (arith, at)) in absurd (omega (arith, low, at, h))
     up p q i j h (inr (at, _)) (inl b) n = let far = slice_get_within stack q j b in absurd (omega (arith, far, at, h))
     up p q i j h (inr (at, _)) (inr (too, _)) n = absurd (omega (arith, at, too, h))
 
-    settled : (i j : ℕ) → (mark_of marks j ≡ Done) ⊎ IsOpenAbove marks places starts i j
-        → (mark_of (slice_set marks child Open) j ≡ Done) ⊎ IsOpenAbove (slice_set marks child Open) (slice_set places child (length stack)) (starts ++ length stack ∷ []) i j
+    settled : (i j : ℕ) → (mark_of marks j ≡ Done) ⊎ IsOpenAbove marks positions starts i j
+        → (mark_of (slice_set marks child Open) j ≡ Done) ⊎ IsOpenAbove (slice_set marks child Open) (slice_set positions child (length stack)) (starts ++ length stack ∷ []) i j
     settled i j (inl done) = inl (kept j (λ e. new_done (sym new ∙ ap (mark_of marks) (sym e) ∙ done)) ∙ done)
     settled i j (inr w) = inr (record {
       first = kept i (other i w.first) ∙ w.first;
@@ -206,7 +206,7 @@ grouping_entered needs marks taken places path stack starts loops child g inside
       above = λ q b h low. above q b (get_pushed starts (length stack) b q h) (omega (arith, low, old_place i (other i w.first)));
     })
       where
-        above : (q b : ℕ) → (slice_get starts q ≡ Some b) ⊎ ((q ≡ length starts) × (length stack ≡ b)) → b ≤ place_of places i → b ≤ place_of (slice_set places child (length stack)) j
+        above : (q b : ℕ) → (slice_get starts q ≡ Some b) ⊎ ((q ≡ length starts) × (length stack ≡ b)) → b ≤ position_of positions i → b ≤ position_of (slice_set positions child (length stack)) j
         above q b (inl h) low = let x = w.above q b h low in let y = old_place j (other j w.second) in omega (arith, x, y)
         above q b (inr (_, is)) low = let x = below i w.first in absurd (omega (arith, x, is, low))
 
@@ -222,13 +222,13 @@ grouping_entered needs marks taken places path stack starts loops child g inside
 
 -- ---- a need is taken
 
-pub grouping_flagged : (needs : List (List ℕ)) (marks : List Mark) (taken places path stack starts : List ℕ) (loops : List Bool) (i : ℕ)
-    → IsGrouping needs marks taken places path stack starts loops → i < length needs → Reaches needs i i
-    → IsGrouping needs marks taken places path stack starts (slice_set loops i true)
-grouping_flagged needs marks taken places path stack starts loops i g inside reaches = record {
+pub grouping_flagged : (needs : List (List ℕ)) (marks : List Mark) (taken positions path stack starts : List ℕ) (loops : List Bool) (i : ℕ)
+    → IsGrouping needs marks taken positions path stack starts loops → i < length needs → Reaches needs i i
+    → IsGrouping needs marks taken positions path stack starts (slice_set loops i true)
+grouping_flagged needs marks taken positions path stack starts loops i g inside reaches = record {
   marks_size = g.marks_size;
   taken_size = g.taken_size;
-  places_size = g.places_size;
+  positions_size = g.positions_size;
   loops_size = length-set loops i true ∙ g.loops_size;
   open_on = g.open_on;
   on_open = g.on_open;
@@ -262,15 +262,15 @@ grouping_flagged needs marks taken places path stack starts loops i g inside rea
     unset j h (inl e) = absurd (let wrong : true ≡ false = sym set ∙ ap (flag_of (slice_set loops i true)) (sym e) ∙ h in cc)
     unset j h (inr ne) = sym (flag_of-set_other loops i j ne) ∙ h
 
-pub grouping_taken : (needs : List (List ℕ)) (marks : List Mark) (taken places path stack starts : List ℕ) (loops : List Bool) (top child : ℕ)
-    → IsGrouping needs marks taken places path stack starts loops → top < length needs
+pub grouping_taken : (needs : List (List ℕ)) (marks : List Mark) (taken positions path stack starts : List ℕ) (loops : List Bool) (top child : ℕ)
+    → IsGrouping needs marks taken positions path stack starts loops → top < length needs
     → slice_get (needs_of needs top) (taken_of taken top) ≡ Some child
-    → ((mark_of marks child ≡ Done) ⊎ IsOpenAbove marks places starts top child) → (child ≡ top → flag_of loops top ≡ true)
-    → IsGrouping needs marks (slice_set taken top (taken_of taken top + 1)) places path stack starts loops
-grouping_taken needs marks taken places path stack starts loops top child g inside next stands noted = record {
+    → ((mark_of marks child ≡ Done) ⊎ IsOpenAbove marks positions starts top child) → (child ≡ top → flag_of loops top ≡ true)
+    → IsGrouping needs marks (slice_set taken top (taken_of taken top + 1)) positions path stack starts loops
+grouping_taken needs marks taken positions path stack starts loops top child g inside next stands noted = record {
   marks_size = g.marks_size;
   taken_size = length-set taken top (taken_of taken top + 1) ∙ g.taken_size;
-  places_size = g.places_size;
+  positions_size = g.positions_size;
   loops_size = g.loops_size;
   open_on = g.open_on;
   on_open = g.on_open;
@@ -316,11 +316,11 @@ grouping_taken needs marks taken places path stack starts loops top child g insi
         let both : Some child ≡ Some j = sym next ∙ ap (slice_get (needs_of needs top)) (sym same) ∙ ap (λ t. slice_get (needs_of needs t) k) (sym e) ∙ h in
         cc
 
-    settled : (i k j : ℕ) → slice_get (needs_of needs i) k ≡ Some j → (k < taken_of taken i) ⊎ ((i ≡ top) × (k ≡ taken_of taken top)) → (mark_of marks j ≡ Done) ⊎ IsOpenAbove marks places starts i j
+    settled : (i k j : ℕ) → slice_get (needs_of needs i) k ≡ Some j → (k < taken_of taken i) ⊎ ((i ≡ top) × (k ≡ taken_of taken top)) → (mark_of marks j ≡ Done) ⊎ IsOpenAbove marks positions starts i j
     settled i k j h (inl below) = g.settled i k j below h
     settled i k j h (inr (e, same)) =
-        subst (λ t. (mark_of marks j ≡ Done) ⊎ IsOpenAbove marks places starts t j) (sym e)
-        (subst (λ c. (mark_of marks c ≡ Done) ⊎ IsOpenAbove marks places starts top c) (is_child i k j e same h) stands)
+        subst (λ t. (mark_of marks j ≡ Done) ⊎ IsOpenAbove marks positions starts t j) (sym e)
+        (subst (λ c. (mark_of marks c ≡ Done) ⊎ IsOpenAbove marks positions starts top c) (is_child i k j e same h) stands)
 
     noticed : (i k : ℕ) → slice_get (needs_of needs i) k ≡ Some i → (k < taken_of taken i) ⊎ ((i ≡ top) × (k ≡ taken_of taken top)) → flag_of loops i ≡ true
     noticed i k h (inl below) = g.noticed i k below h
@@ -347,13 +347,13 @@ order_of (suc a) (suc b) = elim (order_of a b) [ inl h ↦ inl (omega (arith, h)
 pub stands_once : (stack : List ℕ) (p q i j : ℕ) → p ≡ q → slice_get stack p ≡ Some i → slice_get stack q ≡ Some j → i ≡ j
 stands_once stack p q i j e a b = let both : Some i ≡ Some j = sym a ∙ ap (slice_get stack) e ∙ b in cc
 
-pub grouping_joined : (needs : List (List ℕ)) (marks : List Mark) (taken places path stack starts starts' : List ℕ) (loops : List Bool) (at : ℕ)
-    → IsGrouping needs marks taken places path stack starts loops → ReachesBack needs stack starts at → AreJoined starts starts' at
-    → IsGrouping needs marks taken places path stack starts' loops
-grouping_joined needs marks taken places path stack starts starts' loops at g back are = record {
+pub grouping_joined : (needs : List (List ℕ)) (marks : List Mark) (taken positions path stack starts starts' : List ℕ) (loops : List Bool) (at : ℕ)
+    → IsGrouping needs marks taken positions path stack starts loops → ReachesBack needs stack starts at → AreJoined starts starts' at
+    → IsGrouping needs marks taken positions path stack starts' loops
+grouping_joined needs marks taken positions path stack starts starts' loops at g back are = record {
   marks_size = g.marks_size;
   taken_size = g.taken_size;
-  places_size = g.places_size;
+  positions_size = g.positions_size;
   loops_size = g.loops_size;
   open_on = g.open_on;
   on_open = g.on_open;
@@ -412,20 +412,20 @@ grouping_joined needs marks taken places path stack starts starts' loops at g ba
         split (inr (inl same)) = subst (Reaches needs j) (stands_once stack at p back.child i same back.child_at a) (to_child r j b)
         split (inr (inr high)) = joined needs j back.child i (to_child r j b) (g.up p at i back.child high a back.child_at near)
 
-    settled : (i j : ℕ) → (mark_of marks j ≡ Done) ⊎ IsOpenAbove marks places starts i j → (mark_of marks j ≡ Done) ⊎ IsOpenAbove marks places starts' i j
+    settled : (i j : ℕ) → (mark_of marks j ≡ Done) ⊎ IsOpenAbove marks positions starts i j → (mark_of marks j ≡ Done) ⊎ IsOpenAbove marks positions starts' i j
     settled i j (inl done) = inl done
     settled i j (inr w) = inr (record { first = w.first; second = w.second; above = λ q b h low. w.above q b (are.only q b h).0 low })
 
 -- ---- the last thing on the path is left, which begins no group
 
-pub grouping_left : (needs : List (List ℕ)) (marks : List Mark) (taken places path front stack starts : List ℕ) (loops : List Bool) (top : ℕ)
-    → IsGrouping needs marks taken places path stack starts loops → path ≡ front ++ top ∷ [] → length (needs_of needs top) ≤ taken_of taken top
-    → ((q b : ℕ) → slice_get starts q ≡ Some b → b ≢ place_of places top)
-    → IsGrouping needs marks taken places front stack starts loops
-grouping_left needs marks taken places path front stack starts loops top g is all no_start = record {
+pub grouping_left : (needs : List (List ℕ)) (marks : List Mark) (taken positions path front stack starts : List ℕ) (loops : List Bool) (top : ℕ)
+    → IsGrouping needs marks taken positions path stack starts loops → path ≡ front ++ top ∷ [] → length (needs_of needs top) ≤ taken_of taken top
+    → ((q b : ℕ) → slice_get starts q ≡ Some b → b ≢ position_of positions top)
+    → IsGrouping needs marks taken positions front stack starts loops
+grouping_left needs marks taken positions path front stack starts loops top g is all no_start = record {
   marks_size = g.marks_size;
   taken_size = g.taken_size;
-  places_size = g.places_size;
+  positions_size = g.positions_size;
   loops_size = g.loops_size;
   open_on = g.open_on;
   on_open = g.on_open;
@@ -445,15 +445,15 @@ grouping_left needs marks taken places path front stack starts loops top g is al
 }
   where
     on_path : (k i : ℕ) → slice_get front k ≡ Some i → slice_get path k ≡ Some i
-    on_path k i h = ap (λ xs. slice_get xs k) is ∙ get_front front top i k h
+    on_path k i h = ap (λ xs. slice_get xs k) is ∙ get_start front top i k h
 
-    begins : (q b : ℕ) → slice_get starts q ≡ Some b → ((k : ℕ) × (i : ℕ) × (slice_get path k ≡ Some i) × (place_of places i ≡ b))
-        → (k : ℕ) × (i : ℕ) × (slice_get front k ≡ Some i) × (place_of places i ≡ b)
+    begins : (q b : ℕ) → slice_get starts q ≡ Some b → ((k : ℕ) × (i : ℕ) × (slice_get path k ≡ Some i) × (position_of positions i ≡ b))
+        → (k : ℕ) × (i : ℕ) × (slice_get front k ≡ Some i) × (position_of positions i ≡ b)
     begins q b h (k, i, at, place) = split (get_pushed front top i k (ap (λ xs. slice_get xs k) (sym is) ∙ at))
       where
-        split : (slice_get front k ≡ Some i) ⊎ ((k ≡ length front) × (top ≡ i)) → (k : ℕ) × (i : ℕ) × (slice_get front k ≡ Some i) × (place_of places i ≡ b)
+        split : (slice_get front k ≡ Some i) ⊎ ((k ≡ length front) × (top ≡ i)) → (k : ℕ) × (i : ℕ) × (slice_get front k ≡ Some i) × (position_of positions i ≡ b)
         split (inl old) = (k, i, old, place)
-        split (inr (_, e)) = absurd (no_start q b h (sym (ap (place_of places) e ∙ place)))
+        split (inr (_, e)) = absurd (no_start q b h (sym (ap (position_of positions) e ∙ place)))
 
     finished : (i : ℕ) → mark_of marks i ≢ New → ((k : ℕ) → slice_get front k ≢ Some i) → (top ≡ i) ⊎ (top ≢ i) → length (needs_of needs i) ≤ taken_of taken i
     finished i h none (inl e) = subst (λ t. length (needs_of needs t) ≤ taken_of taken t) e all
@@ -463,5 +463,5 @@ grouping_left needs marks taken places path front stack starts loops top g is al
         split k (inl old) = none k old
         split k (inr (_, e)) = ne e
 
-pub inside_places : (needs : List (List ℕ)) (places : List ℕ) → length places ≡ length needs → (i : ℕ) → i < length needs → i < length places
-inside_places needs places size i inside = omega (arith, size, inside)
+pub inside_places : (needs : List (List ℕ)) (positions : List ℕ) → length positions ≡ length needs → (i : ℕ) → i < length needs → i < length positions
+inside_places needs positions size i inside = omega (arith, size, inside)

@@ -3,7 +3,7 @@ use Rattle.std.proofs.Common.{◌≡◌, ◌≢◌, ℕ, zero, suc, ◌+◌, ◌
 use Rattle.std.proofs.lemmas.Bool.{cases_eq}
 use Rattle.std.specs.Prelude.{slice_get, slice_set, unwrap_or}
 use Rattle.std.proofs.lemmas.Option.{slice_get_within, slice_get_past, slice_get-get_or}
-use Rattle.base.proofs.Lemmas.Lists.Places.{slice_get-set_other, slice_get-append_left}
+use Rattle.base.proofs.Lemmas.Lists.Indices.{slice_get-set_other, slice_get-append_left}
 use Rattle.topo_order.specs.declared.walk.Mark.{Mark}
 use Rattle.topo_order.specs.declared.walk.Mark.TheVariants.{New, Open, Done}
 use Rattle.topo_order.specs.Needs.{needs_of, Needs, Reaches, itself, by_way}
@@ -25,8 +25,8 @@ get_pushed [] x y (suc p) h = cc
 get_pushed (z ∷ xs) x y zero h = inl h
 get_pushed (z ∷ xs) x y (suc p) h = elim (get_pushed xs x y p h) [ inl e ↦ inl e | inr e ↦ inr (ap suc e.0, e.1) ]
 
-pub get_front : {A : Type 0} (xs : List A) (x y : A) (p : ℕ) → slice_get xs p ≡ Some y → slice_get (xs ++ x ∷ []) p ≡ Some y
-get_front xs x y p h = slice_get-append_left xs (x ∷ []) p (slice_get_within xs p y h) ∙ h
+pub get_start : {A : Type 0} (xs : List A) (x y : A) (p : ℕ) → slice_get xs p ≡ Some y → slice_get (xs ++ x ∷ []) p ≡ Some y
+get_start xs x y p h = slice_get-append_left xs (x ∷ []) p (slice_get_within xs p y h) ∙ h
 
 pub get_last : {A : Type 0} (xs : List A) (x : A) → slice_get (xs ++ x ∷ []) (length xs) ≡ Some x
 get_last [] x = refl
@@ -42,7 +42,7 @@ taken_of-set_other taken i j n h = ap (λ o. unwrap_or o 0) (slice_get-set_other
 
 -- a step of the path is one of a longer path
 pub step_front : (path : List ℕ) (x i j : ℕ) → IsStep path i j → IsStep (path ++ x ∷ []) i j
-step_front path x i j (p, here, next) = (p, get_front path x i p here, get_front path x j (p + 1) next)
+step_front path x i j (p, here, next) = (p, get_start path x i p here, get_start path x j (p + 1) next)
 
 -- things of another mark are other things
 pub other_mark : (marks : List Mark) (i j : ℕ) (m n : Mark) → mark_of marks i ≡ m → mark_of marks j ≡ n → m ≢ n → i ≢ j
@@ -106,7 +106,7 @@ opening needs marks taken path order child walk inside new = record {
       where
         go : (child ≡ i) ⊎ (child ≢ i) → (p : ℕ) × (slice_get (path ++ child ∷ []) p ≡ Some i)
         go (inl e) = (length path, get_last path child ∙ ap Some e)
-        go (inr ne) = let old = walk.open_on i (sym (kept i (λ e. ne (sym e))) ∙ h) in (old.0, get_front path child i old.0 old.1)
+        go (inr ne) = let old = walk.open_on i (sym (kept i (λ e. ne (sym e))) ∙ h) in (old.0, get_start path child i old.0 old.1)
 
     not_on : (p : ℕ) → slice_get path p ≢ Some child
     not_on p h = new_open (sym new ∙ walk.on_open p child h)
@@ -177,7 +177,7 @@ entered needs marks taken path order last top child walk end at_top next top_ins
     opened = opening needs marks taken path order child walk inside new
 
     new_step : IsStep (path ++ child ∷ []) top child
-    new_step = (last, get_front path child top last at_top, subst (λ p. slice_get (path ++ child ∷ []) p ≡ Some child) (sym end ∙ sym (add-one last)) (get_last path child))
+    new_step = (last, get_start path child top last at_top, subst (λ p. slice_get (path ++ child ∷ []) p ≡ Some child) (sym end ∙ sym (add-one last)) (get_last path child))
 
     steps : (i j : ℕ) → IsStep (path ++ child ∷ []) i j → Needs needs i j
     steps i j (p, here, there) = go (get_pushed path child j (p + 1) there)
@@ -274,7 +274,7 @@ left needs marks taken front order top walk all_taken inside =
       behind = behind;
       open_on = open_on;
       on_open = on_open;
-      path_once = λ p q i a b. walk.path_once p q i (get_front front top i p a) (get_front front top i q b);
+      path_once = λ p q i a b. walk.path_once p q i (get_start front top i p a) (get_start front top i q b);
       steps = λ i j step. walk.steps i j (step_front front top i j step);
       settled = settled;
     }
@@ -302,7 +302,7 @@ left needs marks taken front order top walk all_taken inside =
       where
         go : (top ≡ i) ⊎ (top ≢ i) → (p : ℕ) × (slice_get (order ++ top ∷ []) p ≡ Some i)
         go (inl e) = (length order, get_last order top ∙ ap Some e)
-        go (inr ne) = let old = walk.done_in i (sym (kept i (λ e. ne (sym e))) ∙ h) in (old.0, get_front order top i old.0 old.1)
+        go (inr ne) = let old = walk.done_in i (sym (kept i (λ e. ne (sym e))) ∙ h) in (old.0, get_start order top i old.0 old.1)
 
     in_done : (p i : ℕ) → slice_get (order ++ top ∷ []) p ≡ Some i → mark_of (slice_set marks top Done) i ≡ Done
     in_done p i h = go (get_pushed order top i p h)
@@ -335,10 +335,10 @@ left needs marks taken front order top walk all_taken inside =
     behind p i j h need = go (get_pushed order top i p h)
       where
         go : (slice_get order p ≡ Some i) ⊎ ((p ≡ length order) × (top ≡ i)) → (q : ℕ) × (q < p) × (slice_get (order ++ top ∷ []) q ≡ Some j)
-        go (inl old) = let before = walk.behind p i j old need in (before.0, before.1, get_front order top j before.0 before.2)
+        go (inl old) = let before = walk.behind p i j old need in (before.0, before.1, get_start order top j before.0 before.2)
         go (inr (place, e)) =
             let there = walk.done_in j (need_done j (subst (λ t. Needs needs t j) (sym e) need)) in
-            (there.0, rw place (slice_get_within order there.0 j there.1), get_front order top j there.0 there.1)
+            (there.0, rw place (slice_get_within order there.0 j there.1), get_start order top j there.0 there.1)
 
     open_on : (i : ℕ) → mark_of (slice_set marks top Done) i ≡ Open → (p : ℕ) × (slice_get front p ≡ Some i)
     open_on i h = go (cases_eq i top)
@@ -352,7 +352,7 @@ left needs marks taken front order top walk all_taken inside =
             by_place p (inr (_, e)) = absurd (ne (sym e))
 
     on_open : (p i : ℕ) → slice_get front p ≡ Some i → mark_of (slice_set marks top Done) i ≡ Open
-    on_open p i h = kept i (λ e. clash (walk.path_once p (length front) top (get_front front top top p (h ∙ ap Some e)) at_end)) ∙ walk.on_open p i (get_front front top i p h)
+    on_open p i h = kept i (λ e. clash (walk.path_once p (length front) top (get_start front top top p (h ∙ ap Some e)) at_end)) ∙ walk.on_open p i (get_start front top i p h)
       where
         clash : p ≡ length front → ⊥
         clash e = let inside_front = slice_get_within front p i h in omega (arith, e, inside_front)

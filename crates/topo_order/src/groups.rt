@@ -36,7 +36,7 @@ pub struct Groups {
     /// How many of its needs were taken, of each thing.
     pub taken: Vec<usize>,
     /// Where it stands on the stack, of each open thing.
-    pub places: Vec<usize>,
+    pub positions: Vec<usize>,
     /// The open things whose needs are still taken, in the order of the stack.
     pub path: Vec<u32>,
     /// The open things, as they were met.
@@ -52,7 +52,7 @@ impl Groups {
     pub fn new(alloc: Global, count: usize) -> Result<Groups, AllocError>
         ensures marks { IfOk result (λ g. g.marks.items ≡ replicate count New) }
         ensures taken { IfOk result (λ g. g.taken.items ≡ replicate count 0) }
-        ensures places { IfOk result (λ g. g.places.items ≡ replicate count 0) }
+        ensures positions { IfOk result (λ g. g.positions.items ≡ replicate count 0) }
         ensures path { IfOk result (λ g. g.path.items ≡ []) }
         ensures stack { IfOk result (λ g. g.stack.items ≡ []) }
         ensures starts { IfOk result (λ g. g.starts.items ≡ []) }
@@ -61,7 +61,7 @@ impl Groups {
         Ok(Groups {
             marks: vec![in alloc; Mark::New; count]?,
             taken: vec![in alloc; 0; count]?,
-            places: vec![in alloc; 0; count]?,
+            positions: vec![in alloc; 0; count]?,
             path: Vec::new(alloc),
             stack: Vec::new(alloc),
             starts: Vec::new(alloc),
@@ -150,7 +150,7 @@ impl Groups {
             }
             Mark::Open => {
                 notice(&mut self.loops, top, child);
-                let at = self.places[child as usize];
+                let at = self.positions[child as usize];
                 join(&mut self.starts, at);
                 Ok(())
             }
@@ -169,7 +169,7 @@ impl Groups {
         ensures path { self.old.path.items ≡ self.new.path.items ++ top ∷ [] }
     {
         pop_top(&mut self.path, top);
-        let at = self.places[top as usize];
+        let at = self.positions[top as usize];
         if ends_at(&mut self.starts, at) {
             self.close(at);
         }
@@ -182,7 +182,7 @@ impl Groups {
         requires loops { All (λ i. i < length self.old.loops.items) self.old.stack.items }
         ensures marks { self.new.marks.items ≡ all_done (drop from self.old.stack.items) self.old.marks.items }
         ensures taken { self.new.taken.items ≡ self.old.taken.items }
-        ensures places { self.new.places.items ≡ self.old.places.items }
+        ensures positions { self.new.positions.items ≡ self.old.positions.items }
         ensures path { self.new.path.items ≡ self.old.path.items }
         ensures stack { self.new.stack.items ≡ take from self.old.stack.items }
         ensures starts { self.new.starts.items ≡ self.old.starts.items }
@@ -200,10 +200,10 @@ impl Groups {
     /// Puts a new thing on the path and on the stack, as a group of its own.
     fn enter(&mut self, thing: u32) -> Result<(), AllocError>
         requires marks { thing < length self.old.marks.items }
-        requires places { thing < length self.old.places.items }
+        requires positions { thing < length self.old.positions.items }
         ensures marks { OnOk result (self.new.marks.items ≡ slice_set self.old.marks.items thing Open) }
         ensures taken { OnOk result (self.new.taken.items ≡ self.old.taken.items) }
-        ensures places { OnOk result (self.new.places.items ≡ slice_set self.old.places.items thing (length self.old.stack.items)) }
+        ensures positions { OnOk result (self.new.positions.items ≡ slice_set self.old.positions.items thing (length self.old.stack.items)) }
         ensures path { OnOk result (self.new.path.items ≡ self.old.path.items ++ thing ∷ []) }
         ensures stack { OnOk result (self.new.stack.items ≡ self.old.stack.items ++ thing ∷ []) }
         ensures starts { OnOk result (self.new.starts.items ≡ self.old.starts.items ++ length self.old.stack.items ∷ []) }
@@ -211,7 +211,7 @@ impl Groups {
     {
         let at = self.stack.len();
         self.marks[thing as usize] = Mark::Open;
-        self.places[thing as usize] = at;
+        self.positions[thing as usize] = at;
         self.path.push(thing)?;
         self.stack.push(thing)?;
         self.starts.push(at)?;

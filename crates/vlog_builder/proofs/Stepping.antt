@@ -6,8 +6,8 @@ use Rattle.grammar.specs.declared.bottom_up.Step.{Step}
 use Rattle.grammar.specs.declared.bottom_up.Step.TheVariants.{Shift, Reduce}
 use Rattle.dslx_token.specs.Lexeme.{Lexeme}
 use Rattle.vlog_tree.specs.declared.module.VModule.{VModule}
-use Rattle.vlog_tree.specs.declared.verifier.places.Places.{Places}
-use Rattle.vlog_builder.specs.Building.{built, design_by, parsed_of, places_by, reduced, rule_of, shifted}
+use Rattle.vlog_tree.specs.declared.verifier.part_spans.PartSpans.{PartSpans}
+use Rattle.vlog_builder.specs.Building.{built, design_by, parsed_of, spans_by, reduced, rule_of, shifted}
 use Rattle.vlog_builder.specs.Empty.{no_ident}
 use Rattle.base.specs.Stacks.Tops.{top_or}
 use Rattle.vlog_builder.specs.declared.parsed.Parsed.{Parsed}
@@ -42,6 +42,6 @@ pub all_done : (steps : List Step) (i : ℕ) (ls : List Lexeme) (s whole : State
 all_done steps i ls s whole past so_far = sym (nothing_left ls s) ∙ ap (λ ss. built ss ls s) (sym (drop_of_length-le steps past)) ∙ so_far
 
 -- what is taken of the state is what was built
-pub parsed_parts : (s left : State) (name : List ℕ) (d : VModule) (p : Places) → d ≡ design_by name left → ((n : List ℕ) → design_by n left ≡ design_by n s)
-    → name ≡ (top_or no_ident s.idents).name → p ≡ places_by s → ◌≡◌ {A = Parsed} (record { design = d; places = p }) (parsed_of s)
-parsed_parts s left name d p is same named placed i = record { design = (is ∙ same name ∙ ap (λ n. design_by n s) named) i; places = placed i }
+pub parsed_parts : (s left : State) (name : List ℕ) (d : VModule) (p : PartSpans) → d ≡ design_by name left → ((n : List ℕ) → design_by n left ≡ design_by n s)
+    → name ≡ (top_or no_ident s.idents).name → p ≡ spans_by s → ◌≡◌ {A = Parsed} (record { design = d; part_spans = p }) (parsed_of s)
+parsed_parts s left name d p is same named placed i = record { design = (is ∙ same name ∙ ap (λ n. design_by n s) named) i; part_spans = placed i }

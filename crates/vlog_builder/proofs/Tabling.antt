@@ -5,7 +5,7 @@ use Rattle.std.specs.Str.{bytes_eq}
 use Rattle.std.proofs.lemmas.Bool.Decides.{nat_tests}
 use Rattle.std.proofs.lemmas.Slice.Eq.{bytes_eq-Decides}
 use Rattle.base.specs.NameTable.Found.{or_else}
-use Rattle.vlog_builder.specs.Parts.{place_from, undeclared}
+use Rattle.vlog_builder.specs.Parts.{index_from, undeclared}
 
 same_number : (x y : ℕ) → (x == y) ≡ (y == x)
 same_number x y = grind (arith, nat_tests)
@@ -45,9 +45,9 @@ comes look look' name v h puts n = puts n ∙ comes_case (bytes_eq n name) refl
     comes_case true e = let same : n ≡ name = (bytes_eq-Decides n name).0 e in new_value (look n) v (ap (λ x. is_some (look x)) same ∙ h)
     comes_case false e = or_none (look n)
 
-place_behind : (i : ℕ) (names : List (List ℕ)) (name q : List ℕ)
-    → place_from i (names ++ name ∷ []) q ≡ or_else (place_from i names q) (if bytes_eq q name then Some (min (i + length names) undeclared) else None)
-place_behind i [] name q = go (bytes_eq q name)
+index_behind : (i : ℕ) (names : List (List ℕ)) (name q : List ℕ)
+    → index_from i (names ++ name ∷ []) q ≡ or_else (index_from i names q) (if bytes_eq q name then Some (min (i + length names) undeclared) else None)
+index_behind i [] name q = go (bytes_eq q name)
   where
     none : i ≡ i + 0
     none = omega arith
@@ -55,25 +55,25 @@ place_behind i [] name q = go (bytes_eq q name)
     go : (b : Bool) → (if b then Some (min i undeclared) else None) ≡ (if b then Some (min (i + 0) undeclared) else None)
     go true = ap (λ k. Some (min k undeclared)) none
     go false = refl
-place_behind i (n ∷ names) name q = go (bytes_eq q n) (place_behind (suc i) names name q)
+index_behind i (n ∷ names) name q = go (bytes_eq q n) (index_behind (suc i) names name q)
   where
     same : suc i + length names ≡ i + length (n ∷ names)
     same = omega arith
 
-    go : (b : Bool) → place_from (suc i) (names ++ name ∷ []) q ≡ or_else (place_from (suc i) names q) (if bytes_eq q name then Some (min (suc i + length names) undeclared) else None)
-        → (if b then Some (min i undeclared) else place_from (suc i) (names ++ name ∷ []) q)
-        ≡ or_else (if b then Some (min i undeclared) else place_from (suc i) names q) (if bytes_eq q name then Some (min (i + length (n ∷ names)) undeclared) else None)
+    go : (b : Bool) → index_from (suc i) (names ++ name ∷ []) q ≡ or_else (index_from (suc i) names q) (if bytes_eq q name then Some (min (suc i + length names) undeclared) else None)
+        → (if b then Some (min i undeclared) else index_from (suc i) (names ++ name ∷ []) q)
+        ≡ or_else (if b then Some (min i undeclared) else index_from (suc i) names q) (if bytes_eq q name then Some (min (i + length (n ∷ names)) undeclared) else None)
     go true e = refl
-    go false e = e ∙ ap (λ k. or_else (place_from (suc i) names q) (if bytes_eq q name then Some (min k undeclared) else None)) same
+    go false e = e ∙ ap (λ k. or_else (index_from (suc i) names q) (if bytes_eq q name then Some (min k undeclared) else None)) same
 
-pub one_more_name : (names : List (List ℕ)) (name : List ℕ) (old new : List ℕ → Option ℕ) (place : ℕ) → ((q : List ℕ) → old q ≡ place_from 0 names q) → place ≡ min (length names) undeclared
-    → ((q : List ℕ) → new q ≡ or_else (old q) (if bytes_eq q name then Some place else None)) → (q : List ℕ) → new q ≡ place_from 0 (names ++ name ∷ []) q
+pub one_more_name : (names : List (List ℕ)) (name : List ℕ) (old new : List ℕ → Option ℕ) (place : ℕ) → ((q : List ℕ) → old q ≡ index_from 0 names q) → place ≡ min (length names) undeclared
+    → ((q : List ℕ) → new q ≡ or_else (old q) (if bytes_eq q name then Some place else None)) → (q : List ℕ) → new q ≡ index_from 0 (names ++ name ∷ []) q
 one_more_name names name old new place held is put q =
     let number : place ≡ min (0 + length names) undeclared = is ∙ ap (λ k. min k undeclared) (zero_more (length names)) in
     put q
     ∙ ap (λ o. or_else o (if bytes_eq q name then Some place else None)) (held q)
-    ∙ ap (λ k. or_else (place_from 0 names q) (if bytes_eq q name then Some k else None)) number
-    ∙ sym (place_behind 0 names name q)
+    ∙ ap (λ k. or_else (index_from 0 names q) (if bytes_eq q name then Some k else None)) number
+    ∙ sym (index_behind 0 names name q)
   where
     zero_more : (n : ℕ) → n ≡ 0 + n
     zero_more n = omega arith

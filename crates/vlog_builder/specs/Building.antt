@@ -4,9 +4,9 @@ use Rattle.grammar.specs.declared.bottom_up.Step.{Step}
 use Rattle.grammar.specs.declared.bottom_up.Step.TheVariants.{Shift, Reduce}
 use Rattle.vlog_token.specs.declared.rules.generated.kind.TheConstants.{ASSIGN, CLK, LITERAL, NAME, NUMBER, RST, ZERO}
 use Rattle.dslx_token.specs.Lexeme.{Lexeme}
-use Rattle.vlog_token.specs.Fronts.{width_said}
+use Rattle.vlog_token.specs.TokenPrefixes.{width_said}
 use Rattle.vlog_tree.specs.declared.module.VModule.{VModule}
-use Rattle.vlog_tree.specs.declared.verifier.places.Places.{Places}
+use Rattle.vlog_tree.specs.declared.verifier.part_spans.PartSpans.{PartSpans}
 use Rattle.vlog_builder.specs.declared.parsed.Parsed.{Parsed}
 use Rattle.vlog_builder.specs.declared.rule.Rule.{Rule}
 use Rattle.vlog_builder.specs.declared.rule.Rule.TheVariants.{Keep, RangeOf, NoRange, PortOf, DirectionOf, DeclarationOf, StorageOf, AssignmentOf, SkipIdent, ResetsOf, ClocksOf, SetOf, NameAtom, LiteralAtom, NameExpr, LiteralExpr, SimpleExpr, SignedExpr, NameSimple, LiteralSimple, UnaryOf, ConcatOf, More, Start, BinaryTail, NoTail, ChoiceTail, SliceTail, OrderTail, ShiftTail, UnaryIs, BinaryIs, OrderedBinary, OrderIs}
@@ -107,16 +107,16 @@ design_by name s = record {
 }
 
 -- where its parts stand
-abbrev pub places_by : State → Places
-places_by s = record {
-  ports = s.port_places;
-  declarations = s.declaration_places;
-  assignments = s.assignment_places;
-  at_reset = s.reset_places;
-  at_clock = s.clock_places;
+abbrev pub spans_by : State → PartSpans
+spans_by s = record {
+  ports = s.port_spans;
+  declarations = s.declaration_spans;
+  assignments = s.assignment_spans;
+  at_reset = s.reset_spans;
+  at_clock = s.clock_spans;
   literals = s.literal_ends;
 }
 
 -- the module of a text that has been built, and where its parts stand: its name is the one that is left
 abbrev pub parsed_of : State → Parsed
-parsed_of s = record { design = design_by (top_or no_ident s.idents).name s; places = places_by s }
+parsed_of s = record { design = design_by (top_or no_ident s.idents).name s; part_spans = spans_by s }

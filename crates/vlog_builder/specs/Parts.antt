@@ -4,7 +4,7 @@ use Rattle.std.specs.Str.{bytes_eq, is_utf8}
 use Rattle.std.proofs.Common.{arith}
 use Rattle.xb_span.specs.declared.span.Span.{Span}
 use Rattle.vlog_tree.specs.declared.expression.Literal.{Literal}
-use Rattle.vlog_token.specs.Fronts.{width_said, value_said}
+use Rattle.vlog_token.specs.TokenPrefixes.{width_said, value_said}
 use Rattle.vlog_builder.specs.Inner.Literals.{literal_some, literal_fits}
 
 -- a name in a text
@@ -52,10 +52,10 @@ abbrev pub undeclared : ℕ
 undeclared = 4294967295
 
 -- the place of the first of these names that is q, where the first one has place i
-abbrev pub place_from : ℕ → List (List ℕ) → List ℕ → Option ℕ
-place_from i [] q = None
-place_from i (name ∷ names) q = if bytes_eq q name then Some (min i undeclared) else place_from (suc i) names q
+abbrev pub index_from : ℕ → List (List ℕ) → List ℕ → Option ℕ
+index_from i [] q = None
+index_from i (name ∷ names) q = if bytes_eq q name then Some (min i undeclared) else index_from (suc i) names q
 
 -- the signal of a name, where the ports and declarations have these names
 abbrev pub signal_of : List (List ℕ) → List ℕ → ℕ
-signal_of names q = unwrap_or (place_from 0 names q) undeclared
+signal_of names q = unwrap_or (index_from 0 names q) undeclared

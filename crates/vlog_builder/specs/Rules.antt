@@ -80,7 +80,7 @@ port_of s = record s {
   starts = drop 1 s.starts;
   signals = s.signals ++ (top_or no_ident s.idents).name ∷ [];
   ports = s.ports ++ port_made s ∷ [];
-  port_places = s.port_places ++ span_from (top_or 0 s.starts) s ∷ [];
+  port_spans = s.port_spans ++ span_from (top_or 0 s.starts) s ∷ [];
 }
 
 abbrev pub storage_of : Storage → State → State
@@ -101,7 +101,7 @@ declaration_of s = record s {
   starts = drop 1 s.starts;
   signals = s.signals ++ (top_or no_ident s.idents).name ∷ [];
   declarations = s.declarations ++ declaration_made s ∷ [];
-  declaration_places = s.declaration_places ++ span_from (top_or 0 s.starts) s ∷ [];
+  declaration_spans = s.declaration_spans ++ span_from (top_or 0 s.starts) s ∷ [];
 }
 
 -- ---- assignments and sets
@@ -113,7 +113,7 @@ assignment_of s = record s {
   exprs = drop 1 s.exprs;
   starts = drop 1 s.starts;
   assignments = s.assignments ++ record { target = top_signal s; value = top_or no_expr s.exprs } ∷ [];
-  assignment_places = s.assignment_places ++ span_from (top_or 0 s.starts) s ∷ [];
+  assignment_spans = s.assignment_spans ++ span_from (top_or 0 s.starts) s ∷ [];
 }
 
 -- `name <= atom ;`
@@ -122,7 +122,7 @@ set_of s = record s {
   idents = drop 1 s.idents;
   atoms = drop 1 s.atoms;
   sets = s.sets ++ record { target = top_signal s; value = top_or no_atom s.atoms } ∷ [];
-  set_places = s.set_places ++ span_from (top_or no_ident s.idents).span.from s ∷ [];
+  set_spans = s.set_spans ++ span_from (top_or no_ident s.idents).span.from s ∷ [];
 }
 
 -- `clk` or `rst` in the head of a branch
@@ -131,11 +131,11 @@ skip_ident s = record s { idents = drop 1 s.idents }
 
 -- `if (rst) begin sets end`
 abbrev pub resets_of : State → State
-resets_of s = record s { idents = drop 1 s.idents; resets = s.sets; reset_places = s.set_places; sets = []; set_places = [] }
+resets_of s = record s { idents = drop 1 s.idents; resets = s.sets; reset_spans = s.set_spans; sets = []; set_spans = [] }
 
 -- `else begin sets end`
 abbrev pub clocks_of : State → State
-clocks_of s = record s { clocks = s.sets; clock_places = s.set_places; sets = []; set_places = [] }
+clocks_of s = record s { clocks = s.sets; clock_spans = s.set_spans; sets = []; set_spans = [] }
 
 -- ---- atoms and operators
 

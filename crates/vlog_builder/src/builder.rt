@@ -3,7 +3,7 @@
 ghost use Rattle.std.specs.Prelude.{◌≡◌, ◌∷◌, ℕ, List, drop, IfOk, OnOk};
 ghost use Rattle.grammar.specs.declared.bottom_up.Step.{Step};
 ghost use Rattle.dslx_token.specs.Lexeme.{Lexeme};
-ghost use Rattle.vlog_builder.specs.Building.{built, design_by, parsed_of, places_by};
+ghost use Rattle.vlog_builder.specs.Building.{built, design_by, parsed_of, spans_by};
 ghost use Rattle.vlog_builder.specs.Empty.{empty};
 
 use crate::ident::Ident;
@@ -16,7 +16,7 @@ use sqlite_items::Items;
 use std::alloc::{AllocError, Global};
 use vlog_token::Token;
 use vlog_tree::VModule;
-use vlog_tree::verifier::Places;
+use vlog_tree::verifier::PartSpans;
 
 /// The module that the steps make of the tokens.
 pub fn build<'a>(alloc: Global, steps: &[Step], tokens: &[Token<'a>]) -> Result<Parsed, AllocError>
@@ -96,9 +96,9 @@ fn parsed_of<'a>(alloc: Global, state: &mut State<'a>) -> Result<Parsed, AllocEr
 {
     let ident = state.idents.pop_or(Ident::none());
     let name = Name::from_string(String::from_str(alloc, ident.name())?);
-    let places = places_of(alloc, state);
+    let part_spans = spans_of(alloc, state);
     let design = design_of(alloc, name, state);
-    Ok(Parsed { design, places })
+    Ok(Parsed { design, part_spans })
 }
 
 /// Takes the parts of the module.
@@ -116,16 +116,16 @@ fn design_of<'a>(alloc: Global, name: Name, state: &mut State<'a>) -> VModule
 }
 
 /// Takes the places of the parts. The parts stay.
-fn places_of<'a>(alloc: Global, state: &mut State<'a>) -> Places
-    ensures places { result ≡ places_by state.old }
+fn spans_of<'a>(alloc: Global, state: &mut State<'a>) -> PartSpans
+    ensures part_spans { result ≡ spans_by state.old }
     ensures design { (name : List ℕ) → design_by name state.new ≡ design_by name state.old }
 {
-    Places {
-        ports: std::mem::replace(&mut state.port_places, Items::new(alloc)),
-        declarations: std::mem::replace(&mut state.declaration_places, Items::new(alloc)),
-        assignments: std::mem::replace(&mut state.assignment_places, Items::new(alloc)),
-        at_reset: std::mem::replace(&mut state.reset_places, Items::new(alloc)),
-        at_clock: std::mem::replace(&mut state.clock_places, Items::new(alloc)),
+    PartSpans {
+        ports: std::mem::replace(&mut state.port_spans, Items::new(alloc)),
+        declarations: std::mem::replace(&mut state.declaration_spans, Items::new(alloc)),
+        assignments: std::mem::replace(&mut state.assignment_spans, Items::new(alloc)),
+        at_reset: std::mem::replace(&mut state.reset_spans, Items::new(alloc)),
+        at_clock: std::mem::replace(&mut state.clock_spans, Items::new(alloc)),
         literals: std::mem::replace(&mut state.literal_ends, Items::new(alloc)),
     }
 }

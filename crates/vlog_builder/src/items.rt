@@ -46,7 +46,7 @@ impl<'a> State<'a> {
         self.signals.declare(ident.name())?;
         self.ports.push(port)?;
         let span = self.span_from(from);
-        self.port_places.push(span)
+        self.port_spans.push(span)
     }
 
     pub fn storage_of(&mut self, storage: Storage) -> Result<(), AllocError>
@@ -68,7 +68,7 @@ impl<'a> State<'a> {
         self.signals.declare(ident.name())?;
         self.declarations.push(own)?;
         let span = self.span_from(from);
-        self.declaration_places.push(span)
+        self.declaration_spans.push(span)
     }
 
     /// `assign name = expr ;`
@@ -80,7 +80,7 @@ impl<'a> State<'a> {
         let from = self.starts.pop_or(0);
         self.assignments.push(Assignment { target, value })?;
         let span = self.span_from(from);
-        self.assignment_places.push(span)
+        self.assignment_spans.push(span)
     }
 
     /// `name <= atom ;`
@@ -92,7 +92,7 @@ impl<'a> State<'a> {
         let value = self.atoms.pop_or(no_atom());
         self.sets.push(Set { target, value })?;
         let span = self.span_from(ident.span().from);
-        self.set_places.push(span)
+        self.set_spans.push(span)
     }
 
     /// `clk` or `rst` in the head of a branch.
@@ -108,7 +108,7 @@ impl<'a> State<'a> {
     {
         self.skip_ident();
         self.resets = std::mem::replace(&mut self.sets, Items::new(alloc));
-        self.reset_places = std::mem::replace(&mut self.set_places, Items::new(alloc));
+        self.reset_spans = std::mem::replace(&mut self.set_spans, Items::new(alloc));
     }
 
     /// `else begin sets end`
@@ -116,7 +116,7 @@ impl<'a> State<'a> {
         ensures { self.new ≡ clocks_of self.old }
     {
         self.clocks = std::mem::replace(&mut self.sets, Items::new(alloc));
-        self.clock_places = std::mem::replace(&mut self.set_places, Items::new(alloc));
+        self.clock_spans = std::mem::replace(&mut self.set_spans, Items::new(alloc));
     }
 }
 

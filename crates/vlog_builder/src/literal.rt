@@ -58,7 +58,7 @@ fn said(width: u64, digits: &[u8]) -> Literal
 pub fn literal(token: &Token) -> Literal
     ensures { result ≡ literal_of token.now.bytes }
 {
-    said(short(token.front_digits()), token.value_digits())
+    said(short(token.prefix_digits()), token.value_digits())
 }
 
 /// What stands for a literal that isn't there.

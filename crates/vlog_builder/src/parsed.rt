@@ -1,9 +1,9 @@
 use vlog_tree::VModule;
-use vlog_tree::verifier::Places;
+use vlog_tree::verifier::PartSpans;
 
 /// A module that was read, and where its parts stand in its text.
 #[derive(Drop)]
 pub struct Parsed {
     pub design: VModule,
-    pub places: Places,
+    pub part_spans: PartSpans,
 }

@@ -50,7 +50,7 @@ impl<'a> State<'a> {
     fn keep_number(&mut self, token: &Token<'a>) -> Result<(), AllocError>
         ensures { OnOk result (self.new ≡ kept_number token.now self.old) }
     {
-        self.numbers.push(short(token.front_digits()))
+        self.numbers.push(short(token.prefix_digits()))
     }
 
     fn keep_start(&mut self, token: &Token<'a>) -> Result<(), AllocError>

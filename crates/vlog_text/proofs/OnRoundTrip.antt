@@ -7,7 +7,7 @@ pub mod Phrases
 pub mod Whole
 pub mod Cuts
 pub mod Texts
-pub mod Placed
+pub mod WithSpans
 pub mod Resolved
 pub mod Writing
 pub mod Round

@@ -1,4 +1,4 @@
 mod OneCut
 mod CutsSoFar
-mod FrontFacts
+mod PrefixFacts
 mod Powers

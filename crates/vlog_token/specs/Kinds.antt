@@ -4,7 +4,7 @@ use Rattle.std.specs.Char.{is_ascii_digit}
 use Rattle.base.specs.Texts.Words.{begins_word}
 use Rattle.dslx_token.specs.Spelling.{Spelling, kind_among}
 use Rattle.vlog_token.specs.declared.rules.generated.kind.TheConstants.{ALWAYS, ASHR, ASSIGN, BEGIN, CLK, ELSE, END, ENDBLOCK, ENDMODULE, IF, INPUT, LITERAL, MODULE, NAME, NUMBER, OUTPUT, POSEDGE, REG, RST, SIGNED, WIRE, ZERO}
-use Rattle.vlog_token.specs.Fronts.{begins_literal, double_kind, single_kind, width_said}
+use Rattle.vlog_token.specs.TokenPrefixes.{begins_literal, double_kind, single_kind, width_said}
 
 -- the reserved words, and the two names that have a kind of their own
 abbrev pub verilog_words : List Spelling

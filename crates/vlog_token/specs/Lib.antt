@@ -1,5 +1,5 @@
 -- what stands at the front of a Verilog text: a word, a number, a literal, `$signed` or a mark
-pub mod Fronts
+pub mod TokenPrefixes
 -- the kind of a token, which its own text says
 pub mod Kinds
 -- the tokens of a text, and the first character that begins none

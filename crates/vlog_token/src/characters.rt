@@ -1,7 +1,7 @@
 //! Which characters tokens are made of.
 
 ghost use Rattle.std.specs.Prelude.{◌≡◌};
-ghost use Rattle.vlog_token.specs.Fronts.{single_kind, double_kind, is_triple};
+ghost use Rattle.vlog_token.specs.TokenPrefixes.{single_kind, double_kind, is_triple};
 
 use crate::rules::kind::{
     AMP, AT, CARET, COLON, COMMA, END, EQ, EQUALS, GE, GT, LBRACE, LBRACKET, LE, LPAREN, LT, MINUS,

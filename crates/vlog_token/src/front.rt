@@ -3,7 +3,7 @@
 ghost use Rattle.std.specs.Prelude.{◌≡◌, ◌≤◌, ◌+◌, length, slice_index, None, IfSome, IfOk, MatchOption};
 ghost use Rattle.std.specs.Str.Parse.{AllDigits};
 ghost use Rattle.vlog_token.specs.Inner.Entries.{HasTokenOf};
-ghost use Rattle.vlog_token.specs.Fronts.{digit_run, front_digits, value_digits, begins_value, begins_literal, is_in_range, number_len, mark_len, signed_len, word_run, front_len};
+ghost use Rattle.vlog_token.specs.TokenPrefixes.{digit_run, prefix_digits, value_digits, begins_value, begins_literal, is_in_range, number_len, mark_len, signed_len, word_run, token_prefix_len};
 
 use crate::characters::{double_kind, is_triple, single_kind};
 use dslx_token::byte_at;
@@ -21,8 +21,8 @@ pub fn digit_run(text: &[u8]) -> usize
 }
 
 /// The digits at the front of a text.
-pub fn front_digits(text: &[u8]) -> &[u8]
-    ensures digits { result.now ≡ front_digits text.now }
+pub fn prefix_digits(text: &[u8]) -> &[u8]
+    ensures digits { result.now ≡ prefix_digits text.now }
     ensures all { AllDigits 10 result.now }
 {
     &text[..digit_run(text)]
@@ -48,14 +48,14 @@ pub fn value_digits(text: &[u8]) -> &[u8]
     ensures all { AllDigits 10 result.now }
 {
     let from = digit_run(text).saturating_add(2).min(text.len());
-    front_digits(&text[from..])
+    prefix_digits(&text[from..])
 }
 
 /// Whether the width of a literal is 1 or more, and its value below 2 to the power of that.
 fn is_in_range(alloc: Global, text: &[u8]) -> Result<bool, AllocError>
     ensures { IfOk result (λ fits. fits ≡ is_in_range text.now) }
 {
-    let width = front_digits(text);
+    let width = prefix_digits(text);
     if base::texts::number(10, width) == Some(0) {
         return Ok(false);
     }
@@ -63,7 +63,7 @@ fn is_in_range(alloc: Global, text: &[u8]) -> Result<bool, AllocError>
 }
 
 /// The length of the number or literal at the front of a text.
-#[tactic(auto, unfolding(crate::specs::Fronts::number_len))]
+#[tactic(auto, unfolding(crate::specs::TokenPrefixes::number_len))]
 fn number_len(alloc: Global, text: &[u8]) -> Result<Option<usize>, AllocError>
     ensures front { IfOk result (λ len. len ≡ number_len text.now) }
     ensures within { IfOk result (λ len. IfSome len (λ len. len ≤ length text.now)) }
@@ -80,7 +80,7 @@ fn number_len(alloc: Global, text: &[u8]) -> Result<Option<usize>, AllocError>
 }
 
 /// The length of the mark at the front of a text.
-#[tactic(auto, unfolding(crate::specs::Fronts::mark_len))]
+#[tactic(auto, unfolding(crate::specs::TokenPrefixes::mark_len))]
 fn mark_len(first: u8, second: u8, third: u8) -> Option<usize>
     ensures { result ≡ mark_len first second third }
 {
@@ -118,16 +118,16 @@ fn word_run(text: &[u8]) -> usize
 /// The length of the token at the front of a text that isn't empty.
 pub fn token_len(alloc: Global, text: &[u8]) -> Result<Option<usize>, AllocError>
     requires { 1 ≤ length text.now }
-    ensures { IfOk result (λ found. MatchOption found (front_len text.now ≡ None) (λ len. HasTokenOf text.now len)) }
+    ensures { IfOk result (λ found. MatchOption found (token_prefix_len text.now ≡ None) (λ len. HasTokenOf text.now len)) }
 {
-    front_len(alloc, text)
+    token_prefix_len(alloc, text)
 }
 
 /// The same, by the definition alone.
-#[tactic(auto, unfolding(crate::specs::Fronts::front_len))]
-fn front_len(alloc: Global, text: &[u8]) -> Result<Option<usize>, AllocError>
+#[tactic(auto, unfolding(crate::specs::TokenPrefixes::token_prefix_len))]
+fn token_prefix_len(alloc: Global, text: &[u8]) -> Result<Option<usize>, AllocError>
     requires { 1 ≤ length text.now }
-    ensures front { IfOk result (λ len. len ≡ front_len text.now) }
+    ensures front { IfOk result (λ len. len ≡ token_prefix_len text.now) }
     ensures within { IfOk result (λ len. IfSome len (λ len. len ≤ length text.now)) }
 {
     let first = byte_at(text, 0);

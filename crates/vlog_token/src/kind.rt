@@ -7,7 +7,7 @@ ghost use Rattle.vlog_token.specs.Kinds.{verilog_words, digits_kind, mark_kind, 
 
 use crate::characters::{double_kind, single_kind};
 use dslx_token::byte_at;
-use crate::front::{begins_literal, front_digits};
+use crate::front::{begins_literal, prefix_digits};
 use crate::rules::kind::{
     ALWAYS, ASHR, ASSIGN, BEGIN, CLK, ELSE, END, ENDBLOCK, ENDMODULE, IF, INPUT, LITERAL, MODULE,
     NAME, NUMBER, OUTPUT, POSEDGE, REG, RST, SIGNED, WIRE, ZERO,
@@ -56,7 +56,7 @@ fn digits_kind(bytes: &[u8]) -> u8
 {
     if begins_literal(bytes) {
         LITERAL
-    } else if base::texts::number(10, front_digits(bytes)) == Some(0) {
+    } else if base::texts::number(10, prefix_digits(bytes)) == Some(0) {
         ZERO
     } else {
         NUMBER

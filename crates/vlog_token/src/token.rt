@@ -1,8 +1,8 @@
 ghost use Rattle.std.specs.Prelude.{◌≡◌, ◌<◌, ◌^◌, ◌+◌, length};
 ghost use Rattle.vlog_token.specs.Tokens.{verilog_lexeme_at};
-ghost use Rattle.vlog_token.specs.Fronts.{front_digits, value_digits};
+ghost use Rattle.vlog_token.specs.TokenPrefixes.{prefix_digits, value_digits};
 
-use crate::front::{front_digits, value_digits};
+use crate::front::{prefix_digits, value_digits};
 use crate::kind::kind_of;
 use std::marker::Model;
 use xb_span::Span;
@@ -63,10 +63,10 @@ impl<'a> Token<'a> {
     }
 
     /// The digits at its front: of a number all, of a literal those of its width.
-    pub fn front_digits(&self) -> &'a [u8]
-        ensures { result.now ≡ front_digits self.now.bytes }
+    pub fn prefix_digits(&self) -> &'a [u8]
+        ensures { result.now ≡ prefix_digits self.now.bytes }
     {
-        front_digits(self.bytes)
+        prefix_digits(self.bytes)
     }
 
     /// The digits of a literal's value.

@@ -6,7 +6,7 @@ use Rattle.vlog_tree.specs.declared.module.VModule.{VModule}
 use Rattle.vlog_tree.specs.declared.module.Assignment.{Assignment}
 use Rattle.vlog_tree.specs.declared.module.Set.{Set}
 use Rattle.vlog_tree.specs.Signals.{Declared, IsSignal}
-use Rattle.vlog_tree.specs.declared.signal.Role.TheVariants.{Given, Held}
+use Rattle.vlog_tree.specs.declared.signal.Role.TheVariants.{InputSignal, RegisterSignal}
 use Rattle.vlog_tree.specs.Value.{Values, atom_value, expr_value}
 
 -- each target has its driver's value
@@ -17,8 +17,8 @@ AreDriven values assignments = AllByRecursion (λ a. values a.target.0 ≡ expr_
 -- is given, a register what it holds, a wire its driver's value. Where no wire depends on itself there is exactly one
 -- such assignment of values; no order of evaluation is spoken of
 pub record IsNow (m : VModule) (held given values : Values) : Type 0 where
-  pub inputs : (s : ℕ) (d : Declared) → IsSignal m s d → d.role ≡ Given → values s ≡ given s
-  pub registers : (s : ℕ) (d : Declared) → IsSignal m s d → d.role ≡ Held → values s ≡ held s
+  pub inputs : (s : ℕ) (d : Declared) → IsSignal m s d → d.role ≡ InputSignal → values s ≡ given s
+  pub registers : (s : ℕ) (d : Declared) → IsSignal m s d → d.role ≡ RegisterSignal → values s ≡ held s
   pub wires : AreDriven values m.assignments
 
 -- what signals hold after these sets, of which the last for a signal counts: without one it keeps what it holds

@@ -6,7 +6,7 @@ use Rattle.xb_bits.specs.Word.{Word, word}
 use Rattle.vlog_tree.specs.declared.module.Assignment.{Assignment}
 use Rattle.vlog_tree.specs.declared.module.VModule.{VModule}
 use Rattle.vlog_tree.specs.Signals.{Declared, IsSignal, signals}
-use Rattle.vlog_tree.specs.declared.signal.Role.TheVariants.{Given, Driven, Held}
+use Rattle.vlog_tree.specs.declared.signal.Role.TheVariants.{InputSignal, WireSignal, RegisterSignal}
 use Rattle.vlog_tree.specs.Value.{Values, expr_value}
 use Rattle.vlog_tree.specs.Forms.{Widths, reads}
 
@@ -34,12 +34,12 @@ settled (a ∷ later) words = settled later (slice_set words a.target.0 (expr_va
 -- numbers for all signals of a module, in which inputs and registers have those that are given and held
 pub record AreReady (m : VModule) (held given : Values) (words : List Word) : Type 0 where
   pub covers : length words ≡ length (signals m)
-  pub inputs : (s : ℕ) (d : Declared) → IsSignal m s d → d.role ≡ Given → values_of words s ≡ given s
-  pub registers : (s : ℕ) (d : Declared) → IsSignal m s d → d.role ≡ Held → values_of words s ≡ held s
+  pub inputs : (s : ℕ) (d : Declared) → IsSignal m s d → d.role ≡ InputSignal → values_of words s ≡ given s
+  pub registers : (s : ℕ) (d : Declared) → IsSignal m s d → d.role ≡ RegisterSignal → values_of words s ≡ held s
 
 -- each assignment of the module drives a wire or an output of it
 abbrev pub DrivesWires : VModule → List Assignment → Type 0
-DrivesWires m assignments = AllByRecursion (λ a. (d : Declared) × IsSignal m a.target.0 d × (d.role ≡ Driven)) assignments
+DrivesWires m assignments = AllByRecursion (λ a. (d : Declared) × IsSignal m a.target.0 d × (d.role ≡ WireSignal)) assignments
 
 -- each assignment reads signals of the module alone
 abbrev pub ReadsSignals : ℕ → List Assignment → Type 0
@@ -47,4 +47,4 @@ ReadsSignals count assignments = AllByRecursion (λ a. AllByRecursion (λ s. s <
 
 -- each wire and output is driven
 abbrev pub AreAllDriven : VModule → Type 0
-AreAllDriven m = (s : ℕ) (d : Declared) → IsSignal m s d → d.role ≡ Driven → ¬ (IsUndriven m.assignments s)
+AreAllDriven m = (s : ℕ) (d : Declared) → IsSignal m s d → d.role ≡ WireSignal → ¬ (IsUndriven m.assignments s)

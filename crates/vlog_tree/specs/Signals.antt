@@ -8,7 +8,7 @@ use Rattle.vlog_tree.specs.declared.module.Declaration.{Declaration}
 use Rattle.vlog_tree.specs.declared.module.Storage.{Storage}
 use Rattle.vlog_tree.specs.declared.module.Storage.TheVariants as storage
 use Rattle.vlog_tree.specs.declared.signal.Role.{Role}
-use Rattle.vlog_tree.specs.declared.signal.Role.TheVariants.{Given, Driven, Held}
+use Rattle.vlog_tree.specs.declared.signal.Role.TheVariants.{InputSignal, WireSignal, RegisterSignal}
 use Rattle.vlog_tree.specs.Forms.{Widths}
 
 pub record Declared : Type 0 where
@@ -17,12 +17,12 @@ pub record Declared : Type 0 where
   pub width : ℕ
 
 abbrev pub port_role : Direction → Role
-port_role Input = Given
-port_role Output = Driven
+port_role Input = InputSignal
+port_role Output = WireSignal
 
 abbrev pub storage_role : Storage → Role
-storage_role storage.Wire = Driven
-storage_role storage.Register = Held
+storage_role storage.Wire = WireSignal
+storage_role storage.Register = RegisterSignal
 
 abbrev pub declared_port : Port → Declared
 declared_port p = record { name = p.name; role = port_role p.direction; width = p.width }

@@ -1,7 +1,7 @@
 -- checks in their order, and the fault that is named
 pub mod Checks
 -- where the parts of a module stand
-pub mod Placed
+pub mod WithSpans
 -- the ports that a module must have
 pub mod Ports
 -- the rules and limits of each part

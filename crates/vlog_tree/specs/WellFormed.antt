@@ -10,7 +10,7 @@ use Rattle.vlog_tree.specs.declared.module.Set.{Set}
 use Rattle.vlog_tree.specs.declared.expression.Atom.{Atom}
 use Rattle.vlog_tree.specs.declared.expression.Atom.TheVariants as atom
 use Rattle.vlog_tree.specs.Signals.{Declared, IsSignal, signals, declared_widths}
-use Rattle.vlog_tree.specs.declared.signal.Role.TheVariants.{Held}
+use Rattle.vlog_tree.specs.declared.signal.Role.TheVariants.{RegisterSignal}
 use Rattle.vlog_tree.specs.Forms.{Widths, atom_width, reads}
 use Rattle.vlog_tree.specs.Sound.{IsKnownAtom, IsSoundAssignment}
 use Rattle.vlog_tree.specs.Settled.{DrivesWires, AreAllDriven}
@@ -26,7 +26,7 @@ DriveApart assignments = (i j : ℕ) (a b : Assignment) → slice_get assignment
 
 -- a set gives a register a number of its width
 pub record IsSoundSet (m : VModule) (set : Set) : Type 0 where
-  pub target : (d : Declared) × IsSignal m set.target.0 d × (d.role ≡ Held)
+  pub target : (d : Declared) × IsSignal m set.target.0 d × (d.role ≡ RegisterSignal)
   pub known : IsKnownAtom (length (signals m)) set.value
   pub fit : atom_width (declared_widths m) set.value ≡ declared_widths m set.target.0
 

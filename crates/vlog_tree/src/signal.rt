@@ -13,11 +13,11 @@ pub struct Signal(pub u32);
 #[derive(Clone, Copy, PartialEq, Eq)]
 pub enum Role {
     /// The outside.
-    Given,
+    InputSignal,
     /// The one assignment to it.
-    Driven,
+    WireSignal,
     /// It holds it itself.
-    Held,
+    RegisterSignal,
 }
 
 /// Each look-up takes the same time, however large the module is.
@@ -79,8 +79,8 @@ impl Direction {
         ensures { result ≡ port_role self }
     {
         match self {
-            Direction::Input => Role::Given,
-            Direction::Output => Role::Driven,
+            Direction::Input => Role::InputSignal,
+            Direction::Output => Role::WireSignal,
         }
     }
 }
@@ -91,8 +91,8 @@ impl Storage {
         ensures { result ≡ storage_role self }
     {
         match self {
-            Storage::Wire => Role::Driven,
-            Storage::Register => Role::Held,
+            Storage::Wire => Role::WireSignal,
+            Storage::Register => Role::RegisterSignal,
         }
     }
 }

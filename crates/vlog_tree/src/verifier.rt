@@ -7,10 +7,10 @@ pub mod laws;
 mod loops;
 mod marks;
 mod parts;
-mod places;
+mod part_spans;
 mod ports;
 mod verified;
 mod walks;
 
-pub use places::Places;
+pub use part_spans::PartSpans;
 pub use verified::{check, verify};

@@ -1,3 +1,3 @@
 pub mod Joins
 pub mod Modulus
-pub mod PlaceLemmas
+pub mod BitLemmas

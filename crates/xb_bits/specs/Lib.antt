@@ -7,7 +7,7 @@ pub mod Order
 -- numbers side by side, parts of a number, numbers made longer
 pub mod Parts
 -- the places of bits
-pub mod Places
+pub mod BitPositions
 -- one bit of all bits
 pub mod Reduction
 -- shifts by any amount

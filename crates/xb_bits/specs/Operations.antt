@@ -5,7 +5,7 @@ use Rattle.xb_bits.specs.Word.{Word, word}
 use Rattle.xb_bits.specs.Arithmetic.{sum_bits, difference_bits, product_bits, quotient_bits, remainder_bits, negative_bits, complement_bits}
 use Rattle.xb_bits.specs.Shift.{shifted_left, shifted_right, shifted_signed}
 use Rattle.xb_bits.specs.Parts.{joined_bits, slice_bits, dyn_slice_bits, sign_extended}
-use Rattle.xb_bits.specs.Places.{leading_zero_count, trailing_zero_count, reversed_bits}
+use Rattle.xb_bits.specs.BitPositions.{leading_zero_count, trailing_zero_count, reversed_bits}
 use Rattle.xb_bits.specs.Reduction.{all_ones_bit, some_one_bit, parity_bit}
 use Rattle.xb_bits.specs.Order.{unsigned_order, signed_order}
 

@@ -11,7 +11,7 @@ mod logic;
 mod numbers;
 mod order;
 mod parts;
-mod places;
+mod bit_positions;
 mod shifts;
 
 pub use arithmetic::{add, mul, neg, sub, udiv, umod};
@@ -19,5 +19,5 @@ pub use bits::Bits;
 pub use logic::{and, and_reduce, not, or, or_reduce, xor, xor_reduce};
 pub use order::{cmp_s, cmp_u};
 pub use parts::{concat, dyn_slice, sext, slice, zext};
-pub use places::{clz, ctz, rev};
+pub use bit_positions::{clz, ctz, rev};
 pub use shifts::{shll, shra, shrl};

@@ -3,7 +3,7 @@ use Rattle.std.proofs.Common.{ℕ, ◌+◌, List, ◌++◌, Option, None, Some, 
 use Rattle.std.proofs.lemmas.List.{append_assoc}
 use Rattle.std.proofs.Math.Seq.{take-add}
 use Rattle.std.specs.Io.KnownBytes.{Appends}
-use Rattle.xb_io.specs.Sink.{AppendsFront}
+use Rattle.xb_io.specs.Sink.{AppendsPrefix}
 
 -- two parts, one after the other
 pub appends_both : (a b c : Option (List ℕ)) (xs ys : List ℕ) → Appends a b xs → Appends b c ys → Appends a c (xs ++ ys)
@@ -16,5 +16,5 @@ appends_both (Some x) (Some y) (Some z) xs ys first next = next ∙ ap (λ front
 pub appends_more : (a b c : Option (List ℕ)) (xs : List ℕ) (i n : ℕ) → Appends a b (take i xs) → Appends b c (take n (drop i xs)) → Appends a c (take (i + n) xs)
 appends_more a b c xs i n first next = rw take-add (appends_both a b c (take i xs) (take n (drop i xs)) first next)
 
-pub front_more : (a b c : Option (List ℕ)) (xs : List ℕ) (i : ℕ) → Appends a b (take i xs) → AppendsFront b c (drop i xs) → AppendsFront a c xs
-front_more a b c xs i first next = (i + next.0, appends_more a b c xs i next.0 first next.1)
+pub prefix_more : (a b c : Option (List ℕ)) (xs : List ℕ) (i : ℕ) → Appends a b (take i xs) → AppendsPrefix b c (drop i xs) → AppendsPrefix a c xs
+prefix_more a b c xs i first next = (i + next.0, appends_more a b c xs i next.0 first next.1)

@@ -2,6 +2,6 @@
 use Rattle.std.specs.Prelude.{ℕ, List, Option, take}
 use Rattle.std.specs.Io.KnownBytes.{Appends}
 
--- some front of the piece was added, perhaps nothing of it, perhaps all
-abbrev pub AppendsFront : Option (List ℕ) → Option (List ℕ) → List ℕ → Type 0
-AppendsFront old new piece = (n : ℕ) × Appends old new (take n piece)
+-- some prefix of the piece was added, perhaps nothing of it, perhaps all
+abbrev pub AppendsPrefix : Option (List ℕ) → Option (List ℕ) → List ℕ → Type 0
+AppendsPrefix old new piece = (n : ℕ) × Appends old new (take n piece)

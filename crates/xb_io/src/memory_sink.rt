@@ -1,7 +1,7 @@
 ghost use Rattle.std.specs.Prelude.{◌≡◌, ℕ, ◌+◌, ◌-◌, ◌<◌, ◌≤◌, [], ◌++◌, Some, IfOk, IsOk, IsErr, OnOk, OnErr, true, false, ◌==◌, length, take, vec_len, vec_capacity};
 ghost use Rattle.xb_io.specs.Failing.{is_listed};
 ghost use Rattle.xb_io.specs.Counts.{HasRisen, raised_by};
-ghost use Rattle.xb_io.specs.Sink.{AppendsFront};
+ghost use Rattle.xb_io.specs.Sink.{AppendsPrefix};
 ghost use Rattle.std.specs.Io.KnownBytes.{Appends};
 
 use crate::failing::is_listed;
@@ -47,7 +47,7 @@ impl Sink for MemSink {
         ensures faults_never_fall { self.old.faults ≤ self.new.faults }
         ensures ok { OnOk result (Appends (Some self.old.bytes.items) (Some self.new.bytes.items) piece.now) }
         ensures ok_without_fault { OnOk result (self.new.faults ≡ self.old.faults) }
-        ensures failed { OnErr result (AppendsFront (Some self.old.bytes.items) (Some self.new.bytes.items) piece.now) }
+        ensures failed { OnErr result (AppendsPrefix (Some self.old.bytes.items) (Some self.new.bytes.items) piece.now) }
         ensures failed_by_fault { OnErr result (HasRisen self.old.faults self.new.faults) }
 
         // Each call counts. A listed one fails and takes nothing; any other takes what has room, and fills the room with

@@ -1,7 +1,7 @@
 ghost use Rattle.std.specs.Prelude.{◌≡◌, ℕ, ◌≤◌, List, Option, Some, codes, OnOk, OnErr};
 ghost use Rattle.std.specs.Io.KnownBytes.{Appends};
 ghost use Rattle.xb_io.specs.Counts.{HasRisen};
-ghost use Rattle.xb_io.specs.Sink.{AppendsFront};
+ghost use Rattle.xb_io.specs.Sink.{AppendsPrefix};
 
 use std::error::Error;
 use std::fmt;
@@ -38,6 +38,6 @@ pub trait Sink {
         ensures faults_never_fall { faults self.old ≤ faults self.new }
         ensures ok { OnOk result (Appends (written self.old) (written self.new) piece.now) }
         ensures ok_without_fault { OnOk result (faults self.new ≡ faults self.old) }
-        ensures failed { OnErr result (AppendsFront (written self.old) (written self.new) piece.now) }
+        ensures failed { OnErr result (AppendsPrefix (written self.old) (written self.new) piece.now) }
         ensures failed_by_fault { OnErr result (HasRisen (faults self.old) (faults self.new)) };
 }

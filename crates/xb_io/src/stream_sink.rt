@@ -1,6 +1,6 @@
 ghost use Rattle.std.specs.Prelude.{◌≡◌, ◌≤◌, IfOk, OnOk, OnErr, length, take};
 ghost use Rattle.std.specs.Io.KnownBytes.{Appends};
-ghost use Rattle.xb_io.specs.Sink.{AppendsFront};
+ghost use Rattle.xb_io.specs.Sink.{AppendsPrefix};
 
 use crate::sink::{Failed, Sink};
 use std::io::{ErrorKind, Write};
@@ -41,7 +41,7 @@ impl<W: Write> Sink for StreamSink<W> {
 /// Writes the whole piece, however little the stream takes at a time, and leaves none of it in a buffer.
 fn write_whole<W: Write>(stream: &mut W, piece: &[u8]) -> Result<(), Failed>
     ensures ok { OnOk result (Appends (W.contents stream.old) (W.contents stream.new) piece.now) }
-    ensures failed { OnErr result (AppendsFront (W.contents stream.old) (W.contents stream.new) piece.now) }
+    ensures failed { OnErr result (AppendsPrefix (W.contents stream.old) (W.contents stream.new) piece.now) }
 {
     let mut written = 0;
     for _turn in 0..u64::MAX {
@@ -63,7 +63,7 @@ fn write_whole<W: Write>(stream: &mut W, piece: &[u8]) -> Result<(), Failed>
 fn write_some<W: Write>(stream: &mut W, piece: &[u8]) -> Result<usize, Failed>
     ensures ok { IfOk result (λ count. Appends (W.contents stream.old) (W.contents stream.new) (take count piece.now)) }
     ensures at_most { IfOk result (λ count. count ≤ length piece.now) }
-    ensures failed { OnErr result (AppendsFront (W.contents stream.old) (W.contents stream.new) piece.now) }
+    ensures failed { OnErr result (AppendsPrefix (W.contents stream.old) (W.contents stream.new) piece.now) }
 {
     match stream.write(piece) {
         Ok(0) => Err(Failed),

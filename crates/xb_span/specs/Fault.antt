@@ -2,7 +2,7 @@
 use Rattle.std.specs.Prelude.{ℕ, List, [], ◌∷◌, Bool, Option, Some, None, if◌then◌else◌}
 use Rattle.std.specs.Ordering.{is_lt, nat_cmp}
 use Rattle.std.specs.Cmp.Lexicographic.{slice_cmp}
-use Rattle.xb_span.specs.Limit.{place_of}
+use Rattle.xb_span.specs.Limit.{index_of}
 use Rattle.xb_span.specs.declared.fault.Fault.{Fault}
 use Rattle.xb_span.specs.declared.fault.Fault.TheVariants.{Whole, Broken, Passed}
 use Rattle.xb_span.specs.declared.read_error.ReadError.{ReadError}
@@ -11,9 +11,9 @@ use Rattle.xb_span.specs.declared.read_error.ReadError.TheVariants as error
 -- what decides a fault's place: limits on the whole come first, then the end of the part; at one end rules before
 -- limits, rules by their number and limits by their place; then the start, or what was found
 abbrev pub key_of : Fault → List ℕ
-key_of (Whole l) = 0 ∷ 0 ∷ 0 ∷ place_of l.what ∷ l.found ∷ l.most ∷ []
+key_of (Whole l) = 0 ∷ 0 ∷ 0 ∷ index_of l.what ∷ l.found ∷ l.most ∷ []
 key_of (Broken rule span) = 1 ∷ span.to ∷ 0 ∷ rule.0 ∷ span.from ∷ 0 ∷ []
-key_of (Passed end l) = 1 ∷ end ∷ 1 ∷ place_of l.what ∷ l.found ∷ l.most ∷ []
+key_of (Passed end l) = 1 ∷ end ∷ 1 ∷ index_of l.what ∷ l.found ∷ l.most ∷ []
 
 -- the one fault is named before the other
 unfoldable pub precedes : Fault → Fault → Bool

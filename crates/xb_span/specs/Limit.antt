@@ -20,21 +20,21 @@ word_of Channels = codes "channels"
 word_of Cycles = codes "cycles"
 
 -- the place of a limit in the table of limits: of those that one end passes, the first is named
-abbrev pub place_of : What → ℕ
-place_of File = 0
-place_of Nesting = 1
-place_of Width = 2
-place_of Leaves = 3
-place_of Levels = 4
-place_of Word = 5
-place_of Turns = 6
-place_of Size = 7
-place_of Sites = 8
-place_of Depth = 9
-place_of Instances = 10
-place_of Procs = 11
-place_of Channels = 12
-place_of Cycles = 13
+abbrev pub index_of : What → ℕ
+index_of File = 0
+index_of Nesting = 1
+index_of Width = 2
+index_of Leaves = 3
+index_of Levels = 4
+index_of Word = 5
+index_of Turns = 6
+index_of Size = 7
+index_of Sites = 8
+index_of Depth = 9
+index_of Instances = 10
+index_of Procs = 11
+index_of Channels = 12
+index_of Cycles = 13
 
 -- the limits in their order
 abbrev pub limits : List What

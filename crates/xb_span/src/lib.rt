@@ -1,4 +1,4 @@
-//! Places in a text, and the refusals that name them.
+//! Spans of a text, and the refusals that name them.
 //!
 //! Every reader and checker of the compiler answers one of these.
 #![tactic(auto)]

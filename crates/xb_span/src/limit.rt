@@ -1,5 +1,5 @@
 ghost use Rattle.std.specs.Prelude.{◌≡◌, Some};
-ghost use Rattle.xb_span.specs.Limit.{place_of, word_of};
+ghost use Rattle.xb_span.specs.Limit.{index_of, word_of};
 
 use std::fmt;
 
@@ -38,8 +38,8 @@ pub enum What {
 
 impl What {
     /// Its place among the limits: of those that one end passes, the first is named.
-    pub fn place(self) -> u8
-        ensures { result ≡ place_of self }
+    pub fn index(self) -> u8
+        ensures { result ≡ index_of self }
     {
         self as u8
     }

@@ -2,7 +2,7 @@
 use Rattle.std.proofs.Common.{◌≡◌, ℕ, ◌+◌, ◌<◌, ◌≤◌, List, [], ◌∷◌, ◌++◌, length, length-append, take, drop, get_or, map, append_assoc, append-nil, true, false, IsTrue, Option, Some, None, refl, sym, ap, subst, ◌∙◌, arith}
 use Rattle.std.proofs.lemmas.List.{take_more, length-take-le, take-append-drop}
 use Rattle.std.proofs.Math.Seq.{take-length}
-use Rattle.base.specs.Lists.Fault.{Begins, IsFirstFault}
+use Rattle.base.specs.Lists.Fault.{IsViablePrefix, IsFirstFault}
 use Rattle.xb_value.specs.declared.token.Bracket.{Bracket}
 use Rattle.xb_value.specs.declared.token.Token.{Token}
 use Rattle.xb_value.specs.declared.token.Token.TheVariants.{Number, Close}
@@ -54,13 +54,13 @@ some_end After ks ts p = (map closing ks, close_all ks ts p)
 abbrev pub StandsBehind : Scan → List ℕ → Type 0
 StandsBehind s t = (rest : List ℕ) → outcome started 0 (t ++ rest) ≡ outcome s (length t) rest
 
-pub stands_begins : (s : Scan) (t : List ℕ) → StandsBehind s t → Begins IsValueText t
+pub stands_begins : (s : Scan) (t : List ℕ) → StandsBehind s t → IsViablePrefix IsValueText t
 stands_begins s t stands =
     let more = some_end s.mode s.stack s.tokens (length t) in
     let whole = found (t ++ more.0) (more.1.0, stands more.0 ∙ more.1.1) in
     (more.0, whole)
 
-pub refused_never : (s : Scan) (t : List ℕ) (b : ℕ) → StandsBehind s t → step s (length t) (class_of b) ≡ None → Begins IsValueText (t ++ b ∷ []) → ⊥
+pub refused_never : (s : Scan) (t : List ℕ) (b : ℕ) → StandsBehind s t → step s (length t) (class_of b) ≡ None → IsViablePrefix IsValueText (t ++ b ∷ []) → ⊥
 refused_never s t b stands refused (rest, whole) =
     let read : Some (form_tokens 0 whole.0) ≡ None =
     sym (taken whole.0 whole.1) ∙ ap (outcome started 0) (whole.2 ∙ append_assoc t (b ∷ []) rest) ∙ stands (b ∷ rest)
@@ -100,18 +100,18 @@ pub stepped_went : (r : Option Scan) (t : Scan) → Stepped r true t → r ≡ S
 stepped_went None t h = absurd h
 stepped_went (Some s) t h = ap Some (sym h)
 
-front_length : (t : List ℕ) (i : ℕ) → i ≤ length t → length (take i t) ≡ i
-front_length t i h = length-take-le i t h
+prefix_length : (t : List ℕ) (i : ℕ) → i ≤ length t → length (take i t) ≡ i
+prefix_length t i h = length-take-le i t h
 
 -- a byte behind the front, by its place
 step_at : (s : Scan) (t : List ℕ) (i b : ℕ) (r : Option Scan) → i ≤ length t → step s i (class_of b) ≡ r → step s (length (take i t)) (class_of b) ≡ r
-step_at s t i b r h e = ap (λ p. step s p (class_of b)) (front_length t i h) ∙ e
+step_at s t i b r h e = ap (λ p. step s p (class_of b)) (prefix_length t i h) ∙ e
 
 pub fault_at : (s : Scan) (t : List ℕ) (i b : ℕ) → i < length t → b ≡ get_or t i 0 → StandsBehind s (take i t) → step s i (class_of b) ≡ None → IsFirstFault IsValueText t i
 fault_at s t i b h is stands refused =
     let front : take (i + 1) t ≡ take i t ++ b ∷ [] = take_more t i 0 h ∙ ap (λ c. take i t ++ c ∷ []) (sym is) in
-    let never : Begins IsValueText (take (i + 1) t) → ⊥ =
-    subst (λ u. Begins IsValueText u → ⊥) (sym front) (refused_never s (take i t) b stands (step_at s t i b None (omega arith) refused)) in
+    let never : IsViablePrefix IsValueText (take (i + 1) t) → ⊥ =
+    subst (λ u. IsViablePrefix IsValueText u → ⊥) (sym front) (refused_never s (take i t) b stands (step_at s t i b None (omega arith) refused)) in
     record {
       within = omega arith;
       before = stands_begins s (take i t) stands;

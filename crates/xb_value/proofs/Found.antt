@@ -43,8 +43,8 @@ pub record ValueFound (t : List ℕ) (ks : List Bracket) : Type 0 where
   pub is : t ≡ form_text form ++ rest
   pub shorter : length rest < length t
   pub tokens : List Token
-  pub place : ℕ
-  pub ends : Ends (scan ks tokens After) place rest
+  pub offset : ℕ
+  pub ends : Ends (scan ks tokens After) offset rest
 
 -- items and their closing bracket at the front of the text
 pub record ItemsFound (t : List ℕ) (k : Bracket) (ks : List Bracket) : Type 0 where
@@ -54,8 +54,8 @@ pub record ItemsFound (t : List ℕ) (k : Bracket) (ks : List Bracket) : Type 0 
   pub is : t ≡ items_text items ++ closing k ∷ rest
   pub shorter : length rest < length t
   pub tokens : List Token
-  pub place : ℕ
-  pub ends : Ends (scan ks tokens After) place rest
+  pub offset : ℕ
+  pub ends : Ends (scan ks tokens After) offset rest
 
 -- spaces and a closing bracket
 pub record EmptyFound (t : List ℕ) (k : Bracket) (ks : List Bracket) : Type 0 where
@@ -64,8 +64,8 @@ pub record EmptyFound (t : List ℕ) (k : Bracket) (ks : List Bracket) : Type 0 
   pub is : t ≡ spaces blanks ++ closing k ∷ rest
   pub shorter : length rest < length t
   pub tokens : List Token
-  pub place : ℕ
-  pub ends : Ends (scan ks tokens After) place rest
+  pub offset : ℕ
+  pub ends : Ends (scan ks tokens After) offset rest
 
 -- spaces, a comma and items with their closing bracket
 pub record MoreFound (t : List ℕ) (k : Bracket) (ks : List Bracket) : Type 0 where
@@ -76,8 +76,8 @@ pub record MoreFound (t : List ℕ) (k : Bracket) (ks : List Bracket) : Type 0 w
   pub is : t ≡ spaces blanks ++ 44 ∷ (items_text items ++ closing k ∷ rest)
   pub shorter : length rest < length t
   pub tokens : List Token
-  pub place : ℕ
-  pub ends : Ends (scan ks tokens After) place rest
+  pub offset : ℕ
+  pub ends : Ends (scan ks tokens After) offset rest
 
 -- ---- digits
 
@@ -90,8 +90,8 @@ pub record DigitsFound (t : List ℕ) (n : ℕ) (ks : List Bracket) : Type 0 whe
   pub is : t ≡ more ++ rest
   pub shorter : length rest ≤ length t
   pub tokens : List Token
-  pub place : ℕ
-  pub ends : Ends (scan ks tokens After) place rest
+  pub offset : ℕ
+  pub ends : Ends (scan ks tokens After) offset rest
 
 ended_digits : (ks : List Bracket) (ts us : List Token) (at n v : ℕ) → ended (scan ks ts (Digits at n v)) ≡ Some us → ended (scan ks (ts ++ Number at v ∷ []) After) ≡ Some us
 ended_digits [] ts us at n v h = h
@@ -106,7 +106,7 @@ find_digits [] ks ts at n v p most h = record {
   is = refl;
   shorter = omega arith;
   tokens = ts ++ Number at v ∷ [];
-  place = p;
+  offset = p;
   ends = (h.0, ended_digits ks ts h.0 at n v h.1);
 }
 find_digits (b ∷ bs) ks ts at n v p most h = by_class (λ w le ends. find_digits bs ks ts at (n + 1) w (p + 1) le ends) (class_of b) refl
@@ -123,7 +123,7 @@ find_digits (b ∷ bs) ks ts at n v p most h = by_class (λ w le ends. find_digi
       is = refl;
       shorter = omega arith;
       tokens = ts ++ Number at v ∷ [];
-      place = p;
+      offset = p;
       ends = ends;
     }
 
@@ -143,7 +143,7 @@ find_digits (b ∷ bs) ks ts at n v p most h = by_class (λ w le ends. find_digi
           is = ap (λ t. b ∷ t) found.is;
           shorter = omega (arith, found.shorter);
           tokens = found.tokens;
-          place = found.place;
+          offset = found.offset;
           ends = found.ends;
         }
     digit later d e false less = no_end (p + 1) bs (subst (λ t. EndsFrom (if t then (Some (scan ks ts (Digits at (n + 1) (v * 16 + d)))) else None) (p + 1) bs) less (after (Digit d) e))
@@ -194,7 +194,7 @@ find_number (x ∷ t) ks ts at p h = by_class (class_of x) refl
               is = ap (λ y. 48 ∷ y ∷ t) is ∙ ap (λ u. 48 ∷ 120 ∷ u) (e ∙ ap (λ u. d ∷ u) found.is);
               shorter = omega (arith, found.shorter, ap length e);
               tokens = found.tokens;
-              place = found.place;
+              offset = found.offset;
               ends = found.ends;
             }
         first_digit Space f = none Space f refl
@@ -270,7 +270,7 @@ item_closed t k ks v e = record {
   is = v.is ∙ ap (λ u. form_text v.form ++ u) e.is ∙ sym (append_assoc (form_text v.form) (spaces e.blanks) (closing k ∷ e.rest));
   shorter = omega (arith, v.shorter, e.shorter);
   tokens = e.tokens;
-  place = e.place;
+  offset = e.offset;
   ends = e.ends;
 }
 
@@ -285,7 +285,7 @@ item_more t k ks v m = record {
       ∙ sym (append_assoc (form_text v.form) (spaces m.blanks ++ 44 ∷ items_text m.items) (closing k ∷ m.rest));
   shorter = omega (arith, v.shorter, m.shorter);
   tokens = m.tokens;
-  place = m.place;
+  offset = m.offset;
   ends = m.ends;
 }
 
@@ -302,7 +302,7 @@ items_spaced b t k ks e i = record {
   is = ap (λ c. c ∷ t) e ∙ ap (λ u. 32 ∷ u) i.is ∙ ap (λ u. u ++ closing k ∷ i.rest) (sym (items_text-spaced i.items));
   shorter = omega (arith, i.shorter);
   tokens = i.tokens;
-  place = i.place;
+  offset = i.offset;
   ends = i.ends;
 }
 
@@ -313,7 +313,7 @@ empty_spaced b t k ks e i = record {
   is = ap (λ c. c ∷ t) e ∙ ap (λ u. 32 ∷ u) i.is;
   shorter = omega (arith, i.shorter);
   tokens = i.tokens;
-  place = i.place;
+  offset = i.offset;
   ends = i.ends;
 }
 
@@ -326,7 +326,7 @@ more_spaced b t k ks e i = record {
   is = ap (λ c. c ∷ t) e ∙ ap (λ u. 32 ∷ u) i.is;
   shorter = omega (arith, i.shorter);
   tokens = i.tokens;
-  place = i.place;
+  offset = i.offset;
   ends = i.ends;
 }
 
@@ -337,7 +337,7 @@ empty_closed x t k ks p c = record {
   is = ap (λ y. y ∷ t) c.is;
   shorter = omega arith;
   tokens = c.tokens;
-  place = p;
+  offset = p;
   ends = c.ends;
 }
 
@@ -350,7 +350,7 @@ more_comma x t k ks e i = record {
   is = ap (λ y. y ∷ t) e ∙ ap (λ u. 44 ∷ u) i.is;
   shorter = omega (arith, i.shorter);
   tokens = i.tokens;
-  place = i.place;
+  offset = i.offset;
   ends = i.ends;
 }
 
@@ -362,7 +362,7 @@ group_found x t k ks e (inl i) = record {
   is = ap (λ y. y ∷ t) e ∙ ap (λ u. opening k ∷ u) (i.is ∙ sym (append_assoc (spaces i.blanks) (closing k ∷ []) i.rest));
   shorter = omega (arith, i.shorter);
   tokens = i.tokens;
-  place = i.place;
+  offset = i.offset;
   ends = i.ends;
 }
 group_found x t k ks e (inr i) = record {
@@ -372,7 +372,7 @@ group_found x t k ks e (inr i) = record {
   is = ap (λ y. y ∷ t) e ∙ ap (λ u. opening k ∷ u) (i.is ∙ sym (append_assoc (items_text i.items) (closing k ∷ []) i.rest));
   shorter = omega (arith, i.shorter);
   tokens = i.tokens;
-  place = i.place;
+  offset = i.offset;
   ends = i.ends;
 }
 
@@ -429,7 +429,7 @@ mutual
   find_item zero b t k ks ts p fuel c e h = absurd (omega arith)
   find_item (suc n) b t k ks ts p fuel c e h =
       let v = find_value n b t (k ∷ ks) ts p (omega arith) c e h in
-      item_found (b ∷ t) k ks v (find_follow n v.rest k ks v.tokens v.place (omega (arith, v.shorter)) v.ends)
+      item_found (b ∷ t) k ks v (find_follow n v.rest k ks v.tokens v.offset (omega (arith, v.shorter)) v.ends)
 
   find_next : (n : ℕ) (t : List ℕ) (k : Bracket) (ks : List Bracket) (ts : List Token) (p : ℕ) → length t + length t + length t + length t ≤ n
       → Ends (scan (k ∷ ks) ts Next) p t → ItemsFound t k ks
@@ -478,4 +478,4 @@ pub found : (t : List ℕ) → Ends read.started 0 t → (f : Form) × IsTrue (i
 found [] h = absurd (cc h.1)
 found (b ∷ t) h =
     let v = find_value (length t + length t + length t + length t + 1) b t [] [] 0 (omega arith) (class_of b) refl h in
-    (v.form, v.formed, sym (append-nil (form_text v.form)) ∙ ap (λ u. form_text v.form ++ u) (sym (ends_alone v.rest v.tokens v.place v.ends)) ∙ sym v.is)
+    (v.form, v.formed, sym (append-nil (form_text v.form)) ∙ ap (λ u. form_text v.form ++ u) (sym (ends_alone v.rest v.tokens v.offset v.ends)) ∙ sym v.is)

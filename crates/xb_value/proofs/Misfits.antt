@@ -12,7 +12,7 @@ use Rattle.xb_value.specs.declared.ty.Ty as ty
 use Rattle.xb_value.specs.declared.ty.Ty.TheOpen.{Ty-F}
 use Rattle.xb_value.specs.declared.value.Value.{Value, Bits, Tuple, Array}
 use Rattle.xb_value.specs.Form.{Form, Items, number, empty, group, last, next, form_text, form_tokens, items_tokens}
-use Rattle.xb_value.specs.Misfit.{Part, Parts, placed_items, inside, number_fits, brackets_fit, each_part, all_parts, with_parts, parts_step, parts_of, first_misfit}
+use Rattle.xb_value.specs.Misfit.{Part, Parts, positioned_items, inside, number_fits, brackets_fit, each_part, all_parts, with_parts, parts_step, parts_of, first_misfit}
 use Rattle.xb_value.specs.Inner.Reading.{Answer, ListAnswer, Reader, parts_at, more_than, and_more, read_each, read_times, bracketed, read_bits, read_tuple, read_array, read_step, read_as}
 use Rattle.xb_value.specs.Typing.{is_word_of}
 use Rattle.xb_value.proofs.Lemmas.Types as types
@@ -20,9 +20,9 @@ use Rattle.xb_value.proofs.Lemmas.Types.{EachHas, ty_induction}
 
 -- ---- how many items stand before a closing bracket
 
-count_placed : (is : Items) (at b : ℕ) → length (placed_items at is) ≡ length (placed_items b is)
-count_placed (last k f m) at b = refl
-count_placed (next k f m is) at b = ap suc (count_placed is (at + k + length (form_text f) + m + 1) (b + k + length (form_text f) + m + 1))
+count_positioned : (is : Items) (at b : ℕ) → length (positioned_items at is) ≡ length (positioned_items b is)
+count_positioned (last k f m) at b = refl
+count_positioned (next k f m is) at b = ap suc (count_positioned is (at + k + length (form_text f) + m + 1) (b + k + length (form_text f) + m + 1))
 
 mutual
   parts_deep : (d at : ℕ) (f : Form) (us : List Token) → parts_at (suc d) (form_tokens at f ++ us) ≡ parts_at (suc d) us
@@ -43,7 +43,7 @@ parts_one at (empty b k) us = refl
 parts_one at (group b is) us =
     ap (λ x. suc (parts_at 1 x)) (append_assoc (items_tokens (at + 1) is) (Close ∷ []) us) ∙ ap suc (items_deep 0 (at + 1) is (Close ∷ us))
 
-parts_items : (at : ℕ) (is : Items) (us : List Token) → parts_at 0 (items_tokens at is ++ Close ∷ us) ≡ length (placed_items at is)
+parts_items : (at : ℕ) (is : Items) (us : List Token) → parts_at 0 (items_tokens at is ++ Close ∷ us) ≡ length (positioned_items at is)
 parts_items at (last k f m) us = parts_one (at + k) f (Close ∷ us)
 parts_items at (next k f m is) us =
     ap (parts_at 0) (append_assoc (form_tokens (at + k) f) (items_tokens (at + k + length (form_text f) + m + 1) is) (Close ∷ us))
@@ -81,8 +81,8 @@ tells_more us vs None None a later h k =
 tells_more us vs None (Some q) a later h k = ap (and_more later) h.1 ∙ ap (more_than h.0) k
 tells_more us vs (Some q) p a later h k = ap (and_more later) h
 
-each_tells : (at : ℕ) (is : Items) (ps : List Ty) (us : List Token) → EachHas ReadsForms ps → length (placed_items at is) ≡ length ps
-    → TellsAll us (first_misfit (each_part (map parts_of ps) (placed_items at is))) (read_each (map read_as ps) (items_tokens at is ++ us))
+each_tells : (at : ℕ) (is : Items) (ps : List Ty) (us : List Token) → EachHas ReadsForms ps → length (positioned_items at is) ≡ length ps
+    → TellsAll us (first_misfit (each_part (map parts_of ps) (positioned_items at is))) (read_each (map read_as ps) (items_tokens at is ++ us))
 each_tells at (last k f m) [] us each e = absurd (omega arith)
 each_tells at (last k f m) (t ∷ []) us each e =
     subst (λ o. TellsAll us o (read_each (map read_as (t ∷ [])) (form_tokens (at + k) f ++ us)))
@@ -91,30 +91,30 @@ each_tells at (last k f m) (t ∷ []) us each e =
 each_tells at (last k f m) (t ∷ u ∷ ps) us each e = absurd (omega arith)
 each_tells at (next k f m is) [] us each e = absurd (omega arith)
 each_tells at (next k f m is) (t ∷ ps) us each e =
-    let place = at + k + length (form_text f) + m + 1 in
-    let rest = items_tokens place is ++ us in
-    let later = each_tells place is ps us each.1 (omega arith) in
-    subst (λ o. TellsAll us o (read_each (map read_as (t ∷ ps)) ((form_tokens (at + k) f ++ items_tokens place is) ++ us)))
-    (sym (first_misfit-append (parts_of t (at + k) f) (each_part (map parts_of ps) (placed_items place is))))
-    (subst (λ ts. TellsAll us (or_else (first_misfit (parts_of t (at + k) f)) (first_misfit (each_part (map parts_of ps) (placed_items place is)))) (read_each (map read_as (t ∷ ps)) ts))
-    (sym (append_assoc (form_tokens (at + k) f) (items_tokens place is) us))
+    let offset = at + k + length (form_text f) + m + 1 in
+    let rest = items_tokens offset is ++ us in
+    let later = each_tells offset is ps us each.1 (omega arith) in
+    subst (λ o. TellsAll us o (read_each (map read_as (t ∷ ps)) ((form_tokens (at + k) f ++ items_tokens offset is) ++ us)))
+    (sym (first_misfit-append (parts_of t (at + k) f) (each_part (map parts_of ps) (positioned_items offset is))))
+    (subst (λ ts. TellsAll us (or_else (first_misfit (parts_of t (at + k) f)) (first_misfit (each_part (map parts_of ps) (positioned_items offset is)))) (read_each (map read_as (t ∷ ps)) ts))
+    (sym (append_assoc (form_tokens (at + k) f) (items_tokens offset is) us))
     (tells_more us rest (first_misfit (parts_of t (at + k) f)) _ (read_as t (form_tokens (at + k) f ++ rest)) (read_each (map read_as ps)) (each.0 (at + k) f rest) later))
 
 times_tells : (at : ℕ) (is : Items) (t : Ty) (us : List Token) → ReadsForms t
-    → TellsAll us (first_misfit (all_parts (parts_of t) (placed_items at is))) (read_times (length (placed_items at is)) (read_as t) (items_tokens at is ++ us))
+    → TellsAll us (first_misfit (all_parts (parts_of t) (positioned_items at is))) (read_times (length (positioned_items at is)) (read_as t) (items_tokens at is ++ us))
 times_tells at (last k f m) t us reads =
     subst (λ o. TellsAll us o (read_times 1 (read_as t) (form_tokens (at + k) f ++ us)))
     (sym (first_misfit-append (parts_of t (at + k) f) []))
     (tells_more us us (first_misfit (parts_of t (at + k) f)) None (read_as t (form_tokens (at + k) f ++ us)) (read_times 0 (read_as t)) (reads (at + k) f us) ([], refl))
 times_tells at (next k f m is) t us reads =
-    let place = at + k + length (form_text f) + m + 1 in
-    let rest = items_tokens place is ++ us in
-    let n = length (placed_items place is) in
-    let later = times_tells place is t us reads in
-    subst (λ o. TellsAll us o (read_times (suc n) (read_as t) ((form_tokens (at + k) f ++ items_tokens place is) ++ us)))
-    (sym (first_misfit-append (parts_of t (at + k) f) (all_parts (parts_of t) (placed_items place is))))
-    (subst (λ ts. TellsAll us (or_else (first_misfit (parts_of t (at + k) f)) (first_misfit (all_parts (parts_of t) (placed_items place is)))) (read_times (suc n) (read_as t) ts))
-    (sym (append_assoc (form_tokens (at + k) f) (items_tokens place is) us))
+    let offset = at + k + length (form_text f) + m + 1 in
+    let rest = items_tokens offset is ++ us in
+    let n = length (positioned_items offset is) in
+    let later = times_tells offset is t us reads in
+    subst (λ o. TellsAll us o (read_times (suc n) (read_as t) ((form_tokens (at + k) f ++ items_tokens offset is) ++ us)))
+    (sym (first_misfit-append (parts_of t (at + k) f) (all_parts (parts_of t) (positioned_items offset is))))
+    (subst (λ ts. TellsAll us (or_else (first_misfit (parts_of t (at + k) f)) (first_misfit (all_parts (parts_of t) (positioned_items offset is)))) (read_times (suc n) (read_as t) ts))
+    (sym (append_assoc (form_tokens (at + k) f) (items_tokens offset is) us))
     (tells_more us rest (first_misfit (parts_of t (at + k) f)) _ (read_as t (form_tokens (at + k) f ++ rest)) (read_times n (read_as t)) (reads (at + k) f rest) later))
 
 -- the values in brackets
@@ -159,13 +159,13 @@ tuple_tell ps each at (empty Round k) us =
     subst (λ (qs : List Ty). Tells us (first_misfit (each_part (map parts_of qs) [])) (bracketed at Tuple (read_each (map read_as qs) (Close ∷ us)))) (sym none) (Tuple [], refl)))
 tuple_tell ps each at (group Square is) us = refl
 tuple_tell ps each at (group Round is) us =
-    let inner = each_part (map parts_of ps) (placed_items (at + 1) is) in
+    let inner = each_part (map parts_of ps) (positioned_items (at + 1) is) in
     let tokens = items_tokens (at + 1) is ++ Close ∷ us in
-    let found : parts_at 0 tokens ≡ length (placed_items 0 is) = parts_items (at + 1) is us ∙ count_placed is (at + 1) 0 in
+    let found : parts_at 0 tokens ≡ length (positioned_items 0 is) = parts_items (at + 1) is us ∙ count_positioned is (at + 1) 0 in
     let counts = length-map ps read_as ∙ sym (length-map ps parts_of) in
-    subst (λ ts. Tells us (first_misfit (with_parts (length (placed_items 0 is) == length (map parts_of ps)) at inner)) (read_tuple (map read_as ps) (Open at Round ∷ ts)))
+    subst (λ ts. Tells us (first_misfit (with_parts (length (positioned_items 0 is) == length (map parts_of ps)) at inner)) (read_tuple (map read_as ps) (Open at Round ∷ ts)))
     (sym (append_assoc (items_tokens (at + 1) is) (Close ∷ []) us))
-    (subst (λ n. Tells us (first_misfit (with_parts (length (placed_items 0 is) == n) at inner)) (read_tuple (map read_as ps) (Open at Round ∷ tokens))) counts
+    (subst (λ n. Tells us (first_misfit (with_parts (length (positioned_items 0 is) == n) at inner)) (read_tuple (map read_as ps) (Open at Round ∷ tokens))) counts
     (subst (λ n. Tells us (first_misfit (with_parts (n == length (map read_as ps)) at inner)) (read_tuple (map read_as ps) (Open at Round ∷ tokens))) found
     (counted us at (parts_at 0 tokens) (length (map read_as ps)) inner (bracketed at Tuple (read_each (map read_as ps) tokens))
     (λ e. tells_bracketed us at (first_misfit inner) Tuple (read_each (map read_as ps) tokens)
@@ -179,11 +179,11 @@ array_tell t n reads at (empty Square k) us =
     counted us at 0 n [] (bracketed at Array (read_times 0 (read_as t) (Close ∷ us))) (λ e. (Array [], refl))
 array_tell t n reads at (group Round is) us = refl
 array_tell t n reads at (group Square is) us =
-    let inner = all_parts (parts_of t) (placed_items (at + 1) is) in
+    let inner = all_parts (parts_of t) (positioned_items (at + 1) is) in
     let tokens = items_tokens (at + 1) is ++ Close ∷ us in
     let here = parts_items (at + 1) is us in
-    let found : parts_at 0 tokens ≡ length (placed_items 0 is) = here ∙ count_placed is (at + 1) 0 in
-    subst (λ ts. Tells us (first_misfit (with_parts (length (placed_items 0 is) == n) at inner)) (read_array (read_as t) n (Open at Square ∷ ts)))
+    let found : parts_at 0 tokens ≡ length (positioned_items 0 is) = here ∙ count_positioned is (at + 1) 0 in
+    subst (λ ts. Tells us (first_misfit (with_parts (length (positioned_items 0 is) == n) at inner)) (read_array (read_as t) n (Open at Square ∷ ts)))
     (sym (append_assoc (items_tokens (at + 1) is) (Close ∷ []) us))
     (subst (λ k. Tells us (first_misfit (with_parts (k == n) at inner)) (read_array (read_as t) n (Open at Square ∷ tokens))) found
     (counted us at (parts_at 0 tokens) n inner (bracketed at Array (read_times (parts_at 0 tokens) (read_as t) tokens))

@@ -49,7 +49,7 @@ said_each (t ∷ ps) (v ∷ vs) each pass ts us h =
     let both = both_true (fits t v) (each_passes (map fits ps) vs) pass in
     let parts = parted ts (shape_of v) (all_of (map shape_of vs)) h in
     said_more (read_as t) (read_each (map read_as ps)) v vs ts parts.front parts.back us parts.is
-    (λ xs. each.0 v both.0 parts.front xs parts.front_is)
+    (λ xs. each.0 v both.0 parts.front xs parts.prefix_is)
     (said_each ps vs each.1 both.1 parts.back us parts.back_is)
 
 said_times : (t : Ty) (vs : List Value) → ReadsSaid t → IsTrue (list_all (fits t) vs) → (ts us : List Token) → map unplaced ts ≡ all_of (map shape_of vs)
@@ -60,7 +60,7 @@ said_times t (v ∷ vs) said pass ts us h =
     let both = both_true (fits t v) (list_all (fits t) vs) pass in
     let parts = parted ts (shape_of v) (all_of (map shape_of vs)) h in
     said_more (read_as t) (read_times (length vs) (read_as t)) v vs ts parts.front parts.back us parts.is
-    (λ xs. said v both.0 parts.front xs parts.front_is)
+    (λ xs. said v both.0 parts.front xs parts.prefix_is)
     (said_times t vs said both.1 parts.back us parts.back_is)
 
 same_length : (ps : List Ty) (vs : List Value) → IsTrue (each_passes (map fits ps) vs) → length vs ≡ length (map read_as ps)

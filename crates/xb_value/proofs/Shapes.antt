@@ -16,11 +16,11 @@ pub record Parted (ts xs bs : List Token) : Type 0 where
   pub front : List Token
   pub back : List Token
   pub is : ts ≡ front ++ back
-  pub front_is : map unplaced front ≡ xs
+  pub prefix_is : map unplaced front ≡ xs
   pub back_is : map unplaced back ≡ bs
 
 pub parted : (ts xs bs : List Token) → map unplaced ts ≡ xs ++ bs → Parted ts xs bs
-parted ts [] bs h = record { front = []; back = ts; is = refl; front_is = refl; back_is = h }
+parted ts [] bs h = record { front = []; back = ts; is = refl; prefix_is = refl; back_is = h }
 parted [] (a ∷ xs) bs h = absurd (cc)
 parted (t ∷ ts) (a ∷ xs) bs h =
     let same : map unplaced ts ≡ xs ++ bs = (cc) in
@@ -30,7 +30,7 @@ parted (t ∷ ts) (a ∷ xs) bs h =
       front = t ∷ later.front;
       back = later.back;
       is = ap (λ us. t ∷ us) later.is;
-      front_is = ap₂ (λ x ys. x ∷ ys) first later.front_is;
+      prefix_is = ap₂ (λ x ys. x ∷ ys) first later.prefix_is;
       back_is = later.back_is;
     }
 
@@ -70,7 +70,7 @@ group_of (Open at k ∷ ts) b xs h =
       at = at;
       inner = parts.front;
       is = ap₂ (λ j us. Open at j ∷ us) same (parts.is ∙ ap (λ us. parts.front ++ us) (alone_close parts.back parts.back_is));
-      inside = parts.front_is;
+      inside = parts.prefix_is;
     }
 
 -- ---- how many values
@@ -88,7 +88,7 @@ counts_all [] each [] h = record { here = λ us. omega arith; deeper = λ d us. 
 counts_all [] each (t ∷ ts) h = absurd (cc)
 counts_all (v ∷ vs) each ts h =
     let parts = parted ts (shape_of v) (all_of (map shape_of vs)) h in
-    let one = each.0 parts.front parts.front_is in
+    let one = each.0 parts.front parts.prefix_is in
     let later = counts_all vs each.1 parts.back parts.back_is in
     record {
       here = λ us.

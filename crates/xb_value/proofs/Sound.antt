@@ -15,8 +15,8 @@ use Rattle.xb_value.specs.Inner.ScannerState.{FitsDigits, IsSmall}
 -- one more digit
 more_below : (n v d : ℕ) → v < 2 ^ (4 * n) → d < 16 → v * 16 + d < 2 ^ (4 * (n + 1))
 more_below n v d h small =
-    let place : 4 * (n + 1) ≡ 4 * n + 4 = omega arith in
-    subst (λ k. v * 16 + d < k) (sym (ap (λ k. 2 ^ k) place ∙ pow-add 2 (4 * n) 4)) (omega arith)
+    let offset : 4 * (n + 1) ≡ 4 * n + 4 = omega arith in
+    subst (λ k. v * 16 + d < k) (sym (ap (λ k. 2 ^ k) offset ∙ pow-add 2 (4 * n) 4)) (omega arith)
 
 -- up to 32 digits fit 128 bits
 pub digits_fit : (v n d : ℕ) → v < 2 ^ (4 * n) → n < 32 → d < 16 → v * 16 + d < 2 ^ 128

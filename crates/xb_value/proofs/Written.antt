@@ -99,9 +99,9 @@ items_written k v (u ∷ us) one each =
     let later = items_written 1 u us each.0 each.1 in (
       and_true _ _ one.formed later.0,
       λ at.
-          let place = at + k + length (form_text (form_of v)) + 0 + 1 in
-          map-append unplaced (form_tokens (at + k) (form_of v)) (items_tokens place (itemized 1 (form_of u) (map form_of us)))
-          ∙ ap₂ (λ xs ys. xs ++ ys) (one.says (at + k)) (later.1 place),
+          let offset = at + k + length (form_text (form_of v)) + 0 + 1 in
+          map-append unplaced (form_tokens (at + k) (form_of v)) (items_tokens offset (itemized 1 (form_of u) (map form_of us)))
+          ∙ ap₂ (λ xs ys. xs ++ ys) (one.says (at + k)) (later.1 offset),
     )
 
 group_written : (b : Bracket) (vs : List Value) → EachHas IsWellWritten vs

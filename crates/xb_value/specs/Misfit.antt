@@ -16,14 +16,14 @@ use Rattle.xb_value.specs.Typing.{is_word_of}
 -- ---- the items in brackets
 
 -- items with the places of their first bytes, where what stands before the first item's spaces ends at `at`
-abbrev pub placed_items : ℕ → Items → List (ℕ × Form)
-placed_items at (last k f m) = (at + k, f) ∷ []
-placed_items at (next k f m is) = (at + k, f) ∷ placed_items (at + k + length (form_text f) + m + 1) is
+abbrev pub positioned_items : ℕ → Items → List (ℕ × Form)
+positioned_items at (last k f m) = (at + k, f) ∷ []
+positioned_items at (next k f m is) = (at + k, f) ∷ positioned_items (at + k + length (form_text f) + m + 1) is
 
 abbrev pub inside : ℕ → Form → List (ℕ × Form)
 inside at (number ds) = []
 inside at (empty b k) = []
-inside at (group b is) = placed_items (at + 1) is
+inside at (group b is) = positioned_items (at + 1) is
 
 abbrev pub is_bracket : Bracket → Bracket → Bool
 is_bracket Round Round = true
@@ -42,7 +42,7 @@ number_fits w (group b is) = false
 abbrev pub brackets_fit : Bracket → ℕ → Form → Bool
 brackets_fit b n (number ds) = false
 brackets_fit b n (empty c k) = is_bracket b c && (0 == n)
-brackets_fit b n (group c is) = is_bracket b c && (length (placed_items 0 is) == n)
+brackets_fit b n (group c is) = is_bracket b c && (length (positioned_items 0 is) == n)
 
 -- ---- the parts of a text
 

@@ -5,11 +5,11 @@ use Rattle.std.proofs.lemmas.List.{append-nil}
 use Rattle.xb_io.specs.Contents.{Contents}
 use Rattle.xls_cmd.specs.Shared.Answered.{Answers, wrote, refused, no_memory, unread, unwritten}
 use Rattle.xls_cmd.specs.declared.shared.refusal.Refusal.{Refusal}
-use Rattle.xls_cmd.specs.Shared.Done.{IsDone, GivesDue}
+use Rattle.xls_cmd.specs.Shared.Done.{IsDone, GivesExpected}
 use Rattle.xls_cmd.specs.Shared.Events.{FileEvents, SinkEvents}
 use Rattle.xls_cmd.specs.Shared.Fault.{Fault}
-use Rattle.xls_cmd.specs.Shared.Step.{IsOne, DueBy}
-use Rattle.cmd_line.specs.CommandLine.{said_by}
+use Rattle.xls_cmd.specs.Shared.Step.{IsOne, ExpectedBy}
+use Rattle.cmd_line.specs.CommandLine.{arguments_of}
 use Rattle.cmd_line.specs.declared.request.Request.{Request}
 use Rattle.cmd_line.specs.declared.request.Request.TheVariants.{Check, Run, Sim, Schedule, Opt}
 use Rattle.cmd_line.specs.declared.request.Source.{Source}
@@ -25,50 +25,50 @@ use Rattle.cmd_line.specs.declared.request.Run.{Run as SaidRun}
 use Rattle.cmd_line.specs.declared.request.Schedule.{Schedule as SaidSchedule}
 use Rattle.cmd_line.specs.declared.request.Opt.{Opt as SaidOpt}
 use Rattle.cmd_line.specs.declared.request.Sim.{Sim as SaidSim}
-use Rattle.xls_cmd.specs.Answer.{by_workers, due, due_for, due_of, due_of_opt, due_of_opt_by, due_of_run, due_of_schedule, due_of_schedule_by, files_of, files_of_opt, files_of_opt_by, files_of_schedule, files_of_schedule_by, is_exact, is_exact_by, is_exact_for, named_files, named_for, run_by, status_for}
+use Rattle.xls_cmd.specs.Answer.{by_workers, expected, expected_for, expected_of, expected_of_opt, expected_of_opt_by, expected_of_run, expected_of_schedule, expected_of_schedule_by, files_of, files_of_opt, files_of_opt_by, files_of_schedule, files_of_schedule_by, is_exact, is_exact_by, is_exact_for, named_files, named_for, run_by, status_for}
 
 -- each command gives one thing
 pub record TheLaws : Type 0 where
-  pub check : (holds : Contents) (said : SaidCheck (List ℕ)) → IsOne (design.check holds said)
-  pub run : (holds : Contents) (said : SaidRun (List ℕ)) → IsOne (design.run holds said)
-  pub run_ir : (holds : Contents) (said : SaidRun (List ℕ)) → IsOne (ir.run holds said)
-  pub sim : (holds : Contents) (said : SaidSim (List ℕ)) → IsOne (simulation.sim holds said)
-  pub schedule_ir : (holds : Contents) (said : SaidSchedule (List ℕ)) → IsOne (schedules.schedule holds said)
-  pub opt_ir : (holds : Contents) (said : SaidOpt (List ℕ)) → Agrees (optimising.opt holds said)
+  pub check : (holds : Contents) (arguments : SaidCheck (List ℕ)) → IsOne (design.check holds arguments)
+  pub run : (holds : Contents) (arguments : SaidRun (List ℕ)) → IsOne (design.run holds arguments)
+  pub run_ir : (holds : Contents) (arguments : SaidRun (List ℕ)) → IsOne (ir.run holds arguments)
+  pub sim : (holds : Contents) (arguments : SaidSim (List ℕ)) → IsOne (simulation.sim holds arguments)
+  pub schedule_ir : (holds : Contents) (arguments : SaidSchedule (List ℕ)) → IsOne (schedules.schedule holds arguments)
+  pub opt_ir : (holds : Contents) (arguments : SaidOpt (List ℕ)) → Agrees (optimising.opt holds arguments)
 
-run_is_one : TheLaws → (source : Source) (said : SaidRun (List ℕ)) (holds : Contents) → IsOne (run_by source holds said)
-run_is_one laws Dslx said holds = laws.run holds said
-run_is_one laws Ir said holds = laws.run_ir holds said
+run_is_one : TheLaws → (source : Source) (arguments : SaidRun (List ℕ)) (holds : Contents) → IsOne (run_by source holds arguments)
+run_is_one laws Dslx arguments holds = laws.run holds arguments
+run_is_one laws Ir arguments holds = laws.run_ir holds arguments
 
 -- what a run gives is the same by any number of workers
-pub any_workers : (source : Source) (holds : Contents) (said : SaidRun (List ℕ)) (count : ℕ) (given : Result (List ℕ) Fault) →
-    (run_by source holds (by_workers count said) given → run_by source holds said given) × (run_by source holds said given → run_by source holds (by_workers count said) given)
-any_workers Dslx holds said count given = (λ is. is, λ is. is)
-any_workers Ir holds said count given = (λ is. is, λ is. is)
+pub any_workers : (source : Source) (holds : Contents) (arguments : SaidRun (List ℕ)) (count : ℕ) (given : Result (List ℕ) Fault) →
+    (run_by source holds (by_workers count arguments) given → run_by source holds arguments given) × (run_by source holds arguments given → run_by source holds (by_workers count arguments) given)
+any_workers Dslx holds arguments count given = (λ is. is, λ is. is)
+any_workers Ir holds arguments count given = (λ is. is, λ is. is)
 
-schedule_is_one : TheLaws → (source : Source) (said : SaidSchedule (List ℕ)) (holds : Contents) → IsOne (due_of_schedule_by source said (Some holds))
-schedule_is_one laws Dslx said holds a b is also = is ∙ sym also
-schedule_is_one laws Ir said holds a b is also = laws.schedule_ir holds said a b is.1 also.1
+schedule_is_one : TheLaws → (source : Source) (arguments : SaidSchedule (List ℕ)) (holds : Contents) → IsOne (expected_of_schedule_by source arguments (Some holds))
+schedule_is_one laws Dslx arguments holds a b is also = is ∙ sym also
+schedule_is_one laws Ir arguments holds a b is also = laws.schedule_ir holds arguments a b is.1 also.1
 
-opt_is_one : (source : Source) (said : SaidOpt (List ℕ)) (holds : Contents) → is_exact_by source ≡ true → IsOne (due_of_opt_by source said (Some holds))
-opt_is_one Dslx said holds exact a b is also = is ∙ sym also
-opt_is_one Ir said holds exact a b is also = absurd (cc)
+opt_is_one : (source : Source) (arguments : SaidOpt (List ℕ)) (holds : Contents) → is_exact_by source ≡ true → IsOne (expected_of_opt_by source arguments (Some holds))
+opt_is_one Dslx arguments holds exact a b is also = is ∙ sym also
+opt_is_one Ir arguments holds exact a b is also = absurd (cc)
 
-due_of_is_one : TheLaws → (said : Request (List ℕ)) (holds : Contents) → is_exact_for (Some said) ≡ true → IsOne (due_of said (Some holds))
-due_of_is_one laws (Check said) holds exact a b is also = laws.check holds said a b is.1 also.1
-due_of_is_one laws (Run said) holds exact a b is also = run_is_one laws said.how.source said holds a b is.1 also.1
-due_of_is_one laws (Sim said) holds exact a b is also = laws.sim holds said a b is.1 also.1
-due_of_is_one laws (Schedule said) holds exact a b is also = schedule_is_one laws said.source said holds a b is also
-due_of_is_one laws (Opt said) holds exact a b is also = opt_is_one said.source said holds exact a b is also
+expected_of_is_one : TheLaws → (arguments : Request (List ℕ)) (holds : Contents) → is_exact_for (Some arguments) ≡ true → IsOne (expected_of arguments (Some holds))
+expected_of_is_one laws (Check arguments) holds exact a b is also = laws.check holds arguments a b is.1 also.1
+expected_of_is_one laws (Run arguments) holds exact a b is also = run_is_one laws arguments.how.source arguments holds a b is.1 also.1
+expected_of_is_one laws (Sim arguments) holds exact a b is also = laws.sim holds arguments a b is.1 also.1
+expected_of_is_one laws (Schedule arguments) holds exact a b is also = schedule_is_one laws arguments.source arguments holds a b is also
+expected_of_is_one laws (Opt arguments) holds exact a b is also = opt_is_one arguments.source arguments holds exact a b is also
 
-due_for_is_one : TheLaws → (said : Option (Request (List ℕ))) (holds : Contents) → is_exact_for said ≡ true → IsOne (due_for said (Some holds))
-due_for_is_one laws None holds exact a b is also = is ∙ sym also
-due_for_is_one laws (Some said) holds exact a b is also = due_of_is_one laws said holds exact a b is also
+expected_for_is_one : TheLaws → (arguments : Option (Request (List ℕ))) (holds : Contents) → is_exact_for arguments ≡ true → IsOne (expected_for arguments (Some holds))
+expected_for_is_one laws None holds exact a b is also = is ∙ sym also
+expected_for_is_one laws (Some arguments) holds exact a b is also = expected_of_is_one laws arguments holds exact a b is also
 
-pub due_is_one : TheLaws → (words : List (List ℕ)) (holds : Contents) → is_exact words ≡ true → IsOne (due words (Some holds))
-due_is_one laws words holds exact = due_for_is_one laws (said_by words) holds exact
+pub expected_is_one : TheLaws → (words : List (List ℕ)) (holds : Contents) → is_exact words ≡ true → IsOne (expected words (Some holds))
+expected_is_one laws words holds exact = expected_for_is_one laws (arguments_of words) holds exact
 
--- ---- what is due agrees
+-- ---- what is expected agrees
 
 alike_here : (a : Result (List ℕ) Fault) → AreAlike a a
 alike_here (Ok text) = tt
@@ -77,20 +77,20 @@ alike_here (Err fault) = refl
 one_agrees : (step : Result (List ℕ) Fault → Type 0) → IsOne step → Agrees step
 one_agrees step one a b is also = subst (AreAlike a) (one a b is also) (alike_here a)
 
-opt_agrees : TheLaws → (source : Source) (said : SaidOpt (List ℕ)) (holds : Contents) → Agrees (due_of_opt_by source said (Some holds))
-opt_agrees laws Dslx said holds a b is also = one_agrees (due_of_opt_by Dslx said (Some holds)) (λ a b is also. is ∙ sym also) a b is also
-opt_agrees laws Ir said holds a b is also = laws.opt_ir holds said a b is.1 also.1
+opt_agrees : TheLaws → (source : Source) (arguments : SaidOpt (List ℕ)) (holds : Contents) → Agrees (expected_of_opt_by source arguments (Some holds))
+opt_agrees laws Dslx arguments holds a b is also = one_agrees (expected_of_opt_by Dslx arguments (Some holds)) (λ a b is also. is ∙ sym also) a b is also
+opt_agrees laws Ir arguments holds a b is also = laws.opt_ir holds arguments a b is.1 also.1
 
-due_for_agrees : TheLaws → (said : Option (Request (List ℕ))) (holds : Contents) → Agrees (due_for said (Some holds))
-due_for_agrees laws None holds = one_agrees (due_for None (Some holds)) (due_for_is_one laws None holds refl)
-due_for_agrees laws (Some (Check said)) holds = one_agrees (due_of (Check said) (Some holds)) (due_of_is_one laws (Check said) holds refl)
-due_for_agrees laws (Some (Run said)) holds = one_agrees (due_of (Run said) (Some holds)) (due_of_is_one laws (Run said) holds refl)
-due_for_agrees laws (Some (Sim said)) holds = one_agrees (due_of (Sim said) (Some holds)) (due_of_is_one laws (Sim said) holds refl)
-due_for_agrees laws (Some (Schedule said)) holds = one_agrees (due_of (Schedule said) (Some holds)) (due_of_is_one laws (Schedule said) holds refl)
-due_for_agrees laws (Some (Opt said)) holds = opt_agrees laws said.source said holds
+expected_for_agrees : TheLaws → (arguments : Option (Request (List ℕ))) (holds : Contents) → Agrees (expected_for arguments (Some holds))
+expected_for_agrees laws None holds = one_agrees (expected_for None (Some holds)) (expected_for_is_one laws None holds refl)
+expected_for_agrees laws (Some (Check arguments)) holds = one_agrees (expected_of (Check arguments) (Some holds)) (expected_of_is_one laws (Check arguments) holds refl)
+expected_for_agrees laws (Some (Run arguments)) holds = one_agrees (expected_of (Run arguments) (Some holds)) (expected_of_is_one laws (Run arguments) holds refl)
+expected_for_agrees laws (Some (Sim arguments)) holds = one_agrees (expected_of (Sim arguments) (Some holds)) (expected_of_is_one laws (Sim arguments) holds refl)
+expected_for_agrees laws (Some (Schedule arguments)) holds = one_agrees (expected_of (Schedule arguments) (Some holds)) (expected_of_is_one laws (Schedule arguments) holds refl)
+expected_for_agrees laws (Some (Opt arguments)) holds = opt_agrees laws arguments.source arguments holds
 
-pub due_agrees : TheLaws → (words : List (List ℕ)) (holds : Contents) → Agrees (due words (Some holds))
-due_agrees laws words holds = due_for_agrees laws (said_by words) holds
+pub expected_agrees : TheLaws → (words : List (List ℕ)) (holds : Contents) → Agrees (expected words (Some holds))
+expected_agrees laws words holds = expected_for_agrees laws (arguments_of words) holds
 
 same_status : (a b : Result (List ℕ) Fault) → AreAlike a b → status_for a ≡ status_for b
 same_status (Ok a) (Ok b) h = refl
@@ -100,30 +100,30 @@ same_status (Err f) (Err g) h = ap (λ (r : Fault). status_for (Err r)) h
 
 -- ---- the command of the words
 
-module _ {V : Type 0} (items : V → List ℕ) (words : List (List ℕ)) (told : Option Contents) (files : FileEvents) (given : Result V Refusal) where
-  -- what the words' command did is what is due for the words
-  pub done_by_command : (said : Request (List ℕ)) → Some said ≡ said_by words → IsDone items (due_of said told) (files_of said) files given → IsDone items (due words told) (named_files words) files given
-  done_by_command said is done = subst (λ (s : Option (Request (List ℕ))). IsDone items (due_for s told) (named_for s) files given) is done
+module _ {V : Type 0} (items : V → List ℕ) (words : List (List ℕ)) (known_contents : Option Contents) (files : FileEvents) (given : Result V Refusal) where
+  -- what the words' command did is what is expected for the words
+  pub done_by_command : (arguments : Request (List ℕ)) → Some arguments ≡ arguments_of words → IsDone items (expected_of arguments known_contents) (files_of arguments) files given → IsDone items (expected words known_contents) (named_files words) files given
+  done_by_command arguments is done = subst (λ (s : Option (Request (List ℕ))). IsDone items (expected_for s known_contents) (named_for s) files given) is done
 
-  -- where they say nothing, the refusal is due
-  pub done_without_command : None ≡ said_by words → GivesDue items (due_for None told) files [] given → files.asks [] → IsDone items (due words told) (named_files words) files given
+  -- where they say nothing, the refusal is expected
+  pub done_without_command : None ≡ arguments_of words → GivesExpected items (expected_for None known_contents) files [] given → files.asks [] → IsDone items (expected words known_contents) (named_files words) files given
   done_without_command is gives asks =
-      let done : IsDone items (due_for None told) [] files given = record { names = []; in_order = tt; asked = asks; gives = gives } in
-      subst (λ (s : Option (Request (List ℕ))). IsDone items (due_for s told) (named_for s) files given) is done
+      let done : IsDone items (expected_for None known_contents) [] files given = record { names = []; in_order = tt; asked = asks; gives = gives } in
+      subst (λ (s : Option (Request (List ℕ))). IsDone items (expected_for s known_contents) (named_for s) files given) is done
 
   -- a run of what its file is written in
-  pub done_by_source : (source : Source) (said : SaidRun (List ℕ)) → said.how.source ≡ source → IsDone items (DueBy told (λ holds. run_by source holds said)) (design.run_files said) files given → IsDone items (due_of_run said told) (design.run_files said) files given
-  done_by_source source said is done = subst (λ s. IsDone items (DueBy told (λ holds. run_by s holds said)) (design.run_files said) files given) (sym is) done
+  pub done_by_source : (source : Source) (arguments : SaidRun (List ℕ)) → arguments.how.source ≡ source → IsDone items (ExpectedBy known_contents (λ holds. run_by source holds arguments)) (design.run_files arguments) files given → IsDone items (expected_of_run arguments known_contents) (design.run_files arguments) files given
+  done_by_source source arguments is done = subst (λ s. IsDone items (ExpectedBy known_contents (λ holds. run_by s holds arguments)) (design.run_files arguments) files given) (sym is) done
 
   -- a schedule of what it may be made of
-  pub schedule_by_source : (source : Source) (said : SaidSchedule (List ℕ)) → source ≡ said.source → IsDone items (due_of_schedule_by source said told) (files_of_schedule_by source said) files given →
-      IsDone items (due_of_schedule said told) (files_of_schedule said) files given
-  schedule_by_source source said is done = subst (λ (s : Source). IsDone items (due_of_schedule_by s said told) (files_of_schedule_by s said) files given) is done
+  pub schedule_by_source : (source : Source) (arguments : SaidSchedule (List ℕ)) → source ≡ arguments.source → IsDone items (expected_of_schedule_by source arguments known_contents) (files_of_schedule_by source arguments) files given →
+      IsDone items (expected_of_schedule arguments known_contents) (files_of_schedule arguments) files given
+  schedule_by_source source arguments is done = subst (λ (s : Source). IsDone items (expected_of_schedule_by s arguments known_contents) (files_of_schedule_by s arguments) files given) is done
 
   -- an optimised package of what it may be made of
-  pub opt_by_source : (source : Source) (said : SaidOpt (List ℕ)) → source ≡ said.source → IsDone items (due_of_opt_by source said told) (files_of_opt_by source said) files given →
-      IsDone items (due_of_opt said told) (files_of_opt said) files given
-  opt_by_source source said is done = subst (λ (s : Source). IsDone items (due_of_opt_by s said told) (files_of_opt_by s said) files given) is done
+  pub opt_by_source : (source : Source) (arguments : SaidOpt (List ℕ)) → source ≡ arguments.source → IsDone items (expected_of_opt_by source arguments known_contents) (files_of_opt_by source arguments) files given →
+      IsDone items (expected_of_opt arguments known_contents) (files_of_opt arguments) files given
+  opt_by_source source arguments is done = subst (λ (s : Source). IsDone items (expected_of_opt_by s arguments known_contents) (files_of_opt_by s arguments) files given) is done
 
 -- nothing was loaded
 pub nothing_asked : (names : List (List ℕ)) → names ≡ names ++ []
@@ -131,17 +131,17 @@ nothing_asked names = sym (append-nil names)
 
 -- ---- completeness
 
-complete_at : (due' : Result (List ℕ) Fault → Type 0) (files : FileEvents) (names : List (List ℕ)) (out err : SinkEvents) (status : ℕ) (faulted broken : Type 0) (given : Result (List ℕ) Fault) → Agrees due' → due' given →
-    (files.faulted → faulted) → ((bytes : List ℕ) → out.breaks_off bytes → broken) → Answers due' files names out err status → (faulted → ⊥) → (broken → ⊥) → (status ≡ status_for given) ⊎ (status ≡ 3)
-complete_at due' files names out err status faulted broken given one is risen breaks (wrote text due sound puts untouched) no_fault whole = inl (same_status (Ok text) given (one (Ok text) given due is))
-complete_at due' files names out err status faulted broken given one is risen breaks (refused fault due sound counted untouched shows) no_fault whole = inl (same_status (Err fault) given (one (Err fault) given due is))
-complete_at due' files names out err status faulted broken given one is risen breaks (no_memory sound untouched shows) no_fault whole = inr refl
-complete_at due' files names out err status faulted broken given one is risen breaks (unread name last faulted' untouched shows) no_fault whole = absurd (no_fault (risen faulted'))
-complete_at due' files names out err status faulted broken given one is risen breaks (unwritten text due sound broke shows) no_fault whole = absurd (whole (breaks text broke))
+complete_at : (expected' : Result (List ℕ) Fault → Type 0) (files : FileEvents) (names : List (List ℕ)) (out err : SinkEvents) (status : ℕ) (faulted broken : Type 0) (given : Result (List ℕ) Fault) → Agrees expected' → expected' given →
+    (files.faulted → faulted) → ((bytes : List ℕ) → out.breaks_off bytes → broken) → Answers expected' files names out err status → (faulted → ⊥) → (broken → ⊥) → (status ≡ status_for given) ⊎ (status ≡ 3)
+complete_at expected' files names out err status faulted broken given one is risen breaks (wrote text expected sound puts untouched) no_fault whole = inl (same_status (Ok text) given (one (Ok text) given expected is))
+complete_at expected' files names out err status faulted broken given one is risen breaks (refused fault expected sound counted untouched shows) no_fault whole = inl (same_status (Err fault) given (one (Err fault) given expected is))
+complete_at expected' files names out err status faulted broken given one is risen breaks (no_memory sound untouched shows) no_fault whole = inr refl
+complete_at expected' files names out err status faulted broken given one is risen breaks (unread name last faulted' untouched shows) no_fault whole = absurd (no_fault (risen faulted'))
+complete_at expected' files names out err status faulted broken given one is risen breaks (unwritten text expected sound broke shows) no_fault whole = absurd (whole (breaks text broke))
 
-pub completely : ((words : List (List ℕ)) (holds : Contents) → Agrees (due words (Some holds))) → (words : List (List ℕ)) (told : Option Contents) (files : FileEvents) (names : List (List ℕ)) (out err : SinkEvents) (status : ℕ) (faulted broken : Type 0) →
-    (files.faulted → faulted) → ((bytes : List ℕ) → out.breaks_off bytes → broken) → Answers (due words told) files names out err status →
-    IfSome told (λ holds. (given : Result (List ℕ) Fault) → due words (Some holds) given → ¬ faulted → ¬ broken → (status ≡ status_for given) ⊎ (status ≡ 3))
+pub completely : ((words : List (List ℕ)) (holds : Contents) → Agrees (expected words (Some holds))) → (words : List (List ℕ)) (known_contents : Option Contents) (files : FileEvents) (names : List (List ℕ)) (out err : SinkEvents) (status : ℕ) (faulted broken : Type 0) →
+    (files.faulted → faulted) → ((bytes : List ℕ) → out.breaks_off bytes → broken) → Answers (expected words known_contents) files names out err status →
+    IfSome known_contents (λ holds. (given : Result (List ℕ) Fault) → expected words (Some holds) given → ¬ faulted → ¬ broken → (status ≡ status_for given) ⊎ (status ≡ 3))
 completely one words None files names out err status faulted broken risen breaks answers = tt
 completely one words (Some holds) files names out err status faulted broken risen breaks answers = λ given is no_fault whole.
-    complete_at (due words (Some holds)) files names out err status faulted broken given (one words holds) is risen breaks answers no_fault whole
+    complete_at (expected words (Some holds)) files names out err status faulted broken given (one words holds) is risen breaks answers no_fault whole

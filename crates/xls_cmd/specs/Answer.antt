@@ -2,9 +2,9 @@
 use Rattle.std.specs.Prelude.{◌≡◌, ℕ, Bool, true, false, List, [], Option, Some, None, Result, Ok, Err}
 use Rattle.xb_io.specs.Contents.{Contents}
 use Rattle.xls_cmd.specs.Shared.Fault.{Fault, status_of}
-use Rattle.xls_cmd.specs.Shared.Step.{DueBy, Step}
+use Rattle.xls_cmd.specs.Shared.Step.{ExpectedBy, Step}
 use Rattle.xls_cmd.specs.declared.shared.fault.Fault.TheVariants.{Usage}
-use Rattle.cmd_line.specs.CommandLine.{said_by}
+use Rattle.cmd_line.specs.CommandLine.{arguments_of}
 use Rattle.cmd_line.specs.declared.request.Request.{Request}
 use Rattle.cmd_line.specs.declared.request.Request.TheVariants as request
 use Rattle.cmd_line.specs.declared.request.Run.{Run}
@@ -20,83 +20,83 @@ use Rattle.xls_cmd.specs.Opt.Commands as optimising
 
 -- what a run gives, by what its file is written in
 abbrev pub run_by : Source → Contents → Run (List ℕ) → Step (List ℕ)
-run_by Dslx holds said = design.run holds said
-run_by Ir holds said = ir.run holds said
+run_by Dslx holds arguments = design.run holds arguments
+run_by Ir holds arguments = ir.run holds arguments
 
 -- the same run by so many workers
 abbrev pub by_workers : ℕ → Run (List ℕ) → Run (List ℕ)
-by_workers count said = record said { how = record said.how { workers = count } }
+by_workers count arguments = record arguments { how = record arguments.how { workers = count } }
 
-abbrev pub due_of_run : Run (List ℕ) → Option Contents → Step (List ℕ)
-due_of_run said told given = DueBy told (λ holds. run_by said.how.source holds said) given
+abbrev pub expected_of_run : Run (List ℕ) → Option Contents → Step (List ℕ)
+expected_of_run arguments known_contents given = ExpectedBy known_contents (λ holds. run_by arguments.how.source holds arguments) given
 
 -- schedules of designs are to come
-abbrev pub due_of_schedule_by : Source → Schedule (List ℕ) → Option Contents → Step (List ℕ)
-due_of_schedule_by Dslx said told given = given ≡ Err Usage
-due_of_schedule_by Ir said told given = DueBy told (λ holds. schedules.schedule holds said) given
+abbrev pub expected_of_schedule_by : Source → Schedule (List ℕ) → Option Contents → Step (List ℕ)
+expected_of_schedule_by Dslx arguments known_contents given = given ≡ Err Usage
+expected_of_schedule_by Ir arguments known_contents given = ExpectedBy known_contents (λ holds. schedules.schedule holds arguments) given
 
-abbrev pub due_of_schedule : Schedule (List ℕ) → Option Contents → Step (List ℕ)
-due_of_schedule said told = due_of_schedule_by said.source said told
+abbrev pub expected_of_schedule : Schedule (List ℕ) → Option Contents → Step (List ℕ)
+expected_of_schedule arguments known_contents = expected_of_schedule_by arguments.source arguments known_contents
 
 -- optimised packages of designs are to come
-abbrev pub due_of_opt_by : Source → Opt (List ℕ) → Option Contents → Step (List ℕ)
-due_of_opt_by Dslx said told given = given ≡ Err Usage
-due_of_opt_by Ir said told given = DueBy told (λ holds. optimising.opt holds said) given
+abbrev pub expected_of_opt_by : Source → Opt (List ℕ) → Option Contents → Step (List ℕ)
+expected_of_opt_by Dslx arguments known_contents given = given ≡ Err Usage
+expected_of_opt_by Ir arguments known_contents given = ExpectedBy known_contents (λ holds. optimising.opt holds arguments) given
 
-abbrev pub due_of_opt : Opt (List ℕ) → Option Contents → Step (List ℕ)
-due_of_opt said told = due_of_opt_by said.source said told
+abbrev pub expected_of_opt : Opt (List ℕ) → Option Contents → Step (List ℕ)
+expected_of_opt arguments known_contents = expected_of_opt_by arguments.source arguments known_contents
 
--- What is due for what the words of each command say: this is the one place that lists them. A command that is to come refuses
+-- What is expected for what the words of each command say: this is the one place that lists them. A command that is to come refuses
 -- its words.
-abbrev pub due_of : Request (List ℕ) → Option Contents → Step (List ℕ)
-due_of (request.Check said) told given = DueBy told (λ holds. design.check holds said) given
-due_of (request.Run said) told given = due_of_run said told given
-due_of (request.Sim said) told given = DueBy told (λ holds. simulation.sim holds said) given
-due_of (request.Schedule said) told given = due_of_schedule said told given
-due_of (request.Opt said) told given = due_of_opt said told given
+abbrev pub expected_of : Request (List ℕ) → Option Contents → Step (List ℕ)
+expected_of (request.Check arguments) known_contents given = ExpectedBy known_contents (λ holds. design.check holds arguments) given
+expected_of (request.Run arguments) known_contents given = expected_of_run arguments known_contents given
+expected_of (request.Sim arguments) known_contents given = ExpectedBy known_contents (λ holds. simulation.sim holds arguments) given
+expected_of (request.Schedule arguments) known_contents given = expected_of_schedule arguments known_contents given
+expected_of (request.Opt arguments) known_contents given = expected_of_opt arguments known_contents given
 
 abbrev pub files_of_schedule_by : Source → Schedule (List ℕ) → List (List ℕ)
-files_of_schedule_by Dslx said = []
-files_of_schedule_by Ir said = schedules.schedule_files said
+files_of_schedule_by Dslx arguments = []
+files_of_schedule_by Ir arguments = schedules.schedule_files arguments
 
 abbrev pub files_of_schedule : Schedule (List ℕ) → List (List ℕ)
-files_of_schedule said = files_of_schedule_by said.source said
+files_of_schedule arguments = files_of_schedule_by arguments.source arguments
 
 abbrev pub files_of_opt_by : Source → Opt (List ℕ) → List (List ℕ)
-files_of_opt_by Dslx said = []
-files_of_opt_by Ir said = optimising.opt_files said
+files_of_opt_by Dslx arguments = []
+files_of_opt_by Ir arguments = optimising.opt_files arguments
 
 abbrev pub files_of_opt : Opt (List ℕ) → List (List ℕ)
-files_of_opt said = files_of_opt_by said.source said
+files_of_opt arguments = files_of_opt_by arguments.source arguments
 
 -- the files that the words of each name, in the order in which they are loaded
 abbrev pub files_of : Request (List ℕ) → List (List ℕ)
-files_of (request.Check said) = design.check_files said
-files_of (request.Run said) = design.run_files said
-files_of (request.Sim said) = simulation.sim_files said
-files_of (request.Schedule said) = files_of_schedule said
-files_of (request.Opt said) = files_of_opt said
+files_of (request.Check arguments) = design.check_files arguments
+files_of (request.Run arguments) = design.run_files arguments
+files_of (request.Sim arguments) = simulation.sim_files arguments
+files_of (request.Schedule arguments) = files_of_schedule arguments
+files_of (request.Opt arguments) = files_of_opt arguments
 
-abbrev pub due_for : Option (Request (List ℕ)) → Option Contents → Step (List ℕ)
-due_for None told given = given ≡ Err Usage
-due_for (Some said) told given = due_of said told given
+abbrev pub expected_for : Option (Request (List ℕ)) → Option Contents → Step (List ℕ)
+expected_for None known_contents given = given ≡ Err Usage
+expected_for (Some arguments) known_contents given = expected_of arguments known_contents given
 
--- What is due for these words: the refusal `usage` where they say nothing; else what is due for their command, by what the files
+-- What is expected for these words: the refusal `usage` where they say nothing; else what is expected for their command, by what the files
 -- hold, where that is told.
-abbrev pub due : List (List ℕ) → Option Contents → Step (List ℕ)
-due words told = due_for (said_by words) told
+abbrev pub expected : List (List ℕ) → Option Contents → Step (List ℕ)
+expected words known_contents = expected_for (arguments_of words) known_contents
 
 abbrev pub is_exact_by : Source → Bool
 is_exact_by Dslx = true
 is_exact_by Ir = false
 
 abbrev pub is_exact_for : Option (Request (List ℕ)) → Bool
-is_exact_for (Some (request.Opt said)) = is_exact_by said.source
+is_exact_for (Some (request.Opt arguments)) = is_exact_by arguments.source
 is_exact_for _ = true
 
--- words for which one thing is due: all but those for an optimised package, of which several are as good
+-- words for which one thing is expected: all but those for an optimised package, of which several are as good
 abbrev pub is_exact : List (List ℕ) → Bool
-is_exact words = is_exact_for (said_by words)
+is_exact words = is_exact_for (arguments_of words)
 
 -- the status with which it is answered
 abbrev pub status_for : Result (List ℕ) Fault → ℕ
@@ -105,8 +105,8 @@ status_for (Err fault) = status_of fault
 
 abbrev pub named_for : Option (Request (List ℕ)) → List (List ℕ)
 named_for None = []
-named_for (Some said) = files_of said
+named_for (Some arguments) = files_of arguments
 
 -- the files that words name
 abbrev pub named_files : List (List ℕ) → List (List ℕ)
-named_files words = named_for (said_by words)
+named_files words = named_for (arguments_of words)

@@ -6,9 +6,9 @@ pub mod Step
 pub mod Loads
 -- what a call does to the files and the sinks
 pub mod Events
--- what a command did, by what is due
+-- what a command did, by what is expected
 pub mod Done
 -- what is put for what a command gave
 pub mod Response
--- what the program answers, by what is due
+-- what the program answers, by what is expected
 pub mod Answered

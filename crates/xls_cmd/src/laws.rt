@@ -6,12 +6,12 @@ ghost use Rattle.cmd_line.specs.declared.request.Source.{Source};
 ghost use Rattle.xb_io.specs.Contents.{Contents};
 ghost use Rattle.xls_cmd.specs.Shared.Step.{IsOne};
 ghost use Rattle.xls_cmd.specs.Opt.Agrees.{Agrees};
-ghost use Rattle.xls_cmd.specs.Answer.{by_workers, due, is_exact, run_by};
+ghost use Rattle.xls_cmd.specs.Answer.{by_workers, expected, is_exact, run_by};
 
-/// The words and the files determine what is due, but for the text of an optimised package.
+/// The words and the files determine what is expected, but for the text of an optimised package.
 pub fn one_answer()
-    ensures one { (words : List (List ℕ)) (holds : Contents) → is_exact words ≡ true → IsOne (due words (Some holds)) }
-    ensures agrees { (words : List (List ℕ)) (holds : Contents) → Agrees (due words (Some holds)) }
+    ensures one { (words : List (List ℕ)) (holds : Contents) → is_exact words ≡ true → IsOne (expected words (Some holds)) }
+    ensures agrees { (words : List (List ℕ)) (holds : Contents) → Agrees (expected words (Some holds)) }
 {
     crate::design::laws::one_answer();
     crate::ir::laws::one_answer();
@@ -22,7 +22,7 @@ pub fn one_answer()
 
 /// What a run gives is the same by any number of workers.
 pub fn any_workers()
-    ensures { (source : Source) (holds : Contents) (said : Run (List ℕ)) (count : ℕ) (given : Result (List ℕ) Fault) →
-        (run_by source holds (by_workers count said) given → run_by source holds said given)
-        × (run_by source holds said given → run_by source holds (by_workers count said) given) }
+    ensures { (source : Source) (holds : Contents) (arguments : Run (List ℕ)) (count : ℕ) (given : Result (List ℕ) Fault) →
+        (run_by source holds (by_workers count arguments) given → run_by source holds arguments given)
+        × (run_by source holds arguments given → run_by source holds (by_workers count arguments) given) }
 {}

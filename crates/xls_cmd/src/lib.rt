@@ -1,7 +1,7 @@
 //! The top call: everything that the program does, from its words and files to its output and status.
 //!
 //! The words are read ([`cmd_line`]), their command gives an output or refuses, and the output or the line that says why
-//! there is none is put ([`xls_cmd::shared`]). What is due for which words stands in `specs/Answer`.
+//! there is none is put ([`xls_cmd::shared`]). What is expected for which words stands in `specs/Answer`.
 #![tactic(auto)]
 
 pub mod design;

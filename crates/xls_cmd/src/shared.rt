@@ -3,7 +3,7 @@
 //!
 //! A command is a list of steps, each of which gives something or a fault. Its meaning in `specs/` is that list, read
 //! from top to bottom, so the order of the steps is the order of the causes ([`Fault`], `specs/Step`). A crate of
-//! commands has a function for each, whose contract says that it did what is due (`specs/Done`); what the program then
+//! commands has a function for each, whose contract says that it did what is expected (`specs/Done`); what the program then
 //! puts and answers is stated once (`specs/Answered`).
 //!
 //! Cost: linear in the bytes that are loaded and put.

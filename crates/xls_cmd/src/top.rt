@@ -4,7 +4,7 @@ ghost use Rattle.xls_cmd.specs.Shared.Answered.{IsAnswered};
 ghost use Rattle.xls_cmd.specs.Shared.Done.{IsDone};
 ghost use Rattle.xls_cmd.specs.Shared.Events.{file_events, sink_events};
 ghost use Rattle.xls_cmd.specs.Shared.Fault.{Fault as Cause};
-ghost use Rattle.xls_cmd.specs.Answer.{due, due_of, due_of_opt, due_of_run, due_of_schedule, files_of, files_of_opt, files_of_schedule, named_files, status_for};
+ghost use Rattle.xls_cmd.specs.Answer.{expected, expected_of, expected_of_opt, expected_of_run, expected_of_schedule, files_of, files_of_opt, files_of_schedule, named_files, status_for};
 ghost use Rattle.xls_cmd.specs.Design.Commands.{run_files};
 ghost use Rattle.xls_cmd.specs.Workers.{IsLeftToWorkers, has_workers, is_by_workers, wants_workers};
 ghost use Rattle.cmd_line.specs.Bounds.{IsInBounds, IsWorkerCount};
@@ -38,13 +38,13 @@ pub fn xls_main<R: Threads + Wait + Sync, F: Files, O: Sink, E: Sink, G: Gate + 
     gate: &G,
 ) -> u8
     ensures answered { let texts = map string_bytes words.now in
-        IsAnswered (due texts (F.told files.old)) (named_files texts)
+        IsAnswered (expected texts (F.known_contents files.old)) (named_files texts)
         (file_events F.asked F.faults F.taken files.old files.new)
         (sink_events O.written O.faults out.old out.new)
         (sink_events E.written E.faults err.old err.new) result }
 
-    // So what is due is answered, but for want of memory, where no fault was counted.
-    ensures complete { IfSome (F.told files.old) (λ holds. (given : Result (List ℕ) Cause) → due (map string_bytes words.now) (Some holds) given →
+    // So what is expected is answered, but for want of memory, where no fault was counted.
+    ensures complete { IfSome (F.known_contents files.old) (λ holds. (given : Result (List ℕ) Cause) → expected (map string_bytes words.now) (Some holds) given →
         ¬ HasRisen (F.faults files.old) (F.faults files.new) → ¬ HasRisen (O.faults out.old) (O.faults out.new) →
         (result ≡ status_for given) ⊎ (result ≡ 3)) }
 {
@@ -65,11 +65,11 @@ pub fn answer_alone<F: Files, O: Sink, E: Sink>(
 ) -> Option<u8>
     ensures answered { let texts = map string_bytes words.now in
         MatchOption result (IsLeftToWorkers texts (files.new ≡ files.old) (out.new ≡ out.old) (err.new ≡ err.old))
-        (λ status. IsAnswered (due texts (F.told files.old)) (named_files texts)
+        (λ status. IsAnswered (expected texts (F.known_contents files.old)) (named_files texts)
         (file_events F.asked F.faults F.taken files.old files.new)
         (sink_events O.written O.faults out.old out.new)
         (sink_events E.written E.faults err.old err.new) status) }
-    ensures complete { IfSome result (λ status. IfSome (F.told files.old) (λ holds. (given : Result (List ℕ) Cause) → due (map string_bytes words.now) (Some holds) given →
+    ensures complete { IfSome result (λ status. IfSome (F.known_contents files.old) (λ holds. (given : Result (List ℕ) Cause) → expected (map string_bytes words.now) (Some holds) given →
         ¬ HasRisen (F.faults files.old) (F.faults files.new) → ¬ HasRisen (O.faults out.old) (O.faults out.new) →
         (status ≡ status_for given) ⊎ (status ≡ 3))) }
 {
@@ -91,11 +91,11 @@ fn answer<R: Threads + Wait + Sync, F: Files, O: Sink, E: Sink, G: Gate + Sync>(
     gate: &G,
 ) -> u8
     ensures answered { let texts = map string_bytes words.now in
-        IsAnswered (due texts (F.told files.old)) (named_files texts)
+        IsAnswered (expected texts (F.known_contents files.old)) (named_files texts)
         (file_events F.asked F.faults F.taken files.old files.new)
         (sink_events O.written O.faults out.old out.new)
         (sink_events E.written E.faults err.old err.new) result }
-    ensures complete { IfSome (F.told files.old) (λ holds. (given : Result (List ℕ) Cause) → due (map string_bytes words.now) (Some holds) given →
+    ensures complete { IfSome (F.known_contents files.old) (λ holds. (given : Result (List ℕ) Cause) → expected (map string_bytes words.now) (Some holds) given →
         ¬ HasRisen (F.faults files.old) (F.faults files.new) → ¬ HasRisen (O.faults out.old) (O.faults out.new) →
         (result ≡ status_for given) ⊎ (result ≡ 3)) }
 {
@@ -112,11 +112,11 @@ fn execute_alone<'a, F: Files>(
 ) -> Option<Result<Vec<u8>, Refusal<'a>>>
     ensures { let texts = map string_bytes words.entry.now in
         MatchOption result (wants_workers texts ≡ true × (files.new ≡ files.old))
-        (IsDone (λ text. text.items) (due texts (F.told files.old)) (named_files texts)
+        (IsDone (λ text. text.items) (expected texts (F.known_contents files.old)) (named_files texts)
         (file_events F.asked F.faults F.taken files.old files.new)) }
 {
     match read_words(alloc, words) {
-        Ok(Some(said)) => requested_alone(alloc, files, said),
+        Ok(Some(arguments)) => requested_alone(alloc, files, arguments),
         Ok(None) => Some(Err(Refusal::Fault(Fault::Usage))),
         Err(_) => Some(Err(Refusal::OutOfMemory)),
     }
@@ -126,19 +126,19 @@ fn execute_alone<'a, F: Files>(
 fn requested_alone<'a, F: Files>(
     alloc: Global,
     files: &mut F,
-    said: Request<&'a str>,
+    arguments: Request<&'a str>,
 ) -> Option<Result<Vec<u8>, Refusal<'a>>>
-    requires bounds { IsInBounds said }
-    ensures { MatchOption result (is_by_workers (named said.entry) ≡ true × (files.new ≡ files.old))
-        (IsDone (λ text. text.items) (due_of (named said.entry) (F.told files.old)) (files_of (named said.entry))
+    requires bounds { IsInBounds arguments }
+    ensures { MatchOption result (is_by_workers (named arguments.entry) ≡ true × (files.new ≡ files.old))
+        (IsDone (λ text. text.items) (expected_of (named arguments.entry) (F.known_contents files.old)) (files_of (named arguments.entry))
         (file_events F.asked F.faults F.taken files.old files.new)) }
 {
-    match said {
-        Request::Check(said) => Some(check_design(alloc, files, said)),
-        Request::Run(said) => run_alone(alloc, files, said),
-        Request::Sim(said) => Some(sim_design(alloc, files, said)),
-        Request::Schedule(said) => Some(schedule(alloc, files, said)),
-        Request::Opt(said) => Some(opt(alloc, files, said)),
+    match arguments {
+        Request::Check(arguments) => Some(check_design(alloc, files, arguments)),
+        Request::Run(arguments) => run_alone(alloc, files, arguments),
+        Request::Sim(arguments) => Some(sim_design(alloc, files, arguments)),
+        Request::Schedule(arguments) => Some(schedule(alloc, files, arguments)),
+        Request::Opt(arguments) => Some(opt(alloc, files, arguments)),
     }
 }
 
@@ -146,16 +146,16 @@ fn requested_alone<'a, F: Files>(
 fn run_alone<'a, F: Files>(
     alloc: Global,
     files: &mut F,
-    said: Run<&'a str>,
+    arguments: Run<&'a str>,
 ) -> Option<Result<Vec<u8>, Refusal<'a>>>
-    ensures { MatchOption result (has_workers (named_run said.entry) ≡ true × (files.new ≡ files.old))
-        (IsDone (λ text. text.items) (due_of_run (named_run said.entry) (F.told files.old)) (run_files (named_run said.entry))
+    ensures { MatchOption result (has_workers (named_run arguments.entry) ≡ true × (files.new ≡ files.old))
+        (IsDone (λ text. text.items) (expected_of_run (named_run arguments.entry) (F.known_contents files.old)) (run_files (named_run arguments.entry))
         (file_events F.asked F.faults F.taken files.old files.new)) }
 {
-    if said.how.workers > 1 {
+    if arguments.how.workers > 1 {
         None
     } else {
-        Some(run_in_turn(alloc, files, said))
+        Some(run_in_turn(alloc, files, arguments))
     }
 }
 
@@ -163,14 +163,14 @@ fn run_alone<'a, F: Files>(
 fn run_in_turn<'a, F: Files>(
     alloc: Global,
     files: &mut F,
-    said: Run<&'a str>,
+    arguments: Run<&'a str>,
 ) -> Result<Vec<u8>, Refusal<'a>>
-    ensures { IsDone (λ text. text.items) (due_of_run (named_run said.entry) (F.told files.old)) (run_files (named_run said.entry))
+    ensures { IsDone (λ text. text.items) (expected_of_run (named_run arguments.entry) (F.known_contents files.old)) (run_files (named_run arguments.entry))
         (file_events F.asked F.faults F.taken files.old files.new) result }
 {
-    match said.how.source {
-        Source::Dslx => run_design_alone(alloc, files, said),
-        Source::Ir => run_package_alone(alloc, files, said),
+    match arguments.how.source {
+        Source::Dslx => run_design_alone(alloc, files, arguments),
+        Source::Ir => run_package_alone(alloc, files, arguments),
     }
 }
 
@@ -183,11 +183,11 @@ fn execute<'a, R: Threads + Wait + Sync, F: Files, G: Gate + Sync>(
     gate: &G,
 ) -> Result<Vec<u8>, Refusal<'a>>
     ensures { let texts = map string_bytes words.entry.now in
-        IsDone (λ text. text.items) (due texts (F.told files.old)) (named_files texts)
+        IsDone (λ text. text.items) (expected texts (F.known_contents files.old)) (named_files texts)
         (file_events F.asked F.faults F.taken files.old files.new) result }
 {
     match read_words(alloc, words) {
-        Ok(Some(said)) => requested(rt, alloc, files, said, gate),
+        Ok(Some(arguments)) => requested(rt, alloc, files, arguments, gate),
         Ok(None) => Err(Refusal::Fault(Fault::Usage)),
         Err(_) => Err(Refusal::OutOfMemory),
     }
@@ -198,19 +198,19 @@ fn requested<'a, R: Threads + Wait + Sync, F: Files, G: Gate + Sync>(
     rt: &R,
     alloc: Global,
     files: &mut F,
-    said: Request<&'a str>,
+    arguments: Request<&'a str>,
     gate: &G,
 ) -> Result<Vec<u8>, Refusal<'a>>
-    requires bounds { IsInBounds said }
-    ensures { IsDone (λ text. text.items) (due_of (named said.entry) (F.told files.old)) (files_of (named said.entry))
+    requires bounds { IsInBounds arguments }
+    ensures { IsDone (λ text. text.items) (expected_of (named arguments.entry) (F.known_contents files.old)) (files_of (named arguments.entry))
         (file_events F.asked F.faults F.taken files.old files.new) result }
 {
-    match said {
-        Request::Check(said) => check_design(alloc, files, said),
-        Request::Run(said) => run(rt, alloc, files, said, gate),
-        Request::Sim(said) => sim_design(alloc, files, said),
-        Request::Schedule(said) => schedule(alloc, files, said),
-        Request::Opt(said) => opt(alloc, files, said),
+    match arguments {
+        Request::Check(arguments) => check_design(alloc, files, arguments),
+        Request::Run(arguments) => run(rt, alloc, files, arguments, gate),
+        Request::Sim(arguments) => sim_design(alloc, files, arguments),
+        Request::Schedule(arguments) => schedule(alloc, files, arguments),
+        Request::Opt(arguments) => opt(alloc, files, arguments),
     }
 }
 
@@ -219,16 +219,16 @@ fn run<'a, R: Threads + Wait + Sync, F: Files, G: Gate + Sync>(
     rt: &R,
     alloc: Global,
     files: &mut F,
-    said: Run<&'a str>,
+    arguments: Run<&'a str>,
     gate: &G,
 ) -> Result<Vec<u8>, Refusal<'a>>
-    requires { IsWorkerCount said.how.workers }
-    ensures { IsDone (λ text. text.items) (due_of_run (named_run said.entry) (F.told files.old)) (run_files (named_run said.entry))
+    requires { IsWorkerCount arguments.how.workers }
+    ensures { IsDone (λ text. text.items) (expected_of_run (named_run arguments.entry) (F.known_contents files.old)) (run_files (named_run arguments.entry))
         (file_events F.asked F.faults F.taken files.old files.new) result }
 {
-    match said.how.source {
-        Source::Dslx => run_design(rt, alloc, files, said, gate),
-        Source::Ir => run_package(rt, alloc, files, said, gate),
+    match arguments.how.source {
+        Source::Dslx => run_design(rt, alloc, files, arguments, gate),
+        Source::Ir => run_package(rt, alloc, files, arguments, gate),
     }
 }
 
@@ -236,15 +236,15 @@ fn run<'a, R: Threads + Wait + Sync, F: Files, G: Gate + Sync>(
 fn schedule<'a, F: Files>(
     alloc: Global,
     files: &mut F,
-    said: Schedule<&'a str>,
+    arguments: Schedule<&'a str>,
 ) -> Result<Vec<u8>, Refusal<'a>>
-    requires { 1 ≤ said.timing.stages }
-    ensures { IsDone (λ text. text.items) (due_of_schedule (named_schedule said.entry) (F.told files.old)) (files_of_schedule (named_schedule said.entry))
+    requires { 1 ≤ arguments.timing.stages }
+    ensures { IsDone (λ text. text.items) (expected_of_schedule (named_schedule arguments.entry) (F.known_contents files.old)) (files_of_schedule (named_schedule arguments.entry))
         (file_events F.asked F.faults F.taken files.old files.new) result }
 {
-    match said.source {
+    match arguments.source {
         Source::Dslx => Err(Refusal::Fault(Fault::Usage)),
-        Source::Ir => schedule_ir(alloc, files, said),
+        Source::Ir => schedule_ir(alloc, files, arguments),
     }
 }
 
@@ -252,13 +252,13 @@ fn schedule<'a, F: Files>(
 fn opt<'a, F: Files>(
     alloc: Global,
     files: &mut F,
-    said: Opt<&'a str>,
+    arguments: Opt<&'a str>,
 ) -> Result<Vec<u8>, Refusal<'a>>
-    ensures { IsDone (λ text. text.items) (due_of_opt (named_opt said.entry) (F.told files.old)) (files_of_opt (named_opt said.entry))
+    ensures { IsDone (λ text. text.items) (expected_of_opt (named_opt arguments.entry) (F.known_contents files.old)) (files_of_opt (named_opt arguments.entry))
         (file_events F.asked F.faults F.taken files.old files.new) result }
 {
-    match said.source {
+    match arguments.source {
         Source::Dslx => Err(Refusal::Fault(Fault::Usage)),
-        Source::Ir => opt_ir(alloc, files, said),
+        Source::Ir => opt_ir(alloc, files, arguments),
     }
 }

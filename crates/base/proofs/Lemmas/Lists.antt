@@ -1,5 +1,5 @@
 -- The public library: lemmas on what std lacks.
-pub mod Fronts
+pub mod Prefixes
 pub mod Faults
 pub mod Indexed
-pub mod Places
+pub mod Indices

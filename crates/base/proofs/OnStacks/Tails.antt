@@ -9,13 +9,13 @@ use Rattle.base.specs.Stacks.Tops.{top_or}
 reversed_parts : {T : Type 0} (n : ℕ) (xs : List T) → reverse xs ≡ reverse (drop n xs) ++ reverse (take n xs)
 reversed_parts n xs = ap reverse (sym (take-append-drop n xs)) ∙ reverse-append (take n xs) (drop n xs)
 
-take_front : {T : Type 0} (a b : List T) → take (length a) (a ++ b) ≡ a
-take_front [] b = refl
-take_front (x ∷ xs) b = ap (λ t. x ∷ t) (take_front xs b)
+take_prefix : {T : Type 0} (a b : List T) → take (length a) (a ++ b) ≡ a
+take_prefix [] b = refl
+take_prefix (x ∷ xs) b = ap (λ t. x ∷ t) (take_prefix xs b)
 
-drop_front : {T : Type 0} (a b : List T) → drop (length a) (a ++ b) ≡ b
-drop_front [] b = refl
-drop_front (x ∷ xs) b = drop_front xs b
+drop_prefix : {T : Type 0} (a b : List T) → drop (length a) (a ++ b) ≡ b
+drop_prefix [] b = refl
+drop_prefix (x ∷ xs) b = drop_prefix xs b
 
 -- so many from the end, where there are so many
 reversed_end : {T : Type 0} (k : ℕ) (xs : List T) → k ≤ length xs → length (reverse (drop (length xs - k) xs)) ≡ k
@@ -27,7 +27,7 @@ taken_is {T} k xs = elim (cases_Bool (leb k (length xs))) [
       let count = reversed_end k xs (leb-true k (length xs) fits) in
       ap (λ (t : List T). reverse (take k t)) (reversed_parts (length xs - k) xs)
       ∙ ap (λ (m : ℕ). reverse (take m (reverse (drop (length xs - k) xs) ++ reverse (take (length xs - k) xs)))) (sym count)
-      ∙ ap reverse (take_front (reverse (drop (length xs - k) xs)) (reverse (take (length xs - k) xs)))
+      ∙ ap reverse (take_prefix (reverse (drop (length xs - k) xs)) (reverse (take (length xs - k) xs)))
       ∙ reverse-reverse (drop (length xs - k) xs)
   | inr past ↦
       let more : length xs < k = leb-false k (length xs) past in
@@ -45,7 +45,7 @@ left_is {T} k xs = elim (cases_Bool (leb k (length xs))) [
       let count = reversed_end k xs (leb-true k (length xs) fits) in
       ap (λ (t : List T). drop k t) (reversed_parts (length xs - k) xs)
       ∙ ap (λ (m : ℕ). drop m (reverse (drop (length xs - k) xs) ++ reverse (take (length xs - k) xs))) (sym count)
-      ∙ drop_front (reverse (drop (length xs - k) xs)) (reverse (take (length xs - k) xs))
+      ∙ drop_prefix (reverse (drop (length xs - k) xs)) (reverse (take (length xs - k) xs))
   | inr past ↦
       let more : length xs < k = leb-false k (length xs) past in
       let none : length xs - k ≡ 0 = omega arith in

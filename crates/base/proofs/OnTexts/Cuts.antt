@@ -5,7 +5,7 @@ use Rattle.std.specs.List.{list_all}
 use Rattle.std.proofs.lemmas.Bool.{and_parts, cond-true, cond-false, eq-eqb, not-true}
 use Rattle.std.proofs.lemmas.List.{length-drop, length-take-le}
 use Rattle.base.specs.Texts.Inner.Split.{IsSplit}
-use Rattle.base.specs.Texts.Lines.{lines_of, before_lines, placed}
+use Rattle.base.specs.Texts.Lines.{lines_of, before_lines, positioned}
 
 -- bytes without LF
 abbrev pub is_one_line : List ℕ → Bool
@@ -35,9 +35,9 @@ last_line (c ∷ d ∷ cs) plain some =
     cond-false (eqb c 10) ([] ∷ lines_of (d ∷ cs)) (before_lines c (lines_of (d ∷ cs))) (not-true _ parts.0) ∙ ap (before_lines c) rest
 
 -- the places of the lines behind a first one, by how many bytes it and its end take
-pub placed_behind : (at next more : ℕ) (rest : List ℕ) → (0 < length rest → next ≡ at + more) → placed next (lines_of rest) ≡ placed (at + more) (lines_of rest)
-placed_behind at next more [] same = refl
-placed_behind at next more (c ∷ cs) same = ap (λ k. placed k (lines_of (c ∷ cs))) (same (omega arith))
+pub positioned_behind : (at next more : ℕ) (rest : List ℕ) → (0 < length rest → next ≡ at + more) → positioned next (lines_of rest) ≡ positioned (at + more) (lines_of rest)
+positioned_behind at next more [] same = refl
+positioned_behind at next more (c ∷ cs) same = ap (λ k. positioned k (lines_of (c ∷ cs))) (same (omega arith))
 
 some_length : (text : List ℕ) → text ≢ [] → 0 < length text
 some_length [] some = absurd (some refl)

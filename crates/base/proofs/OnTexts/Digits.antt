@@ -10,8 +10,8 @@ pub hex_digits-more : (m i n : ℕ) → i < m → hex_digits (m - i) n ≡ digit
 unfolding hex_digits
 hex_digits-more m i n h =
     let left : m - i ≡ suc (m - (i + 1)) = omega arith in
-    let place : m - (i + 1) ≡ m - 1 - i = omega arith in
-    ap (λ k. hex_digits k n) left ∙ ap (λ k. digit_char (n / 2 ^ (4 * k) % 16) ∷ hex_digits (m - (i + 1)) n) place
+    let offset : m - (i + 1) ≡ m - 1 - i = omega arith in
+    ap (λ k. hex_digits k n) left ∙ ap (λ k. digit_char (n / 2 ^ (4 * k) % 16) ∷ hex_digits (m - (i + 1)) n) offset
 
 pub hex_digits-none : (m i n : ℕ) → m ≤ i → hex_digits (m - i) n ≡ []
 unfolding hex_digits

@@ -1,7 +1,7 @@
 //! The lines of a text.
 
 ghost use Rattle.std.specs.Prelude.{◌≡◌, ◌∷◌, [], MatchOption};
-ghost use Rattle.base.specs.Texts.Lines.{lines_of, placed};
+ghost use Rattle.base.specs.Texts.Lines.{lines_of, positioned};
 ghost use Rattle.base.specs.Texts.Inner.Split.{IsSplit};
 
 use std::marker::Model;
@@ -22,12 +22,12 @@ pub struct Lines<'a> {
 
 impl<'a> Model for Lines<'a> {
     ghost use Rattle.std.specs.Prelude.{◌+◌, ◌<◌, ◌^◌, List, ℕ, length};
-    ghost use Rattle.base.specs.Texts.Lines.{lines_of, placed};
+    ghost use Rattle.base.specs.Texts.Lines.{lines_of, positioned};
     ghost use Rattle.base.specs.Texts.Inner.Split.{IsSplit};
 
     ghost Value = { List (ℕ × List ℕ) };
 
-    ghost view = { λ l. placed l.at (lines_of l.rest.now) };
+    ghost view = { λ l. positioned l.at (lines_of l.rest.now) };
 
     ghost invariant = { λ l. l.at + length l.rest.now < 2 ^ 64 };
 }
@@ -35,7 +35,7 @@ impl<'a> Model for Lines<'a> {
 impl<'a> Lines<'a> {
     /// The lines of a text: each ends with LF, the last one perhaps not.
     pub fn new(text: &'a [u8]) -> Lines<'a>
-        ensures { result ≡ placed 0 (lines_of text.now) }
+        ensures { result ≡ positioned 0 (lines_of text.now) }
     {
         Lines { at: 0, rest: text }
     }

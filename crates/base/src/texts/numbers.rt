@@ -28,11 +28,11 @@ pub fn push_hex(text: &mut String, count: u32, number: u128) -> Result<(), Alloc
 }
 
 /// Appends the hexadecimal digit of a number at a place, which is 0 for the lowest.
-fn push_digit(text: &mut String, place: u32, number: u128) -> Result<(), AllocError>
-    requires { place < 32 }
-    ensures { OnOk result (string_bytes text.new ≡ string_bytes text.old ++ digit_char (number / 2 ^ (4 * place) % 16) ∷ []) }
+fn push_digit(text: &mut String, offset: u32, number: u128) -> Result<(), AllocError>
+    requires { offset < 32 }
+    ensures { OnOk result (string_bytes text.new ≡ string_bytes text.old ++ digit_char (number / 2 ^ (4 * offset) % 16) ∷ []) }
 {
-    let digit = (number >> (4 * place)) % 16;
+    let digit = (number >> (4 * offset)) % 16;
     text.push(digit_char(digit as u8))
 }
 

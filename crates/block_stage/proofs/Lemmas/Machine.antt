@@ -1,12 +1,12 @@
 -- The laws of pipelined hardware, as lemmas by the names of the functions of `laws` that state them. This module is for
 -- other crates' proofs; nothing else of this folder is.
-pub use Rattle.block_stage.proofs.OnMachine.Prefixes.{sent_words_are_a_front, received_words_are_the_traces}
-pub use Rattle.block_stage.proofs.OnMachine.Offers.{what_waits_stands}
-pub use Rattle.block_stage.proofs.OnMachine.Offered.{untaken_words_stand}
-pub use Rattle.block_stage.proofs.OnMachine.Asks.{one_site_is_asked_to_send, one_site_is_asked_to_receive}
+pub use Rattle.block_stage.proofs.OnMachine.Prefixes.{sent_words_are_a_prefix, received_words_are_the_traces}
+pub use Rattle.block_stage.proofs.OnMachine.Offers.{what_stalls_stays_asserted}
+pub use Rattle.block_stage.proofs.OnMachine.Offered.{untaken_words_stay_valid}
+pub use Rattle.block_stage.proofs.OnMachine.Asserts.{one_site_asserts_valid, one_site_asserts_ready}
 pub use Rattle.block_stage.proofs.OnMachine.Meeting.{nothing_is_asked_without_an_activation}
 pub use Rattle.block_stage.proofs.OnMachine.Exact.{always_fed_words_move_in_their_cycle}
-pub use Rattle.block_stage.proofs.OnMachine.Handshakes.{sent_words_go_where_there_is_room, received_words_go_where_they_are_asked, nothing_is_received_without_a_site}
+pub use Rattle.block_stage.proofs.OnMachine.Handshakes.{sent_words_go_where_there_is_room, received_words_go_where_ready, nothing_is_received_without_a_site}
 -- sums over lists of events
 pub use Rattle.block_stage.proofs.OnMachine.Lefts.{words_sent-append, count_received-append}
 -- the places of a stage

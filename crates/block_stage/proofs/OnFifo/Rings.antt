@@ -5,7 +5,7 @@ use Rattle.std.proofs.Common.{inl, inr}
 use Rattle.std.proofs.lemmas.Bool.{cases_lt}
 use Rattle.std.proofs.lemmas.Bool.Decides.{nat_tests}
 use Rattle.std.proofs.lemmas.List.{length-append, append-nil}
-use Rattle.base.proofs.Lemmas.Lists.Places.{slice_get-append_left, slice_get-append_right}
+use Rattle.base.proofs.Lemmas.Lists.Indices.{slice_get-append_left, slice_get-append_right}
 use Rattle.block_stage.specs.Fifo.Fifo.{next_word, after_cycle}
 use Rattle.block_stage.specs.Fifo.Fifo as fifo
 use Rattle.block_stage.specs.Fifo.Ring.{Ring, RingHolds, place, up, on_by, has_word, has_room, first_word, gives, takes, ring_after}
@@ -192,8 +192,8 @@ up_below d p h = go (cases_lt (suc p) (d + d))
     go (inl x) = let e = up_low d p x in omega arith
     go (inr x) = let e = up_high d p (omega arith) in omega arith
 
-left_ring : {A : Type 0} (depth : ℕ) (ring : Ring A) (words : List A) (asked : Bool) → RingHolds A depth ring words → 0 < depth → length words ≤ depth
-    → Left A depth ring (cond (gives ring asked) (up depth ring.read) ring.read) (kept_in words asked)
+left_ring : {A : Type 0} (depth : ℕ) (ring : Ring A) (words : List A) (ready : Bool) → RingHolds A depth ring words → 0 < depth → length words ≤ depth
+    → Left A depth ring (cond (gives ring ready) (up depth ring.read) ring.read) (kept_in words ready)
 left_ring depth ring words false h pos l = record { within = h.read; write = h.write; slots = h.slots }
 left_ring {A = A} depth ring [] true h pos l =
     let t = ring_word depth ring [] h pos l in
@@ -206,16 +206,16 @@ left_ring {A = A} depth ring (w ∷ ws) true h pos l =
       slots = λ k x. h.slots (suc k) (omega arith) ∙ ap (λ z. Some (ring.slot (place depth z))) (sym (up_on depth ring.read k h.read (omega arith)));
     })
 
-put_ring : {A : Type 0} (depth : ℕ) (ring : Ring A) (asked : Bool) (offered : Option A) (words : List A) → Left A depth ring (cond (gives ring asked) (up depth ring.read) ring.read) words
-    → (takes depth ring offered ≡ true → length words < depth)
-    → RingHolds A depth (ring_after depth ring asked offered) (words ++ cond (takes depth ring offered) (option_to_list offered) [])
-put_ring {A = A} depth ring asked offered words left short = go offered (takes depth ring offered) refl (λ e. short e)
+put_ring : {A : Type 0} (depth : ℕ) (ring : Ring A) (ready : Bool) (valid_data : Option A) (words : List A) → Left A depth ring (cond (gives ring ready) (up depth ring.read) ring.read) words
+    → (takes depth ring valid_data ≡ true → length words < depth)
+    → RingHolds A depth (ring_after depth ring ready valid_data) (words ++ cond (takes depth ring valid_data) (option_to_list valid_data) [])
+put_ring {A = A} depth ring ready valid_data words left short = go valid_data (takes depth ring valid_data) refl (λ e. short e)
   where
     read : ℕ
-    read = cond (gives ring asked) (up depth ring.read) ring.read
+    read = cond (gives ring ready) (up depth ring.read) ring.read
 
-    go : (offered : Option A) (t : Bool) → takes depth ring offered ≡ t → (t ≡ true → length words < depth) → RingHolds A depth (ring_after depth ring asked offered) (words ++ cond t (option_to_list offered) [])
-    go offered false e s = record {
+    go : (valid_data : Option A) (t : Bool) → takes depth ring valid_data ≡ t → (t ≡ true → length words < depth) → RingHolds A depth (ring_after depth ring ready valid_data) (words ++ cond t (option_to_list valid_data) [])
+    go valid_data false e s = record {
       read = left.within;
       write = rw e (left.write ∙ ap (λ z. on_by depth read (length z)) (sym (append-nil words)));
       slots = λ k l. rw e (ap (λ z. slice_get z k) (append-nil words) ∙ left.slots k (let n = ap length (append-nil words) in omega (arith, n)));
@@ -241,17 +241,17 @@ put_ring {A = A} depth ring asked offered words left short = go offered (takes d
             let n = eq_true (place depth ring.write) (place depth (on_by depth read k)) (ap (place depth) (left.write ∙ ap (on_by depth read) same)) in
             slice_get-append_right words (w ∷ []) k 0 (omega arith) ∙ (rw n refl)
 
-kept_short : {A : Type 0} (words : List A) (asked : Bool) (d : ℕ) → length words < d → length (kept_in words asked) < d
+kept_short : {A : Type 0} (words : List A) (ready : Bool) (d : ℕ) → length words < d → length (kept_in words ready) < d
 kept_short [] true d h = h
 kept_short [] false d h = h
 kept_short (w ∷ ws) true d h = omega arith
 kept_short (w ∷ ws) false d h = h
 
-pub ring_cycle : {A : Type 0} (depth : ℕ) (ring : Ring A) (words : List A) (asked : Bool) (offered : Option A) → RingHolds A depth ring words → 0 < depth → length words ≤ depth
-    → RingHolds A depth (ring_after depth ring asked offered) (after_cycle depth words asked offered)
-ring_cycle {A = A} depth ring words asked offered h pos l =
-    subst (λ z. RingHolds A depth (ring_after depth ring asked offered) (kept_in words asked ++ z)) (same offered room)
-    (put_ring depth ring asked offered (kept_in words asked) (left_ring depth ring words asked h pos l) (λ e. kept_short words asked depth (short offered e)))
+pub ring_cycle : {A : Type 0} (depth : ℕ) (ring : Ring A) (words : List A) (ready : Bool) (valid_data : Option A) → RingHolds A depth ring words → 0 < depth → length words ≤ depth
+    → RingHolds A depth (ring_after depth ring ready valid_data) (after_cycle depth words ready valid_data)
+ring_cycle {A = A} depth ring words ready valid_data h pos l =
+    subst (λ z. RingHolds A depth (ring_after depth ring ready valid_data) (kept_in words ready ++ z)) (same valid_data room)
+    (put_ring depth ring ready valid_data (kept_in words ready) (left_ring depth ring words ready h pos l) (λ e. kept_short words ready depth (short valid_data e)))
   where
     room : has_room depth ring ≡ fifo.has_room depth words
     room = ring_room depth ring words h pos l
@@ -259,11 +259,11 @@ ring_cycle {A = A} depth ring words asked offered h pos l =
     lt_from : (a b : ℕ) → nat_lt a b ≡ true → a < b
     lt_from a b e = grind (arith, nat_tests)
 
-    short : (offered : Option A) → takes depth ring offered ≡ true → length words < depth
+    short : (valid_data : Option A) → takes depth ring valid_data ≡ true → length words < depth
     short None e = cc
     short (Some w) e = lt_from (length words) depth (sym room ∙ e)
 
-    same : (offered : Option A) → has_room depth ring ≡ fifo.has_room depth words → cond (takes depth ring offered) (option_to_list offered) [] ≡ cond (fifo.has_room depth words) (option_to_list offered) []
+    same : (valid_data : Option A) → has_room depth ring ≡ fifo.has_room depth words → cond (takes depth ring valid_data) (option_to_list valid_data) [] ≡ cond (fifo.has_room depth words) (option_to_list valid_data) []
     same None e = go (fifo.has_room depth words)
       where
         go : (t : Bool) → ◌≡◌ {A = List A} [] (cond t [] [])

@@ -5,7 +5,7 @@ use Rattle.std.proofs.Common.{inl, inr}
 use Rattle.std.proofs.lemmas.Bool.{cases_lt}
 use Rattle.std.proofs.lemmas.Bool.Decides.{nat_tests}
 use Rattle.std.proofs.lemmas.List.{length-append, append-nil}
-use Rattle.base.proofs.Lemmas.Lists.Places.{slice_get-append_left, slice_get-append_right}
+use Rattle.base.proofs.Lemmas.Lists.Indices.{slice_get-append_left, slice_get-append_right}
 use Rattle.block_stage.specs.Fifo.Fifo.{next_word, after_cycle}
 use Rattle.block_stage.specs.Fifo.Fifo as fifo
 use Rattle.block_stage.specs.Fifo.Row.{Row, RowHolds, has_word, has_room, first_word, gives, takes, between, row_after}
@@ -32,11 +32,11 @@ pub row_room : {A : Type 0} (depth : ℕ) (row : Row A) (words : List A) → Row
 row_room depth row words h l = let e = h.count in some_room row.count depth (omega arith) ∙ ap (λ n. nat_lt n depth) e
 
 -- behind what is given
-record Left (A : Type 0) (row : Row A) (asked : Bool) (words : List A) : Type 0 where
-  count : between row asked ≡ length words
-  slots : (k : ℕ) → k < length words → slice_get words k ≡ Some (cond (gives row asked) (row.slot (suc k)) (row.slot k))
+record Left (A : Type 0) (row : Row A) (ready : Bool) (words : List A) : Type 0 where
+  count : between row ready ≡ length words
+  slots : (k : ℕ) → k < length words → slice_get words k ≡ Some (cond (gives row ready) (row.slot (suc k)) (row.slot k))
 
-left_row : {A : Type 0} (row : Row A) (words : List A) (asked : Bool) → RowHolds A row words → Left A row asked (kept_in words asked)
+left_row : {A : Type 0} (row : Row A) (words : List A) (ready : Bool) → RowHolds A row words → Left A row ready (kept_in words ready)
 left_row row words false h = record { count = h.count; slots = h.slots }
 left_row row [] true h =
     let e = h.count in
@@ -47,12 +47,12 @@ left_row row (w ∷ ws) true h =
     let g : gives row true ≡ true = (let z = eq_false row.count 0 (λ x. omega arith) in rw z refl) in
     record { count = rw g (omega arith); slots = λ k l. rw g (h.slots (suc k) (omega arith)) }
 
-put_row : {A : Type 0} (depth : ℕ) (row : Row A) (asked : Bool) (offered : Option A) (words : List A) → Left A row asked words
-    → RowHolds A (row_after depth row asked offered) (words ++ cond (takes depth row offered) (option_to_list offered) [])
-put_row {A = A} depth row asked offered words left = go offered (takes depth row offered) refl
+put_row : {A : Type 0} (depth : ℕ) (row : Row A) (ready : Bool) (valid_data : Option A) (words : List A) → Left A row ready words
+    → RowHolds A (row_after depth row ready valid_data) (words ++ cond (takes depth row valid_data) (option_to_list valid_data) [])
+put_row {A = A} depth row ready valid_data words left = go valid_data (takes depth row valid_data) refl
   where
-    go : (offered : Option A) (t : Bool) → takes depth row offered ≡ t → RowHolds A (row_after depth row asked offered) (words ++ cond t (option_to_list offered) [])
-    go offered false e = record {
+    go : (valid_data : Option A) (t : Bool) → takes depth row valid_data ≡ t → RowHolds A (row_after depth row ready valid_data) (words ++ cond t (option_to_list valid_data) [])
+    go valid_data false e = record {
       count = rw e (left.count ∙ ap length (sym (append-nil words)));
       slots = λ k l. rw e (ap (λ z. slice_get z k) (append-nil words) ∙ left.slots k (let n = ap length (append-nil words) in omega (arith, n)));
     }
@@ -63,23 +63,23 @@ put_row {A = A} depth row asked offered words left = go offered (takes depth row
     }
       where
         slot : (k : ℕ) → k < length words + 1 → (k < length words) ⊎ (length words ≤ k)
-            → slice_get (words ++ w ∷ []) k ≡ Some (cond (true && eqb (between row asked) k) w (cond (gives row asked) (row.slot (suc k)) (row.slot k)))
+            → slice_get (words ++ w ∷ []) k ≡ Some (cond (true && eqb (between row ready) k) w (cond (gives row ready) (row.slot (suc k)) (row.slot k)))
         slot k l (inl x) =
             let c = left.count in
-            let n = eq_false (between row asked) k (λ z. omega (arith, c, z)) in
+            let n = eq_false (between row ready) k (λ z. omega (arith, c, z)) in
             slice_get-append_left words (w ∷ []) k x ∙ left.slots k x ∙ (rw n refl)
         slot k l (inr x) =
             let c = left.count in
-            let n = eq_true (between row asked) k (omega (arith, c)) in
+            let n = eq_true (between row ready) k (omega (arith, c)) in
             slice_get-append_right words (w ∷ []) k 0 (omega arith) ∙ (rw n refl)
 
-pub row_cycle : {A : Type 0} (depth : ℕ) (row : Row A) (words : List A) (asked : Bool) (offered : Option A) → RowHolds A row words → length words ≤ depth
-    → RowHolds A (row_after depth row asked offered) (after_cycle depth words asked offered)
-row_cycle {A = A} depth row words asked offered h l =
-    subst (λ z. RowHolds A (row_after depth row asked offered) (kept_in words asked ++ z)) (same offered (row_room depth row words h l))
-    (put_row depth row asked offered (kept_in words asked) (left_row row words asked h))
+pub row_cycle : {A : Type 0} (depth : ℕ) (row : Row A) (words : List A) (ready : Bool) (valid_data : Option A) → RowHolds A row words → length words ≤ depth
+    → RowHolds A (row_after depth row ready valid_data) (after_cycle depth words ready valid_data)
+row_cycle {A = A} depth row words ready valid_data h l =
+    subst (λ z. RowHolds A (row_after depth row ready valid_data) (kept_in words ready ++ z)) (same valid_data (row_room depth row words h l))
+    (put_row depth row ready valid_data (kept_in words ready) (left_row row words ready h))
   where
-    same : (offered : Option A) → has_room depth row ≡ fifo.has_room depth words → cond (takes depth row offered) (option_to_list offered) [] ≡ cond (fifo.has_room depth words) (option_to_list offered) []
+    same : (valid_data : Option A) → has_room depth row ≡ fifo.has_room depth words → cond (takes depth row valid_data) (option_to_list valid_data) [] ≡ cond (fifo.has_room depth words) (option_to_list valid_data) []
     same None e = go (fifo.has_room depth words)
       where
         go : (t : Bool) → ◌≡◌ {A = List A} [] (cond t [] [])

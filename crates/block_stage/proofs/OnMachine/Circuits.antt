@@ -2,22 +2,22 @@
 use Rattle.std.proofs.Common.{◌≡◌, ℕ, ◌≤◌, ◌-◌, List, [], ◌∷◌, length, refl, ap, ◌∙◌, subst, cond, true, false, suc, ◌<◌, Some}
 use Rattle.std.specs.Prelude.{◌==◌, option_to_list}
 use Rattle.xb_bits.specs.Word.{Word}
-use Rattle.base.specs.Lists.Front.{IsFront}
+use Rattle.base.specs.Lists.Prefix.{IsPrefix}
 use Rattle.net_core.specs.declared.event.Event.{Event}
 use Rattle.net_core.specs.Trace.{trace}
 use Rattle.net_core.specs.Cuts.{words_sent, count_received}
 use Rattle.block_stage.specs.Machine.Pipeline.{Pipeline}
-use Rattle.block_stage.specs.Machine.Cycle.{Ports, Registers, circuit, in_stage, walk, moves, after_cycle, deeds_in, asked_in, asked_by}
+use Rattle.block_stage.specs.Machine.Cycle.{Ports, Registers, circuit, in_stage, walk, moves, after_cycle, transfers_in, asserted_in, asserted_by}
 use Rattle.block_stage.specs.Machine.Since.{Since, took, gave, at_reset, one_more, after_cycles}
-use Rattle.block_stage.specs.Machine.Circuits.{stage_by, moves_by, cycle_by, deeds_by, asks_by, one_by, cycles_by, IsLawful}
+use Rattle.block_stage.specs.Machine.Circuits.{stage_by, moves_by, cycle_by, transfers_by, asserts_by, one_by, cycles_by, IsLawful}
 use Rattle.block_stage.specs.Machine.Steady.{IsStageMet}
-use Rattle.block_stage.proofs.OnMachine.Prefixes.{sent_words_are_a_front, received_words_are_the_traces}
-use Rattle.block_stage.proofs.OnMachine.Offers.{what_waits_stands}
-use Rattle.block_stage.proofs.OnMachine.Offered.{untaken_words_stand}
-use Rattle.block_stage.proofs.OnMachine.Asks.{one_site_is_asked_to_send, one_site_is_asked_to_receive}
+use Rattle.block_stage.proofs.OnMachine.Prefixes.{sent_words_are_a_prefix, received_words_are_the_traces}
+use Rattle.block_stage.proofs.OnMachine.Offers.{what_stalls_stays_asserted}
+use Rattle.block_stage.proofs.OnMachine.Offered.{untaken_words_stay_valid}
+use Rattle.block_stage.proofs.OnMachine.Asserts.{one_site_asserts_valid, one_site_asserts_ready}
 use Rattle.block_stage.proofs.OnMachine.Meeting.{a_stage_moves_where_it_can, a_moved_activation_stands_in_the_next_stage, the_turn_comes_back}
 use Rattle.block_stage.proofs.OnMachine.Exact.{always_fed_words_move_in_their_cycle}
-use Rattle.block_stage.proofs.OnMachine.Handshakes.{sent_words_go_where_there_is_room, received_words_go_where_they_are_asked}
+use Rattle.block_stage.proofs.OnMachine.Handshakes.{sent_words_go_where_there_is_room, received_words_go_where_ready}
 
 pub same_stage : (q : Pipeline) (c : Registers) (ports : Ports) (j : ℕ) → in_stage q c ports j ≡ stage_by circuit q c ports j
 unfolding in_stage walk
@@ -27,16 +27,16 @@ pub same_cycle : (q : Pipeline) (c : Registers) (ports : Ports) → after_cycle 
 unfolding after_cycle moves in_stage walk
 same_cycle q c ports = refl
 
-pub same_deeds : (q : Pipeline) (c : Registers) (ports : Ports) → deeds_in q c ports ≡ deeds_by circuit q c ports
-unfolding deeds_in in_stage walk
-same_deeds q c ports = refl
+pub same_transfers : (q : Pipeline) (c : Registers) (ports : Ports) → transfers_in q c ports ≡ transfers_by circuit q c ports
+unfolding transfers_in in_stage walk
+same_transfers q c ports = refl
 
-pub same_asks : (q : Pipeline) (c : Registers) (ports : Ports) → asked_in q c ports ≡ asks_by circuit q c ports
-unfolding asked_in in_stage walk
-same_asks q c ports = refl
+pub same_asserts : (q : Pipeline) (c : Registers) (ports : Ports) → asserted_in q c ports ≡ asserts_by circuit q c ports
+unfolding asserted_in in_stage walk
+same_asserts q c ports = refl
 
 same_one : (q : Pipeline) (since : Since) (ports : Ports) → one_more q since ports ≡ one_by circuit q since ports
-unfolding after_cycle moves deeds_in in_stage walk
+unfolding after_cycle moves transfers_in in_stage walk
 same_one q since ports = refl
 
 pub same_cycles : (q : Pipeline) (cycles : List Ports) (since : Since) → after_cycles q since cycles ≡ cycles_by circuit q since cycles
@@ -45,64 +45,64 @@ same_cycles q (ports ∷ more) since =
     ap (λ s. after_cycles q s more) (same_one q since ports) ∙ same_cycles q more (one_by circuit q since ports)
 
 -- what each law says of the registers of a cycle, by both machines
-abbrev WaitsStand : Pipeline → Ports → Ports → ℕ → Event → Registers → Type 0
-WaitsStand q ports next j event c =
-    (stage_by circuit q c ports j).waits ≡ Some event → (others : List Event) × (asked_by (stage_by circuit q (cycle_by circuit q c ports) next j) ≡ event ∷ others)
+abbrev StallsStay : Pipeline → Ports → Ports → ℕ → Event → Registers → Type 0
+StallsStay q ports next j event c =
+    (stage_by circuit q c ports j).stall ≡ Some event → (others : List Event) × (asserted_by (stage_by circuit q (cycle_by circuit q c ports) next j) ≡ event ∷ others)
 
-waits_by : (q : Pipeline) (ports next : Ports) (j : ℕ) (event : Event) (c : Registers)
-    → ((in_stage q c ports j).waits ≡ Some event → (others : List Event) × (asked_by (in_stage q (after_cycle q c ports) next j) ≡ event ∷ others))
-    → WaitsStand q ports next j event c
+stall_by : (q : Pipeline) (ports next : Ports) (j : ℕ) (event : Event) (c : Registers)
+    → ((in_stage q c ports j).stall ≡ Some event → (others : List Event) × (asserted_by (in_stage q (after_cycle q c ports) next j) ≡ event ∷ others))
+    → StallsStay q ports next j event c
 unfolding after_cycle moves in_stage walk
-waits_by q ports next j event c h = h
+stall_by q ports next j event c h = h
 
-abbrev OffersStand : Pipeline → Ports → Ports → ℕ → Word → Registers → Type 0
-OffersStand q ports next chan w c =
-    words_sent q.proc.behavior.sites chan (asks_by circuit q c ports) ≡ w ∷ [] → ports.room chan ≡ false
-    → words_sent q.proc.behavior.sites chan (asks_by circuit q (cycle_by circuit q c ports) next) ≡ w ∷ []
+abbrev OffersStay : Pipeline → Ports → Ports → ℕ → Word → Registers → Type 0
+OffersStay q ports next chan w c =
+    words_sent q.proc.behavior.sites chan (asserts_by circuit q c ports) ≡ w ∷ [] → ports.room chan ≡ false
+    → words_sent q.proc.behavior.sites chan (asserts_by circuit q (cycle_by circuit q c ports) next) ≡ w ∷ []
 
 offers_by : (q : Pipeline) (ports next : Ports) (chan : ℕ) (w : Word) (c : Registers)
-    → (words_sent q.proc.behavior.sites chan (asked_in q c ports) ≡ w ∷ [] → ports.room chan ≡ false
-    → words_sent q.proc.behavior.sites chan (asked_in q (after_cycle q c ports) next) ≡ w ∷ [])
-    → OffersStand q ports next chan w c
-unfolding asked_in after_cycle moves in_stage walk
+    → (words_sent q.proc.behavior.sites chan (asserted_in q c ports) ≡ w ∷ [] → ports.room chan ≡ false
+    → words_sent q.proc.behavior.sites chan (asserted_in q (after_cycle q c ports) next) ≡ w ∷ [])
+    → OffersStay q ports next chan w c
+unfolding asserted_in after_cycle moves in_stage walk
 offers_by q ports next chan w c h = h
 
 abbrev SentGo : Pipeline → Ports → ℕ → Registers → Type 0
 SentGo q ports chan c =
-    gave q.proc.behavior.sites chan (deeds_by circuit q c ports) ≡ cond (ports.room chan) (words_sent q.proc.behavior.sites chan (asks_by circuit q c ports)) []
+    gave q.proc.behavior.sites chan (transfers_by circuit q c ports) ≡ cond (ports.room chan) (words_sent q.proc.behavior.sites chan (asserts_by circuit q c ports)) []
 
 sent_by : (q : Pipeline) (ports : Ports) (chan : ℕ) (c : Registers)
-    → gave q.proc.behavior.sites chan (deeds_in q c ports) ≡ cond (ports.room chan) (words_sent q.proc.behavior.sites chan (asked_in q c ports)) []
+    → gave q.proc.behavior.sites chan (transfers_in q c ports) ≡ cond (ports.room chan) (words_sent q.proc.behavior.sites chan (asserted_in q c ports)) []
     → SentGo q ports chan c
-unfolding asked_in deeds_in in_stage walk
+unfolding asserted_in transfers_in in_stage walk
 sent_by q ports chan c h = h
 
 abbrev ReceivedGo : Pipeline → Ports → ℕ → Registers → Type 0
 ReceivedGo q ports chan c =
-    took q.proc.behavior.sites chan (deeds_by circuit q c ports)
-    ≡ cond (count_received q.proc.behavior.sites chan (asks_by circuit q c ports) == 0) [] (option_to_list (ports.offer chan))
+    took q.proc.behavior.sites chan (transfers_by circuit q c ports)
+    ≡ cond (count_received q.proc.behavior.sites chan (asserts_by circuit q c ports) == 0) [] (option_to_list (ports.valid_word chan))
 
 received_by : (q : Pipeline) (ports : Ports) (chan : ℕ) (c : Registers)
-    → took q.proc.behavior.sites chan (deeds_in q c ports)
-    ≡ cond (count_received q.proc.behavior.sites chan (asked_in q c ports) == 0) [] (option_to_list (ports.offer chan))
+    → took q.proc.behavior.sites chan (transfers_in q c ports)
+    ≡ cond (count_received q.proc.behavior.sites chan (asserted_in q c ports) == 0) [] (option_to_list (ports.valid_word chan))
     → ReceivedGo q ports chan c
-unfolding asked_in deeds_in in_stage walk
+unfolding asserted_in transfers_in in_stage walk
 received_by q ports chan c h = h
 
 abbrev FewSent : Pipeline → Ports → ℕ → Registers → Type 0
-FewSent q ports chan c = length (words_sent q.proc.behavior.sites chan (asks_by circuit q c ports)) ≤ 1
+FewSent q ports chan c = length (words_sent q.proc.behavior.sites chan (asserts_by circuit q c ports)) ≤ 1
 
 few_sent_by : (q : Pipeline) (ports : Ports) (chan : ℕ) (c : Registers)
-    → length (words_sent q.proc.behavior.sites chan (asked_in q c ports)) ≤ 1 → FewSent q ports chan c
-unfolding asked_in in_stage walk
+    → length (words_sent q.proc.behavior.sites chan (asserted_in q c ports)) ≤ 1 → FewSent q ports chan c
+unfolding asserted_in in_stage walk
 few_sent_by q ports chan c h = h
 
 abbrev FewReceived : Pipeline → Ports → ℕ → Registers → Type 0
-FewReceived q ports chan c = count_received q.proc.behavior.sites chan (asks_by circuit q c ports) ≤ 1
+FewReceived q ports chan c = count_received q.proc.behavior.sites chan (asserts_by circuit q c ports) ≤ 1
 
 few_received_by : (q : Pipeline) (ports : Ports) (chan : ℕ) (c : Registers)
-    → count_received q.proc.behavior.sites chan (asked_in q c ports) ≤ 1 → FewReceived q ports chan c
-unfolding asked_in in_stage walk
+    → count_received q.proc.behavior.sites chan (asserted_in q c ports) ≤ 1 → FewReceived q ports chan c
+unfolding asserted_in in_stage walk
 few_received_by q ports chan c h = h
 
 abbrev MovesWhereItCan : Pipeline → Ports → ℕ → Registers → Type 0
@@ -136,26 +136,26 @@ after_any q law cycles h = subst (λ s. law s.contents) (same_cycles q cycles (a
 
 pub lawful : IsLawful circuit
 lawful = record {
-  sent_words_are_a_front = λ q is cycles n chan l.
-      subst (λ (s : Since). IsFront (s.sent chan) (words_sent q.proc.behavior.sites chan (trace q.proc.behavior n q.proc.opening s.received)))
-      (same_cycles q cycles (at_reset q)) (sent_words_are_a_front q is cycles n chan l);
+  sent_words_are_a_prefix = λ q is cycles n chan l.
+      subst (λ (s : Since). IsPrefix (s.sent chan) (words_sent q.proc.behavior.sites chan (trace q.proc.behavior n q.proc.opening s.received)))
+      (same_cycles q cycles (at_reset q)) (sent_words_are_a_prefix q is cycles n chan l);
   received_words_are_the_traces = λ q is cycles n chan l.
       subst (λ (s : Since). count_received q.proc.behavior.sites chan (trace q.proc.behavior n q.proc.opening s.received) ≡ length (s.received chan))
       (same_cycles q cycles (at_reset q)) (received_words_are_the_traces q is cycles n chan l);
-  what_waits_stands = λ q is cycles ports next j event l.
-      after_any q (WaitsStand q ports next j event) cycles
-      (waits_by q ports next j event (after_cycles q (at_reset q) cycles).contents (what_waits_stands q is cycles ports next j event l));
-  untaken_words_stand = λ q is cycles ports next chan w.
-      after_any q (OffersStand q ports next chan w) cycles
-      (offers_by q ports next chan w (after_cycles q (at_reset q) cycles).contents (untaken_words_stand q is cycles ports next chan w));
-  one_site_is_asked_to_send = λ q is cycles ports chan.
-      after_any q (FewSent q ports chan) cycles (few_sent_by q ports chan (after_cycles q (at_reset q) cycles).contents (one_site_is_asked_to_send q is cycles ports chan));
-  one_site_is_asked_to_receive = λ q is cycles ports chan.
-      after_any q (FewReceived q ports chan) cycles (few_received_by q ports chan (after_cycles q (at_reset q) cycles).contents (one_site_is_asked_to_receive q is cycles ports chan));
+  what_stalls_stays_asserted = λ q is cycles ports next j event l.
+      after_any q (StallsStay q ports next j event) cycles
+      (stall_by q ports next j event (after_cycles q (at_reset q) cycles).contents (what_stalls_stays_asserted q is cycles ports next j event l));
+  untaken_words_stay_valid = λ q is cycles ports next chan w.
+      after_any q (OffersStay q ports next chan w) cycles
+      (offers_by q ports next chan w (after_cycles q (at_reset q) cycles).contents (untaken_words_stay_valid q is cycles ports next chan w));
+  one_site_asserts_valid = λ q is cycles ports chan.
+      after_any q (FewSent q ports chan) cycles (few_sent_by q ports chan (after_cycles q (at_reset q) cycles).contents (one_site_asserts_valid q is cycles ports chan));
+  one_site_asserts_ready = λ q is cycles ports chan.
+      after_any q (FewReceived q ports chan) cycles (few_received_by q ports chan (after_cycles q (at_reset q) cycles).contents (one_site_asserts_ready q is cycles ports chan));
   sent_words_go_where_there_is_room = λ q is cycles ports chan.
       after_any q (SentGo q ports chan) cycles (sent_by q ports chan (after_cycles q (at_reset q) cycles).contents (sent_words_go_where_there_is_room q is cycles ports chan));
-  received_words_go_where_they_are_asked = λ q is cycles ports chan.
-      after_any q (ReceivedGo q ports chan) cycles (received_by q ports chan (after_cycles q (at_reset q) cycles).contents (received_words_go_where_they_are_asked q is cycles ports chan));
+  received_words_go_where_ready = λ q is cycles ports chan.
+      after_any q (ReceivedGo q ports chan) cycles (received_by q ports chan (after_cycles q (at_reset q) cycles).contents (received_words_go_where_ready q is cycles ports chan));
   a_stage_moves_where_it_can = λ q is cycles ports j l.
       after_any q (MovesWhereItCan q ports j) cycles
       (moves_where_by q ports j (after_cycles q (at_reset q) cycles).contents (a_stage_moves_where_it_can q is (after_cycles q (at_reset q) cycles).contents ports j l));

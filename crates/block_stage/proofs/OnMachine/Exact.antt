@@ -12,7 +12,7 @@ use Rattle.net_core.specs.declared.event.Event.{Event}
 use Rattle.net_core.specs.Behavior.{Behavior, IsInDirection, Give, chan_at}
 use Rattle.net_core.specs.Cuts.{words_sent}
 use Rattle.block_stage.specs.Machine.Pipeline.{Pipeline, IsPipeline, first}
-use Rattle.block_stage.specs.Machine.Cycle.{Ports, Registers, opened, brought, Deed, in_stage, moves_before, moves, after_cycle, deeds_in}
+use Rattle.block_stage.specs.Machine.Cycle.{Ports, Registers, opened, brought, Transfer, in_stage, moves_before, moves, after_cycle, transfers_in}
 use Rattle.block_stage.specs.Machine.Since.{gave, Since, at_reset, one_more, after_cycles}
 use Rattle.block_stage.specs.Machine.Steady.{IsFed, AreFed, SendsOnce}
 use Rattle.block_stage.proofs.OnMachine.Choices.{eqb-eq, eq-eqb, eq_apart, if_none}
@@ -36,42 +36,42 @@ fresh_goes q c ports j f clean l =
 abbrev SendsNothing : Behavior → ℕ → ℕ → ℕ → Type 0
 SendsNothing b ch i n = (k : ℕ) → i ≤ k → k < i + n → chan_at b.sites k ≡ ch → (s : Value) (got : List Word) (w : Word) → b.turn s got k ≡ Give w → ⊥
 
-gives_nothing : (b : Behavior) (ch : ℕ) (ports : Ports) (s : Value) (got got' : List Word) (i n p : ℕ) (deeds : List Deed) (waits : Option Event)
-    → Goes b ports s got i n p got' deeds waits → SendsNothing b ch i n → gave b.sites ch deeds ≡ []
+gives_nothing : (b : Behavior) (ch : ℕ) (ports : Ports) (s : Value) (got got' : List Word) (i n p : ℕ) (transfers : List Transfer) (stall : Option Event)
+    → Goes b ports s got i n p got' transfers stall → SendsNothing b ch i n → gave b.sites ch transfers ≡ []
 unfolding words_sent
-gives_nothing b ch ports s got got' i n p deeds waits ends h = refl
-gives_nothing b ch ports s got got' i n p deeds waits (skips {n = m} t g) h =
-    gives_nothing b ch ports s _ got' (suc i) m p deeds waits g (λ k x y. h k (omega arith) (omega arith))
-gives_nothing b ch ports s got got' i n p deeds waits (takes {n = m} {deeds = ds} w t o g) h =
-    gives_nothing b ch ports s _ got' (suc i) m p ds waits g (λ k x y. h k (omega arith) (omega arith))
-gives_nothing b ch ports s got got' i n p deeds waits (gives {n = m} {deeds = ds} w t o g) h =
+gives_nothing b ch ports s got got' i n p transfers stall ends h = refl
+gives_nothing b ch ports s got got' i n p transfers stall (skips {n = m} t g) h =
+    gives_nothing b ch ports s _ got' (suc i) m p transfers stall g (λ k x y. h k (omega arith) (omega arith))
+gives_nothing b ch ports s got got' i n p transfers stall (takes {n = m} {transfers = ds} w t o g) h =
+    gives_nothing b ch ports s _ got' (suc i) m p ds stall g (λ k x y. h k (omega arith) (omega arith))
+gives_nothing b ch ports s got got' i n p transfers stall (gives {n = m} {transfers = ds} w t o g) h =
     if_none (eqb (chan_at b.sites i) ch) w _ (λ x. h i (omega arith) (omega arith) (eqb-eq _ _ x) s got w t)
-    (gives_nothing b ch ports s _ got' (suc i) m p ds waits g (λ k x y. h k (omega arith) (omega arith)))
-gives_nothing b ch ports s got got' i n p deeds waits (no_word t o) h = refl
-gives_nothing b ch ports s got got' i n p deeds waits (no_room w t o) h = refl
+    (gives_nothing b ch ports s _ got' (suc i) m p ds stall g (λ k x y. h k (omega arith) (omega arith)))
+gives_nothing b ch ports s got got' i n p transfers stall (no_word t o) h = refl
+gives_nothing b ch ports s got got' i n p transfers stall (no_room w t o) h = refl
 
 -- a walk that passes a channel's one site gives one word
 gives_one : (b : Behavior) (ch place : ℕ) (ports : Ports) → chan_at b.sites place ≡ ch → ((s : Value) (got : List Word) → (w : Word) × (b.turn s got place ≡ Give w))
-    → (s : Value) (got got' : List Word) (i n p : ℕ) (deeds : List Deed) (waits : Option Event)
-    → Goes b ports s got i n p got' deeds waits → waits ≡ None → i ≤ place → place < i + n
+    → (s : Value) (got got' : List Word) (i n p : ℕ) (transfers : List Transfer) (stall : Option Event)
+    → Goes b ports s got i n p got' transfers stall → stall ≡ None → i ≤ place → place < i + n
     → ((k : ℕ) → i ≤ k → k < i + n → chan_at b.sites k ≡ ch → (s : Value) (got : List Word) (w : Word) → b.turn s got k ≡ Give w → k ≡ place)
-    → length (gave b.sites ch deeds) ≡ 1
+    → length (gave b.sites ch transfers) ≡ 1
 unfolding words_sent
-gives_one b ch place ports at on s got got' i n p deeds waits ends e l r only = absurd (omega arith)
-gives_one b ch place ports at on s got got' i n p deeds waits (skips {n = m} t g) e l r only =
-    gives_one b ch place ports at on s _ got' (suc i) m p deeds waits g e (past (cases_lt i place)) (omega arith) (λ k x y. only k (omega arith) (omega arith))
+gives_one b ch place ports at on s got got' i n p transfers stall ends e l r only = absurd (omega arith)
+gives_one b ch place ports at on s got got' i n p transfers stall (skips {n = m} t g) e l r only =
+    gives_one b ch place ports at on s _ got' (suc i) m p transfers stall g e (past (cases_lt i place)) (omega arith) (λ k x y. only k (omega arith) (omega arith))
   where
     past : (i < place) ⊎ (place ≤ i) → suc i ≤ place
     past (inl x) = x
     past (inr x) = absurd (let same : i ≡ place = omega arith in let w = on s got in let y = w.1 in let z = rw same at t in cc)
-gives_one b ch place ports at on s got got' i n p deeds waits (takes {n = m} {deeds = ds} w t o g) e l r only =
-    gives_one b ch place ports at on s _ got' (suc i) m p ds waits g e (past (cases_lt i place)) (omega arith) (λ k x y. only k (omega arith) (omega arith))
+gives_one b ch place ports at on s got got' i n p transfers stall (takes {n = m} {transfers = ds} w t o g) e l r only =
+    gives_one b ch place ports at on s _ got' (suc i) m p ds stall g e (past (cases_lt i place)) (omega arith) (λ k x y. only k (omega arith) (omega arith))
   where
     past : (i < place) ⊎ (place ≤ i) → suc i ≤ place
     past (inl x) = x
     past (inr x) = absurd (let same : i ≡ place = omega arith in let w = on s got in let y = w.1 in let z = rw same at t in cc)
-gives_one b ch place ports at on s got got' i n p deeds waits (gives {n = m} {deeds = ds} w t o g) e l r only =
-    here (cases_lt i place) (λ x. gives_one b ch place ports at on s _ got' (suc i) m p ds waits g e x (omega arith) (λ k y z. only k (omega arith) (omega arith)))
+gives_one b ch place ports at on s got got' i n p transfers stall (gives {n = m} {transfers = ds} w t o g) e l r only =
+    here (cases_lt i place) (λ x. gives_one b ch place ports at on s _ got' (suc i) m p ds stall g e x (omega arith) (λ k y z. only k (omega arith) (omega arith)))
   where
     apart : i < place → eqb (chan_at b.sites i) ch ≡ true → ⊥
     apart x y = let same = only i (omega arith) (omega arith) (eqb-eq _ _ y) s got w t in omega arith
@@ -89,9 +89,9 @@ gives_one b ch place ports at on s got got' i n p deeds waits (gives {n = m} {de
     here (inr x) ih =
         let same : i ≡ place = omega arith in
         this_word (eqb (chan_at b.sites i) ch) _ (eq-eqb _ _ (ap (chan_at b.sites) same ∙ at))
-        (gives_nothing b ch ports s got got' (suc i) m p ds waits g (λ k y z a s' got'' w' t'. let q = only k (omega arith) (omega arith) a s' got'' w' t' in omega arith))
-gives_one b ch place ports at on s got got' i n p deeds waits (no_word t o) e l r only = cc
-gives_one b ch place ports at on s got got' i n p deeds waits (no_room w t o) e l r only = cc
+        (gives_nothing b ch ports s got got' (suc i) m p ds stall g (λ k y z a s' got'' w' t'. let q = only k (omega arith) (omega arith) a s' got'' w' t' in omega arith))
+gives_one b ch place ports at on s got got' i n p transfers stall (no_word t o) e l r only = cc
+gives_one b ch place ports at on s got got' i n p transfers stall (no_room w t o) e l r only = cc
 
 -- in each cycle every stage that holds an activation moves, and no site is done
 record Runs (q : Pipeline) (c : Registers) (k : ℕ) : Type 0 where
@@ -99,10 +99,10 @@ record Runs (q : Pipeline) (c : Registers) (k : ℕ) : Type 0 where
   clean : (j : ℕ) → j < q.stages → IsClean q c j
 
 -- no stage of a pipeline that is fed waits
-fed_passes : (q : Pipeline) → IsPipeline q → (c : Registers) (ports : Ports) → IsFed q ports → (j : ℕ) → (in_stage q c ports j).waits ≡ None
+fed_passes : (q : Pipeline) → IsPipeline q → (c : Registers) (ports : Ports) → IsFed q ports → (j : ℕ) → (in_stage q c ports j).stall ≡ None
 fed_passes q is c ports fed j = stage_meets q is c ports j (λ i site here at. fed i site here)
 
-stage_passes : (q : Pipeline) → IsPipeline q → (c : Registers) (ports : Ports) → IsFed q ports → (j : ℕ) → is_some (in_stage q c ports j).waits ≡ false
+stage_passes : (q : Pipeline) → IsPipeline q → (c : Registers) (ports : Ports) → IsFed q ports → (j : ℕ) → is_some (in_stage q c ports j).stall ≡ false
 stage_passes q is c ports fed j = ap is_some (fed_passes q is c ports fed j)
 
 all_move : (q : Pipeline) → IsPipeline q → (c : Registers) (ports : Ports) → IsFed q ports → (n j : ℕ) → j + n < q.stages → moves_before q c ports n j ≡ c.full j
@@ -183,10 +183,10 @@ chan_of (x ∷ xs) (suc i) site e = chan_of xs i site e
 
 -- the words that a cycle sends on the channel
 given_once : (q : Pipeline) → IsPipeline q → (ch place : ℕ) → SendsOnce q ch place → (c : Registers) (k : ℕ) (ports : Ports) → IsFed q ports → Runs q c k
-    → length (gave q.proc.behavior.sites ch (deeds_in q c ports)) ≡ cond (nat_le (q.stage place) k) 1 0
-unfolding deeds_in
+    → length (gave q.proc.behavior.sites ch (transfers_in q c ports)) ≡ cond (nat_le (q.stage place) k) 1 0
+unfolding transfers_in
 given_once q is ch place once c k ports fed runs =
-    ap length (given_of q c ports ch q.stages 0 ∙ all_only (λ j. gave q.proc.behavior.sites ch (in_stage q c ports j).deeds) s q.stages 0 (omega arith) (omega (arith, within)) (λ j a z ne. other j (omega arith) ne))
+    ap length (given_of q c ports ch q.stages 0 ∙ all_only (λ j. gave q.proc.behavior.sites ch (in_stage q c ports j).transfers) s q.stages 0 (omega arith) (omega (arith, within)) (λ j a z ne. other j (omega arith) ne))
     ∙ this (cases (c.full s))
   where
     s : ℕ
@@ -198,23 +198,23 @@ given_once q is ch place once c k ports fed runs =
     within : s < q.stages
     within = is.within place len
 
-    other : (j : ℕ) → j < q.stages → (j ≡ s → ⊥) → gave q.proc.behavior.sites ch (in_stage q c ports j).deeds ≡ []
+    other : (j : ℕ) → j < q.stages → (j ≡ s → ⊥) → gave q.proc.behavior.sites ch (in_stage q c ports j).transfers ≡ []
     other j l ne = go (cases (c.full j))
       where
-        go : (c.full j ≡ true) ⊎ (c.full j ≡ false) → gave q.proc.behavior.sites ch (in_stage q c ports j).deeds ≡ []
+        go : (c.full j ≡ true) ⊎ (c.full j ≡ false) → gave q.proc.behavior.sites ch (in_stage q c ports j).transfers ≡ []
         go (inr f) = idle_gives q c ports ch j f
         go (inl f) =
             let w = in_stage q c ports j in
             let grows = first_grows q is j (suc j) (omega arith) in
             let fits = first_within q (suc j) in
-            gives_nothing q.proc.behavior ch ports (brought c j).state (brought c j).got w.got (first q j) (first q (suc j) - first q j) w.place w.deeds w.waits
+            gives_nothing q.proc.behavior ch ports (brought c j).state (brought c j).got w.got (first q j) (first q (suc j) - first q j) w.place w.transfers w.stall
             (fresh_goes q c ports j f (runs.clean j l) grows)
             (λ i x y e s' got w' t.
             let same = once_at q is ch place once i (omega arith) e s' got w' t in
             let at = stage_at q is i j x (omega arith) in
             ne (sym at ∙ ap q.stage same))
 
-    this : (c.full s ≡ true) ⊎ (c.full s ≡ false) → length (gave q.proc.behavior.sites ch (in_stage q c ports s).deeds) ≡ cond (nat_le s k) 1 0
+    this : (c.full s ≡ true) ⊎ (c.full s ≡ false) → length (gave q.proc.behavior.sites ch (in_stage q c ports s).transfers) ≡ cond (nat_le s k) 1 0
     this (inr f) = ap length (idle_gives q c ports ch s f) ∙ (let e = sym (runs.full s within) ∙ f in rw e refl)
     this (inl f) =
         let w = in_stage q c ports s in
@@ -225,7 +225,7 @@ given_once q is ch place once c k ports fed runs =
         let goes = fresh_goes q c ports s f (runs.clean s within) grows in
         let e = sym (runs.full s within) ∙ f in
         gives_one q.proc.behavior ch place ports (chan_of q.proc.behavior.sites place once.site once.here ∙ once.chan_is) once.on
-        (brought c s).state (brought c s).got w.got (first q s) (first q (suc s) - first q s) w.place w.deeds w.waits goes
+        (brought c s).state (brought c s).got w.got (first q s) (first q (suc s) - first q s) w.place w.transfers w.stall goes
         (fed_passes q is c ports fed s)
         from (omega arith)
         (λ i x y a s' got w' t. once_at q is ch place once i (omega arith) a s' got w' t)
@@ -249,7 +249,7 @@ exact_from : (q : Pipeline) → IsPipeline q → q.last ≡ 0 → (ch place : �
 exact_from q is last ch place once [] fed since k runs e = let h : 0 + k ≡ k = omega arith in rw h e
 exact_from q is last ch place once (ports ∷ more) fed since k runs e =
     let one = given_once q is ch place once since.contents k ports fed.0 runs in
-    let sum = length-append (since.sent ch) (gave q.proc.behavior.sites ch (deeds_in q since.contents ports)) in
+    let sum = length-append (since.sent ch) (gave q.proc.behavior.sites ch (transfers_in q since.contents ports)) in
     let later = one_later (q.stage place) k (length (since.sent ch)) e in
     let ih = exact_from q is last ch place once more fed.1 (one_more q since ports) (suc k) (runs_on q is last since.contents k ports fed.0 runs) (sum ∙ ap (λ x. length (since.sent ch) + x) one ∙ later) in
     let h : length more + suc k ≡ suc (length more) + k = omega arith in

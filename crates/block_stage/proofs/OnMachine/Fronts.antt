@@ -6,7 +6,7 @@ use Rattle.xb_bits.specs.Word.{Word}
 use Rattle.xb_value.specs.declared.value.Value.{Value}
 use Rattle.net_core.specs.declared.event.Event.{Event}
 use Rattle.net_core.specs.Behavior.{Behavior, Turn, Skip, Receive, Give, chan_at}
-use Rattle.block_stage.specs.Machine.Cycle.{Ports, Deed, Takes, Gives, at_site, walk, is_at, kept_after}
+use Rattle.block_stage.specs.Machine.Cycle.{Ports, Transfer, Takes, Gives, at_site, walk, is_at, kept_after}
 use Rattle.block_stage.proofs.OnMachine.Choices.{eqb-same, eq_apart}
 use Rattle.block_stage.proofs.OnMachine.Walks.{Goes, ends, skips, takes, gives, no_word, no_room, walk_step, place_range}
 
@@ -34,7 +34,7 @@ done_then b done kept s got g g' i p r (sent w t o d) e = sent w t o (done_then 
 step_done : (b : Behavior) (done : ℕ → Bool) (kept : ℕ → Word) (ports : Ports) (s : Value) (got : List Word) (i n : ℕ) (turn : Turn) (d : Bool)
     → b.turn s got i ≡ turn → done i ≡ d
     → walk b done kept ports s got i (suc n)
-    ≡ at_site i got turn d (kept i) (ports.offer (chan_at b.sites i)) (ports.room (chan_at b.sites i)) (λ got'. walk b done kept ports s got' (suc i) n)
+    ≡ at_site i got turn d (kept i) (ports.valid_word (chan_at b.sites i)) (ports.room (chan_at b.sites i)) (λ got'. walk b done kept ports s got' (suc i) n)
 step_done b done kept ports s got i n turn d t e = rw (walk_step b done kept ports s got i n, t, e)
 
 pub done_walk : (b : Behavior) (done : ℕ → Bool) (kept : ℕ → Word) (ports : Ports) (s : Value) (got got' : List Word) (i p : ℕ)
@@ -80,42 +80,42 @@ or_first : (x y : Bool) → x ≡ true → (x || y) ≡ true
 or_first x y e = rw e
 
 -- what a walk makes is done behind it
-pub goes_done : (b : Behavior) (ports : Ports) (done : ℕ → Bool) (kept kept' : ℕ → Word) (s : Value) (got got' : List Word) (i n p : ℕ) (deeds : List Deed) (waits : Option Event)
-    → Goes b ports s got i n p got' deeds waits
-    → ((k : ℕ) → i ≤ k → k < p → list_any (is_at k) deeds ≡ true → done k ≡ true)
-    → ((k : ℕ) → i ≤ k → k < p → kept' k ≡ kept_after (kept k) k deeds)
+pub goes_done : (b : Behavior) (ports : Ports) (done : ℕ → Bool) (kept kept' : ℕ → Word) (s : Value) (got got' : List Word) (i n p : ℕ) (transfers : List Transfer) (stall : Option Event)
+    → Goes b ports s got i n p got' transfers stall
+    → ((k : ℕ) → i ≤ k → k < p → list_any (is_at k) transfers ≡ true → done k ≡ true)
+    → ((k : ℕ) → i ≤ k → k < p → kept' k ≡ kept_after (kept k) k transfers)
     → IsDone b done kept' s got i got' p
-goes_done b ports done kept kept' s got got' i n p deeds waits ends h e = none
-goes_done b ports done kept kept' s got got' i n p deeds waits (skips {n = m} t g) h e =
-    off t (goes_done b ports done kept kept' s got got' (suc i) m p deeds waits g (λ k l r. h k (omega arith) r) (λ k l r. e k (omega arith) r))
-goes_done b ports done kept kept' s got got' i n p deeds waits (takes {n = m} {deeds = ds} w t o g) h e =
-    let r = place_range b ports s _ got' (suc i) m p ds waits g in
+goes_done b ports done kept kept' s got got' i n p transfers stall ends h e = none
+goes_done b ports done kept kept' s got got' i n p transfers stall (skips {n = m} t g) h e =
+    off t (goes_done b ports done kept kept' s got got' (suc i) m p transfers stall g (λ k l r. h k (omega arith) r) (λ k l r. e k (omega arith) r))
+goes_done b ports done kept kept' s got got' i n p transfers stall (takes {n = m} {transfers = ds} w t o g) h e =
+    let r = place_range b ports s _ got' (suc i) m p ds stall g in
     let l : i < p = let x = r.0 in omega arith in
     let word : kept' i ≡ w = e i (omega arith) l ∙ (let q = eqb-same i in rw q) in
     received t (h i (omega arith) l (or_first (eqb i i) _ (eqb-same i)))
     (subst (λ x. IsDone b done kept' s (got ++ x ∷ []) (suc i) got' p) (sym word)
-    (goes_done b ports done kept kept' s (got ++ w ∷ []) got' (suc i) m p ds waits g
+    (goes_done b ports done kept kept' s (got ++ w ∷ []) got' (suc i) m p ds stall g
     (λ k l r x. h k (omega arith) r (or_true (eqb i k) _ x))
     (λ k l r. e k (omega arith) r ∙ (let q = eq_apart i k (λ x. omega arith) in rw q))))
-goes_done b ports done kept kept' s got got' i n p deeds waits (gives {n = m} {deeds = ds} w t o g) h e =
-    let r = place_range b ports s _ got' (suc i) m p ds waits g in
+goes_done b ports done kept kept' s got got' i n p transfers stall (gives {n = m} {transfers = ds} w t o g) h e =
+    let r = place_range b ports s _ got' (suc i) m p ds stall g in
     let l : i < p = let x = r.0 in omega arith in
     sent w t (h i (omega arith) l (or_first (eqb i i) _ (eqb-same i)))
-    (goes_done b ports done kept kept' s got got' (suc i) m p ds waits g
+    (goes_done b ports done kept kept' s got got' (suc i) m p ds stall g
     (λ k l r x. h k (omega arith) r (or_true (eqb i k) _ x))
     (λ k l r. e k (omega arith) r))
-goes_done b ports done kept kept' s got got' i n p deeds waits (no_word t o) h e = none
-goes_done b ports done kept kept' s got got' i n p deeds waits (no_room w t o) h e = none
+goes_done b ports done kept kept' s got got' i n p transfers stall (no_word t o) h e = none
+goes_done b ports done kept kept' s got got' i n p transfers stall (no_room w t o) h e = none
 
 -- a word stays kept where no receive of its place goes
-pub kept_stays : (kept : Word) (k : ℕ) (deeds : List Deed) → list_any (is_at k) deeds ≡ false → kept_after kept k deeds ≡ kept
+pub kept_stays : (kept : Word) (k : ℕ) (transfers : List Transfer) → list_any (is_at k) transfers ≡ false → kept_after kept k transfers ≡ kept
 kept_stays kept k [] h = refl
-kept_stays kept k (Takes i w ∷ deeds) h = go (eqb i k) h (λ r. kept_stays kept k deeds r)
+kept_stays kept k (Takes i w ∷ transfers) h = go (eqb i k) h (λ r. kept_stays kept k transfers r)
   where
-    go : (t : Bool) → (t || list_any (is_at k) deeds) ≡ false → (list_any (is_at k) deeds ≡ false → kept_after kept k deeds ≡ kept) → cond t w (kept_after kept k deeds) ≡ kept
+    go : (t : Bool) → (t || list_any (is_at k) transfers) ≡ false → (list_any (is_at k) transfers ≡ false → kept_after kept k transfers ≡ kept) → cond t w (kept_after kept k transfers) ≡ kept
     go true h ih = cc
     go false h ih = ih h
-kept_stays kept k (Gives i w ∷ deeds) h = kept_stays kept k deeds (or_false_right (eqb i k) _ h)
+kept_stays kept k (Gives i w ∷ transfers) h = kept_stays kept k transfers (or_false_right (eqb i k) _ h)
   where
     or_false_right : (x y : Bool) → (x || y) ≡ false → y ≡ false
     or_false_right true y e = cc

@@ -31,14 +31,14 @@ pub order_kept : {A : Type 0} (f f' : ℕ → List A) (full full' moves : ℕ �
     → ((j : ℕ) → f' (suc j) ≡ cond (moves j) (f j) (f (suc j)))
     → (n k : ℕ) → k + n ≡ top
     → cond (moves top) (f top) [] ++ gather f' full' (suc k) n ≡ gather f full (suc k) n ++ cond (moves k) (f k) []
-order_kept f f' full full' moves top free held fulls fs zero k e =
+order_kept f f' full full' moves top free stage_regs fulls fs zero k e =
     let h : k ≡ top = omega arith in
     rw h (append-nil (cond (moves top) (f top) []))
-order_kept f f' full full' moves top free held fulls fs (suc n) k e =
-    let ih = order_kept f f' full full' moves top free held fulls fs n (suc k) (omega arith) in
+order_kept f f' full full' moves top free stage_regs fulls fs (suc n) k e =
+    let ih = order_kept f f' full full' moves top free stage_regs fulls fs n (suc k) (omega arith) in
     ap (λ x. cond (moves top) (f top) [] ++ (gather f' full' (suc (suc k)) n ++ x)) (ap (λ t. cond t (f' (suc k)) []) (fulls k) ∙ ap (λ x. cond (moves k || (full (suc k) && not (moves (suc k)))) x []) (fs k))
     ∙ one_stage (cond (moves top) (f top) []) (gather f' full' (suc (suc k)) n) (gather f full (suc (suc k)) n) (f k) (f (suc k)) (moves k) (full (suc k)) (moves (suc k))
-    (free k (omega arith)) (held (suc k)) ih
+    (free k (omega arith)) (stage_regs (suc k)) ih
 
 -- what a function gives at so many stages from k on
 abbrev pub all_of : {A : Type 0} → (ℕ → List A) → ℕ → ℕ → List A

@@ -6,7 +6,7 @@ use Rattle.std.specs.List.{list_any}
 use Rattle.xb_bits.specs.Word.{Word}
 use Rattle.xb_value.specs.declared.value.Value.{Value}
 use Rattle.block_stage.specs.Machine.Pipeline.{Pipeline, IsPipeline, first}
-use Rattle.block_stage.specs.Machine.Cycle.{Ports, Begun, Registers, brought, Walk, walk, in_stage, moves, is_at, kept_after, after_cycle}
+use Rattle.block_stage.specs.Machine.Cycle.{Ports, StageEntry, Registers, brought, Walk, walk, in_stage, moves, is_at, kept_after, after_cycle}
 use Rattle.block_stage.proofs.OnMachine.Walks.{IsGoing, walk_goes, passes_all, place_range, nothing_outside}
 use Rattle.block_stage.proofs.OnMachine.Fronts.{IsDone, none, done_range, done_then, done_walk, done_stays, goes_done, kept_stays}
 use Rattle.block_stage.proofs.OnMachine.Stages.{stage_at, first_grows, first_zero}
@@ -61,19 +61,19 @@ and_false false = refl
 
 -- the done bit of a site after a cycle
 done_after : (q : Pipeline) → IsPipeline q → (c : Registers) (ports : Ports) (j k : ℕ) → first q j ≤ k → k < first q (suc j)
-    → (after_cycle q c ports).done k ≡ ((c.done k || list_any (is_at k) (in_stage q c ports j).deeds) && not (moves q c ports j))
+    → (after_cycle q c ports).done k ≡ ((c.done k || list_any (is_at k) (in_stage q c ports j).transfers) && not (moves q c ports j))
 unfolding after_cycle
-done_after q is c ports j k l r = ap (λ s. (c.done k || list_any (is_at k) (in_stage q c ports s).deeds) && not (moves q c ports s)) (stage_at q is k j l r)
+done_after q is c ports j k l r = ap (λ s. (c.done k || list_any (is_at k) (in_stage q c ports s).transfers) && not (moves q c ports s)) (stage_at q is k j l r)
 
 word_after : (q : Pipeline) → IsPipeline q → (c : Registers) (ports : Ports) (j k : ℕ) → first q j ≤ k → k < first q (suc j)
-    → (after_cycle q c ports).kept k ≡ kept_after (c.kept k) k (in_stage q c ports j).deeds
+    → (after_cycle q c ports).kept k ≡ kept_after (c.kept k) k (in_stage q c ports j).transfers
 unfolding after_cycle
-word_after q is c ports j k l r = ap (λ s. kept_after (c.kept k) k (in_stage q c ports s).deeds) (stage_at q is k j l r)
+word_after q is c ports j k l r = ap (λ s. kept_after (c.kept k) k (in_stage q c ports s).transfers) (stage_at q is k j l r)
 
 -- a stage that moved has no done site
 pub cleared_by_moving : (q : Pipeline) → IsPipeline q → (c : Registers) (ports : Ports) (j : ℕ) → moves q c ports j ≡ true → IsClean q (after_cycle q c ports) j
 cleared_by_moving q is c ports j m k l r =
-    done_after q is c ports j k l r ∙ (rw m (and_false (c.done k || list_any (is_at k) (in_stage q c ports j).deeds)))
+    done_after q is c ports j k l r ∙ (rw m (and_false (c.done k || list_any (is_at k) (in_stage q c ports j).transfers)))
 
 -- nor has one that held no activation
 pub clean_stays : (q : Pipeline) → IsPipeline q → (c : Registers) (ports : Ports) (j : ℕ) → c.full j ≡ false → IsClean q c j → IsClean q (after_cycle q c ports) j
@@ -91,25 +91,25 @@ holds_on q is c ports j act f h m same =
     let n = first q (suc j) - act.place in
     let u = h.until in
     let go = stage_goes q c ports j act f h in
-    let range = place_range q.proc.behavior ports act.state act.got w.got act.place n w.place w.deeds w.waits go in
+    let range = place_range q.proc.behavior ports act.state act.got w.got act.place n w.place w.transfers w.stall go in
     let from = done_range q.proc.behavior c.done c.kept act.state (brought c j).got act.got (first q j) act.place h.done in
     let a = range.0 in
     let z : w.place ≤ first q (suc j) = let y = range.1 in omega arith in
     record {
-      state = ap (λ (x : Begun). x.state) same ∙ h.state;
-      done = subst (λ x. IsDone q.proc.behavior (after_cycle q c ports).done (after_cycle q c ports).kept act.state x (first q j) w.got w.place) (sym (ap (λ (x : Begun). x.got) same))
+      state = ap (λ (x : StageEntry). x.state) same ∙ h.state;
+      done = subst (λ x. IsDone q.proc.behavior (after_cycle q c ports).done (after_cycle q c ports).kept act.state x (first q j) w.got w.place) (sym (ap (λ (x : StageEntry). x.got) same))
           (done_then q.proc.behavior (after_cycle q c ports).done (after_cycle q c ports).kept act.state (brought c j).got act.got w.got (first q j) act.place w.place
           (done_stays q.proc.behavior c.done (after_cycle q c ports).done c.kept (after_cycle q c ports).kept act.state (brought c j).got act.got (first q j) act.place h.done
           (λ k l r d. (
             done_after q is c ports j k l (omega arith) ∙ rw (m, d),
-            word_after q is c ports j k l (omega arith) ∙ kept_stays (c.kept k) k w.deeds
-                (nothing_outside q.proc.behavior ports act.state act.got w.got act.place n w.place w.deeds w.waits go k (inl r)),
+            word_after q is c ports j k l (omega arith) ∙ kept_stays (c.kept k) k w.transfers
+                (nothing_outside q.proc.behavior ports act.state act.got w.got act.place n w.place w.transfers w.stall go k (inl r)),
           )))
-          (goes_done q.proc.behavior ports (after_cycle q c ports).done c.kept (after_cycle q c ports).kept act.state act.got w.got act.place n w.place w.deeds w.waits go
+          (goes_done q.proc.behavior ports (after_cycle q c ports).done c.kept (after_cycle q c ports).kept act.state act.got w.got act.place n w.place w.transfers w.stall go
           (λ k l r d. done_after q is c ports j k (omega arith) (omega arith) ∙ both (c.done k) _ _ d m)
           (λ k l r. word_after q is c ports j k (omega arith) (omega arith))));
       until = z;
-      undone = λ k l r. done_after q is c ports j k (omega arith) r ∙ none_of (c.done k) _ _ (h.undone k (omega arith) r) (nothing_outside q.proc.behavior ports act.state act.got w.got act.place n w.place w.deeds w.waits go k (inr l));
+      undone = λ k l r. done_after q is c ports j k (omega arith) r ∙ none_of (c.done k) _ _ (h.undone k (omega arith) r) (nothing_outside q.proc.behavior ports act.state act.got w.got act.place n w.place w.transfers w.stall go k (inr l));
     }
   where
     both : (x y z : Bool) → y ≡ true → z ≡ false → ((x || y) && not z) ≡ true
@@ -134,11 +134,11 @@ comes_in q is c ports j act m h clean =
     let u = h.until in
     let mv = moving q c ports j m in
     let go = stage_goes q c ports j act mv.full h in
-    let all : w.place ≡ first q (suc j) = let y = passes_all q.proc.behavior ports act.state act.got w.got act.place n w.place w.deeds w.waits go mv.waits in omega arith in
+    let all : w.place ≡ first q (suc j) = let y = passes_all q.proc.behavior ports act.state act.got w.got act.place n w.place w.transfers w.stall go mv.stall in omega arith in
     let is_brought = brought_in q c ports j m in
     record {
-      state = ap (λ (x : Begun). x.state) is_brought ∙ h.state;
-      done = subst (λ x. IsDone q.proc.behavior (after_cycle q c ports).done (after_cycle q c ports).kept act.state x (first q (suc j)) w.got w.place) (sym (ap (λ (x : Begun). x.got) is_brought))
+      state = ap (λ (x : StageEntry). x.state) is_brought ∙ h.state;
+      done = subst (λ x. IsDone q.proc.behavior (after_cycle q c ports).done (after_cycle q c ports).kept act.state x (first q (suc j)) w.got w.place) (sym (ap (λ (x : StageEntry). x.got) is_brought))
           (subst (λ x. IsDone q.proc.behavior (after_cycle q c ports).done (after_cycle q c ports).kept act.state w.got (first q (suc j)) w.got x) (sym all) none);
       until = let g = first_grows q is (suc j) (suc (suc j)) (omega arith) in omega arith;
       undone = λ k l r. clean k (omega arith) r;

@@ -10,7 +10,7 @@ use Rattle.net_core.specs.declared.event.Event.TheVariants.{Recv, Send, End}
 use Rattle.net_core.specs.Behavior.{Behavior, Turn, Skip, Receive, Give, chan_at}
 use Rattle.net_core.specs.Trace.{Histories}
 use Rattle.net_core.specs.Cuts.{words_sent, count_received}
-use Rattle.block_stage.specs.Machine.Cycle.{Ports, Deed, Takes, Gives, event_of}
+use Rattle.block_stage.specs.Machine.Cycle.{Ports, Transfer, Takes, Gives, event_of}
 use Rattle.block_stage.specs.Machine.Since.{took, gave}
 use Rattle.block_stage.proofs.OnMachine.Choices.{eqb-eq, if_none, if_plus}
 use Rattle.block_stage.proofs.OnMachine.Walks.{Goes, ends, skips, takes, gives, no_word, no_room}
@@ -47,39 +47,39 @@ left_step : (b : Behavior) (s : Value) (got : List Word) (i m k : ℕ) (turn : T
 left_step b s got i m k turn e t = rw e (ap (λ x. left_at i x (left b s got (suc i) k)) t)
 
 -- a walk makes the first of them
-pub goes_left : (b : Behavior) (a : ℕ) → NoReceive b a → (ports : Ports) (s : Value) (got got' : List Word) (i n p : ℕ) (deeds : List Deed) (waits : Option Event)
-    → Goes b ports s got i n p got' deeds waits → a ≤ i → i + n ≤ length b.sites → (m m' : ℕ) → n ≤ m → i + m ≡ p + m'
-    → left b s got i m ≡ map event_of deeds ++ left b s got' p m'
-goes_left b a bars ports s got got' i n p deeds waits ends l len m m' le e = let h : m ≡ m' = omega arith in rw h
-goes_left b a bars ports s got got' i n p deeds waits (skips {n = r} t g) l len m m' le e =
+pub goes_left : (b : Behavior) (a : ℕ) → NoReceive b a → (ports : Ports) (s : Value) (got got' : List Word) (i n p : ℕ) (transfers : List Transfer) (stall : Option Event)
+    → Goes b ports s got i n p got' transfers stall → a ≤ i → i + n ≤ length b.sites → (m m' : ℕ) → n ≤ m → i + m ≡ p + m'
+    → left b s got i m ≡ map event_of transfers ++ left b s got' p m'
+goes_left b a bars ports s got got' i n p transfers stall ends l len m m' le e = let h : m ≡ m' = omega arith in rw h
+goes_left b a bars ports s got got' i n p transfers stall (skips {n = r} t g) l len m m' le e =
     let k : m ≡ suc (m - 1) = omega arith in
-    left_step b s got i m (m - 1) Skip k t ∙ goes_left b a bars ports s got got' (suc i) r p deeds waits g (omega arith) (omega arith) (m - 1) m' (omega arith) (omega arith)
-goes_left b a bars ports s got got' i n p deeds waits (takes {n = r} w t o g) l len m m' le e = absurd (bars s got i l (omega arith) t)
-goes_left b a bars ports s got got' i n p deeds waits (gives {n = r} {deeds = ds} w t o g) l len m m' le e =
+    left_step b s got i m (m - 1) Skip k t ∙ goes_left b a bars ports s got got' (suc i) r p transfers stall g (omega arith) (omega arith) (m - 1) m' (omega arith) (omega arith)
+goes_left b a bars ports s got got' i n p transfers stall (takes {n = r} w t o g) l len m m' le e = absurd (bars s got i l (omega arith) t)
+goes_left b a bars ports s got got' i n p transfers stall (gives {n = r} {transfers = ds} w t o g) l len m m' le e =
     let k : m ≡ suc (m - 1) = omega arith in
     left_step b s got i m (m - 1) (Give w) k t
-    ∙ ap (λ es. Send i w ∷ es) (goes_left b a bars ports s got got' (suc i) r p ds waits g (omega arith) (omega arith) (m - 1) m' (omega arith) (omega arith))
-goes_left b a bars ports s got got' i n p deeds waits (no_word {n = r} t o) l len m m' le e = absurd (bars s got i l (omega arith) t)
-goes_left b a bars ports s got got' i n p deeds waits (no_room w t o) l len m m' le e = let h : m ≡ m' = omega arith in rw h
+    ∙ ap (λ es. Send i w ∷ es) (goes_left b a bars ports s got got' (suc i) r p ds stall g (omega arith) (omega arith) (m - 1) m' (omega arith) (omega arith))
+goes_left b a bars ports s got got' i n p transfers stall (no_word {n = r} t o) l len m m' le e = absurd (bars s got i l (omega arith) t)
+goes_left b a bars ports s got got' i n p transfers stall (no_room w t o) l len m m' le e = let h : m ≡ m' = omega arith in rw h
 
 -- and receives nothing
-pub got_stays : (b : Behavior) (a : ℕ) → NoReceive b a → (ports : Ports) (s : Value) (got got' : List Word) (i n p : ℕ) (deeds : List Deed) (waits : Option Event)
-    → Goes b ports s got i n p got' deeds waits → a ≤ i → i + n ≤ length b.sites → got' ≡ got
-got_stays b a bars ports s got got' i n p deeds waits ends l len = refl
-got_stays b a bars ports s got got' i n p deeds waits (skips {n = r} t g) l len = got_stays b a bars ports s got got' (suc i) r p deeds waits g (omega arith) (omega arith)
-got_stays b a bars ports s got got' i n p deeds waits (takes {n = r} w t o g) l len = absurd (bars s got i l (omega arith) t)
-got_stays b a bars ports s got got' i n p deeds waits (gives {n = r} {deeds = ds} w t o g) l len = got_stays b a bars ports s got got' (suc i) r p ds waits g (omega arith) (omega arith)
-got_stays b a bars ports s got got' i n p deeds waits (no_word t o) l len = refl
-got_stays b a bars ports s got got' i n p deeds waits (no_room w t o) l len = refl
+pub got_stays : (b : Behavior) (a : ℕ) → NoReceive b a → (ports : Ports) (s : Value) (got got' : List Word) (i n p : ℕ) (transfers : List Transfer) (stall : Option Event)
+    → Goes b ports s got i n p got' transfers stall → a ≤ i → i + n ≤ length b.sites → got' ≡ got
+got_stays b a bars ports s got got' i n p transfers stall ends l len = refl
+got_stays b a bars ports s got got' i n p transfers stall (skips {n = r} t g) l len = got_stays b a bars ports s got got' (suc i) r p transfers stall g (omega arith) (omega arith)
+got_stays b a bars ports s got got' i n p transfers stall (takes {n = r} w t o g) l len = absurd (bars s got i l (omega arith) t)
+got_stays b a bars ports s got got' i n p transfers stall (gives {n = r} {transfers = ds} w t o g) l len = got_stays b a bars ports s got got' (suc i) r p ds stall g (omega arith) (omega arith)
+got_stays b a bars ports s got got' i n p transfers stall (no_word t o) l len = refl
+got_stays b a bars ports s got got' i n p transfers stall (no_room w t o) l len = refl
 
-pub takes_nothing : (b : Behavior) (a : ℕ) → NoReceive b a → (c : ℕ) (ports : Ports) (s : Value) (got got' : List Word) (i n p : ℕ) (deeds : List Deed) (waits : Option Event)
-    → Goes b ports s got i n p got' deeds waits → a ≤ i → i + n ≤ length b.sites → took b.sites c deeds ≡ []
-takes_nothing b a bars c ports s got got' i n p deeds waits ends l len = refl
-takes_nothing b a bars c ports s got got' i n p deeds waits (skips {n = r} t g) l len = takes_nothing b a bars c ports s got got' (suc i) r p deeds waits g (omega arith) (omega arith)
-takes_nothing b a bars c ports s got got' i n p deeds waits (takes {n = r} w t o g) l len = absurd (bars s got i l (omega arith) t)
-takes_nothing b a bars c ports s got got' i n p deeds waits (gives {n = r} {deeds = ds} w t o g) l len = takes_nothing b a bars c ports s got got' (suc i) r p ds waits g (omega arith) (omega arith)
-takes_nothing b a bars c ports s got got' i n p deeds waits (no_word t o) l len = refl
-takes_nothing b a bars c ports s got got' i n p deeds waits (no_room w t o) l len = refl
+pub takes_nothing : (b : Behavior) (a : ℕ) → NoReceive b a → (c : ℕ) (ports : Ports) (s : Value) (got got' : List Word) (i n p : ℕ) (transfers : List Transfer) (stall : Option Event)
+    → Goes b ports s got i n p got' transfers stall → a ≤ i → i + n ≤ length b.sites → took b.sites c transfers ≡ []
+takes_nothing b a bars c ports s got got' i n p transfers stall ends l len = refl
+takes_nothing b a bars c ports s got got' i n p transfers stall (skips {n = r} t g) l len = takes_nothing b a bars c ports s got got' (suc i) r p transfers stall g (omega arith) (omega arith)
+takes_nothing b a bars c ports s got got' i n p transfers stall (takes {n = r} w t o g) l len = absurd (bars s got i l (omega arith) t)
+takes_nothing b a bars c ports s got got' i n p transfers stall (gives {n = r} {transfers = ds} w t o g) l len = takes_nothing b a bars c ports s got got' (suc i) r p ds stall g (omega arith) (omega arith)
+takes_nothing b a bars c ports s got got' i n p transfers stall (no_word t o) l len = refl
+takes_nothing b a bars c ports s got got' i n p transfers stall (no_room w t o) l len = refl
 
 -- sums over lists of events
 if_append : (t : Bool) (w : Word) (xs ys zs : List Word) → zs ≡ xs ++ ys → cond t (w ∷ zs) zs ≡ cond t (w ∷ xs) xs ++ ys
@@ -105,11 +105,11 @@ if_length true w n xs e = omega arith
 if_length false w n xs e = e
 
 -- a receive for each word that a walk takes
-pub count_taken : (sites : List Site) (c : ℕ) (deeds : List Deed) → count_received sites c (map event_of deeds) ≡ length (took sites c deeds)
+pub count_taken : (sites : List Site) (c : ℕ) (transfers : List Transfer) → count_received sites c (map event_of transfers) ≡ length (took sites c transfers)
 unfolding count_received
 count_taken sites c [] = refl
-count_taken sites c (Takes i w ∷ deeds) = if_length (eqb (chan_at sites i) c) w _ _ (count_taken sites c deeds)
-count_taken sites c (Gives i w ∷ deeds) = count_taken sites c deeds
+count_taken sites c (Takes i w ∷ transfers) = if_length (eqb (chan_at sites i) c) w _ _ (count_taken sites c transfers)
+count_taken sites c (Gives i w ∷ transfers) = count_taken sites c transfers
 
 pub count_left : (b : Behavior) (c : ℕ) (s : Value) (got : List Word) (n i : ℕ) → count_received b.sites c (left b s got i n) ≡ 0
 unfolding count_received
@@ -121,28 +121,28 @@ count_left b c s got (suc n) i = go (b.turn s got i) (count_left b c s got n (su
     go Receive h = h
     go (Give w) h = h
 
-pub took-append : (sites : List Site) (c : ℕ) (xs ys : List Deed) → took sites c (xs ++ ys) ≡ took sites c xs ++ took sites c ys
+pub took-append : (sites : List Site) (c : ℕ) (xs ys : List Transfer) → took sites c (xs ++ ys) ≡ took sites c xs ++ took sites c ys
 took-append sites c [] ys = refl
 took-append sites c (Takes i w ∷ xs) ys = if_append (eqb (chan_at sites i) c) w _ _ _ (took-append sites c xs ys)
 took-append sites c (Gives i w ∷ xs) ys = took-append sites c xs ys
 
-pub gave-append : (sites : List Site) (c : ℕ) (xs ys : List Deed) → gave sites c (xs ++ ys) ≡ gave sites c xs ++ gave sites c ys
+pub gave-append : (sites : List Site) (c : ℕ) (xs ys : List Transfer) → gave sites c (xs ++ ys) ≡ gave sites c xs ++ gave sites c ys
 gave-append sites c xs ys = ap (words_sent sites c) (map-append event_of xs ys) ∙ words_sent-append sites c (map event_of xs) (map event_of ys)
 
 -- from this place on nothing is sent on a channel
 abbrev pub IsSilent : Behavior → ℕ → ℕ → Type 0
 IsSilent b c a = (k : ℕ) → a ≤ k → k < length b.sites → chan_at b.sites k ≡ c → (s : Value) (got : List Word) (w : Word) → b.turn s got k ≡ Give w → ⊥
 
-pub silent_gives : (b : Behavior) (c a : ℕ) → IsSilent b c a → (ports : Ports) (s : Value) (got got' : List Word) (i n p : ℕ) (deeds : List Deed) (waits : Option Event)
-    → Goes b ports s got i n p got' deeds waits → a ≤ i → i + n ≤ length b.sites → gave b.sites c deeds ≡ []
+pub silent_gives : (b : Behavior) (c a : ℕ) → IsSilent b c a → (ports : Ports) (s : Value) (got got' : List Word) (i n p : ℕ) (transfers : List Transfer) (stall : Option Event)
+    → Goes b ports s got i n p got' transfers stall → a ≤ i → i + n ≤ length b.sites → gave b.sites c transfers ≡ []
 unfolding words_sent
-silent_gives b c a bars ports s got got' i n p deeds waits ends l len = refl
-silent_gives b c a bars ports s got got' i n p deeds waits (skips {n = r} t g) l len = silent_gives b c a bars ports s _ got' (suc i) r p deeds waits g (omega arith) (omega arith)
-silent_gives b c a bars ports s got got' i n p deeds waits (takes {n = r} {deeds = ds} w t o g) l len = silent_gives b c a bars ports s _ got' (suc i) r p ds waits g (omega arith) (omega arith)
-silent_gives b c a bars ports s got got' i n p deeds waits (gives {n = r} {deeds = ds} w t o g) l len =
-    if_none (eqb (chan_at b.sites i) c) w _ (λ h. bars i l (omega arith) (eqb-eq _ _ h) s got w t) (silent_gives b c a bars ports s _ got' (suc i) r p ds waits g (omega arith) (omega arith))
-silent_gives b c a bars ports s got got' i n p deeds waits (no_word t o) l len = refl
-silent_gives b c a bars ports s got got' i n p deeds waits (no_room w t o) l len = refl
+silent_gives b c a bars ports s got got' i n p transfers stall ends l len = refl
+silent_gives b c a bars ports s got got' i n p transfers stall (skips {n = r} t g) l len = silent_gives b c a bars ports s _ got' (suc i) r p transfers stall g (omega arith) (omega arith)
+silent_gives b c a bars ports s got got' i n p transfers stall (takes {n = r} {transfers = ds} w t o g) l len = silent_gives b c a bars ports s _ got' (suc i) r p ds stall g (omega arith) (omega arith)
+silent_gives b c a bars ports s got got' i n p transfers stall (gives {n = r} {transfers = ds} w t o g) l len =
+    if_none (eqb (chan_at b.sites i) c) w _ (λ h. bars i l (omega arith) (eqb-eq _ _ h) s got w t) (silent_gives b c a bars ports s _ got' (suc i) r p ds stall g (omega arith) (omega arith))
+silent_gives b c a bars ports s got got' i n p transfers stall (no_word t o) l len = refl
+silent_gives b c a bars ports s got got' i n p transfers stall (no_room w t o) l len = refl
 
 pub silent_left : (b : Behavior) (c a : ℕ) → IsSilent b c a → (s : Value) (got : List Word) (n i : ℕ) → a ≤ i → i + n ≤ length b.sites → words_sent b.sites c (left b s got i n) ≡ []
 unfolding words_sent
@@ -169,23 +169,23 @@ further : (b : Behavior) (c i j : ℕ) → SendsAt b c (suc i) j → SendsAt b c
 further b c i j at = let f = at.from in record { place = at.place; from = omega arith; until = at.until; chan = at.chan; state = at.state; got = at.got; word = at.word; turn = at.turn }
 
 -- where a walk sends a word on a channel, there is one
-pub sends_at : (b : Behavior) (c : ℕ) (ports : Ports) (s : Value) (got got' : List Word) (i n p : ℕ) (deeds : List Deed) (waits : Option Event)
-    → Goes b ports s got i n p got' deeds waits → (v : Word) (vs : List Word) → gave b.sites c deeds ≡ v ∷ vs → SendsAt b c i (i + n)
+pub sends_at : (b : Behavior) (c : ℕ) (ports : Ports) (s : Value) (got got' : List Word) (i n p : ℕ) (transfers : List Transfer) (stall : Option Event)
+    → Goes b ports s got i n p got' transfers stall → (v : Word) (vs : List Word) → gave b.sites c transfers ≡ v ∷ vs → SendsAt b c i (i + n)
 unfolding words_sent
-sends_at b c ports s got got' i n p deeds waits ends v vs e = cc
-sends_at b c ports s got got' i n p deeds waits (skips {n = r} t g) v vs e =
+sends_at b c ports s got got' i n p transfers stall ends v vs e = cc
+sends_at b c ports s got got' i n p transfers stall (skips {n = r} t g) v vs e =
     let h : suc i + r ≡ i + suc r = omega arith in
-    subst (SendsAt b c i) h (further b c i _ (sends_at b c ports s _ got' (suc i) r p deeds waits g v vs e))
-sends_at b c ports s got got' i n p deeds waits (takes {n = r} {deeds = ds} w t o g) v vs e =
+    subst (SendsAt b c i) h (further b c i _ (sends_at b c ports s _ got' (suc i) r p transfers stall g v vs e))
+sends_at b c ports s got got' i n p transfers stall (takes {n = r} {transfers = ds} w t o g) v vs e =
     let h : suc i + r ≡ i + suc r = omega arith in
-    subst (SendsAt b c i) h (further b c i _ (sends_at b c ports s _ got' (suc i) r p ds waits g v vs e))
-sends_at b c ports s got got' i n p deeds waits (gives {n = r} {deeds = ds} w t o g) v vs e =
+    subst (SendsAt b c i) h (further b c i _ (sends_at b c ports s _ got' (suc i) r p ds stall g v vs e))
+sends_at b c ports s got got' i n p transfers stall (gives {n = r} {transfers = ds} w t o g) v vs e =
     let h : suc i + r ≡ i + suc r = omega arith in
-    go (eqb (chan_at b.sites i) c) refl (λ x. subst (SendsAt b c i) h (further b c i _ (sends_at b c ports s _ got' (suc i) r p ds waits g v vs x))) e
+    go (eqb (chan_at b.sites i) c) refl (λ x. subst (SendsAt b c i) h (further b c i _ (sends_at b c ports s _ got' (suc i) r p ds stall g v vs x))) e
   where
     go : (x : Bool) → eqb (chan_at b.sites i) c ≡ x → (gave b.sites c ds ≡ v ∷ vs → SendsAt b c i (i + suc r))
         → cond x (w ∷ gave b.sites c ds) (gave b.sites c ds) ≡ v ∷ vs → SendsAt b c i (i + suc r)
     go true x ih y = record { place = i; from = omega arith; until = omega arith; chan = eqb-eq _ _ x; state = s; got = got; word = w; turn = t }
     go false x ih y = ih y
-sends_at b c ports s got got' i n p deeds waits (no_word t o) v vs e = cc
-sends_at b c ports s got got' i n p deeds waits (no_room w t o) v vs e = cc
+sends_at b c ports s got got' i n p transfers stall (no_word t o) v vs e = cc
+sends_at b c ports s got got' i n p transfers stall (no_room w t o) v vs e = cc

@@ -13,19 +13,19 @@ pub and_right : (x y : Bool) → (x && y) ≡ true → y ≡ true
 and_right true y e = e
 and_right false y e = cc
 
-none_is : (waits : Option Event) → not (is_some waits) ≡ true → waits ≡ None
+none_is : (stall : Option Event) → not (is_some stall) ≡ true → stall ≡ None
 none_is None e = refl
 none_is (Some w) e = cc
 
 pub record IsMoving (q : Pipeline) (c : Registers) (ports : Ports) (j : ℕ) : Type 0 where
   pub full : c.full j ≡ true
-  pub waits : (in_stage q c ports j).waits ≡ None
+  pub stall : (in_stage q c ports j).stall ≡ None
 
 moving_before : (q : Pipeline) (c : Registers) (ports : Ports) (n j : ℕ) → moves_before q c ports n j ≡ true → IsMoving q c ports j
-moving_before q c ports zero j e = record { full = and_left (c.full j) _ e; waits = none_is _ (and_right (c.full j) _ e) }
+moving_before q c ports zero j e = record { full = and_left (c.full j) _ e; stall = none_is _ (and_right (c.full j) _ e) }
 moving_before q c ports (suc n) j e =
-    let here = and_left (c.full j && not (is_some (in_stage q c ports j).waits)) _ e in
-    record { full = and_left (c.full j) _ here; waits = none_is _ (and_right (c.full j) _ here) }
+    let here = and_left (c.full j && not (is_some (in_stage q c ports j).stall)) _ e in
+    record { full = and_left (c.full j) _ here; stall = none_is _ (and_right (c.full j) _ here) }
 
 -- a stage that moves holds an activation, which waits for nothing
 pub moving : (q : Pipeline) (c : Registers) (ports : Ports) (j : ℕ) → moves q c ports j ≡ true → IsMoving q c ports j
@@ -42,7 +42,7 @@ pub next_is_free : (q : Pipeline) (c : Registers) (ports : Ports) (j : ℕ) → 
 unfolding moves
 next_is_free q c ports j l e f =
     let h : q.stages - suc j ≡ suc (q.stages - suc (suc j)) = omega arith in
-    next_moves (c.full j && not (is_some (in_stage q c ports j).waits)) _ _ (rw h at e) f
+    next_moves (c.full j && not (is_some (in_stage q c ports j).stall)) _ _ (rw h at e) f
 
 -- a stage that holds no activation does nothing
 pub idle : (q : Pipeline) (c : Registers) (ports : Ports) (j : ℕ) → c.full j ≡ false → in_stage q c ports j ≡ stopped (first q j) [] None

@@ -5,8 +5,8 @@ use Rattle.std.proofs.lemmas.List.{append-nil}
 use Rattle.xb_bits.specs.Word.{Word}
 use Rattle.net_core.specs.declared.event.Event.{Event}
 use Rattle.net_core.specs.Trace.{trace}
-use Rattle.base.specs.Lists.Front.{IsFront}
-use Rattle.base.proofs.Lemmas.Lists.Fronts.{IsFront-append, IsFront-refl}
+use Rattle.base.specs.Lists.Prefix.{IsPrefix}
+use Rattle.base.proofs.Lemmas.Lists.Prefixes.{IsPrefix-append, IsPrefix-refl}
 use Rattle.net_core.specs.Cuts.{words_sent, count_received}
 use Rattle.net_core.proofs.Lemmas.{only_words_are_received}
 use Rattle.block_stage.specs.Machine.Pipeline.{Pipeline, IsPipeline}
@@ -16,7 +16,7 @@ use Rattle.block_stage.proofs.OnMachine.Choices.{eq_apart}
 use Rattle.block_stage.proofs.OnMachine.Lefts.{words_sent-append, count_received-append}
 use Rattle.block_stage.proofs.OnMachine.Holding.{Act, IsHeld, IsClean, begins}
 use Rattle.block_stage.proofs.OnMachine.Gathering.{gather, gather_none}
-use Rattle.block_stage.proofs.OnMachine.Standing.{Past, Stands, left_of, begun_of, stages_past, trace_on}
+use Rattle.block_stage.proofs.OnMachine.Standing.{Past, Stands, left_of, stage_entry_of, stages_past, trace_on}
 use Rattle.block_stage.proofs.OnMachine.Steps.{trace_begins, stands_next}
 
 first_act : Pipeline → Act
@@ -45,19 +45,19 @@ reset_state q = refl
 pub stands_at_reset : (q : Pipeline) → IsPipeline q → Stands q (at_reset q) 0 (past_at_reset q)
 unfolding past_at_reset
 stands_at_reset q is = record {
-  held = held;
+  stage_regs = stage_regs;
   turn = record { within = omega arith; here = reset_here q; alone = alone };
   traces = λ n k l e more. (let h : n ≡ k = omega arith in rw h (trace_begins q.proc.behavior k q.proc.opening more));
   owes = λ ch. ap (words_sent q.proc.behavior.sites ch) (sym (none_inside (λ j. left_of q (record { state = q.proc.opening; got = []; place = 0 })) (stages_past q) q.last));
   receives = λ ch. unfold count_received in refl;
   few = omega arith;
-  older = sym (none_inside (λ j. begun_of (record { state = q.proc.opening; got = []; place = 0 })) (stages_past q) q.last);
+  older = sym (none_inside (λ j. stage_entry_of (record { state = q.proc.opening; got = []; place = 0 })) (stages_past q) q.last);
   counted = refl;
 }
   where
-    held : (j : ℕ) → j < q.stages → IsHeld q (opened q) j (record { state = q.proc.opening; got = []; place = 0 })
-    held zero l = record { full = λ t. begins q is (opened q) q.proc.opening (reset_state q) (reset_clean q 0); free = λ t. reset_clean q 0 }
-    held (suc j) l = record { full = λ t. absurd (let f = full_at_reset q j in cc); free = λ t. reset_clean q (suc j) }
+    stage_regs : (j : ℕ) → j < q.stages → IsHeld q (opened q) j (record { state = q.proc.opening; got = []; place = 0 })
+    stage_regs zero l = record { full = λ t. begins q is (opened q) q.proc.opening (reset_state q) (reset_clean q 0); free = λ t. reset_clean q 0 }
+    stage_regs (suc j) l = record { full = λ t. absurd (let f = full_at_reset q j in cc); free = λ t. reset_clean q (suc j) }
 
     alone : (j : ℕ) → j ≤ q.last → (j ≡ 0 → ⊥) → (opened q).full j ≡ false
     alone zero l ne = absurd (ne refl)
@@ -85,8 +85,8 @@ stands q is ports =
     let h : length ports + 0 ≡ length ports = omega arith in
     (r.0, subst (λ n. Stands q (after_cycles q (at_reset q) ports) n r.0) h r.1)
 
-front_of : {A : Type 0} (xs ys zs : List A) → zs ≡ xs ++ ys → IsFront xs zs
-front_of xs ys zs e = subst (IsFront xs) (sym e) (IsFront-append xs ys)
+prefix_of : {A : Type 0} (xs ys zs : List A) → zs ≡ xs ++ ys → IsPrefix xs zs
+prefix_of xs ys zs e = subst (IsPrefix xs) (sym e) (IsPrefix-append xs ys)
 
 -- the trace over what was received
 whole : (q : Pipeline) (since : Since) (cycles : ℕ) (past : Past) → Stands q since cycles past → (n : ℕ) → cycles ≤ n
@@ -99,13 +99,13 @@ whole q since cycles past st n l =
       ap (trace q.proc.behavior n q.proc.opening) (sym same) ∙ st.traces n (n - past.ends) l e (λ ch. []),
     )
 
--- what was sent on a channel is a front of what the trace sends
-pub sent_is_front : (q : Pipeline) → IsPipeline q → (ports : List Ports) (n ch : ℕ) → length ports ≤ n
-    → IsFront ((after_cycles q (at_reset q) ports).sent ch) (words_sent q.proc.behavior.sites ch (trace q.proc.behavior n q.proc.opening (after_cycles q (at_reset q) ports).received))
-sent_is_front q is ports n ch l =
+-- what was sent on a channel is a prefix of what the trace sends
+pub sent_is_prefix : (q : Pipeline) → IsPipeline q → (ports : List Ports) (n ch : ℕ) → length ports ≤ n
+    → IsPrefix ((after_cycles q (at_reset q) ports).sent ch) (words_sent q.proc.behavior.sites ch (trace q.proc.behavior n q.proc.opening (after_cycles q (at_reset q) ports).received))
+sent_is_prefix q is ports n ch l =
     let s = stands q is ports in
     let w = whole q (after_cycles q (at_reset q) ports) (length ports) s.0 s.1 n l in
-    front_of _ _ _ (ap (words_sent q.proc.behavior.sites ch) w.1 ∙ words_sent-append q.proc.behavior.sites ch s.0.events w.0 ∙ ap (λ x. x ++ words_sent q.proc.behavior.sites ch w.0) (s.1.owes ch)
+    prefix_of _ _ _ (ap (words_sent q.proc.behavior.sites ch) w.1 ∙ words_sent-append q.proc.behavior.sites ch s.0.events w.0 ∙ ap (λ x. x ++ words_sent q.proc.behavior.sites ch w.0) (s.1.owes ch)
     ∙ append_assoc ((after_cycles q (at_reset q) ports).sent ch) _ _)
 
 -- what was received on a channel, the trace receives
@@ -119,9 +119,9 @@ received_is_least q is ports n ch l =
     let r = s.1.receives ch in
     omega (arith, a, b, r)
 
-pub sent_words_are_a_front : (q : Pipeline) → IsPipeline q → (cycles : List Ports) (n chan : ℕ) → length cycles ≤ n
-    → IsFront ((after_cycles q (at_reset q) cycles).sent chan) (words_sent q.proc.behavior.sites chan (trace q.proc.behavior n q.proc.opening (after_cycles q (at_reset q) cycles).received))
-sent_words_are_a_front q is cycles n chan l = sent_is_front q is cycles n chan l
+pub sent_words_are_a_prefix : (q : Pipeline) → IsPipeline q → (cycles : List Ports) (n chan : ℕ) → length cycles ≤ n
+    → IsPrefix ((after_cycles q (at_reset q) cycles).sent chan) (words_sent q.proc.behavior.sites chan (trace q.proc.behavior n q.proc.opening (after_cycles q (at_reset q) cycles).received))
+sent_words_are_a_prefix q is cycles n chan l = sent_is_prefix q is cycles n chan l
 
 -- and no more, since there are no more
 pub received_words_are_the_traces : (q : Pipeline) → IsPipeline q → (cycles : List Ports) (n chan : ℕ) → length cycles ≤ n
@@ -130,5 +130,5 @@ received_words_are_the_traces q is cycles n chan l =
     let words = (after_cycles q (at_reset q) cycles).received in
     let all = trace q.proc.behavior n q.proc.opening words in
     let least = received_is_least q is cycles n chan l in
-    let most = only_words_are_received q.proc n words all (IsFront-refl all) chan in
+    let most = only_words_are_received q.proc n words all (IsPrefix-refl all) chan in
     omega (arith, least, most)

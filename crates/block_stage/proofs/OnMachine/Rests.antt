@@ -9,7 +9,7 @@ use Rattle.net_core.specs.declared.event.Event.{Event}
 use Rattle.net_core.specs.declared.event.Event.TheVariants.{Recv, Send, End}
 use Rattle.net_core.specs.Behavior.{Behavior, Turn, Skip, Receive, Give, chan_at}
 use Rattle.net_core.specs.Trace.{Histories, without_first, events_from}
-use Rattle.block_stage.specs.Machine.Cycle.{Ports, Deed, Takes, event_of}
+use Rattle.block_stage.specs.Machine.Cycle.{Ports, Transfer, Takes, event_of}
 use Rattle.block_stage.specs.Machine.Since.{took}
 use Rattle.block_stage.proofs.OnMachine.Choices.{eqb-same}
 use Rattle.block_stage.proofs.OnMachine.Walks.{Goes, ends, skips, takes, gives, no_word, no_room}
@@ -106,36 +106,36 @@ unfolding at_turn behind_receive
 rest_takes b after s got words i w ws h t e = rest_at b after s got words i h ∙ ap (at_turn b after s got words i) t ∙ ap (behind_receive b after s got words i) e
 
 -- the words that a walk takes, and further ones
-abbrev pub AreWith : Histories → Behavior → List Deed → Histories → Type 0
-AreWith words b deeds more = (c : ℕ) → words c ≡ took b.sites c deeds ++ more c
+abbrev pub AreWith : Histories → Behavior → List Transfer → Histories → Type 0
+AreWith words b transfers more = (c : ℕ) → words c ≡ took b.sites c transfers ++ more c
 
-first_taken : (b : Behavior) (words : Histories) (i : ℕ) (w : Word) (deeds : List Deed) (more : Histories) → AreWith words b (Takes i w ∷ deeds) more
-    → words (chan_at b.sites i) ≡ w ∷ (took b.sites (chan_at b.sites i) deeds ++ more (chan_at b.sites i))
-first_taken b words i w deeds more h = h (chan_at b.sites i) ∙ (let e = eqb-same (chan_at b.sites i) in rw e)
+first_taken : (b : Behavior) (words : Histories) (i : ℕ) (w : Word) (transfers : List Transfer) (more : Histories) → AreWith words b (Takes i w ∷ transfers) more
+    → words (chan_at b.sites i) ≡ w ∷ (took b.sites (chan_at b.sites i) transfers ++ more (chan_at b.sites i))
+first_taken b words i w transfers more h = h (chan_at b.sites i) ∙ (let e = eqb-same (chan_at b.sites i) in rw e)
 
-without_taken : (b : Behavior) (words : Histories) (i : ℕ) (w : Word) (deeds : List Deed) (more : Histories) → AreWith words b (Takes i w ∷ deeds) more
-    → AreWith (without_first words (chan_at b.sites i)) b deeds more
-without_taken b words i w deeds more h c = go (eqb (chan_at b.sites i) c) (h c)
+without_taken : (b : Behavior) (words : Histories) (i : ℕ) (w : Word) (transfers : List Transfer) (more : Histories) → AreWith words b (Takes i w ∷ transfers) more
+    → AreWith (without_first words (chan_at b.sites i)) b transfers more
+without_taken b words i w transfers more h c = go (eqb (chan_at b.sites i) c) (h c)
   where
-    go : (t : Bool) → words c ≡ cond t (w ∷ took b.sites c deeds) (took b.sites c deeds) ++ more c → cond t (drop 1 (words c)) (words c) ≡ took b.sites c deeds ++ more c
+    go : (t : Bool) → words c ≡ cond t (w ∷ took b.sites c transfers) (took b.sites c transfers) ++ more c → cond t (drop 1 (words c)) (words c) ≡ took b.sites c transfers ++ more c
     go true e = ap (drop 1) e
     go false e = e
 
 -- what a walk makes is the front of the events that its activation has still to do
-pub walk_traces : (b : Behavior) (after : Value → Histories → List Event) (ports : Ports) (s : Value) (got got' : List Word) (i n p : ℕ) (deeds : List Deed) (waits : Option Event)
-    → Goes b ports s got i n p got' deeds waits → i + n ≤ length b.sites → (words more : Histories) → AreWith words b deeds more
-    → rest b after s got words i ≡ map event_of deeds ++ rest b after s got' more p
-walk_traces b after ports s got got' i n p deeds waits ends l words more h =
+pub walk_traces : (b : Behavior) (after : Value → Histories → List Event) (ports : Ports) (s : Value) (got got' : List Word) (i n p : ℕ) (transfers : List Transfer) (stall : Option Event)
+    → Goes b ports s got i n p got' transfers stall → i + n ≤ length b.sites → (words more : Histories) → AreWith words b transfers more
+    → rest b after s got words i ≡ map event_of transfers ++ rest b after s got' more p
+walk_traces b after ports s got got' i n p transfers stall ends l words more h =
     let e : words ≡ more = fun_ext (λ c. h c) in rw e
-walk_traces b after ports s got got' i n p deeds waits (skips {n = m} t g) l words more h =
-    rest_skips b after s got words i (omega (arith, l)) t ∙ walk_traces b after ports s got got' (suc i) m p deeds waits g (omega (arith, l)) words more h
-walk_traces b after ports s got got' i n p deeds waits (takes {n = m} {deeds = ds} w t o g) l words more h =
+walk_traces b after ports s got got' i n p transfers stall (skips {n = m} t g) l words more h =
+    rest_skips b after s got words i (omega (arith, l)) t ∙ walk_traces b after ports s got got' (suc i) m p transfers stall g (omega (arith, l)) words more h
+walk_traces b after ports s got got' i n p transfers stall (takes {n = m} {transfers = ds} w t o g) l words more h =
     rest_takes b after s got words i w _ (omega (arith, l)) t (first_taken b words i w ds more h)
-    ∙ ap (λ es. Recv i ∷ es) (walk_traces b after ports s (got ++ w ∷ []) got' (suc i) m p ds waits g (omega (arith, l)) (without_first words (chan_at b.sites i)) more (without_taken b words i w ds more h))
-walk_traces b after ports s got got' i n p deeds waits (gives {n = m} {deeds = ds} w t r g) l words more h =
+    ∙ ap (λ es. Recv i ∷ es) (walk_traces b after ports s (got ++ w ∷ []) got' (suc i) m p ds stall g (omega (arith, l)) (without_first words (chan_at b.sites i)) more (without_taken b words i w ds more h))
+walk_traces b after ports s got got' i n p transfers stall (gives {n = m} {transfers = ds} w t r g) l words more h =
     rest_gives b after s got words i w (omega (arith, l)) t
-    ∙ ap (λ es. Send i w ∷ es) (walk_traces b after ports s got got' (suc i) m p ds waits g (omega (arith, l)) words more h)
-walk_traces b after ports s got got' i n p deeds waits (no_word t o) l words more h =
+    ∙ ap (λ es. Send i w ∷ es) (walk_traces b after ports s got got' (suc i) m p ds stall g (omega (arith, l)) words more h)
+walk_traces b after ports s got got' i n p transfers stall (no_word t o) l words more h =
     let e : words ≡ more = fun_ext (λ c. h c) in rw e
-walk_traces b after ports s got got' i n p deeds waits (no_room w t r) l words more h =
+walk_traces b after ports s got got' i n p transfers stall (no_room w t r) l words more h =
     let e : words ≡ more = fun_ext (λ c. h c) in rw e

@@ -13,7 +13,7 @@ use Rattle.net_core.specs.Behavior.{Behavior}
 use Rattle.net_core.specs.Trace.{Histories, trace}
 use Rattle.net_core.specs.Cuts.{words_sent, count_received}
 use Rattle.block_stage.specs.Machine.Pipeline.{Pipeline, IsPipeline, first}
-use Rattle.block_stage.specs.Machine.Cycle.{Ports, Begun, Registers, event_of, Walk, in_stage, moves, after_cycle, deeds_in}
+use Rattle.block_stage.specs.Machine.Cycle.{Ports, StageEntry, Registers, event_of, Walk, in_stage, moves, after_cycle, transfers_in}
 use Rattle.block_stage.specs.Machine.Since.{took, gave, Since, one_more}
 use Rattle.block_stage.proofs.OnMachine.Rests.{rest, walk_traces}
 use Rattle.block_stage.proofs.OnMachine.Stages.{no_receive, first_all, first_grows}
@@ -22,7 +22,7 @@ use Rattle.block_stage.proofs.OnMachine.Moves.{moving, next_is_free}
 use Rattle.block_stage.proofs.OnMachine.Holding.{Act, IsHeld, walked}
 use Rattle.block_stage.proofs.OnMachine.Turns.{beginning, acts_after, open_after, cases, moves_alone, held_next, turn_next, act_next, full_suc}
 use Rattle.block_stage.proofs.OnMachine.Gathering.{gather, order_kept, all_of, all_none, gather_none, gather_same, all_pass, cond_ap}
-use Rattle.block_stage.proofs.OnMachine.Standing.{Past, Stands, left_of, begun_of, stages_past, owed, inside, trace_on, made_in, top, past_after, goes_on, is_inside, walks_within, walks_through, taken_in, given_in, idle_gives, apart_stages}
+use Rattle.block_stage.proofs.OnMachine.Standing.{Past, Stands, left_of, stage_entry_of, stages_past, owed, inside, trace_on, made_in, top, past_after, goes_on, is_inside, walks_within, walks_through, taken_in, given_in, idle_gives, apart_stages}
 
 pub trace_begins : (b : Behavior) (k : ℕ) (s : Value) (words : Histories) → trace b k s words ≡ trace_on b k (record { state = s; got = []; place = 0 }) words
 unfolding trace trace_on rest
@@ -35,29 +35,29 @@ on_suc b k act words = refl
 
 -- the activation that has the turn, and what it makes
 walk_on : (q : Pipeline) (c : Registers) (ports : Ports) (acts : ℕ → Act) (o k : ℕ) → IsHeld q c o (acts o) → c.full o ≡ true → (more : Histories)
-    → trace_on q.proc.behavior (suc k) (acts o) (λ ch. took q.proc.behavior.sites ch (in_stage q c ports o).deeds ++ more ch)
-    ≡ map event_of (in_stage q c ports o).deeds ++ trace_on q.proc.behavior (suc k) (walked (acts o) (in_stage q c ports o)) more
-walk_on q c ports acts o k held f more =
+    → trace_on q.proc.behavior (suc k) (acts o) (λ ch. took q.proc.behavior.sites ch (in_stage q c ports o).transfers ++ more ch)
+    ≡ map event_of (in_stage q c ports o).transfers ++ trace_on q.proc.behavior (suc k) (walked (acts o) (in_stage q c ports o)) more
+walk_on q c ports acts o k stage_regs f more =
     let w = in_stage q c ports o in
-    let at = is_inside q c acts o held f in
+    let at = is_inside q c acts o stage_regs f in
     let u = at.until in let z = at.all in
-    on_suc q.proc.behavior k (acts o) (λ ch. took q.proc.behavior.sites ch w.deeds ++ more ch)
-    ∙ walk_traces q.proc.behavior (trace q.proc.behavior k) ports (acts o).state (acts o).got w.got (acts o).place (first q (suc o) - (acts o).place) w.place w.deeds w.waits
-    (goes_on q c ports acts o held f) (omega arith) (λ ch. took q.proc.behavior.sites ch w.deeds ++ more ch) more (λ ch. refl)
-    ∙ ap (λ es. map event_of w.deeds ++ es) (sym (on_suc q.proc.behavior k (walked (acts o) w) more))
+    on_suc q.proc.behavior k (acts o) (λ ch. took q.proc.behavior.sites ch w.transfers ++ more ch)
+    ∙ walk_traces q.proc.behavior (trace q.proc.behavior k) ports (acts o).state (acts o).got w.got (acts o).place (first q (suc o) - (acts o).place) w.place w.transfers w.stall
+    (goes_on q c ports acts o stage_regs f) (omega arith) (λ ch. took q.proc.behavior.sites ch w.transfers ++ more ch) more (λ ch. refl)
+    ∙ ap (λ es. map event_of w.transfers ++ es) (sym (on_suc q.proc.behavior k (walked (acts o) w) more))
 
 -- at the end of the turn's last stage only sends are left, and then the end
 ends_turn : (q : Pipeline) → IsPipeline q → (c : Registers) (ports : Ports) (acts : ℕ → Act) (k : ℕ) → IsHeld q c q.last (acts q.last) → moves q c ports q.last ≡ true → (more : Histories)
     → trace_on q.proc.behavior (suc k) (walked (acts q.last) (in_stage q c ports q.last)) more
     ≡ (left_of q (walked (acts q.last) (in_stage q c ports q.last)) ++ End (beginning q c ports).state ∷ []) ++ trace_on q.proc.behavior k (beginning q c ports) more
-ends_turn q is c ports acts k held m more =
+ends_turn q is c ports acts k stage_regs m more =
     let w = in_stage q c ports q.last in
     let act = walked (acts q.last) w in
     let f = (moving q c ports q.last m).full in
-    let at = walks_within q c ports acts q.last held f in
+    let at = walks_within q c ports acts q.last stage_regs f in
     let u = at.until in let z = at.all in
-    let here = walks_through q c ports acts q.last held m in
-    let s : q.proc.behavior.next_state act.state act.got ≡ (beginning q c ports).state = ap (λ x. q.proc.behavior.next_state x w.got) (sym (held.full f).state) in
+    let here = walks_through q c ports acts q.last stage_regs m in
+    let s : q.proc.behavior.next_state act.state act.got ≡ (beginning q c ports).state = ap (λ x. q.proc.behavior.next_state x w.got) (sym (stage_regs.full f).state) in
     on_suc q.proc.behavior k act more
     ∙ rest_left q.proc.behavior (trace q.proc.behavior k) (first q (suc q.last)) (no_receive q is) act.state act.got more (length q.proc.behavior.sites - act.place) act.place (omega arith) (omega arith)
     ∙ ap (λ x. left_of q act ++ End x ∷ trace q.proc.behavior k x more) s
@@ -77,18 +77,18 @@ traces_next q is since cycles past st ports n k l e more = go (cases (moves q c 
     o = past.open_stage
 
     act_held : IsHeld q c o (past.acts o)
-    act_held = st.held o (let w = st.turn.within in let x = is.last in omega arith)
+    act_held = st.stage_regs o (let w = st.turn.within in let x = is.last in omega arith)
 
     arrived : Histories
-    arrived = λ ch. took q.proc.behavior.sites ch (in_stage q c ports o).deeds ++ more ch
+    arrived = λ ch. took q.proc.behavior.sites ch (in_stage q c ports o).transfers ++ more ch
 
-    same : ◌≡◌ {A = Histories} (λ ch. (since.received ch ++ took q.proc.behavior.sites ch (deeds_in q c ports)) ++ more ch) (λ ch. since.received ch ++ arrived ch)
-    same = fun_ext (λ ch. ap (λ x. (since.received ch ++ x) ++ more ch) (taken_in q is c ports past.acts o ch st.turn st.held)
-        ∙ append_assoc (since.received ch) (took q.proc.behavior.sites ch (in_stage q c ports o).deeds) (more ch))
+    same : ◌≡◌ {A = Histories} (λ ch. (since.received ch ++ took q.proc.behavior.sites ch (transfers_in q c ports)) ++ more ch) (λ ch. since.received ch ++ arrived ch)
+    same = fun_ext (λ ch. ap (λ x. (since.received ch ++ x) ++ more ch) (taken_in q is c ports past.acts o ch st.turn st.stage_regs)
+        ∙ append_assoc (since.received ch) (took q.proc.behavior.sites ch (in_stage q c ports o).transfers) (more ch))
 
     before : (k' : ℕ) → n ≡ past.ends + suc k'
-        → trace q.proc.behavior n q.proc.opening (λ ch. (since.received ch ++ took q.proc.behavior.sites ch (deeds_in q c ports)) ++ more ch)
-        ≡ past.events ++ (map event_of (in_stage q c ports o).deeds ++ trace_on q.proc.behavior (suc k') (walked (past.acts o) (in_stage q c ports o)) more)
+        → trace q.proc.behavior n q.proc.opening (λ ch. (since.received ch ++ took q.proc.behavior.sites ch (transfers_in q c ports)) ++ more ch)
+        ≡ past.events ++ (map event_of (in_stage q c ports o).transfers ++ trace_on q.proc.behavior (suc k') (walked (past.acts o) (in_stage q c ports o)) more)
     before k' h =
         ap (trace q.proc.behavior n q.proc.opening) same
         ∙ st.traces n (suc k') (omega arith) h arrived
@@ -98,8 +98,8 @@ traces_next q is since cycles past st ports n k l e more = go (cases (moves q c 
     next = act_next q c ports past.acts o st.turn
 
     goal_at : Bool → Type 0
-    goal_at t = trace q.proc.behavior n q.proc.opening (λ ch. (since.received ch ++ took q.proc.behavior.sites ch (deeds_in q c ports)) ++ more ch)
-        ≡ (past.events ++ (map event_of (in_stage q c ports o).deeds
+    goal_at t = trace q.proc.behavior n q.proc.opening (λ ch. (since.received ch ++ took q.proc.behavior.sites ch (transfers_in q c ports)) ++ more ch)
+        ≡ (past.events ++ (map event_of (in_stage q c ports o).transfers
         ++ cond t (left_of q (walked (past.acts q.last) (in_stage q c ports q.last)) ++ End (beginning q c ports).state ∷ []) []))
         ++ trace_on q.proc.behavior k (cond t (beginning q c ports) (walked (past.acts o) (in_stage q c ports o))) more
 
@@ -108,9 +108,9 @@ traces_next q is since cycles past st ports n k l e more = go (cases (moves q c 
         let last = moves_alone q c ports o st.turn q.last (omega arith) m in
         let h = rw m at e in
         before k (omega (arith, h))
-        ∙ ap (λ x. past.events ++ (map event_of (in_stage q c ports o).deeds ++ trace_on q.proc.behavior (suc k) (walked (past.acts x) (in_stage q c ports x)) more)) (sym last)
-        ∙ ap (λ es. past.events ++ (map event_of (in_stage q c ports o).deeds ++ es)) (ends_turn q is c ports past.acts k (st.held q.last is.last) m more)
-        ∙ ap (λ es. past.events ++ es) (sym (append_assoc (map event_of (in_stage q c ports o).deeds) _ _))
+        ∙ ap (λ x. past.events ++ (map event_of (in_stage q c ports o).transfers ++ trace_on q.proc.behavior (suc k) (walked (past.acts x) (in_stage q c ports x)) more)) (sym last)
+        ∙ ap (λ es. past.events ++ (map event_of (in_stage q c ports o).transfers ++ es)) (ends_turn q is c ports past.acts k (st.stage_regs q.last is.last) m more)
+        ∙ ap (λ es. past.events ++ es) (sym (append_assoc (map event_of (in_stage q c ports o).transfers) _ _))
         ∙ sym (append_assoc past.events _ _)
 
     kept : moves q c ports q.last ≡ false → goal_at false
@@ -119,8 +119,8 @@ traces_next q is since cycles past st ports n k l e more = go (cases (moves q c 
         let few = st.few in
         let j : k ≡ suc (k - 1) = omega (arith, h) in
         before (k - 1) (omega (arith, h))
-        ∙ ap (λ x. past.events ++ (map event_of (in_stage q c ports o).deeds ++ trace_on q.proc.behavior x (walked (past.acts o) (in_stage q c ports o)) more)) (sym j)
-        ∙ ap (λ x. past.events ++ (x ++ trace_on q.proc.behavior k (walked (past.acts o) (in_stage q c ports o)) more)) (sym (append-nil (map event_of (in_stage q c ports o).deeds)))
+        ∙ ap (λ x. past.events ++ (map event_of (in_stage q c ports o).transfers ++ trace_on q.proc.behavior x (walked (past.acts o) (in_stage q c ports o)) more)) (sym j)
+        ∙ ap (λ x. past.events ++ (x ++ trace_on q.proc.behavior k (walked (past.acts o) (in_stage q c ports o)) more)) (sym (append-nil (map event_of (in_stage q c ports o).transfers)))
         ∙ sym (append_assoc past.events _ _)
 
     go : (moves q c ports q.last ≡ true) ⊎ (moves q c ports q.last ≡ false) →
@@ -152,38 +152,38 @@ walked_left q c ports acts j = left_of q (walked (acts j) (in_stage q c ports j)
 
 owed_split : (q : Pipeline) → IsPipeline q → (c : Registers) (ports : Ports) (acts : ℕ → Act) → ((j : ℕ) → j < q.stages → IsHeld q c j (acts j)) → (ch : ℕ)
     → words_sent q.proc.behavior.sites ch (owed q c acts)
-    ≡ all_of (λ j. gave q.proc.behavior.sites ch (in_stage q c ports j).deeds) (suc q.last) (stages_past q)
+    ≡ all_of (λ j. gave q.proc.behavior.sites ch (in_stage q c ports j).transfers) (suc q.last) (stages_past q)
     ++ gather (λ j. words_sent q.proc.behavior.sites ch (walked_left q c ports acts j)) c.full (suc q.last) (stages_past q)
 unfolding walked_left
-owed_split q is c ports acts held ch =
+owed_split q is c ports acts stage_regs ch =
     let l = is.last in
     words_gather q.proc.behavior.sites ch (λ j. left_of q (acts j)) c.full (stages_past q) (suc q.last)
-    ∙ all_pass (λ j. words_sent q.proc.behavior.sites ch (left_of q (acts j))) (λ j. gave q.proc.behavior.sites ch (in_stage q c ports j).deeds)
+    ∙ all_pass (λ j. words_sent q.proc.behavior.sites ch (left_of q (acts j))) (λ j. gave q.proc.behavior.sites ch (in_stage q c ports j).transfers)
     (λ j. words_sent q.proc.behavior.sites ch (left_of q (walked (acts j) (in_stage q c ports j)))) c.full (suc q.last) q.stages
     (λ j a z f. split j a z f)
     (λ j f. idle_gives q c ports ch j f)
-    (λ j a z. only j a (apart_stages q is c ports acts held ch j z))
+    (λ j a z. only j a (apart_stages q is c ports acts stage_regs ch j z))
     (stages_past q) (suc q.last) (omega arith) (omega arith)
   where
     split : (j : ℕ) → suc q.last ≤ j → j < q.stages → c.full j ≡ true
-        → words_sent q.proc.behavior.sites ch (left_of q (acts j)) ≡ gave q.proc.behavior.sites ch (in_stage q c ports j).deeds ++ words_sent q.proc.behavior.sites ch (left_of q (walked (acts j) (in_stage q c ports j)))
+        → words_sent q.proc.behavior.sites ch (left_of q (acts j)) ≡ gave q.proc.behavior.sites ch (in_stage q c ports j).transfers ++ words_sent q.proc.behavior.sites ch (left_of q (walked (acts j) (in_stage q c ports j)))
     split j a z f =
         let w = in_stage q c ports j in
-        let at = is_inside q c acts j (held j z) f in
-        let to = walks_within q c ports acts j (held j z) f in
+        let at = is_inside q c acts j (stage_regs j z) f in
+        let to = walks_within q c ports acts j (stage_regs j z) f in
         let x = at.from in let u = at.until in let v = at.all in let y = to.until in
         let grows = first_grows q is (suc q.last) j a in
-        ap (words_sent q.proc.behavior.sites ch) (goes_left q.proc.behavior (first q (suc q.last)) (no_receive q is) ports (acts j).state (acts j).got w.got (acts j).place (first q (suc j) - (acts j).place) w.place w.deeds w.waits
-        (goes_on q c ports acts j (held j z) f) (omega arith) (omega arith) (length q.proc.behavior.sites - (acts j).place) (length q.proc.behavior.sites - w.place) (omega arith) (omega arith))
-        ∙ words_sent-append q.proc.behavior.sites ch (map event_of w.deeds) (left_of q (walked (acts j) w))
+        ap (words_sent q.proc.behavior.sites ch) (goes_left q.proc.behavior (first q (suc q.last)) (no_receive q is) ports (acts j).state (acts j).got w.got (acts j).place (first q (suc j) - (acts j).place) w.place w.transfers w.stall
+        (goes_on q c ports acts j (stage_regs j z) f) (omega arith) (omega arith) (length q.proc.behavior.sites - (acts j).place) (length q.proc.behavior.sites - w.place) (omega arith) (omega arith))
+        ∙ words_sent-append q.proc.behavior.sites ch (map event_of w.transfers) (left_of q (walked (acts j) w))
 
     only : (j : ℕ) → suc q.last ≤ j
-        → (gave q.proc.behavior.sites ch (in_stage q c ports j).deeds ≡ [])
+        → (gave q.proc.behavior.sites ch (in_stage q c ports j).transfers ≡ [])
         ⊎ ((i : ℕ) → j < i → q.last < i → i < q.stages
-        → (gave q.proc.behavior.sites ch (in_stage q c ports i).deeds ≡ []) × (c.full i ≡ true → words_sent q.proc.behavior.sites ch (left_of q (walked (acts i) (in_stage q c ports i))) ≡ []))
-        → (gave q.proc.behavior.sites ch (in_stage q c ports j).deeds ≡ [])
+        → (gave q.proc.behavior.sites ch (in_stage q c ports i).transfers ≡ []) × (c.full i ≡ true → words_sent q.proc.behavior.sites ch (left_of q (walked (acts i) (in_stage q c ports i))) ≡ []))
+        → (gave q.proc.behavior.sites ch (in_stage q c ports j).transfers ≡ [])
         ⊎ ((i : ℕ) → j < i → i < q.stages
-        → (gave q.proc.behavior.sites ch (in_stage q c ports i).deeds ≡ []) × (c.full i ≡ true → words_sent q.proc.behavior.sites ch (left_of q (walked (acts i) (in_stage q c ports i))) ≡ []))
+        → (gave q.proc.behavior.sites ch (in_stage q c ports i).transfers ≡ []) × (c.full i ≡ true → words_sent q.proc.behavior.sites ch (left_of q (walked (acts i) (in_stage q c ports i))) ≡ []))
     only j a (inl x) = inl x
     only j a (inr h) = inr (λ i x y. h i x (omega arith) y)
 
@@ -205,7 +205,7 @@ moved_on q is c ports acts f =
 -- what leaves the final stage owes nothing
 leaves_clear : (q : Pipeline) → IsPipeline q → (c : Registers) (ports : Ports) (acts : ℕ → Act) → IsHeld q c (top q) (acts (top q))
     → cond (moves q c ports (top q)) (left_of q (walked (acts (top q)) (in_stage q c ports (top q)))) [] ≡ []
-leaves_clear q is c ports acts held = go (cases (moves q c ports (top q)))
+leaves_clear q is c ports acts stage_regs = go (cases (moves q c ports (top q)))
   where
     all_left : (n : ℕ) (act : Act) → n ≡ 0 → left q.proc.behavior act.state act.got act.place n ≡ []
     all_left n act e = rw e refl
@@ -215,7 +215,7 @@ leaves_clear q is c ports acts held = go (cases (moves q c ports (top q)))
     go (inl m) =
         let l = is.last in
         let e : suc (top q) ≡ q.stages = omega arith in
-        let here = walks_through q c ports acts (top q) held m ∙ ap (first q) e ∙ first_all q is in
+        let here = walks_through q c ports acts (top q) stage_regs m ∙ ap (first q) e ∙ first_all q is in
         rw m (all_left (length q.proc.behavior.sites - (in_stage q c ports (top q)).place) (walked (acts (top q)) (in_stage q c ports (top q))) (omega (arith, here)))
 
 sums : (sent s r g x : List Word) → (g ≡ []) ⊎ ((s ≡ []) × (r ≡ [])) → (sent ++ (s ++ r)) ++ (g ++ x) ≡ (sent ++ (g ++ s)) ++ (r ++ x)
@@ -227,11 +227,11 @@ owes_next : (q : Pipeline) → IsPipeline q → (since : Since) (cycles : ℕ) (
     ≡ (one_more q since ports).sent ch ++ words_sent q.proc.behavior.sites ch (owed q (after_cycle q since.contents ports) (acts_after q since.contents ports past.acts))
 owes_next q is since cycles past st ports ch =
     words_sent-append q.proc.behavior.sites ch past.events (made_in q c ports past)
-    ∙ ap (λ x. x ++ words_sent q.proc.behavior.sites ch (made_in q c ports past)) (st.owes ch ∙ ap (λ x. since.sent ch ++ x) (owed_split q is c ports past.acts st.held ch))
+    ∙ ap (λ x. x ++ words_sent q.proc.behavior.sites ch (made_in q c ports past)) (st.owes ch ∙ ap (λ x. since.sent ch ++ x) (owed_split q is c ports past.acts st.stage_regs ch))
     ∙ ap (λ x. (since.sent ch ++ (given ++ still_owed)) ++ x) made
-    ∙ sums (since.sent ch) given still_owed here new (apart (apart_stages q is c ports past.acts st.held ch o (let w = st.turn.within in let x = is.last in omega arith)))
+    ∙ sums (since.sent ch) given still_owed here new (apart (apart_stages q is c ports past.acts st.stage_regs ch o (let w = st.turn.within in let x = is.last in omega arith)))
     ∙ ap (λ x. (since.sent ch ++ x) ++ (still_owed ++ new)) (sym (given_in q is c ports o ch st.turn))
-    ∙ ap (λ x. (since.sent ch ++ gave q.proc.behavior.sites ch (deeds_in q c ports)) ++ x) (sym after)
+    ∙ ap (λ x. (since.sent ch ++ gave q.proc.behavior.sites ch (transfers_in q c ports)) ++ x) (sym after)
   where
     c : Registers
     c = since.contents
@@ -240,24 +240,24 @@ owes_next q is since cycles past st ports ch =
     o = past.open_stage
 
     given : List Word
-    given = all_of (λ j. gave q.proc.behavior.sites ch (in_stage q c ports j).deeds) (suc q.last) (stages_past q)
+    given = all_of (λ j. gave q.proc.behavior.sites ch (in_stage q c ports j).transfers) (suc q.last) (stages_past q)
 
     still_owed : List Word
     still_owed = gather (λ j. words_sent q.proc.behavior.sites ch (walked_left q c ports past.acts j)) c.full (suc q.last) (stages_past q)
 
     here : List Word
-    here = gave q.proc.behavior.sites ch (in_stage q c ports o).deeds
+    here = gave q.proc.behavior.sites ch (in_stage q c ports o).transfers
 
     new : List Word
     new = words_sent q.proc.behavior.sites ch (cond (moves q c ports q.last) (left_of q (walked (past.acts q.last) (in_stage q c ports q.last))) [])
 
     made : words_sent q.proc.behavior.sites ch (made_in q c ports past) ≡ here ++ new
-    made = words_sent-append q.proc.behavior.sites ch (map event_of (in_stage q c ports o).deeds) _
+    made = words_sent-append q.proc.behavior.sites ch (map event_of (in_stage q c ports o).transfers) _
         ∙ ap (λ x. here ++ x) (words_end q.proc.behavior.sites ch (moves q c ports q.last) (left_of q (walked (past.acts q.last) (in_stage q c ports q.last))) (beginning q c ports).state)
 
     apart : (here ≡ [])
         ⊎ ((i : ℕ) → o < i → q.last < i → i < q.stages
-        → (gave q.proc.behavior.sites ch (in_stage q c ports i).deeds ≡ []) × (c.full i ≡ true → words_sent q.proc.behavior.sites ch (left_of q (walked (past.acts i) (in_stage q c ports i))) ≡ []))
+        → (gave q.proc.behavior.sites ch (in_stage q c ports i).transfers ≡ []) × (c.full i ≡ true → words_sent q.proc.behavior.sites ch (left_of q (walked (past.acts i) (in_stage q c ports i))) ≡ []))
         → (here ≡ []) ⊎ ((given ≡ []) × (still_owed ≡ []))
     apart (inl e) = inl e
     apart (inr h) = inr (
@@ -268,7 +268,7 @@ owes_next q is since cycles past st ports ch =
     after : words_sent q.proc.behavior.sites ch (owed q (after_cycle q c ports) (acts_after q c ports past.acts)) ≡ still_owed ++ new
     after =
         let moved = moved_on q is c ports past.acts (left_of q) in
-        let clear = leaves_clear q is c ports past.acts (st.held (top q) (let l = is.last in omega arith)) in
+        let clear = leaves_clear q is c ports past.acts (st.stage_regs (top q) (let l = is.last in omega arith)) in
         let now = rw clear at moved in
         ap (words_sent q.proc.behavior.sites ch) now
         ∙ words_sent-append q.proc.behavior.sites ch (gather (λ j. left_of q (walked (past.acts j) (in_stage q c ports j))) c.full (suc q.last) (stages_past q)) _
@@ -287,57 +287,57 @@ receives_next q is since cycles past st ports ch =
     let act = walked (past.acts q.last) (in_stage q c ports q.last) in
     let none = count_end q.proc.behavior.sites ch (moves q c ports q.last) (left_of q act) (beginning q c ports).state
     (count_left q.proc.behavior ch act.state act.got (length q.proc.behavior.sites - act.place) act.place) in
-    let made = count_received-append q.proc.behavior.sites ch (map event_of (in_stage q c ports o).deeds)
+    let made = count_received-append q.proc.behavior.sites ch (map event_of (in_stage q c ports o).transfers)
     (cond (moves q c ports q.last) (left_of q act ++ End (beginning q c ports).state ∷ []) []) in
-    let taken = count_taken q.proc.behavior.sites ch (in_stage q c ports o).deeds in
+    let taken = count_taken q.proc.behavior.sites ch (in_stage q c ports o).transfers in
     let all = count_received-append q.proc.behavior.sites ch past.events (made_in q c ports past) in
-    let words = ap length (taken_in q is c ports past.acts o ch st.turn st.held) in
-    let long = length-append (since.received ch) (took q.proc.behavior.sites ch (deeds_in q c ports)) in
+    let words = ap length (taken_in q is c ports past.acts o ch st.turn st.stage_regs) in
+    let long = length-append (since.received ch) (took q.proc.behavior.sites ch (transfers_in q c ports)) in
     omega (arith, before, none, made, taken, all, words, long)
 
-begun_same : (act : Act) (w : Walk) → w.got ≡ act.got → begun_of act ≡ begun_of (walked act w)
-begun_same act w e = ap (λ (g : List Word). begun_of (record { state = act.state; got = g; place = 0 })) (sym e)
+stage_entry_same : (act : Act) (w : Walk) → w.got ≡ act.got → stage_entry_of act ≡ stage_entry_of (walked act w)
+stage_entry_same act w e = ap (λ (g : List Word). stage_entry_of (record { state = act.state; got = g; place = 0 })) (sym e)
 
 older_next : (q : Pipeline) → IsPipeline q → (since : Since) (cycles : ℕ) (past : Past) → Stands q since cycles past → (ports : Ports)
     → (past_after q since.contents ports past).ended ≡ (past_after q since.contents ports past).gone ++ inside q (after_cycle q since.contents ports) (acts_after q since.contents ports past.acts)
 older_next q is since cycles past st ports =
     ap (λ x. x ++ ended) (st.older ∙ ap (λ x. past.gone ++ x) same)
     ∙ append_assoc past.gone _ ended
-    ∙ ap (λ x. past.gone ++ x) (sym (moved_on q is c ports past.acts begun_of))
+    ∙ ap (λ x. past.gone ++ x) (sym (moved_on q is c ports past.acts stage_entry_of))
     ∙ sym (append_assoc past.gone _ _)
   where
     c : Registers
     c = since.contents
 
-    ended : List Begun
-    ended = cond (moves q c ports q.last) (begun_of (walked (past.acts q.last) (in_stage q c ports q.last))) []
+    ended : List StageEntry
+    ended = cond (moves q c ports q.last) (stage_entry_of (walked (past.acts q.last) (in_stage q c ports q.last))) []
 
-    same : inside q c past.acts ≡ gather (λ j. begun_of (walked (past.acts j) (in_stage q c ports j))) c.full (suc q.last) (stages_past q)
-    same = gather_same (λ j. begun_of (past.acts j)) (λ j. begun_of (walked (past.acts j) (in_stage q c ports j))) c.full (stages_past q) (suc q.last)
+    same : inside q c past.acts ≡ gather (λ j. stage_entry_of (walked (past.acts j) (in_stage q c ports j))) c.full (suc q.last) (stages_past q)
+    same = gather_same (λ j. stage_entry_of (past.acts j)) (λ j. stage_entry_of (walked (past.acts j) (in_stage q c ports j))) c.full (stages_past q) (suc q.last)
         (λ j a z f.
         let w = in_stage q c ports j in
         let l = is.last in
-        let held = st.held j (omega arith) in
-        let at = is_inside q c past.acts j held f in
+        let stage_regs = st.stage_regs j (omega arith) in
+        let at = is_inside q c past.acts j stage_regs f in
         let x = at.from in let u = at.until in let v = at.all in
         let grows = first_grows q is (suc q.last) j a in
-        let stays = got_stays q.proc.behavior (first q (suc q.last)) (no_receive q is) ports (past.acts j).state (past.acts j).got w.got (past.acts j).place (first q (suc j) - (past.acts j).place) w.place w.deeds w.waits
-        (goes_on q c ports past.acts j held f) (omega arith) (omega arith) in
-        begun_same (past.acts j) w stays)
+        let stays = got_stays q.proc.behavior (first q (suc q.last)) (no_receive q is) ports (past.acts j).state (past.acts j).got w.got (past.acts j).place (first q (suc j) - (past.acts j).place) w.place w.transfers w.stall
+        (goes_on q c ports past.acts j stage_regs f) (omega arith) (omega arith) in
+        stage_entry_same (past.acts j) w stays)
 
 few_next : (t : Bool) (ends cycles : ℕ) → ends ≤ cycles → cond t (suc ends) ends ≤ suc cycles
 few_next true ends cycles h = omega arith
 few_next false ends cycles h = omega arith
 
-counted_next : (t : Bool) (xs : List Begun) (act : Act) (ends : ℕ) → length xs ≡ ends → length (xs ++ cond t (begun_of act) []) ≡ cond t (suc ends) ends
-counted_next true xs act ends h = length-append xs (begun_of act) ∙ omega (arith, h)
+counted_next : (t : Bool) (xs : List StageEntry) (act : Act) (ends : ℕ) → length xs ≡ ends → length (xs ++ cond t (stage_entry_of act) []) ≡ cond t (suc ends) ends
+counted_next true xs act ends h = length-append xs (stage_entry_of act) ∙ omega (arith, h)
 counted_next false xs act ends h = ap length (append-nil xs) ∙ h
 
 -- one cycle more
 pub stands_next : (q : Pipeline) → IsPipeline q → (since : Since) (cycles : ℕ) (past : Past) → Stands q since cycles past → (ports : Ports)
     → Stands q (one_more q since ports) (suc cycles) (past_after q since.contents ports past)
 stands_next q is since cycles past st ports = record {
-  held = held_next q is since.contents ports past.acts past.open_stage st.turn st.held;
+  stage_regs = held_next q is since.contents ports past.acts past.open_stage st.turn st.stage_regs;
   turn = turn_next q since.contents ports past.open_stage st.turn;
   traces = traces_next q is since cycles past st ports;
   owes = owes_next q is since cycles past st ports;

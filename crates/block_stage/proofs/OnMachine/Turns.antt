@@ -56,12 +56,12 @@ cases false = inr refl
 settles : (q : Pipeline) → IsPipeline q → (c : Registers) (ports : Ports) (j : ℕ) (act : Act) → IsHeld q c j act
     → (after_cycle q c ports).full j ≡ (c.full j && not (moves q c ports j)) → brought (after_cycle q c ports) j ≡ brought c j
     → IsHeld q (after_cycle q c ports) j (walked act (in_stage q c ports j))
-settles q is c ports j act held e same = go (cases (c.full j)) (cases (moves q c ports j))
+settles q is c ports j act stage_regs e same = go (cases (c.full j)) (cases (moves q c ports j))
   where
     go : ((c.full j ≡ true) ⊎ (c.full j ≡ false)) → ((moves q c ports j ≡ true) ⊎ (moves q c ports j ≡ false)) → IsHeld q (after_cycle q c ports) j (walked act (in_stage q c ports j))
-    go (inr f) m = record { full = λ t. absurd (let x = rw f at e in cc); free = λ t. clean_stays q is c ports j f (held.free f) }
+    go (inr f) m = record { full = λ t. absurd (let x = rw f at e in cc); free = λ t. clean_stays q is c ports j f (stage_regs.free f) }
     go (inl f) (inl m) = record { full = λ t. absurd (let x = rw (f, m) at e in cc); free = λ t. cleared_by_moving q is c ports j m }
-    go (inl f) (inr m) = record { full = λ t. holds_on q is c ports j act f (held.full f) m same; free = λ t. absurd (let x = rw (f, m) at e in cc) }
+    go (inl f) (inr m) = record { full = λ t. holds_on q is c ports j act f (stage_regs.full f) m same; free = λ t. absurd (let x = rw (f, m) at e in cc) }
 
 -- the stage in which an activation has the turn moves alone
 pub moves_alone : (q : Pipeline) (c : Registers) (ports : Ports) (o : ℕ) → HasTurn q c o → (j : ℕ) → j ≤ q.last → moves q c ports j ≡ true → j ≡ o
@@ -89,52 +89,52 @@ same_number j o = split (cases_lt j o) (cases_lt o j)
 
 clean_zero : (q : Pipeline) → IsPipeline q → (c : Registers) (ports : Ports) (o : ℕ) (act : Act) → HasTurn q c o → IsHeld q c 0 act → moves q c ports q.last ≡ true
     → IsClean q (after_cycle q c ports) 0
-clean_zero q is c ports o act turn held m = go (same_number 0 o)
+clean_zero q is c ports o act turn stage_regs m = go (same_number 0 o)
   where
     last : q.last ≡ o
     last = moves_alone q c ports o turn q.last (omega arith) m
 
     go : (0 ≡ o) ⊎ (0 ≡ o → ⊥) → IsClean q (after_cycle q c ports) 0
     go (inl e) = cleared_by_moving q is c ports 0 (subst (λ x. moves q c ports x ≡ true) (omega (arith, last)) m)
-    go (inr ne) = let f = turn.alone 0 (omega arith) ne in clean_stays q is c ports 0 f (held.free f)
+    go (inr ne) = let f = turn.alone 0 (omega arith) ne in clean_stays q is c ports 0 f (stage_regs.free f)
 
 held_zero : (q : Pipeline) → IsPipeline q → (c : Registers) (ports : Ports) (acts : ℕ → Act) (o : ℕ) → HasTurn q c o → IsHeld q c 0 (acts 0)
     → IsHeld q (after_cycle q c ports) 0 (acts_after q c ports acts 0)
-held_zero q is c ports acts o turn held = go (cases (moves q c ports q.last))
+held_zero q is c ports acts o turn stage_regs = go (cases (moves q c ports q.last))
   where
     go : (moves q c ports q.last ≡ true) ⊎ (moves q c ports q.last ≡ false) → IsHeld q (after_cycle q c ports) 0 (acts_after q c ports acts 0)
     go (inl m) = subst (λ x. IsHeld q (after_cycle q c ports) 0 (cond x (beginning q c ports) (walked (acts 0) (in_stage q c ports 0)))) (sym m) (record {
-      full = λ t. begins q is (after_cycle q c ports) (q.proc.behavior.next_state (brought c q.last).state (in_stage q c ports q.last).got) (next_begins q c ports m) (clean_zero q is c ports o (acts 0) turn held m);
+      full = λ t. begins q is (after_cycle q c ports) (q.proc.behavior.next_state (brought c q.last).state (in_stage q c ports q.last).got) (next_begins q c ports m) (clean_zero q is c ports o (acts 0) turn stage_regs m);
       free = λ t. absurd (let x = full_zero q c ports in let y = rw m at x in cc);
     })
     go (inr m) = subst (λ x. IsHeld q (after_cycle q c ports) 0 (cond x (beginning q c ports) (walked (acts 0) (in_stage q c ports 0)))) (sym m)
-        (settles q is c ports 0 (acts 0) held (full_zero q c ports ∙ (rw m refl)) (same_zero q c ports m))
+        (settles q is c ports 0 (acts 0) stage_regs (full_zero q c ports ∙ (rw m refl)) (same_zero q c ports m))
 
 clean_suc : (q : Pipeline) → IsPipeline q → (c : Registers) (ports : Ports) (j : ℕ) (act : Act) → IsHeld q c (suc j) act → suc j < q.stages → moves q c ports j ≡ true
     → IsClean q (after_cycle q c ports) (suc j)
-clean_suc q is c ports j act held l m = go (cases (c.full (suc j)))
+clean_suc q is c ports j act stage_regs l m = go (cases (c.full (suc j)))
   where
     go : (c.full (suc j) ≡ true) ⊎ (c.full (suc j) ≡ false) → IsClean q (after_cycle q c ports) (suc j)
     go (inl f) = cleared_by_moving q is c ports (suc j) (next_is_free q c ports j l m f)
-    go (inr f) = clean_stays q is c ports (suc j) f (held.free f)
+    go (inr f) = clean_stays q is c ports (suc j) f (stage_regs.free f)
 
 held_suc : (q : Pipeline) → IsPipeline q → (c : Registers) (ports : Ports) (acts : ℕ → Act) (j : ℕ) → suc j < q.stages → IsHeld q c j (acts j) → IsHeld q c (suc j) (acts (suc j))
     → IsHeld q (after_cycle q c ports) (suc j) (acts_after q c ports acts (suc j))
-held_suc q is c ports acts j l before held = go (cases (moves q c ports j))
+held_suc q is c ports acts j l before stage_regs = go (cases (moves q c ports j))
   where
     go : (moves q c ports j ≡ true) ⊎ (moves q c ports j ≡ false) → IsHeld q (after_cycle q c ports) (suc j) (acts_after q c ports acts (suc j))
     go (inl m) = subst (λ x. IsHeld q (after_cycle q c ports) (suc j) (cond x (walked (acts j) (in_stage q c ports j)) (walked (acts (suc j)) (in_stage q c ports (suc j))))) (sym m) (record {
-      full = λ t. comes_in q is c ports j (acts j) m (before.full (moving q c ports j m).full) (clean_suc q is c ports j (acts (suc j)) held l m);
+      full = λ t. comes_in q is c ports j (acts j) m (before.full (moving q c ports j m).full) (clean_suc q is c ports j (acts (suc j)) stage_regs l m);
       free = λ t. absurd (let x = full_suc q c ports j in let y = rw m at x in cc);
     })
     go (inr m) = subst (λ x. IsHeld q (after_cycle q c ports) (suc j) (cond x (walked (acts j) (in_stage q c ports j)) (walked (acts (suc j)) (in_stage q c ports (suc j))))) (sym m)
-        (settles q is c ports (suc j) (acts (suc j)) held (full_suc q c ports j ∙ (rw m refl)) (same_suc q c ports j m))
+        (settles q is c ports (suc j) (acts (suc j)) stage_regs (full_suc q c ports j ∙ (rw m refl)) (same_suc q c ports j m))
 
 -- the registers hold the activations after a cycle too
 pub held_next : (q : Pipeline) → IsPipeline q → (c : Registers) (ports : Ports) (acts : ℕ → Act) (o : ℕ) → HasTurn q c o → ((j : ℕ) → j < q.stages → IsHeld q c j (acts j))
     → (j : ℕ) → j < q.stages → IsHeld q (after_cycle q c ports) j (acts_after q c ports acts j)
-held_next q is c ports acts o turn held zero l = held_zero q is c ports acts o turn (held 0 l)
-held_next q is c ports acts o turn held (suc j) l = held_suc q is c ports acts j l (held j (omega arith)) (held (suc j) l)
+held_next q is c ports acts o turn stage_regs zero l = held_zero q is c ports acts o turn (stage_regs 0 l)
+held_next q is c ports acts o turn stage_regs (suc j) l = held_suc q is c ports acts j l (stage_regs j (omega arith)) (stage_regs (suc j) l)
 
 -- a stage of the turn into which nothing moves is free afterwards, unless it keeps its activation
 empties : (q : Pipeline) (c : Registers) (ports : Ports) (o : ℕ) → HasTurn q c o → (j : ℕ) → j ≤ q.last → (j ≡ o → moves q c ports j ≡ true) → (c.full j && not (moves q c ports j)) ≡ false

@@ -9,15 +9,15 @@ next_word (w ∷ ws) = Some w
 abbrev pub has_room : {A : Type 0} → ℕ → List A → Bool
 has_room depth words = nat_lt (length words) depth
 
--- in a cycle in which the reader asks or not, and the writer offers a word or none: what is given, and what is put in
+-- in a cycle in which the reader is ready or not, and the writer has valid a word or none: what is given, and what is put in
 abbrev pub given_in : {A : Type 0} → List A → Bool → List A
-given_in words asked = if asked then take 1 words else []
+given_in words ready = if ready then take 1 words else []
 
 abbrev pub put_in : {A : Type 0} → ℕ → List A → Option A → List A
-put_in depth words offered = if has_room depth words then option_to_list offered else []
+put_in depth words valid_data = if has_room depth words then option_to_list valid_data else []
 
 abbrev pub after_cycle : {A : Type 0} → ℕ → List A → Bool → Option A → List A
-after_cycle depth words asked offered = (if asked then drop 1 words else words) ++ put_in depth words offered
+after_cycle depth words ready valid_data = (if ready then drop 1 words else words) ++ put_in depth words valid_data
 
 -- the words that are in it, and all that were given and put in since it was empty
 pub record SinceReset (A : Type 0) : Type 0 where
@@ -29,17 +29,17 @@ abbrev pub empty : {A : Type 0} → SinceReset A
 empty = record { words = []; given = []; put = [] }
 
 abbrev pub one_more : {A : Type 0} → ℕ → SinceReset A → Bool → Option A → SinceReset A
-one_more depth since asked offered = record {
-  words = after_cycle depth since.words asked offered;
-  given = since.given ++ given_in since.words asked;
-  put = since.put ++ put_in depth since.words offered;
+one_more depth since ready valid_data = record {
+  words = after_cycle depth since.words ready valid_data;
+  given = since.given ++ given_in since.words ready;
+  put = since.put ++ put_in depth since.words valid_data;
 }
 
--- a cycle: whether the reader asks, and what the writer offers
+-- a cycle: whether the reader is ready, and what the writer has valid
 pub record Cycle (A : Type 0) : Type 0 where
-  pub asked : Bool
-  pub offered : Option A
+  pub ready : Bool
+  pub valid_data : Option A
 
 abbrev pub after_cycles : {A : Type 0} → ℕ → SinceReset A → List (Cycle A) → SinceReset A
 after_cycles depth since [] = since
-after_cycles depth since (cycle ∷ more) = after_cycles depth (one_more depth since cycle.asked cycle.offered) more
+after_cycles depth since (cycle ∷ more) = after_cycles depth (one_more depth since cycle.ready cycle.valid_data) more

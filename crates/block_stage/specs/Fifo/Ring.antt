@@ -25,16 +25,16 @@ abbrev pub first_word : {A : Type 0} → ℕ → Ring A → A
 first_word depth ring = ring.slot (place depth ring.read)
 
 abbrev pub gives : {A : Type 0} → Ring A → Bool → Bool
-gives ring asked = asked && has_word ring
+gives ring ready = ready && has_word ring
 
 abbrev pub takes : {A : Type 0} → ℕ → Ring A → Option A → Bool
-takes depth ring offered = is_some offered && has_room depth ring
+takes depth ring valid_data = is_some valid_data && has_room depth ring
 
 abbrev pub ring_after : {A : Type 0} → ℕ → Ring A → Bool → Option A → Ring A
-ring_after depth ring asked offered = record {
-  read = if gives ring asked then up depth ring.read else ring.read;
-  write = if takes depth ring offered then up depth ring.write else ring.write;
-  slot = λ x. if takes depth ring offered && (place depth ring.write == x) then unwrap_or offered (ring.slot x) else ring.slot x;
+ring_after depth ring ready valid_data = record {
+  read = if gives ring ready then up depth ring.read else ring.read;
+  write = if takes depth ring valid_data then up depth ring.write else ring.write;
+  slot = λ x. if takes depth ring valid_data && (place depth ring.write == x) then unwrap_or valid_data (ring.slot x) else ring.slot x;
 }
 
 -- a pointer so many places further on

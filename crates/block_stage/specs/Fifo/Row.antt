@@ -23,23 +23,23 @@ first_word row = row.slot 0
 
 -- a cycle takes first and puts then, with the count in between
 abbrev pub gives : {A : Type 0} → Row A → Bool → Bool
-gives row asked = asked && has_word row
+gives row ready = ready && has_word row
 
 abbrev pub takes : {A : Type 0} → ℕ → Row A → Option A → Bool
-takes depth row offered = is_some offered && has_room depth row
+takes depth row valid_data = is_some valid_data && has_room depth row
 
 abbrev pub between : {A : Type 0} → Row A → Bool → ℕ
-between row asked = if gives row asked then row.count - 1 else row.count
+between row ready = if gives row ready then row.count - 1 else row.count
 
 abbrev pub slot_after : {A : Type 0} → ℕ → Row A → Bool → Option A → ℕ → A
-slot_after depth row asked offered x =
-    if takes depth row offered && (between row asked == x) then unwrap_or offered (row.slot x)
-    else (if gives row asked then row.slot (suc x) else row.slot x)
+slot_after depth row ready valid_data x =
+    if takes depth row valid_data && (between row ready == x) then unwrap_or valid_data (row.slot x)
+    else (if gives row ready then row.slot (suc x) else row.slot x)
 
 abbrev pub row_after : {A : Type 0} → ℕ → Row A → Bool → Option A → Row A
-row_after depth row asked offered = record {
-  count = if takes depth row offered then between row asked + 1 else between row asked;
-  slot = slot_after depth row asked offered;
+row_after depth row ready valid_data = record {
+  count = if takes depth row valid_data then between row ready + 1 else between row ready;
+  slot = slot_after depth row ready valid_data;
 }
 
 -- the row holds these words

@@ -2,12 +2,12 @@
 -- keeps where the circuit is right.
 use Rattle.std.specs.Prelude.{◌≡◌, ◌≤◌, ◌<◌, ℕ, suc, ◌-◌, true, false, Bool, List, [], ◌∷◌, ◌++◌, length, if◌then◌else◌, ◌==◌, option_to_list, Some}
 use Rattle.xb_bits.specs.Word.{Word}
-use Rattle.base.specs.Lists.Front.{IsFront}
+use Rattle.base.specs.Lists.Prefix.{IsPrefix}
 use Rattle.net_core.specs.declared.event.Event.{Event}
 use Rattle.net_core.specs.Trace.{trace}
 use Rattle.net_core.specs.Cuts.{words_sent, count_received}
 use Rattle.block_stage.specs.Machine.Pipeline.{Pipeline, IsPipeline, first}
-use Rattle.block_stage.specs.Machine.Cycle.{Ports, Registers, Circuit, Walk, Deed, brought, walk_by, if_full, moves_through, contents_after, deeds_through, asked_by, asked_through}
+use Rattle.block_stage.specs.Machine.Cycle.{Ports, Registers, Circuit, Walk, Transfer, brought, walk_by, if_full, moves_through, contents_after, transfers_through, asserted_by, asserted_through}
 use Rattle.block_stage.specs.Machine.Since.{Since, took, gave, at_reset}
 use Rattle.block_stage.specs.Machine.Steady.{IsStageMet, AreFed, SendsOnce}
 
@@ -22,17 +22,17 @@ moves_by x q c ports j = moves_through x c.full (stage_by x q c ports) (q.stages
 abbrev pub cycle_by : Circuit → Pipeline → Registers → Ports → Registers
 cycle_by x q c ports = contents_after x q c ports (stage_by x q c ports) (moves_by x q c ports)
 
-abbrev pub deeds_by : Circuit → Pipeline → Registers → Ports → List Deed
-deeds_by x q c ports = deeds_through (stage_by x q c ports) 0 q.stages
+abbrev pub transfers_by : Circuit → Pipeline → Registers → Ports → List Transfer
+transfers_by x q c ports = transfers_through (stage_by x q c ports) 0 q.stages
 
-abbrev pub asks_by : Circuit → Pipeline → Registers → Ports → List Event
-asks_by x q c ports = asked_through (stage_by x q c ports) 0 q.stages
+abbrev pub asserts_by : Circuit → Pipeline → Registers → Ports → List Event
+asserts_by x q c ports = asserted_through (stage_by x q c ports) 0 q.stages
 
 abbrev pub one_by : Circuit → Pipeline → Since → Ports → Since
 one_by x q since ports = record {
   contents = cycle_by x q since.contents ports;
-  received = λ c. since.received c ++ took q.proc.behavior.sites c (deeds_by x q since.contents ports);
-  sent = λ c. since.sent c ++ gave q.proc.behavior.sites c (deeds_by x q since.contents ports);
+  received = λ c. since.received c ++ took q.proc.behavior.sites c (transfers_by x q since.contents ports);
+  sent = λ c. since.sent c ++ gave q.proc.behavior.sites c (transfers_by x q since.contents ports);
 }
 
 abbrev pub cycles_by : Circuit → Pipeline → Since → List Ports → Since
@@ -41,39 +41,39 @@ cycles_by x q since (ports ∷ more) = cycles_by x q (one_by x q since ports) mo
 
 -- whatever proc and legal stages, and whatever stands at the ports in each cycle since reset
 pub record IsLawful (x : Circuit) : Type 0 where
-  -- what was sent on a channel is a front of what the proc's trace sends there over the words received
-  pub sent_words_are_a_front : (q : Pipeline) → IsPipeline q → (cycles : List Ports) (n chan : ℕ) → length cycles ≤ n →
+  -- what was sent on a channel is a prefix of what the proc's trace sends there over the words received
+  pub sent_words_are_a_prefix : (q : Pipeline) → IsPipeline q → (cycles : List Ports) (n chan : ℕ) → length cycles ≤ n →
       let since = cycles_by x q (at_reset q) cycles in
-      IsFront (since.sent chan) (words_sent q.proc.behavior.sites chan (trace q.proc.behavior n q.proc.opening since.received))
+      IsPrefix (since.sent chan) (words_sent q.proc.behavior.sites chan (trace q.proc.behavior n q.proc.opening since.received))
   -- that trace receives exactly the words received
   pub received_words_are_the_traces : (q : Pipeline) → IsPipeline q → (cycles : List Ports) (n chan : ℕ) → length cycles ≤ n →
       let since = cycles_by x q (at_reset q) cycles in
       count_received q.proc.behavior.sites chan (trace q.proc.behavior n q.proc.opening since.received) ≡ length (since.received chan)
-  -- what waits in a stage is the first that the stage asks in the next cycle
-  pub what_waits_stands : (q : Pipeline) → IsPipeline q → (cycles : List Ports) (ports next : Ports) (j : ℕ) (event : Event) → j < q.stages →
+  -- what stalls in a stage is the first that the stage asserts in the next cycle
+  pub what_stalls_stays_asserted : (q : Pipeline) → IsPipeline q → (cycles : List Ports) (ports next : Ports) (j : ℕ) (event : Event) → j < q.stages →
       let now = (cycles_by x q (at_reset q) cycles).contents in
-      (stage_by x q now ports j).waits ≡ Some event →
-      (others : List Event) × (asked_by (stage_by x q (cycle_by x q now ports) next j) ≡ event ∷ others)
-  -- a word that is offered and not taken stands offered in the next cycle
-  pub untaken_words_stand : (q : Pipeline) → IsPipeline q → (cycles : List Ports) (ports next : Ports) (chan : ℕ) (w : Word) →
+      (stage_by x q now ports j).stall ≡ Some event →
+      (others : List Event) × (asserted_by (stage_by x q (cycle_by x q now ports) next j) ≡ event ∷ others)
+  -- a word that is valid and not taken stays valid in the next cycle
+  pub untaken_words_stay_valid : (q : Pipeline) → IsPipeline q → (cycles : List Ports) (ports next : Ports) (chan : ℕ) (w : Word) →
       let now = (cycles_by x q (at_reset q) cycles).contents in
-      words_sent q.proc.behavior.sites chan (asks_by x q now ports) ≡ w ∷ [] →
+      words_sent q.proc.behavior.sites chan (asserts_by x q now ports) ≡ w ∷ [] →
       ports.room chan ≡ false →
-      words_sent q.proc.behavior.sites chan (asks_by x q (cycle_by x q now ports) next) ≡ w ∷ []
-  -- on each end of a channel at most one site is asked in a cycle
-  pub one_site_is_asked_to_send : (q : Pipeline) → IsPipeline q → (cycles : List Ports) (ports : Ports) (chan : ℕ) →
-      length (words_sent q.proc.behavior.sites chan (asks_by x q (cycles_by x q (at_reset q) cycles).contents ports)) ≤ 1
-  pub one_site_is_asked_to_receive : (q : Pipeline) → IsPipeline q → (cycles : List Ports) (ports : Ports) (chan : ℕ) →
-      count_received q.proc.behavior.sites chan (asks_by x q (cycles_by x q (at_reset q) cycles).contents ports) ≤ 1
+      words_sent q.proc.behavior.sites chan (asserts_by x q (cycle_by x q now ports) next) ≡ w ∷ []
+  -- on each end of a channel at most one site is asserted in a cycle
+  pub one_site_asserts_valid : (q : Pipeline) → IsPipeline q → (cycles : List Ports) (ports : Ports) (chan : ℕ) →
+      length (words_sent q.proc.behavior.sites chan (asserts_by x q (cycles_by x q (at_reset q) cycles).contents ports)) ≤ 1
+  pub one_site_asserts_ready : (q : Pipeline) → IsPipeline q → (cycles : List Ports) (ports : Ports) (chan : ℕ) →
+      count_received q.proc.behavior.sites chan (asserts_by x q (cycles_by x q (at_reset q) cycles).contents ports) ≤ 1
   -- a word goes through a port in a cycle where both sides are ready
   pub sent_words_go_where_there_is_room : (q : Pipeline) → IsPipeline q → (cycles : List Ports) (ports : Ports) (chan : ℕ) →
       let now = (cycles_by x q (at_reset q) cycles).contents in
-      gave q.proc.behavior.sites chan (deeds_by x q now ports)
-      ≡ (if ports.room chan then words_sent q.proc.behavior.sites chan (asks_by x q now ports) else [])
-  pub received_words_go_where_they_are_asked : (q : Pipeline) → IsPipeline q → (cycles : List Ports) (ports : Ports) (chan : ℕ) →
+      gave q.proc.behavior.sites chan (transfers_by x q now ports)
+      ≡ (if ports.room chan then words_sent q.proc.behavior.sites chan (asserts_by x q now ports) else [])
+  pub received_words_go_where_ready : (q : Pipeline) → IsPipeline q → (cycles : List Ports) (ports : Ports) (chan : ℕ) →
       let now = (cycles_by x q (at_reset q) cycles).contents in
-      took q.proc.behavior.sites chan (deeds_by x q now ports)
-      ≡ (if count_received q.proc.behavior.sites chan (asks_by x q now ports) == 0 then [] else option_to_list (ports.offer chan))
+      took q.proc.behavior.sites chan (transfers_by x q now ports)
+      ≡ (if count_received q.proc.behavior.sites chan (asserts_by x q now ports) == 0 then [] else option_to_list (ports.valid_word chan))
   -- an activation moves where the partners of all its stage's sites are there and the next stage is free or moves
   pub a_stage_moves_where_it_can : (q : Pipeline) → IsPipeline q → (cycles : List Ports) (ports : Ports) (j : ℕ) → j < q.stages →
       let now = (cycles_by x q (at_reset q) cycles).contents in

@@ -13,7 +13,7 @@ use Rattle.block_stage.specs.declared.machine.logic.Step.{Step}
 use Rattle.block_stage.specs.declared.machine.logic.Step.TheVariants as step
 use Rattle.block_stage.specs.declared.machine.table.Table2.{Table2}
 use Rattle.block_stage.specs.declared.machine.table.Table3.{Table3}
-use Rattle.block_stage.specs.Machine.Cycle.{Circuit, Deed, Takes, Gives, kept_after}
+use Rattle.block_stage.specs.Machine.Cycle.{Circuit, Transfer, Takes, Gives, kept_after}
 
 -- a turn
 abbrev pub turn_of : SiteTurn → Turn
@@ -51,23 +51,23 @@ take_step None = step.AwaitWord
 take_step (Some w) = step.Take w
 
 abbrev pub handled : Handling → Word → Word → Option Word → Bool → Step
-handled handling.Pass w kept offer room = step.Pass
-handled handling.Recall w kept offer room = step.Recall kept
-handled handling.Take w kept offer room = take_step offer
-handled handling.Put w kept offer room = if room then step.Put w else step.AwaitRoom w
+handled handling.Pass w kept valid_word room = step.Pass
+handled handling.Recall w kept valid_word room = step.Recall kept
+handled handling.Take w kept valid_word room = take_step valid_word
+handled handling.Put w kept valid_word room = if room then step.Put w else step.AwaitRoom w
 
 -- a receive goes at a place
-abbrev pub takes_at : ℕ → Deed → Bool
+abbrev pub takes_at : ℕ → Transfer → Bool
 takes_at i (Takes k w) = k == i
 takes_at i (Gives k w) = false
 
 abbrev pub circuit_of : Logic → Circuit
 circuit_of logic = record {
-  step = λ turn done kept offer room. handled (handling_of logic turn done) (word_of turn) kept offer room;
-  leaves = λ full waits. at2 logic.leaves full waits;
-  moves_on = λ full waits next_full next_moves. at2 logic.leaves full waits && at2 logic.frees next_full next_moves;
+  step = λ turn done kept valid_word room. handled (handling_of logic turn done) (word_of turn) kept valid_word room;
+  leaves = λ full stall. at2 logic.leaves full stall;
+  moves_on = λ full stall next_full next_moves. at2 logic.leaves full stall && at2 logic.frees next_full next_moves;
   full_next = λ comes full moves. at3 logic.full_next comes full moves;
   turn_next = λ ends turn moves. at3 logic.turn_next ends turn moves;
   done_next = λ done goes moves. at3 logic.done_next done goes moves;
-  keep = λ kept offer i deeds. if at2 logic.keeps (list_any (takes_at i) deeds) (is_some offer) then kept_after (unwrap_or offer kept) i deeds else kept;
+  keep = λ kept valid_word i transfers. if at2 logic.keeps (list_any (takes_at i) transfers) (is_some valid_word) then kept_after (unwrap_or valid_word kept) i transfers else kept;
 }

@@ -34,7 +34,7 @@ impl<const N: usize> RowFifo<N> {
     }
 
     /// The word that can be taken.
-    pub fn offer(&self) -> Option<Bits>
+    pub fn valid_word(&self) -> Option<Bits>
         ensures { result ≡ fifo.next_word self.now }
     {
         if self.count == 0 {
@@ -52,20 +52,20 @@ impl<const N: usize> RowFifo<N> {
         self.count < slots.len()
     }
 
-    /// A cycle in which the reader asks or not, and the writer offers a word or none: the word that is given. What was in
+    /// A cycle in which the reader is ready or not, and the writer has valid a word or none: the word that is given. What was in
     /// it and what is put in is, in that order, what is given and what is in it then. Cost: the depth.
-    pub fn cycle(&mut self, asked: bool, offered: Option<Bits>) -> Option<Bits>
-        ensures given { option_to_list result ≡ fifo.given_in self.old asked }
-        ensures kept { self.old ++ fifo.put_in N self.old offered ≡ option_to_list result ++ self.new }
+    pub fn cycle(&mut self, ready: bool, valid_data: Option<Bits>) -> Option<Bits>
+        ensures given { option_to_list result ≡ fifo.given_in self.old ready }
+        ensures kept { self.old ++ fifo.put_in N self.old valid_data ≡ option_to_list result ++ self.new }
         ensures fits { length self.new ≤ N }
     {
         let room = self.count < N;
-        let given = if asked { self.offer() } else { None };
+        let given = if ready { self.valid_word() } else { None };
         if given.is_some() {
             self.slots.rotate_left(1);
             self.count -= 1;
         }
-        if let Some(word) = offered {
+        if let Some(word) = valid_data {
             if room {
                 self.put(word);
             }

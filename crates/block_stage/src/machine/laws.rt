@@ -5,19 +5,19 @@ ghost use Rattle.std.specs.Prelude.{◌≡◌, ◌≤◌, ◌<◌, ◌-◌, ℕ,
 ghost use Rattle.xb_bits.specs.Word.{Word};
 ghost use Rattle.net_core.specs.declared.event.Event.{Event};
 ghost use Rattle.net_core.specs.Trace.{trace};
-ghost use Rattle.base.specs.Lists.Front.{IsFront};
+ghost use Rattle.base.specs.Lists.Prefix.{IsPrefix};
 ghost use Rattle.net_core.specs.Cuts.{words_sent, count_received};
 ghost use Rattle.block_stage.specs.Machine.Pipeline.{Pipeline, IsPipeline, ReceivesNowhere};
-ghost use Rattle.block_stage.specs.Machine.Cycle.{Ports, Registers, in_stage, moves, asked_by, asked_in, after_cycle, deeds_in};
+ghost use Rattle.block_stage.specs.Machine.Cycle.{Ports, Registers, in_stage, moves, asserted_by, asserted_in, after_cycle, transfers_in};
 ghost use Rattle.block_stage.specs.Machine.Since.{took, gave, at_reset, after_cycles};
 ghost use Rattle.block_stage.specs.Machine.Steady.{IsStageMet, AreFed, SendsOnce};
 
-/// Whatever stands at the ports in each cycle since reset: the words sent on a channel are a front of those that the
+/// Whatever stands at the ports in each cycle since reset: the words sent on a channel are a prefix of those that the
 /// proc's trace sends there over the words received. The trace may be of as many activations as cycles, or more.
-pub fn sent_words_are_a_front()
+pub fn sent_words_are_a_prefix()
     ensures { (q : Pipeline) → IsPipeline q → (cycles : List Ports) (n chan : ℕ) → length cycles ≤ n →
         let since = after_cycles q (at_reset q) cycles in
-        IsFront (since.sent chan) (words_sent q.proc.behavior.sites chan (trace q.proc.behavior n q.proc.opening since.received)) }
+        IsPrefix (since.sent chan) (words_sent q.proc.behavior.sites chan (trace q.proc.behavior n q.proc.opening since.received)) }
 {}
 
 /// And that trace receives exactly the words received, on each channel.
@@ -27,42 +27,42 @@ pub fn received_words_are_the_traces()
         count_received q.proc.behavior.sites chan (trace q.proc.behavior n q.proc.opening since.received) ≡ length (since.received chan) }
 {}
 
-/// What waits in a stage is the first that the stage asks in the next cycle, with the same word.
-pub fn what_waits_stands()
+/// What stalls in a stage is the first that the stage asserts in the next cycle, with the same word.
+pub fn what_stalls_stays_asserted()
     ensures { (q : Pipeline) → IsPipeline q → (cycles : List Ports) (ports next : Ports) (j : ℕ) (event : Event) → j < q.stages →
         let now = (after_cycles q (at_reset q) cycles).contents in
-        (in_stage q now ports j).waits ≡ Some event →
-        (others : List Event) × (asked_by (in_stage q (after_cycle q now ports) next j) ≡ event ∷ others) }
+        (in_stage q now ports j).stall ≡ Some event →
+        (others : List Event) × (asserted_by (in_stage q (after_cycle q now ports) next j) ≡ event ∷ others) }
 {}
 
-/// So a word that is offered on a channel and not taken stands offered in the next cycle.
-pub fn untaken_words_stand()
+/// So a word that is valid on a channel and not taken stands offered in the next cycle.
+pub fn untaken_words_stay_valid()
     ensures { (q : Pipeline) → IsPipeline q → (cycles : List Ports) (ports next : Ports) (chan : ℕ) (w : Word) →
         let now = (after_cycles q (at_reset q) cycles).contents in
-        words_sent q.proc.behavior.sites chan (asked_in q now ports) ≡ w ∷ [] →
+        words_sent q.proc.behavior.sites chan (asserted_in q now ports) ≡ w ∷ [] →
         ports.room chan ≡ false →
-        words_sent q.proc.behavior.sites chan (asked_in q (after_cycle q now ports) next) ≡ w ∷ [] }
+        words_sent q.proc.behavior.sites chan (asserted_in q (after_cycle q now ports) next) ≡ w ∷ [] }
 {}
 
-/// On each end of a channel at most one site is asked in a cycle.
-pub fn one_site_is_asked()
+/// On each end of a channel at most one site is asserted in a cycle.
+pub fn one_site_asserts()
     ensures sends { (q : Pipeline) → IsPipeline q → (cycles : List Ports) (ports : Ports) (chan : ℕ) →
-        length (words_sent q.proc.behavior.sites chan (asked_in q (after_cycles q (at_reset q) cycles).contents ports)) ≤ 1 }
+        length (words_sent q.proc.behavior.sites chan (asserted_in q (after_cycles q (at_reset q) cycles).contents ports)) ≤ 1 }
     ensures receives { (q : Pipeline) → IsPipeline q → (cycles : List Ports) (ports : Ports) (chan : ℕ) →
-        count_received q.proc.behavior.sites chan (asked_in q (after_cycles q (at_reset q) cycles).contents ports) ≤ 1 }
+        count_received q.proc.behavior.sites chan (asserted_in q (after_cycles q (at_reset q) cycles).contents ports) ≤ 1 }
 {}
 
-/// A word goes through a port in a cycle where both sides are ready: a word that is offered on a channel is sent where
+/// A word goes through a port in a cycle where both sides are ready: a word that is valid on a channel is sent where
 /// there is room, and where a word is asked for, the one that is there is received.
 pub fn words_go_where_both_sides_are_ready()
     ensures sent { (q : Pipeline) → IsPipeline q → (cycles : List Ports) (ports : Ports) (chan : ℕ) →
         let now = (after_cycles q (at_reset q) cycles).contents in
-        gave q.proc.behavior.sites chan (deeds_in q now ports)
-        ≡ (if ports.room chan then words_sent q.proc.behavior.sites chan (asked_in q now ports) else []) }
+        gave q.proc.behavior.sites chan (transfers_in q now ports)
+        ≡ (if ports.room chan then words_sent q.proc.behavior.sites chan (asserted_in q now ports) else []) }
     ensures received { (q : Pipeline) → IsPipeline q → (cycles : List Ports) (ports : Ports) (chan : ℕ) →
         let now = (after_cycles q (at_reset q) cycles).contents in
-        took q.proc.behavior.sites chan (deeds_in q now ports)
-        ≡ (if count_received q.proc.behavior.sites chan (asked_in q now ports) == 0 then [] else option_to_list (ports.offer chan)) }
+        took q.proc.behavior.sites chan (transfers_in q now ports)
+        ≡ (if count_received q.proc.behavior.sites chan (asserted_in q now ports) == 0 then [] else option_to_list (ports.valid_word chan)) }
 {}
 
 /// Nothing is received from a channel from which no site receives.
@@ -89,7 +89,7 @@ pub fn moved_activations_go_on()
 
 /// A stage in which no activation stands asks for nothing.
 pub fn nothing_is_asked_without_an_activation()
-    ensures { (q : Pipeline) (now : Registers) (ports : Ports) → ((j : ℕ) → now.full j ≡ false) → asked_in q now ports ≡ [] }
+    ensures { (q : Pipeline) (now : Registers) (ports : Ports) → ((j : ℕ) → now.full j ≡ false) → asserted_in q now ports ≡ [] }
 {}
 
 /// A pipeline that keeps the turn in stage 0, and in each cycle finds a word at each end at which it receives and room at

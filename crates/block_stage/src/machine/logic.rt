@@ -85,7 +85,7 @@ pub fn pipeline_logic() -> Logic
         received: Handling::Recall,
         send: Handling::Put,
         sent: Handling::Pass,
-        leaves: Table2::of(|full, waits| full && !waits),
+        leaves: Table2::of(|full, stall| full && !stall),
         frees: Table2::of(|next_full, next_moves| !next_full || next_moves),
         full_next: Table3::of(|comes, full, moves| comes || (full && !moves)),
         turn_next: Table3::of(|ends, turn, moves| ends || (turn && !moves)),
@@ -97,13 +97,13 @@ pub fn pipeline_logic() -> Logic
 impl Handling {
     /// What happens at a site that is handled so, by the word that it sends, the word that it keeps, the word that is
     /// there, and whether there is room.
-    pub fn step(self, word: Bits, kept: Bits, offer: Option<Bits>, room: bool) -> Step
-        ensures { result ≡ handled self word kept offer room }
+    pub fn step(self, word: Bits, kept: Bits, valid_word: Option<Bits>, room: bool) -> Step
+        ensures { result ≡ handled self word kept valid_word room }
     {
         match self {
             Handling::Pass => Step::Pass,
             Handling::Recall => Step::Recall(kept),
-            Handling::Take => match offer {
+            Handling::Take => match valid_word {
                 Some(there) => Step::Take(there),
                 None => Step::AwaitWord,
             },
@@ -149,26 +149,26 @@ impl Logic {
         turn: &SiteTurn,
         done: bool,
         kept: Bits,
-        offer: Option<Bits>,
+        valid_word: Option<Bits>,
         room: bool,
     ) -> Step
-        ensures { result ≡ (circuit_of self.now).step (turn_of turn.now) done kept offer room }
+        ensures { result ≡ (circuit_of self.now).step (turn_of turn.now) done kept valid_word room }
     {
         self.handling(turn, done)
-            .step(turn.word(), kept, offer, room)
+            .step(turn.word(), kept, valid_word, room)
     }
 
     /// Whether the activation of the final stage leaves it.
-    pub fn leaves(&self, full: bool, waits: bool) -> bool
-        ensures { result ≡ (circuit_of self.now).leaves full waits }
+    pub fn leaves(&self, full: bool, stall: bool) -> bool
+        ensures { result ≡ (circuit_of self.now).leaves full stall }
     {
-        self.leaves.at(full, waits)
+        self.leaves.at(full, stall)
     }
 
     /// Whether the activation of another stage goes on into the next one.
-    pub fn moves_on(&self, full: bool, waits: bool, next_full: bool, next_moves: bool) -> bool
-        ensures { result ≡ (circuit_of self.now).moves_on full waits next_full next_moves }
+    pub fn moves_on(&self, full: bool, stall: bool, next_full: bool, next_moves: bool) -> bool
+        ensures { result ≡ (circuit_of self.now).moves_on full stall next_full next_moves }
     {
-        self.leaves.at(full, waits) && self.frees.at(next_full, next_moves)
+        self.leaves.at(full, stall) && self.frees.at(next_full, next_moves)
     }
 }

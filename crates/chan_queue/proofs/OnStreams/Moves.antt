@@ -4,7 +4,7 @@ use Rattle.std.specs.Prelude.{slice_get, nat_lt, ◌&&◌, ◌⊎◌}
 use Rattle.std.proofs.lemmas.Bool.Decides.{nat_tests}
 use Rattle.std.proofs.lemmas.List.{drop-drop}
 use Rattle.std.proofs.lemmas.Option.{slice_get_within}
-use Rattle.base.proofs.Lemmas.Lists.Fronts.{IsFront-take}
+use Rattle.base.proofs.Lemmas.Lists.Prefixes.{IsPrefix-take}
 use Rattle.xb_bits.specs.Word.{Word}
 use Rattle.xb_value.specs.declared.value.Value.{Value}
 use Rattle.xb_value.specs.Typing.{IsOfType}
@@ -75,7 +75,7 @@ module _ (run : Run) (p : ℕ) (proc : Proc) (k : ℕ) (at : Position) (event : 
   pub before : StandsBefore run p proc made event
   before = record {
     proc_is = here.proc_is;
-    within = IsFront-take k (final_cut run p);
+    within = IsPrefix-take k (final_cut run p);
     active = subst (λ (x : Position). x.ends < run.activations) (sym here.at_is) active;
     next = subst (λ (x : Position). next_of proc.behavior x ≡ event) (sym here.at_is) next;
   }

@@ -3,8 +3,8 @@ use Rattle.std.proofs.Common.{◌≡◌, ◌≢◌, ℕ, zero, suc, ◌+◌, ◌
 use Rattle.std.specs.Prelude.{slice_get, nat_lt, ◌⊎◌}
 use Rattle.std.proofs.lemmas.Bool.Decides.{nat_tests}
 use Rattle.std.proofs.lemmas.List.{length-append}
-use Rattle.base.specs.Lists.Front.{IsFront}
-use Rattle.base.proofs.Lemmas.Lists.Fronts.{rest_of, IsFront-trans}
+use Rattle.base.specs.Lists.Prefix.{IsPrefix}
+use Rattle.base.proofs.Lemmas.Lists.Prefixes.{rest_of, IsPrefix-trans}
 use Rattle.xb_bits.specs.Word.{Word}
 use Rattle.xb_value.specs.declared.value.Value.{Value}
 use Rattle.net_core.specs.declared.net.Site.{Site}
@@ -21,7 +21,7 @@ use Rattle.net_core.specs.WellFormed.{IsRun}
 use Rattle.net_core.specs.Counted.{IsCounted}
 use Rattle.net_core.proofs.Lemmas.{event_turn, event_site, next_is_the_traces, only_sent_words_are_received, counted_cuts_end_at_the_final_cut}
 use Rattle.chan_queue.specs.Streams.Streams.{AreStopped}
-use Rattle.chan_queue.proofs.OnStreams.Within.{final_front, final_in_trace, chan_there, sent_append, received_append, inner_room}
+use Rattle.chan_queue.proofs.OnStreams.Within.{final_prefix, final_in_trace, chan_there, sent_append, received_append, inner_room}
 
 -- the site of a proc's event, in the event's direction
 abbrev HasSite : Behavior → Event → Type 0
@@ -52,7 +52,7 @@ unfolding next_event
 next_located b keep at = located b keep at.state at.got (drop at.done b.sites) at.done refl
 
 -- each event that a proc makes is at a site of its direction
-placed : (run : Run) → IsRun run → (p : ℕ) (proc : Proc) → slice_get run.procs p ≡ Some proc → (made : List Event) → IsFront made (final_cut run p)
+placed : (run : Run) → IsRun run → (p : ℕ) (proc : Proc) → slice_get run.procs p ≡ Some proc → (made : List Event) → IsPrefix made (final_cut run p)
     → (xs : List Event) (e : Event) (ys : List Event) → made ≡ xs ++ e ∷ ys → HasSite proc.behavior e
 placed run fits p proc proc_is made within xs e ys split =
     let more = rest_of made (final_cut run p) within in
@@ -110,7 +110,7 @@ no_words : (c : ℕ) (es : List Event) → es ≡ [] → length (words_sent [] c
 unfolding words_sent
 no_words c es e = ap (λ xs. length (words_sent [] c xs)) e
 
-no_trace : (n : ℕ) (words : Histories) (es : List Event) → IsFront es (trace_of n words None) → es ≡ []
+no_trace : (n : ℕ) (words : Histories) (es : List Event) → IsPrefix es (trace_of n words None) → es ≡ []
 unfolding trace_of
 no_trace n words [] f = refl
 no_trace n words (x ∷ xs) f = absurd f
@@ -152,12 +152,12 @@ outer_room run cut c j inner = go (slice_get run.chans c) refl
     go None e = refl
     go (Some chan) e = by_kind chan e chan.kind refl
 
-sent_grows : (sites : List Site) (c : ℕ) (xs ys : List Event) → IsFront xs ys → length (words_sent sites c xs) ≤ length (words_sent sites c ys)
+sent_grows : (sites : List Site) (c : ℕ) (xs ys : List Event) → IsPrefix xs ys → length (words_sent sites c xs) ≤ length (words_sent sites c ys)
 sent_grows sites c xs ys f =
     let r = rest_of xs ys f in
     omega (arith, ap (λ es. length (words_sent sites c es)) r.1, ap length (sent_append sites c xs r.0), length-append (words_sent sites c xs) (words_sent sites c r.0))
 
-received_grows : (sites : List Site) (c : ℕ) (xs ys : List Event) → IsFront xs ys → count_received sites c xs ≤ count_received sites c ys
+received_grows : (sites : List Site) (c : ℕ) (xs ys : List Event) → IsPrefix xs ys → count_received sites c xs ≤ count_received sites c ys
 received_grows sites c xs ys f =
     let r = rest_of xs ys f in
     omega (arith, ap (λ es. count_received sites c es) r.1, received_append sites c xs r.0)
@@ -166,7 +166,7 @@ module _ (run : Run) (fits : IsRun run) (cut : Cut) (stopped : AreStopped run cu
   no_events : (p : ℕ) → slice_get run.procs p ≡ None → cut p ≡ []
   no_events p e =
       no_trace run.activations (words_at run (final_cut run)) (cut p)
-      (IsFront-trans _ _ _ (stopped.within p) (subst (λ o. IsFront (final_cut run p) (trace_of run.activations (words_at run (final_cut run)) o)) e (final_front run p)))
+      (IsPrefix-trans _ _ _ (stopped.within p) (subst (λ o. IsPrefix (final_cut run p) (trace_of run.activations (words_at run (final_cut run)) o)) e (final_prefix run p)))
 
   -- who receives from a channel is its receiver
   receives_there : (p c : ℕ) → 1 ≤ count_received (sites_at run p) c (cut p) → (receiver run c ≡ p) × ((chan : Chan) × (slice_get run.chans c ≡ Some chan) × (chan.kind ≢ Output))
@@ -221,7 +221,7 @@ module _ (run : Run) (fits : IsRun run) (cut : Cut) (stopped : AreStopped run cu
 
   pub counted : IsCounted run cut
   counted = record {
-    made = λ p. IsFront-trans _ _ _ (stopped.within p) (final_front run p);
+    made = λ p. IsPrefix-trans _ _ _ (stopped.within p) (final_prefix run p);
     sent = λ p c chan e k. sent_grows (sites_at run p) c (cut p) (final_cut run p) (stopped.within p);
     received = received_fits;
     room = room_fits;

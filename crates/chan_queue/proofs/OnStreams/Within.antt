@@ -3,9 +3,9 @@ use Rattle.std.proofs.Common.{◌≡◌, ℕ, zero, suc, ◌+◌, ◌<◌, ◌�
 use Rattle.std.specs.Prelude.{slice_get, nat_lt, ◌&&◌, ◌⊎◌}
 use Rattle.std.proofs.lemmas.Bool.Decides.{nat_tests}
 use Rattle.std.proofs.lemmas.List.{append-nil}
-use Rattle.base.specs.Lists.Front.{IsFront}
-use Rattle.base.proofs.Lemmas.Lists.Fronts.{rest_of, IsFront-append_both}
-use Rattle.base.proofs.Lemmas.Lists.Places.{slice_get-append_right}
+use Rattle.base.specs.Lists.Prefix.{IsPrefix}
+use Rattle.base.proofs.Lemmas.Lists.Prefixes.{rest_of, IsPrefix-append_both}
+use Rattle.base.proofs.Lemmas.Lists.Indices.{slice_get-append_right}
 use Rattle.xb_bits.specs.Word.{Word}
 use Rattle.xb_value.specs.declared.value.Value.{Value}
 use Rattle.net_core.specs.declared.net.Site.{Site}
@@ -22,27 +22,27 @@ use Rattle.net_core.specs.WellFormed.{IsRun}
 use Rattle.net_core.proofs.Lemmas.{rounds_settle, next_is_the_traces, no_proc_can_go_at_the_end, only_sent_words_are_received, each_sent_word_had_room}
 use Rattle.chan_queue.specs.Streams.Streams.{StandsBefore, IsSiteOn}
 
-fit_front : (sites : List Site) (room : ℕ → ℕ → Bool) (before xs : List Event) → IsFront (longest_fit sites room before xs) xs
+fit_prefix : (sites : List Site) (room : ℕ → ℕ → Bool) (before xs : List Event) → IsPrefix (longest_fit sites room before xs) xs
 unfolding longest_fit
-fit_front sites room before [] = tt
-fit_front sites room before (x ∷ xs) = go (fits_after sites room before x) (fit_front sites room (before ++ x ∷ []) xs)
+fit_prefix sites room before [] = tt
+fit_prefix sites room before (x ∷ xs) = go (fits_after sites room before x) (fit_prefix sites room (before ++ x ∷ []) xs)
   where
-    go : (b : Bool) → IsFront (longest_fit sites room (before ++ x ∷ []) xs) xs → IsFront (cond b (x ∷ longest_fit sites room (before ++ x ∷ []) xs) []) (x ∷ xs)
+    go : (b : Bool) → IsPrefix (longest_fit sites room (before ++ x ∷ []) xs) xs → IsPrefix (cond b (x ∷ longest_fit sites room (before ++ x ∷ []) xs) []) (x ∷ xs)
     go true f = (refl, f)
     go false f = tt
 
--- the final cut is a front of the traces over its words
-pub final_front : (run : Run) (p : ℕ) → IsFront (final_cut run p) (trace_of run.activations (words_at run (final_cut run)) (slice_get run.procs p))
+-- the final cut is a prefix of the traces over its words
+pub final_prefix : (run : Run) (p : ℕ) → IsPrefix (final_cut run p) (trace_of run.activations (words_at run (final_cut run)) (slice_get run.procs p))
 unfolding reach
-final_front run p =
+final_prefix run p =
     let settled = ap (λ (c : Cut). c p) (rounds_settle run) in
-    subst (λ xs. IsFront xs (trace_of run.activations (words_at run (final_cut run)) (slice_get run.procs p))) settled
-    (fit_front (sites_at run p) (room_at run (final_cut run)) [] (trace_of run.activations (words_at run (final_cut run)) (slice_get run.procs p)))
+    subst (λ xs. IsPrefix xs (trace_of run.activations (words_at run (final_cut run)) (slice_get run.procs p))) settled
+    (fit_prefix (sites_at run p) (room_at run (final_cut run)) [] (trace_of run.activations (words_at run (final_cut run)) (slice_get run.procs p)))
 
 pub final_in_trace : (run : Run) (p : ℕ) (proc : Proc) → slice_get run.procs p ≡ Some proc
-    → IsFront (final_cut run p) (trace proc.behavior run.activations proc.opening (words_at run (final_cut run)))
+    → IsPrefix (final_cut run p) (trace proc.behavior run.activations proc.opening (words_at run (final_cut run)))
 unfolding trace_of
-final_in_trace run p proc e = subst (λ o. IsFront (final_cut run p) (trace_of run.activations (words_at run (final_cut run)) o)) e (final_front run p)
+final_in_trace run p proc e = subst (λ o. IsPrefix (final_cut run p) (trace_of run.activations (words_at run (final_cut run)) o)) e (final_prefix run p)
 
 pub chan_there : (sites : List Site) (i : ℕ) (site : Site) → slice_get sites i ≡ Some site → chan_at sites i ≡ site.chan
 chan_there [] i site e = cc
@@ -139,8 +139,8 @@ module _ (run : Run) (p : ℕ) (proc : Proc) (made : List Event) (event : Event)
       next_is_the_traces proc run.activations (words_at run (final_cut run)) made (rest ++ all.0) e whole ∙ before.next
 
   -- and leaves it within the final cut
-  stays : (rest : List Event) → final_cut run p ≡ made ++ event ∷ rest → IsFront (made ++ event ∷ []) (final_cut run p)
-  stays rest split = subst (λ xs. IsFront (made ++ event ∷ []) xs) (sym split) (IsFront-append_both made (event ∷ []) (event ∷ rest) (refl, tt))
+  stays : (rest : List Event) → final_cut run p ≡ made ++ event ∷ rest → IsPrefix (made ++ event ∷ []) (final_cut run p)
+  stays rest split = subst (λ xs. IsPrefix (made ++ event ∷ []) xs) (sym split) (IsPrefix-append_both made (event ∷ []) (event ∷ rest) (refl, tt))
 
   -- where it has made all of the final cut, it can't go
   pub tests : final_cut run p ≡ made → finds_word proc.behavior.sites (words_at run (final_cut run)) made event && fits_after proc.behavior.sites (room_at run (final_cut run)) made event ≡ false
@@ -163,11 +163,11 @@ module _ (run : Run) (p : ℕ) (proc : Proc) (made : List Event) (event : Event)
       go [] e = inl (e ∙ append-nil made)
       go (x ∷ xs) e = inr (xs, e ∙ ap (λ (y : Event). made ++ y ∷ xs) (comes_next x xs e))
 
-pub ends_within : (run : Run) (p : ℕ) (proc : Proc) (made : List Event) (state : Value) → StandsBefore run p proc made (End state) → IsFront (made ++ End state ∷ []) (final_cut run p)
+pub ends_within : (run : Run) (p : ℕ) (proc : Proc) (made : List Event) (state : Value) → StandsBefore run p proc made (End state) → IsPrefix (made ++ End state ∷ []) (final_cut run p)
 unfolding finds_word fits_after
 ends_within run p proc made state before = go (made_or_next run p proc made (End state) before)
   where
-    go : (final_cut run p ≡ made) ⊎ ((rest : List Event) × (final_cut run p ≡ made ++ End state ∷ rest)) → IsFront (made ++ End state ∷ []) (final_cut run p)
+    go : (final_cut run p ≡ made) ⊎ ((rest : List Event) × (final_cut run p ≡ made ++ End state ∷ rest)) → IsPrefix (made ++ End state ∷ []) (final_cut run p)
     go (inl same) = let wrong = tests run p proc made (End state) before same in cc
     go (inr next) = stays run p proc made (End state) before next.0 next.1
 
@@ -180,7 +180,7 @@ zero_or_more zero = inl refl
 zero_or_more (suc k) = inr (k, refl)
 
 pub sends_within : (run : Run) (p : ℕ) (proc : Proc) (made : List Event) (i : ℕ) (word : Word) (site : Site) → IsRun run → StandsBefore run p proc made (Send i word) → IsSiteOn run proc i site true
-    → ((slice_get (words_at run (final_cut run) site.chan) (length (words_sent proc.behavior.sites site.chan made)) ≡ Some word) × IsFront (made ++ Send i word ∷ []) (final_cut run p))
+    → ((slice_get (words_at run (final_cut run) site.chan) (length (words_sent proc.behavior.sites site.chan made)) ≡ Some word) × IsPrefix (made ++ Send i word ∷ []) (final_cut run p))
     ⊎ ((length (words_sent proc.behavior.sites site.chan made) ≡ length (words_at run (final_cut run) site.chan))
     × (length (words_sent proc.behavior.sites site.chan made) ≡ received_at run (final_cut run) site.chan + get_or run.depths site.chan 0))
 unfolding finds_word fits_after
@@ -204,7 +204,7 @@ sends_within run p proc made i word site fits before on = go (made_or_next run p
         ∙ each_sent_word_had_room run p c j (subst (λ ss. j < length (words_sent ss c (final_cut run p))) (sym (ap sites_of before.proc_is)) l))
 
     go : (final_cut run p ≡ made) ⊎ ((rest : List Event) × (final_cut run p ≡ made ++ Send i word ∷ rest))
-        → ((slice_get (words_at run (final_cut run) c) (length (words_sent sites c made)) ≡ Some word) × IsFront (made ++ Send i word ∷ []) (final_cut run p))
+        → ((slice_get (words_at run (final_cut run) c) (length (words_sent sites c made)) ≡ Some word) × IsPrefix (made ++ Send i word ∷ []) (final_cut run p))
         ⊎ ((length (words_sent sites c made) ≡ length (words_at run (final_cut run) c)) × (length (words_sent sites c made) ≡ received_at run (final_cut run) c + get_or run.depths c 0))
     go (inl same) =
         let sent = ap (λ es. length (words_sent sites c es)) same in
@@ -226,7 +226,7 @@ sends_within run p proc made i word site fits before on = go (made_or_next run p
         inl (got, stays run p proc made (Send i word) before next.0 next.1)
 
 pub receives_within : (run : Run) (p : ℕ) (proc : Proc) (made : List Event) (i : ℕ) (site : Site) → IsRun run → StandsBefore run p proc made (Recv i) → IsSiteOn run proc i site false
-    → ((count_received proc.behavior.sites site.chan made < received_at run (final_cut run) site.chan) × IsFront (made ++ Recv i ∷ []) (final_cut run p))
+    → ((count_received proc.behavior.sites site.chan made < received_at run (final_cut run) site.chan) × IsPrefix (made ++ Recv i ∷ []) (final_cut run p))
     ⊎ ((count_received proc.behavior.sites site.chan made ≡ received_at run (final_cut run) site.chan) × (received_at run (final_cut run) site.chan ≡ length (words_at run (final_cut run) site.chan)))
 unfolding finds_word fits_after
 receives_within run p proc made i site fits before on = go (made_or_next run p proc made (Recv i) before)
@@ -251,7 +251,7 @@ receives_within run p proc made i site fits before on = go (made_or_next run p p
     and_left false h = refl
 
     go : (final_cut run p ≡ made) ⊎ ((rest : List Event) × (final_cut run p ≡ made ++ Recv i ∷ rest))
-        → ((count_received sites c made < received_at run (final_cut run) c) × IsFront (made ++ Recv i ∷ []) (final_cut run p))
+        → ((count_received sites c made < received_at run (final_cut run) c) × IsPrefix (made ++ Recv i ∷ []) (final_cut run p))
         ⊎ ((count_received sites c made ≡ received_at run (final_cut run) c) × (received_at run (final_cut run) c ≡ length (words_at run (final_cut run) c)))
     go (inl same) =
         let all = ap (λ es. count_received sites c es) same in

@@ -1,6 +1,6 @@
 -- What goes over the channels of a run in the end, and procs that have come no further.
 use Rattle.std.specs.Prelude.{◌≡◌, ◌<◌, ◌≤◌, ◌+◌, ℕ, Bool, List, length, get_or, slice_get, Some}
-use Rattle.base.specs.Lists.Front.{IsFront}
+use Rattle.base.specs.Lists.Prefix.{IsPrefix}
 use Rattle.chan_queue.specs.Stream.{Stream}
 use Rattle.net_core.specs.declared.net.Chan.{Chan}
 use Rattle.net_core.specs.declared.net.Site.{Site}
@@ -20,7 +20,7 @@ stands run proc made = position_after proc.behavior.sites (opened proc) made (wo
 -- proc p has made these events, which are no more than in the final cut, and this one comes next
 pub record StandsBefore (run : Run) (p : ℕ) (proc : Proc) (made : List Event) (event : Event) : Type 0 where
   pub proc_is : slice_get run.procs p ≡ Some proc
-  pub within : IsFront made (final_cut run p)
+  pub within : IsPrefix made (final_cut run p)
   pub active : (stands run proc made).ends < run.activations
   pub next : next_of proc.behavior (stands run proc made) ≡ event
 

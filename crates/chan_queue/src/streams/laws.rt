@@ -1,7 +1,7 @@
 //! Laws of streams, each the contract of a function without a body.
 
 ghost use Rattle.std.specs.Prelude.{◌≡◌, ◌<◌, ◌+◌, ◌⊎◌, ℕ, suc, true, false, List, [], ◌∷◌, ◌++◌, length, get_or, slice_get, Some};
-ghost use Rattle.base.specs.Lists.Front.{IsFront};
+ghost use Rattle.base.specs.Lists.Prefix.{IsPrefix};
 ghost use Rattle.xb_bits.specs.Word.{Word};
 ghost use Rattle.xb_value.specs.declared.value.Value.{Value};
 ghost use Rattle.net_core.specs.declared.net.Site.{Site};
@@ -25,7 +25,7 @@ pub fn sends_are_of_the_stream()
         IsRun run → StandsBefore run p proc made (event.Send i word) → IsSiteOn run proc i site true →
         let sent = length (words_sent proc.behavior.sites site.chan made) in
         let stream = stream_in run site.chan in
-        ((slice_get stream.words sent ≡ Some word) × IsFront (made ++ event.Send i word ∷ []) (final_cut run p))
+        ((slice_get stream.words sent ≡ Some word) × IsPrefix (made ++ event.Send i word ∷ []) (final_cut run p))
         ⊎ ((sent ≡ length stream.words) × (sent ≡ stream.received + get_or run.depths site.chan 0)) }
 {}
 
@@ -36,7 +36,7 @@ pub fn receives_are_of_the_stream()
         IsRun run → StandsBefore run p proc made (event.Recv i) → IsSiteOn run proc i site false →
         let received = count_received proc.behavior.sites site.chan made in
         let stream = stream_in run site.chan in
-        ((received < stream.received) × IsFront (made ++ event.Recv i ∷ []) (final_cut run p))
+        ((received < stream.received) × IsPrefix (made ++ event.Recv i ∷ []) (final_cut run p))
         ⊎ ((received ≡ stream.received) × (stream.received ≡ length stream.words)) }
 {}
 
@@ -44,7 +44,7 @@ pub fn receives_are_of_the_stream()
 pub fn ends_stay_within()
     ensures { (run : Run) (p : ℕ) (proc : Proc) (made : List Event) (state : Value) →
         StandsBefore run p proc made (event.End state) →
-        IsFront (made ++ event.End state ∷ []) (final_cut run p) }
+        IsPrefix (made ++ event.End state ∷ []) (final_cut run p) }
 {}
 
 /// Procs that have stopped within the final cut, and whose channels' counts were compared, have come to the final cut

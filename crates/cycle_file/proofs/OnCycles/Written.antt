@@ -29,10 +29,10 @@ rows_more names number [] more = append-nil (row_text names number more) ∙ ap 
 rows_more names number (o ∷ outs) more =
     ap (λ t. row_text names number o ++ t) (rows_more names (suc number) outs more)
     ∙ sym (append_assoc (row_text names number o) (rows_text names (suc number) outs) (row_text names (suc number + length outs) more))
-    ∙ ap (λ k. (row_text names number o ++ rows_text names (suc number) outs) ++ row_text names k more) (place number (length outs))
+    ∙ ap (λ k. (row_text names number o ++ rows_text names (suc number) outs) ++ row_text names k more) (offset number (length outs))
   where
-    place : (n k : ℕ) → suc n + k ≡ n + suc k
-    place n k = omega arith
+    offset : (n k : ℕ) → suc n + k ≡ n + suc k
+    offset n k = omega arith
 
 -- ---- what moved
 

@@ -85,7 +85,7 @@ pub one_more_known : (channels : List Channel) (left rest : List Port) (data_por
     → AreSoFar channels left old shapes → IsFirst left data_port rest → name ≡ (channel_of data_port).name → number ≡ length shapes → shape ≡ shape_of (channel_of data_port)
     → ((q : List ℕ) → number_in new q ≡ or_else (number_in old q) (if bytes_eq name q then Some number else None))
     → AreSoFar channels rest new (shapes ++ shape ∷ [])
-one_more_known channels left rest data_port old new shapes name number shape s first named place shaped put = record {
+one_more_known channels left rest data_port old new shapes name number shape s first named offset shaped put = record {
   done = s.done ++ channel_of data_port ∷ [];
   are = s.are ∙ ap (λ cs. s.done ++ cs) first.channels ∙ sym (append_assoc s.done (channel_of data_port ∷ []) (channels_at rest));
   shapes_are = ap (λ x. shapes ++ x ∷ []) shaped ∙ ap (λ xs. xs ++ shape_of (channel_of data_port) ∷ []) s.shapes_are ∙ sym (shapes_more s.done (channel_of data_port));
@@ -93,7 +93,7 @@ one_more_known channels left rest data_port old new shapes name number shape s f
       put q
       ∙ ap (λ o. or_else o (if bytes_eq name q then Some number else None)) (s.numbers_are q)
       ∙ ap (λ n. or_else (named_from 0 (names_of s.done) q) (if bytes_eq n q then Some number else None)) named
-      ∙ ap (λ k. or_else (named_from 0 (names_of s.done) q) (if bytes_eq (channel_of data_port).name q then Some k else None)) (place ∙ ap length s.shapes_are ∙ sym (length_names s.done) ∙ zero_plus (length (names_of s.done)))
+      ∙ ap (λ k. or_else (named_from 0 (names_of s.done) q) (if bytes_eq (channel_of data_port).name q then Some k else None)) (offset ∙ ap length s.shapes_are ∙ sym (length_names s.done) ∙ zero_plus (length (names_of s.done)))
       ∙ sym (named_behind 0 (names_of s.done) (channel_of data_port).name q)
       ∙ ap (λ ns. named_from 0 ns q) (sym (names_more s.done (channel_of data_port)));
 }

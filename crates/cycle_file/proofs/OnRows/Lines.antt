@@ -2,7 +2,7 @@
 use Rattle.std.proofs.Common.{◌≡◌, ◌<◌, ◌≤◌, ◌+◌, ℕ, zero, suc, Bool, true, false, List, [], ◌∷◌, ◌++◌, length, nat_lt, Result, Ok, Err, refl, sym, ap, ap₂, ◌∙◌, subst, arith, append_assoc, append-nil}
 use Rattle.std.specs.Prelude.{if◌then◌else◌, min}
 use Rattle.std.proofs.lemmas.Bool.Decides.{nat_tests}
-use Rattle.base.specs.Texts.Lines.{lines_of, placed}
+use Rattle.base.specs.Texts.Lines.{lines_of, positioned}
 use Rattle.base.proofs.Lemmas.Texts.Lines.{EndWithin}
 use Rattle.chan_file.specs.declared.refusal.Cause.{Cause}
 use Rattle.vlog_tree.specs.declared.module.VModule.{VModule}
@@ -57,7 +57,7 @@ row_more channels all left next end at line rows x count more s e says is = reco
 }
 
 pub fault_read : (m : VModule) (text : List ℕ) (left next : List (ℕ × List ℕ)) (end at : ℕ) (line : List ℕ) (cause : Cause) (rows : List Repeated) (count : ℕ)
-    → AreRead (channels_of m) (placed 0 (lines_of text)) left end rows count → left ≡ (at, line) ∷ next → SaysRowLine (channels_of m) line (Fault cause) → Reads m text (Err (Input cause at))
+    → AreRead (channels_of m) (positioned 0 (lines_of text)) left end rows count → left ≡ (at, line) ∷ next → SaysRowLine (channels_of m) line (Fault cause) → Reads m text (Err (Input cause at))
 fault_read m text left next end at line cause rows count s e says = record {
   lines = Err (cause, at);
   says = s.goes (Err (cause, at)) (subst (λ ls. SaysRowLines (channels_of m) ls (Err (cause, at))) (sym e) (at_fault at line next cause says));
@@ -69,23 +69,23 @@ all_said channels all left end rows count s e =
     subst (λ xs. SaysRowLines channels all (Ok xs)) (append-nil rows) (s.goes (Ok []) (subst (λ ls. SaysRowLines channels ls (Ok [])) (sym e) at_end))
 
 pub all_read : (m : VModule) (text : List ℕ) (left : List (ℕ × List ℕ)) (end : ℕ) (rows : List Repeated) (count : ℕ)
-    → AreRead (channels_of m) (placed 0 (lines_of text)) left end rows count → left ≡ [] → count ≤ 1048576 → Reads m text (Ok rows)
+    → AreRead (channels_of m) (positioned 0 (lines_of text)) left end rows count → left ≡ [] → count ≤ 1048576 → Reads m text (Ok rows)
 all_read m text left end rows count s e few =
     let few_rows : count_rows rows ≤ 1048576 = omega (arith, s.counted, few) in
     let test : nat_lt 1048576 (count_rows rows) ≡ false = grind (arith, nat_tests) in
     record {
       lines = Ok rows;
-      says = all_said (channels_of m) (placed 0 (lines_of text)) left end rows count s e;
+      says = all_said (channels_of m) (positioned 0 (lines_of text)) left end rows count s e;
       is = sym (ap (λ b. if b then Err (Over cycles_limit) else Ok rows) test);
     }
 
 pub too_many_read : (m : VModule) (text : List ℕ) (left : List (ℕ × List ℕ)) (end : ℕ) (rows : List Repeated) (count : ℕ)
-    → AreRead (channels_of m) (placed 0 (lines_of text)) left end rows count → left ≡ [] → 1048576 < count → Reads m text (Err (Over cycles_limit))
+    → AreRead (channels_of m) (positioned 0 (lines_of text)) left end rows count → left ≡ [] → 1048576 < count → Reads m text (Err (Over cycles_limit))
 too_many_read m text left end rows count s e many =
     let many_rows : 1048576 < count_rows rows = omega (arith, s.counted, many) in
     let test : nat_lt 1048576 (count_rows rows) ≡ true = grind (arith, nat_tests) in
     record {
       lines = Ok rows;
-      says = all_said (channels_of m) (placed 0 (lines_of text)) left end rows count s e;
+      says = all_said (channels_of m) (positioned 0 (lines_of text)) left end rows count s e;
       is = sym (ap (λ b. if b then Err (Over cycles_limit) else Ok rows) test);
     }

@@ -9,7 +9,7 @@ use Rattle.xb_value.specs.Flat.{flat_of}
 use Rattle.xb_value.proofs.Lemmas.Reads.{Misfits-spells, Reads-fits, Reads-spells, Reads-typed, Reads-unique}
 use Rattle.xb_value.proofs.Lemmas.Flat.{as_wide}
 use Rattle.xb_value.proofs.Lemmas.Types.{width_of-Bits}
-use Rattle.base.specs.Texts.Lines.{lines_of, placed}
+use Rattle.base.specs.Texts.Lines.{lines_of, positioned}
 use Rattle.chan_file.specs.declared.refusal.Cause.{Cause}
 use Rattle.chan_file.specs.declared.refusal.Cause.TheVariants.{Syntax}
 use Rattle.vlog_tree.specs.declared.module.VModule.{VModule}
@@ -40,7 +40,7 @@ value_is_one width text valued.NoValue valued.NoValue none nor = refl
 value_is_one width text valued.NoValue valued.Misfit none (at, m) = let spells = Misfits-spells text (Bits width) at m in absurd (none spells.0 spells.1)
 value_is_one width text valued.Misfit (valued.Word w) (at, m) (y, s, also) = absurd (Reads-fits text (Bits width) y at s m)
 value_is_one width text valued.Misfit valued.NoValue (at, m) none = let spells = Misfits-spells text (Bits width) at m in absurd (none spells.0 spells.1)
-value_is_one width text valued.Misfit valued.Misfit (at, m) (place, n) = refl
+value_is_one width text valued.Misfit valued.Misfit (at, m) (offset, n) = refl
 
 -- ---- items
 
@@ -125,4 +125,4 @@ lines_are_one channels (_ ∷ lines) a b (at_fault at line _ c x) (at_fault _ _ 
     let same : c ≡ d = cc in ap (λ z. Err (z, at)) same
 
 pub one_reading : (m : VModule) (text : List ℕ) (a b : Result (List Repeated) RowError) → Reads m text a → Reads m text b → a ≡ b
-one_reading m text a b r s = r.is ∙ ap limited (lines_are_one (channels_of m) (placed 0 (lines_of text)) r.lines s.lines r.says s.says) ∙ sym s.is
+one_reading m text a b r s = r.is ∙ ap limited (lines_are_one (channels_of m) (positioned 0 (lines_of text)) r.lines s.lines r.says s.says) ∙ sym s.is

@@ -10,7 +10,7 @@ use Rattle.xb_value.specs.Flat.{flat_of}
 use Rattle.xb_value.proofs.Lemmas.Reads.{Reads-typed}
 use Rattle.xb_value.proofs.Lemmas.Flat.{as_wide}
 use Rattle.xb_value.proofs.Lemmas.Types.{width_of-Bits}
-use Rattle.base.specs.Texts.Lines.{lines_of, placed}
+use Rattle.base.specs.Texts.Lines.{lines_of, positioned}
 use Rattle.chan_file.specs.declared.refusal.Cause.{Cause}
 use Rattle.chan_file.specs.declared.refusal.Cause.TheVariants.{Syntax, Name, Twice, Kind}
 use Rattle.vlog_tree.specs.declared.module.VModule.{VModule}
@@ -215,4 +215,4 @@ limited_fits channels (Ok xs) rows f h = by_test (nat_lt most_rows (count_rows x
     by_test false g = let same : rows ≡ xs = cc in subst (AllByRecursion (λ (x : Repeated). AreDrivesOf channels x.row.channels)) (sym same) h
 
 pub rows_fit : (m : VModule) (text : List ℕ) (rows : List Repeated) → CanRun m → Reads m text (Ok rows) → AllByRecursion (λ x. IsRowOf m x.row) rows
-rows_fit m text rows runs r = limited_fits (channels_of m) r.lines rows r.is (lines_fit (channels_of m) (placed 0 (lines_of text)) r.lines (narrow_channels m runs) r.says)
+rows_fit m text rows runs r = limited_fits (channels_of m) r.lines rows r.is (lines_fit (channels_of m) (positioned 0 (lines_of text)) r.lines (narrow_channels m runs) r.says)

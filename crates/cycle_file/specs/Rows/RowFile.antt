@@ -1,6 +1,6 @@
 -- What a row file says of a module's rows. Lines are read in their order, and the first line at fault is named.
 use Rattle.std.specs.Prelude.{◌≡◌, ◌+◌, ◌<◌, nat_lt, ℕ, Bool, true, false, List, [], ◌∷◌, ◌++◌, replicate, flat_map, Option, Some, None, Result, Ok, Err, if◌then◌else◌}
-use Rattle.base.specs.Texts.Lines.{lines_of, placed}
+use Rattle.base.specs.Texts.Lines.{lines_of, positioned}
 use Rattle.xb_span.specs.declared.limit.Limit.{Limit}
 use Rattle.xb_span.specs.declared.limit.What.TheVariants.{Cycles}
 use Rattle.chan_file.specs.declared.refusal.Cause.{Cause}
@@ -77,7 +77,7 @@ limited (Err e) = Err (Input e.0 e.1)
 -- the text says these rows of the module, or is refused so
 pub record Reads (m : VModule) (text : List ℕ) (r : Result (List Repeated) RowError) : Type 0 where
   pub lines : RowLines
-  pub says : SaysRowLines (channels_of m) (placed 0 (lines_of text)) lines
+  pub says : SaysRowLines (channels_of m) (positioned 0 (lines_of text)) lines
   pub is : r ≡ limited lines
 
 -- why a text is refused

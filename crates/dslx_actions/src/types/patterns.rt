@@ -3,16 +3,16 @@
 ghost use Rattle.std.specs.Prelude.{◌≡◌, OnOk};
 ghost use Rattle.dslx_actions.specs.Types.Patterns.{bool_pattern, member_pattern, name_pattern, tuple_pattern, typed_pattern, wild_pattern};
 
-use crate::{NO_DIGITS, Parts, join, no_ident, no_type};
+use crate::{NO_DIGITS, SemanticStacks, join, no_ident, no_type};
 use dslx_tree::{Number, Pattern, Shape};
 use std::alloc::{AllocError, Global};
 use xb_value::{Boxed, Seq};
 
 /// `_`
-pub fn wild_pattern(parts: &mut Parts) -> Result<(), AllocError>
+pub fn wild_pattern(parts: &mut SemanticStacks) -> Result<(), AllocError>
     ensures { OnOk result (parts.new ≡ wild_pattern parts.old) }
 {
-    let span = parts.take_marks(1);
+    let span = parts.take_token_spans(1);
     parts.patterns.push(Pattern {
         span,
         shape: Shape::Wild,
@@ -20,10 +20,10 @@ pub fn wild_pattern(parts: &mut Parts) -> Result<(), AllocError>
 }
 
 /// `true` or `false`
-pub fn bool_pattern(parts: &mut Parts, value: bool) -> Result<(), AllocError>
+pub fn bool_pattern(parts: &mut SemanticStacks, value: bool) -> Result<(), AllocError>
     ensures { OnOk result (parts.new ≡ bool_pattern value parts.old) }
 {
-    let span = parts.take_marks(1);
+    let span = parts.take_token_spans(1);
     parts.patterns.push(Pattern {
         span,
         shape: Shape::Bool(value),
@@ -31,7 +31,7 @@ pub fn bool_pattern(parts: &mut Parts, value: bool) -> Result<(), AllocError>
 }
 
 /// `: number` behind a type
-pub fn typed_pattern(parts: &mut Parts, alloc: Global) -> Result<(), AllocError>
+pub fn typed_pattern(parts: &mut SemanticStacks, alloc: Global) -> Result<(), AllocError>
     ensures { OnOk result (parts.new ≡ typed_pattern parts.old) }
 {
     parts.skip(1);
@@ -50,7 +50,7 @@ pub fn typed_pattern(parts: &mut Parts, alloc: Global) -> Result<(), AllocError>
 }
 
 /// A name, and nothing behind it.
-pub fn name_pattern(parts: &mut Parts, alloc: Global) -> Result<(), AllocError>
+pub fn name_pattern(parts: &mut SemanticStacks, alloc: Global) -> Result<(), AllocError>
     ensures { OnOk result (parts.new ≡ name_pattern parts.old) }
 {
     let ident = parts.idents.pop_or(no_ident(alloc));
@@ -61,7 +61,7 @@ pub fn name_pattern(parts: &mut Parts, alloc: Global) -> Result<(), AllocError>
 }
 
 /// `:: name` behind a name
-pub fn member_pattern(parts: &mut Parts, alloc: Global) -> Result<(), AllocError>
+pub fn member_pattern(parts: &mut SemanticStacks, alloc: Global) -> Result<(), AllocError>
     ensures { OnOk result (parts.new ≡ member_pattern parts.old) }
 {
     parts.skip(1);
@@ -74,10 +74,10 @@ pub fn member_pattern(parts: &mut Parts, alloc: Global) -> Result<(), AllocError
 }
 
 /// `( patterns )`
-pub fn tuple_pattern(parts: &mut Parts) -> Result<(), AllocError>
+pub fn tuple_pattern(parts: &mut SemanticStacks) -> Result<(), AllocError>
     ensures { OnOk result (parts.new ≡ tuple_pattern parts.old) }
 {
-    let span = parts.take_marks(2);
+    let span = parts.take_token_spans(2);
     let count = parts.counts.pop_or(0);
     let patterns = Seq::from_vec(parts.patterns.take_top(count)?);
     parts.patterns.push(Pattern {

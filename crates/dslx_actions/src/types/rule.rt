@@ -1,7 +1,7 @@
 ghost use Rattle.std.specs.Prelude.{◌≡◌, OnOk};
 ghost use Rattle.dslx_actions.specs.Types.Rules.{reduced_pattern, reduced_type};
 
-use crate::Parts;
+use crate::SemanticStacks;
 use crate::types::patterns::{
     bool_pattern, member_pattern, name_pattern, tuple_pattern, typed_pattern, wild_pattern,
 };
@@ -10,7 +10,7 @@ use std::alloc::{AllocError, Global};
 
 /// What rules of types do where their symbols are complete.
 #[derive(Clone, Copy, PartialEq, Eq)]
-pub enum TypeRule {
+pub enum TypeAction {
     Negative,
     Named,
     Wide,
@@ -22,7 +22,7 @@ pub enum TypeRule {
 
 /// What rules of patterns do where their symbols are complete.
 #[derive(Clone, Copy, PartialEq, Eq)]
-pub enum PatternRule {
+pub enum PatternAction {
     Wild,
     Bool(bool),
     Typed,
@@ -38,16 +38,16 @@ pub enum PatternRule {
 }
 
 /// Does what is done where a tree of a rule of types is complete.
-pub fn reduce_type(parts: &mut Parts, alloc: Global, rule: TypeRule) -> Result<(), AllocError>
+pub fn reduce_type(parts: &mut SemanticStacks, alloc: Global, rule: TypeAction) -> Result<(), AllocError>
     ensures { OnOk result (parts.new ≡ reduced_type rule parts.old) }
 {
     match rule {
-        TypeRule::Negative => negative(parts),
-        TypeRule::Named => named_type(parts, alloc),
-        TypeRule::Wide => wide_type(parts, alloc),
-        TypeRule::Tuple => tuple_type(parts),
-        TypeRule::Array => array_type(parts, alloc),
-        TypeRule::NamedArray => {
+        TypeAction::Negative => negative(parts),
+        TypeAction::Named => named_type(parts, alloc),
+        TypeAction::Wide => wide_type(parts, alloc),
+        TypeAction::Tuple => tuple_type(parts),
+        TypeAction::Array => array_type(parts, alloc),
+        TypeAction::NamedArray => {
             named_type(parts, alloc)?;
             array_type(parts, alloc)
         }
@@ -55,25 +55,25 @@ pub fn reduce_type(parts: &mut Parts, alloc: Global, rule: TypeRule) -> Result<(
 }
 
 /// Does what is done where a tree of a rule of patterns is complete.
-pub fn reduce_pattern(parts: &mut Parts, alloc: Global, rule: PatternRule) -> Result<(), AllocError>
+pub fn reduce_pattern(parts: &mut SemanticStacks, alloc: Global, rule: PatternAction) -> Result<(), AllocError>
     ensures { OnOk result (parts.new ≡ reduced_pattern rule parts.old) }
 {
     match rule {
-        PatternRule::Wild => wild_pattern(parts),
-        PatternRule::Bool(value) => bool_pattern(parts, value),
-        PatternRule::Typed => typed_pattern(parts, alloc),
-        PatternRule::NamedTyped => {
+        PatternAction::Wild => wild_pattern(parts),
+        PatternAction::Bool(value) => bool_pattern(parts, value),
+        PatternAction::Typed => typed_pattern(parts, alloc),
+        PatternAction::NamedTyped => {
             named_type(parts, alloc)?;
             typed_pattern(parts, alloc)
         }
-        PatternRule::Name => name_pattern(parts, alloc),
-        PatternRule::Member => member_pattern(parts, alloc),
-        PatternRule::Tuple => tuple_pattern(parts),
-        PatternRule::NameAlone => {
+        PatternAction::Name => name_pattern(parts, alloc),
+        PatternAction::Member => member_pattern(parts, alloc),
+        PatternAction::Tuple => tuple_pattern(parts),
+        PatternAction::NameAlone => {
             name_pattern(parts, alloc)?;
             parts.no_annotation()
         }
-        PatternRule::NameAnnotated => {
+        PatternAction::NameAnnotated => {
             name_pattern(parts, alloc)?;
             parts.annotation()
         }

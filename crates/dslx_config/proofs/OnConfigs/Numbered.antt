@@ -3,8 +3,8 @@ use Rattle.std.proofs.Common.{◌≡◌, ◌∙◌, ◌<◌, ◌+◌, ℕ, suc, 
 use Rattle.std.proofs.Math.Seq.{drop-cons}
 use Rattle.dslx_tree.specs.declared.process.Channel.{Channel}
 use Rattle.dslx_tree.specs.declared.process.End.{End}
-use Rattle.dslx_tree.specs.declared.process.Making.{Making}
-use Rattle.dslx_tree.specs.declared.process.Making.TheVariants as making
+use Rattle.dslx_tree.specs.declared.process.ConfigStatement.{ConfigStatement}
+use Rattle.dslx_tree.specs.declared.process.ConfigStatement.TheVariants as config_statement
 use Rattle.dslx_meaning.specs.Network.{Held, made_ends, outer_ends}
 use Rattle.dslx_config.specs.Configs.Shown.{held}
 use Rattle.dslx_config.specs.declared.configs.end.NumberedEnd.{NumberedEnd}
@@ -32,8 +32,8 @@ two_before [] a b rest = refl
 two_before (h ∷ hs) a b rest = ap (λ (gs : List Held). h ∷ gs) (two_before hs a b rest)
 
 -- a channel, and those behind it
-pub channel_numbered : (old new : List Held) (number : ℕ) (c : Channel) → new ≡ old ++ made_ends number (making.Channel c ∷ [])
-    → (rest : List Making) → new ++ made_ends (number + 1) rest ≡ old ++ made_ends number (making.Channel c ∷ rest)
+pub channel_numbered : (old new : List Held) (number : ℕ) (c : Channel) → new ≡ old ++ made_ends number (config_statement.Channel c ∷ [])
+    → (rest : List ConfigStatement) → new ++ made_ends (number + 1) rest ≡ old ++ made_ends number (config_statement.Channel c ∷ rest)
 channel_numbered old new number c is rest =
     let next : number + 1 ≡ suc number = omega arith in
     (λ k. is k ++ made_ends (next k) rest)

@@ -2,14 +2,14 @@
 
 ghost use Rattle.std.specs.Prelude.{◌≡◌, ◌^◌, IfOk, Some, nat_lt};
 ghost use Rattle.dslx_meaning.specs.Lists.{where_true};
-ghost use Rattle.dslx_core.specs.Networks.Configs.{channel_lowered, depth_lowered, made_lowered};
-ghost use Rattle.dslx_scope_names.specs.Values.Seen.{place_seen};
+ghost use Rattle.dslx_core.specs.Networks.Configs.{lower_channel, lower_depth, lower_made};
+ghost use Rattle.dslx_scope_names.specs.Values.Seen.{scope_seen};
 
 use crate::channels::plain_type;
 use crate::configs::word::word_there;
 use dslx_core::MadeChannel;
-use dslx_scope_names::values::{PlaceSight, size_there};
-use dslx_tree::{Arg, Channel, Making};
+use dslx_scope_names::values::{ScopeEnv, size_there};
+use dslx_tree::{Arg, Channel, ConfigStatement};
 use dslx_values::copy_name;
 use std::alloc::{AllocError, Global};
 use xb_value::Seq;
@@ -17,19 +17,19 @@ use xb_value::Seq;
 /// All channels in the order of the text; `None` where one has no type or no depth.
 pub(crate) fn made_there<'a>(
     alloc: Global,
-    sight: PlaceSight<'a>,
-    makings: &'a [Making],
+    context: ScopeEnv<'a>,
+    config_statements: &'a [ConfigStatement],
 ) -> Result<Option<Seq<MadeChannel>>, AllocError>
-    ensures { IfOk result (λ made. made ≡ made_lowered (place_seen sight.entry) makings.now) }
+    ensures { IfOk result (λ made. made ≡ lower_made (scope_seen context.entry) config_statements.now) }
 {
     let mut made = Vec::new(alloc);
-    'makings: for making in makings {
-        match making {
-            Making::Channel(channel) => match channel_there(alloc, sight, channel)? {
+    'config_statements: for config_statement in config_statements {
+        match config_statement {
+            ConfigStatement::Channel(channel) => match channel_there(alloc, context, channel)? {
                 Some(channel) => made.push(channel)?,
                 None => return Ok(None),
             },
-            Making::Spawn(_) => {}
+            ConfigStatement::Spawn(_) => {}
         }
     }
     Ok(Some(Seq::from_vec(made)))
@@ -37,13 +37,13 @@ pub(crate) fn made_there<'a>(
 
 fn channel_there<'a>(
     alloc: Global,
-    sight: PlaceSight<'a>,
+    context: ScopeEnv<'a>,
     channel: &'a Channel,
 ) -> Result<Option<MadeChannel>, AllocError>
-    ensures { IfOk result (λ made. made ≡ channel_lowered (place_seen sight.entry) channel.now) }
+    ensures { IfOk result (λ made. made ≡ lower_channel (scope_seen context.entry) channel.now) }
 {
-    let ty = word_there(alloc, sight, &channel.word)?;
-    let depth = depth_there(alloc, sight, &channel.depth)?;
+    let ty = word_there(alloc, context, &channel.word)?;
+    let depth = depth_there(alloc, context, &channel.depth)?;
     match (ty, depth) {
         (Some(ty), Some(depth)) => Ok(Some(MadeChannel {
             name: copy_name(alloc, &channel.name.name)?,
@@ -57,13 +57,13 @@ fn channel_there<'a>(
 /// The depth that is written, below 2^32, or else 1.
 fn depth_there<'a>(
     alloc: Global,
-    sight: PlaceSight<'a>,
+    context: ScopeEnv<'a>,
     depth: &'a Option<Arg>,
 ) -> Result<Option<u32>, AllocError>
-    ensures { IfOk result (λ n. n ≡ depth_lowered (place_seen sight.entry) depth.now) }
+    ensures { IfOk result (λ n. n ≡ lower_depth (scope_seen context.entry) depth.now) }
 {
     match depth {
-        Some(depth) => match size_there(alloc, sight, &depth.value)? {
+        Some(depth) => match size_there(alloc, context, &depth.value)? {
             Some(size) => Ok(as_depth(size)),
             None => Ok(None),
         },

@@ -2,21 +2,21 @@
 
 ghost use Rattle.std.specs.Prelude.{◌≡◌, ◌==◌, IfOk, Some, length, map};
 ghost use Rattle.dslx_meaning.specs.Lists.{and_then, where_true, with_both};
-ghost use Rattle.dslx_core.specs.Networks.Configs.{child_lowered, children_lowered, is_proc_instance as is_instance, proc_instance_in as instance_of_proc, spawn_numbers_lowered};
-ghost use Rattle.dslx_core.specs.Networks.Ends.{end_numbers as numbers_of_ends};
-ghost use Rattle.dslx_scope_names.specs.Values.Seen.{place_seen};
+ghost use Rattle.dslx_core.specs.Networks.Configs.{lower_child, lower_children, is_proc_instance as is_instance, proc_instance_in as instance_of_proc, lower_spawn_parametrics};
+ghost use Rattle.dslx_core.specs.Networks.Ends.{end_numbers as parametric_args_of_ends};
+ghost use Rattle.dslx_scope_names.specs.Values.Seen.{scope_seen};
 ghost use Rattle.dslx_config.specs.Configs.Shown.{held};
 
 use crate::configs::end::{NumberedEnd, end_numbers};
 use crate::configs::named::find_proc;
-use crate::configs::number::spawn_numbers;
+use crate::configs::number::spawn_parametric_args;
 use base::texts::Name;
 use dslx_core::Child;
 use dslx_core::networks::ProcInstance;
 use dslx_instance::table::equal_values;
 use dslx_meaning::DslxValue;
-use dslx_scope_names::values::PlaceSight;
-use dslx_tree::{Making, Proc, Spawn};
+use dslx_scope_names::values::ScopeEnv;
+use dslx_tree::{ConfigStatement, Proc, Spawn};
 use std::alloc::{AllocError, Global};
 use xb_value::Seq;
 
@@ -24,21 +24,21 @@ use xb_value::Seq;
 /// where one is given other ends than its `config` has.
 pub(crate) fn children_there<'a>(
     alloc: Global,
-    sight: PlaceSight<'a>,
+    context: ScopeEnv<'a>,
     ends: &[NumberedEnd<'a>],
     procs: &[ProcInstance],
-    makings: &'a [Making],
+    config_statements: &'a [ConfigStatement],
 ) -> Result<Option<Seq<Child>>, AllocError>
-    ensures { IfOk result (λ children. children ≡ children_lowered sight.entry.text.now (place_seen sight.entry) (map held ends.now) procs.now makings.now) }
+    ensures { IfOk result (λ children. children ≡ lower_children context.entry.text.now (scope_seen context.entry) (map held ends.now) procs.now config_statements.now) }
 {
     let mut children = Vec::new(alloc);
-    'makings: for making in makings {
-        match making {
-            Making::Spawn(spawn) => match child_there(alloc, sight, ends, procs, spawn)? {
+    'config_statements: for config_statement in config_statements {
+        match config_statement {
+            ConfigStatement::Spawn(spawn) => match child_there(alloc, context, ends, procs, spawn)? {
                 Some(child) => children.push(child)?,
                 None => return Ok(None),
             },
-            Making::Channel(_) => {}
+            ConfigStatement::Channel(_) => {}
         }
     }
     Ok(Some(Seq::from_vec(children)))
@@ -46,35 +46,35 @@ pub(crate) fn children_there<'a>(
 
 fn child_there<'a>(
     alloc: Global,
-    sight: PlaceSight<'a>,
+    context: ScopeEnv<'a>,
     ends: &[NumberedEnd<'a>],
     procs: &[ProcInstance],
     spawn: &'a Spawn,
 ) -> Result<Option<Child>, AllocError>
-    ensures { IfOk result (λ child. child ≡ child_lowered sight.entry.text.now (place_seen sight.entry) (map held ends.now) procs.now spawn.now) }
+    ensures { IfOk result (λ child. child ≡ lower_child context.entry.text.now (scope_seen context.entry) (map held ends.now) procs.now spawn.now) }
 {
-    match find_proc(sight.text.items.as_slice(), &spawn.target.name) {
-        Some(target) => match spawn_numbers(alloc, sight, target, spawn.arguments.as_slice())? {
-            Some(numbers) => child_of(alloc, ends, procs, spawn, numbers.as_slice(), target),
+    match find_proc(context.text.items.as_slice(), &spawn.target.name) {
+        Some(target) => match spawn_parametric_args(alloc, context, target, spawn.arguments.as_slice())? {
+            Some(parametric_args) => child_of(alloc, ends, procs, spawn, parametric_args.as_slice(), target),
             None => Ok(None),
         },
         None => Ok(None),
     }
 }
 
-/// The instance with these number arguments, at the ends that it is given.
+/// The instance with these parametric arguments, at the ends that it is given.
 fn child_of(
     alloc: Global,
     ends: &[NumberedEnd],
     procs: &[ProcInstance],
     spawn: &Spawn,
-    numbers: &[DslxValue],
+    parametric_args: &[DslxValue],
     target: &Proc,
 ) -> Result<Option<Child>, AllocError>
-    ensures { IfOk result (λ child. child ≡ with_both (instance_of_proc spawn.now.target.name numbers.now 0 procs.now) (numbers_of_ends (map held ends.now) spawn.now.ends)
+    ensures { IfOk result (λ child. child ≡ with_both (instance_of_proc spawn.now.target.name parametric_args.now 0 procs.now) (parametric_args_of_ends (map held ends.now) spawn.now.ends)
         (λ k given. where_true (length given == length target.now.config.ends) (Some (record { instance = k; ends = given })))) }
 {
-    let instance = instance_number(procs, &spawn.target.name, numbers);
+    let instance = instance_number(procs, &spawn.target.name, parametric_args);
     let ends = end_numbers(alloc, ends, spawn.ends.as_slice())?;
     match (instance, ends) {
         (Some(instance), Some(ends)) => if ends.len() == target.config.ends.len() {
@@ -86,20 +86,20 @@ fn child_of(
     }
 }
 
-/// The number of the first instance of a name and number arguments. It looks at the instances up to that one.
-pub fn instance_number(procs: &[ProcInstance], name: &Name, numbers: &[DslxValue]) -> Option<u64>
-    ensures { result ≡ instance_of_proc name.now numbers.now 0 procs.now }
+/// The number of the first instance of a name and parametric arguments. It looks at the instances up to that one.
+pub fn instance_number(procs: &[ProcInstance], name: &Name, parametric_args: &[DslxValue]) -> Option<u64>
+    ensures { result ≡ instance_of_proc name.now parametric_args.now 0 procs.now }
 {
     'procs: for i in 0..procs.len() {
-        if is_proc_instance(&procs[i], name, numbers) {
+        if is_proc_instance(&procs[i], name, parametric_args) {
             return Some(i as u64);
         }
     }
     None
 }
 
-fn is_proc_instance(instance: &ProcInstance, name: &Name, numbers: &[DslxValue]) -> bool
-    ensures { result ≡ is_instance name.now numbers.now instance.now }
+fn is_proc_instance(instance: &ProcInstance, name: &Name, parametric_args: &[DslxValue]) -> bool
+    ensures { result ≡ is_instance name.now parametric_args.now instance.now }
 {
-    *name == instance.name && equal_values(numbers, instance.numbers.as_slice())
+    *name == instance.name && equal_values(parametric_args, instance.parametric_args.as_slice())
 }

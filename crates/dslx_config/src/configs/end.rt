@@ -1,14 +1,14 @@
 //! The ends in a `config` by their numbers.
 
 ghost use Rattle.std.specs.Prelude.{◌≡◌, ◌∷◌, ◌++◌, [], IfOk, List, OnOk, length, map};
-ghost use Rattle.dslx_tree.specs.declared.process.Making.{Making as MakingTree};
-ghost use Rattle.dslx_tree.specs.declared.process.Making.TheVariants.{Channel as made_channel};
+ghost use Rattle.dslx_tree.specs.declared.process.ConfigStatement.{ConfigStatement as ConfigStatementTree};
+ghost use Rattle.dslx_tree.specs.declared.process.ConfigStatement.TheVariants.{Channel as made_channel};
 ghost use Rattle.dslx_meaning.specs.Network.{made_ends, outer_ends};
-ghost use Rattle.dslx_core.specs.Networks.Ends.{end_number as number_of_end, end_numbers as numbers_of_ends, numbered_ends as all_ends};
+ghost use Rattle.dslx_core.specs.Networks.Ends.{end_number as number_of_end, end_numbers as parametric_args_of_ends, numbered_ends as all_ends};
 ghost use Rattle.dslx_config.specs.Configs.Shown.{held};
 
 use base::texts::Name;
-use dslx_tree::{Channel, End, Ident, Making, Proc};
+use dslx_tree::{Channel, End, Ident, ConfigStatement, Proc};
 use std::alloc::{AllocError, Global};
 use xb_value::Seq;
 
@@ -30,7 +30,7 @@ pub(crate) fn numbered_ends<'a>(
     let mut ends = Vec::new(alloc);
     number_given(&mut ends, process.config.ends.as_slice())?;
     let given = process.config.ends.len() as u64;
-    number_made(&mut ends, given, process.config.makings.as_slice())?;
+    number_made(&mut ends, given, process.config.config_statements.as_slice())?;
     Ok(ends)
 }
 
@@ -50,35 +50,35 @@ fn number_given<'a>(ends: &mut Vec<NumberedEnd<'a>>, given: &'a [End]) -> Result
 fn number_made<'a>(
     ends: &mut Vec<NumberedEnd<'a>>,
     first: u64,
-    makings: &'a [Making],
+    config_statements: &'a [ConfigStatement],
 ) -> Result<(), AllocError>
-    ensures { OnOk result (map held ends.new.items ≡ map held ends.old.items ++ made_ends first makings.now) }
+    ensures { OnOk result (map held ends.new.items ≡ map held ends.old.items ++ made_ends first config_statements.now) }
 {
     let mut number = first;
-    'makings: for making in makings {
-        number = number_making(ends, number, making)?;
+    'config_statements: for config_statement in config_statements {
+        number = number_config_statement(ends, number, config_statement)?;
     }
     Ok(())
 }
 
 /// Both ends, if a channel is made, under this number; the number of the next channel.
 #[tactic(auto, using(crate::proofs::OnConfigs::Numbered::channel_numbered))]
-fn number_making<'a>(
+fn number_config_statement<'a>(
     ends: &mut Vec<NumberedEnd<'a>>,
     number: u64,
-    making: &'a Making,
+    config_statement: &'a ConfigStatement,
 ) -> Result<u64, AllocError>
-    ensures { IfOk result (λ next. (rest : List MakingTree) → map held ends.new.items ++ made_ends next rest ≡ map held ends.old.items ++ made_ends number (making.now ∷ rest)) }
+    ensures { IfOk result (λ next. (rest : List ConfigStatementTree) → map held ends.new.items ++ made_ends next rest ≡ map held ends.old.items ++ made_ends number (config_statement.now ∷ rest)) }
 {
-    match making {
-        Making::Channel(channel) => match number.checked_add(1) {
+    match config_statement {
+        ConfigStatement::Channel(channel) => match number.checked_add(1) {
             Some(next) => {
                 number_channel(ends, number, channel)?;
                 Ok(next)
             }
             None => Err(AllocError),
         },
-        Making::Spawn(_) => Ok(number),
+        ConfigStatement::Spawn(_) => Ok(number),
     }
 }
 
@@ -107,16 +107,16 @@ pub(crate) fn end_numbers(
     ends: &[NumberedEnd],
     names: &[Ident],
 ) -> Result<Option<Seq<u64>>, AllocError>
-    ensures { IfOk result (λ numbers. numbers ≡ numbers_of_ends (map held ends.now) names.now) }
+    ensures { IfOk result (λ parametric_args. parametric_args ≡ parametric_args_of_ends (map held ends.now) names.now) }
 {
-    let mut numbers = Vec::new(alloc);
+    let mut parametric_args = Vec::new(alloc);
     'names: for name in names {
         match end_number(ends, &name.name) {
-            Some(number) => numbers.push(number)?,
+            Some(number) => parametric_args.push(number)?,
             None => return Ok(None),
         }
     }
-    Ok(Some(Seq::from_vec(numbers)))
+    Ok(Some(Seq::from_vec(parametric_args)))
 }
 
 fn end_number(ends: &[NumberedEnd], name: &Name) -> Option<u64>

@@ -6,19 +6,19 @@ ghost use Rattle.dslx_meaning.specs.Items.{meanings_of};
 
 use dslx_const::block_eval;
 use dslx_meaning::DslxValue;
-use dslx_scope_patterns::numbers::scope_of;
+use dslx_scope_patterns::parametric_args::scope_of;
 use dslx_tree::{Module, Proc};
 use std::alloc::{AllocError, Global};
 
-/// The value of `init` in an instance of a proc with these number arguments; `None` where it has none.
+/// The value of `init` in an instance of a proc with these parametric arguments; `None` where it has none.
 pub fn opening_there<'a>(
     alloc: Global,
     text: &'a Module,
     process: &'a Proc,
-    numbers: &[DslxValue],
+    parametric_args: &[DslxValue],
 ) -> Result<Option<DslxValue>, AllocError>
-    ensures { IfOk result (λ v. v ≡ opening_state (meanings_of text.now) process.now numbers.now) }
+    ensures { IfOk result (λ v. v ≡ opening_state (meanings_of text.now) process.now parametric_args.now) }
 {
-    let bound = scope_of(alloc, process.parameters.as_slice(), numbers)?;
+    let bound = scope_of(alloc, process.parametrics.as_slice(), parametric_args)?;
     block_eval(alloc, text, bound, &process.init)
 }

@@ -4,16 +4,16 @@ ghost use Rattle.std.specs.Prelude.{◌≡◌, IfOk, map};
 ghost use Rattle.dslx_meaning.specs.Items.{meanings_of};
 ghost use Rattle.dslx_meaning.specs.Lists.{all_some};
 ghost use Rattle.dslx_meaning.specs.Network.{kind_of_end as kind_of};
-ghost use Rattle.dslx_core.specs.Networks.Making.{outer_lowered, outers_lowered};
-ghost use Rattle.dslx_scope_names.specs.Values.Seen.{place_seen};
+ghost use Rattle.dslx_core.specs.Networks.Assembly.{lower_outer, lower_outers};
+ghost use Rattle.dslx_scope_names.specs.Values.Seen.{scope_seen};
 
 use crate::channels::plain_type;
-use crate::configs::number::top_numbers;
+use crate::configs::number::top_parametric_args;
 use crate::configs::word::word_there;
 use dslx_core::Outer;
 use dslx_scope::locals::Locals;
-use dslx_scope_names::values::PlaceSight;
-use dslx_scope_patterns::numbers::bindings_of;
+use dslx_scope_names::values::ScopeEnv;
+use dslx_scope_patterns::parametric_args::bindings_of;
 use dslx_tree::{Direction, End, Module, Proc};
 use dslx_values::copy_name;
 use net_core::Kind;
@@ -26,29 +26,29 @@ pub fn outers_there<'a>(
     text: &'a Module,
     top: &'a Proc,
 ) -> Result<Option<Seq<Outer>>, AllocError>
-    ensures { IfOk result (λ outers. outers ≡ outers_lowered (meanings_of text.now) top.now) }
+    ensures { IfOk result (λ outers. outers ≡ lower_outers (meanings_of text.now) top.now) }
 {
-    let numbers = top_numbers(alloc, text, top)?;
-    let bound = bindings_of(alloc, top.parameters.as_slice(), numbers.as_slice())?;
+    let parametric_args = top_parametric_args(alloc, text, top)?;
+    let bound = bindings_of(alloc, top.parametrics.as_slice(), parametric_args.as_slice())?;
     let locals = Locals::new(alloc);
-    let sight = PlaceSight {
+    let context = ScopeEnv {
         text,
-        numbers: bound.as_slice(),
+        parametric_args: bound.as_slice(),
         locals: &locals,
     };
-    outers_at(alloc, sight, top.config.ends.as_slice())
+    outers_at(alloc, context, top.config.ends.as_slice())
 }
 
 fn outers_at<'a>(
     alloc: Global,
-    sight: PlaceSight<'a>,
+    context: ScopeEnv<'a>,
     ends: &'a [End],
 ) -> Result<Option<Seq<Outer>>, AllocError>
-    ensures { IfOk result (λ outers. outers ≡ all_some (map (outer_lowered (place_seen sight.entry)) ends.now)) }
+    ensures { IfOk result (λ outers. outers ≡ all_some (map (lower_outer (scope_seen context.entry)) ends.now)) }
 {
     let mut outers = Vec::new(alloc);
     'ends: for end in ends {
-        match outer_there(alloc, sight, end)? {
+        match outer_there(alloc, context, end)? {
             Some(outer) => outers.push(outer)?,
             None => return Ok(None),
         }
@@ -58,12 +58,12 @@ fn outers_at<'a>(
 
 fn outer_there<'a>(
     alloc: Global,
-    sight: PlaceSight<'a>,
+    context: ScopeEnv<'a>,
     end: &'a End,
 ) -> Result<Option<Outer>, AllocError>
-    ensures { IfOk result (λ outer. outer ≡ outer_lowered (place_seen sight.entry) end.now) }
+    ensures { IfOk result (λ outer. outer ≡ lower_outer (scope_seen context.entry) end.now) }
 {
-    match word_there(alloc, sight, &end.word)? {
+    match word_there(alloc, context, &end.word)? {
         Some(ty) => Ok(Some(Outer {
             name: copy_name(alloc, &end.name.name)?,
             ty: plain_type(alloc, &ty)?,

@@ -4,7 +4,7 @@ ghost use Rattle.std.specs.Prelude.{◌≡◌, [], Some, IfOk};
 ghost use Rattle.dslx_machines.specs.Machine.Callees.{CalleesByName};
 ghost use Rattle.dslx_core.specs.Lowering.Steps.{can_travel as travels, member_in};
 ghost use Rattle.dslx_meaning.specs.Lists.{where_true};
-ghost use Rattle.dslx_scope_patterns.specs.Patterns.Behind.{body_place};
+ghost use Rattle.dslx_scope_patterns.specs.Patterns.Behind.{body_scope};
 ghost use Rattle.dslx_config.specs.Members.Members.{numbered_member};
 
 use crate::channels::can_travel;
@@ -12,20 +12,20 @@ use crate::members::outer::outer_type;
 use base::texts::Name;
 use dslx_core::lowering::CoreMember;
 use dslx_meaning::DslxType;
-use dslx_scope_patterns::patterns::BodyKnown;
+use dslx_scope_patterns::patterns::BodyScope;
 use dslx_tree::End;
 use std::alloc::{AllocError, Global};
 
-/// The first member of this name, where nothing is bound but number parameters; `None` where there is none, and where a channel holds
+/// The first member of this name, where nothing is bound but parametrics; `None` where there is none, and where a channel holds
 /// no words of its type. It takes time as there are members before it.
 #[tactic(auto, using(crate::proofs::OnMembers::Numbered::from_zero))]
 pub fn member_there<'a>(
     alloc: Global,
-    known: BodyKnown<'a>,
+    known: BodyScope<'a>,
     ends: &'a [End],
     name: &Name,
 ) -> Result<Option<CoreMember>, AllocError>
-    ensures { IfOk result (λ m. (callee : CalleesByName) → m ≡ member_in (body_place callee known.entry [] 0) ends.now name.now) }
+    ensures { IfOk result (λ m. (callee : CalleesByName) → m ≡ member_in (body_scope callee known.entry [] 0) ends.now name.now) }
 {
     'ends: for i in 0..ends.len() {
         if *name == ends[i].name.name {
@@ -38,11 +38,11 @@ pub fn member_there<'a>(
 /// The member of a number, if a channel holds words of its type.
 fn member_of<'a>(
     alloc: Global,
-    known: BodyKnown<'a>,
+    known: BodyScope<'a>,
     number: usize,
     end: &'a End,
 ) -> Result<Option<CoreMember>, AllocError>
-    ensures { IfOk result (λ m. (callee : CalleesByName) → m ≡ numbered_member (body_place callee known.entry [] 0) number end.now) }
+    ensures { IfOk result (λ m. (callee : CalleesByName) → m ≡ numbered_member (body_scope callee known.entry [] 0) number end.now) }
 {
     match outer_type(alloc, known, &end.word)? {
         Some(word) => Ok(travelling(number as u64, word)),

@@ -1,30 +1,30 @@
-//! Written types where nothing is bound but number parameters.
+//! Written types where nothing is bound but parametrics.
 
 ghost use Rattle.std.specs.Prelude.{◌≡◌, [], IfOk};
 ghost use Rattle.dslx_machines.specs.Machine.Callees.{CalleesByName};
-ghost use Rattle.dslx_core.specs.Lowering.Trees.{type_of_text_lowered};
-ghost use Rattle.dslx_scope_patterns.specs.Patterns.Behind.{body_place};
+ghost use Rattle.dslx_core.specs.Lowering.Trees.{lower_type_of_text};
+ghost use Rattle.dslx_scope_patterns.specs.Patterns.Behind.{body_scope};
 
 use dslx_meaning::DslxType;
 use dslx_scope::locals::Locals;
-use dslx_scope_names::values::{PlaceSight, type_there};
-use dslx_scope_patterns::patterns::BodyKnown;
+use dslx_scope_names::values::{ScopeEnv, type_there};
+use dslx_scope_patterns::patterns::BodyScope;
 use dslx_tree::TypeExpr;
 use std::alloc::{AllocError, Global};
 
-/// What a written type becomes where nothing is bound but number parameters.
+/// What a written type becomes where nothing is bound but parametrics.
 pub fn outer_type<'a>(
     alloc: Global,
-    known: BodyKnown<'a>,
+    known: BodyScope<'a>,
     ty: &'a TypeExpr,
 ) -> Result<Option<DslxType>, AllocError>
-    ensures { IfOk result (λ t. (callee : CalleesByName) → t ≡ type_of_text_lowered ty.now (body_place callee known.entry [] 0)) }
+    ensures { IfOk result (λ t. (callee : CalleesByName) → t ≡ lower_type_of_text ty.now (body_scope callee known.entry [] 0)) }
 {
     let locals = Locals::new(alloc);
-    let sight = PlaceSight {
+    let context = ScopeEnv {
         text: known.text,
-        numbers: known.numbers,
+        parametric_args: known.parametric_args,
         locals: &locals,
     };
-    type_there(alloc, sight, ty)
+    type_there(alloc, context, ty)
 }

@@ -1,21 +1,21 @@
-//! Calls of functions: number parameters, operands, and bodies.
+//! Calls of functions: parametrics, operands, and bodies.
 
 ghost use Rattle.dslx_meaning.specs.Inference.{inferred_for as number_for};
 ghost use Rattle.dslx_meaning.specs.Values.{type_of_value as the_type};
 ghost use Rattle.std.specs.Prelude.{◌≡◌, ◌∷◌, ◌==◌, [], Some, OnOk, IfOk, map, length, nat_lt};
-ghost use Rattle.dslx_const_machine.specs.Items.{uses_function, at_function, call_fails, body_begins, operands_on, call_begins, default_begins, parameter_begins, parameters_on, parameter_given};
+ghost use Rattle.dslx_const_machine.specs.Items.{uses_function, at_function, call_fails, body_begins, operands_on, call_begins, default_begins, parametric_begins, parametrics_on, parametric_given};
 ghost use Rattle.dslx_const_machine.specs.States.{back_at};
 ghost use Rattle.dslx_const_machine.specs.Steps.{stepped};
-ghost use Rattle.dslx_const_machine.specs.Tasks.{GivesParameter, GivesOperands, FindsParameters};
+ghost use Rattle.dslx_const_machine.specs.Tasks.{GivesParametric, GivesOperands, FindsParametrics};
 ghost use Rattle.dslx_values.specs.Inference.Inferences.{inferred};
 ghost use Rattle.dslx_const.specs.Calls.Inner.Inferred.{inferred_past};
 ghost use Rattle.dslx_const_tasks.specs.Plain.{shown, plain_call_task, plain_call};
 
 use base::texts::Name;
 use dslx_const_tasks::{Call, CallTask, Machine, ValueTask, in_order, one_left};
-use dslx_meaning::{Bare, DslxType, DslxValue};
+use dslx_meaning::{UntypedLiteral, DslxType, DslxValue};
 use dslx_names::{Binding, Scope, find_function};
-use dslx_tree::{Field, Function, Parameter};
+use dslx_tree::{Field, Function, Parametric};
 use dslx_values::inference::{Inference, inferred_for, inferred_from};
 use dslx_values::type_of_value;
 use std::alloc::{AllocError, Global};
@@ -30,11 +30,11 @@ pub fn step_call<'a>(
     ensures { OnOk result (shown machine.new ≡ stepped (plain_call_task task.entry) (shown machine.old)) }
 {
     match task {
-        CallTask::FindParameters(call, parameters) => find_parameters(
-            machine, alloc, call, parameters,
+        CallTask::FindParametrics(call, parametrics) => find_parametrics(
+            machine, alloc, call, parametrics,
         ),
-        CallTask::GiveParameter(call, parameter, rest) => {
-            give_parameter(machine, alloc, call, parameter, rest)
+        CallTask::GiveParametric(call, parametric, rest) => {
+            give_parametric(machine, alloc, call, parametric, rest)
         }
         CallTask::GiveOperands(call, arguments) => give_operands(machine, alloc, call, arguments),
         CallTask::Return(bound, left) => {
@@ -49,33 +49,33 @@ pub fn use_function<'a>(
     machine: &mut Machine<'a>,
     alloc: Global,
     name: &Name,
-    numbers: Vec<DslxValue>,
+    parametric_args: Vec<DslxValue>,
     operands: Vec<DslxValue>,
 ) -> Result<(), AllocError>
-    ensures { OnOk result (shown machine.new ≡ uses_function name.now numbers.items operands.items (shown machine.old)) }
+    ensures { OnOk result (shown machine.new ≡ uses_function name.now parametric_args.items operands.items (shown machine.old)) }
 {
     match one_left(machine.left) {
         Some(left) => match find_function(machine.text.items.as_slice(), name) {
-            Some(function) => begin_call(machine, alloc, left, function, numbers, operands),
+            Some(function) => begin_call(machine, alloc, left, function, parametric_args, operands),
             None => machine.give(None),
         },
         None => machine.give(None),
     }
 }
 
-/// Puts aside what is bound where the call stands, and goes on with the number parameters.
+/// Puts aside what is bound where the call stands, and goes on with the parametrics.
 fn begin_call<'a>(
     machine: &mut Machine<'a>,
     alloc: Global,
     left: u64,
     function: &'a Function,
-    numbers: Vec<DslxValue>,
+    parametric_args: Vec<DslxValue>,
     operands: Vec<DslxValue>,
 ) -> Result<(), AllocError>
-    ensures { OnOk result (shown machine.new ≡ at_function left (Some function.now) numbers.items operands.items (shown machine.old)) }
+    ensures { OnOk result (shown machine.new ≡ at_function left (Some function.now) parametric_args.items operands.items (shown machine.old)) }
 {
-    let inferred = infer(alloc, function, numbers.len(), operands.as_slice())?;
-    let given = in_order(alloc, Seq::from_vec(numbers))?;
+    let inferred = infer(alloc, function, parametric_args.len(), operands.as_slice())?;
+    let given = in_order(alloc, Seq::from_vec(parametric_args))?;
     let operands = in_order(alloc, Seq::from_vec(operands))?;
     let call = Call {
         function,
@@ -88,44 +88,44 @@ fn begin_call<'a>(
     machine.left = left;
     machine.first_call(
         alloc,
-        CallTask::FindParameters(call, function.parameters.as_slice()),
+        CallTask::FindParametrics(call, function.parametrics.as_slice()),
     )
 }
 
 /// Goes on with the first parameter that is left, which may be given.
-fn find_parameters<'a>(
+fn find_parametrics<'a>(
     machine: &mut Machine<'a>,
     alloc: Global,
     mut call: Call<'a>,
-    parameters: &'a [Parameter],
+    parametrics: &'a [Parametric],
 ) -> Result<(), AllocError>
-    ensures { OnOk result (shown machine.new ≡ stepped (FindsParameters (plain_call call.entry) parameters.now) (shown machine.old)) }
+    ensures { OnOk result (shown machine.new ≡ stepped (FindsParametrics (plain_call call.entry) parametrics.now) (shown machine.old)) }
 {
     match call.given.take_off() {
-        Some(value) => match parameters {
+        Some(value) => match parametrics {
             [] => fail_call(machine, call),
-            [first, rest @ ..] => bind_parameter(machine, alloc, call, first, rest, value),
+            [first, rest @ ..] => bind_parametric(machine, alloc, call, first, rest, value),
         },
-        None => find_missing(machine, alloc, call, parameters),
+        None => find_missing(machine, alloc, call, parametrics),
     }
 }
 
 /// Binds a parameter, and goes on with those behind it.
-fn bind_parameter<'a>(
+fn bind_parametric<'a>(
     machine: &mut Machine<'a>,
     alloc: Global,
     call: Call<'a>,
-    parameter: &'a Parameter,
-    rest: &'a [Parameter],
+    parametric: &'a Parametric,
+    rest: &'a [Parametric],
     value: DslxValue,
 ) -> Result<(), AllocError>
-    ensures { OnOk result (shown machine.new ≡ parameter_given (Some value) (plain_call call.entry) parameter.now rest.now (shown machine.old)) }
+    ensures { OnOk result (shown machine.new ≡ parametric_given (Some value) (plain_call call.entry) parametric.now rest.now (shown machine.old)) }
 {
     machine.bound.bind(Binding {
-        name: &parameter.name.name,
+        name: &parametric.name.name,
         value,
     })?;
-    machine.first_call(alloc, CallTask::FindParameters(call, rest))
+    machine.first_call(alloc, CallTask::FindParametrics(call, rest))
 }
 
 /// Goes on with the first parameter that isn't given, or with the operands.
@@ -133,39 +133,39 @@ fn find_missing<'a>(
     machine: &mut Machine<'a>,
     alloc: Global,
     call: Call<'a>,
-    parameters: &'a [Parameter],
+    parametrics: &'a [Parametric],
 ) -> Result<(), AllocError>
-    ensures { OnOk result (shown machine.new ≡ parameters_on [] (plain_call call.entry) parameters.now (shown machine.old)) }
+    ensures { OnOk result (shown machine.new ≡ parametrics_on [] (plain_call call.entry) parametrics.now (shown machine.old)) }
 {
-    match parameters {
+    match parametrics {
         [] => begin_operands(machine, alloc, call),
-        [first, rest @ ..] => begin_parameter(machine, alloc, call, first, rest),
+        [first, rest @ ..] => begin_parametric(machine, alloc, call, first, rest),
     }
 }
 
 /// Finds a parameter: the number that the operands infer, or else its default.
-fn begin_parameter<'a>(
+fn begin_parametric<'a>(
     machine: &mut Machine<'a>,
     alloc: Global,
     call: Call<'a>,
-    parameter: &'a Parameter,
-    rest: &'a [Parameter],
+    parametric: &'a Parametric,
+    rest: &'a [Parametric],
 ) -> Result<(), AllocError>
-    ensures { OnOk result (shown machine.new ≡ parameter_begins (number_for parameter.now.name.name (plain_call call.entry).inferred) (plain_call call.entry) parameter.now rest.now (shown machine.old)) }
+    ensures { OnOk result (shown machine.new ≡ parametric_begins (number_for parametric.now.name.name (plain_call call.entry).inferred) (plain_call call.entry) parametric.now rest.now (shown machine.old)) }
 {
-    match inferred_for(&parameter.name.name, call.inferred.as_slice()) {
+    match inferred_for(&parametric.name.name, call.inferred.as_slice()) {
         Some(number) => {
-            machine.first_call(alloc, CallTask::GiveParameter(call, parameter, rest))?;
+            machine.first_call(alloc, CallTask::GiveParametric(call, parametric, rest))?;
             machine.type_then_value(
                 alloc,
-                &parameter.ty,
-                ValueTask::Number(Bare {
+                &parametric.ty,
+                ValueTask::Number(UntypedLiteral {
                     is_negative: false,
                     value: number,
                 }),
             )
         }
-        None => begin_default(machine, alloc, call, parameter, rest),
+        None => begin_default(machine, alloc, call, parametric, rest),
     }
 }
 
@@ -173,32 +173,32 @@ fn begin_default<'a>(
     machine: &mut Machine<'a>,
     alloc: Global,
     call: Call<'a>,
-    parameter: &'a Parameter,
-    rest: &'a [Parameter],
+    parametric: &'a Parametric,
+    rest: &'a [Parametric],
 ) -> Result<(), AllocError>
-    ensures { OnOk result (shown machine.new ≡ default_begins parameter.now.default (plain_call call.entry) parameter.now rest.now (shown machine.old)) }
+    ensures { OnOk result (shown machine.new ≡ default_begins parametric.now.default (plain_call call.entry) parametric.now rest.now (shown machine.old)) }
 {
-    match &parameter.default {
+    match &parametric.default {
         Some(expr) => machine.eval_then_call(
             alloc,
             expr,
-            CallTask::GiveParameter(call, parameter, rest),
+            CallTask::GiveParametric(call, parametric, rest),
         ),
         None => fail_call(machine, call),
     }
 }
 
-fn give_parameter<'a>(
+fn give_parametric<'a>(
     machine: &mut Machine<'a>,
     alloc: Global,
     call: Call<'a>,
-    parameter: &'a Parameter,
-    rest: &'a [Parameter],
+    parametric: &'a Parametric,
+    rest: &'a [Parametric],
 ) -> Result<(), AllocError>
-    ensures { OnOk result (shown machine.new ≡ stepped (GivesParameter (plain_call call.entry) parameter.now rest.now) (shown machine.old)) }
+    ensures { OnOk result (shown machine.new ≡ stepped (GivesParametric (plain_call call.entry) parametric.now rest.now) (shown machine.old)) }
 {
     match machine.take_value() {
-        Some(value) => bind_parameter(machine, alloc, call, parameter, rest, value),
+        Some(value) => bind_parametric(machine, alloc, call, parametric, rest, value),
         None => fail_call(machine, call),
     }
 }
@@ -283,7 +283,7 @@ fn go_back<'a>(machine: &mut Machine<'a>, bound: Scope<'a>, left: u64)
     machine.left = left;
 }
 
-/// What operands infer, where not all number parameters are given.
+/// What operands infer, where not all parametrics are given.
 fn infer<'a>(
     alloc: Global,
     function: &'a Function,
@@ -307,11 +307,11 @@ fn has_operands(call: &Call) -> bool
     call.operands.len() == call.function.arguments.len()
 }
 
-/// Whether a function has more number parameters than are given.
+/// Whether a function has more parametrics than are given.
 fn is_short(function: &Function, given: usize) -> bool
-    ensures { result ≡ nat_lt given (length function.now.parameters) }
+    ensures { result ≡ nat_lt given (length function.now.parametrics) }
 {
-    given < function.parameters.len()
+    given < function.parametrics.len()
 }
 
 /// The types of values.

@@ -1,10 +1,10 @@
-//! Number arguments and operands of a call, and what is called.
+//! Parametric arguments and operands of a call, and what is called.
 
 ghost use Rattle.std.specs.Prelude.{◌≡◌, OnOk};
 ghost use Rattle.dslx_meaning.specs.Callees.{kind_of_call};
-ghost use Rattle.dslx_const_machine.specs.Lists.{builtin_value, calls, gathers_numbers};
+ghost use Rattle.dslx_const_machine.specs.Lists.{builtin_value, calls, gathers_parametric_args};
 ghost use Rattle.dslx_const_machine.specs.Steps.{stepped};
-ghost use Rattle.dslx_const_machine.specs.Tasks.{GathersNumbers};
+ghost use Rattle.dslx_const_machine.specs.Tasks.{GathersParametricArgs};
 ghost use Rattle.dslx_names.specs.Called.{kind_of};
 ghost use Rattle.dslx_const_tasks.specs.Plain.{shown};
 
@@ -21,18 +21,18 @@ use dslx_values::operators::{
 use std::alloc::{AllocError, Global};
 use xb_value::Seq;
 
-/// Goes on with the number arguments that are left, behind these values, and then with the operands.
-pub fn gather_numbers<'a>(
+/// Goes on with the parametric arguments that are left, behind these values, and then with the operands.
+pub fn gather_parametric_args<'a>(
     machine: &mut Machine<'a>,
     alloc: Global,
     values: Vec<DslxValue>,
-    numbers: &'a [Arg],
+    parametric_args: &'a [Arg],
     name: &'a Name,
     operands: &'a [Expr],
 ) -> Result<(), AllocError>
-    ensures { OnOk result (shown machine.new ≡ gathers_numbers values.items numbers.now name.now operands.now (shown machine.old)) }
+    ensures { OnOk result (shown machine.new ≡ gathers_parametric_args values.items parametric_args.now name.now operands.now (shown machine.old)) }
 {
-    match numbers {
+    match parametric_args {
         [] => gather(
             machine,
             alloc,
@@ -43,12 +43,12 @@ pub fn gather_numbers<'a>(
         [first, rest @ ..] => machine.eval_then_list(
             alloc,
             &first.value,
-            ListTask::GatherNumbers(values, rest, name, operands),
+            ListTask::GatherParametricArgs(values, rest, name, operands),
         ),
     }
 }
 
-/// Puts the number argument that was found behind those before it, and goes on with the next.
+/// Puts the parametric argument that was found behind those before it, and goes on with the next.
 pub(crate) fn gather_next_number<'a>(
     machine: &mut Machine<'a>,
     alloc: Global,
@@ -57,11 +57,11 @@ pub(crate) fn gather_next_number<'a>(
     name: &'a Name,
     operands: &'a [Expr],
 ) -> Result<(), AllocError>
-    ensures { OnOk result (shown machine.new ≡ stepped (GathersNumbers values.items rest.now name.now operands.now) (shown machine.old)) }
+    ensures { OnOk result (shown machine.new ≡ stepped (GathersParametricArgs values.items rest.now name.now operands.now) (shown machine.old)) }
 {
     match machine.take_value() {
         Some(value) => {
-            gather_numbers(
+            gather_parametric_args(
                 machine,
                 alloc,
                 put_behind(values, value)?,
@@ -79,13 +79,13 @@ pub(crate) fn call_named<'a>(
     machine: &mut Machine<'a>,
     alloc: Global,
     name: &'a Name,
-    numbers: Vec<DslxValue>,
+    parametric_args: Vec<DslxValue>,
     operands: Vec<DslxValue>,
 ) -> Result<(), AllocError>
-    ensures { OnOk result (shown machine.new ≡ calls (kind_of_call name.now) name.now numbers.items operands.items (shown machine.old)) }
+    ensures { OnOk result (shown machine.new ≡ calls (kind_of_call name.now) name.now parametric_args.items operands.items (shown machine.old)) }
 {
     match callee_of(name) {
-        Callee::Function => use_function(machine, alloc, name, numbers, operands),
+        Callee::Function => use_function(machine, alloc, name, parametric_args, operands),
         callee => machine.give(built_in(callee, operands)),
     }
 }

@@ -11,9 +11,9 @@ ghost use Rattle.dslx_const_tasks.specs.Plain.{shown, plain_list, plain_list_tas
 
 use crate::lists::call::{call_named, gather_next_number};
 use crate::lists::field::{begin_fields, gather_next_field, take_rest};
-use dslx_const_tasks::items::{bare_of, number_of};
+use dslx_const_tasks::items::{untyped_of, number_of};
 use dslx_const_tasks::{ListMaker, ListTask, Machine};
-use dslx_meaning::{Bare, DslxType, DslxValue};
+use dslx_meaning::{UntypedLiteral, DslxType, DslxValue};
 use dslx_tree::Expr;
 use dslx_values::filled;
 use std::alloc::{AllocError, Global};
@@ -30,7 +30,7 @@ pub fn step_list<'a>(
     match task {
         ListTask::Elements(elements, dots) => begin_elements(machine, alloc, elements, dots),
         ListTask::Gather(values, rest, maker) => gather_next(machine, alloc, values, rest, maker),
-        ListTask::GatherNumbers(values, rest, name, operands) => {
+        ListTask::GatherParametricArgs(values, rest, name, operands) => {
             gather_next_number(machine, alloc, values, rest, name, operands)
         }
         ListTask::FindFields(fields, rest) => begin_fields(machine, alloc, fields, rest),
@@ -127,7 +127,7 @@ fn make_list<'a>(
             let array = filled(alloc, dots, count, Seq::from_vec(values))?;
             machine.give(array)
         }
-        ListMaker::Call(name, numbers) => call_named(machine, alloc, name, numbers, values),
+        ListMaker::Call(name, parametric_args) => call_named(machine, alloc, name, parametric_args, values),
     }
 }
 
@@ -183,13 +183,13 @@ fn element_number(maker: &ListMaker, expr: &Expr) -> Result<Option<Option<DslxVa
     ensures { IfOk result (λ o. o ≡ element_by (plain_list maker.now) expr.now) }
 {
     match maker {
-        ListMaker::Fill(ty, _, _) => number_in(ty, bare_of(expr)),
+        ListMaker::Fill(ty, _, _) => number_in(ty, untyped_of(expr)),
         _ => Ok(None),
     }
 }
 
 /// The number of a type.
-fn number_in(ty: &DslxType, number: Option<Bare>) -> Result<Option<Option<DslxValue>>, AllocError>
+fn number_in(ty: &DslxType, number: Option<UntypedLiteral>) -> Result<Option<Option<DslxValue>>, AllocError>
     ensures { IfOk result (λ o. o ≡ number_by ty.now number) }
 {
     match number {

@@ -9,7 +9,7 @@ ghost use Rattle.dslx_const_tasks.specs.Plain.{shown, plain_value_task, plain_on
 use crate::fit_one;
 use dslx_const_tasks::items::{binary, cast, number_of, part};
 use dslx_const_tasks::{Fitting, Machine, OneMaker, PairMaker, Sequel, Task, ValueTask};
-use dslx_meaning::{Bare, BitKind, DslxValue};
+use dslx_meaning::{UntypedLiteral, BitKind, DslxValue};
 use dslx_tree::{Block, Expr, Pattern, Stmt};
 use dslx_values::operators::{element_value, index_value, prefix_value, slice_value, truth};
 use dslx_values::{bits_in, field_of, unit_value};
@@ -132,7 +132,7 @@ fn pass<'a>(
 }
 
 /// The number of the type that was found.
-fn make_number<'a>(machine: &mut Machine<'a>, number: Bare) -> Result<(), AllocError>
+fn make_number<'a>(machine: &mut Machine<'a>, number: UntypedLiteral) -> Result<(), AllocError>
     ensures { OnOk result (shown machine.new ≡ stepped (Numbers number) (shown machine.old)) }
 {
     match machine.take_type() {

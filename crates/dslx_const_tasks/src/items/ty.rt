@@ -7,7 +7,7 @@ ghost use Rattle.dslx_meaning.specs.declared.ty.DslxType as forms;
 ghost use Rattle.dslx_const_machine.specs.States.{type_in, without_finding};
 ghost use Rattle.std.specs.Prelude.{◌≡◌, ◌∷◌, ◌++◌, [], Some, None, OnOk, IfOk, map};
 ghost use Rattle.dslx_meaning.specs.Meaning.{some_count, count_in};
-ghost use Rattle.dslx_const_machine.specs.Layers.{type_of, bare_of as number_of_expr, count_of};
+ghost use Rattle.dslx_const_machine.specs.Layers.{type_of, untyped_of as number_of_expr, count_of};
 ghost use Rattle.dslx_const_machine.specs.Items.{field_types_on};
 ghost use Rattle.dslx_const_machine.specs.Steps.{stepped, types_on, type_begins, member_begins, of_base};
 ghost use Rattle.dslx_const_machine.specs.Tasks.{MakesBits, FindsSize, MakesArrayType, GathersTypes, GathersFieldTypes, MakesEnumType, FindsMember, MakesMember, CountsSize, IsSize, CountsBound, IsBound};
@@ -17,7 +17,7 @@ use crate::items::uses::use_type;
 use crate::items::words::number_of;
 use crate::{Machine, TypeTask};
 use base::texts::Name;
-use dslx_meaning::{Bare, BitKind, DslxType, DslxValue};
+use dslx_meaning::{UntypedLiteral, BitKind, DslxType, DslxValue};
 use dslx_tree::{Expr, Field, Node, Struct, TypeExpr, TypeNode};
 use dslx_values::operators::index_number;
 use dslx_values::{bits_in, copy_name, enum_member, same_type, type_of_value, unsigned_of};
@@ -231,7 +231,7 @@ fn begin_member<'a>(
 ) -> Result<(), AllocError>
     ensures { OnOk result (shown machine.new ≡ member_begins kind (number_of_expr expr.now) expr.now name.now (shown machine.old)) }
 {
-    match bare_of(expr) {
+    match untyped_of(expr) {
         Some(number) => {
             let value = number_of(&DslxType::Bits(kind.signed, kind.width), number)?;
             let member = member_of(alloc, name, value)?;
@@ -266,7 +266,7 @@ fn count_size<'a>(
 ) -> Result<(), AllocError>
     ensures { OnOk result (shown machine.new ≡ stepped (CountsSize expr.now) (shown machine.old)) }
 {
-    match bare_of(expr) {
+    match untyped_of(expr) {
         Some(number) => machine.give_count(size(count(number))),
         None => machine.eval_then_type(alloc, expr, TypeTask::TakeSize),
     }
@@ -288,7 +288,7 @@ fn count_bound<'a>(
 ) -> Result<(), AllocError>
     ensures { OnOk result (shown machine.new ≡ stepped (CountsBound expr.now) (shown machine.old)) }
 {
-    match bare_of(expr) {
+    match untyped_of(expr) {
         Some(number) => machine.give_count(count(number)),
         None => machine.eval_then_type(alloc, expr, TypeTask::TakeBound),
     }
@@ -304,13 +304,13 @@ fn take_bound<'a>(machine: &mut Machine<'a>) -> Result<(), AllocError>
 }
 
 /// The number without a type that an expression is.
-pub fn bare_of(expr: &Expr) -> Option<Bare>
+pub fn untyped_of(expr: &Expr) -> Option<UntypedLiteral>
     ensures { result ≡ number_of_expr expr.now }
 {
     match &expr.node {
         Node::Number(number) => match &number.ty {
             Some(_) => None,
-            None => Some(Bare {
+            None => Some(UntypedLiteral {
                 is_negative: number.is_negative,
                 value: number.value,
             }),
@@ -319,7 +319,7 @@ pub fn bare_of(expr: &Expr) -> Option<Bare>
     }
 }
 
-fn count(number: Bare) -> Option<u128>
+fn count(number: UntypedLiteral) -> Option<u128>
     ensures { result ≡ count_of number }
 {
     if number.is_negative {

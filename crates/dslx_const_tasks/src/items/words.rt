@@ -4,13 +4,13 @@
 ghost use Rattle.std.specs.Prelude.{◌≡◌, IfOk};
 ghost use Rattle.dslx_meaning.specs.Operators as the;
 
-use dslx_meaning::{Bare, DslxType, DslxValue};
+use dslx_meaning::{UntypedLiteral, DslxType, DslxValue};
 use dslx_tree::Binary;
 use dslx_values::operators::{binary_value, cast_value, number_value, part_value};
 use std::alloc::AllocError;
 
 /// A number of a type.
-pub fn number_of(ty: &DslxType, number: Bare) -> Result<Option<DslxValue>, AllocError>
+pub fn number_of(ty: &DslxType, number: UntypedLiteral) -> Result<Option<DslxValue>, AllocError>
     ensures { IfOk result (λ v. v ≡ the.number_value ty.now number) }
 {
     match number_value(ty, number) {

@@ -13,31 +13,31 @@ use Rattle.dslx_tree.specs.declared.process.Proc.{Proc}
 use Rattle.dslx_meaning.specs.Activation.{Activity, activation_of, site_names, state_of, turn_at}
 use Rattle.dslx_meaning.specs.Items.{meanings_of, meanings_over}
 use Rattle.dslx_meaning.specs.Lists.{and_then, where_true}
-use Rattle.dslx_meaning.specs.Network.{Placed, behavior_at, behaviors_if, behaviors_of, chans_of_top, family_of, head_at, width_of_chan}
+use Rattle.dslx_meaning.specs.Network.{Elaborated, behavior_at, behaviors_if, behaviors_of, chans_of_top, family_of, head_at, width_of_chan}
 use Rattle.dslx_meaning.specs.Types.{plain_type}
 use Rattle.dslx_meaning.specs.declared.ty.DslxType.{DslxType}
 use Rattle.dslx_meaning.specs.declared.value.DslxValue.{DslxValue}
-use Rattle.dslx_meaning.specs.Rules.Judging.{Known}
+use Rattle.dslx_meaning.specs.Rules.TypeEnvs.{GlobalEnv}
 use Rattle.dslx_typing.specs.Laws.Recursion.{HasNoCycle}
 use Rattle.dslx_typing.proofs.Lemmas.Typed.{same_some}
 use Rattle.dslx_core.specs.CoreOf.{BehavesAlike, CoreOf, EachBehavesAlike}
-use Rattle.dslx_core.specs.Designs.{CoreActivity, CorePlaced, core_activation, core_behavior, core_behaviors, core_chans, core_family, core_head, do_steps, functions_of, token}
+use Rattle.dslx_core.specs.Designs.{CoreActivity, CoreElaborated, core_activation, core_behavior, core_behaviors, core_chans, core_family, core_head, do_steps, functions_of, token}
 use Rattle.dslx_core.specs.declared.design.Design.{Design}
 use Rattle.dslx_core.specs.declared.design.Instance.{Instance}
 use Rattle.dslx_core.specs.Lowering.Activities.{DoesTheSame}
-use Rattle.dslx_core.specs.Lowering.CorePlaces.{CoreKnown, with_local}
+use Rattle.dslx_core.specs.Lowering.CoreScopes.{BodyEnv, with_local}
 use Rattle.dslx_core.specs.Lowering.EqualTypes.{equal_type}
-use Rattle.dslx_core.specs.Lowering.Functions.{CoreInstance, Instantiated, instances_from, numbers_stand, outer_place}
+use Rattle.dslx_core.specs.Lowering.Functions.{CoreInstance, Instantiated, instances_from, parametric_args_are_well_typed, outer_scope}
 use Rattle.dslx_core.specs.Lowering.Instances.{ItemsAreOwn, functions_of_instances}
-use Rattle.dslx_core.specs.Lowering.Steps.{LoweredNext, is_sized, next_lowered, proc_known, statements_steps, steps_from}
-use Rattle.dslx_core.specs.Lowering.Trees.{type_of_text_lowered}
+use Rattle.dslx_core.specs.Lowering.Steps.{LoweredNext, is_sized, lower_next, proc_globals, statements_steps, steps_from}
+use Rattle.dslx_core.specs.Lowering.Trees.{lower_type_of_text}
 use Rattle.dslx_core.proofs.Lemmas.Lowering.{from_plain, from_then, from_where, next_of_instances, state_of_instances}
 use Rattle.dslx_typing.specs.Activities.ActivityGoesOn.{ActivityGoesOn, Ends, Waits}
-use Rattle.dslx_typing.specs.Activities.Members.{IsFineNext}
+use Rattle.dslx_typing.specs.Activities.Members.{IsWellTypedNext}
 use Rattle.dslx_typing.proofs.Lemmas.Activities.{activation_goes}
-use Rattle.dslx_core.specs.Networks.Making.{IsDesignFrom}
-use Rattle.dslx_core.proofs.Lemmas.Networks.{AllStandFor, Becomes, StandsFor, chans_alike, design_made, family_stands, head_alike, networks_alike}
-use Rattle.dslx_core.specs.Behaviors.FineNexts.{EachNextIsFine, HasFineNexts, NextIsFine}
+use Rattle.dslx_core.specs.Networks.Assembly.{IsDesignFrom}
+use Rattle.dslx_core.proofs.Lemmas.Networks.{AllSimulate, LowersTo, CoreSimulates, chans_alike, design_made, family_simulates, head_alike, networks_alike}
+use Rattle.dslx_core.specs.Behaviors.WellTypedNexts.{EachNextIsWellTyped, HasWellTypedNexts, NextIsWellTyped}
 use Rattle.dslx_core.proofs.OnBehaviors.Waits.{WaitsThere, steps_wait}
 
 -- ---- one activation
@@ -56,36 +56,36 @@ one_activity t n words a c same (Waits front e last all) waits =
     record { turns = w.turns ∙ sym e; last = ap (λ o. unwrap_or o token) w.last ∙ sym (ap state_of last) }
 
 -- the states of what is lowered have elements in each array
-state_is_sized : (known : CoreKnown) (p : Proc) (l : LoweredNext) → next_lowered known p ≡ Some l → is_sized l.state ≡ true
+state_is_sized : (known : BodyEnv) (p : Proc) (l : LoweredNext) → lower_next known p ≡ Some l → is_sized l.state ≡ true
 state_is_sized known p l low =
-    let w = from_where (numbers_stand known.items known.numbers && not (known.items.is_constant p.next.state.name))
-    (and_then (type_of_text_lowered p.next.ty (outer_place known)) (λ t. where_true (is_sized t) (steps_from (outer_place known) p t))) l low in
-    let t = from_then (type_of_text_lowered p.next.ty (outer_place known)) (λ t. where_true (is_sized t) (steps_from (outer_place known) p t)) l w.1 in
-    let z = from_where (is_sized t.0) (steps_from (outer_place known) p t.0) l t.2 in
-    let s = from_then (statements_steps (outer_place known) p.members (out-Block p.next.body).statements (out-Block p.next.body).value (with_local p.next.state.name t.0 (outer_place known)))
+    let w = from_where (parametric_args_are_well_typed known.items known.parametric_args && not (known.items.is_constant p.next.state.name))
+    (and_then (lower_type_of_text p.next.ty (outer_scope known)) (λ t. where_true (is_sized t) (steps_from (outer_scope known) p t))) l low in
+    let t = from_then (lower_type_of_text p.next.ty (outer_scope known)) (λ t. where_true (is_sized t) (steps_from (outer_scope known) p t)) l w.1 in
+    let z = from_where (is_sized t.0) (steps_from (outer_scope known) p t.0) l t.2 in
+    let s = from_then (statements_steps (outer_scope known) p.members (out-Block p.next.body).statements (out-Block p.next.body).value (with_local p.next.state.name t.0 (outer_scope known)))
     (λ s. where_true (equal_type t.0 s.next.ty) (Some (record { state = t.0; steps = s.steps; next = s.next.core }))) l z.1 in
     let q = from_where (equal_type t.0 s.0.next.ty) (Some (record { state = t.0; steps = s.0.steps; next = s.0.next.core })) l s.2 in
     subst (λ (x : LoweredNext). is_sized x.state ≡ true) (same_some (record { state = t.0; steps = s.0.steps; next = s.0.next.core }) l q.1) z.0
 
 -- ---- a proc
 
-module _ (m : Module) (settled : meanings_over m (meanings_of m) ≡ meanings_of m) (own : ItemsAreOwn (meanings_of m)) (known : Known) (is : List Instantiated) (functions : List CoreInstance)
+module _ (m : Module) (settled : meanings_over m (meanings_of m) ≡ meanings_of m) (own : ItemsAreOwn (meanings_of m)) (known : GlobalEnv) (is : List Instantiated) (functions : List CoreInstance)
     (each : instances_from m (meanings_of m) [] is ≡ Some functions) where
-  activation_alike : (p : Proc) (numbers : List DslxValue) (l : LoweredNext) → next_lowered (proc_known m (meanings_of m) functions p numbers) p ≡ Some l → IsFineNext known p numbers l.state
-      → (state : Value) → IsOfType (plain_type l.state) state → (words : List Word) → activation_of known.items p numbers state words ≡ activation_of (meanings_of m) p numbers state words
-      → IsOneActivity (activation_of (meanings_of m) p numbers state words) (do_steps (functions_of_instances functions) l.steps l.next (state ∷ []) words)
-  activation_alike p numbers l low fine state typed words means =
-      let of = (from_plain l.state (state_is_sized (proc_known m (meanings_of m) functions p numbers) p l low) state typed).0 in
-      let goes = activation_goes known p numbers l.state fine state of words in
-      one_activity l.state (length (site_names p)) words (activation_of (meanings_of m) p numbers state words) (do_steps (functions_of_instances functions) l.steps l.next (state ∷ []) words)
-      (next_of_instances m (meanings_of m) settled own is functions each p numbers l low state words typed)
+  activation_alike : (p : Proc) (parametric_args : List DslxValue) (l : LoweredNext) → lower_next (proc_globals m (meanings_of m) functions p parametric_args) p ≡ Some l → IsWellTypedNext known p parametric_args l.state
+      → (state : Value) → IsOfType (plain_type l.state) state → (words : List Word) → activation_of known.items p parametric_args state words ≡ activation_of (meanings_of m) p parametric_args state words
+      → IsOneActivity (activation_of (meanings_of m) p parametric_args state words) (do_steps (functions_of_instances functions) l.steps l.next (state ∷ []) words)
+  activation_alike p parametric_args l low well_typed state typed words means =
+      let of = (from_plain l.state (state_is_sized (proc_globals m (meanings_of m) functions p parametric_args) p l low) state typed).0 in
+      let goes = activation_goes known p parametric_args l.state well_typed state of words in
+      one_activity l.state (length (site_names p)) words (activation_of (meanings_of m) p parametric_args state words) (do_steps (functions_of_instances functions) l.steps l.next (state ∷ []) words)
+      (next_of_instances m (meanings_of m) settled own is functions each p parametric_args l low state words typed)
       (subst (ActivityGoesOn l.state (length (site_names p)) words) means goes)
       (steps_wait (functions_of_instances functions) l.steps l.next (state ∷ []) words)
 
   -- a proc that is placed, in each design whose functions these are
-  behavior_alike : (design : Design) → functions_of design ≡ functions_of_instances functions → (chans : List Chan) → core_chans design ≡ chans → (a : Placed) (c : CorePlaced) → StandsFor (Becomes m (meanings_of m) functions) a c
-      → NextIsFine m known a → BehavesAlike (core_behavior design c) (behavior_at (meanings_of m) chans a)
-  behavior_alike design calls chans same a c stands fine = record {
+  behavior_alike : (design : Design) → functions_of design ≡ functions_of_instances functions → (chans : List Chan) → core_chans design ≡ chans → (a : Elaborated) (c : CoreElaborated) → CoreSimulates (LowersTo m (meanings_of m) functions) a c
+      → NextIsWellTyped m known a → BehavesAlike (core_behavior design c) (behavior_at (meanings_of m) chans a)
+  behavior_alike design calls chans same a c stands well_typed = record {
     state = ap (λ (h : ProcHead). h.state) head;
     sites = ap (λ (h : ProcHead). h.sites) head;
     width = ap width_of_chan same;
@@ -93,38 +93,38 @@ module _ (m : Module) (settled : meanings_over m (meanings_of m) ≡ meanings_of
     next_state = λ state typed words. (alike state typed words).last;
   }
     where
-      b : Becomes m (meanings_of m) functions a.proc a.numbers c.instance
+      b : LowersTo m (meanings_of m) functions a.proc a.parametric_args c.instance
       b = stands.instance
 
       head : core_head c ≡ head_at (meanings_of m) a
       head = head_alike m (meanings_of m) settled own is functions each a c stands
 
-      own_fine : IsFineNext known a.proc a.numbers b.next.state
-      own_fine = fine.fine b.next.state (fine.state ∙ state_of_instances m (meanings_of m) settled own is functions each a.proc a.numbers b.next b.lowered)
+      own_well_typed : IsWellTypedNext known a.proc a.parametric_args b.next.state
+      own_well_typed = well_typed.well_typed b.next.state (well_typed.state ∙ state_of_instances m (meanings_of m) settled own is functions each a.proc a.parametric_args b.next b.lowered)
 
-      alike : (state : Value) → IsOfType c.instance.state state → (words : List Word) → IsOneActivity (activation_of (meanings_of m) a.proc a.numbers state words) (core_activation (functions_of design) c.instance state words)
+      alike : (state : Value) → IsOfType c.instance.state state → (words : List Word) → IsOneActivity (activation_of (meanings_of m) a.proc a.parametric_args state words) (core_activation (functions_of design) c.instance state words)
       alike state typed words =
-          subst (λ f. IsOneActivity (activation_of (meanings_of m) a.proc a.numbers state words) (core_activation f c.instance state words)) (sym calls)
-          (subst (λ (i : Instance). IsOneActivity (activation_of (meanings_of m) a.proc a.numbers state words) (core_activation (functions_of_instances functions) i state words)) b.is
-          (activation_alike a.proc a.numbers b.next b.lowered own_fine state (subst (λ (i : Instance). IsOfType i.state state) (sym b.is) typed) words (fine.means state words)))
+          subst (λ f. IsOneActivity (activation_of (meanings_of m) a.proc a.parametric_args state words) (core_activation f c.instance state words)) (sym calls)
+          (subst (λ (i : Instance). IsOneActivity (activation_of (meanings_of m) a.proc a.parametric_args state words) (core_activation (functions_of_instances functions) i state words)) b.is
+          (activation_alike a.proc a.parametric_args b.next b.lowered own_well_typed state (subst (λ (i : Instance). IsOfType i.state state) (sym b.is) typed) words (well_typed.means state words)))
 
-  behaviors_alike : (design : Design) → functions_of design ≡ functions_of_instances functions → (chans : List Chan) → core_chans design ≡ chans → (as' : List Placed) (cs : List CorePlaced) → AllStandFor (Becomes m (meanings_of m) functions) as' cs
-      → EachNextIsFine m known as' → EachBehavesAlike (map (core_behavior design) cs) (map (behavior_at (meanings_of m) chans) as')
-  behaviors_alike design calls chans same [] [] h fine = tt
-  behaviors_alike design calls chans same [] (c ∷ cs) h fine = absurd h
-  behaviors_alike design calls chans same (a ∷ as') [] h fine = absurd h
-  behaviors_alike design calls chans same (a ∷ as') (c ∷ cs) h fine = (behavior_alike design calls chans same a c h.0 fine.0, behaviors_alike design calls chans same as' cs h.1 fine.1)
+  behaviors_alike : (design : Design) → functions_of design ≡ functions_of_instances functions → (chans : List Chan) → core_chans design ≡ chans → (as' : List Elaborated) (cs : List CoreElaborated) → AllSimulate (LowersTo m (meanings_of m) functions) as' cs
+      → EachNextIsWellTyped m known as' → EachBehavesAlike (map (core_behavior design) cs) (map (behavior_at (meanings_of m) chans) as')
+  behaviors_alike design calls chans same [] [] h well_typed = tt
+  behaviors_alike design calls chans same [] (c ∷ cs) h well_typed = absurd h
+  behaviors_alike design calls chans same (a ∷ as') [] h well_typed = absurd h
+  behaviors_alike design calls chans same (a ∷ as') (c ∷ cs) h well_typed = (behavior_alike design calls chans same a c h.0 well_typed.0, behaviors_alike design calls chans same as' cs h.1 well_typed.1)
 
 -- ---- the whole
 
-pub texts_stand : (m : Module) (top : Option (List ℕ)) (design : Design) → HasNoCycle m → meanings_over m (meanings_of m) ≡ meanings_of m → ItemsAreOwn (meanings_of m) → IsDesignFrom m top design → HasFineNexts m top → CoreOf m top design
-texts_stand m top design free settled own h fine = record {
+pub texts_simulate : (m : Module) (top : Option (List ℕ)) (design : Design) → HasNoCycle m → meanings_over m (meanings_of m) ≡ meanings_of m → ItemsAreOwn (meanings_of m) → IsDesignFrom m top design → HasWellTypedNexts m top → CoreOf m top design
+texts_simulate m top design free settled own h well_typed = record {
   network = networks_alike m top design free own h settled;
   behaviors =
       subst (λ d. EachBehavesAlike (core_behaviors d) (behaviors_of m top)) (sym h.design_is)
       (subst (EachBehavesAlike (core_behaviors made)) (sym (ap (behaviors_if m) h.is_top))
-      (behaviors_alike m settled own fine.known h.named_functions h.functions h.each_function made refl (chans_of_top m h.proc) (chans_alike m top design free own h) (family_of m h.proc).procs (core_family made).procs
-      (family_stands m top design free own h).procs (fine.nexts h.proc h.is_top)));
+      (behaviors_alike m settled own well_typed.known h.named_functions h.functions h.each_function made refl (chans_of_top m h.proc) (chans_alike m top design free own h) (family_of m h.proc).procs (core_family made).procs
+      (family_simulates m top design free own h).procs (well_typed.nexts h.proc h.is_top)));
 }
   where
     made : Design

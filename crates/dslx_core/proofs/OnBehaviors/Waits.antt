@@ -20,8 +20,8 @@ use Rattle.dslx_core.specs.declared.step.Step.TheVariants as step
 use Rattle.dslx_typing.specs.Activities.ActivityGoesOn.{words_taken}
 
 -- each turn of the first list is that of the second one at its place
-abbrev pub StandsAtFront : List Turn → List Turn → Type 0
-StandsAtFront ts us = (i : ℕ) (turn : Turn) → slice_get ts i ≡ Some turn → slice_get us i ≡ Some turn
+abbrev pub StandsAtPrefix : List Turn → List Turn → Type 0
+StandsAtPrefix ts us = (i : ℕ) (turn : Turn) → slice_get ts i ≡ Some turn → slice_get us i ≡ Some turn
 
 pub record EndsThere (front : List Turn) (a : CoreActivity) : Type 0 where
   pub turns : a.turns ≡ front ++ Receive ∷ []
@@ -29,7 +29,7 @@ pub record EndsThere (front : List Turn) (a : CoreActivity) : Type 0 where
 
 -- after these turns, which have taken all words, it receives: then that is the end
 abbrev pub WaitsThere : List Turn → List Word → CoreActivity → Type 0
-WaitsThere front words a = StandsAtFront (front ++ Receive ∷ []) a.turns → words_taken front ≡ length words → EndsThere front a
+WaitsThere front words a = StandsAtPrefix (front ++ Receive ∷ []) a.turns → words_taken front ≡ length words → EndsThere front a
 
 abbrev BehindWaits : Behind → Type 0
 BehindWaits rest = (bound : Bindings) (words : List Word) (front : List Turn) → WaitsThere front words (rest bound words)
@@ -47,7 +47,7 @@ is_receive (Give w) = false
 not_receive : {X : Type 0} (turn : Turn) → is_receive turn ≡ false → turn ≡ Receive → X
 not_receive turn e q = absurd (true≢false (sym (ap is_receive q) ∙ e))
 
-nothing_there : {X : Type 0} (front : List Turn) → StandsAtFront (front ++ Receive ∷ []) [] → X
+nothing_there : {X : Type 0} (front : List Turn) → StandsAtPrefix (front ++ Receive ∷ []) [] → X
 nothing_there [] h = none_some Receive (h 0 Receive refl)
 nothing_there (t ∷ ts) h = none_some t (h 0 t refl)
 
@@ -73,7 +73,7 @@ receive_waits a w words h (t ∷ ts) k all =
     record { turns = λ i. first i ∷ rest.turns i; last = rest.last }
 
 -- the last receive
-last_receive : (front : List Turn) → StandsAtFront (front ++ Receive ∷ []) (Receive ∷ []) → words_taken front ≡ 0 → EndsThere front (record { turns = Receive ∷ []; last = None })
+last_receive : (front : List Turn) → StandsAtPrefix (front ++ Receive ∷ []) (Receive ∷ []) → words_taken front ≡ 0 → EndsThere front (record { turns = Receive ∷ []; last = None })
 last_receive [] k all = record { turns = refl; last = refl }
 last_receive (t ∷ ts) k all = let first = same_some Receive t (k 0 t refl) in none_added (words_taken ts) (sym all ∙ ap (λ x. words_taken (x ∷ ts)) (sym first))
 

@@ -12,14 +12,14 @@ use Rattle.dslx_meaning.specs.Lists.{and_then, is_in}
 use Rattle.dslx_meaning.specs.Values.{type_of_value}
 use Rattle.dslx_meaning.specs.declared.ty.DslxType.{DslxType}
 use Rattle.dslx_meaning.specs.declared.value.DslxValue.{DslxValue}
-use Rattle.dslx_meaning.specs.Rules.Judging.{Known}
+use Rattle.dslx_meaning.specs.Rules.TypeEnvs.{GlobalEnv}
 use Rattle.dslx_meaning.specs.Rules.Mentions.{AsType, is_of_use}
 use Rattle.dslx_typing.specs.Typed.Complete.{IsComplete}
 use Rattle.dslx_typing.specs.Typed.Declared.{Declarations}
 use Rattle.dslx_typing.specs.Typed.Given.{GivesOf}
 use Rattle.dslx_typing.specs.Typed.Kinds.{is_of}
 use Rattle.dslx_typing.proofs.Lemmas.Typed.{none_some, one_type, same_some}
-use Rattle.dslx_typing.specs.Complete.Standing.{AreTyped}
+use Rattle.dslx_typing.specs.Complete.HasValue.{AreTyped}
 use Rattle.dslx_core.specs.Lowering.Correspondence.{IsOwn}
 use Rattle.dslx_core.specs.Lowering.Instances.{ItemsAreOwn}
 use Rattle.dslx_core.proofs.Lemmas.Lowering.{from_then}
@@ -50,7 +50,7 @@ enum_is_type (Some (d.Constant c)) e q = none_some e q
 enum_is_type (Some (d.Alias a)) e q = none_some e q
 enum_is_type (Some (d.Struct s)) e q = none_some e q
 
-pub items_are_own : (m : Module) (known : Known) → known.whole ≡ m → IsComplete known → AreTyped known → (items : Meanings) → meanings_over m items ≡ items → known.items ≡ items → ItemsAreOwn items
+pub items_are_own : (m : Module) (known : GlobalEnv) → known.whole ≡ m → IsComplete known → AreTyped known → (items : Meanings) → meanings_over m items ≡ items → known.items ≡ items → ItemsAreOwn items
 items_are_own m known whole complete typed items settled same = record {
   constants = λ name v e. own_given known.items.type_named (type_of_value v) v (typed.constants name v (ap (λ (x : Meanings). x.constant name) same ∙ e));
   members = λ name member v e.

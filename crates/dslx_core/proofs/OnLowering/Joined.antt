@@ -16,64 +16,64 @@ use Rattle.dslx_meaning.specs.Lists.{all_some, and_then, where_true}
 use Rattle.dslx_meaning.specs.Values.{bits_of, bool_value, plain_value, type_of_value}
 use Rattle.dslx_meaning.specs.Operators.{number_value}
 use Rattle.dslx_meaning.specs.Environment.{Given, Env}
-use Rattle.dslx_meaning.specs.Meaning.{Evaluates, Going, Meant, array_at, bound_of, element_meant, filled, fit_value, last_meant, meant, meant_pattern, rest_of, statements_meant, value_of, value_of_block, written_type}
+use Rattle.dslx_meaning.specs.Meaning.{ValueDen, StmtDen, ExprDen, array_at, bound_of, element_den, filled, fit_value, last_den, denotation, pattern_denotation, rest_of, statements_den, value_of, value_of_block, written_type}
 use Rattle.dslx_meaning.specs.declared.ty.DslxType.{DslxType, out-DslxType}
 use Rattle.dslx_meaning.specs.declared.ty.DslxType as ty
-use Rattle.dslx_meaning.specs.declared.value.Bare.{Bare}
+use Rattle.dslx_meaning.specs.declared.value.UntypedLiteral.{UntypedLiteral}
 use Rattle.dslx_meaning.specs.declared.value.DslxValue.{DslxValue}
 use Rattle.dslx_meaning.specs.declared.value.SignedWord.{SignedWord}
 use Rattle.dslx_typing.proofs.Lemmas.Typed.{none_some, same_some}
 use Rattle.dslx_core.specs.CoreValues.{Bindings, Functions, taken_apart}
 use Rattle.dslx_core.specs.declared.expr.Shape as shape
-use Rattle.dslx_core.specs.Lowering.CorePlaces.{CorePlace, constant_at}
+use Rattle.dslx_core.specs.Lowering.CoreScopes.{CoreScope, constant_at}
 use Rattle.dslx_core.specs.Lowering.EqualTypes.{equal_type}
 use Rattle.dslx_core.specs.Lowering.Lowering.{LoweredExpr, literal}
-use Rattle.dslx_core.specs.Lowering.Patterns.{Lowers, LowersArm, shaped, value_shape}
-use Rattle.dslx_core.specs.Lowering.Trees.{LoweredPair, LowersField, LowersType, all_lowered, block_of_text_lowered, expression_lowered, last_lowered, second_parts, statements_lowered, type_of_text_lowered}
-use Rattle.dslx_core.specs.Lowering.Steps.{pattern_of_text_lowered}
-use Rattle.dslx_core.specs.Lowering.Correspondence.{FitsAsLowered, IsOwn, KeepsValue, MeansAsLowered, PatternMeansAsLowered, StandsAtPlace, TypeMeansAsLowered, env_at}
+use Rattle.dslx_core.specs.Lowering.Patterns.{ExprLowering, ArmLowering, shaped, value_shape}
+use Rattle.dslx_core.specs.Lowering.Trees.{LoweredPair, FieldLowering, TypeLowering, lower_all, lower_block_of_text, lower_expression, lower_last_value, second_parts, lower_statements, lower_type_of_text}
+use Rattle.dslx_core.specs.Lowering.Steps.{lower_pattern_of_text}
+use Rattle.dslx_core.specs.Lowering.Correspondence.{FitLowerPreserves, IsOwn, KeepsValue, LowerPreserves, PatternLowerPreserves, SimulatesInScope, TypeLowerPreserves, env_at}
 use Rattle.dslx_core.proofs.OnLowering.Kept.{from_then}
 use Rattle.dslx_core.proofs.OnLowering.Lists.{EachGivesSame, EachKeeps}
 use Rattle.dslx_core.proofs.OnLowering.Links.{Claims, become, becoming, claimed, meaning, meanings, link_stmt, link_node, link_shape, link_type_node, link_block, link_bind, link_arg, link_arm, link_expr, link_field, link_loop, link_number, link_pattern, link_type_expr}
-use Rattle.dslx_core.proofs.OnLowering.OfAggregates.{EachFieldMeans, FieldMeansAsLowered, element_by, mean_elements, struct_keeps, typed_keeps, untyped_keeps}
+use Rattle.dslx_core.proofs.OnLowering.OfAggregates.{EachFieldMeans, FieldLowerPreserves, element_by, mean_elements, struct_keeps, typed_keeps, untyped_keeps}
 use Rattle.dslx_core.proofs.OnLowering.OfBinary.{binary_keeps}
 use Rattle.dslx_core.proofs.OnLowering.OfCalls.{call_keeps}
 use Rattle.dslx_core.proofs.OnLowering.OfCasts.{bits_part_keeps, cast_keeps, slice_keeps}
 use Rattle.dslx_core.proofs.OnLowering.OfControl.{bare_keeps, choice_keeps, let_keeps, loop_keeps, unit_keeps}
-use Rattle.dslx_core.proofs.OnLowering.OfMatch.{ArmMeansAsLowered, EachArmMeans, match_keeps}
-use Rattle.dslx_core.proofs.OnLowering.OfNames.{bool_keeps, bool_own, known_keeps, literal_keeps, name_keeps, number_own}
+use Rattle.dslx_core.proofs.OnLowering.OfMatch.{ArmLowerPreserves, EachArmMeans, match_keeps}
+use Rattle.dslx_core.proofs.OnLowering.OfNames.{bool_keeps, bool_own, globals_keep, literal_keeps, name_keeps, number_own}
 use Rattle.dslx_core.proofs.OnLowering.OfParts.{element_keeps, field_keeps, index_keeps, tuple_keeps}
 use Rattle.dslx_core.proofs.OnLowering.OfPatterns.{EachPatternMeans, PartFits, each_name, name_bare, name_fits, one_value_bare, one_value_fits, tuple_bare, tuple_fits, wild_bare, wild_fits}
-use Rattle.dslx_core.proofs.OnLowering.OfTypes.{EachTypeMeansAsLowered, array_means, tuple_means, wide_means}
+use Rattle.dslx_core.proofs.OnLowering.OfTypes.{EachTypeLowerPreserves, array_means, tuple_means, wide_means}
 use Rattle.dslx_core.proofs.OnLowering.Operations.{prefix_keeps}
 use Rattle.dslx_core.proofs.OnLowering.Slots.{bound_means, constant_means}
 
 -- ---- what is to hold of each sort
 
 -- a statement, before whatever the rest of its block is
-abbrev pub StatementMeans : (Lowers → Lowers) → Going → Type 0
-StatementMeans s g = (rest : Lowers) (r : Evaluates) → MeansAsLowered rest r → MeansAsLowered (s rest) (g r)
+abbrev pub StatementMeans : (ExprLowering → ExprLowering) → StmtDen → Type 0
+StatementMeans s g = (rest : ExprLowering) (r : ValueDen) → LowerPreserves rest r → LowerPreserves (s rest) (g r)
 
-abbrev pub NumberMeans : (CorePlace → Option DslxValue) → Meant → Type 0
-NumberMeans l x = (place : CorePlace) (calls : Functions) (given : List Given) (bound : Bindings) → StandsAtPlace place calls given bound → (v : DslxValue) → l place ≡ Some v
+abbrev pub NumberMeans : (CoreScope → Option DslxValue) → ExprDen → Type 0
+NumberMeans l x = (place : CoreScope) (calls : Functions) (given : List Given) (bound : Bindings) → SimulatesInScope place calls given bound → (v : DslxValue) → l place ≡ Some v
     → (x.value (env_at place given) ≡ Some v) × IsOwn v
 
 abbrev pub same : Claims
 same = record {
   stmt = StatementMeans;
-  node = λ l x. MeansAsLowered l x.value;
-  shape = PatternMeansAsLowered;
-  type_node = TypeMeansAsLowered;
-  block = MeansAsLowered;
+  node = λ l x. LowerPreserves l x.value;
+  shape = PatternLowerPreserves;
+  type_node = TypeLowerPreserves;
+  block = LowerPreserves;
   bind = StatementMeans;
-  arg = λ e x. meant e ≡ x;
-  arm = ArmMeansAsLowered;
-  expr = λ l x. MeansAsLowered l x.value;
-  field = FieldMeansAsLowered;
-  loop = MeansAsLowered;
+  arg = λ e x. denotation e ≡ x;
+  arm = ArmLowerPreserves;
+  expr = λ l x. LowerPreserves l x.value;
+  field = FieldLowerPreserves;
+  loop = LowerPreserves;
   number = NumberMeans;
-  pattern = PatternMeansAsLowered;
-  type_expr = TypeMeansAsLowered;
+  pattern = PatternLowerPreserves;
+  type_expr = TypeLowerPreserves;
 }
 
 abbrev Parts : Carriers
@@ -100,60 +100,60 @@ TypePart = Parts.type_expr
 abbrev StmtPart : Type 0
 StmtPart = Parts.stmt
 
-abbrev lowered_node : NodeLevel Parts → Lowers
-lowered_node x = (becoming.node (map_node Parts become (firsts become meanings (claimed same)) x)).1
+abbrev lower_node_of : NodeLevel Parts → ExprLowering
+lower_node_of x = (becoming.node (map_node Parts become (firsts become meanings (claimed same)) x)).1
 
-abbrev meant_of_node : NodeLevel Parts → Meant
-meant_of_node x = meaning.node (map_node Parts meanings (seconds become meanings (claimed same)) x)
+abbrev den_of_node : NodeLevel Parts → ExprDen
+den_of_node x = meaning.node (map_node Parts meanings (seconds become meanings (claimed same)) x)
 
 -- ---- lists of parts
 
 abbrev pairs_of : List ExprPart → List LoweredPair
 pairs_of ps = map (λ (p : ExprPart). p.0) ps
 
-abbrev meant_of : List ExprPart → List Meant
-meant_of ps = map (λ (p : ExprPart). p.1) ps
+abbrev den_of : List ExprPart → List ExprDen
+den_of ps = map (λ (p : ExprPart). p.1) ps
 
 abbrev values_at : List ExprPart → Env → List (Option DslxValue)
-values_at ps env = map (λ (m : Meant). m.value env) (meant_of ps)
+values_at ps env = map (λ (m : ExprDen). m.value env) (den_of ps)
 
-each_expr : (ps : List ExprPart) (place : CorePlace) (calls : Functions) (given : List Given) (bound : Bindings) → StandsAtPlace place calls given bound
-    → EachKeeps calls bound (all_lowered place (pairs_of ps)) (values_at ps (env_at place given))
+each_expr : (ps : List ExprPart) (place : CoreScope) (calls : Functions) (given : List Given) (bound : Bindings) → SimulatesInScope place calls given bound
+    → EachKeeps calls bound (lower_all place (pairs_of ps)) (values_at ps (env_at place given))
 each_expr [] place calls given bound at = tt
 each_expr (p ∷ ps) place calls given bound at = (p.2.1 place calls given bound at, each_expr ps place calls given bound at)
 
 -- elements, which may be numbers without a type
-abbrev elements_at : List ExprPart → CorePlace → List (Option Bare × Option LoweredExpr)
-elements_at ps place = map (λ (e : LoweredPair). ((meant e.0).bare, e.1 place)) (pairs_of ps)
+abbrev elements_at : List ExprPart → CoreScope → List (Option UntypedLiteral × Option LoweredExpr)
+elements_at ps place = map (λ (e : LoweredPair). ((denotation e.0).bare, e.1 place)) (pairs_of ps)
 
-each_element : (ps : List ExprPart) (place : CorePlace) (calls : Functions) (given : List Given) (bound : Bindings) → StandsAtPlace place calls given bound
-    → EachKeeps calls bound (map (λ (e : Option Bare × Option LoweredExpr). e.1) (elements_at ps place)) (values_at ps (env_at place given))
+each_element : (ps : List ExprPart) (place : CoreScope) (calls : Functions) (given : List Given) (bound : Bindings) → SimulatesInScope place calls given bound
+    → EachKeeps calls bound (map (λ (e : Option UntypedLiteral × Option LoweredExpr). e.1) (elements_at ps place)) (values_at ps (env_at place given))
 each_element [] place calls given bound at = tt
 each_element (p ∷ ps) place calls given bound at = (p.2.1 place calls given bound at, each_element ps place calls given bound at)
 
-element_is : (t : DslxType) (env : Env) (m : Meant) → element_meant t env m ≡ element_by t m.bare (m.value env)
+element_is : (t : DslxType) (env : Env) (m : ExprDen) → element_den t env m ≡ element_by t m.bare (m.value env)
 element_is t env m = by m.bare
   where
-    by : (b : Option Bare) → (elim b as (λ x. Option DslxValue) [ None ↦ m.value env | Some number ↦ number_value t number ]) ≡ element_by t b (m.value env)
+    by : (b : Option UntypedLiteral) → (elim b as (λ x. Option DslxValue) [ None ↦ m.value env | Some number ↦ number_value t number ]) ≡ element_by t b (m.value env)
     by None = refl
     by (Some number) = refl
 
-elements_are : (ps : List ExprPart) (place : CorePlace) (env : Env) (t : DslxType) → map (element_meant t env) (meant_of ps) ≡ mean_elements t (elements_at ps place) (values_at ps env)
+elements_are : (ps : List ExprPart) (place : CoreScope) (env : Env) (t : DslxType) → map (element_den t env) (den_of ps) ≡ mean_elements t (elements_at ps place) (values_at ps env)
 elements_are [] place env t = refl
 elements_are (p ∷ ps) place env t =
-    λ i. (element_is t env p.1 ∙ ap (λ (m : Meant). element_by t m.bare (p.1.value env)) (sym p.2.0)) i ∷ elements_are ps place env t i
+    λ i. (element_is t env p.1 ∙ ap (λ (m : ExprDen). element_by t m.bare (p.1.value env)) (sym p.2.0)) i ∷ elements_are ps place env t i
 
-each_number : (ps : List ArgPart) (place : CorePlace) (calls : Functions) (given : List Given) (bound : Bindings) → StandsAtPlace place calls given bound
-    → EachGivesSame (map (λ (a : Arg × Expr). constant_at place a.1) (map (λ (p : ArgPart). p.0) ps)) (map (λ (m : Meant). m.value (env_at place given)) (map (λ (p : ArgPart). p.1) ps))
+each_number : (ps : List ArgPart) (place : CoreScope) (calls : Functions) (given : List Given) (bound : Bindings) → SimulatesInScope place calls given bound
+    → EachGivesSame (map (λ (a : Arg × Expr). constant_at place a.1) (map (λ (p : ArgPart). p.0) ps)) (map (λ (m : ExprDen). m.value (env_at place given)) (map (λ (p : ArgPart). p.1) ps))
 each_number [] place calls given bound at = tt
 each_number (p ∷ ps) place calls given bound at =
-    (λ v k. sym (ap (λ (m : Meant). m.value (env_at place given)) p.2.1) ∙ constant_means place calls given bound at p.0.1 v k, each_number ps place calls given bound at)
+    (λ v k. sym (ap (λ (m : ExprDen). m.value (env_at place given)) p.2.1) ∙ constant_means place calls given bound at p.0.1 v k, each_number ps place calls given bound at)
 
-each_field : (ps : List FieldPart) → EachFieldMeans (map (λ (f : FieldValue × LowersField). f.1) (map (λ (p : FieldPart). p.0) ps)) (map (λ (p : FieldPart). p.1) ps)
+each_field : (ps : List FieldPart) → EachFieldMeans (map (λ (f : FieldValue × FieldLowering). f.1) (map (λ (p : FieldPart). p.0) ps)) (map (λ (p : FieldPart). p.1) ps)
 each_field [] = tt
 each_field (p ∷ ps) = (p.2.1, each_field ps)
 
-each_arm : (ps : List ArmPart) → EachArmMeans (map (λ (a : Arm × LowersArm). a.1) (map (λ (p : ArmPart). p.0) ps)) (map (λ (p : ArmPart). p.1) ps)
+each_arm : (ps : List ArmPart) → EachArmMeans (map (λ (a : Arm × ArmLowering). a.1) (map (λ (p : ArmPart). p.0) ps)) (map (λ (p : ArmPart). p.1) ps)
 each_arm [] = tt
 each_arm (p ∷ ps) = (p.2.1, each_arm ps)
 
@@ -161,7 +161,7 @@ each_pattern : (ps : List PatternPart) → EachPatternMeans (second_parts (map (
 each_pattern [] = tt
 each_pattern (p ∷ ps) = (p.2.1, each_pattern ps)
 
-each_type : (ps : List TypePart) → EachTypeMeansAsLowered (map (λ (t : TypeExpr × LowersType). t.1) (map (λ (p : TypePart). p.0) ps)) (map (λ (p : TypePart). p.1) ps)
+each_type : (ps : List TypePart) → EachTypeLowerPreserves (map (λ (t : TypeExpr × TypeLowering). t.1) (map (λ (p : TypePart). p.0) ps)) (map (λ (p : TypePart). p.1) ps)
 each_type [] = tt
 each_type (p ∷ ps) = (p.2.1, each_type ps)
 
@@ -173,40 +173,40 @@ through : {A : Type 0} (calls : Functions) (bound : Bindings) (o : Option A) (f 
 through calls bound None f g h e k v q = none_some e k
 through calls bound (Some a) f g h e k v q = h a e k v q
 
-number_keeps : (l : CorePlace → Option DslxValue) (x : Meant) → NumberMeans l x → MeansAsLowered (λ place. and_then (l place) literal) x.value
+number_keeps : (l : CoreScope → Option DslxValue) (x : ExprDen) → NumberMeans l x → LowerPreserves (λ place. and_then (l place) literal) x.value
 number_keeps l x means place calls given bound at e k v g =
     let w = from_then (l place) literal e k in
     let is = means place calls given bound at w.0 w.1 in
     literal_keeps calls bound w.0 is.1 e w.2 v (sym is.0 ∙ g)
 
-node_means : (x : NodeLevel Parts) → MeansAsLowered (lowered_node x) (meant_of_node x).value
+node_means : (x : NodeLevel Parts) → LowerPreserves (lower_node_of x) (den_of_node x).value
 node_means (Node-F.Node::Number n) place calls given bound at = number_keeps n.0.1 n.1 n.2.1 place calls given bound at
 node_means (Node-F.Node::Bool bit) place calls given bound at = bool_keeps calls bound bit
 node_means (Node-F.Node::Array None es dots) place calls given bound at =
     untyped_keeps calls bound (elements_at es place) (values_at es (env_at place given)) dots (each_element es place calls given bound at) place.count
 node_means (Node-F.Node::Array (Some t) es dots) place calls given bound at =
     typed_keeps calls bound (t.0.1 place) (t.1 (env_at place given)) (t.2.1 place calls given bound at) (elements_at es place) (values_at es (env_at place given)) dots
-    (array_at (env_at place given) (meant_of es) dots) (λ t n. ap (λ os. and_then (all_some os) (filled dots n)) (elements_are es place (env_at place given) t)) (each_element es place calls given bound at) place.count at.count
+    (array_at (env_at place given) (den_of es) dots) (λ t n. ap (λ os. and_then (all_some os) (filled dots n)) (elements_are es place (env_at place given) t)) (each_element es place calls given bound at) place.count at.count
 node_means (Node-F.Node::Name name) place calls given bound at = name_keeps place calls given bound at name
-node_means (Node-F.Node::Member e a) place calls given bound at = known_keeps calls bound (place.known.items.member e.name a.name) (λ v q. at.known.members e.name a.name v q)
-node_means (Node-F.Call f numbers es) place calls given bound at =
-    call_keeps place calls given bound at (kind_of_call f.name) f.name (map (λ (a : Arg × Expr). constant_at place a.1) (map (λ (p : ArgPart). p.0) numbers))
-    (map (λ (m : Meant). m.value (env_at place given)) (map (λ (p : ArgPart). p.1) numbers)) (all_lowered place (pairs_of es)) (values_at es (env_at place given)) (each_number numbers place calls given bound at)
+node_means (Node-F.Node::Member e a) place calls given bound at = globals_keep calls bound (place.known.items.member e.name a.name) (λ v q. at.known.members e.name a.name v q)
+node_means (Node-F.Call f parametric_args es) place calls given bound at =
+    call_keeps place calls given bound at (kind_of_call f.name) f.name (map (λ (a : Arg × Expr). constant_at place a.1) (map (λ (p : ArgPart). p.0) parametric_args))
+    (map (λ (m : ExprDen). m.value (env_at place given)) (map (λ (p : ArgPart). p.1) parametric_args)) (lower_all place (pairs_of es)) (values_at es (env_at place given)) (each_number parametric_args place calls given bound at)
     (each_expr es place calls given bound at)
-node_means (Node-F.Node::Tuple es) place calls given bound at = tuple_keeps calls bound (all_lowered place (pairs_of es)) (values_at es (env_at place given)) (each_expr es place calls given bound at)
+node_means (Node-F.Node::Tuple es) place calls given bound at = tuple_keeps calls bound (lower_all place (pairs_of es)) (values_at es (env_at place given)) (each_expr es place calls given bound at)
 node_means (Node-F.Struct name fields None) place calls given bound at =
     through calls bound (place.known.items.struct_named name.name) _ _
-    (λ t. struct_keeps place calls given bound at (map (λ (f : FieldValue × LowersField). f.1) (map (λ (p : FieldPart). p.0) fields)) (map (λ (p : FieldPart). p.1) fields) (each_field fields) None (rest_of None) tt (out-DslxType t))
+    (λ t. struct_keeps place calls given bound at (map (λ (f : FieldValue × FieldLowering). f.1) (map (λ (p : FieldPart). p.0) fields)) (map (λ (p : FieldPart). p.1) fields) (each_field fields) None (rest_of None) tt (out-DslxType t))
 node_means (Node-F.Struct name fields (Some rest)) place calls given bound at =
     through calls bound (place.known.items.struct_named name.name) _ _
-    (λ t. struct_keeps place calls given bound at (map (λ (f : FieldValue × LowersField). f.1) (map (λ (p : FieldPart). p.0) fields)) (map (λ (p : FieldPart). p.1) fields) (each_field fields)
+    (λ t. struct_keeps place calls given bound at (map (λ (f : FieldValue × FieldLowering). f.1) (map (λ (p : FieldPart). p.0) fields)) (map (λ (p : FieldPart). p.1) fields) (each_field fields)
     (Some rest.0.1) (rest_of (Some rest.1)) rest.2.1 (out-DslxType t))
 node_means (Node-F.Block block) place calls given bound at = block.2.1 place calls given bound at
 node_means (Node-F.If test taken other) place calls given bound at =
     choice_keeps calls bound (test.0.1 place) (taken.0.1 place) (other.0.1 place) (test.1.value (env_at place given)) (taken.1 (env_at place given)) (other.1.value (env_at place given))
     (test.2.1 place calls given bound at) (taken.2.1 place calls given bound at) (other.2.1 place calls given bound at)
 node_means (Node-F.Match e arms) place calls given bound at =
-    match_keeps place calls given bound at (e.0.1 place) (e.1.value (env_at place given)) (e.2.1 place calls given bound at) (map (λ (a : Arm × LowersArm). a.1) (map (λ (p : ArmPart). p.0) arms)) (map (λ (p : ArmPart). p.1) arms)
+    match_keeps place calls given bound at (e.0.1 place) (e.1.value (env_at place given)) (e.2.1 place calls given bound at) (map (λ (a : Arm × ArmLowering). a.1) (map (λ (p : ArmPart). p.0) arms)) (map (λ (p : ArmPart). p.1) arms)
     (each_arm arms)
 node_means (Node-F.For loop) place calls given bound at = loop.2.1 place calls given bound at
 node_means (Node-F.Index e i) place calls given bound at =
@@ -227,28 +227,28 @@ node_means (Node-F.Binary o l r) place calls given bound at =
 
 -- ---- types and patterns
 
-type_means : (x : TypeNodeLevel Parts) → TypeMeansAsLowered (becoming.type_node (map_type_node Parts become (firsts become meanings (claimed same)) x)).1 (meaning.type_node (map_type_node Parts meanings (seconds become meanings (claimed same)) x))
+type_means : (x : TypeNodeLevel Parts) → TypeLowerPreserves (becoming.type_node (map_type_node Parts become (firsts become meanings (claimed same)) x)).1 (meaning.type_node (map_type_node Parts meanings (seconds become meanings (claimed same)) x))
 type_means (TypeNode-F.Bits s w) place calls given bound at t k = k
 type_means (TypeNode-F.Wide s e) place calls given bound at t k = wide_means s e.0.0 e.1 e.2.0 place calls given bound at t k
 type_means TypeNode-F.TypeNode::Bool place calls given bound at t k = k
 type_means (TypeNode-F.TypeNode::Name name) place calls given bound at t k = k
 type_means (TypeNode-F.TypeNode::Tuple ts) place calls given bound at t k =
-    tuple_means (map (λ (t : TypeExpr × LowersType). t.1) (map (λ (p : TypePart). p.0) ts)) (map (λ (p : TypePart). p.1) ts) (each_type ts) place calls given bound at t (ap (λ os. and_then (all_some os) (λ ts. Some (ty.Tuple ts))) (sym (map_twice ts place)) ∙ k)
+    tuple_means (map (λ (t : TypeExpr × TypeLowering). t.1) (map (λ (p : TypePart). p.0) ts)) (map (λ (p : TypePart). p.1) ts) (each_type ts) place calls given bound at t (ap (λ os. and_then (all_some os) (λ ts. Some (ty.Tuple ts))) (sym (map_twice ts place)) ∙ k)
   where
-    map_twice : (ts : List TypePart) (place : CorePlace) → map (λ (t : TypeExpr × LowersType). t.1 place) (map (λ (p : TypePart). p.0) ts) ≡ map (λ (l : LowersType). l place) (map (λ (t : TypeExpr × LowersType). t.1) (map (λ (p : TypePart). p.0) ts))
+    map_twice : (ts : List TypePart) (place : CoreScope) → map (λ (t : TypeExpr × TypeLowering). t.1 place) (map (λ (p : TypePart). p.0) ts) ≡ map (λ (l : TypeLowering). l place) (map (λ (t : TypeExpr × TypeLowering). t.1) (map (λ (p : TypePart). p.0) ts))
     map_twice [] place = refl
     map_twice (t ∷ ts) place = ap (λ os. t.0.1 place ∷ os) (map_twice ts place)
 type_means (TypeNode-F.TypeNode::Array t e) place calls given bound at u k = array_means t.0.1 t.1 e.0.0 e.1 t.2.1 e.2.0 place calls given bound at u k
 
 -- a number as a pattern
-number_fits : (l : CorePlace → Option DslxValue) (x : Meant) → NumberMeans l x → PartFits (λ outer place t. value_shape (l outer) place t) (λ outer v env. fit_value (x.value outer) v env)
+number_fits : (l : CoreScope → Option DslxValue) (x : ExprDen) → NumberMeans l x → PartFits (λ outer place t. value_shape (l outer) place t) (λ outer v env. fit_value (x.value outer) v env)
 number_fits l x means outer place t s e calls around others out given bound at v of =
     let w = from_then (l outer) (λ v. where_true (equal_type t (type_of_value v)) (shaped (shape.Equal (plain_value v)) place)) s e in
     let is = means outer calls around others out w.0 w.1 in
-    subst (λ o. FitsAsLowered s.place calls (fit_value o v (env_at place given)) (taken_apart s.shape (plain_value v) bound)) (w.1 ∙ sym is.0)
+    subst (λ o. FitLowerPreserves s.place calls (fit_value o v (env_at place given)) (taken_apart s.shape (plain_value v) bound)) (w.1 ∙ sym is.0)
     (one_value_fits (l outer) place t s e (λ y q. subst IsOwn (same_some w.0 y (sym w.1 ∙ q)) is.1) calls given bound at v of)
 
-shape_means : (x : ShapeLevel Parts) → PatternMeansAsLowered (becoming.shape (map_shape Parts become (firsts become meanings (claimed same)) x)).1 (meaning.shape (map_shape Parts meanings (seconds become meanings (claimed same)) x))
+shape_means : (x : ShapeLevel Parts) → PatternLowerPreserves (becoming.shape (map_shape Parts become (firsts become meanings (claimed same)) x)).1 (meaning.shape (map_shape Parts meanings (seconds become meanings (claimed same)) x))
 shape_means Shape-F.Wild = record { names = refl; fits = λ outer place t s e calls around others out. wild_fits place t s e calls; bare = wild_bare [] }
 shape_means (Shape-F.Shape::Bool b) = record {
   names = refl;
@@ -271,7 +271,7 @@ shape_means (Shape-F.Shape::Tuple ps) =
     let ms = map (λ (p : PatternPart). p.1) ps in
     record { names = each_name ls ms (each_pattern ps); fits = tuple_fits ls ms (each_pattern ps); bare = tuple_bare ls ms (each_pattern ps) }
 
-arm_means : (x : ArmLevel Parts) → ArmMeansAsLowered (becoming.arm (map_arm Parts become (firsts become meanings (claimed same)) x)).1 (meaning.arm (map_arm Parts meanings (seconds become meanings (claimed same)) x))
+arm_means : (x : ArmLevel Parts) → ArmLowerPreserves (becoming.arm (map_arm Parts become (firsts become meanings (claimed same)) x)).1 (meaning.arm (map_arm Parts meanings (seconds become meanings (claimed same)) x))
 arm_means x = record { patterns = each_pattern x.patterns; value = x.value.2.1 }
 
 -- ---- statements and blocks
@@ -283,23 +283,23 @@ stmt_means : (x : StmtLevel Parts) → StatementMeans (becoming.stmt (map_stmt P
 stmt_means (Stmt-F.Let l) rest r more = l.2.1 rest r more
 stmt_means (Stmt-F.Bare e) rest r more = bare_keeps e.1.value rest r more
 
-statements_mean : (ps : List StmtPart) (last : Lowers) (r : Evaluates) → MeansAsLowered last r
-    → MeansAsLowered (statements_lowered (map (λ (s : Stmt × (Lowers → Lowers)). s.1) (map (λ (p : StmtPart). p.0) ps)) last) (statements_meant (map (λ (p : StmtPart). p.1) ps) r)
+statements_mean : (ps : List StmtPart) (last : ExprLowering) (r : ValueDen) → LowerPreserves last r
+    → LowerPreserves (lower_statements (map (λ (s : Stmt × (ExprLowering → ExprLowering)). s.1) (map (λ (p : StmtPart). p.0) ps)) last) (statements_den (map (λ (p : StmtPart). p.1) ps) r)
 statements_mean [] last r h = h
 statements_mean (p ∷ ps) last r h = p.2.1 _ _ (statements_mean ps last r h)
 
-block_means : (x : BlockLevel Parts) → MeansAsLowered (becoming.block (map_block Parts become (firsts become meanings (claimed same)) x)).1 (meaning.block (map_block Parts meanings (seconds become meanings (claimed same)) x))
+block_means : (x : BlockLevel Parts) → LowerPreserves (becoming.block (map_block Parts become (firsts become meanings (claimed same)) x)).1 (meaning.block (map_block Parts meanings (seconds become meanings (claimed same)) x))
 block_means x = by_value x.value
   where
     by_value : (o : Option ExprPart)
-        → MeansAsLowered (becoming.block (map_block Parts become (firsts become meanings (claimed same)) (record { span = x.span; statements = x.statements; value = o }))).1
+        → LowerPreserves (becoming.block (map_block Parts become (firsts become meanings (claimed same)) (record { span = x.span; statements = x.statements; value = o }))).1
         (meaning.block (map_block Parts meanings (seconds become meanings (claimed same)) (record { span = x.span; statements = x.statements; value = o })))
-    by_value None = statements_mean x.statements (last_lowered None) (last_meant None) (λ place calls given bound at. unit_keeps calls bound)
-    by_value (Some e) = statements_mean x.statements (last_lowered (Some e.0)) (last_meant (Some e.1)) e.2.1
+    by_value None = statements_mean x.statements (lower_last_value None) (last_den None) (λ place calls given bound at. unit_keeps calls bound)
+    by_value (Some e) = statements_mean x.statements (lower_last_value (Some e.0)) (last_den (Some e.1)) e.2.1
 
 -- ---- loops, numbers and fields
 
-loop_means : (x : ForLevel Parts) → MeansAsLowered (becoming.loop (map_loop Parts become (firsts become meanings (claimed same)) x)).1 (meaning.loop (map_loop Parts meanings (seconds become meanings (claimed same)) x))
+loop_means : (x : ForLevel Parts) → LowerPreserves (becoming.loop (map_loop Parts become (firsts become meanings (claimed same)) x)).1 (meaning.loop (map_loop Parts meanings (seconds become meanings (claimed same)) x))
 loop_means x place calls given bound at =
     loop_keeps place calls given bound at (x.start.0.1 place) (x.from.0.1 place) (x.start.1.value (env_at place given)) (x.from.1.value (env_at place given)) (x.to.1.value (env_at place given))
     (and_then (constant_at place x.from.0.0) bits_of) (and_then (constant_at place x.to.0.0) bits_of) (bits_mean x.from) (bits_mean x.to) (x.start.2.1 place calls given bound at) (x.from.2.1 place calls given bound at)
@@ -308,7 +308,7 @@ loop_means x place calls given bound at =
     bits_mean : (p : ExprPart) (w : SignedWord) → and_then (constant_at place p.0.0) bits_of ≡ Some w → and_then (p.1.value (env_at place given)) bits_of ≡ Some w
     bits_mean p w k =
         let v = from_then (constant_at place p.0.0) bits_of w k in
-        ap (λ o. and_then o bits_of) (sym (ap (λ (m : Meant). m.value (env_at place given)) p.2.0) ∙ constant_means place calls given bound at p.0.0 v.0 v.1) ∙ v.2
+        ap (λ o. and_then o bits_of) (sym (ap (λ (m : ExprDen). m.value (env_at place given)) p.2.0) ∙ constant_means place calls given bound at p.0.0 v.0 v.1) ∙ v.2
 
 number_means : (x : NumberLevel Parts) → NumberMeans (becoming.number (map_number Parts become (firsts become meanings (claimed same)) x)).1 (meaning.number (map_number Parts meanings (seconds become meanings (claimed same)) x))
 number_means x = by_type x.ty
@@ -318,15 +318,15 @@ number_means x = by_type x.ty
         (meaning.number (map_number Parts meanings (seconds become meanings (claimed same)) (record { ty = o; is_negative = x.is_negative; value = x.value })))
     by_type None place calls given bound at v k = none_some v k
     by_type (Some t) place calls given bound at v k =
-        let number : Bare = record { is_negative = x.is_negative; value = x.value } in
+        let number : UntypedLiteral = record { is_negative = x.is_negative; value = x.value } in
         let u = from_then (t.0.1 place) (λ t. number_value t number) v k in
         (ap (λ o. and_then o (λ t. number_value t number)) (t.2.1 place calls given bound at u.0 u.1) ∙ u.2, number_own u.0 number v u.2)
 
-field_means : (x : FieldValueLevel Parts) → FieldMeansAsLowered (becoming.field (map_field Parts become (firsts become meanings (claimed same)) x)).1 (meaning.field (map_field Parts meanings (seconds become meanings (claimed same)) x))
+field_means : (x : FieldValueLevel Parts) → FieldLowerPreserves (becoming.field (map_field Parts become (firsts become meanings (claimed same)) x)).1 (meaning.field (map_field Parts meanings (seconds become meanings (claimed same)) x))
 field_means x = by_value x.value
   where
     by_value : (o : Option ExprPart)
-        → FieldMeansAsLowered (becoming.field (map_field Parts become (firsts become meanings (claimed same)) (record { name = x.name; value = o }))).1
+        → FieldLowerPreserves (becoming.field (map_field Parts become (firsts become meanings (claimed same)) (record { name = x.name; value = o }))).1
         (meaning.field (map_field Parts meanings (seconds become meanings (claimed same)) (record { name = x.name; value = o })))
     by_value None = record { name = refl; value = λ place calls given bound at. name_keeps place calls given bound at x.name.name }
     by_value (Some e) = record { name = refl; value = e.2.1 }
@@ -352,17 +352,17 @@ all_keep = record {
 }
 
 -- an expression means the same as what it becomes
-pub expression_means : (e : Expr) → MeansAsLowered (expression_lowered e) (value_of e)
+pub expression_means : (e : Expr) → LowerPreserves (lower_expression e) (value_of e)
 expression_means e = (related_expr become meanings (claimed same) becoming meaning all_keep e).1
 
 -- and so does a block
-pub block_of_text_means : (b : Block) → MeansAsLowered (block_of_text_lowered b) (value_of_block b)
+pub block_of_text_means : (b : Block) → LowerPreserves (lower_block_of_text b) (value_of_block b)
 block_of_text_means b = (related_block become meanings (claimed same) becoming meaning all_keep b).1
 
 -- and so does a written type
-pub type_of_text_means : (t : TypeExpr) → TypeMeansAsLowered (type_of_text_lowered t) (written_type t)
+pub type_of_text_means : (t : TypeExpr) → TypeLowerPreserves (lower_type_of_text t) (written_type t)
 type_of_text_means t = (related_type_expr become meanings (claimed same) becoming meaning all_keep t).1
 
 -- and so does a pattern
-pub pattern_of_text_means : (p : Pattern) → PatternMeansAsLowered (pattern_of_text_lowered p) (meant_pattern p)
+pub pattern_of_text_means : (p : Pattern) → PatternLowerPreserves (lower_pattern_of_text p) (pattern_denotation p)
 pattern_of_text_means p = (related_pattern become meanings (claimed same) becoming meaning all_keep p).1

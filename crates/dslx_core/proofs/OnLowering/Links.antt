@@ -18,87 +18,87 @@ use Rattle.dslx_tree.proofs.Lemmas.Folds.Levels.{Carriers, trees, Maps, composed
 use Rattle.dslx_tree.proofs.Lemmas.Folds.Folds.{Steps, folds, fold_stmt, fold_node, fold_shape, fold_type_node, fold_block, fold_bind, fold_arg, fold_arm, fold_expr, fold_field, fold_loop, fold_number, fold_pattern, fold_type_expr, fold_stmt-roll, fold_node-roll, fold_shape-roll, fold_type_node-roll, fold_block-roll, fold_bind-roll, fold_arg-roll, fold_arm-roll, fold_expr-roll, fold_field-roll, fold_loop-roll, fold_number-roll, fold_pattern-roll, fold_type_expr-roll}
 use Rattle.dslx_tree.proofs.Lemmas.Folds.Related.{Relations, both, firsts, seconds}
 use Rattle.dslx_meaning.specs.Meaning as m
-use Rattle.dslx_meaning.specs.Meaning.{ArmMeant, Evaluates, FieldMeant, Going, Meant, PatternMeant, Typing}
+use Rattle.dslx_meaning.specs.Meaning.{ArmDen, ValueDen, FieldDen, StmtDen, ExprDen, PatternDen, TypeDen}
 use Rattle.dslx_meaning.specs.Rules.Paired.{with_stmt, with_node, with_shape, with_type_node, with_block, with_bind, with_arg, with_arm, with_expr, with_field, with_loop, with_number, with_pattern, with_type_expr}
 use Rattle.dslx_meaning.specs.declared.value.DslxValue.{DslxValue}
-use Rattle.dslx_core.specs.Lowering.CorePlaces.{CorePlace}
-use Rattle.dslx_core.specs.Lowering.Patterns.{Lowers, LowersArm, LowersPattern}
-use Rattle.dslx_core.specs.Lowering.Trees.{LowersField, LowersType, lowered_sorts, lowering_steps}
+use Rattle.dslx_core.specs.Lowering.CoreScopes.{CoreScope}
+use Rattle.dslx_core.specs.Lowering.Patterns.{ExprLowering, ArmLowering, PatternLowering}
+use Rattle.dslx_core.specs.Lowering.Trees.{FieldLowering, TypeLowering, lowering_sorts, lowering_steps}
 
 -- ---- the two folds
 
 -- trees with what they become
 abbrev pub become : Carriers
 become = record {
-  stmt = Stmt × (Lowers → Lowers);
-  node = Node × Lowers;
-  shape = Shape × LowersPattern;
-  type_node = TypeNode × LowersType;
-  block = Block × Lowers;
-  bind = Let × (Lowers → Lowers);
+  stmt = Stmt × (ExprLowering → ExprLowering);
+  node = Node × ExprLowering;
+  shape = Shape × PatternLowering;
+  type_node = TypeNode × TypeLowering;
+  block = Block × ExprLowering;
+  bind = Let × (ExprLowering → ExprLowering);
   arg = Arg × Expr;
-  arm = Arm × LowersArm;
-  expr = Expr × Lowers;
-  field = FieldValue × LowersField;
-  loop = For × Lowers;
-  number = Number × (CorePlace → Option DslxValue);
-  pattern = Pattern × LowersPattern;
-  type_expr = TypeExpr × LowersType;
+  arm = Arm × ArmLowering;
+  expr = Expr × ExprLowering;
+  field = FieldValue × FieldLowering;
+  loop = For × ExprLowering;
+  number = Number × (CoreScope → Option DslxValue);
+  pattern = Pattern × PatternLowering;
+  type_expr = TypeExpr × TypeLowering;
 }
 
 abbrev pub becoming : Steps become
 becoming = record {
-  stmt = with_stmt lowered_sorts lowering_steps;
-  node = with_node lowered_sorts lowering_steps;
-  shape = with_shape lowered_sorts lowering_steps;
-  type_node = with_type_node lowered_sorts lowering_steps;
-  block = with_block lowered_sorts lowering_steps;
-  bind = with_bind lowered_sorts lowering_steps;
-  arg = with_arg lowered_sorts lowering_steps;
-  arm = with_arm lowered_sorts lowering_steps;
-  expr = with_expr lowered_sorts lowering_steps;
-  field = with_field lowered_sorts lowering_steps;
-  loop = with_loop lowered_sorts lowering_steps;
-  number = with_number lowered_sorts lowering_steps;
-  pattern = with_pattern lowered_sorts lowering_steps;
-  type_expr = with_type_expr lowered_sorts lowering_steps;
+  stmt = with_stmt lowering_sorts lowering_steps;
+  node = with_node lowering_sorts lowering_steps;
+  shape = with_shape lowering_sorts lowering_steps;
+  type_node = with_type_node lowering_sorts lowering_steps;
+  block = with_block lowering_sorts lowering_steps;
+  bind = with_bind lowering_sorts lowering_steps;
+  arg = with_arg lowering_sorts lowering_steps;
+  arm = with_arm lowering_sorts lowering_steps;
+  expr = with_expr lowering_sorts lowering_steps;
+  field = with_field lowering_sorts lowering_steps;
+  loop = with_loop lowering_sorts lowering_steps;
+  number = with_number lowering_sorts lowering_steps;
+  pattern = with_pattern lowering_sorts lowering_steps;
+  type_expr = with_type_expr lowering_sorts lowering_steps;
 }
 
 -- what they mean
 abbrev pub meanings : Carriers
 meanings = record {
-  stmt = Going;
-  node = Meant;
-  shape = PatternMeant;
-  type_node = Typing;
-  block = Evaluates;
-  bind = Going;
-  arg = Meant;
-  arm = ArmMeant;
-  expr = Meant;
-  field = FieldMeant;
-  loop = Evaluates;
-  number = Meant;
-  pattern = PatternMeant;
-  type_expr = Typing;
+  stmt = StmtDen;
+  node = ExprDen;
+  shape = PatternDen;
+  type_node = TypeDen;
+  block = ValueDen;
+  bind = StmtDen;
+  arg = ExprDen;
+  arm = ArmDen;
+  expr = ExprDen;
+  field = FieldDen;
+  loop = ValueDen;
+  number = ExprDen;
+  pattern = PatternDen;
+  type_expr = TypeDen;
 }
 
 abbrev pub meaning : Steps meanings
 meaning = record {
-  stmt = m.stmt_meant;
-  node = m.node_meant;
-  shape = m.shape_meant;
-  type_node = m.type_meant;
-  block = m.block_meant;
-  bind = m.let_meant;
-  arg = m.arg_meant;
-  arm = m.arm_meant;
-  expr = m.expr_meant;
-  field = m.field_meant;
-  loop = m.for_meant;
+  stmt = m.stmt_den;
+  node = m.node_den;
+  shape = m.shape_den;
+  type_node = m.type_den;
+  block = m.block_den;
+  bind = m.let_den;
+  arg = m.arg_den;
+  arm = m.arm_den;
+  expr = m.expr_den;
+  field = m.field_den;
+  loop = m.for_den;
   number = m.number_node;
-  pattern = m.pattern_meant;
-  type_expr = m.type_expr_meant;
+  pattern = m.pattern_den;
+  type_expr = m.type_expr_den;
 }
 
 abbrev tree_of : Maps become trees
@@ -123,20 +123,20 @@ tree_of = record {
 
 -- what is to hold of each sort
 pub record Claims : Type 1 where
-  pub stmt : (Lowers → Lowers) → Going → Type 0
-  pub node : Lowers → Meant → Type 0
-  pub shape : LowersPattern → PatternMeant → Type 0
-  pub type_node : LowersType → Typing → Type 0
-  pub block : Lowers → Evaluates → Type 0
-  pub bind : (Lowers → Lowers) → Going → Type 0
-  pub arg : Expr → Meant → Type 0
-  pub arm : LowersArm → ArmMeant → Type 0
-  pub expr : Lowers → Meant → Type 0
-  pub field : LowersField → FieldMeant → Type 0
-  pub loop : Lowers → Evaluates → Type 0
-  pub number : (CorePlace → Option DslxValue) → Meant → Type 0
-  pub pattern : LowersPattern → PatternMeant → Type 0
-  pub type_expr : LowersType → Typing → Type 0
+  pub stmt : (ExprLowering → ExprLowering) → StmtDen → Type 0
+  pub node : ExprLowering → ExprDen → Type 0
+  pub shape : PatternLowering → PatternDen → Type 0
+  pub type_node : TypeLowering → TypeDen → Type 0
+  pub block : ExprLowering → ValueDen → Type 0
+  pub bind : (ExprLowering → ExprLowering) → StmtDen → Type 0
+  pub arg : Expr → ExprDen → Type 0
+  pub arm : ArmLowering → ArmDen → Type 0
+  pub expr : ExprLowering → ExprDen → Type 0
+  pub field : FieldLowering → FieldDen → Type 0
+  pub loop : ExprLowering → ValueDen → Type 0
+  pub number : (CoreScope → Option DslxValue) → ExprDen → Type 0
+  pub pattern : PatternLowering → PatternDen → Type 0
+  pub type_expr : TypeLowering → TypeDen → Type 0
 
 abbrev pub claimed : Claims → Relations become meanings
 claimed c = record {

@@ -6,7 +6,7 @@ use Rattle.dslx_meaning.specs.Values.{plain_value}
 use Rattle.dslx_meaning.specs.declared.value.DslxValue.{DslxValue}
 use Rattle.dslx_typing.specs.Typed.Kinds.{is_of, each_of}
 use Rattle.dslx_typing.proofs.Lemmas.Typed.{all_are, all_there, list_parts}
-use Rattle.dslx_core.specs.CoreValues.{Bindings, CoreMeaning, Functions, core_value, values_in}
+use Rattle.dslx_core.specs.CoreValues.{Bindings, CoreDen, Functions, core_value, values_in}
 use Rattle.dslx_core.specs.Lowering.Lowering.{LoweredExpr, cores_of, types_of_lowered}
 use Rattle.dslx_core.specs.Lowering.Correspondence.{HasPlainValue, KeepsValue}
 
@@ -68,7 +68,7 @@ all_of calls bound (e ∷ es) [] h = absurd h
 all_of calls bound (e ∷ es) (v ∷ vs) h = ap (λ b. b && each_of (map is_of (types_of_lowered es)) vs) h.0.of ∙ all_of calls bound es vs h.1
 
 some_values : (calls : Functions) (bound : Bindings) (es : List LoweredExpr) (vs : List DslxValue) → AllHave calls bound es vs
-    → map (λ (e : CoreMeaning). e calls bound) (map core_value (cores_of es)) ≡ map Some (map plain_value vs)
+    → map (λ (e : CoreDen). e calls bound) (map core_value (cores_of es)) ≡ map Some (map plain_value vs)
 some_values calls bound [] [] h = refl
 some_values calls bound [] (v ∷ vs) h = absurd h
 some_values calls bound (e ∷ es) [] h = absurd h

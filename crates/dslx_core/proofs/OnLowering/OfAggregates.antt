@@ -12,11 +12,11 @@ use Rattle.dslx_meaning.specs.Lists.{all_some, and_then, is_in, last_of, repeate
 use Rattle.dslx_meaning.specs.Values.{plain_value}
 use Rattle.dslx_meaning.specs.Operators.{number_value}
 use Rattle.dslx_meaning.specs.Environment.{Given, Env}
-use Rattle.dslx_meaning.specs.Meaning.{Evaluates, FieldMeant, field_from, field_given, field_of, field_written, filled, struct_at}
+use Rattle.dslx_meaning.specs.Meaning.{ValueDen, FieldDen, field_from, field_given, field_of, field_written, filled, struct_at}
 use Rattle.dslx_meaning.specs.declared.ty.DslxType.{DslxType, out-DslxType}
 use Rattle.dslx_meaning.specs.declared.ty.DslxType as ty
 use Rattle.dslx_meaning.specs.declared.ty.DslxType.TheOpen.{DslxType-F}
-use Rattle.dslx_meaning.specs.declared.value.Bare.{Bare}
+use Rattle.dslx_meaning.specs.declared.value.UntypedLiteral.{UntypedLiteral}
 use Rattle.dslx_meaning.specs.declared.value.DslxValue.{DslxValue}
 use Rattle.dslx_meaning.specs.declared.value.DslxValue as value
 use Rattle.dslx_meaning.specs.declared.value.DslxValue.TheViews as views
@@ -27,21 +27,21 @@ use Rattle.dslx_typing.proofs.Lemmas.Typed.{none_some, of_struct, same_some}
 use Rattle.dslx_core.specs.CoreValues.{Bindings, Functions, core_value, taken_apart}
 use Rattle.dslx_core.specs.declared.expr.CoreExpr as core
 use Rattle.dslx_core.specs.declared.expr.Shape as shape
-use Rattle.dslx_core.specs.Lowering.CorePlaces.{CorePlace, with_unnamed}
+use Rattle.dslx_core.specs.Lowering.CoreScopes.{CoreScope, with_unnamed}
 use Rattle.dslx_core.specs.Lowering.EqualTypes.{equal_type}
-use Rattle.dslx_core.specs.Lowering.Lowering.{LoweredExpr, cores_of, field_lowered, field_place, lowered, number_lowered, types_of_lowered}
-use Rattle.dslx_core.specs.Lowering.Patterns.{Lowers}
-use Rattle.dslx_core.specs.Lowering.Trees.{LowersField, array_lowered, element_or_number, elements_lowered, field_or_other, fields_lowered, filled_array, filled_lowered, names_written, of_type, struct_lowered_in, value_written, with_others, without_others}
-use Rattle.dslx_core.specs.Lowering.Correspondence.{HasPlainValue, KeepsValue, MeansAsLowered, StandsAtPlace, env_at}
+use Rattle.dslx_core.specs.Lowering.Lowering.{LoweredExpr, cores_of, lower_field, field_index, lowered, lower_number, types_of_lowered}
+use Rattle.dslx_core.specs.Lowering.Patterns.{ExprLowering}
+use Rattle.dslx_core.specs.Lowering.Trees.{FieldLowering, lower_array, element_or_number, lower_array_elements, field_or_other, lower_fields, filled_array, lower_filled, names_written, of_type, lower_struct_in, value_written, with_others, without_others}
+use Rattle.dslx_core.specs.Lowering.Correspondence.{HasPlainValue, KeepsValue, LowerPreserves, SimulatesInScope, env_at}
 use Rattle.dslx_core.proofs.OnLowering.Kept.{from_both, from_then, from_where, kept_as, value_as}
 use Rattle.dslx_core.proofs.OnLowering.Lists.{AllHave, EachKeeps, EachThere, all_have, all_of, all_values, each_there}
 use Rattle.dslx_core.proofs.OnLowering.OfCalls.{array_of_elements}
 use Rattle.dslx_core.proofs.OnLowering.OfDots.{filled_kept}
-use Rattle.dslx_core.proofs.OnLowering.OfNames.{known_keeps, number_own}
+use Rattle.dslx_core.proofs.OnLowering.OfNames.{globals_keep, number_own}
 use Rattle.dslx_core.proofs.OnLowering.OfParts.{field_kept}
 use Rattle.dslx_core.proofs.OnLowering.OneType.{one_by_test}
 use Rattle.dslx_core.proofs.OnLowering.Openings.{core_array, core_bind, core_slot, core_tuple, plain_array, plain_struct, shape_bound}
-use Rattle.dslx_core.proofs.OnLowering.Slots.{at_end, unnamed_stands}
+use Rattle.dslx_core.proofs.OnLowering.Slots.{at_end, unnamed_simulates}
 
 -- ---- arrays
 
@@ -75,16 +75,16 @@ array_kept calls bound t e es vs h typed = record {
 }
 
 -- without a type
-pub untyped_keeps : (calls : Functions) (bound : Bindings) (es : List (Option Bare × Option LoweredExpr)) (os : List (Option DslxValue)) (dots : Bool)
-    → EachKeeps calls bound (map (λ (e : Option Bare × Option LoweredExpr). e.1) es) os → (count : ℕ) → KeepsValue calls bound (array_lowered count None es dots) (and_then (all_some os) (λ vs. Some (value.Array vs)))
+pub untyped_keeps : (calls : Functions) (bound : Bindings) (es : List (Option UntypedLiteral × Option LoweredExpr)) (os : List (Option DslxValue)) (dots : Bool)
+    → EachKeeps calls bound (map (λ (e : Option UntypedLiteral × Option LoweredExpr). e.1) es) os → (count : ℕ) → KeepsValue calls bound (lower_array count None es dots) (and_then (all_some os) (λ vs. Some (value.Array vs)))
 untyped_keeps calls bound es os true h count e k r g = none_some e k
 untyped_keeps calls bound es os false h count e k r g =
-    let cs = from_then (all_some (map (λ (e : Option Bare × Option LoweredExpr). e.1) es)) elements_lowered e k in
+    let cs = from_then (all_some (map (λ (e : Option UntypedLiteral × Option LoweredExpr). e.1) es)) lower_array_elements e k in
     let vs = from_then (all_some os) (λ vs. Some (value.Array vs)) r g in
     value_as calls bound e (value.Array vs.0) r vs.2
-    (by_elements cs.0 vs.0 (all_have calls bound (map (λ (e : Option Bare × Option LoweredExpr). e.1) es) os cs.0 vs.0 h cs.1 vs.1) cs.2)
+    (by_elements cs.0 vs.0 (all_have calls bound (map (λ (e : Option UntypedLiteral × Option LoweredExpr). e.1) es) os cs.0 vs.0 h cs.1 vs.1) cs.2)
   where
-    by_elements : (cs : List LoweredExpr) (vs : List DslxValue) → AllHave calls bound cs vs → elements_lowered cs ≡ Some e → HasPlainValue e calls bound (value.Array vs)
+    by_elements : (cs : List LoweredExpr) (vs : List DslxValue) → AllHave calls bound cs vs → lower_array_elements cs ≡ Some e → HasPlainValue e calls bound (value.Array vs)
     by_elements [] vs have low = none_some e low
     by_elements (c ∷ cs) vs have low =
         let q = from_where (list_all (λ (d : LoweredExpr). equal_type c.ty d.ty) cs) (lowered (core.Array (cores_of (c ∷ cs))) (ty.Array c.ty (suc (length cs)))) e low in
@@ -92,7 +92,7 @@ untyped_keeps calls bound es os false h count e k r g =
         (array_kept calls bound c.ty c cs vs have (refl, typed_alike c.ty cs q.0))
 
 -- an element, by the number that it may be
-abbrev pub element_by : DslxType → Option Bare → Option DslxValue → Option DslxValue
+abbrev pub element_by : DslxType → Option UntypedLiteral → Option DslxValue → Option DslxValue
 element_by t None o = o
 element_by t (Some number) o = number_value t number
 
@@ -102,52 +102,52 @@ of_its_type t l e h =
     let q = from_where (equal_type t a.0.ty) (Some a.0) e a.2 in
     (a.1 ∙ q.1, one_by_test t a.0.ty q.0 ∙ ap (λ (x : LoweredExpr). x.ty) (same_some a.0 e q.1))
 
-element_keeps_type : (calls : Functions) (bound : Bindings) (t : DslxType) (bare : Option Bare) (l : Option LoweredExpr) (o : Option DslxValue) → KeepsValue calls bound l o
+element_keeps_type : (calls : Functions) (bound : Bindings) (t : DslxType) (bare : Option UntypedLiteral) (l : Option LoweredExpr) (o : Option DslxValue) → KeepsValue calls bound l o
     → KeepsValue calls bound (element_or_number t bare l) (element_by t bare o)
 element_keeps_type calls bound t None l o h e k = h e (of_its_type t l e k).0
 element_keeps_type calls bound t (Some number) l o h e k =
-    known_keeps calls bound (number_value t number) (number_own t number) e (of_its_type t (number_lowered (Some t) number) e k).0
+    globals_keep calls bound (number_value t number) (number_own t number) e (of_its_type t (lower_number (Some t) number) e k).0
 
-abbrev pub lower_elements : DslxType → List (Option Bare × Option LoweredExpr) → List (Option LoweredExpr)
-lower_elements t es = map (λ (e : Option Bare × Option LoweredExpr). element_or_number t e.0 e.1) es
+abbrev pub lower_elements : DslxType → List (Option UntypedLiteral × Option LoweredExpr) → List (Option LoweredExpr)
+lower_elements t es = map (λ (e : Option UntypedLiteral × Option LoweredExpr). element_or_number t e.0 e.1) es
 
-abbrev pub mean_elements : DslxType → List (Option Bare × Option LoweredExpr) → List (Option DslxValue) → List (Option DslxValue)
+abbrev pub mean_elements : DslxType → List (Option UntypedLiteral × Option LoweredExpr) → List (Option DslxValue) → List (Option DslxValue)
 mean_elements t [] os = []
 mean_elements t (e ∷ es) [] = []
 mean_elements t (e ∷ es) (o ∷ os) = element_by t e.0 o ∷ mean_elements t es os
 
-each_keeps_type : (calls : Functions) (bound : Bindings) (t : DslxType) (es : List (Option Bare × Option LoweredExpr)) (os : List (Option DslxValue))
-    → EachKeeps calls bound (map (λ (e : Option Bare × Option LoweredExpr). e.1) es) os → EachKeeps calls bound (lower_elements t es) (mean_elements t es os)
+each_keeps_type : (calls : Functions) (bound : Bindings) (t : DslxType) (es : List (Option UntypedLiteral × Option LoweredExpr)) (os : List (Option DslxValue))
+    → EachKeeps calls bound (map (λ (e : Option UntypedLiteral × Option LoweredExpr). e.1) es) os → EachKeeps calls bound (lower_elements t es) (mean_elements t es os)
 each_keeps_type calls bound t [] [] h = tt
 each_keeps_type calls bound t [] (o ∷ os) h = absurd h
 each_keeps_type calls bound t (e ∷ es) [] h = absurd h
 each_keeps_type calls bound t (e ∷ es) (o ∷ os) h = (element_keeps_type calls bound t e.0 e.1 o h.0, each_keeps_type calls bound t es os h.1)
 
-each_typed : (t : DslxType) (es : List (Option Bare × Option LoweredExpr)) (cs : List LoweredExpr) → EachThere (lower_elements t es) cs → AllTyped t cs
+each_typed : (t : DslxType) (es : List (Option UntypedLiteral × Option LoweredExpr)) (cs : List LoweredExpr) → EachThere (lower_elements t es) cs → AllTyped t cs
 each_typed t [] [] h = tt
 each_typed t [] (c ∷ cs) h = absurd h
 each_typed t (e ∷ es) [] h = absurd h
-each_typed t (e ∷ es) (c ∷ cs) h = (by_bare e.0 h.0, each_typed t es cs h.1)
+each_typed t (e ∷ es) (c ∷ cs) h = (by_untyped e.0 h.0, each_typed t es cs h.1)
   where
-    by_bare : (bare : Option Bare) → element_or_number t bare e.1 ≡ Some c → t ≡ c.ty
-    by_bare None k = (of_its_type t e.1 c k).1
-    by_bare (Some number) k = (of_its_type t (number_lowered (Some t) number) c k).1
+    by_untyped : (bare : Option UntypedLiteral) → element_or_number t bare e.1 ≡ Some c → t ≡ c.ty
+    by_untyped None k = (of_its_type t e.1 c k).1
+    by_untyped (Some number) k = (of_its_type t (lower_number (Some t) number) c k).1
 
 from_map : {A B : Type 0} (f : A → B) (o : Option A) (b : B) → option_map f o ≡ Some b → (a : A) × (o ≡ Some a) × (f a ≡ b)
 from_map f None b e = none_some b e
 from_map f (Some a) b e = (a, refl, same_some (f a) b e)
 
 -- with a type
-pub typed_keeps : (calls : Functions) (bound : Bindings) (lt ot : Option DslxType) → ((t : DslxType) → lt ≡ Some t → ot ≡ Some t) → (es : List (Option Bare × Option LoweredExpr)) (os : List (Option DslxValue)) (dots : Bool)
+pub typed_keeps : (calls : Functions) (bound : Bindings) (lt ot : Option DslxType) → ((t : DslxType) → lt ≡ Some t → ot ≡ Some t) → (es : List (Option UntypedLiteral × Option LoweredExpr)) (os : List (Option DslxValue)) (dots : Bool)
     → (at : DslxType-F DslxType → Option DslxValue) → ((t : DslxType) (n : ℕ) → at (DslxType-F.Array t n) ≡ and_then (all_some (mean_elements t es os)) (filled dots n))
-    → EachKeeps calls bound (map (λ (e : Option Bare × Option LoweredExpr). e.1) es) os → (count : ℕ) → length bound ≡ count → KeepsValue calls bound (array_lowered count (Some lt) es dots) (and_then ot (λ t. at (out-DslxType t)))
+    → EachKeeps calls bound (map (λ (e : Option UntypedLiteral × Option LoweredExpr). e.1) es) os → (count : ℕ) → length bound ≡ count → KeepsValue calls bound (lower_array count (Some lt) es dots) (and_then ot (λ t. at (out-DslxType t)))
 typed_keeps calls bound lt ot means es os dots at is h count is_count e k r g =
-    let p = from_then (and_then lt array_in) (λ parts. and_then (all_some (lower_elements parts.0 es)) (filled_lowered count parts.0 dots parts.1)) e k in
+    let p = from_then (and_then lt array_in) (λ parts. and_then (all_some (lower_elements parts.0 es)) (lower_filled count parts.0 dots parts.1)) e k in
     let t = from_then lt array_in p.0 p.1 in
-    let cs = from_then (all_some (lower_elements p.0.0 es)) (filled_lowered count p.0.0 dots p.0.1) e p.2 in
+    let cs = from_then (all_some (lower_elements p.0.0 es)) (lower_filled count p.0.0 dots p.0.1) e p.2 in
     by_level t.0 p.0 cs.0 cs.1 cs.2 (sym (ap (λ o. and_then o (λ t. at (out-DslxType t))) (means t.0 t.1)) ∙ g) (out-DslxType t.0) refl t.2
   where
-    filled_keeps : (t : DslxType) (n : ℕ) (dots : Bool) (cs : List LoweredExpr) (vs : List DslxValue) → AllHave calls bound cs vs → AllTyped t cs → filled_lowered count t dots n cs ≡ Some e → filled dots n vs ≡ Some r
+    filled_keeps : (t : DslxType) (n : ℕ) (dots : Bool) (cs : List LoweredExpr) (vs : List DslxValue) → AllHave calls bound cs vs → AllTyped t cs → lower_filled count t dots n cs ≡ Some e → filled dots n vs ≡ Some r
         → HasPlainValue e calls bound r
     filled_keeps t n dots [] vs have typed low source = none_some e low
     filled_keeps t n true (c ∷ cs) [] have typed low source = absurd have
@@ -166,14 +166,14 @@ typed_keeps calls bound lt ot means es os dots at is h count is_count e k r g =
         (subst (λ m. HasPlainValue (record { core = core.Array (cores_of (c ∷ cs)); ty = ty.Array t m }) calls bound (value.Array vs)) ((Decides-eqb (suc (length cs)) n).0 q.0)
         (array_kept calls bound t c cs vs have typed)))
 
-    by_level : (t : DslxType) (p : DslxType × ℕ) (cs : List LoweredExpr) → all_some (lower_elements p.0 es) ≡ Some cs → filled_lowered count p.0 dots p.1 cs ≡ Some e → at (out-DslxType t) ≡ Some r
+    by_level : (t : DslxType) (p : DslxType × ℕ) (cs : List LoweredExpr) → all_some (lower_elements p.0 es) ≡ Some cs → lower_filled count p.0 dots p.1 cs ≡ Some e → at (out-DslxType t) ≡ Some r
         → (l : DslxType-F DslxType) → out-DslxType t ≡ l → array_parts l ≡ Some p → HasPlainValue e calls bound r
     by_level t p cs there low source (DslxType-F.Array u n) q k =
         let same : (u, n) ≡ p = same_some (u, n) p k in
         let vs = from_then (all_some (mean_elements u es os)) (filled dots n) r (sym (is u n) ∙ ap at (sym q) ∙ source) in
         let there' = ap (λ (x : DslxType × ℕ). all_some (lower_elements x.0 es)) same ∙ there in
         filled_keeps u n dots cs vs.0 (all_have calls bound (lower_elements u es) (mean_elements u es os) cs vs.0 (each_keeps_type calls bound u es os h) there' vs.1)
-        (each_typed u es cs (each_there (lower_elements u es) cs there')) (ap (λ (x : DslxType × ℕ). filled_lowered count x.0 dots x.1 cs) same ∙ low) vs.2
+        (each_typed u es cs (each_there (lower_elements u es) cs there')) (ap (λ (x : DslxType × ℕ). lower_filled count x.0 dots x.1 cs) same ∙ low) vs.2
     by_level t p cs there low source (DslxType-F.Tuple x) q k = none_some p k
     by_level t p cs there low source (DslxType-F.Bits x y) q k = none_some p k
     by_level t p cs there low source (DslxType-F.Struct x y z) q k = none_some p k
@@ -182,22 +182,22 @@ typed_keeps calls bound lt ot means es os dots at is h count is_count e k r g =
 
 -- ---- structs
 
-pub record FieldMeansAsLowered (f : LowersField) (m : FieldMeant) : Type 0 where
+pub record FieldLowerPreserves (f : FieldLowering) (m : FieldDen) : Type 0 where
   pub name : f.name ≡ m.name
-  pub value : MeansAsLowered f.value m.value
+  pub value : LowerPreserves f.value m.value
 
-abbrev pub EachFieldMeans : List LowersField → List FieldMeant → Type 0
+abbrev pub EachFieldMeans : List FieldLowering → List FieldDen → Type 0
 EachFieldMeans [] [] = Unit {0}
-EachFieldMeans (f ∷ fs) (m ∷ ms) = FieldMeansAsLowered f m × EachFieldMeans fs ms
+EachFieldMeans (f ∷ fs) (m ∷ ms) = FieldLowerPreserves f m × EachFieldMeans fs ms
 EachFieldMeans [] (m ∷ ms) = ⊥
 EachFieldMeans (f ∷ fs) [] = ⊥
 
 -- a field is written in both, or in neither
-data IsWritten (o : Option Lowers) (p : Option Evaluates) : Type 0 where
-  Written : (l : Lowers) (m : Evaluates) → o ≡ Some l → p ≡ Some m → MeansAsLowered l m → IsWritten o p
+data IsWritten (o : Option ExprLowering) (p : Option ValueDen) : Type 0 where
+  Written : (l : ExprLowering) (m : ValueDen) → o ≡ Some l → p ≡ Some m → LowerPreserves l m → IsWritten o p
   Unwritten : o ≡ None → p ≡ None → IsWritten o p
 
-is_written : (field : List ℕ) (fs : List LowersField) (ms : List FieldMeant) → EachFieldMeans fs ms → IsWritten (value_written field fs) (field_written field ms)
+is_written : (field : List ℕ) (fs : List FieldLowering) (ms : List FieldDen) → EachFieldMeans fs ms → IsWritten (value_written field fs) (field_written field ms)
 is_written field [] [] h = Unwritten refl refl
 is_written field [] (m ∷ ms) h = absurd h
 is_written field (f ∷ fs) [] h = absurd h
@@ -210,12 +210,12 @@ is_written field (f ∷ fs) (m ∷ ms) h =
     by_test true rest = Written f.value m.value refl refl h.0.value
     by_test false rest = rest
 
-field_keeps_value : (place : CorePlace) (calls : Functions) (given : List Given) (bound : Bindings) → StandsAtPlace place calls given bound → (fs : List LowersField) (ms : List FieldMeant) → EachFieldMeans fs ms
-    → (others : Option LoweredExpr) (rest : Option DslxValue) → ((field : List ℕ) → KeepsValue calls bound (field_lowered others field) (field_from field rest)) → (field : List ℕ)
+field_keeps_value : (place : CoreScope) (calls : Functions) (given : List Given) (bound : Bindings) → SimulatesInScope place calls given bound → (fs : List FieldLowering) (ms : List FieldDen) → EachFieldMeans fs ms
+    → (others : Option LoweredExpr) (rest : Option DslxValue) → ((field : List ℕ) → KeepsValue calls bound (lower_field others field) (field_from field rest)) → (field : List ℕ)
     → KeepsValue calls bound (field_or_other place others field (value_written field fs)) (field_given (env_at place given) rest field (field_written field ms))
 field_keeps_value place calls given bound at fs ms h others rest from field = by_written (value_written field fs) (field_written field ms) (is_written field fs ms h)
   where
-    by_written : (o : Option Lowers) (p : Option Evaluates) → IsWritten o p → KeepsValue calls bound (field_or_other place others field o) (field_given (env_at place given) rest field p)
+    by_written : (o : Option ExprLowering) (p : Option ValueDen) → IsWritten o p → KeepsValue calls bound (field_or_other place others field o) (field_given (env_at place given) rest field p)
     by_written o p (Written l m lo po means) e k v g =
         means place calls given bound at e (sym (ap (field_or_other place others field) lo) ∙ k) v (sym (ap (field_given (env_at place given) rest field) po) ∙ g)
     by_written o p (Unwritten lo po) e k v g =
@@ -226,9 +226,9 @@ record FieldsHave (calls : Functions) (bound : Bindings) (es : List LoweredExpr)
   pub have : AllHave calls bound es vs
   pub typed : types_of_lowered es ≡ ts
 
-fields_have : (place : CorePlace) (calls : Functions) (given : List Given) (bound : Bindings) → StandsAtPlace place calls given bound → (fs : List LowersField) (ms : List FieldMeant) → EachFieldMeans fs ms
-    → (others : Option LoweredExpr) (rest : Option DslxValue) → ((field : List ℕ) → KeepsValue calls bound (field_lowered others field) (field_from field rest))
-    → (fields : List (List ℕ)) (ts : List DslxType) (es : List LoweredExpr) (vs : List DslxValue) → fields_lowered place fs others fields ts ≡ Some es
+fields_have : (place : CoreScope) (calls : Functions) (given : List Given) (bound : Bindings) → SimulatesInScope place calls given bound → (fs : List FieldLowering) (ms : List FieldDen) → EachFieldMeans fs ms
+    → (others : Option LoweredExpr) (rest : Option DslxValue) → ((field : List ℕ) → KeepsValue calls bound (lower_field others field) (field_from field rest))
+    → (fields : List (List ℕ)) (ts : List DslxType) (es : List LoweredExpr) (vs : List DslxValue) → lower_fields place fs others fields ts ≡ Some es
     → EachThere (map (λ field. field_given (env_at place given) rest field (field_written field ms)) fields) vs → FieldsHave calls bound es ts vs
 fields_have place calls given bound at fs ms h others rest from [] (t ∷ ts) es vs k there = none_some es k
 fields_have place calls given bound at fs ms h others rest from (field ∷ fields) [] es vs k there = none_some es k
@@ -236,7 +236,7 @@ fields_have place calls given bound at fs ms h others rest from [] [] es (v ∷ 
 fields_have place calls given bound at fs ms h others rest from [] [] es [] k there = subst (λ x. FieldsHave calls bound x [] []) (same_some [] es k) (record { have = tt; typed = refl })
 fields_have place calls given bound at fs ms h others rest from (field ∷ fields) (t ∷ ts) es [] k there = absurd there
 fields_have place calls given bound at fs ms h others rest from (field ∷ fields) (t ∷ ts) es (v ∷ vs) k there =
-    let q = from_both (of_type t (field_or_other place others field (value_written field fs))) (fields_lowered place fs others fields ts) (λ e es. Some (e ∷ es)) es k in
+    let q = from_both (of_type t (field_or_other place others field (value_written field fs))) (lower_fields place fs others fields ts) (λ e es. Some (e ∷ es)) es k in
     let c = of_its_type t (field_or_other place others field (value_written field fs)) q.0 q.2 in
     let more = fields_have place calls given bound at fs ms h others rest from fields ts q.1 vs q.3 there.1 in
     subst (λ x. FieldsHave calls bound x (t ∷ ts) (v ∷ vs)) (same_some (q.0 ∷ q.1) es q.4)
@@ -261,11 +261,11 @@ struct_kept calls bound name fields ts es vs h = record {
 }
 
 -- without a value that gives the others
-without_keeps : (place : CorePlace) (calls : Functions) (given : List Given) (bound : Bindings) → StandsAtPlace place calls given bound → (fs : List LowersField) (ms : List FieldMeant) → EachFieldMeans fs ms
+without_keeps : (place : CoreScope) (calls : Functions) (given : List Given) (bound : Bindings) → SimulatesInScope place calls given bound → (fs : List FieldLowering) (ms : List FieldDen) → EachFieldMeans fs ms
     → (rest : Option DslxValue) (name : List ℕ) (fields : List (List ℕ)) (ts : List DslxType)
     → KeepsValue calls bound (without_others place fs (ty.Struct name fields ts) fields ts) (struct_at (env_at place given) ms rest (DslxType-F.Struct name fields ts))
 without_keeps place calls given bound at fs ms h rest name fields ts e k v g =
-    let es = from_then (fields_lowered place fs None fields ts) (λ es. lowered (core.Tuple (cores_of es)) (ty.Struct name fields ts)) e k in
+    let es = from_then (lower_fields place fs None fields ts) (λ es. lowered (core.Tuple (cores_of es)) (ty.Struct name fields ts)) e k in
     let vs = from_then (all_some (map (λ field. field_given (env_at place given) rest field (field_written field ms)) fields)) (λ vs. Some (value.Struct name fields vs)) v g in
     value_as calls bound e (value.Struct name fields vs.0) v vs.2
     (kept_as calls bound (value.Struct name fields vs.0) (record { core = core.Tuple (cores_of es.0); ty = ty.Struct name fields ts }) e es.2
@@ -274,7 +274,7 @@ without_keeps place calls given bound at fs ms h rest name fields ts e k v g =
     (each_there (map (λ field. field_given (env_at place given) rest field (field_written field ms)) fields) vs.0 vs.1))))
 
 -- where a field isn't written there is a value that gives it
-unwritten : (field : List ℕ) (fs : List LowersField) → is_in field (names_written fs) ≡ false → value_written field fs ≡ None
+unwritten : (field : List ℕ) (fs : List FieldLowering) → is_in field (names_written fs) ≡ false → value_written field fs ≡ None
 unwritten field [] e = refl
 unwritten field (f ∷ fs) e = by_name (bytes_eq field f.name) e (unwritten field fs)
   where
@@ -283,13 +283,13 @@ unwritten field (f ∷ fs) e = by_name (bytes_eq field f.name) e (unwritten fiel
     by_name true q rest = absurd (true≢false q)
     by_name false q rest = rest q
 
-rest_there : (env : Env) (fs : List LowersField) (ms : List FieldMeant) → EachFieldMeans fs ms → (rest : Option DslxValue) (fields : List (List ℕ)) (vs : List DslxValue)
+rest_there : (env : Env) (fs : List FieldLowering) (ms : List FieldDen) → EachFieldMeans fs ms → (rest : Option DslxValue) (fields : List (List ℕ)) (vs : List DslxValue)
     → list_all (λ field. is_in field (names_written fs)) fields ≡ false → EachThere (map (λ field. field_given env rest field (field_written field ms)) fields) vs → (r : DslxValue) × (rest ≡ Some r)
 rest_there env fs ms h rest [] vs e there = absurd (true≢false e)
 rest_there env fs ms h rest (field ∷ fields) [] e there = absurd there
 rest_there env fs ms h rest (field ∷ fields) (v ∷ vs) e there = by_test (is_in field (names_written fs)) refl e (λ k. rest_there env fs ms h rest fields vs k there.1)
   where
-    given_by : (o : Option Lowers) (p : Option Evaluates) → IsWritten o p → o ≡ None → field_given env rest field p ≡ Some v → (r : DslxValue) × (rest ≡ Some r)
+    given_by : (o : Option ExprLowering) (p : Option ValueDen) → IsWritten o p → o ≡ None → field_given env rest field p ≡ Some v → (r : DslxValue) × (rest ≡ Some r)
     given_by o p (Written l m lo po means) q k = none_some l (sym q ∙ lo)
     given_by o p (Unwritten lo po) q k =
         let r = from_then rest (λ v. field_of v field) v (sym (ap (field_given env rest field) po) ∙ k) in
@@ -301,12 +301,12 @@ rest_there env fs ms h rest (field ∷ fields) (v ∷ vs) e there = by_test (is_
     by_test false q k more = given_by (value_written field fs) (field_written field ms) (is_written field fs ms h) (unwritten field fs q) there.0
 
 -- with one
-with_keeps : (place : CorePlace) (calls : Functions) (given : List Given) (bound : Bindings) → StandsAtPlace place calls given bound → (fs : List LowersField) (ms : List FieldMeant) → EachFieldMeans fs ms
+with_keeps : (place : CoreScope) (calls : Functions) (given : List Given) (bound : Bindings) → SimulatesInScope place calls given bound → (fs : List FieldLowering) (ms : List FieldDen) → EachFieldMeans fs ms
     → (l : LoweredExpr) (rest : Option DslxValue) → KeepsValue calls bound (Some l) rest → (name : List ℕ) (fields : List (List ℕ)) (ts : List DslxType)
     → list_all (λ field. is_in field (names_written fs)) fields ≡ false
     → KeepsValue calls bound (with_others place l fs (ty.Struct name fields ts) fields ts) (struct_at (env_at place given) ms rest (DslxType-F.Struct name fields ts))
 with_keeps place calls given bound at fs ms h l rest keeps name fields ts some e k v g =
-    let es = from_then (fields_lowered (with_unnamed place) fs (lowered (core.Slot place.count) l.ty) fields ts) (λ es. lowered (core.Bind l.core shape.Bound (core.Tuple (cores_of es))) (ty.Struct name fields ts)) e k in
+    let es = from_then (lower_fields (with_unnamed place) fs (lowered (core.Slot place.count) l.ty) fields ts) (λ es. lowered (core.Bind l.core shape.Bound (core.Tuple (cores_of es))) (ty.Struct name fields ts)) e k in
     let vs = from_then (all_some (map (λ field. field_given (env_at place given) rest field (field_written field ms)) fields)) (λ vs. Some (value.Struct name fields vs)) v g in
     let there = each_there (map (λ field. field_given (env_at place given) rest field (field_written field ms)) fields) vs.0 vs.1 in
     let r = rest_there (env_at place given) fs ms h rest fields vs.0 some there in
@@ -316,7 +316,7 @@ with_keeps place calls given bound at fs ms h l rest keeps name fields ts some e
       of = has.of;
       core = ap (λ f. f calls more) (core_slot place.count) ∙ ap (slice_get more) (sym at.count) ∙ at_end bound (plain_value r.0);
     } in
-    let inner = fields_have (with_unnamed place) calls given more (unnamed_stands place calls given bound (plain_value r.0) at) fs ms h (lowered (core.Slot place.count) l.ty) rest (from_slot r.0 r.1 more slot) fields ts es.0 vs.0 es.1 there in
+    let inner = fields_have (with_unnamed place) calls given more (unnamed_simulates place calls given bound (plain_value r.0) at) fs ms h (lowered (core.Slot place.count) l.ty) rest (from_slot r.0 r.1 more slot) fields ts es.0 vs.0 es.1 there in
     let struct = struct_kept calls more name fields ts es.0 vs.0 inner in
     value_as calls bound e (value.Struct name fields vs.0) v vs.2
     (kept_as calls bound (value.Struct name fields vs.0) (record { core = core.Bind l.core shape.Bound (core.Tuple (cores_of es.0)); ty = ty.Struct name fields ts }) e es.2
@@ -330,19 +330,19 @@ with_keeps place calls given bound at fs ms h l rest keeps name fields ts some e
     }))
   where
     from_slot : (r : DslxValue) → rest ≡ Some r → (more : Bindings) → HasPlainValue (record { core = core.Slot place.count; ty = l.ty }) calls more r
-        → (field : List ℕ) → KeepsValue calls more (field_lowered (lowered (core.Slot place.count) l.ty) field) (field_from field rest)
+        → (field : List ℕ) → KeepsValue calls more (lower_field (lowered (core.Slot place.count) l.ty) field) (field_from field rest)
     from_slot r er more slot field c q w f =
-        let p = from_then (field_place field (out-DslxType l.ty)) (λ p. lowered (core.Element (core.Slot place.count) p.0) p.1) c q in
+        let p = from_then (field_index field (out-DslxType l.ty)) (λ p. lowered (core.Element (core.Slot place.count) p.0) p.1) c q in
         kept_as calls more w (record { core = core.Element (core.Slot place.count) p.0.0; ty = p.0.1 }) c p.2
         (field_kept calls more (record { core = core.Slot place.count; ty = l.ty }) r field p.0 w slot p.1 (sym (ap (field_from field) er) ∙ f))
 
-abbrev pub OthersMean : Option Lowers → Evaluates → Type 0
+abbrev pub OthersMean : Option ExprLowering → ValueDen → Type 0
 OthersMean None m = Unit {0}
-OthersMean (Some l) m = MeansAsLowered l m
+OthersMean (Some l) m = LowerPreserves l m
 
-pub struct_keeps : (place : CorePlace) (calls : Functions) (given : List Given) (bound : Bindings) → StandsAtPlace place calls given bound → (fs : List LowersField) (ms : List FieldMeant) → EachFieldMeans fs ms
-    → (others : Option Lowers) (rest : Evaluates) → OthersMean others rest → (t : DslxType-F DslxType)
-    → KeepsValue calls bound (struct_lowered_in place fs others t) (struct_at (env_at place given) ms (rest (env_at place given)) t)
+pub struct_keeps : (place : CoreScope) (calls : Functions) (given : List Given) (bound : Bindings) → SimulatesInScope place calls given bound → (fs : List FieldLowering) (ms : List FieldDen) → EachFieldMeans fs ms
+    → (others : Option ExprLowering) (rest : ValueDen) → OthersMean others rest → (t : DslxType-F DslxType)
+    → KeepsValue calls bound (lower_struct_in place fs others t) (struct_at (env_at place given) ms (rest (env_at place given)) t)
 struct_keeps place calls given bound at fs ms h None rest means (DslxType-F.Struct name fields ts) e k v g = without_keeps place calls given bound at fs ms h (rest (env_at place given)) name fields ts e k v g
 struct_keeps place calls given bound at fs ms h (Some l) rest means (DslxType-F.Struct name fields ts) e k v g = by_test (list_all (λ field. is_in field (names_written fs)) fields) refl k
   where

@@ -19,7 +19,7 @@ use Rattle.dslx_typing.specs.Typed.Kinds.{is_of, lies_in}
 use Rattle.dslx_typing.proofs.Lemmas.Typed.{none_some, same_some}
 use Rattle.dslx_core.specs.CoreValues.{Bindings, Functions, binary_words, bits_like, core_value, is_like, one_bit, word_in}
 use Rattle.dslx_core.specs.declared.expr.CoreExpr as core
-use Rattle.dslx_core.specs.Lowering.Lowering.{LoweredExpr, binary_core, binary_lowered, fits_operands, lowered, result_of_binary, sign_of}
+use Rattle.dslx_core.specs.Lowering.Lowering.{LoweredExpr, binary_core, lower_binary, fits_operands, lowered, result_of_binary, sign_of}
 use Rattle.dslx_core.specs.Lowering.Correspondence.{HasPlainValue, KeepsValue}
 use Rattle.dslx_core.proofs.OnLowering.Kept.{bits_kept, both_there, from_both, from_where, kept_as, word_there}
 use Rattle.dslx_core.proofs.OnLowering.Likes.{alike_by_type, like_bits, words_either_way}
@@ -81,7 +81,7 @@ enum_keeps calls bound _ l r v w u x y lh rh bx by fits e = none_some u e
 -- ---- the operators
 
 pub binary_keeps : (calls : Functions) (bound : Bindings) (op : Binary) (l r : Option LoweredExpr) (x y : Option DslxValue) → KeepsValue calls bound l x → KeepsValue calls bound r y
-    → KeepsValue calls bound (binary_lowered op l r) (with_both x y (binary_value op))
+    → KeepsValue calls bound (lower_binary op l r) (with_both x y (binary_value op))
 binary_keeps calls bound op l r x y kl kr e h u g =
     let a = from_both l r (λ l r. where_true (fits_operands op l.ty r.ty) (lowered (core.Binary (binary_core op (sign_of l.ty)) l.core r.core) (result_of_binary op l.ty r.ty))) e h in
     let w = from_where (fits_operands op a.0.ty a.1.ty) (lowered (core.Binary (binary_core op (sign_of a.0.ty)) a.0.core a.1.core) (result_of_binary op a.0.ty a.1.ty)) e a.4 in

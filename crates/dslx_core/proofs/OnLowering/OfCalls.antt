@@ -13,7 +13,7 @@ use Rattle.dslx_meaning.specs.Types.{bool_type}
 use Rattle.dslx_meaning.specs.Values.{bits_of, items_of, plain_value, unsigned_of}
 use Rattle.dslx_meaning.specs.Operators.{counted, reduced, update_value, updated}
 use Rattle.dslx_meaning.specs.Environment.{Given}
-use Rattle.dslx_meaning.specs.Meaning.{call_meant}
+use Rattle.dslx_meaning.specs.Meaning.{call_den}
 use Rattle.dslx_meaning.specs.declared.ty.DslxType.{DslxType}
 use Rattle.dslx_meaning.specs.declared.ty.DslxType as ty
 use Rattle.dslx_meaning.specs.declared.value.DslxValue.{DslxValue, out-DslxValue}
@@ -30,10 +30,10 @@ use Rattle.dslx_core.specs.CoreValues.{Bindings, Functions, core_value, unary_wo
 use Rattle.dslx_core.specs.declared.expr.CoreUnary.{CoreUnary}
 use Rattle.dslx_core.specs.declared.expr.CoreUnary.TheVariants as u
 use Rattle.dslx_core.specs.declared.expr.CoreExpr as core
-use Rattle.dslx_core.specs.Lowering.CorePlaces.{CorePlace}
+use Rattle.dslx_core.specs.Lowering.CoreScopes.{CoreScope}
 use Rattle.dslx_core.specs.Lowering.EqualTypes.{equal_type}
-use Rattle.dslx_core.specs.Lowering.Lowering.{LoweredExpr, call_lowered, cores_of, counted_lowered, function_lowered, lowered, reduced_lowered, types_of_lowered, updated_lowered}
-use Rattle.dslx_core.specs.Lowering.Correspondence.{HasPlainValue, KeepsValue, StandsAtPlace, env_at}
+use Rattle.dslx_core.specs.Lowering.Lowering.{LoweredExpr, lower_call, cores_of, lower_counted, lower_function, lowered, lower_reduced, types_of_lowered, lower_updated}
+use Rattle.dslx_core.specs.Lowering.Correspondence.{HasPlainValue, KeepsValue, SimulatesInScope, env_at}
 use Rattle.dslx_core.proofs.OnLowering.Kept.{bits_kept, both_there, from_both, from_then, from_where, kept_as, operand, operand_word, value_as}
 use Rattle.dslx_core.proofs.OnLowering.Lists.{EachGivesSame, EachKeeps, EachThere, all_have, all_of, all_same, all_values, each_there}
 use Rattle.dslx_core.proofs.OnLowering.OfParts.{amount_there, array_is, elements_there, length_kept}
@@ -60,7 +60,7 @@ one_keeps calls bound o s typed f l c keeps same is low e h r g =
 
 -- the values of a list of one, or of another list
 counted_keeps : (calls : Functions) (bound : Bindings) (o : CoreUnary) (f : Word → Word) (ls : List (Option LoweredExpr)) (os : List (Option DslxValue)) (vs : List DslxValue) → EachKeeps calls bound ls os
-    → ((x : Word) → unary_word o x ≡ f x) → ((x : Word) → x.width ≡ (f x).width) → ((x : Word) → lies_in (f x) ≡ true) → EachThere os vs → KeepsValue calls bound (counted_lowered o ls) (counted f vs)
+    → ((x : Word) → unary_word o x ≡ f x) → ((x : Word) → x.width ≡ (f x).width) → ((x : Word) → lies_in (f x) ≡ true) → EachThere os vs → KeepsValue calls bound (lower_counted o ls) (counted f vs)
 counted_keeps calls bound o f [] os vs h same is low there e k r g = none_some e k
 counted_keeps calls bound o f (l ∷ m ∷ ls) os vs h same is low there e k r g = none_some e k
 counted_keeps calls bound o f (l ∷ []) [] vs h same is low there e k r g = absurd h
@@ -71,7 +71,7 @@ counted_keeps calls bound o f (l ∷ []) (c ∷ []) (v ∷ []) h same is low the
     one_keeps calls bound o (λ s. s) (λ t. t) f l c h.0 same (λ x. ap (ty.Bits x.signed) (is x.word)) low e k r (ap (λ o. and_then o (λ v. and_then (bits_of v) (λ x. Some (value.Bits x.signed (f x.word))))) there.0 ∙ g)
 
 reduced_keeps : (calls : Functions) (bound : Bindings) (o : CoreUnary) (f : Word → Word) (ls : List (Option LoweredExpr)) (os : List (Option DslxValue)) (vs : List DslxValue) → EachKeeps calls bound ls os
-    → ((x : Word) → unary_word o x ≡ f x) → ((x : Word) → 1 ≡ (f x).width) → ((x : Word) → lies_in (f x) ≡ true) → EachThere os vs → KeepsValue calls bound (reduced_lowered o ls) (reduced f vs)
+    → ((x : Word) → unary_word o x ≡ f x) → ((x : Word) → 1 ≡ (f x).width) → ((x : Word) → lies_in (f x) ≡ true) → EachThere os vs → KeepsValue calls bound (lower_reduced o ls) (reduced f vs)
 reduced_keeps calls bound o f [] os vs h same is low there e k r g = none_some e k
 reduced_keeps calls bound o f (l ∷ m ∷ ls) os vs h same is low there e k r g = none_some e k
 reduced_keeps calls bound o f (l ∷ []) [] vs h same is low there e k r g = absurd h
@@ -123,7 +123,7 @@ changed_all t vs k v all of = by_test (nat_lt k (length vs))
     by_test false = (all, refl)
 
 update_keeps : (calls : Functions) (bound : Bindings) (l li ln : Option LoweredExpr) (o oi on : Option DslxValue) → KeepsValue calls bound l o → KeepsValue calls bound li oi → KeepsValue calls bound ln on
-    → (v i new : DslxValue) → o ≡ Some v → oi ≡ Some i → on ≡ Some new → KeepsValue calls bound (updated_lowered (l ∷ li ∷ ln ∷ [])) (update_value v i new)
+    → (v i new : DslxValue) → o ≡ Some v → oi ≡ Some i → on ≡ Some new → KeepsValue calls bound (lower_updated (l ∷ li ∷ ln ∷ [])) (update_value v i new)
 update_keeps calls bound l li ln o oi on keeps keep_index keep_new v i new ov oi' onew e h r g =
     let c = from_then ln (λ new. with_both l li (λ e i. and_then (array_in e.ty) (λ parts. where_true (equal_type parts.0 new.ty) (lowered (core.Update e.core i.core new.core) e.ty)))) e h in
     let a = from_both l li (λ e i. and_then (array_in e.ty) (λ parts. where_true (equal_type parts.0 c.0.ty) (lowered (core.Update e.core i.core c.0.core) e.ty))) e c.2 in
@@ -148,7 +148,7 @@ update_keeps calls bound l li ln o oi on keeps keep_index keep_new v i new ov oi
     }))
 
 updated_keeps : (calls : Functions) (bound : Bindings) (ls : List (Option LoweredExpr)) (os : List (Option DslxValue)) (vs : List DslxValue) → EachKeeps calls bound ls os → EachThere os vs
-    → KeepsValue calls bound (updated_lowered ls) (updated vs)
+    → KeepsValue calls bound (lower_updated ls) (updated vs)
 updated_keeps calls bound [] os vs h there e k r g = none_some e k
 updated_keeps calls bound (a ∷ []) os vs h there e k r g = none_some e k
 updated_keeps calls bound (a ∷ b ∷ []) os vs h there e k r g = none_some e k
@@ -171,14 +171,14 @@ token_keeps calls bound e h v k =
     (kept_as calls bound value.Token (record { core = core.Tuple []; ty = ty.Token }) e h
     (record { of = of_token value.Token ∙ rw views.outs-Token refl; core = ap (λ f. f calls bound) (core_tuple []) ∙ ap Some (sym plain_token) }))
 
-function_keeps : (place : CorePlace) (calls : Functions) (given : List Given) (bound : Bindings) → StandsAtPlace place calls given bound → (name : List ℕ) (ns ms : List (Option DslxValue)) (numbers : List DslxValue)
-    (ls : List (Option LoweredExpr)) (os : List (Option DslxValue)) (vs : List DslxValue) → EachGivesSame ns ms → all_some ms ≡ Some numbers → EachKeeps calls bound ls os → all_some os ≡ Some vs
-    → KeepsValue calls bound (function_lowered place name ns ls) (place.known.items.call name numbers vs)
-function_keeps place calls given bound at name ns ms numbers ls os vs same number h there e k r g =
-    let a = from_both (all_some ns) (all_some ls) (λ numbers es. and_then (place.known.callee name numbers (types_of_lowered es)) (λ callee. lowered (core.Call callee.number (cores_of es)) callee.result)) e k in
+function_keeps : (place : CoreScope) (calls : Functions) (given : List Given) (bound : Bindings) → SimulatesInScope place calls given bound → (name : List ℕ) (ns ms : List (Option DslxValue)) (parametric_args : List DslxValue)
+    (ls : List (Option LoweredExpr)) (os : List (Option DslxValue)) (vs : List DslxValue) → EachGivesSame ns ms → all_some ms ≡ Some parametric_args → EachKeeps calls bound ls os → all_some os ≡ Some vs
+    → KeepsValue calls bound (lower_function place name ns ls) (place.known.items.call name parametric_args vs)
+function_keeps place calls given bound at name ns ms parametric_args ls os vs same number h there e k r g =
+    let a = from_both (all_some ns) (all_some ls) (λ parametric_args es. and_then (place.known.callee name parametric_args (types_of_lowered es)) (λ callee. lowered (core.Call callee.number (cores_of es)) callee.result)) e k in
     let c = from_then (place.known.callee name a.0 (types_of_lowered a.1)) (λ callee. lowered (core.Call callee.number (cores_of a.1)) callee.result) e a.4 in
     let have = all_have calls bound ls os a.1 vs h a.3 there in
-    let one = same_some numbers a.0 (sym number ∙ all_same ns ms a.0 same a.2) in
+    let one = same_some parametric_args a.0 (sym number ∙ all_same ns ms a.0 same a.2) in
     let stands = at.known.callees name a.0 vs (types_of_lowered a.1) c.0 r c.1 (all_of calls bound a.1 vs have) (ap (λ ns. place.known.items.call name ns vs) (sym one) ∙ g) in
     kept_as calls bound r (record { core = core.Call c.0.number (cores_of a.1); ty = c.0.result }) e c.2
     (record {
@@ -186,25 +186,25 @@ function_keeps place calls given bound at name ns ms numbers ls os vs same numbe
       core = ap (λ f. f calls bound) (core_call c.0.number (cores_of a.1)) ∙ ap (λ o. and_then o (calls c.0.number)) (all_values calls bound a.1 vs have) ∙ stands.1;
     })
 
-pub call_keeps : (place : CorePlace) (calls : Functions) (given : List Given) (bound : Bindings) → StandsAtPlace place calls given bound → (kind : CallKind) (name : List ℕ) (ns ms : List (Option DslxValue))
+pub call_keeps : (place : CoreScope) (calls : Functions) (given : List Given) (bound : Bindings) → SimulatesInScope place calls given bound → (kind : CallKind) (name : List ℕ) (ns ms : List (Option DslxValue))
     (ls : List (Option LoweredExpr)) (os : List (Option DslxValue)) → EachGivesSame ns ms → EachKeeps calls bound ls os
-    → KeepsValue calls bound (call_lowered kind name place ns ls) (with_both (all_some ms) (all_some os) (call_meant kind name (env_at place given)))
+    → KeepsValue calls bound (lower_call kind name place ns ls) (with_both (all_some ms) (all_some os) (call_den kind name (env_at place given)))
 call_keeps place calls given bound at kind name ns ms ls os same h e k r g =
-    let q = from_both (all_some ms) (all_some os) (call_meant kind name (env_at place given)) r g in
+    let q = from_both (all_some ms) (all_some os) (call_den kind name (env_at place given)) r g in
     by_kind kind q.0 q.1 q.2 q.3 k q.4
   where
-    by_kind : (kind : CallKind) (numbers vs : List DslxValue) → all_some ms ≡ Some numbers → all_some os ≡ Some vs → call_lowered kind name place ns ls ≡ Some e
-        → call_meant kind name (env_at place given) numbers vs ≡ Some r → HasPlainValue e calls bound r
-    by_kind Joins numbers vs p q k g = token_keeps calls bound e (from_then (all_some ls) (λ es. lowered (core.Tuple []) ty.Token) e k).2 r g
-    by_kind CountsLeading numbers vs p q k g = counted_keeps calls bound u.Clz op.clz ls os vs h (λ x. refl) (λ x. refl) clz_lies (each_there os vs q) e k r g
-    by_kind CountsTrailing numbers vs p q k g = counted_keeps calls bound u.Ctz op.ctz ls os vs h (λ x. refl) (λ x. refl) ctz_lies (each_there os vs q) e k r g
-    by_kind Reverses numbers vs p q k g = counted_keeps calls bound u.Rev op.rev ls os vs h (λ x. refl) (λ x. refl) rev_lies (each_there os vs q) e k r g
-    by_kind AllOnes numbers vs p q k g = reduced_keeps calls bound u.AndReduce op.and_reduce ls os vs h (λ x. refl) (λ x. refl) and_reduce_lies (each_there os vs q) e k r g
-    by_kind SomeOne numbers vs p q k g = reduced_keeps calls bound u.OrReduce op.or_reduce ls os vs h (λ x. refl) (λ x. refl) or_reduce_lies (each_there os vs q) e k r g
-    by_kind Parity numbers vs p q k g = reduced_keeps calls bound u.XorReduce op.xor_reduce ls os vs h (λ x. refl) (λ x. refl) xor_reduce_lies (each_there os vs q) e k r g
-    by_kind Updates numbers vs p q k g = updated_keeps calls bound ls os vs h (each_there os vs q) e k r g
-    by_kind Calls numbers vs p q k g = function_keeps place calls given bound at name ns ms numbers ls os vs same p h q e k r g
-    by_kind Receives numbers vs p q k g = none_some e k
-    by_kind ReceivesIf numbers vs p q k g = none_some e k
-    by_kind Sends numbers vs p q k g = none_some e k
-    by_kind SendsIf numbers vs p q k g = none_some e k
+    by_kind : (kind : CallKind) (parametric_args vs : List DslxValue) → all_some ms ≡ Some parametric_args → all_some os ≡ Some vs → lower_call kind name place ns ls ≡ Some e
+        → call_den kind name (env_at place given) parametric_args vs ≡ Some r → HasPlainValue e calls bound r
+    by_kind Joins parametric_args vs p q k g = token_keeps calls bound e (from_then (all_some ls) (λ es. lowered (core.Tuple []) ty.Token) e k).2 r g
+    by_kind CountsLeading parametric_args vs p q k g = counted_keeps calls bound u.Clz op.clz ls os vs h (λ x. refl) (λ x. refl) clz_lies (each_there os vs q) e k r g
+    by_kind CountsTrailing parametric_args vs p q k g = counted_keeps calls bound u.Ctz op.ctz ls os vs h (λ x. refl) (λ x. refl) ctz_lies (each_there os vs q) e k r g
+    by_kind Reverses parametric_args vs p q k g = counted_keeps calls bound u.Rev op.rev ls os vs h (λ x. refl) (λ x. refl) rev_lies (each_there os vs q) e k r g
+    by_kind AllOnes parametric_args vs p q k g = reduced_keeps calls bound u.AndReduce op.and_reduce ls os vs h (λ x. refl) (λ x. refl) and_reduce_lies (each_there os vs q) e k r g
+    by_kind SomeOne parametric_args vs p q k g = reduced_keeps calls bound u.OrReduce op.or_reduce ls os vs h (λ x. refl) (λ x. refl) or_reduce_lies (each_there os vs q) e k r g
+    by_kind Parity parametric_args vs p q k g = reduced_keeps calls bound u.XorReduce op.xor_reduce ls os vs h (λ x. refl) (λ x. refl) xor_reduce_lies (each_there os vs q) e k r g
+    by_kind Updates parametric_args vs p q k g = updated_keeps calls bound ls os vs h (each_there os vs q) e k r g
+    by_kind Calls parametric_args vs p q k g = function_keeps place calls given bound at name ns ms parametric_args ls os vs same p h q e k r g
+    by_kind Receives parametric_args vs p q k g = none_some e k
+    by_kind ReceivesIf parametric_args vs p q k g = none_some e k
+    by_kind Sends parametric_args vs p q k g = none_some e k
+    by_kind SendsIf parametric_args vs p q k g = none_some e k

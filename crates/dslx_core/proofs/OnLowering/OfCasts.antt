@@ -25,7 +25,7 @@ use Rattle.dslx_typing.specs.Typed.Kinds.{is_of}
 use Rattle.dslx_typing.proofs.Lemmas.Typed.{base_lies, cast_made, dyn_slice_lies, in_range, none_some, one_type, same_some, slice_lies, typed_level}
 use Rattle.dslx_core.specs.CoreValues.{Bindings, Functions, core_value, is_signed_read, is_width, word_in}
 use Rattle.dslx_core.specs.declared.expr.CoreExpr as core
-use Rattle.dslx_core.specs.Lowering.Lowering.{LoweredExpr, cast_lowered, lowered, part_lowered, sign_in, sign_of, slice_lowered}
+use Rattle.dslx_core.specs.Lowering.Lowering.{LoweredExpr, lower_cast, lowered, lower_part, sign_in, sign_of, lower_slice}
 use Rattle.dslx_core.specs.Lowering.Correspondence.{KeepsValue}
 use Rattle.dslx_core.proofs.OnLowering.Kept.{bits_kept, both_there, from_both, from_then, from_where, kept_as, made_lies, operand, operand_word, word_there}
 use Rattle.dslx_core.proofs.OnLowering.OfParts.{amount_there}
@@ -83,7 +83,7 @@ bits_type : (t : DslxType) (k : BitKind) → bits_in t ≡ Some k → t ≡ ty.B
 bits_type t k e = let q = is_bits_type t (ap is_there e) in q.1 ∙ ap (λ (k : BitKind). ty.Bits k.signed k.width) (same_some q.0 k (sym q.2 ∙ e))
 
 pub cast_keeps : (calls : Functions) (bound : Bindings) (l : Option LoweredExpr) (o : Option DslxValue) (lt ot : Option DslxType) → ((t : DslxType) → lt ≡ Some t → ot ≡ Some t) → KeepsValue calls bound l o
-    → KeepsValue calls bound (cast_lowered l lt) (with_both ot o cast_value)
+    → KeepsValue calls bound (lower_cast l lt) (with_both ot o cast_value)
 cast_keeps calls bound l o lt ot means keeps e h r g =
     let a = from_both l lt (λ e t. and_then (bits_in t) (λ kind. where_true (is_width kind.width) (lowered (core.Cast (sign_of e.ty) kind.width e.core) t))) e h in
     let k = from_then (bits_in a.1) (λ kind. where_true (is_width kind.width) (lowered (core.Cast (sign_of a.0.ty) kind.width a.0.core) a.1)) e a.4 in
@@ -117,7 +117,7 @@ some_bits m n w e =
     (λ i. (Decides-ltb 0 (n - m)).1 first i && le-leb (m + (n - m)) w second i)
 
 pub slice_keeps : (calls : Functions) (bound : Bindings) (l : Option LoweredExpr) (o : Option DslxValue) (lm ln m n : Option ℕ) → ((k : ℕ) → lm ≡ Some k → m ≡ Some k)
-    → ((k : ℕ) → ln ≡ Some k → n ≡ Some k) → KeepsValue calls bound l o → KeepsValue calls bound (slice_lowered l lm ln) (and_then o (λ v. with_both m n (slice_value v)))
+    → ((k : ℕ) → ln ≡ Some k → n ≡ Some k) → KeepsValue calls bound l o → KeepsValue calls bound (lower_slice l lm ln) (and_then o (λ v. with_both m n (slice_value v)))
 slice_keeps calls bound l o lm ln m n first last keeps e h r g =
     let a = from_then l (λ e. with_both lm ln (λ m n. where_true (nat_lt m n && nat_le n 128) (lowered (core.Slice e.core m (n - m)) (unsigned (n - m))))) e h in
     let b = from_both lm ln (λ m n. where_true (nat_lt m n && nat_le n 128) (lowered (core.Slice a.0.core m (n - m)) (unsigned (n - m)))) e a.2 in
@@ -139,7 +139,7 @@ slice_keeps calls bound l o lm ln m n first last keeps e h r g =
 
 pub bits_part_keeps : (calls : Functions) (bound : Bindings) (l li : Option LoweredExpr) (o oi : Option DslxValue) (lt ot : Option DslxType) → ((t : DslxType) → lt ≡ Some t → ot ≡ Some t)
     → KeepsValue calls bound l o → KeepsValue calls bound li oi
-    → KeepsValue calls bound (part_lowered l li lt) (with_both o oi (λ v k. and_then (and_then ot bits_in) (λ kind. where_true (not kind.signed) (part_value v k kind.width))))
+    → KeepsValue calls bound (lower_part l li lt) (with_both o oi (λ v k. and_then (and_then ot bits_in) (λ kind. where_true (not kind.signed) (part_value v k kind.width))))
 bits_part_keeps calls bound l li o oi lt ot means keeps keep_start e h r g =
     let a = from_both l li (λ e i. and_then (and_then lt bits_in) (λ kind. where_true (is_width kind.width) (lowered (core.Part e.core i.core kind.width) (unsigned kind.width)))) e h in
     let k = from_then (and_then lt bits_in) (λ kind. where_true (is_width kind.width) (lowered (core.Part a.0.core a.1.core kind.width) (unsigned kind.width))) e a.4 in

@@ -9,7 +9,7 @@ use Rattle.dslx_meaning.specs.Types.{unit_type}
 use Rattle.dslx_meaning.specs.Values.{plain_value, bits_of, unit_value}
 use Rattle.dslx_meaning.specs.Operators.{truth, truth_of, of_one_type}
 use Rattle.dslx_meaning.specs.Environment.{Given, Env}
-use Rattle.dslx_meaning.specs.Meaning.{Evaluates, PatternMeant, choose, fits_at_place, loop_over, turn_count, turns_from}
+use Rattle.dslx_meaning.specs.Meaning.{ValueDen, PatternDen, choose, fits_in_scope, loop_over, turn_count, turns_from}
 use Rattle.dslx_meaning.specs.declared.ty.DslxType.{DslxType}
 use Rattle.dslx_meaning.specs.declared.ty.DslxType as ty
 use Rattle.dslx_meaning.specs.declared.value.DslxValue.{DslxValue}
@@ -20,12 +20,12 @@ use Rattle.dslx_typing.specs.Typed.Kinds.{is_of, lies_in}
 use Rattle.dslx_typing.proofs.Lemmas.Typed.{bits_of_width, next_lies, none_some, of_tuple, same_some}
 use Rattle.dslx_core.specs.CoreValues.{Bindings, Functions, chosen, core_value, is_one, one_turn, taken_apart, turns, word_in}
 use Rattle.dslx_core.specs.declared.expr.CoreExpr as core
-use Rattle.dslx_core.specs.Lowering.CorePlaces.{CorePlace}
+use Rattle.dslx_core.specs.Lowering.CoreScopes.{CoreScope}
 use Rattle.dslx_core.specs.Lowering.EqualTypes.{equal_type}
-use Rattle.dslx_core.specs.Lowering.Lowering.{LoweredExpr, choice_lowered, lowered}
-use Rattle.dslx_core.specs.Lowering.Patterns.{Lowers, LoweredShape, LowersPattern, let_lowered, lowered_at_place, loop_lowered}
+use Rattle.dslx_core.specs.Lowering.Lowering.{LoweredExpr, lower_choice, lowered}
+use Rattle.dslx_core.specs.Lowering.Patterns.{ExprLowering, LoweredShape, PatternLowering, lower_let, lower_in_scope, lower_loop}
 use Rattle.dslx_core.proofs.OnLowering.OfPatterns.{fits_there}
-use Rattle.dslx_core.specs.Lowering.Correspondence.{BothFit, FitsAsLowered, HasPlainValue, KeepsValue, MeansAsLowered, NeitherFits, PatternMeansAsLowered, StandsAtPlace, env_at}
+use Rattle.dslx_core.specs.Lowering.Correspondence.{BothFit, FitLowerPreserves, HasPlainValue, KeepsValue, LowerPreserves, NeitherFits, PatternLowerPreserves, SimulatesInScope, env_at}
 use Rattle.dslx_core.proofs.OnLowering.Kept.{from_both, from_then, from_where, kept_as, operand, operand_word}
 use Rattle.dslx_core.proofs.OnLowering.OneType.{one_by_test}
 use Rattle.dslx_core.proofs.OnLowering.Openings.{core_bind, core_choose, core_loop, core_tuple, plain_bits, plain_tuple}
@@ -33,27 +33,27 @@ use Rattle.dslx_core.proofs.OnLowering.Openings.{core_bind, core_choose, core_lo
 -- ---- blocks
 
 -- where a value fits a pattern, it fits the shape, and the rest goes on behind it
-pub record Behind (place : CorePlace) (calls : Functions) (o : Option Env) (p : Option Bindings) (inner : Env) : Type 0 where
+pub record Behind (place : CoreScope) (calls : Functions) (o : Option Env) (p : Option Bindings) (inner : Env) : Type 0 where
   pub given : List Given
   pub others : Bindings
   pub env : inner ≡ env_at place given
   pub apart : p ≡ Some others
-  pub stands : StandsAtPlace place calls given others
+  pub stands : SimulatesInScope place calls given others
 
-pub behind : (place : CorePlace) (calls : Functions) (o : Option Env) (p : Option Bindings) (inner : Env) → o ≡ Some inner → FitsAsLowered place calls o p → Behind place calls o p inner
+pub behind : (place : CoreScope) (calls : Functions) (o : Option Env) (p : Option Bindings) (inner : Env) → o ≡ Some inner → FitLowerPreserves place calls o p → Behind place calls o p inner
 behind place calls o p inner e (BothFit given others x y z) = record { given = given; others = others; env = same_some inner (env_at place given) (sym e ∙ x); apart = y; stands = z }
 behind place calls o p inner e (NeitherFits x y) = none_some inner (sym x ∙ e)
 
-pub let_keeps : (value : Lowers) (m : Evaluates) (p : LowersPattern) (f : PatternMeant) (rest : Lowers) (r : Evaluates) → MeansAsLowered value m → PatternMeansAsLowered p f → MeansAsLowered rest r
-    → MeansAsLowered (let_lowered value p rest) (λ env. and_then (m env) (λ v. and_then (fits_at_place f v env) r))
+pub let_keeps : (value : ExprLowering) (m : ValueDen) (p : PatternLowering) (f : PatternDen) (rest : ExprLowering) (r : ValueDen) → LowerPreserves value m → PatternLowerPreserves p f → LowerPreserves rest r
+    → LowerPreserves (lower_let value p rest) (λ env. and_then (m env) (λ v. and_then (fits_in_scope f v env) r))
 let_keeps value m p f rest r first pattern more place calls given bound h e l v k =
-    let a = from_then (value place) (λ e. and_then (lowered_at_place p place e.ty) (λ s. and_then (rest s.place) (λ r. lowered (core.Bind e.core s.shape r.core) r.ty))) e l in
-    let s = from_then (lowered_at_place p place a.0.ty) (λ s. and_then (rest s.place) (λ r. lowered (core.Bind a.0.core s.shape r.core) r.ty)) e a.2 in
+    let a = from_then (value place) (λ e. and_then (lower_in_scope p place e.ty) (λ s. and_then (rest s.place) (λ r. lowered (core.Bind e.core s.shape r.core) r.ty))) e l in
+    let s = from_then (lower_in_scope p place a.0.ty) (λ s. and_then (rest s.place) (λ r. lowered (core.Bind a.0.core s.shape r.core) r.ty)) e a.2 in
     let c = from_then (rest s.0.place) (λ r. lowered (core.Bind a.0.core s.0.shape r.core) r.ty) e s.2 in
-    let w = from_then (m (env_at place given)) (λ v. and_then (fits_at_place f v (env_at place given)) r) v k in
-    let i = from_then (fits_at_place f w.0 (env_at place given)) r v w.2 in
+    let w = from_then (m (env_at place given)) (λ v. and_then (fits_in_scope f v (env_at place given)) r) v k in
+    let i = from_then (fits_in_scope f w.0 (env_at place given)) r v w.2 in
     let has = first place calls given bound h a.0 a.1 w.0 w.1 in
-    let b = behind s.0.place calls (fits_at_place f w.0 (env_at place given)) (taken_apart s.0.shape (plain_value w.0) bound) i.0 i.1 (fits_there p f pattern place a.0.ty s.0 s.1 calls given bound h w.0 has.of) in
+    let b = behind s.0.place calls (fits_in_scope f w.0 (env_at place given)) (taken_apart s.0.shape (plain_value w.0) bound) i.0 i.1 (fits_there p f pattern place a.0.ty s.0 s.1 calls given bound h w.0 has.of) in
     let g = more s.0.place calls b.given b.others b.stands c.0 c.1 v (ap r (sym b.env) ∙ i.2) in
     kept_as calls bound v (record { core = core.Bind a.0.core s.0.shape c.0.core; ty = c.0.ty }) e c.2
     (record {
@@ -65,7 +65,7 @@ let_keeps value m p f rest r first pattern more place calls given bound h e l v 
     })
 
 -- the value of a statement isn't used
-pub bare_keeps : (m : Evaluates) (rest : Lowers) (r : Evaluates) → MeansAsLowered rest r → MeansAsLowered rest (λ env. and_then (m env) (λ v. r env))
+pub bare_keeps : (m : ValueDen) (rest : ExprLowering) (r : ValueDen) → LowerPreserves rest r → LowerPreserves rest (λ env. and_then (m env) (λ v. r env))
 bare_keeps m rest r more place calls given bound h e l v k = more place calls given bound h e l v (from_then (m (env_at place given)) (λ w. r (env_at place given)) v k).2
 
 -- a block that ends in a statement
@@ -85,7 +85,7 @@ pub truth_is : (x : SignedWord) (b : Bool) → truth_of x ≡ Some b → is_one 
 truth_is x b e = let q = from_where (not x.signed && x.word.width == 1) (Some (x.word.value == 1)) b e in ap (λ t. where_true t (Some (x.word.value == 1))) (and_true (not x.signed) (x.word.width == 1) q.0).1 ∙ q.1
 
 pub choice_keeps : (calls : Functions) (bound : Bindings) (lc la lb : Option LoweredExpr) (c a b : Option DslxValue) → KeepsValue calls bound lc c → KeepsValue calls bound la a → KeepsValue calls bound lb b
-    → KeepsValue calls bound (choice_lowered lc la lb) (choose (and_then c truth) a b)
+    → KeepsValue calls bound (lower_choice lc la lb) (choose (and_then c truth) a b)
 choice_keeps calls bound lc la lb c a b kc ka kb e l v k =
     let p = from_then lc (λ c. with_both la lb (λ a b. where_true (equal_type a.ty b.ty) (lowered (core.Choose c.core a.core b.core) a.ty))) e l in
     let q = from_both la lb (λ a b. where_true (equal_type a.ty b.ty) (lowered (core.Choose p.0.core a.core b.core) a.ty)) e p.2 in
@@ -140,17 +140,17 @@ turns_keep calls bound s t source body width keeps (suc n) i wide low acc v of e
       ap (λ o. and_then o (turns body n (op.add i (word i.width 1)))) (ap (λ u. body u (plain_value acc)) (sym (plain_bits s i)) ∙ turn.1) ∙ rest.1,
     )
 
-pub loop_keeps : (place : CorePlace) (calls : Functions) (given : List Given) (bound : Bindings) → StandsAtPlace place calls given bound
+pub loop_keeps : (place : CoreScope) (calls : Functions) (given : List Given) (bound : Bindings) → SimulatesInScope place calls given bound
     → (ls li : Option LoweredExpr) (start from to : Option DslxValue) (first end : Option SignedWord) → ((x : SignedWord) → first ≡ Some x → and_then from bits_of ≡ Some x)
     → ((x : SignedWord) → end ≡ Some x → and_then to bits_of ≡ Some x) → KeepsValue calls bound ls start → KeepsValue calls bound li from
-    → (i acc : LowersPattern) (fi fa : PatternMeant) → PatternMeansAsLowered i fi → PatternMeansAsLowered acc fa → (body : Lowers) (m : Evaluates) → MeansAsLowered body m
-    → KeepsValue calls bound (loop_lowered ls li first end i acc body place)
-    (and_then start (λ start. with_both (and_then from bits_of) (and_then to bits_of) (loop_over (λ k a. and_then (fits_at_place fi k (env_at place given)) (λ inner. and_then (fits_at_place fa a inner) m)) start)))
+    → (i acc : PatternLowering) (fi fa : PatternDen) → PatternLowerPreserves i fi → PatternLowerPreserves acc fa → (body : ExprLowering) (m : ValueDen) → LowerPreserves body m
+    → KeepsValue calls bound (lower_loop ls li first end i acc body place)
+    (and_then start (λ start. with_both (and_then from bits_of) (and_then to bits_of) (loop_over (λ k a. and_then (fits_in_scope fi k (env_at place given)) (λ inner. and_then (fits_in_scope fa a inner) m)) start)))
 loop_keeps place calls given bound h ls li start from to first end is_first is_end ks ki i acc fi fa pi pa body m kb e l v k =
     let p = from_both ls li _ e l in
     let q = from_both first end _ e p.4 in
-    let s = from_then (lowered_at_place i place p.1.ty) _ e q.4 in
-    let z = from_then (lowered_at_place acc s.0.place p.0.ty) _ e s.2 in
+    let s = from_then (lower_in_scope i place p.1.ty) _ e q.4 in
+    let z = from_then (lower_in_scope acc s.0.place p.0.ty) _ e s.2 in
     let c = from_then (body z.0.place) _ e z.2 in
     let r = from_where (equal_type p.0.ty c.0.ty && nat_lt (turn_count q.0 q.1) (2 ^ 64)) (lowered (core.Loop (turn_count q.0 q.1) q.0.word s.0.shape z.0.shape c.0.core p.0.core) p.0.ty) e c.2 in
     let one = one_by_test p.0.ty c.0.ty (and_true (equal_type p.0.ty c.0.ty) (nat_lt (turn_count q.0 q.1) (2 ^ 64)) r.0).0 in
@@ -175,16 +175,16 @@ loop_keeps place calls given bound h ls li start from to first end is_first is_e
     })
   where
     source : SourceTurn
-    source k a = and_then (fits_at_place fi k (env_at place given)) (λ inner. and_then (fits_at_place fa a inner) m)
+    source k a = and_then (fits_in_scope fi k (env_at place given)) (λ inner. and_then (fits_in_scope fa a inner) m)
 
-    turned : (index bits t u : DslxType) → index ≡ bits → t ≡ u → (s : LoweredShape) → lowered_at_place i place index ≡ Some s → (z : LoweredShape) → lowered_at_place acc s.place t ≡ Some z
+    turned : (index bits t u : DslxType) → index ≡ bits → t ≡ u → (s : LoweredShape) → lower_in_scope i place index ≡ Some s → (z : LoweredShape) → lower_in_scope acc s.place t ≡ Some z
         → (c : LoweredExpr) → body z.place ≡ Some c → c.ty ≡ u → TurnKeeps calls bound bits t source (one_turn s.shape z.shape (core_value c.core) calls bound)
     turned index bits t u is one s ls z lz c lc typed j a r of_index of_acc e =
-        let inner = from_then (fits_at_place fi j (env_at place given)) (λ inner. and_then (fits_at_place fa a inner) m) r e in
-        let b = behind s.place calls (fits_at_place fi j (env_at place given)) (taken_apart s.shape (plain_value j) bound) inner.0 inner.1 (fits_there i fi pi place index s ls calls given bound h j (ap (λ t. is_of t j) is ∙ of_index)) in
-        let more = from_then (fits_at_place fa a inner.0) m r inner.2 in
+        let inner = from_then (fits_in_scope fi j (env_at place given)) (λ inner. and_then (fits_in_scope fa a inner) m) r e in
+        let b = behind s.place calls (fits_in_scope fi j (env_at place given)) (taken_apart s.shape (plain_value j) bound) inner.0 inner.1 (fits_there i fi pi place index s ls calls given bound h j (ap (λ t. is_of t j) is ∙ of_index)) in
+        let more = from_then (fits_in_scope fa a inner.0) m r inner.2 in
         let d =
-        behind z.place calls (fits_at_place fa a (env_at s.place b.given)) (taken_apart z.shape (plain_value a) b.others) more.0 (ap (fits_at_place fa a) (sym b.env) ∙ more.1)
+        behind z.place calls (fits_in_scope fa a (env_at s.place b.given)) (taken_apart z.shape (plain_value a) b.others) more.0 (ap (fits_in_scope fa a) (sym b.env) ∙ more.1)
         (fits_there acc fa pa s.place t z lz calls b.given b.others b.stands a of_acc) in
         let g = kb z.place calls d.given d.others d.stands c lc r (ap m (sym d.env) ∙ more.2) in (
           ap (λ t. is_of t r) (one ∙ sym typed) ∙ g.of,

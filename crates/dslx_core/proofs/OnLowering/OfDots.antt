@@ -17,7 +17,7 @@ use Rattle.dslx_meaning.specs.Rules.ConstantRules.{is_zero}
 use Rattle.dslx_typing.specs.Typed.Kinds.{is_of}
 use Rattle.dslx_typing.proofs.Lemmas.Typed.{all_are, none_some, same_some}
 use Rattle.dslx_typing.proofs.Lemmas.Laws.{and_true}
-use Rattle.dslx_core.specs.CoreValues.{Bindings, CoreMeaning, Functions, TakesApart, apart_each, core_value, taken_apart, tuple_values_step}
+use Rattle.dslx_core.specs.CoreValues.{Bindings, CoreDen, Functions, TakesApart, apart_each, core_value, taken_apart, tuple_values_step}
 use Rattle.dslx_core.specs.declared.expr.CoreExpr.{CoreExpr}
 use Rattle.dslx_core.specs.declared.expr.CoreExpr as core
 use Rattle.dslx_core.specs.declared.expr.Shape.{Shape}
@@ -35,12 +35,12 @@ in_the_middle : {A : Type 0} (as' : List A) (b : A) (bs : List A) → slice_get 
 in_the_middle [] b bs = refl
 in_the_middle (a ∷ as') b bs = in_the_middle as' b bs
 
-past_front : {A : Type 0} (as' bs : List A) (k : ℕ) → slice_get (as' ++ bs) (length as' + k) ≡ slice_get bs k
-past_front [] bs k = ap (slice_get bs) (nothing_added k)
+past_prefix : {A : Type 0} (as' bs : List A) (k : ℕ) → slice_get (as' ++ bs) (length as' + k) ≡ slice_get bs k
+past_prefix [] bs k = ap (slice_get bs) (nothing_added k)
   where
     nothing_added : (k : ℕ) → (0 + k) ≡ k
     nothing_added k = omega arith
-past_front (a ∷ as') bs k = ap (slice_get (a ∷ as' ++ bs)) (one_further (length as') k) ∙ past_front as' bs k
+past_prefix (a ∷ as') bs k = ap (slice_get (a ∷ as' ++ bs)) (one_further (length as') k) ∙ past_prefix as' bs k
   where
     one_further : (n k : ℕ) → (suc n + k) ≡ suc (n + k)
     one_further n k = omega arith
@@ -105,7 +105,7 @@ apart_all (e ∷ es) (u ∷ us) bound n =
     shorter n = omega (arith, n)
 
 abbrev values_with : Functions → Bindings → List CoreExpr → List (Option Value)
-values_with calls bound es = map (λ (e : CoreMeaning). e calls bound) (map core_value es)
+values_with calls bound es = map (λ (e : CoreDen). e calls bound) (map core_value es)
 
 slot_values : (calls : Functions) (front : Bindings) (es : List LoweredExpr) (us : List Value) → length us ≡ length es → values_with calls (front ++ us) (slots_from (length front) es) ≡ map Some us
 slot_values calls front [] [] n = refl
@@ -125,7 +125,7 @@ repeated_values calls bound k u zero e = refl
 repeated_values calls bound k u (suc n) e = λ i. (ap (λ f. f calls bound) (core_slot k) ∙ e) i ∷ repeated_values calls bound k u n e i
 
 values_of_both : (calls : Functions) (bound : Bindings) (as' bs : List CoreExpr) → values_with calls bound (as' ++ bs) ≡ (values_with calls bound as' ++ values_with calls bound bs)
-values_of_both calls bound as' bs = ap (map (λ (e : CoreMeaning). e calls bound)) (map_both core_value as' bs) ∙ map_both (λ (e : CoreMeaning). e calls bound) (map core_value as') (map core_value bs)
+values_of_both calls bound as' bs = ap (map (λ (e : CoreDen). e calls bound)) (map_both core_value as' bs) ∙ map_both (λ (e : CoreDen). e calls bound) (map core_value as') (map core_value bs)
 
 pub filled_kept : (calls : Functions) (bound : Bindings) (count : ℕ) (t : DslxType) (e : LoweredExpr) (es : List LoweredExpr) (v : DslxValue) (vs : List DslxValue) (w : DslxValue) (n : ℕ) → length bound ≡ count
     → AllHave calls bound (e ∷ es) (v ∷ vs) → length vs ≡ length es → list_all (is_of t) (v ∷ vs) ≡ true → last_of (v ∷ vs) ≡ Some w → nat_le (suc (length es)) n ≡ true
@@ -168,7 +168,7 @@ filled_kept calls bound count t e es v vs w n is_count have as_long all last fit
 
     last_value : slice_get (bound ++ us) (count + length es) ≡ Some (plain_value w)
     last_value =
-        (λ i. slice_get (bound ++ us) (sym is_count i + sym as_long i)) ∙ past_front bound us (length vs) ∙ plain_at (v ∷ vs) (length vs) w (last_at v vs w last)
+        (λ i. slice_get (bound ++ us) (sym is_count i + sym as_long i)) ∙ past_prefix bound us (length vs) ∙ plain_at (v ∷ vs) (length vs) w (last_at v vs w last)
       where
         plain_at : (vs : List DslxValue) (k : ℕ) (w : DslxValue) → slice_get vs k ≡ Some w → slice_get (map plain_value vs) k ≡ Some (plain_value w)
         plain_at [] k w e = none_some w e

@@ -7,7 +7,7 @@ use Rattle.dslx_meaning.specs.Operators.{number_value, number_in, word_in_range}
 use Rattle.dslx_meaning.specs.Environment.{Given, given_in, value_of_name}
 use Rattle.dslx_meaning.specs.declared.ty.BitKind.{BitKind}
 use Rattle.dslx_meaning.specs.declared.ty.DslxType.{DslxType}
-use Rattle.dslx_meaning.specs.declared.value.Bare.{Bare}
+use Rattle.dslx_meaning.specs.declared.value.UntypedLiteral.{UntypedLiteral}
 use Rattle.dslx_meaning.specs.declared.value.DslxValue.{DslxValue}
 use Rattle.dslx_meaning.specs.declared.value.DslxValue as value
 use Rattle.dslx_meaning.specs.declared.value.DslxValue.TheOpen.{DslxValue-F}
@@ -17,12 +17,12 @@ use Rattle.dslx_typing.specs.Typed.Kinds.{is_of, lies_in}
 use Rattle.dslx_typing.proofs.Lemmas.Typed.{bits_of_width, none_some, number_lies, same_some, typed_level}
 use Rattle.dslx_core.specs.CoreValues.{Bindings, Functions}
 use Rattle.dslx_core.specs.declared.expr.CoreExpr as core
-use Rattle.dslx_core.specs.Lowering.CorePlaces.{BoundSlot, CorePlace, local_in}
-use Rattle.dslx_core.specs.Lowering.Lowering.{literal, name_lowered, slot_or_literal}
-use Rattle.dslx_core.specs.Lowering.Correspondence.{HasPlainValue, IsOwn, KeepsValue, StandsAtPlace, env_at}
+use Rattle.dslx_core.specs.Lowering.CoreScopes.{BoundSlot, CoreScope, local_in}
+use Rattle.dslx_core.specs.Lowering.Lowering.{literal, lower_name, slot_or_literal}
+use Rattle.dslx_core.specs.Lowering.Correspondence.{HasPlainValue, IsOwn, KeepsValue, SimulatesInScope, env_at}
 use Rattle.dslx_core.proofs.OnLowering.Kept.{from_then, kept_as}
 use Rattle.dslx_core.proofs.OnLowering.Openings.{core_literal, core_slot}
-use Rattle.dslx_core.proofs.OnLowering.Slots.{local_stands, other_stands}
+use Rattle.dslx_core.proofs.OnLowering.Slots.{local_simulates, other_stands}
 
 -- ---- values that are known
 
@@ -33,8 +33,8 @@ literal_keeps calls bound v own e h w k =
     (record { of = own; core = ap (λ f. f calls bound) (core_literal (plain_value v)) }))
 
 -- a value that is there, if it is of its own type
-pub known_keeps : (calls : Functions) (bound : Bindings) (o : Option DslxValue) → ((v : DslxValue) → o ≡ Some v → IsOwn v) → KeepsValue calls bound (and_then o literal) o
-known_keeps calls bound o own e h v k =
+pub globals_keep : (calls : Functions) (bound : Bindings) (o : Option DslxValue) → ((v : DslxValue) → o ≡ Some v → IsOwn v) → KeepsValue calls bound (and_then o literal) o
+globals_keep calls bound o own e h v k =
     let w = from_then o literal e h in
     literal_keeps calls bound w.0 (own w.0 w.1) e w.2 v (sym w.1 ∙ k)
 
@@ -44,17 +44,17 @@ found_first : (o p : Option DslxValue) (v : DslxValue) → or_else o p ≡ Some 
 found_first None p v e f g = g v e
 found_first (Some a) p v e f g = f v e
 
-pub name_keeps : (place : CorePlace) (calls : Functions) (given : List Given) (bound : Bindings) → StandsAtPlace place calls given bound → (name : List ℕ)
-    → KeepsValue calls bound (name_lowered name place) (value_of_name name (env_at place given))
+pub name_keeps : (place : CoreScope) (calls : Functions) (given : List Given) (bound : Bindings) → SimulatesInScope place calls given bound → (name : List ℕ)
+    → KeepsValue calls bound (lower_name name place) (value_of_name name (env_at place given))
 name_keeps place calls given bound h name e l v k = by_local (local_in name place.locals) refl l
   where
     by_local : (o : Option BoundSlot) → local_in name place.locals ≡ o → slot_or_literal place name o ≡ Some e → HasPlainValue e calls bound v
     by_local None q r =
-        let same = ap (λ o. or_else o (place.known.items.constant name)) (other_stands place.locals place.known.numbers given bound name h.slots q) in
-        known_keeps calls bound (or_else (given_in name place.known.numbers) (place.known.items.constant name))
-        (λ w p. found_first (given_in name place.known.numbers) (place.known.items.constant name) w p (h.known.numbers name) (h.known.constants name)) e r v (sym same ∙ k)
+        let same = ap (λ o. or_else o (place.known.items.constant name)) (other_stands place.locals place.known.parametric_args given bound name h.slots q) in
+        globals_keep calls bound (or_else (given_in name place.known.parametric_args) (place.known.items.constant name))
+        (λ w p. found_first (given_in name place.known.parametric_args) (place.known.items.constant name) w p (h.known.parametric_args name) (h.known.constants name)) e r v (sym same ∙ k)
     by_local (Some s) q r =
-        let stands = local_stands place.locals place.known.numbers given bound name s h.slots q in
+        let stands = local_simulates place.locals place.known.parametric_args given bound name s h.slots q in
         let is : Some stands.value ≡ Some v = sym (ap (λ o. or_else o (place.known.items.constant name)) stands.is) ∙ k in
         subst (λ x. HasPlainValue e calls bound x) (same_some stands.value v is)
         (kept_as calls bound stands.value (record { core = core.Slot s.slot; ty = s.ty }) e r
@@ -65,7 +65,7 @@ name_keeps place calls given bound h name e l v k = by_local (local_in name plac
 own_bits_of : (s : Bool) (w : Word) → lies_in w ≡ true → IsOwn (value.Bits s w)
 own_bits_of s w low = ap (λ t. is_of t (value.Bits s w)) (typed_level (value.Bits s w) (DslxValue-F.Bits s w) (views.outs-Bits s w)) ∙ bits_of_width s w w.width refl low
 
-pub number_own : (t : DslxType) (number : Bare) (v : DslxValue) → number_value t number ≡ Some v → IsOwn v
+pub number_own : (t : DslxType) (number : UntypedLiteral) (v : DslxValue) → number_value t number ≡ Some v → IsOwn v
 number_own t number v e = by_kind (bits_in t) e
   where
     by_kind : (k : Option BitKind) → number_in k number ≡ Some v → IsOwn v

@@ -7,7 +7,7 @@ use Rattle.xb_bits.specs.Word.{Word}
 use Rattle.xb_value.specs.declared.value.Value.{Value, out-Value}
 use Rattle.xb_value.specs.declared.value.Value as plain
 use Rattle.xb_value.specs.declared.value.Value.TheViews as plain_views
-use Rattle.dslx_meaning.specs.Lists.{all_some, and_then, beside, place_in, with_both}
+use Rattle.dslx_meaning.specs.Lists.{all_some, and_then, beside, index_in, with_both}
 use Rattle.dslx_meaning.specs.Values.{Fields, amount_in, array_step, bits_of, elements_of, fields_step, items_of, plain_value, tuple_step, unsigned_of}
 use Rattle.dslx_meaning.specs.Operators.{element_or_last, element_value, index_value}
 use Rattle.dslx_meaning.specs.Meaning.{field_of}
@@ -30,7 +30,7 @@ use Rattle.dslx_core.specs.CoreValues as meaning
 use Rattle.dslx_core.specs.CoreValues.{Bindings, Functions, array_values_step, core_value, tuple_values_step, word_in}
 use Rattle.dslx_core.specs.declared.expr.CoreExpr.{CoreExpr}
 use Rattle.dslx_core.specs.declared.expr.CoreExpr as core
-use Rattle.dslx_core.specs.Lowering.Lowering.{LoweredExpr, cores_of, element_lowered, field_lowered, field_place, index_lowered, lowered, tuple_lowered, types_of_lowered}
+use Rattle.dslx_core.specs.Lowering.Lowering.{LoweredExpr, cores_of, lower_element, lower_field, field_index, lower_index, lowered, lower_tuple, types_of_lowered}
 use Rattle.dslx_core.specs.Lowering.Correspondence.{HasPlainValue, KeepsValue}
 use Rattle.dslx_core.proofs.OnLowering.Kept.{both_there, from_both, from_then, kept_as, operand, operand_word, value_as}
 use Rattle.dslx_core.proofs.OnLowering.Lists.{AllHave, EachKeeps, all_have, all_of, all_values}
@@ -47,7 +47,7 @@ tuple_of_parts calls bound es vs h = record {
 }
 
 pub tuple_keeps : (calls : Functions) (bound : Bindings) (ls : List (Option LoweredExpr)) (os : List (Option DslxValue)) → EachKeeps calls bound ls os
-    → KeepsValue calls bound (tuple_lowered ls) (and_then (all_some os) (λ vs. Some (value.Tuple vs)))
+    → KeepsValue calls bound (lower_tuple ls) (and_then (all_some os) (λ vs. Some (value.Tuple vs)))
 tuple_keeps calls bound ls os h e l v k =
     let es = from_then (all_some ls) (λ es. lowered (core.Tuple (cores_of es)) (ty.Tuple (types_of_lowered es))) e l in
     let vs = from_then (all_some os) (λ vs. Some (value.Tuple vs)) v k in
@@ -81,7 +81,7 @@ pub type_is : (t : DslxType) (l : DslxType-F DslxType) → out-DslxType t ≡ l 
 type_is t l e = sym (type_views.roll-out-DslxType t) ∙ ap type_views.roll-DslxType e
 
 pub element_keeps : (calls : Functions) (bound : Bindings) (l : Option LoweredExpr) (o : Option DslxValue) (k : ℕ) → KeepsValue calls bound l o
-    → KeepsValue calls bound (element_lowered l k) (and_then o (λ v. element_value v k))
+    → KeepsValue calls bound (lower_element l k) (and_then o (λ v. element_value v k))
 element_keeps calls bound l o k keeps e h r g =
     let a = from_then l (λ e. and_then (part_type e.ty k) (λ t. lowered (core.Element e.core k) t)) e h in
     let t = from_then (part_type a.0.ty k) (λ t. lowered (core.Element a.0.core k) t) e a.2 in
@@ -106,12 +106,12 @@ element_keeps calls bound l o k keeps e h r g =
 
 -- a field of a value
 pub field_kept : (calls : Functions) (bound : Bindings) (a : LoweredExpr) (v : DslxValue) (field : List ℕ) (p : ℕ × DslxType) (r : DslxValue) → HasPlainValue a calls bound v
-    → field_place field (out-DslxType a.ty) ≡ Some p → field_of v field ≡ Some r → HasPlainValue (record { core = core.Element a.core p.0; ty = p.1 }) calls bound r
+    → field_index field (out-DslxType a.ty) ≡ Some p → field_of v field ≡ Some r → HasPlainValue (record { core = core.Element a.core p.0; ty = p.1 }) calls bound r
 field_kept calls bound a v field p r has low source = by_level (out-DslxType a.ty) refl low
   where
-    by_level : (l : DslxType-F DslxType) → out-DslxType a.ty ≡ l → field_place field l ≡ Some p → HasPlainValue (record { core = core.Element a.core p.0; ty = p.1 }) calls bound r
+    by_level : (l : DslxType-F DslxType) → out-DslxType a.ty ≡ l → field_index field l ≡ Some p → HasPlainValue (record { core = core.Element a.core p.0; ty = p.1 }) calls bound r
     by_level (DslxType-F.Struct name fields ts) q e =
-        let k = from_then (place_in field fields) (λ k. and_then (slice_get ts k) (λ t. Some (k, t))) p e in
+        let k = from_then (index_in field fields) (λ k. and_then (slice_get ts k) (λ t. Some (k, t))) p e in
         let t = from_then (slice_get ts k.0) (λ t. Some (k.0, t)) p k.2 in
         let ws = is_struct_of name fields ts v (ap (λ u. is_of u v) (sym (type_is a.ty (DslxType-F.Struct name fields ts) q ∙ type_rolls.rolls-Struct name fields ts)) ∙ has.of) in
         let there : slice_get ws.0 k.0 ≡ Some r = sym (ap (λ o. and_then o (λ k. slice_get ws.0 k)) k.1) ∙ sym (ap (λ l. and_then (fields_step l) (λ (s : Fields). beside field s.names s.values)) ws.1) ∙ source in
@@ -124,10 +124,10 @@ field_kept calls bound a v field p r has low source = by_level (out-DslxType a.t
     by_level DslxType-F.Token q e = none_some p e
 
 pub field_keeps : (calls : Functions) (bound : Bindings) (l : Option LoweredExpr) (o : Option DslxValue) (field : List ℕ) → KeepsValue calls bound l o
-    → KeepsValue calls bound (field_lowered l field) (and_then o (λ v. field_of v field))
+    → KeepsValue calls bound (lower_field l field) (and_then o (λ v. field_of v field))
 field_keeps calls bound l o field keeps e h r g =
-    let a = from_then l (λ e. and_then (field_place field (out-DslxType e.ty)) (λ p. lowered (core.Element e.core p.0) p.1)) e h in
-    let p = from_then (field_place field (out-DslxType a.0.ty)) (λ p. lowered (core.Element a.0.core p.0) p.1) e a.2 in
+    let a = from_then l (λ e. and_then (field_index field (out-DslxType e.ty)) (λ p. lowered (core.Element e.core p.0) p.1)) e h in
+    let p = from_then (field_index field (out-DslxType a.0.ty)) (λ p. lowered (core.Element a.0.core p.0) p.1) e a.2 in
     let v = from_then o (λ v. field_of v field) r g in
     kept_as calls bound r (record { core = core.Element a.0.core p.0.0; ty = p.0.1 }) e p.2 (field_kept calls bound a.0 v.0 field p.0 r (keeps a.0 a.1 v.0 v.1) p.1 v.2)
 
@@ -198,7 +198,7 @@ length_kept f [] = refl
 length_kept f (a ∷ as') = ap suc (length_kept f as')
 
 pub index_keeps : (calls : Functions) (bound : Bindings) (l li : Option LoweredExpr) (o oi : Option DslxValue) → KeepsValue calls bound l o → KeepsValue calls bound li oi
-    → KeepsValue calls bound (index_lowered l li) (with_both o oi index_value)
+    → KeepsValue calls bound (lower_index l li) (with_both o oi index_value)
 index_keeps calls bound l li o oi keeps keep_index e h r g =
     let a = from_both l li (λ e i. and_then (array_in e.ty) (λ parts. lowered (core.Index e.core i.core) parts.0)) e h in
     let p = from_then (array_in a.0.ty) (λ parts. lowered (core.Index a.0.core a.1.core) parts.0) e a.4 in

@@ -7,7 +7,7 @@ use Rattle.xb_value.specs.declared.value.Value.TheViews as plain_views
 use Rattle.dslx_meaning.specs.Lists.{and_then, where_true}
 use Rattle.dslx_meaning.specs.Values.{plain_value, same_value, type_of_value, tuple_step, elements_of}
 use Rattle.dslx_meaning.specs.Environment.{Given, Env}
-use Rattle.dslx_meaning.specs.Meaning.{PatternMeant, Fitting, all_names, fit_each, fit_value, fits_at_place}
+use Rattle.dslx_meaning.specs.Meaning.{PatternDen, MatchDen, all_names, fit_each, fit_value, fits_in_scope}
 use Rattle.dslx_meaning.specs.Environment.{bind}
 use Rattle.dslx_meaning.specs.declared.ty.DslxType.{DslxType, out-DslxType}
 use Rattle.dslx_meaning.specs.declared.ty.DslxType as ty
@@ -22,41 +22,41 @@ use Rattle.dslx_typing.proofs.Lemmas.Typed.{is_tuple_of, none_some, same_some}
 use Rattle.dslx_core.specs.CoreValues.{Bindings, Functions, apart_each, is_like, taken_apart, tuple_values_step}
 use Rattle.dslx_core.specs.declared.expr.Shape.{Shape}
 use Rattle.dslx_core.specs.declared.expr.Shape as shape
-use Rattle.dslx_core.specs.Lowering.CorePlaces.{CorePlace, with_local}
+use Rattle.dslx_core.specs.Lowering.CoreScopes.{CoreScope, with_local}
 use Rattle.dslx_core.specs.Lowering.EqualTypes.{equal_type}
-use Rattle.dslx_core.specs.Lowering.Patterns.{LoweredShape, LoweredShapes, LowersPattern, lowered_at_place, name_shape, names_of_all, parts_shaped, shaped, tuple_shape, value_shape}
-use Rattle.dslx_core.specs.Lowering.Correspondence.{BothFit, FitsAsLowered, IsOwn, NeitherFits, PatternMeansAsLowered, StandsAtPlace, env_at}
+use Rattle.dslx_core.specs.Lowering.Patterns.{LoweredShape, LoweredShapes, PatternLowering, lower_in_scope, name_shape, names_of_all, parts_shaped, shaped, tuple_shape, value_shape}
+use Rattle.dslx_core.specs.Lowering.Correspondence.{BothFit, FitLowerPreserves, IsOwn, NeitherFits, PatternLowerPreserves, SimulatesInScope, env_at}
 use Rattle.dslx_core.proofs.OnLowering.Kept.{from_then, from_where}
 use Rattle.dslx_core.proofs.OnLowering.Likes.{alike_by_type}
 use Rattle.dslx_core.proofs.OnLowering.OneType.{one_by_test}
 use Rattle.dslx_core.proofs.OnLowering.Openings.{plain_level, shape_bound, shape_equal, shape_tuple, shape_wild}
-use Rattle.dslx_core.proofs.OnLowering.Slots.{named_stands}
+use Rattle.dslx_core.proofs.OnLowering.Slots.{named_simulates}
 
 -- a value of a type against a shape: what a pattern does at its place
-abbrev pub ShapeFits : (CorePlace → DslxType → Option LoweredShape) → (DslxValue → Env → Option Env) → Type 0
-ShapeFits lower fits = (place : CorePlace) (t : DslxType) (s : LoweredShape) → lower place t ≡ Some s
-    → (calls : Functions) (given : List Given) (bound : Bindings) → StandsAtPlace place calls given bound → (v : DslxValue) → is_of t v ≡ true
-    → FitsAsLowered s.place calls (fits v (env_at place given)) (taken_apart s.shape (plain_value v) bound)
+abbrev pub ShapeFits : (CoreScope → DslxType → Option LoweredShape) → (DslxValue → Env → Option Env) → Type 0
+ShapeFits lower fits = (place : CoreScope) (t : DslxType) (s : LoweredShape) → lower place t ≡ Some s
+    → (calls : Functions) (given : List Given) (bound : Bindings) → SimulatesInScope place calls given bound → (v : DslxValue) → is_of t v ≡ true
+    → FitLowerPreserves s.place calls (fits v (env_at place given)) (taken_apart s.shape (plain_value v) bound)
 
 -- and a part of a pattern behind what is bound so far
-abbrev pub PartFits : (CorePlace → CorePlace → DslxType → Option LoweredShape) → Fitting → Type 0
-PartFits lower fits = (outer place : CorePlace) (t : DslxType) (s : LoweredShape) → lower outer place t ≡ Some s
-    → (calls : Functions) (around : List Given) (others : Bindings) → StandsAtPlace outer calls around others
-    → (given : List Given) (bound : Bindings) → StandsAtPlace place calls given bound → (v : DslxValue) → is_of t v ≡ true
-    → FitsAsLowered s.place calls (fits (env_at outer around) v (env_at place given)) (taken_apart s.shape (plain_value v) bound)
+abbrev pub PartFits : (CoreScope → CoreScope → DslxType → Option LoweredShape) → MatchDen → Type 0
+PartFits lower fits = (outer place : CoreScope) (t : DslxType) (s : LoweredShape) → lower outer place t ≡ Some s
+    → (calls : Functions) (around : List Given) (others : Bindings) → SimulatesInScope outer calls around others
+    → (given : List Given) (bound : Bindings) → SimulatesInScope place calls given bound → (v : DslxValue) → is_of t v ≡ true
+    → FitLowerPreserves s.place calls (fits (env_at outer around) v (env_at place given)) (taken_apart s.shape (plain_value v) bound)
 
 -- a whole pattern
-pub fits_there : (p : LowersPattern) (m : PatternMeant) → PatternMeansAsLowered p m → ShapeFits (lowered_at_place p) (fits_at_place m)
+pub fits_there : (p : PatternLowering) (m : PatternDen) → PatternLowerPreserves p m → ShapeFits (lower_in_scope p) (fits_in_scope m)
 fits_there p m h place t s e calls given bound at v of = h.fits place place t s e calls given bound at given bound at v of
 
-abbrev pub ShapeBare : (CorePlace → CorePlace → DslxType → Option LoweredShape) → List (List ℕ) → Type 0
-ShapeBare lower names = (outer place : CorePlace) (t : DslxType) (s : LoweredShape) → lower outer place t ≡ Some s → list_all place.known.items.is_constant names ≡ true → s.place ≡ place
+abbrev pub ShapeBare : (CoreScope → CoreScope → DslxType → Option LoweredShape) → List (List ℕ) → Type 0
+ShapeBare lower names = (outer place : CoreScope) (t : DslxType) (s : LoweredShape) → lower outer place t ≡ Some s → list_all place.known.items.is_constant names ≡ true → s.place ≡ place
 
 -- ---- any value
 
 pub wild_fits : ShapeFits (λ place t. shaped shape.Wild place) (λ v env. Some env)
 wild_fits place t s e calls given bound h v of =
-    subst (λ (x : LoweredShape). FitsAsLowered x.place calls (Some (env_at place given)) (taken_apart x.shape (plain_value v) bound)) (same_some (record { shape = shape.Wild; place = place }) s e)
+    subst (λ (x : LoweredShape). FitLowerPreserves x.place calls (Some (env_at place given)) (taken_apart x.shape (plain_value v) bound)) (same_some (record { shape = shape.Wild; place = place }) s e)
     (BothFit given bound refl (ap (λ f. f (plain_value v) bound) shape_wild) h)
 
 pub wild_bare : (names : List (List ℕ)) → ShapeBare (λ outer place t. shaped shape.Wild place) names
@@ -64,20 +64,20 @@ wild_bare names outer place t s e h = ap (λ (x : LoweredShape). x.place) (sym (
 
 -- ---- one value
 
-pub one_value_fits : (w : Option DslxValue) (place : CorePlace) (t : DslxType) (s : LoweredShape) → value_shape w place t ≡ Some s → ((x : DslxValue) → w ≡ Some x → IsOwn x)
-    → (calls : Functions) (given : List Given) (bound : Bindings) → StandsAtPlace place calls given bound → (v : DslxValue) → is_of t v ≡ true
-    → FitsAsLowered s.place calls (fit_value w v (env_at place given)) (taken_apart s.shape (plain_value v) bound)
+pub one_value_fits : (w : Option DslxValue) (place : CoreScope) (t : DslxType) (s : LoweredShape) → value_shape w place t ≡ Some s → ((x : DslxValue) → w ≡ Some x → IsOwn x)
+    → (calls : Functions) (given : List Given) (bound : Bindings) → SimulatesInScope place calls given bound → (v : DslxValue) → is_of t v ≡ true
+    → FitLowerPreserves s.place calls (fit_value w v (env_at place given)) (taken_apart s.shape (plain_value v) bound)
 one_value_fits w place t s e own calls given bound h v of =
     let x = from_then w (λ v. where_true (equal_type t (type_of_value v)) (shaped (shape.Equal (plain_value v)) place)) s e in
     let q = from_where (equal_type t (type_of_value x.0)) (shaped (shape.Equal (plain_value x.0)) place) s x.2 in
     let one = one_by_test t (type_of_value x.0) q.0 in
     let like = alike_by_type t v x.0 of (ap (λ u. is_of u x.0) one ∙ own x.0 x.1) in
-    subst (λ (y : LoweredShape). FitsAsLowered y.place calls (fit_value w v (env_at place given)) (taken_apart y.shape (plain_value v) bound))
+    subst (λ (y : LoweredShape). FitLowerPreserves y.place calls (fit_value w v (env_at place given)) (taken_apart y.shape (plain_value v) bound))
     (same_some (record { shape = shape.Equal (plain_value x.0); place = place }) s q.1)
     (by_test x.0 x.1 (same_value v x.0) refl like)
   where
     by_test : (x : DslxValue) → w ≡ Some x → (b : Bool) → same_value v x ≡ b → is_like (plain_value x) (plain_value v) ≡ same_value v x
-        → FitsAsLowered place calls (fit_value w v (env_at place given)) (taken_apart (shape.Equal (plain_value x)) (plain_value v) bound)
+        → FitLowerPreserves place calls (fit_value w v (env_at place given)) (taken_apart (shape.Equal (plain_value x)) (plain_value v) bound)
     by_test x k true q like =
         BothFit given bound (ap (λ o. fit_value o v (env_at place given)) k ∙ ap (λ b. if b then Some (env_at place given) else None) q)
         (ap (λ f. f (plain_value v) bound) (shape_equal (plain_value x)) ∙ ap (λ b. if b then Some bound else None) (like ∙ q)) h
@@ -85,7 +85,7 @@ one_value_fits w place t s e own calls given bound h v of =
         NeitherFits (ap (λ o. fit_value o v (env_at place given)) k ∙ ap (λ b. if b then Some (env_at place given) else None) q)
         (ap (λ f. f (plain_value v) bound) (shape_equal (plain_value x)) ∙ ap (λ b. if b then Some bound else None) (like ∙ q))
 
-pub one_value_bare : (w : Option DslxValue) (place : CorePlace) (t : DslxType) (s : LoweredShape) → value_shape w place t ≡ Some s → s.place ≡ place
+pub one_value_bare : (w : Option DslxValue) (place : CoreScope) (t : DslxType) (s : LoweredShape) → value_shape w place t ≡ Some s → s.place ≡ place
 one_value_bare w place t s e =
     let x = from_then w (λ v. where_true (equal_type t (type_of_value v)) (shaped (shape.Equal (plain_value v)) place)) s e in
     let q = from_where (equal_type t (type_of_value x.0)) (shaped (shape.Equal (plain_value x.0)) place) s x.2 in
@@ -98,12 +98,12 @@ name_fits name place t s e calls given bound h v of = by_kind (place.known.items
   where
     by_kind : (b : Bool) → place.known.items.is_constant name ≡ b
         → (if b then value_shape (place.known.items.constant name) place t else shaped shape.Bound (with_local name t place)) ≡ Some s
-        → FitsAsLowered s.place calls (if b then fit_value (place.known.items.constant name) v (env_at place given) else Some (bind name v (env_at place given))) (taken_apart s.shape (plain_value v) bound)
+        → FitLowerPreserves s.place calls (if b then fit_value (place.known.items.constant name) v (env_at place given) else Some (bind name v (env_at place given))) (taken_apart s.shape (plain_value v) bound)
     by_kind true q k = one_value_fits (place.known.items.constant name) place t s k (λ x r. h.known.constants name x r) calls given bound h v of
     by_kind false q k =
-        subst (λ (x : LoweredShape). FitsAsLowered x.place calls (Some (bind name v (env_at place given))) (taken_apart x.shape (plain_value v) bound))
+        subst (λ (x : LoweredShape). FitLowerPreserves x.place calls (Some (bind name v (env_at place given))) (taken_apart x.shape (plain_value v) bound))
         (same_some (record { shape = shape.Bound; place = with_local name t place }) s k)
-        (BothFit (record { name = name; value = v } ∷ given) (bound ++ plain_value v ∷ []) refl (ap (λ f. f (plain_value v) bound) shape_bound) (named_stands place calls given bound name t v q of h))
+        (BothFit (record { name = name; value = v } ∷ given) (bound ++ plain_value v ∷ []) refl (ap (λ f. f (plain_value v) bound) shape_bound) (named_simulates place calls given bound name t v q of h))
 
 pub name_bare : (name : List ℕ) → ShapeBare (λ outer place t. name_shape name place t) (name ∷ [])
 name_bare name outer place t s e h = by_kind (place.known.items.is_constant name) h e
@@ -114,13 +114,13 @@ name_bare name outer place t s e h = by_kind (place.known.items.is_constant name
 
 -- ---- tuples
 
-abbrev pub EachPatternMeans : List LowersPattern → List PatternMeant → Type 0
+abbrev pub EachPatternMeans : List PatternLowering → List PatternDen → Type 0
 EachPatternMeans [] [] = Unit {0}
-EachPatternMeans (p ∷ ps) (m ∷ ms) = PatternMeansAsLowered p m × EachPatternMeans ps ms
+EachPatternMeans (p ∷ ps) (m ∷ ms) = PatternLowerPreserves p m × EachPatternMeans ps ms
 EachPatternMeans [] (m ∷ ms) = ⊥
 EachPatternMeans (p ∷ ps) [] = ⊥
 
-pub each_name : (ps : List LowersPattern) (ms : List PatternMeant) → EachPatternMeans ps ms → names_of_all ps ≡ all_names ms
+pub each_name : (ps : List PatternLowering) (ms : List PatternDen) → EachPatternMeans ps ms → names_of_all ps ≡ all_names ms
 each_name [] [] h = refl
 each_name [] (m ∷ ms) h = absurd h
 each_name (p ∷ ps) [] h = absurd h
@@ -133,15 +133,15 @@ all_in_both f (a ∷ as') bs e =
     let r = all_in_both f as' bs q.1 in
     (ap (λ b. b && list_all f as') q.0 ∙ r.0, r.1)
 
-parts_fit : (ps : List LowersPattern) (ms : List PatternMeant) → EachPatternMeans ps ms → (ts : List DslxType) (vs : List DslxValue) (outer place : CorePlace) (r : LoweredShapes)
-    → parts_shaped ps ts outer place ≡ Some r → (calls : Functions) (around : List Given) (others : Bindings) → StandsAtPlace outer calls around others → (given : List Given) (bound : Bindings) → StandsAtPlace place calls given bound → each_of (map is_of ts) vs ≡ true
-    → FitsAsLowered r.place calls (fit_each (env_at outer around) ms vs (env_at place given)) (apart_each (map taken_apart r.shapes) (map plain_value vs) bound)
+parts_fit : (ps : List PatternLowering) (ms : List PatternDen) → EachPatternMeans ps ms → (ts : List DslxType) (vs : List DslxValue) (outer place : CoreScope) (r : LoweredShapes)
+    → parts_shaped ps ts outer place ≡ Some r → (calls : Functions) (around : List Given) (others : Bindings) → SimulatesInScope outer calls around others → (given : List Given) (bound : Bindings) → SimulatesInScope place calls given bound → each_of (map is_of ts) vs ≡ true
+    → FitLowerPreserves r.place calls (fit_each (env_at outer around) ms vs (env_at place given)) (apart_each (map taken_apart r.shapes) (map plain_value vs) bound)
 parts_fit [] (m ∷ ms) h ts vs outer place r e calls around others out given bound at of = absurd h
 parts_fit (p ∷ ps) [] h ts vs outer place r e calls around others out given bound at of = absurd h
 parts_fit [] [] h (t ∷ ts) vs outer place r e calls around others out given bound at of = none_some r e
 parts_fit [] [] h [] (v ∷ vs) outer place r e calls around others out given bound at of = absurd (true≢false (sym of))
 parts_fit [] [] h [] [] outer place r e calls around others out given bound at of =
-    subst (λ (x : LoweredShapes). FitsAsLowered x.place calls (Some (env_at place given)) (apart_each (map taken_apart x.shapes) [] bound)) (same_some (record { shapes = []; place = place }) r e)
+    subst (λ (x : LoweredShapes). FitLowerPreserves x.place calls (Some (env_at place given)) (apart_each (map taken_apart x.shapes) [] bound)) (same_some (record { shapes = []; place = place }) r e)
     (BothFit given bound refl refl at)
 parts_fit (p ∷ ps) (m ∷ ms) h [] vs outer place r e calls around others out given bound at of = none_some r e
 parts_fit (p ∷ ps) (m ∷ ms) h (t ∷ ts) [] outer place r e calls around others out given bound at of = absurd (true≢false (sym of))
@@ -149,24 +149,24 @@ parts_fit (p ∷ ps) (m ∷ ms) h (t ∷ ts) (v ∷ vs) outer place r e calls ar
     let s = from_then (p.lower outer place t) (λ s. and_then (parts_shaped ps ts outer s.place) (λ r. Some (record { shapes = s.shape ∷ r.shapes; place = r.place }))) r e in
     let k = from_then (parts_shaped ps ts outer s.0.place) (λ (q : LoweredShapes). Some (record { shapes = s.0.shape ∷ q.shapes; place = q.place })) r s.2 in
     let q = and_true (is_of t v) (each_of (map is_of ts) vs) of in
-    subst (λ (x : LoweredShapes). FitsAsLowered x.place calls (fit_each (env_at outer around) (m ∷ ms) (v ∷ vs) (env_at place given)) (apart_each (map taken_apart x.shapes) (map plain_value (v ∷ vs)) bound))
+    subst (λ (x : LoweredShapes). FitLowerPreserves x.place calls (fit_each (env_at outer around) (m ∷ ms) (v ∷ vs) (env_at place given)) (apart_each (map taken_apart x.shapes) (map plain_value (v ∷ vs)) bound))
     (same_some (record { shapes = s.0.shape ∷ k.0.shapes; place = k.0.place }) r k.2)
     (behind s.0 k.0 (h.0.fits outer place t s.0 s.1 calls around others out given bound at v q.0)
     (λ more values stands. parts_fit ps ms h.1 ts vs outer s.0.place k.0 k.1 calls around others out more values stands q.1))
   where
-    behind : (s : LoweredShape) (k : LoweredShapes) → FitsAsLowered s.place calls (m.fits (env_at outer around) v (env_at place given)) (taken_apart s.shape (plain_value v) bound)
-        → ((more : List Given) (values : Bindings) → StandsAtPlace s.place calls more values
-        → FitsAsLowered k.place calls (fit_each (env_at outer around) ms vs (env_at s.place more)) (apart_each (map taken_apart k.shapes) (map plain_value vs) values))
-        → FitsAsLowered k.place calls (and_then (m.fits (env_at outer around) v (env_at place given)) (fit_each (env_at outer around) ms vs)) (and_then (taken_apart s.shape (plain_value v) bound) (apart_each (map taken_apart k.shapes) (map plain_value vs)))
+    behind : (s : LoweredShape) (k : LoweredShapes) → FitLowerPreserves s.place calls (m.fits (env_at outer around) v (env_at place given)) (taken_apart s.shape (plain_value v) bound)
+        → ((more : List Given) (values : Bindings) → SimulatesInScope s.place calls more values
+        → FitLowerPreserves k.place calls (fit_each (env_at outer around) ms vs (env_at s.place more)) (apart_each (map taken_apart k.shapes) (map plain_value vs) values))
+        → FitLowerPreserves k.place calls (and_then (m.fits (env_at outer around) v (env_at place given)) (fit_each (env_at outer around) ms vs)) (and_then (taken_apart s.shape (plain_value v) bound) (apart_each (map taken_apart k.shapes) (map plain_value vs)))
     behind s k (BothFit more values eo ep stands) rest = moved (rest more values stands)
       where
-        moved : FitsAsLowered k.place calls (fit_each (env_at outer around) ms vs (env_at s.place more)) (apart_each (map taken_apart k.shapes) (map plain_value vs) values)
-            → FitsAsLowered k.place calls (and_then (m.fits (env_at outer around) v (env_at place given)) (fit_each (env_at outer around) ms vs)) (and_then (taken_apart s.shape (plain_value v) bound) (apart_each (map taken_apart k.shapes) (map plain_value vs)))
+        moved : FitLowerPreserves k.place calls (fit_each (env_at outer around) ms vs (env_at s.place more)) (apart_each (map taken_apart k.shapes) (map plain_value vs) values)
+            → FitLowerPreserves k.place calls (and_then (m.fits (env_at outer around) v (env_at place given)) (fit_each (env_at outer around) ms vs)) (and_then (taken_apart s.shape (plain_value v) bound) (apart_each (map taken_apart k.shapes) (map plain_value vs)))
         moved (BothFit a b x y z) = BothFit a b (ap (λ o. and_then o (fit_each (env_at outer around) ms vs)) eo ∙ x) (ap (λ o. and_then o (apart_each (map taken_apart k.shapes) (map plain_value vs))) ep ∙ y) z
         moved (NeitherFits x y) = NeitherFits (ap (λ o. and_then o (fit_each (env_at outer around) ms vs)) eo ∙ x) (ap (λ o. and_then o (apart_each (map taken_apart k.shapes) (map plain_value vs))) ep ∙ y)
     behind s k (NeitherFits eo ep) rest = NeitherFits (ap (λ o. and_then o (fit_each (env_at outer around) ms vs)) eo) (ap (λ o. and_then o (apart_each (map taken_apart k.shapes) (map plain_value vs))) ep)
 
-parts_bare : (ps : List LowersPattern) (ms : List PatternMeant) → EachPatternMeans ps ms → (ts : List DslxType) (outer place : CorePlace) (r : LoweredShapes) → parts_shaped ps ts outer place ≡ Some r
+parts_bare : (ps : List PatternLowering) (ms : List PatternDen) → EachPatternMeans ps ms → (ts : List DslxType) (outer place : CoreScope) (r : LoweredShapes) → parts_shaped ps ts outer place ≡ Some r
     → list_all place.known.items.is_constant (names_of_all ps) ≡ true → r.place ≡ place
 parts_bare [] (m ∷ ms) h ts outer place r e all = absurd h
 parts_bare (p ∷ ps) [] h ts outer place r e all = absurd h
@@ -179,17 +179,17 @@ parts_bare (p ∷ ps) (m ∷ ms) h (t ∷ ts) outer place r e all =
     let q = all_in_both place.known.items.is_constant p.names (names_of_all ps) all in
     let first = h.0.bare outer place t s.0 s.1 q.0 in
     ap (λ (x : LoweredShapes). x.place) (sym (same_some (record { shapes = s.0.shape ∷ k.0.shapes; place = k.0.place }) r k.2))
-    ∙ parts_bare ps ms h.1 ts outer s.0.place k.0 k.1 (ap (λ (x : CorePlace). list_all x.known.items.is_constant (names_of_all ps)) first ∙ q.1) ∙ first
+    ∙ parts_bare ps ms h.1 ts outer s.0.place k.0 k.1 (ap (λ (x : CoreScope). list_all x.known.items.is_constant (names_of_all ps)) first ∙ q.1) ∙ first
 
 tuple_type : (t : DslxType) (ts : List DslxType) → out-DslxType t ≡ DslxType-F.Tuple ts → t ≡ ty.Tuple ts
 tuple_type t ts e = sym (type_views.roll-out-DslxType t) ∙ ap type_views.roll-DslxType e ∙ type_rolls.rolls-Tuple ts
 
-pub tuple_fits : (ps : List LowersPattern) (ms : List PatternMeant) → EachPatternMeans ps ms
+pub tuple_fits : (ps : List PatternLowering) (ms : List PatternDen) → EachPatternMeans ps ms
     → PartFits (λ outer place t. tuple_shape ps outer place (out-DslxType t)) (λ outer v env. and_then (elements_of v) (λ vs. fit_each outer ms vs env))
 tuple_fits ps ms h outer place t s e calls around others out given bound at v of = by_level (out-DslxType t) refl e
   where
     by_level : (l : DslxType-F DslxType) → out-DslxType t ≡ l → tuple_shape ps outer place l ≡ Some s
-        → FitsAsLowered s.place calls (and_then (elements_of v) (λ vs. fit_each (env_at outer around) ms vs (env_at place given))) (taken_apart s.shape (plain_value v) bound)
+        → FitLowerPreserves s.place calls (and_then (elements_of v) (λ vs. fit_each (env_at outer around) ms vs (env_at place given))) (taken_apart s.shape (plain_value v) bound)
     by_level (DslxType-F.Tuple ts) q k =
         let r = from_then (parts_shaped ps ts outer place) (λ r. shaped (shape.Tuple r.shapes) r.place) s k in
         let vs = is_tuple_of ts v (ap (λ u. is_of u v) (sym (tuple_type t ts q)) ∙ of) in
@@ -197,12 +197,12 @@ tuple_fits ps ms h outer place t s e calls around others out given bound at v of
         let apart : taken_apart (shape.Tuple r.0.shapes) (plain_value v) bound ≡ apart_each (map taken_apart r.0.shapes) (map plain_value vs.0) bound =
         ap (λ f. f (plain_value v) bound) (shape_tuple r.0.shapes) ∙ ap (λ u. and_then (tuple_values_step (out-Value u)) (λ ws. apart_each (map taken_apart r.0.shapes) ws bound)) (plain_level v (DslxValue-F.Tuple vs.0) vs.1)
         ∙ ap (λ l. and_then (tuple_values_step l) (λ ws. apart_each (map taken_apart r.0.shapes) ws bound)) (plain_views.outs-Tuple (map plain_value vs.0)) in
-        subst (λ (x : LoweredShape). FitsAsLowered x.place calls (and_then (elements_of v) (λ vs. fit_each (env_at outer around) ms vs (env_at place given))) (taken_apart x.shape (plain_value v) bound))
+        subst (λ (x : LoweredShape). FitLowerPreserves x.place calls (and_then (elements_of v) (λ vs. fit_each (env_at outer around) ms vs (env_at place given))) (taken_apart x.shape (plain_value v) bound))
         (same_some (record { shape = shape.Tuple r.0.shapes; place = r.0.place }) s r.2)
         (moved r.0 (and_then (elements_of v) (λ vs. fit_each (env_at outer around) ms vs (env_at place given))) (taken_apart (shape.Tuple r.0.shapes) (plain_value v) bound)
         (fit_each (env_at outer around) ms vs.0 (env_at place given)) (apart_each (map taken_apart r.0.shapes) (map plain_value vs.0) bound) source apart (parts_fit ps ms h ts vs.0 outer place r.0 r.1 calls around others out given bound at vs.2))
       where
-        moved : (r : LoweredShapes) (o : Option Env) (p : Option Bindings) (o' : Option Env) (p' : Option Bindings) → o ≡ o' → p ≡ p' → FitsAsLowered r.place calls o' p' → FitsAsLowered r.place calls o p
+        moved : (r : LoweredShapes) (o : Option Env) (p : Option Bindings) (o' : Option Env) (p' : Option Bindings) → o ≡ o' → p ≡ p' → FitLowerPreserves r.place calls o' p' → FitLowerPreserves r.place calls o p
         moved r o p o' p' x y (BothFit a b c d z) = BothFit a b (x ∙ c) (y ∙ d) z
         moved r o p o' p' x y (NeitherFits c d) = NeitherFits (x ∙ c) (y ∙ d)
     by_level (DslxType-F.Bits a b) q k = none_some s k
@@ -211,7 +211,7 @@ tuple_fits ps ms h outer place t s e calls around others out given bound at v of
     by_level (DslxType-F.Enum a b c) q k = none_some s k
     by_level DslxType-F.Token q k = none_some s k
 
-pub tuple_bare : (ps : List LowersPattern) (ms : List PatternMeant) → EachPatternMeans ps ms → ShapeBare (λ outer place t. tuple_shape ps outer place (out-DslxType t)) (names_of_all ps)
+pub tuple_bare : (ps : List PatternLowering) (ms : List PatternDen) → EachPatternMeans ps ms → ShapeBare (λ outer place t. tuple_shape ps outer place (out-DslxType t)) (names_of_all ps)
 tuple_bare ps ms h outer place t s e all = by_level (out-DslxType t) e
   where
     by_level : (l : DslxType-F DslxType) → tuple_shape ps outer place l ≡ Some s → s.place ≡ place

@@ -9,7 +9,7 @@ use Rattle.dslx_meaning.specs.declared.value.DslxValue as value
 use Rattle.dslx_meaning.specs.declared.value.DslxValue.TheOpen.{DslxValue-F}
 use Rattle.dslx_meaning.specs.declared.value.DslxValue.TheViews as views
 use Rattle.dslx_meaning.specs.declared.value.DslxValue.TheFolds.{fold-roll-DslxValue, map-DslxValue}
-use Rattle.dslx_core.specs.CoreValues.{CoreMeaning, ArmMeaning, core_value, core_step, arm_step, TakesApart, shape_step, taken_apart}
+use Rattle.dslx_core.specs.CoreValues.{CoreDen, CoreArmDen, core_value, core_step, arm_step, TakesApart, shape_step, taken_apart}
 use Rattle.dslx_core.specs.declared.expr.CoreUnary.{CoreUnary}
 use Rattle.dslx_core.specs.declared.expr.CoreBinary.{CoreBinary}
 use Rattle.dslx_core.specs.declared.expr.Sign.{Sign}
@@ -51,14 +51,14 @@ of_level v l e = sym (views.roll-out-DslxValue v) ∙ ap views.roll-DslxValue e
 
 -- ---- core expressions
 
-abbrev pub arm_meaning : Arm → ArmMeaning
-arm_meaning = fold-Arm CoreMeaning ArmMeaning core_step arm_step
+abbrev pub core_arm_den : Arm → CoreArmDen
+core_arm_den = fold-Arm CoreDen CoreArmDen core_step arm_step
 
-abbrev layer_value : CoreExpr-F CoreExpr Arm → CoreMeaning
-layer_value x = core_step (map-CoreExpr CoreExpr Arm CoreMeaning ArmMeaning core_value arm_meaning x)
+abbrev layer_value : CoreExpr-F CoreExpr Arm → CoreDen
+layer_value x = core_step (map-CoreExpr CoreExpr Arm CoreDen CoreArmDen core_value core_arm_den x)
 
 opened : (e : CoreExpr) (x : CoreExpr-F CoreExpr Arm) → out-CoreExpr e ≡ x → core_value e ≡ layer_value x
-opened e x h = fold_out-CoreExpr CoreMeaning ArmMeaning core_step arm_step e ∙ ap layer_value h
+opened e x h = fold_out-CoreExpr CoreDen CoreArmDen core_step arm_step e ∙ ap layer_value h
 
 pub core_literal : (v : Value) → core_value (core.Literal v) ≡ core_step (CoreExpr-F.Literal v)
 core_literal v = opened (core.Literal v) (CoreExpr-F.Literal v) (core_views.outs-Literal v)
@@ -102,7 +102,7 @@ core_bind e s body = opened (core.Bind e s body) (CoreExpr-F.Bind e s body) (cor
 pub core_choose : (c a b : CoreExpr) → core_value (core.Choose c a b) ≡ core_step (CoreExpr-F.Choose (core_value c) (core_value a) (core_value b))
 core_choose c a b = opened (core.Choose c a b) (CoreExpr-F.Choose c a b) (core_views.outs-Choose c a b)
 
-pub core_select : (e : CoreExpr) (arms : List Arm) → core_value (core.Select e arms) ≡ core_step (CoreExpr-F.Select (core_value e) (map arm_meaning arms))
+pub core_select : (e : CoreExpr) (arms : List Arm) → core_value (core.Select e arms) ≡ core_step (CoreExpr-F.Select (core_value e) (map core_arm_den arms))
 core_select e arms = opened (core.Select e arms) (CoreExpr-F.Select e arms) (core_views.outs-Select e arms)
 
 pub core_loop : (n : ℕ) (from : Word) (i acc : Shape) (body start : CoreExpr) → core_value (core.Loop n from i acc body start) ≡ core_step (CoreExpr-F.Loop n from i acc (core_value body) (core_value start))
@@ -111,9 +111,9 @@ core_loop n from i acc body start = opened (core.Loop n from i acc body start) (
 pub core_call : (f : ℕ) (es : List CoreExpr) → core_value (core.Call f es) ≡ core_step (CoreExpr-F.Call f (map core_value es))
 core_call f es = opened (core.Call f es) (CoreExpr-F.Call f es) (core_views.outs-Call f es)
 
-pub core_arm : (shapes : List Shape) (e : CoreExpr) → fold-Arm CoreMeaning ArmMeaning core_step arm_step (roll-Arm (record { shapes = shapes; value = e })) ≡ record { shapes = shapes; value = core_value e }
+pub core_arm : (shapes : List Shape) (e : CoreExpr) → fold-Arm CoreDen CoreArmDen core_step arm_step (roll-Arm (record { shapes = shapes; value = e })) ≡ record { shapes = shapes; value = core_value e }
 core_arm shapes e =
-    fold_out-Arm CoreMeaning ArmMeaning core_step arm_step (roll-Arm (record { shapes = shapes; value = e }))
+    fold_out-Arm CoreDen CoreArmDen core_step arm_step (roll-Arm (record { shapes = shapes; value = e }))
     ∙ ap (λ (a : Arm-F CoreExpr Arm). record { shapes = a.shapes; value = core_value a.value }) (core_views.out-roll-Arm (record { shapes = shapes; value = e }))
 
 -- ---- shapes

@@ -17,7 +17,7 @@ use Rattle.dslx_meaning.specs.declared.value.SignedWord.{SignedWord}
 use Rattle.dslx_typing.proofs.Lemmas.Typed.{in_range, bits_lie, prefix_made, binary_made, same_some}
 use Rattle.dslx_core.specs.CoreValues.{Bindings, Functions, core_value, word_in, unary_word, binary_words}
 use Rattle.dslx_core.specs.declared.expr.CoreExpr as core
-use Rattle.dslx_core.specs.Lowering.Lowering.{LoweredExpr, lowered, prefix_core, prefix_lowered, binary_core, result_of_binary, fits_operands, sign_of}
+use Rattle.dslx_core.specs.Lowering.Lowering.{LoweredExpr, lowered, prefix_core, lower_prefix, binary_core, result_of_binary, fits_operands, sign_of}
 use Rattle.dslx_core.specs.Lowering.Correspondence.{HasPlainValue, KeepsValue}
 use Rattle.dslx_core.proofs.OnLowering.Openings.{core_unary, core_binary}
 use Rattle.dslx_core.proofs.OnLowering.Words.{gives_word, sign_of_bits}
@@ -34,7 +34,7 @@ prefix_same Minus x = refl
 prefix_same Not x = refl
 
 pub prefix_keeps : (calls : Functions) (bound : Bindings) (p : Prefix) (l : Option LoweredExpr) (o : Option DslxValue) → KeepsValue calls bound l o
-    → KeepsValue calls bound (prefix_lowered p l) (and_then o (prefix_value p))
+    → KeepsValue calls bound (lower_prefix p l) (and_then o (prefix_value p))
 prefix_keeps calls bound p l o keeps e h v k =
     let a = from_then l (λ e. lowered (core.Unary (prefix_core p) e.core) e.ty) e h in
     let c = from_then o (prefix_value p) v k in

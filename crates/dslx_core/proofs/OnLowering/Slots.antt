@@ -10,7 +10,7 @@ use Rattle.dslx_tree.specs.declared.expr.Expr.{Expr}
 use Rattle.dslx_meaning.specs.Lists.{is_in}
 use Rattle.dslx_meaning.specs.Values.{plain_value}
 use Rattle.dslx_meaning.specs.Environment.{Given, given_in}
-use Rattle.dslx_meaning.specs.Meaning.{meant, value_of, size_of, bound_of, count_in, bound_in, some_count}
+use Rattle.dslx_meaning.specs.Meaning.{denotation, value_of, size_of, bound_of, count_in, bound_in, some_count}
 use Rattle.dslx_meaning.specs.Lists.{and_then}
 use Rattle.dslx_meaning.specs.declared.ty.DslxType.{DslxType}
 use Rattle.dslx_meaning.specs.declared.value.DslxValue.{DslxValue}
@@ -20,8 +20,8 @@ use Rattle.dslx_typing.proofs.Lemmas.Laws.{value_depends, bound_alike}
 use Rattle.dslx_typing.specs.Typed.Kinds.{is_of}
 use Rattle.dslx_typing.proofs.Lemmas.Typed.{none_some, or_false, same_some}
 use Rattle.dslx_core.specs.CoreValues.{Bindings, Functions}
-use Rattle.dslx_core.specs.Lowering.CorePlaces.{BoundSlot, CorePlace, bound_at, constant_at, known_env, local_in, sees_a_local, size_at, slot_names, unless_local, with_local, with_unnamed}
-use Rattle.dslx_core.specs.Lowering.Correspondence.{SlotsStand, StandsAtPlace, env_at}
+use Rattle.dslx_core.specs.Lowering.CoreScopes.{BoundSlot, CoreScope, bound_at, constant_at, globals_env, local_in, sees_a_local, size_at, slot_names, unless_local, with_local, with_unnamed}
+use Rattle.dslx_core.specs.Lowering.Correspondence.{SlotsSimulate, SimulatesInScope, env_at}
 
 -- ---- lists that grow at their end
 
@@ -40,27 +40,27 @@ one_longer (x ∷ xs) b = ap suc (one_longer xs b)
 
 -- ---- one more value
 
-slots_before : (ls : List BoundSlot) (numbers given : List Given) (bound : Bindings) (w : Value) → SlotsStand ls numbers given bound → SlotsStand ls numbers given (bound ++ w ∷ [])
-slots_before [] numbers given bound w h = h
-slots_before (l ∷ ls) numbers [] bound w h = h
-slots_before (l ∷ ls) numbers (g ∷ gs) bound w h = (h.0, h.1, before_end bound w l.slot (plain_value g.value) h.2, slots_before ls numbers gs bound w h.3)
+slots_before : (ls : List BoundSlot) (parametric_args given : List Given) (bound : Bindings) (w : Value) → SlotsSimulate ls parametric_args given bound → SlotsSimulate ls parametric_args given (bound ++ w ∷ [])
+slots_before [] parametric_args given bound w h = h
+slots_before (l ∷ ls) parametric_args [] bound w h = h
+slots_before (l ∷ ls) parametric_args (g ∷ gs) bound w h = (h.0, h.1, before_end bound w l.slot (plain_value g.value) h.2, slots_before ls parametric_args gs bound w h.3)
 
 -- to no name
-pub unnamed_stands : (place : CorePlace) (calls : Functions) (given : List Given) (bound : Bindings) (w : Value) → StandsAtPlace place calls given bound → StandsAtPlace (with_unnamed place) calls given (bound ++ w ∷ [])
-unnamed_stands place calls given bound w h = record {
+pub unnamed_simulates : (place : CoreScope) (calls : Functions) (given : List Given) (bound : Bindings) (w : Value) → SimulatesInScope place calls given bound → SimulatesInScope (with_unnamed place) calls given (bound ++ w ∷ [])
+unnamed_simulates place calls given bound w h = record {
   known = h.known;
   count = one_longer bound w ∙ ap suc h.count;
-  slots = slots_before place.locals place.known.numbers given bound w h.slots;
+  slots = slots_before place.locals place.known.parametric_args given bound w h.slots;
   hides = h.hides;
 }
 
 -- to a name that is no constant's
-pub named_stands : (place : CorePlace) (calls : Functions) (given : List Given) (bound : Bindings) (name : List ℕ) (t : DslxType) (v : DslxValue) → place.known.items.is_constant name ≡ false
-    → is_of t v ≡ true → StandsAtPlace place calls given bound → StandsAtPlace (with_local name t place) calls (record { name = name; value = v } ∷ given) (bound ++ plain_value v ∷ [])
-named_stands place calls given bound name t v free of h = record {
+pub named_simulates : (place : CoreScope) (calls : Functions) (given : List Given) (bound : Bindings) (name : List ℕ) (t : DslxType) (v : DslxValue) → place.known.items.is_constant name ≡ false
+    → is_of t v ≡ true → SimulatesInScope place calls given bound → SimulatesInScope (with_local name t place) calls (record { name = name; value = v } ∷ given) (bound ++ plain_value v ∷ [])
+named_simulates place calls given bound name t v free of h = record {
   known = h.known;
   count = one_longer bound (plain_value v) ∙ ap suc h.count;
-  slots = (refl, of, ap (slice_get (bound ++ plain_value v ∷ [])) (sym h.count) ∙ at_end bound (plain_value v), slots_before place.locals place.known.numbers given bound (plain_value v) h.slots);
+  slots = (refl, of, ap (slice_get (bound ++ plain_value v ∷ [])) (sym h.count) ∙ at_end bound (plain_value v), slots_before place.locals place.known.parametric_args given bound (plain_value v) h.slots);
   hides = λ n c. hidden n (bytes_eq n name) refl c (h.hides n c);
 }
   where
@@ -71,20 +71,20 @@ named_stands place calls given bound name t v free of h = record {
 -- ---- names
 
 -- a bound name has a value of its type, which stands at its number
-pub record LocalStands (l : BoundSlot) (name : List ℕ) (given : List Given) (bound : Bindings) : Type 0 where
+pub record LocalSimulates (l : BoundSlot) (name : List ℕ) (given : List Given) (bound : Bindings) : Type 0 where
   pub value : DslxValue
   pub is : given_in name given ≡ Some value
   pub of : is_of l.ty value ≡ true
   pub stands : slice_get bound l.slot ≡ Some (plain_value value)
 
-pub local_stands : (ls : List BoundSlot) (numbers given : List Given) (bound : Bindings) (name : List ℕ) (l : BoundSlot) → SlotsStand ls numbers given bound → local_in name ls ≡ Some l
-    → LocalStands l name given bound
-local_stands [] numbers given bound name l h e = none_some l e
-local_stands (k ∷ ls) numbers [] bound name l h e = absurd h
-local_stands (k ∷ ls) numbers (g ∷ gs) bound name l h e = by_name (bytes_eq name k.name) refl e (local_stands ls numbers gs bound name l h.3)
+pub local_simulates : (ls : List BoundSlot) (parametric_args given : List Given) (bound : Bindings) (name : List ℕ) (l : BoundSlot) → SlotsSimulate ls parametric_args given bound → local_in name ls ≡ Some l
+    → LocalSimulates l name given bound
+local_simulates [] parametric_args given bound name l h e = none_some l e
+local_simulates (k ∷ ls) parametric_args [] bound name l h e = absurd h
+local_simulates (k ∷ ls) parametric_args (g ∷ gs) bound name l h e = by_name (bytes_eq name k.name) refl e (local_simulates ls parametric_args gs bound name l h.3)
   where
-    by_name : (b : Bool) → bytes_eq name k.name ≡ b → (if b then Some k else local_in name ls) ≡ Some l → (local_in name ls ≡ Some l → LocalStands l name gs bound)
-        → LocalStands l name (g ∷ gs) bound
+    by_name : (b : Bool) → bytes_eq name k.name ≡ b → (if b then Some k else local_in name ls) ≡ Some l → (local_in name ls ≡ Some l → LocalSimulates l name gs bound)
+        → LocalSimulates l name (g ∷ gs) bound
     by_name true q r others =
         let is = same_some k l r in
         record {
@@ -102,15 +102,15 @@ local_stands (k ∷ ls) numbers (g ∷ gs) bound name l h e = by_name (bytes_eq 
           stands = rest.stands;
         }
 
--- what is no local is a number parameter, if one has the name
-pub other_stands : (ls : List BoundSlot) (numbers given : List Given) (bound : Bindings) (name : List ℕ) → SlotsStand ls numbers given bound → local_in name ls ≡ None
-    → given_in name given ≡ given_in name numbers
-other_stands [] numbers given bound name h e = ap (given_in name) h
-other_stands (k ∷ ls) numbers [] bound name h e = absurd h
-other_stands (k ∷ ls) numbers (g ∷ gs) bound name h e = by_name (bytes_eq name k.name) refl e (other_stands ls numbers gs bound name h.3)
+-- what is no local is a parametric, if one has the name
+pub other_stands : (ls : List BoundSlot) (parametric_args given : List Given) (bound : Bindings) (name : List ℕ) → SlotsSimulate ls parametric_args given bound → local_in name ls ≡ None
+    → given_in name given ≡ given_in name parametric_args
+other_stands [] parametric_args given bound name h e = ap (given_in name) h
+other_stands (k ∷ ls) parametric_args [] bound name h e = absurd h
+other_stands (k ∷ ls) parametric_args (g ∷ gs) bound name h e = by_name (bytes_eq name k.name) refl e (other_stands ls parametric_args gs bound name h.3)
   where
-    by_name : (b : Bool) → bytes_eq name k.name ≡ b → (if b then Some k else local_in name ls) ≡ None → (local_in name ls ≡ None → given_in name gs ≡ given_in name numbers)
-        → given_in name (g ∷ gs) ≡ given_in name numbers
+    by_name : (b : Bool) → bytes_eq name k.name ≡ b → (if b then Some k else local_in name ls) ≡ None → (local_in name ls ≡ None → given_in name gs ≡ given_in name parametric_args)
+        → given_in name (g ∷ gs) ≡ given_in name parametric_args
     by_name true q r others = none_some k (sym r)
     by_name false q r others = ap (λ b. if b then Some g.value else given_in name gs) (ap (bytes_eq name) h.0 ∙ q) ∙ others r
 
@@ -124,38 +124,38 @@ not_local (k ∷ ls) name e = by_name (bytes_eq name k.name) e (not_local ls nam
     by_name true r others = absurd (true≢false r)
     by_name false r others = others r
 
-free_alike : (place : CorePlace) (calls : Functions) (given : List Given) (bound : Bindings) → StandsAtPlace place calls given bound → (names : List (List ℕ))
-    → list_any (λ name. is_in name (slot_names place.locals)) names ≡ false → AreBoundAlike names given place.known.numbers
+free_alike : (place : CoreScope) (calls : Functions) (given : List Given) (bound : Bindings) → SimulatesInScope place calls given bound → (names : List (List ℕ))
+    → list_any (λ name. is_in name (slot_names place.locals)) names ≡ false → AreBoundAlike names given place.known.parametric_args
 free_alike place calls given bound h [] e = tt
 free_alike place calls given bound h (n ∷ ns) e =
     let q = or_false (is_in n (slot_names place.locals)) (list_any (λ name. is_in name (slot_names place.locals)) ns) e in
-    (other_stands place.locals place.known.numbers given bound n h.slots (not_local place.locals n q.0), free_alike place calls given bound h ns q.1)
+    (other_stands place.locals place.known.parametric_args given bound n h.slots (not_local place.locals n q.0), free_alike place calls given bound h ns q.1)
 
 -- an expression that names no local has the value of its place where constants are evaluated
-pub same_where_known : (place : CorePlace) (calls : Functions) (given : List Given) (bound : Bindings) → StandsAtPlace place calls given bound → (e : Expr) → sees_a_local place e ≡ false
-    → value_of e (env_at place given) ≡ value_of e (known_env place.known)
+pub same_where_known : (place : CoreScope) (calls : Functions) (given : List Given) (bound : Bindings) → SimulatesInScope place calls given bound → (e : Expr) → sees_a_local place e ≡ false
+    → value_of e (env_at place given) ≡ value_of e (globals_env place.known)
 same_where_known place calls given bound h e f =
-    value_depends e [] (env_at place given) (known_env place.known) tt
-    (bound_alike place.known.items given place.known.numbers (λ name c. h.hides name c ∙ sym (h.known.hides name c)) (mentioned e []) (free_alike place calls given bound h (free_names e) f))
+    value_depends e [] (env_at place given) (globals_env place.known) tt
+    (bound_alike place.known.items given place.known.parametric_args (λ name c. h.hides name c ∙ sym (h.known.hides name c)) (mentioned e []) (free_alike place calls given bound h (free_names e) f))
 
 from_unless : {A : Type 0} (t : Bool) (o : Option A) (a : A) → unless_local t o ≡ Some a → (t ≡ false) × (o ≡ Some a)
 from_unless true o a e = none_some a e
 from_unless false o a e = (refl, e)
 
-pub constant_means : (place : CorePlace) (calls : Functions) (given : List Given) (bound : Bindings) → StandsAtPlace place calls given bound → (e : Expr) (v : DslxValue) → constant_at place e ≡ Some v
+pub constant_means : (place : CoreScope) (calls : Functions) (given : List Given) (bound : Bindings) → SimulatesInScope place calls given bound → (e : Expr) (v : DslxValue) → constant_at place e ≡ Some v
     → value_of e (env_at place given) ≡ Some v
 constant_means place calls given bound h e v k =
-    let q = from_unless (sees_a_local place e) (value_of e (known_env place.known)) v k in
+    let q = from_unless (sees_a_local place e) (value_of e (globals_env place.known)) v k in
     same_where_known place calls given bound h e q.0 ∙ q.1
 
-pub size_means : (place : CorePlace) (calls : Functions) (given : List Given) (bound : Bindings) → StandsAtPlace place calls given bound → (e : Expr) (n : ℕ) → size_at place e ≡ Some n
-    → size_of (meant e) (env_at place given) ≡ Some n
+pub size_means : (place : CoreScope) (calls : Functions) (given : List Given) (bound : Bindings) → SimulatesInScope place calls given bound → (e : Expr) (n : ℕ) → size_at place e ≡ Some n
+    → size_of (denotation e) (env_at place given) ≡ Some n
 size_means place calls given bound h e n k =
-    let q = from_unless (sees_a_local place e) (size_of (meant e) (known_env place.known)) n k in
-    ap (λ o. and_then (count_in (meant e).bare o) some_count) (same_where_known place calls given bound h e q.0) ∙ q.1
+    let q = from_unless (sees_a_local place e) (size_of (denotation e) (globals_env place.known)) n k in
+    ap (λ o. and_then (count_in (denotation e).bare o) some_count) (same_where_known place calls given bound h e q.0) ∙ q.1
 
-pub bound_means : (place : CorePlace) (calls : Functions) (given : List Given) (bound : Bindings) → StandsAtPlace place calls given bound → (e : Expr) (n : ℕ) → bound_at place e ≡ Some n
-    → bound_of (meant e) (env_at place given) ≡ Some n
+pub bound_means : (place : CoreScope) (calls : Functions) (given : List Given) (bound : Bindings) → SimulatesInScope place calls given bound → (e : Expr) (n : ℕ) → bound_at place e ≡ Some n
+    → bound_of (denotation e) (env_at place given) ≡ Some n
 bound_means place calls given bound h e n k =
-    let q = from_unless (sees_a_local place e) (bound_of (meant e) (known_env place.known)) n k in
-    ap (bound_in (meant e).bare) (same_where_known place calls given bound h e q.0) ∙ q.1
+    let q = from_unless (sees_a_local place e) (bound_of (denotation e) (globals_env place.known)) n k in
+    ap (bound_in (denotation e).bare) (same_where_known place calls given bound h e q.0) ∙ q.1

@@ -14,7 +14,7 @@ use Rattle.dslx_meaning.specs.Lists.{and_then, pairwise}
 use Rattle.dslx_meaning.specs.Values.{plain_value, type_of_value}
 use Rattle.dslx_meaning.specs.Environment.{Meanings, Given, given_in}
 use Rattle.dslx_meaning.specs.Meaning.{value_of_block}
-use Rattle.dslx_meaning.specs.Items.{all_numbers, as_function, call_of, function_value, inferred_from, item_named, meanings_over, numbers_bound, operands_bound}
+use Rattle.dslx_meaning.specs.Items.{all_parametric_args, as_function, call_of, function_value, inferred_from, item_named, meanings_over, parametric_args_bound, operands_bound}
 use Rattle.dslx_meaning.specs.declared.ty.DslxType.{DslxType}
 use Rattle.dslx_meaning.specs.declared.value.DslxValue.{DslxValue}
 use Rattle.dslx_typing.proofs.Lemmas.Laws.{and_true, one_value_by_test}
@@ -23,37 +23,37 @@ use Rattle.dslx_typing.proofs.Lemmas.Typed.{none_some, one_type, same_some}
 use Rattle.dslx_core.specs.CoreValues.{Bindings, Functions, core_value}
 use Rattle.dslx_core.specs.Designs.{and_function, functions_from, no_function}
 use Rattle.dslx_core.specs.declared.design.Function as core
-use Rattle.dslx_core.specs.Lowering.CorePlaces.{CoreCallee, CoreKnown, CorePlace, with_local}
+use Rattle.dslx_core.specs.Lowering.CoreScopes.{CoreCallee, BodyEnv, CoreScope, with_local}
 use Rattle.dslx_core.specs.Lowering.EqualTypes.{equal_type}
-use Rattle.dslx_core.specs.Lowering.Trees.{block_of_text_lowered}
-use Rattle.dslx_core.specs.Lowering.Correspondence.{CallsStand, HidesNoConstant, IsOwn, StandsAtPlace, KnownStands}
-use Rattle.dslx_core.specs.Lowering.Functions.{CoreInstance, Instantiated, LoweredFunction, argument_types, arguments_placed, body_lowered, callee_in, callee_of, core_function, instance_known, instance_in, instance_lowered, instances_from, is_instance, next_instance, numbers_stand, outer_place}
-use Rattle.dslx_core.specs.Lowering.Instances.{InstanceStandsFor, InstancesStand, ItemsAreOwn, functions_of_instances}
+use Rattle.dslx_core.specs.Lowering.Trees.{lower_block_of_text}
+use Rattle.dslx_core.specs.Lowering.Correspondence.{CallsSimulate, HidesNoConstant, IsOwn, SimulatesInScope, BodyEnvSimulates}
+use Rattle.dslx_core.specs.Lowering.Functions.{CoreInstance, Instantiated, LoweredFunction, argument_types, arguments_in_scope, lower_function_body, callee_in, callee_of, core_function, instance_globals, instance_in, lower_instance, instances_from, is_instance, next_instance, parametric_args_are_well_typed, outer_scope}
+use Rattle.dslx_core.specs.Lowering.Instances.{InstanceSimulates, InstancesSimulate, ItemsAreOwn, functions_of_instances}
 use Rattle.dslx_core.proofs.OnLowering.Joined.{block_of_text_means}
 use Rattle.dslx_core.proofs.OnLowering.Kept.{from_then, from_where}
 use Rattle.dslx_meaning.specs.Rules.EqualValues.{equal_value}
 use Rattle.dslx_core.proofs.OnLowering.OneType.{one_by_test}
-use Rattle.dslx_core.proofs.OnLowering.Slots.{named_stands}
+use Rattle.dslx_core.proofs.OnLowering.Slots.{named_simulates}
 
--- ---- number parameters
+-- ---- parametrics
 
-pub numbers_own : (items : Meanings) (gs : List Given) → numbers_stand items gs ≡ true → (name : List ℕ) (v : DslxValue) → given_in name gs ≡ Some v → IsOwn v
-numbers_own items [] h name v e = none_some v e
-numbers_own items (g ∷ gs) h name v e = by_name (bytes_eq name g.name) e (numbers_own items gs (parts.1) name v)
+pub parametric_args_own : (items : Meanings) (gs : List Given) → parametric_args_are_well_typed items gs ≡ true → (name : List ℕ) (v : DslxValue) → given_in name gs ≡ Some v → IsOwn v
+parametric_args_own items [] h name v e = none_some v e
+parametric_args_own items (g ∷ gs) h name v e = by_name (bytes_eq name g.name) e (parametric_args_own items gs (parts.1) name v)
   where
-    parts : ((not (items.is_constant g.name) && is_of (type_of_value g.value) g.value) ≡ true) × (numbers_stand items gs ≡ true)
-    parts = and_true (not (items.is_constant g.name) && is_of (type_of_value g.value) g.value) (numbers_stand items gs) h
+    parts : ((not (items.is_constant g.name) && is_of (type_of_value g.value) g.value) ≡ true) × (parametric_args_are_well_typed items gs ≡ true)
+    parts = and_true (not (items.is_constant g.name) && is_of (type_of_value g.value) g.value) (parametric_args_are_well_typed items gs) h
 
     by_name : (b : Bool) → (if b then Some g.value else given_in name gs) ≡ Some v → (given_in name gs ≡ Some v → IsOwn v) → IsOwn v
     by_name true q rest = subst IsOwn (same_some g.value v q) (and_true (not (items.is_constant g.name)) (is_of (type_of_value g.value) g.value) parts.0).1
     by_name false q rest = rest q
 
-pub numbers_hide : (items : Meanings) (gs : List Given) → numbers_stand items gs ≡ true → HidesNoConstant items gs
-numbers_hide items [] h name c = refl
-numbers_hide items (g ∷ gs) h name c = by_name (bytes_eq name g.name) refl (numbers_hide items gs parts.1 name c)
+pub parametric_args_hide : (items : Meanings) (gs : List Given) → parametric_args_are_well_typed items gs ≡ true → HidesNoConstant items gs
+parametric_args_hide items [] h name c = refl
+parametric_args_hide items (g ∷ gs) h name c = by_name (bytes_eq name g.name) refl (parametric_args_hide items gs parts.1 name c)
   where
-    parts : ((not (items.is_constant g.name) && is_of (type_of_value g.value) g.value) ≡ true) × (numbers_stand items gs ≡ true)
-    parts = and_true (not (items.is_constant g.name) && is_of (type_of_value g.value) g.value) (numbers_stand items gs) h
+    parts : ((not (items.is_constant g.name) && is_of (type_of_value g.value) g.value) ≡ true) × (parametric_args_are_well_typed items gs ≡ true)
+    parts = and_true (not (items.is_constant g.name) && is_of (type_of_value g.value) g.value) (parametric_args_are_well_typed items gs) h
 
     by_name : (b : Bool) → bytes_eq name g.name ≡ b → given_in name gs ≡ None → (if b then Some g.value else given_in name gs) ≡ None
     by_name true q rest =
@@ -63,41 +63,41 @@ numbers_hide items (g ∷ gs) h name c = by_name (bytes_eq name g.name) refl (nu
 
 -- ---- arguments
 
-record PlacedArguments (outer place : CorePlace) (calls : Functions) (given : List Given) (bound : Bindings) : Type 0 where
+record ArgumentsInScope (outer place : CoreScope) (calls : Functions) (given : List Given) (bound : Bindings) : Type 0 where
   pub known : place.known ≡ outer.known
-  pub stands : StandsAtPlace place calls given bound
+  pub stands : SimulatesInScope place calls given bound
 
-arguments_stand : (fs : List Field) (ts : List DslxType) (outer place : CorePlace) → arguments_placed fs ts outer ≡ Some place → (calls : Functions) (given : List Given) (bound : Bindings) → StandsAtPlace outer calls given bound
-    → (vs : List DslxValue) → each_of (map is_of ts) vs ≡ true → PlacedArguments outer place calls (operands_bound given fs vs) (bound ++ map plain_value vs)
-arguments_stand [] (t ∷ ts) outer place e calls given bound h vs of = none_some place e
-arguments_stand (f ∷ fs) [] outer place e calls given bound h vs of = none_some place e
-arguments_stand [] [] outer place e calls given bound h (v ∷ vs) of = absurd (true≢false (sym of))
-arguments_stand [] [] outer place e calls given bound h [] of =
-    subst (λ p. PlacedArguments outer p calls given (bound ++ [])) (same_some outer place e)
-    (record { known = refl; stands = subst (StandsAtPlace outer calls given) (sym (nothing_behind bound)) h })
+arguments_simulate : (fs : List Field) (ts : List DslxType) (outer place : CoreScope) → arguments_in_scope fs ts outer ≡ Some place → (calls : Functions) (given : List Given) (bound : Bindings) → SimulatesInScope outer calls given bound
+    → (vs : List DslxValue) → each_of (map is_of ts) vs ≡ true → ArgumentsInScope outer place calls (operands_bound given fs vs) (bound ++ map plain_value vs)
+arguments_simulate [] (t ∷ ts) outer place e calls given bound h vs of = none_some place e
+arguments_simulate (f ∷ fs) [] outer place e calls given bound h vs of = none_some place e
+arguments_simulate [] [] outer place e calls given bound h (v ∷ vs) of = absurd (true≢false (sym of))
+arguments_simulate [] [] outer place e calls given bound h [] of =
+    subst (λ p. ArgumentsInScope outer p calls given (bound ++ [])) (same_some outer place e)
+    (record { known = refl; stands = subst (SimulatesInScope outer calls given) (sym (nothing_behind bound)) h })
   where
     nothing_behind : (bs : Bindings) → (bs ++ []) ≡ bs
     nothing_behind [] = refl
     nothing_behind (b ∷ bs) = ap (λ cs. b ∷ cs) (nothing_behind bs)
-arguments_stand (f ∷ fs) (t ∷ ts) outer place e calls given bound h [] of = absurd (true≢false (sym of))
-arguments_stand (f ∷ fs) (t ∷ ts) outer place e calls given bound h (v ∷ vs) of =
+arguments_simulate (f ∷ fs) (t ∷ ts) outer place e calls given bound h [] of = absurd (true≢false (sym of))
+arguments_simulate (f ∷ fs) (t ∷ ts) outer place e calls given bound h (v ∷ vs) of =
     by_kind (outer.known.items.is_constant f.name.name) refl e
-    (λ free k. arguments_stand fs ts (with_local f.name.name t outer) place k calls (record { name = f.name.name; value = v } ∷ given) (bound ++ plain_value v ∷ [])
-    (named_stands outer calls given bound f.name.name t v free q.0 h) vs q.1)
+    (λ free k. arguments_simulate fs ts (with_local f.name.name t outer) place k calls (record { name = f.name.name; value = v } ∷ given) (bound ++ plain_value v ∷ [])
+    (named_simulates outer calls given bound f.name.name t v free q.0 h) vs q.1)
   where
     q : (is_of t v ≡ true) × (each_of (map is_of ts) vs ≡ true)
     q = and_true (is_of t v) (each_of (map is_of ts) vs) of
 
-    by_kind : (b : Bool) → outer.known.items.is_constant f.name.name ≡ b → (if b then None else arguments_placed fs ts (with_local f.name.name t outer)) ≡ Some place
-        → (outer.known.items.is_constant f.name.name ≡ false → arguments_placed fs ts (with_local f.name.name t outer) ≡ Some place
-        → PlacedArguments (with_local f.name.name t outer) place calls (operands_bound (record { name = f.name.name; value = v } ∷ given) fs vs) ((bound ++ plain_value v ∷ []) ++ map plain_value vs))
-        → PlacedArguments outer place calls (operands_bound given (f ∷ fs) (v ∷ vs)) (bound ++ map plain_value (v ∷ vs))
+    by_kind : (b : Bool) → outer.known.items.is_constant f.name.name ≡ b → (if b then None else arguments_in_scope fs ts (with_local f.name.name t outer)) ≡ Some place
+        → (outer.known.items.is_constant f.name.name ≡ false → arguments_in_scope fs ts (with_local f.name.name t outer) ≡ Some place
+        → ArgumentsInScope (with_local f.name.name t outer) place calls (operands_bound (record { name = f.name.name; value = v } ∷ given) fs vs) ((bound ++ plain_value v ∷ []) ++ map plain_value vs))
+        → ArgumentsInScope outer place calls (operands_bound given (f ∷ fs) (v ∷ vs)) (bound ++ map plain_value (v ∷ vs))
     by_kind true r k rest = none_some place k
     by_kind false r k rest =
         let p = rest r k in
         record {
           known = p.known;
-          stands = subst (StandsAtPlace place calls (operands_bound (record { name = f.name.name; value = v } ∷ given) fs vs)) (append_assoc bound (plain_value v ∷ []) (map plain_value vs)) p.stands;
+          stands = subst (SimulatesInScope place calls (operands_bound (record { name = f.name.name; value = v } ∷ given) fs vs)) (append_assoc bound (plain_value v ∷ []) (map plain_value vs)) p.stands;
         }
 
 each_length : (ts : List DslxType) (vs : List DslxValue) → each_of (map is_of ts) vs ≡ true → length vs ≡ length ts
@@ -111,23 +111,23 @@ length_of_plain [] = refl
 length_of_plain (v ∷ vs) = ap suc (length_of_plain vs)
 
 -- an instance over what its calls give
-pub instance_gives : (known : CoreKnown) (f : Function) (l : LoweredFunction) (calls : Functions) → KnownStands known calls → instance_lowered known f ≡ Some l
+pub instance_gives : (known : BodyEnv) (f : Function) (l : LoweredFunction) (calls : Functions) → BodyEnvSimulates known calls → lower_instance known f ≡ Some l
     → (operands : List DslxValue) (v : DslxValue) → each_of (map is_of l.arguments) operands ≡ true
-    → value_of_block f.body (record { items = known.items; bound = operands_bound known.numbers f.arguments operands }) ≡ Some v
+    → value_of_block f.body (record { items = known.items; bound = operands_bound known.parametric_args f.arguments operands }) ≡ Some v
     → (is_of l.result v ≡ true) × (core_value l.body calls (map plain_value operands) ≡ Some (plain_value v))
 instance_gives known f l calls stands e operands v of k =
-    let w = from_where (numbers_stand known.items known.numbers) (and_then (argument_types known f.arguments) (body_lowered known f)) l e in
-    let ts = from_then (argument_types known f.arguments) (body_lowered known f) l w.1 in
-    let p = from_then (arguments_placed f.arguments ts.0 (outer_place known)) (λ place. and_then (block_of_text_lowered f.body place) (λ e. Some (record { arguments = ts.0; result = e.ty; body = e.core }))) l ts.2 in
-    let b = from_then (block_of_text_lowered f.body p.0) (λ e. Some (record { arguments = ts.0; result = e.ty; body = e.core })) l p.2 in
+    let w = from_where (parametric_args_are_well_typed known.items known.parametric_args) (and_then (argument_types known f.arguments) (lower_function_body known f)) l e in
+    let ts = from_then (argument_types known f.arguments) (lower_function_body known f) l w.1 in
+    let p = from_then (arguments_in_scope f.arguments ts.0 (outer_scope known)) (λ place. and_then (lower_block_of_text f.body place) (λ e. Some (record { arguments = ts.0; result = e.ty; body = e.core }))) l ts.2 in
+    let b = from_then (lower_block_of_text f.body p.0) (λ e. Some (record { arguments = ts.0; result = e.ty; body = e.core })) l p.2 in
     let is = same_some (record { arguments = ts.0; result = b.0.ty; body = b.0.core }) l b.2 in
-    let outer : StandsAtPlace (outer_place known) calls known.numbers [] = record { known = stands; count = refl; slots = refl; hides = stands.hides } in
-    let placed = arguments_stand f.arguments ts.0 (outer_place known) p.0 p.1 calls known.numbers [] outer operands (ap (λ (x : LoweredFunction). each_of (map is_of x.arguments) operands) is ∙ of) in
-    let body = block_of_text_means f.body p.0 calls (operands_bound known.numbers f.arguments operands) (map plain_value operands) placed.stands b.0 b.1 v
-    (ap (λ (g : CoreKnown). value_of_block f.body (record { items = g.items; bound = operands_bound known.numbers f.arguments operands })) placed.known ∙ k) in
+    let outer : SimulatesInScope (outer_scope known) calls known.parametric_args [] = record { known = stands; count = refl; slots = refl; hides = stands.hides } in
+    let elaborated = arguments_simulate f.arguments ts.0 (outer_scope known) p.0 p.1 calls known.parametric_args [] outer operands (ap (λ (x : LoweredFunction). each_of (map is_of x.arguments) operands) is ∙ of) in
+    let body = block_of_text_means f.body p.0 calls (operands_bound known.parametric_args f.arguments operands) (map plain_value operands) elaborated.stands b.0 b.1 v
+    (ap (λ (g : BodyEnv). value_of_block f.body (record { items = g.items; bound = operands_bound known.parametric_args f.arguments operands })) elaborated.known ∙ k) in
     (ap (λ (x : LoweredFunction). is_of x.result v) (sym is) ∙ body.of, ap (λ (x : LoweredFunction). core_value x.body calls (map plain_value operands)) (sym is) ∙ body.core)
 
--- ---- the instance of a name and number arguments
+-- ---- the instance of a name and parametric arguments
 
 pub all_one_number : (vs ws : List DslxValue) → pairwise equal_value vs ws ≡ true → vs ≡ ws
 all_one_number [] [] e = refl
@@ -141,26 +141,26 @@ each_equal [] (u ∷ us) e = absurd (true≢false (sym e))
 each_equal (t ∷ ts) [] e = absurd (true≢false (sym e))
 each_equal (t ∷ ts) (u ∷ us) e = let q = and_true (equal_type t u) (pairwise equal_type ts us) e in λ i. one_by_test t u q.0 i ∷ each_equal ts us q.1 i
 
-record FoundInstance (name : List ℕ) (numbers : List DslxValue) (n : ℕ) (is : List CoreInstance) (p : ℕ × CoreInstance) : Type 0 where
+record FoundInstance (name : List ℕ) (parametric_args : List DslxValue) (n : ℕ) (is : List CoreInstance) (p : ℕ × CoreInstance) : Type 0 where
   pub place : ℕ
   pub number : p.0 ≡ n + place
   pub there : slice_get is place ≡ Some p.1
   pub named : name ≡ p.1.name
-  pub numbered : numbers ≡ p.1.numbers
+  pub numbered : parametric_args ≡ p.1.parametric_args
 
-found_instance : (name : List ℕ) (numbers : List DslxValue) (n : ℕ) (is : List CoreInstance) (p : ℕ × CoreInstance) → instance_in name numbers n is ≡ Some p → FoundInstance name numbers n is p
-found_instance name numbers n [] p e = none_some p e
-found_instance name numbers n (i ∷ is) p e = by_test (is_instance name numbers i) refl e (found_instance name numbers (suc n) is p)
+found_instance : (name : List ℕ) (parametric_args : List DslxValue) (n : ℕ) (is : List CoreInstance) (p : ℕ × CoreInstance) → instance_in name parametric_args n is ≡ Some p → FoundInstance name parametric_args n is p
+found_instance name parametric_args n [] p e = none_some p e
+found_instance name parametric_args n (i ∷ is) p e = by_test (is_instance name parametric_args i) refl e (found_instance name parametric_args (suc n) is p)
   where
     further : (n k : ℕ) → (suc n + k) ≡ (n + suc k)
     further n k = omega arith
 
-    by_test : (b : Bool) → is_instance name numbers i ≡ b → (if b then Some (n, i) else instance_in name numbers (suc n) is) ≡ Some p
-        → (instance_in name numbers (suc n) is ≡ Some p → FoundInstance name numbers (suc n) is p) → FoundInstance name numbers n (i ∷ is) p
+    by_test : (b : Bool) → is_instance name parametric_args i ≡ b → (if b then Some (n, i) else instance_in name parametric_args (suc n) is) ≡ Some p
+        → (instance_in name parametric_args (suc n) is ≡ Some p → FoundInstance name parametric_args (suc n) is p) → FoundInstance name parametric_args n (i ∷ is) p
     by_test true q k rest =
-        let t = and_true (bytes_eq name i.name) (pairwise equal_value numbers i.numbers) q in
-        subst (FoundInstance name numbers n (i ∷ is)) (same_some (n, i) p k)
-        (record { place = 0; number = omega arith; there = refl; named = (bytes_eq-Decides name i.name).0 t.0; numbered = all_one_number numbers i.numbers t.1 })
+        let t = and_true (bytes_eq name i.name) (pairwise equal_value parametric_args i.parametric_args) q in
+        subst (FoundInstance name parametric_args n (i ∷ is)) (same_some (n, i) p k)
+        (record { place = 0; number = omega arith; there = refl; named = (bytes_eq-Decides name i.name).0 t.0; numbered = all_one_number parametric_args i.parametric_args t.1 })
     by_test false q k rest =
         let r = rest k in
         record { place = suc r.place; number = r.number ∙ further n r.place; there = r.there; named = r.named; numbered = r.numbered }
@@ -175,22 +175,22 @@ each_own_type (t ∷ ts) (v ∷ vs) e = let q = and_true (is_of t v) (each_of (m
 
 -- instances that stand for those of the text
 abbrev AllStand : Module → Meanings → List CoreInstance → Functions → Type 0
-AllStand m items instances calls = (k : ℕ) (i : CoreInstance) → slice_get instances k ≡ Some i → InstanceStandsFor m items calls k i
+AllStand m items instances calls = (k : ℕ) (i : CoreInstance) → slice_get instances k ≡ Some i → InstanceSimulates m items calls k i
 
-pub calls_stand : (m : Module) (items : Meanings) → meanings_over m items ≡ items → (instances : List CoreInstance) (calls : Functions) → AllStand m items instances calls → (numbers : List Given)
-    → CallsStand (record { items = items; numbers = numbers; callee = callee_in m items instances }) calls
-calls_stand m items settled instances calls h bound name given operands types callee v low of source =
-    let f = from_then (as_function (item_named name m.items)) (λ f. and_then (all_numbers items (inferred_from f.arguments types) [] f.parameters given) (λ numbers. and_then (instance_in name numbers 0 instances) (callee_of types))) callee low in
-    let n = from_then (all_numbers items (inferred_from f.0.arguments types) [] f.0.parameters given) (λ numbers. and_then (instance_in name numbers 0 instances) (callee_of types)) callee f.2 in
+pub calls_simulate : (m : Module) (items : Meanings) → meanings_over m items ≡ items → (instances : List CoreInstance) (calls : Functions) → AllStand m items instances calls → (parametric_args : List Given)
+    → CallsSimulate (record { items = items; parametric_args = parametric_args; callee = callee_in m items instances }) calls
+calls_simulate m items settled instances calls h bound name given operands types callee v low of source =
+    let f = from_then (as_function (item_named name m.items)) (λ f. and_then (all_parametric_args items (inferred_from f.arguments types) [] f.parametrics given) (λ parametric_args. and_then (instance_in name parametric_args 0 instances) (callee_of types))) callee low in
+    let n = from_then (all_parametric_args items (inferred_from f.0.arguments types) [] f.0.parametrics given) (λ parametric_args. and_then (instance_in name parametric_args 0 instances) (callee_of types)) callee f.2 in
     let p = from_then (instance_in name n.0 0 instances) (callee_of types) callee n.2 in
     let w = from_where (pairwise equal_type p.0.1.function.arguments types) (Some (record { number = p.0.0; result = p.0.1.function.result })) callee p.2 in
     let found = found_instance name n.0 0 instances p.0 p.1 in
     let is = same_some (record { number = p.0.0; result = p.0.1.function.result }) callee w.1 in
     let own : map type_of_value operands ≡ types = each_own_type types operands of in
-    let meant : and_then (as_function (item_named name m.items)) (λ f. call_of items f given operands) ≡ Some v = ap (λ (x : Meanings). x.call name given operands) settled ∙ source in
-    let called : call_of items f.0 given operands ≡ Some v = sym (ap (λ o. and_then o (λ f. call_of items f given operands)) f.1) ∙ meant in
-    let numbers : all_numbers items (inferred_from f.0.arguments (map type_of_value operands)) [] f.0.parameters given ≡ Some n.0 = ap (λ ts. all_numbers items (inferred_from f.0.arguments ts) [] f.0.parameters given) own ∙ n.1 in
-    let gives : function_value items f.0 n.0 operands ≡ Some v = sym (ap (λ o. and_then o (λ numbers. function_value items f.0 numbers operands)) numbers) ∙ called in
+    let denotation : and_then (as_function (item_named name m.items)) (λ f. call_of items f given operands) ≡ Some v = ap (λ (x : Meanings). x.call name given operands) settled ∙ source in
+    let called : call_of items f.0 given operands ≡ Some v = sym (ap (λ o. and_then o (λ f. call_of items f given operands)) f.1) ∙ denotation in
+    let parametric_args : all_parametric_args items (inferred_from f.0.arguments (map type_of_value operands)) [] f.0.parametrics given ≡ Some n.0 = ap (λ ts. all_parametric_args items (inferred_from f.0.arguments ts) [] f.0.parametrics given) own ∙ n.1 in
+    let gives : function_value items f.0 n.0 operands ≡ Some v = sym (ap (λ o. and_then o (λ parametric_args. function_value items f.0 parametric_args operands)) parametric_args) ∙ called in
     let stands =
     h found.place p.0.1 found.there f.0 operands v (ap (λ n. as_function (item_named n m.items)) (sym found.named) ∙ f.1)
     (ap (λ ts. each_of (map is_of ts) operands) (each_equal p.0.1.function.arguments types w.0) ∙ of) (ap (λ ns. function_value items f.0 ns operands) (sym found.numbered) ∙ gives) in (
@@ -223,34 +223,34 @@ not_the_end k n h = by_test (k == n) refl
 -- what stands for them, where one more comes behind them
 grown : (m : Module) (items : Meanings) → meanings_over m items ≡ items → ItemsAreOwn items → (before : List CoreInstance) (calls : Functions) → AllStand m items before calls → (i : Instantiated) (c : CoreInstance)
     → next_instance m items before i ≡ Some c → AllStand m items (before ++ c ∷ []) (and_function (length before) (core_function c) calls)
-grown m items settled own before calls h i c e k j there = by_place (at_the_end before c k j there)
+grown m items settled own before calls h i c e k j there = by_scope (at_the_end before c k j there)
   where
-    function : (f : Function) × (l : LoweredFunction) × (as_function (item_named i.name m.items) ≡ Some f) × (instance_lowered (instance_known m items before f i.numbers) f ≡ Some l)
-        × (record { name = i.name; numbers = i.numbers; function = l } ≡ c)
+    function : (f : Function) × (l : LoweredFunction) × (as_function (item_named i.name m.items) ≡ Some f) × (lower_instance (instance_globals m items before f i.parametric_args) f ≡ Some l)
+        × (record { name = i.name; parametric_args = i.parametric_args; function = l } ≡ c)
     function =
-        let f = from_then (as_function (item_named i.name m.items)) (λ f. and_then (instance_lowered (instance_known m items before f i.numbers) f) (λ l. Some (record { name = i.name; numbers = i.numbers; function = l }))) c e in
-        let l = from_then (instance_lowered (instance_known m items before f.0 i.numbers) f.0) (λ l. Some (record { name = i.name; numbers = i.numbers; function = l })) c f.2 in
-        (f.0, l.0, f.1, l.1, same_some (record { name = i.name; numbers = i.numbers; function = l.0 }) c l.2)
+        let f = from_then (as_function (item_named i.name m.items)) (λ f. and_then (lower_instance (instance_globals m items before f i.parametric_args) f) (λ l. Some (record { name = i.name; parametric_args = i.parametric_args; function = l }))) c e in
+        let l = from_then (lower_instance (instance_globals m items before f.0 i.parametric_args) f.0) (λ l. Some (record { name = i.name; parametric_args = i.parametric_args; function = l })) c f.2 in
+        (f.0, l.0, f.1, l.1, same_some (record { name = i.name; parametric_args = i.parametric_args; function = l.0 }) c l.2)
 
-    own_known : (f : Function) (l : LoweredFunction) → instance_lowered (instance_known m items before f i.numbers) f ≡ Some l → KnownStands (instance_known m items before f i.numbers) calls
-    own_known f l low =
-        let known = instance_known m items before f i.numbers in
-        let test = (from_where (numbers_stand items known.numbers) (and_then (argument_types known f.arguments) (body_lowered known f)) l low).0 in
+    own_globals : (f : Function) (l : LoweredFunction) → lower_instance (instance_globals m items before f i.parametric_args) f ≡ Some l → BodyEnvSimulates (instance_globals m items before f i.parametric_args) calls
+    own_globals f l low =
+        let known = instance_globals m items before f i.parametric_args in
+        let test = (from_where (parametric_args_are_well_typed items known.parametric_args) (and_then (argument_types known f.arguments) (lower_function_body known f)) l low).0 in
         record {
-          numbers = numbers_own items known.numbers test;
+          parametric_args = parametric_args_own items known.parametric_args test;
           constants = own.constants;
           members = own.members;
-          hides = numbers_hide items known.numbers test;
-          callees = calls_stand m items settled before calls h known.numbers;
+          hides = parametric_args_hide items known.parametric_args test;
+          callees = calls_simulate m items settled before calls h known.parametric_args;
         }
 
-    last : (f : Function) (l : LoweredFunction) → as_function (item_named i.name m.items) ≡ Some f → instance_lowered (instance_known m items before f i.numbers) f ≡ Some l
-        → InstanceStandsFor m items (and_function (length before) (core_function (record { name = i.name; numbers = i.numbers; function = l })) calls) (length before) (record { name = i.name; numbers = i.numbers; function = l })
+    last : (f : Function) (l : LoweredFunction) → as_function (item_named i.name m.items) ≡ Some f → lower_instance (instance_globals m items before f i.parametric_args) f ≡ Some l
+        → InstanceSimulates m items (and_function (length before) (core_function (record { name = i.name; parametric_args = i.parametric_args; function = l })) calls) (length before) (record { name = i.name; parametric_args = i.parametric_args; function = l })
     last f l found low g operands v named of source =
         let one : g ≡ f = same_some g f (sym named ∙ found) in
-        let value = from_where (length operands == length f.arguments) (value_of_block f.body (record { items = items; bound = operands_bound (numbers_bound [] f.parameters i.numbers) f.arguments operands })) v
-        (ap (λ x. function_value items x i.numbers operands) (sym one) ∙ source) in
-        let gives = instance_gives (instance_known m items before f i.numbers) f l calls (own_known f l low) low operands v of value.1 in
+        let value = from_where (length operands == length f.arguments) (value_of_block f.body (record { items = items; bound = operands_bound (parametric_args_bound [] f.parametrics i.parametric_args) f.arguments operands })) v
+        (ap (λ x. function_value items x i.parametric_args operands) (sym one) ∙ source) in
+        let gives = instance_gives (instance_globals m items before f i.parametric_args) f l calls (own_globals f l low) low operands v of value.1 in
         let count : (length (map plain_value operands) == length l.arguments) ≡ true =
         (Decides-eqb (length (map plain_value operands)) (length l.arguments)).1 (length_of_plain operands ∙ each_length l.arguments operands of) in (
           gives.0,
@@ -259,7 +259,7 @@ grown m items settled own before calls h i c e k j there = by_place (at_the_end 
               ∙ ap (λ b. if b then core_value l.body calls (map plain_value operands) else None) count ∙ gives.1,
         )
 
-    earlier : slice_get before k ≡ Some j → InstanceStandsFor m items (and_function (length before) (core_function c) calls) k j
+    earlier : slice_get before k ≡ Some j → InstanceSimulates m items (and_function (length before) (core_function c) calls) k j
     earlier p f operands v named of source =
         let stands = h k j p f operands v named of source in (
           stands.0,
@@ -268,13 +268,13 @@ grown m items settled own before calls h i c e k j there = by_place (at_the_end 
               ∙ stands.1,
         )
 
-    by_place : (slice_get before k ≡ Some j) ⊎ ((k ≡ length before) × (c ≡ j)) → InstanceStandsFor m items (and_function (length before) (core_function c) calls) k j
-    by_place (inl p) = earlier p
-    by_place (inr p) =
+    by_scope : (slice_get before k ≡ Some j) ⊎ ((k ≡ length before) × (c ≡ j)) → InstanceSimulates m items (and_function (length before) (core_function c) calls) k j
+    by_scope (inl p) = earlier p
+    by_scope (inr p) =
         let q = function in
-        subst (λ n. InstanceStandsFor m items (and_function (length before) (core_function c) calls) n j) (sym p.0)
-        (subst (InstanceStandsFor m items (and_function (length before) (core_function c) calls) (length before)) p.1
-        (subst (λ x. InstanceStandsFor m items (and_function (length before) (core_function x) calls) (length before) x) q.4 (last q.0 q.1 q.2 q.3)))
+        subst (λ n. InstanceSimulates m items (and_function (length before) (core_function c) calls) n j) (sym p.0)
+        (subst (InstanceSimulates m items (and_function (length before) (core_function c) calls) (length before)) p.1
+        (subst (λ x. InstanceSimulates m items (and_function (length before) (core_function x) calls) (length before) x) q.4 (last q.0 q.1 q.2 q.3)))
 
 functions_behind : (n : ℕ) (fs : List core.Function) (f : core.Function) (before : Functions) → functions_from n (fs ++ f ∷ []) before ≡ and_function (n + length fs) f (functions_from n fs before)
 functions_behind n [] f before = ap (λ k. and_function k f before) (nothing n)
@@ -302,15 +302,15 @@ one_more_function before c =
     nothing_added : (k : ℕ) → (0 + k) ≡ k
     nothing_added k = omega arith
 
-instances_stand_behind : (m : Module) (items : Meanings) → meanings_over m items ≡ items → ItemsAreOwn items → (is : List Instantiated) (before table : List CoreInstance)
+instances_simulate_behind : (m : Module) (items : Meanings) → meanings_over m items ≡ items → ItemsAreOwn items → (is : List Instantiated) (before table : List CoreInstance)
     → AllStand m items before (functions_of_instances before) → instances_from m items before is ≡ Some table → AllStand m items table (functions_of_instances table)
-instances_stand_behind m items settled own [] before table h e = subst (λ t. AllStand m items t (functions_of_instances t)) (same_some before table e) h
-instances_stand_behind m items settled own (i ∷ is) before table h e =
+instances_simulate_behind m items settled own [] before table h e = subst (λ t. AllStand m items t (functions_of_instances t)) (same_some before table e) h
+instances_simulate_behind m items settled own (i ∷ is) before table h e =
     let c = from_then (next_instance m items before i) (λ c. instances_from m items (before ++ c ∷ []) is) table e in
-    instances_stand_behind m items settled own is (before ++ c.0 ∷ []) table
+    instances_simulate_behind m items settled own is (before ++ c.0 ∷ []) table
     (subst (AllStand m items (before ++ c.0 ∷ [])) (sym (one_more_function before c.0)) (grown m items settled own before (functions_of_instances before) h i c.0 c.1)) c.2
 
 -- all instances, each of which calls those before it
-pub instances_stand : (m : Module) (items : Meanings) → meanings_over m items ≡ items → ItemsAreOwn items → (is : List Instantiated) (table : List CoreInstance) → instances_from m items [] is ≡ Some table
-    → InstancesStand m items table
-instances_stand m items settled own is table e = instances_stand_behind m items settled own is [] table (λ k i q. none_some i q) e
+pub instances_simulate : (m : Module) (items : Meanings) → meanings_over m items ≡ items → ItemsAreOwn items → (is : List Instantiated) (table : List CoreInstance) → instances_from m items [] is ≡ Some table
+    → InstancesSimulate m items table
+instances_simulate m items settled own is table e = instances_simulate_behind m items settled own is [] table (λ k i q. none_some i q) e

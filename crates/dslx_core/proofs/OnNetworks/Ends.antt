@@ -6,8 +6,8 @@ use Rattle.std.proofs.lemmas.List.{map-append, get_or_past}
 use Rattle.dslx_tree.specs.declared.ident.Ident.{Ident}
 use Rattle.dslx_tree.specs.declared.process.Proc.{Proc}
 use Rattle.dslx_tree.specs.declared.process.End.{End}
-use Rattle.dslx_tree.specs.declared.process.Making.{Making}
-use Rattle.dslx_tree.specs.declared.process.Making.TheVariants as making
+use Rattle.dslx_tree.specs.declared.process.ConfigStatement.{ConfigStatement}
+use Rattle.dslx_tree.specs.declared.process.ConfigStatement.TheVariants as config_statement
 use Rattle.dslx_meaning.specs.Network.{Held, channel_held, channels_of_ends, handed_over, made_ends, outer_ends}
 use Rattle.dslx_typing.proofs.Lemmas.Typed.{all_there, list_parts, none_some, same_some}
 use Rattle.dslx_core.specs.Designs.{channel_of_end}
@@ -44,10 +44,10 @@ each_held_at f hs idents ks e = go idents ks (all_there (map (λ (i : Ident). en
         λ t. held_at f i.name hs j parts.0 t ∷ go is js parts.1 t
 
 -- both ends of the channels that are made, from one number and from another
-made_at : (f : ℕ → ℕ) (n number : ℕ) (ms : List Making) → ((j : ℕ) → f (n + j) ≡ number + j) → made_ends number ms ≡ at_channels f (made_ends n ms)
+made_at : (f : ℕ → ℕ) (n number : ℕ) (ms : List ConfigStatement) → ((j : ℕ) → f (n + j) ≡ number + j) → made_ends number ms ≡ at_channels f (made_ends n ms)
 made_at f n number [] h = refl
-made_at f n number (making.Spawn s ∷ ms) h = made_at f n number ms h
-made_at f n number (making.Channel c ∷ ms) h =
+made_at f n number (config_statement.Spawn s ∷ ms) h = made_at f n number ms h
+made_at f n number (config_statement.Channel c ∷ ms) h =
     λ i. record { name = c.sender.name; channel = first i } ∷ record { name = c.receiver.name; channel = first i } ∷ made_at f (suc n) (suc number) ms further i
   where
     first : number ≡ f n
@@ -78,10 +78,10 @@ got (x ∷ xs) (suc j) c d e = got xs j c d e
 
 -- the ends of a `config` at the channels that it is given and those that it makes
 pub ends_at : (p : Proc) (given : List ℕ) (number : ℕ) → length given ≡ length p.config.ends
-    → handed_over p.config.ends given ++ made_ends number p.config.makings ≡ at_channels (channel_of_end given number) (numbered_ends p)
+    → handed_over p.config.ends given ++ made_ends number p.config.config_statements ≡ at_channels (channel_of_end given number) (numbered_ends p)
 ends_at p given number e =
-    (λ i. given_at f 0 p.config.ends given e (λ j c q. ap f (none_added j) ∙ got given j c (number + (j - length given)) q) i ++ made_at f (length p.config.ends) number p.config.makings behind i)
-    ∙ sym (map-append (λ (h : Held). record { name = h.name; channel = f h.channel }) (outer_ends 0 p.config.ends) (made_ends (length p.config.ends) p.config.makings))
+    (λ i. given_at f 0 p.config.ends given e (λ j c q. ap f (none_added j) ∙ got given j c (number + (j - length given)) q) i ++ made_at f (length p.config.ends) number p.config.config_statements behind i)
+    ∙ sym (map-append (λ (h : Held). record { name = h.name; channel = f h.channel }) (outer_ends 0 p.config.ends) (made_ends (length p.config.ends) p.config.config_statements))
   where
     f : ℕ → ℕ
     f = channel_of_end given number
@@ -97,6 +97,6 @@ ends_at p given number e =
 
 -- the channels of named ends
 pub channels_at : (p : Proc) (given : List ℕ) (number : ℕ) → length given ≡ length p.config.ends → (idents : List Ident) (ks : List ℕ) → end_numbers (numbered_ends p) idents ≡ Some ks
-    → channels_of_ends (handed_over p.config.ends given ++ made_ends number p.config.makings) idents ≡ map (channel_of_end given number) ks
+    → channels_of_ends (handed_over p.config.ends given ++ made_ends number p.config.config_statements) idents ≡ map (channel_of_end given number) ks
 channels_at p given number e idents ks k =
     ap (λ hs. channels_of_ends hs idents) (ends_at p given number e) ∙ each_held_at (channel_of_end given number) (numbered_ends p) idents ks k

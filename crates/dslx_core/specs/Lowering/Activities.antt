@@ -13,7 +13,7 @@ use Rattle.dslx_meaning.specs.declared.value.DslxValue.{DslxValue}
 use Rattle.dslx_typing.specs.Typed.Kinds.{is_of}
 use Rattle.dslx_core.specs.CoreValues.{Functions}
 use Rattle.dslx_core.specs.Designs.{CoreActivity, do_steps}
-use Rattle.dslx_core.specs.Lowering.CorePlaces.{CoreKnown}
+use Rattle.dslx_core.specs.Lowering.CoreScopes.{BodyEnv}
 use Rattle.dslx_core.specs.Lowering.Steps.{LoweredNext}
 
 -- what the text's activity does at a site, the other one does, too; and where it ends with a value, of this type, the other one
@@ -23,6 +23,6 @@ pub record DoesTheSame (t : DslxType) (a : Activity) (c : CoreActivity) : Type 0
   pub last : (v : DslxValue) → a.last ≡ Some v → (is_of t v ≡ true) × (c.turns ≡ a.turns) × (c.last ≡ Some (plain_value v))
 
 -- an activation of a proc from each state of its type, over each list of words
-abbrev pub NextStands : CoreKnown → Functions → Proc → List DslxValue → LoweredNext → Type 0
-NextStands known calls p numbers l = (state : Value) (words : List Word) → IsOfType (plain_type l.state) state
-    → DoesTheSame l.state (activation_of known.items p numbers state words) (do_steps calls l.steps l.next (state ∷ []) words)
+abbrev pub NextSimulates : BodyEnv → Functions → Proc → List DslxValue → LoweredNext → Type 0
+NextSimulates known calls p parametric_args l = (state : Value) (words : List Word) → IsOfType (plain_type l.state) state
+    → DoesTheSame l.state (activation_of known.items p parametric_args state words) (do_steps calls l.steps l.next (state ∷ []) words)

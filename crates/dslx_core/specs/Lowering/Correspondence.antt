@@ -5,15 +5,15 @@ use Rattle.std.specs.Prelude.{◌≡◌, ℕ, List, [], ◌∷◌, map, true, Op
 use Rattle.std.specs.List.{list_all}
 use Rattle.dslx_meaning.specs.Values.{plain_value, type_of_value}
 use Rattle.dslx_meaning.specs.Environment.{Given, Env, Meanings, given_in}
-use Rattle.dslx_meaning.specs.Meaning.{Evaluates, Typing, PatternMeant}
+use Rattle.dslx_meaning.specs.Meaning.{ValueDen, TypeDen, PatternDen}
 use Rattle.dslx_meaning.specs.declared.ty.DslxType.{DslxType}
 use Rattle.dslx_meaning.specs.declared.value.DslxValue.{DslxValue}
 use Rattle.dslx_typing.specs.Typed.Kinds.{is_of, each_of}
 use Rattle.dslx_core.specs.CoreValues.{Bindings, Functions, core_value, taken_apart}
-use Rattle.dslx_core.specs.Lowering.CorePlaces.{CoreCallee, CoreKnown, BoundSlot, CorePlace}
+use Rattle.dslx_core.specs.Lowering.CoreScopes.{CoreCallee, BodyEnv, BoundSlot, CoreScope}
 use Rattle.dslx_core.specs.Lowering.Lowering.{LoweredExpr}
-use Rattle.dslx_core.specs.Lowering.Patterns.{Lowers, LoweredShape, LowersPattern}
-use Rattle.dslx_core.specs.Lowering.Trees.{LowersType}
+use Rattle.dslx_core.specs.Lowering.Patterns.{ExprLowering, LoweredShape, PatternLowering}
+use Rattle.dslx_core.specs.Lowering.Trees.{TypeLowering}
 
 -- ---- places
 
@@ -22,8 +22,8 @@ abbrev pub IsOwn : DslxValue → Type 0
 IsOwn v = is_of (type_of_value v) v ≡ true
 
 -- what a call comes to gives the value that the text's call has
-abbrev pub CallsStand : CoreKnown → Functions → Type 0
-CallsStand known calls = (name : List ℕ) (given operands : List DslxValue) (types : List DslxType) (callee : CoreCallee) (v : DslxValue)
+abbrev pub CallsSimulate : BodyEnv → Functions → Type 0
+CallsSimulate known calls = (name : List ℕ) (given operands : List DslxValue) (types : List DslxType) (callee : CoreCallee) (v : DslxValue)
     → known.callee name given types ≡ Some callee → each_of (map is_of types) operands ≡ true → known.items.call name given operands ≡ Some v
     → (is_of callee.result v ≡ true) × (calls callee.number (map plain_value operands) ≡ Some (plain_value v))
 
@@ -31,30 +31,30 @@ CallsStand known calls = (name : List ℕ) (given operands : List DslxValue) (ty
 abbrev pub HidesNoConstant : Meanings → List Given → Type 0
 HidesNoConstant items bound = (name : List ℕ) → items.is_constant name ≡ true → given_in name bound ≡ None
 
--- what is known in all of a body: values are of their own types, no number parameter has a constant's name, and calls give
+-- what is known in all of a body: values are of their own types, no parametric has a constant's name, and calls give
 -- what they mean
-pub record KnownStands (known : CoreKnown) (calls : Functions) : Type 0 where
-  pub numbers : (name : List ℕ) (v : DslxValue) → given_in name known.numbers ≡ Some v → IsOwn v
+pub record BodyEnvSimulates (known : BodyEnv) (calls : Functions) : Type 0 where
+  pub parametric_args : (name : List ℕ) (v : DslxValue) → given_in name known.parametric_args ≡ Some v → IsOwn v
   pub constants : (name : List ℕ) (v : DslxValue) → known.items.constant name ≡ Some v → IsOwn v
   pub members : (name member : List ℕ) (v : DslxValue) → known.items.member name member ≡ Some v → IsOwn v
-  pub hides : HidesNoConstant known.items known.numbers
-  pub callees : CallsStand known calls
+  pub hides : HidesNoConstant known.items known.parametric_args
+  pub callees : CallsSimulate known calls
 
--- each local has a value of its type, which stands at its number, and behind the locals are the number parameters
-abbrev pub SlotsStand : List BoundSlot → List Given → List Given → Bindings → Type 0
-SlotsStand [] numbers given bound = given ≡ numbers
-SlotsStand (l ∷ ls) numbers [] bound = ⊥
-SlotsStand (l ∷ ls) numbers (g ∷ gs) bound =
-    (g.name ≡ l.name) × (is_of l.ty g.value ≡ true) × (slice_get bound l.slot ≡ Some (plain_value g.value)) × SlotsStand ls numbers gs bound
+-- each local has a value of its type, which stands at its number, and behind the locals are the parametrics
+abbrev pub SlotsSimulate : List BoundSlot → List Given → List Given → Bindings → Type 0
+SlotsSimulate [] parametric_args given bound = given ≡ parametric_args
+SlotsSimulate (l ∷ ls) parametric_args [] bound = ⊥
+SlotsSimulate (l ∷ ls) parametric_args (g ∷ gs) bound =
+    (g.name ≡ l.name) × (is_of l.ty g.value ≡ true) × (slice_get bound l.slot ≡ Some (plain_value g.value)) × SlotsSimulate ls parametric_args gs bound
 
 -- the place, where these names are bound in the text, and these values in what stands for it
-pub record StandsAtPlace (place : CorePlace) (calls : Functions) (given : List Given) (bound : Bindings) : Type 0 where
-  pub known : KnownStands place.known calls
+pub record SimulatesInScope (place : CoreScope) (calls : Functions) (given : List Given) (bound : Bindings) : Type 0 where
+  pub known : BodyEnvSimulates place.known calls
   pub count : length bound ≡ place.count
-  pub slots : SlotsStand place.locals place.known.numbers given bound
+  pub slots : SlotsSimulate place.locals place.known.parametric_args given bound
   pub hides : HidesNoConstant place.known.items given
 
-abbrev pub env_at : CorePlace → List Given → Env
+abbrev pub env_at : CoreScope → List Given → Env
 env_at place given = record { items = place.known.items; bound = given }
 
 -- ---- expressions
@@ -69,26 +69,26 @@ abbrev pub KeepsValue : Functions → Bindings → Option LoweredExpr → Option
 KeepsValue calls bound l o = (e : LoweredExpr) → l ≡ Some e → (v : DslxValue) → o ≡ Some v → HasPlainValue e calls bound v
 
 -- at each place
-abbrev pub MeansAsLowered : Lowers → Evaluates → Type 0
-MeansAsLowered l m = (place : CorePlace) (calls : Functions) (given : List Given) (bound : Bindings) → StandsAtPlace place calls given bound → KeepsValue calls bound (l place) (m (env_at place given))
+abbrev pub LowerPreserves : ExprLowering → ValueDen → Type 0
+LowerPreserves l m = (place : CoreScope) (calls : Functions) (given : List Given) (bound : Bindings) → SimulatesInScope place calls given bound → KeepsValue calls bound (l place) (m (env_at place given))
 
 -- ---- types and patterns
 
-abbrev pub TypeMeansAsLowered : LowersType → Typing → Type 0
-TypeMeansAsLowered l m = (place : CorePlace) (calls : Functions) (given : List Given) (bound : Bindings) → StandsAtPlace place calls given bound → (t : DslxType) → l place ≡ Some t
+abbrev pub TypeLowerPreserves : TypeLowering → TypeDen → Type 0
+TypeLowerPreserves l m = (place : CoreScope) (calls : Functions) (given : List Given) (bound : Bindings) → SimulatesInScope place calls given bound → (t : DslxType) → l place ≡ Some t
     → m (env_at place given) ≡ Some t
 
 -- a value fits a pattern and its shape, and behind them the names stand at their numbers, or it fits neither
-pub data FitsAsLowered (place : CorePlace) (calls : Functions) (o : Option Env) (p : Option Bindings) : Type 0 where
-  BothFit : (given : List Given) (bound : Bindings) → o ≡ Some (env_at place given) → p ≡ Some bound → StandsAtPlace place calls given bound → FitsAsLowered place calls o p
-  NeitherFits : o ≡ None → p ≡ None → FitsAsLowered place calls o p
+pub data FitLowerPreserves (place : CoreScope) (calls : Functions) (o : Option Env) (p : Option Bindings) : Type 0 where
+  BothFit : (given : List Given) (bound : Bindings) → o ≡ Some (env_at place given) → p ≡ Some bound → SimulatesInScope place calls given bound → FitLowerPreserves place calls o p
+  NeitherFits : o ≡ None → p ≡ None → FitLowerPreserves place calls o p
 
 -- in a pattern whose own place is the outer one, behind what it bound so far
-pub record PatternMeansAsLowered (l : LowersPattern) (m : PatternMeant) : Type 0 where
+pub record PatternLowerPreserves (l : PatternLowering) (m : PatternDen) : Type 0 where
   pub names : l.names ≡ m.names
-  pub fits : (outer place : CorePlace) (t : DslxType) (s : LoweredShape) → l.lower outer place t ≡ Some s
-      → (calls : Functions) (around : List Given) (others : Bindings) → StandsAtPlace outer calls around others
-      → (given : List Given) (bound : Bindings) → StandsAtPlace place calls given bound → (v : DslxValue) → is_of t v ≡ true
-      → FitsAsLowered s.place calls (m.fits (env_at outer around) v (env_at place given)) (taken_apart s.shape (plain_value v) bound)
+  pub fits : (outer place : CoreScope) (t : DslxType) (s : LoweredShape) → l.lower outer place t ≡ Some s
+      → (calls : Functions) (around : List Given) (others : Bindings) → SimulatesInScope outer calls around others
+      → (given : List Given) (bound : Bindings) → SimulatesInScope place calls given bound → (v : DslxValue) → is_of t v ≡ true
+      → FitLowerPreserves s.place calls (m.fits (env_at outer around) v (env_at place given)) (taken_apart s.shape (plain_value v) bound)
   -- where all names are constants' it binds nothing
-  pub bare : (outer place : CorePlace) (t : DslxType) (s : LoweredShape) → l.lower outer place t ≡ Some s → list_all place.known.items.is_constant l.names ≡ true → s.place ≡ place
+  pub bare : (outer place : CoreScope) (t : DslxType) (s : LoweredShape) → l.lower outer place t ≡ Some s → list_all place.known.items.is_constant l.names ≡ true → s.place ≡ place

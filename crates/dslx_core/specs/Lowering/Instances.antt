@@ -19,14 +19,14 @@ pub record ItemsAreOwn (items : Meanings) : Type 0 where
 
 -- for operands of the types of its arguments for which the text's function has a value, that value is of the type of the
 -- result, and the function of this number has it
-abbrev pub InstanceStandsFor : Module → Meanings → Functions → ℕ → CoreInstance → Type 0
-InstanceStandsFor m items functions k i = (f : Function) (operands : List DslxValue) (v : DslxValue) → as_function (item_named i.name m.items) ≡ Some f
-    → each_of (map is_of i.function.arguments) operands ≡ true → function_value items f i.numbers operands ≡ Some v
+abbrev pub InstanceSimulates : Module → Meanings → Functions → ℕ → CoreInstance → Type 0
+InstanceSimulates m items functions k i = (f : Function) (operands : List DslxValue) (v : DslxValue) → as_function (item_named i.name m.items) ≡ Some f
+    → each_of (map is_of i.function.arguments) operands ≡ true → function_value items f i.parametric_args operands ≡ Some v
     → (is_of i.function.result v ≡ true) × (functions k (map plain_value operands) ≡ Some (plain_value v))
 
 abbrev pub functions_of_instances : List CoreInstance → Functions
 functions_of_instances instances = functions_from 0 (map core_function instances) no_function
 
 -- each of them does
-abbrev pub InstancesStand : Module → Meanings → List CoreInstance → Type 0
-InstancesStand m items instances = (k : ℕ) (i : CoreInstance) → slice_get instances k ≡ Some i → InstanceStandsFor m items (functions_of_instances instances) k i
+abbrev pub InstancesSimulate : Module → Meanings → List CoreInstance → Type 0
+InstancesSimulate m items instances = (k : ℕ) (i : CoreInstance) → slice_get instances k ≡ Some i → InstanceSimulates m items (functions_of_instances instances) k i

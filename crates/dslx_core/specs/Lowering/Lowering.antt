@@ -1,14 +1,14 @@
 -- Which core expression an expression of a text becomes.
 --
 -- What is lowered carries its type, by which signs, fields and instances are found. Names become numbers of bound values,
--- number parameters and constants become literals, structs tuples, and enums bits. Where something isn't there, or a type
+-- parametrics and constants become literals, structs tuples, and enums bits. Where something isn't there, or a type
 -- isn't the one that is wanted, nothing is lowered.
 use Rattle.std.specs.Prelude.{ℕ, List, [], ◌∷◌, ◌-◌, ◌+◌, ◌&&◌, nat_lt, nat_le, map, Bool, true, Option, Some, None, slice_get, if◌then◌else◌}
 use Rattle.dslx_tree.specs.declared.operator.Prefix.{Prefix}
 use Rattle.dslx_tree.specs.declared.operator.Prefix.TheVariants.{Minus, Not}
 use Rattle.dslx_tree.specs.declared.operator.Binary.{Binary}
 use Rattle.dslx_tree.specs.declared.operator.Binary.TheVariants as b
-use Rattle.dslx_meaning.specs.Lists.{all_some, and_then, with_both, or_else, where_true, place_in}
+use Rattle.dslx_meaning.specs.Lists.{all_some, and_then, with_both, or_else, where_true, index_in}
 use Rattle.dslx_meaning.specs.Callees.{CallKind, Joins, CountsLeading, CountsTrailing, Reverses, AllOnes, SomeOne, Parity, Updates, Calls}
 use Rattle.dslx_meaning.specs.Types.{bits_in, bits_or_enum, bool_type, unsigned}
 use Rattle.dslx_meaning.specs.Values.{plain_value, type_of_value}
@@ -18,7 +18,7 @@ use Rattle.dslx_meaning.specs.declared.ty.BitKind.{BitKind}
 use Rattle.dslx_meaning.specs.declared.ty.DslxType.{DslxType, out-DslxType}
 use Rattle.dslx_meaning.specs.declared.ty.DslxType as ty
 use Rattle.dslx_meaning.specs.declared.ty.DslxType.TheOpen.{DslxType-F}
-use Rattle.dslx_meaning.specs.declared.value.Bare.{Bare}
+use Rattle.dslx_meaning.specs.declared.value.UntypedLiteral.{UntypedLiteral}
 use Rattle.dslx_meaning.specs.declared.value.DslxValue.{DslxValue}
 use Rattle.dslx_meaning.specs.Rules.AggregateRules.{array_in, part_type}
 use Rattle.dslx_meaning.specs.Rules.OperatorRules.{width_of_type}
@@ -32,7 +32,7 @@ use Rattle.dslx_core.specs.declared.expr.CoreBinary.TheVariants as o
 use Rattle.dslx_core.specs.declared.expr.CoreExpr.{CoreExpr}
 use Rattle.dslx_core.specs.declared.expr.CoreExpr as core
 use Rattle.dslx_core.specs.Lowering.EqualTypes.{equal_type}
-use Rattle.dslx_core.specs.Lowering.CorePlaces.{BoundSlot, CorePlace, local_in}
+use Rattle.dslx_core.specs.Lowering.CoreScopes.{BoundSlot, CoreScope, local_in}
 use Rattle.dslx_core.specs.declared.lowering.expr.LoweredExpr as expr_data
 
 -- a core expression, and the type of its values
@@ -56,16 +56,16 @@ sign_of t = sign_in (bits_or_enum t)
 
 -- ---- names and numbers
 
-abbrev pub slot_or_literal : CorePlace → List ℕ → Option BoundSlot → Option LoweredExpr
-slot_or_literal place name None = and_then (or_else (given_in name place.known.numbers) (place.known.items.constant name)) literal
+abbrev pub slot_or_literal : CoreScope → List ℕ → Option BoundSlot → Option LoweredExpr
+slot_or_literal place name None = and_then (or_else (given_in name place.known.parametric_args) (place.known.items.constant name)) literal
 slot_or_literal place name (Some l) = lowered (core.Slot l.slot) l.ty
 
--- a bound name, a number parameter or a constant
-abbrev pub name_lowered : List ℕ → CorePlace → Option LoweredExpr
-name_lowered name place = slot_or_literal place name (local_in name place.locals)
+-- a bound name, a parametric or a constant
+abbrev pub lower_name : List ℕ → CoreScope → Option LoweredExpr
+lower_name name place = slot_or_literal place name (local_in name place.locals)
 
-abbrev pub number_lowered : Option DslxType → Bare → Option LoweredExpr
-number_lowered t number = and_then t (λ t. and_then (number_value t number) literal)
+abbrev pub lower_number : Option DslxType → UntypedLiteral → Option LoweredExpr
+lower_number t number = and_then t (λ t. and_then (number_value t number) literal)
 
 -- ---- operators
 
@@ -73,8 +73,8 @@ abbrev pub prefix_core : Prefix → CoreUnary
 prefix_core Minus = u.Neg
 prefix_core Not = u.Not
 
-abbrev pub prefix_lowered : Prefix → Option LoweredExpr → Option LoweredExpr
-prefix_lowered p e = and_then e (λ e. lowered (core.Unary (prefix_core p) e.core) e.ty)
+abbrev pub lower_prefix : Prefix → Option LoweredExpr → Option LoweredExpr
+lower_prefix p e = and_then e (λ e. lowered (core.Unary (prefix_core p) e.core) e.ty)
 
 -- the operator, where the left operand is read so
 abbrev pub binary_core : Binary → Sign → CoreBinary
@@ -127,20 +127,20 @@ fits_operands b.Eq t u = equal_type t u
 fits_operands b.Ne t u = equal_type t u
 fits_operands _ t u = true
 
-abbrev pub binary_lowered : Binary → Option LoweredExpr → Option LoweredExpr → Option LoweredExpr
-binary_lowered op l r =
+abbrev pub lower_binary : Binary → Option LoweredExpr → Option LoweredExpr → Option LoweredExpr
+lower_binary op l r =
     with_both l r (λ l r. where_true (fits_operands op l.ty r.ty) (lowered (core.Binary (binary_core op (sign_of l.ty)) l.core r.core) (result_of_binary op l.ty r.ty)))
 
-abbrev pub cast_lowered : Option LoweredExpr → Option DslxType → Option LoweredExpr
-cast_lowered e t =
+abbrev pub lower_cast : Option LoweredExpr → Option DslxType → Option LoweredExpr
+lower_cast e t =
     with_both e t (λ e t. and_then (bits_in t) (λ kind. where_true (is_width kind.width) (lowered (core.Cast (sign_of e.ty) kind.width e.core) t)))
 
-abbrev pub slice_lowered : Option LoweredExpr → Option ℕ → Option ℕ → Option LoweredExpr
-slice_lowered e from to =
+abbrev pub lower_slice : Option LoweredExpr → Option ℕ → Option ℕ → Option LoweredExpr
+lower_slice e from to =
     and_then e (λ e. with_both from to (λ m n. where_true (nat_lt m n && nat_le n 128) (lowered (core.Slice e.core m (n - m)) (unsigned (n - m)))))
 
-abbrev pub part_lowered : Option LoweredExpr → Option LoweredExpr → Option DslxType → Option LoweredExpr
-part_lowered e i t =
+abbrev pub lower_part : Option LoweredExpr → Option LoweredExpr → Option DslxType → Option LoweredExpr
+lower_part e i t =
     with_both e i (λ e i. and_then (and_then t bits_in) (λ kind. where_true (is_width kind.width) (lowered (core.Part e.core i.core kind.width) (unsigned kind.width))))
 
 -- ---- tuples, arrays and structs
@@ -151,58 +151,58 @@ cores_of es = map (λ (e : LoweredExpr). e.core) es
 abbrev pub types_of_lowered : List LoweredExpr → List DslxType
 types_of_lowered es = map (λ (e : LoweredExpr). e.ty) es
 
-abbrev pub tuple_lowered : List (Option LoweredExpr) → Option LoweredExpr
-tuple_lowered es = and_then (all_some es) (λ es. lowered (core.Tuple (cores_of es)) (ty.Tuple (types_of_lowered es)))
+abbrev pub lower_tuple : List (Option LoweredExpr) → Option LoweredExpr
+lower_tuple es = and_then (all_some es) (λ es. lowered (core.Tuple (cores_of es)) (ty.Tuple (types_of_lowered es)))
 
-abbrev pub element_lowered : Option LoweredExpr → ℕ → Option LoweredExpr
-element_lowered e k = and_then e (λ e. and_then (part_type e.ty k) (λ t. lowered (core.Element e.core k) t))
+abbrev pub lower_element : Option LoweredExpr → ℕ → Option LoweredExpr
+lower_element e k = and_then e (λ e. and_then (part_type e.ty k) (λ t. lowered (core.Element e.core k) t))
 
 -- the place of a field, and its type
-abbrev pub field_place : List ℕ → DslxType-F DslxType → Option (ℕ × DslxType)
-field_place field (DslxType-F.Struct name fields ts) = and_then (place_in field fields) (λ k. and_then (slice_get ts k) (λ t. Some (k, t)))
-field_place field _ = None
+abbrev pub field_index : List ℕ → DslxType-F DslxType → Option (ℕ × DslxType)
+field_index field (DslxType-F.Struct name fields ts) = and_then (index_in field fields) (λ k. and_then (slice_get ts k) (λ t. Some (k, t)))
+field_index field _ = None
 
-abbrev pub field_lowered : Option LoweredExpr → List ℕ → Option LoweredExpr
-field_lowered e field = and_then e (λ e. and_then (field_place field (out-DslxType e.ty)) (λ p. lowered (core.Element e.core p.0) p.1))
+abbrev pub lower_field : Option LoweredExpr → List ℕ → Option LoweredExpr
+lower_field e field = and_then e (λ e. and_then (field_index field (out-DslxType e.ty)) (λ p. lowered (core.Element e.core p.0) p.1))
 
-abbrev pub index_lowered : Option LoweredExpr → Option LoweredExpr → Option LoweredExpr
-index_lowered e i = with_both e i (λ e i. and_then (array_in e.ty) (λ parts. lowered (core.Index e.core i.core) parts.0))
+abbrev pub lower_index : Option LoweredExpr → Option LoweredExpr → Option LoweredExpr
+lower_index e i = with_both e i (λ e i. and_then (array_in e.ty) (λ parts. lowered (core.Index e.core i.core) parts.0))
 
 -- ---- control
 
-abbrev pub choice_lowered : Option LoweredExpr → Option LoweredExpr → Option LoweredExpr → Option LoweredExpr
-choice_lowered c a b =
+abbrev pub lower_choice : Option LoweredExpr → Option LoweredExpr → Option LoweredExpr → Option LoweredExpr
+lower_choice c a b =
     and_then c (λ c. with_both a b (λ a b. where_true (equal_type a.ty b.ty) (lowered (core.Choose c.core a.core b.core) a.ty)))
 
 -- ---- builtins and calls
 
-abbrev pub counted_lowered : CoreUnary → List (Option LoweredExpr) → Option LoweredExpr
-counted_lowered op (e ∷ []) = and_then e (λ e. lowered (core.Unary op e.core) e.ty)
-counted_lowered op _ = None
+abbrev pub lower_counted : CoreUnary → List (Option LoweredExpr) → Option LoweredExpr
+lower_counted op (e ∷ []) = and_then e (λ e. lowered (core.Unary op e.core) e.ty)
+lower_counted op _ = None
 
-abbrev pub reduced_lowered : CoreUnary → List (Option LoweredExpr) → Option LoweredExpr
-reduced_lowered op (e ∷ []) = and_then e (λ e. lowered (core.Unary op e.core) bool_type)
-reduced_lowered op _ = None
+abbrev pub lower_reduced : CoreUnary → List (Option LoweredExpr) → Option LoweredExpr
+lower_reduced op (e ∷ []) = and_then e (λ e. lowered (core.Unary op e.core) bool_type)
+lower_reduced op _ = None
 
-abbrev pub updated_lowered : List (Option LoweredExpr) → Option LoweredExpr
-updated_lowered (e ∷ i ∷ new ∷ []) =
+abbrev pub lower_updated : List (Option LoweredExpr) → Option LoweredExpr
+lower_updated (e ∷ i ∷ new ∷ []) =
     and_then new (λ new. with_both e i (λ e i. and_then (array_in e.ty) (λ parts. where_true (equal_type parts.0 new.ty) (lowered (core.Update e.core i.core new.core) e.ty))))
-updated_lowered _ = None
+lower_updated _ = None
 
-abbrev pub function_lowered : CorePlace → List ℕ → List (Option DslxValue) → List (Option LoweredExpr) → Option LoweredExpr
-function_lowered place name numbers es =
-    with_both (all_some numbers) (all_some es)
-    (λ numbers es. and_then (place.known.callee name numbers (types_of_lowered es)) (λ callee. lowered (core.Call callee.number (cores_of es)) callee.result))
+abbrev pub lower_function : CoreScope → List ℕ → List (Option DslxValue) → List (Option LoweredExpr) → Option LoweredExpr
+lower_function place name parametric_args es =
+    with_both (all_some parametric_args) (all_some es)
+    (λ parametric_args es. and_then (place.known.callee name parametric_args (types_of_lowered es)) (λ callee. lowered (core.Call callee.number (cores_of es)) callee.result))
 
 -- effects are no expressions: an activation has them
-abbrev pub call_lowered : CallKind → List ℕ → CorePlace → List (Option DslxValue) → List (Option LoweredExpr) → Option LoweredExpr
-call_lowered Joins name place numbers es = and_then (all_some es) (λ es. lowered (core.Tuple []) ty.Token)
-call_lowered CountsLeading name place numbers es = counted_lowered u.Clz es
-call_lowered CountsTrailing name place numbers es = counted_lowered u.Ctz es
-call_lowered Reverses name place numbers es = counted_lowered u.Rev es
-call_lowered AllOnes name place numbers es = reduced_lowered u.AndReduce es
-call_lowered SomeOne name place numbers es = reduced_lowered u.OrReduce es
-call_lowered Parity name place numbers es = reduced_lowered u.XorReduce es
-call_lowered Updates name place numbers es = updated_lowered es
-call_lowered Calls name place numbers es = function_lowered place name numbers es
-call_lowered _ name place numbers es = None
+abbrev pub lower_call : CallKind → List ℕ → CoreScope → List (Option DslxValue) → List (Option LoweredExpr) → Option LoweredExpr
+lower_call Joins name place parametric_args es = and_then (all_some es) (λ es. lowered (core.Tuple []) ty.Token)
+lower_call CountsLeading name place parametric_args es = lower_counted u.Clz es
+lower_call CountsTrailing name place parametric_args es = lower_counted u.Ctz es
+lower_call Reverses name place parametric_args es = lower_counted u.Rev es
+lower_call AllOnes name place parametric_args es = lower_reduced u.AndReduce es
+lower_call SomeOne name place parametric_args es = lower_reduced u.OrReduce es
+lower_call Parity name place parametric_args es = lower_reduced u.XorReduce es
+lower_call Updates name place parametric_args es = lower_updated es
+lower_call Calls name place parametric_args es = lower_function place name parametric_args es
+lower_call _ name place parametric_args es = None

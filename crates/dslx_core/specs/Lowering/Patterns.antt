@@ -13,66 +13,66 @@ use Rattle.dslx_core.specs.declared.expr.Shape as shape
 use Rattle.dslx_core.specs.declared.expr.Arm.{roll-Arm}
 use Rattle.dslx_core.specs.declared.expr.CoreExpr as core
 use Rattle.dslx_core.specs.Lowering.EqualTypes.{equal_type}
-use Rattle.dslx_core.specs.Lowering.CorePlaces.{CorePlace, with_local}
+use Rattle.dslx_core.specs.Lowering.CoreScopes.{CoreScope, with_local}
 use Rattle.dslx_core.specs.Lowering.Lowering.{LoweredExpr, lowered}
 use Rattle.dslx_core.specs.declared.lowering.expr.LoweredArm as arm_data
 
 -- what an expression becomes at each place
-abbrev pub Lowers : Type 0
-Lowers = CorePlace → Option LoweredExpr
+abbrev pub ExprLowering : Type 0
+ExprLowering = CoreScope → Option LoweredExpr
 
 -- a shape, and the place behind it
 pub record LoweredShape : Type 0 where
   pub shape : Shape
-  pub place : CorePlace
+  pub place : CoreScope
 
 -- a pattern: the names in it, and what it becomes against values of a type, by the place of the whole pattern, where its numbers
 -- are evaluated, and the place behind what is bound so far
-pub record LowersPattern : Type 0 where
+pub record PatternLowering : Type 0 where
   pub names : List (List ℕ)
-  pub lower : CorePlace → CorePlace → DslxType → Option LoweredShape
+  pub lower : CoreScope → CoreScope → DslxType → Option LoweredShape
 
 -- at its own place
-abbrev pub lowered_at_place : LowersPattern → CorePlace → DslxType → Option LoweredShape
-lowered_at_place p place t = p.lower place place t
+abbrev pub lower_in_scope : PatternLowering → CoreScope → DslxType → Option LoweredShape
+lower_in_scope p place t = p.lower place place t
 
-abbrev pub shaped : Shape → CorePlace → Option LoweredShape
+abbrev pub shaped : Shape → CoreScope → Option LoweredShape
 shaped s place = Some (record { shape = s; place = place })
 
 -- a pattern that is one value of the type
-abbrev pub value_shape : Option DslxValue → CorePlace → DslxType → Option LoweredShape
+abbrev pub value_shape : Option DslxValue → CoreScope → DslxType → Option LoweredShape
 value_shape v place t = and_then v (λ v. where_true (equal_type t (type_of_value v)) (shaped (shape.Equal (plain_value v)) place))
 
 -- a name that is bound, or a constant's
-abbrev pub name_shape : List ℕ → CorePlace → DslxType → Option LoweredShape
+abbrev pub name_shape : List ℕ → CoreScope → DslxType → Option LoweredShape
 name_shape name place t =
     if place.known.items.is_constant name then value_shape (place.known.items.constant name) place t else shaped shape.Bound (with_local name t place)
 
 pub record LoweredShapes : Type 0 where
   pub shapes : List Shape
-  pub place : CorePlace
+  pub place : CoreScope
 
 -- the parts in order, each behind those before it
-abbrev pub parts_shaped : List LowersPattern → List DslxType → CorePlace → CorePlace → Option LoweredShapes
+abbrev pub parts_shaped : List PatternLowering → List DslxType → CoreScope → CoreScope → Option LoweredShapes
 parts_shaped [] [] outer place = Some (record { shapes = []; place = place })
 parts_shaped (p ∷ ps) (t ∷ ts) outer place =
     and_then (p.lower outer place t) (λ s. and_then (parts_shaped ps ts outer s.place) (λ r. Some (record { shapes = s.shape ∷ r.shapes; place = r.place })))
 parts_shaped [] (t ∷ ts) outer place = None
 parts_shaped (p ∷ ps) [] outer place = None
 
-abbrev pub tuple_shape : List LowersPattern → CorePlace → CorePlace → DslxType-F DslxType → Option LoweredShape
+abbrev pub tuple_shape : List PatternLowering → CoreScope → CoreScope → DslxType-F DslxType → Option LoweredShape
 tuple_shape ps outer place (DslxType-F.Tuple ts) = and_then (parts_shaped ps ts outer place) (λ r. shaped (shape.Tuple r.shapes) r.place)
 tuple_shape ps outer place _ = None
 
-abbrev pub names_of_all : List LowersPattern → List (List ℕ)
+abbrev pub names_of_all : List PatternLowering → List (List ℕ)
 names_of_all [] = []
 names_of_all (p ∷ ps) = p.names ++ names_of_all ps
 
 -- ---- match
 
-pub record LowersArm : Type 0 where
-  pub patterns : List LowersPattern
-  pub value : Lowers
+pub record ArmLowering : Type 0 where
+  pub patterns : List PatternLowering
+  pub value : ExprLowering
 
 -- an arm, and the type of its value
 abbrev pub LoweredArm : Type 0
@@ -82,17 +82,17 @@ abbrev pub arm_of : List Shape → LoweredExpr → Option LoweredArm
 arm_of shapes e = Some (record { arm = roll-Arm (record { shapes = shapes; value = e.core }); ty = e.ty })
 
 -- each alternative from the place
-abbrev pub alternatives_shaped : List LowersPattern → CorePlace → DslxType → Option (List Shape)
+abbrev pub alternatives_shaped : List PatternLowering → CoreScope → DslxType → Option (List Shape)
 alternatives_shaped [] place t = Some []
-alternatives_shaped (p ∷ ps) place t = with_both (lowered_at_place p place t) (alternatives_shaped ps place t) (λ s ss. Some (s.shape ∷ ss))
+alternatives_shaped (p ∷ ps) place t = with_both (lower_in_scope p place t) (alternatives_shaped ps place t) (λ s ss. Some (s.shape ∷ ss))
 
 -- the one pattern of an arm may bind names
-abbrev pub binding_arm : List LowersPattern → Lowers → CorePlace → DslxType → Option LoweredArm
-binding_arm (p ∷ []) value place t = and_then (lowered_at_place p place t) (λ s. and_then (value s.place) (arm_of (s.shape ∷ [])))
+abbrev pub binding_arm : List PatternLowering → ExprLowering → CoreScope → DslxType → Option LoweredArm
+binding_arm (p ∷ []) value place t = and_then (lower_in_scope p place t) (λ s. and_then (value s.place) (arm_of (s.shape ∷ [])))
 binding_arm _ value place t = None
 
-abbrev pub arm_lowered : LowersArm → CorePlace → DslxType → Option LoweredArm
-arm_lowered a place t =
+abbrev pub lower_arm : ArmLowering → CoreScope → DslxType → Option LoweredArm
+lower_arm a place t =
     if list_all place.known.items.is_constant (names_of_all a.patterns)
     then with_both (alternatives_shaped a.patterns place t) (a.value place) arm_of
     else binding_arm a.patterns a.value place t
@@ -102,18 +102,18 @@ arms_of e [] = None
 arms_of e (a ∷ as') =
     where_true (list_all (λ (c : LoweredArm). equal_type a.ty c.ty) as') (lowered (core.Select e.core (map (λ (c : LoweredArm). c.arm) (a ∷ as'))) a.ty)
 
-abbrev pub match_lowered : Option LoweredExpr → List LowersArm → CorePlace → Option LoweredExpr
-match_lowered e arms place = and_then e (λ e. and_then (all_some (map (λ (a : LowersArm). arm_lowered a place e.ty) arms)) (arms_of e))
+abbrev pub lower_match : Option LoweredExpr → List ArmLowering → CoreScope → Option LoweredExpr
+lower_match e arms place = and_then e (λ e. and_then (all_some (map (λ (a : ArmLowering). lower_arm a place e.ty) arms)) (arms_of e))
 
 -- ---- loops
 
 -- the first index and the one behind the last are constants; a turn gives what is accumulated its type again
-abbrev pub loop_lowered : Option LoweredExpr → Option LoweredExpr → Option SignedWord → Option SignedWord → LowersPattern → LowersPattern → Lowers → CorePlace → Option LoweredExpr
-loop_lowered start index first end i acc body place =
+abbrev pub lower_loop : Option LoweredExpr → Option LoweredExpr → Option SignedWord → Option SignedWord → PatternLowering → PatternLowering → ExprLowering → CoreScope → Option LoweredExpr
+lower_loop start index first end i acc body place =
     with_both start index (λ start index.
     with_both first end (λ a b.
-    and_then (lowered_at_place i place index.ty) (λ i.
-    and_then (lowered_at_place acc i.place start.ty) (λ acc.
+    and_then (lower_in_scope i place index.ty) (λ i.
+    and_then (lower_in_scope acc i.place start.ty) (λ acc.
     and_then (body acc.place) (λ body.
     where_true (equal_type start.ty body.ty && nat_lt (turn_count a b) (2 ^ 64))
     (lowered (core.Loop (turn_count a b) a.word i.shape acc.shape body.core start.core) start.ty))))))
@@ -121,6 +121,6 @@ loop_lowered start index first end i acc body place =
 -- ---- blocks
 
 -- the rest of a block behind a `let`
-abbrev pub let_lowered : Lowers → LowersPattern → Lowers → Lowers
-let_lowered value pattern rest place =
-    and_then (value place) (λ e. and_then (lowered_at_place pattern place e.ty) (λ s. and_then (rest s.place) (λ r. lowered (core.Bind e.core s.shape r.core) r.ty)))
+abbrev pub lower_let : ExprLowering → PatternLowering → ExprLowering → ExprLowering
+lower_let value pattern rest place =
+    and_then (value place) (λ e. and_then (lower_in_scope pattern place e.ty) (λ s. and_then (rest s.place) (λ r. lowered (core.Bind e.core s.shape r.core) r.ty)))

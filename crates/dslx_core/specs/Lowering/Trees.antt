@@ -11,11 +11,11 @@ use Rattle.dslx_meaning.specs.Callees.{kind_of_call}
 use Rattle.dslx_meaning.specs.Types.{bool_type, unit_type}
 use Rattle.dslx_meaning.specs.Values.{bits_of, bool_value}
 use Rattle.dslx_meaning.specs.Operators.{number_value}
-use Rattle.dslx_meaning.specs.Meaning.{meant}
+use Rattle.dslx_meaning.specs.Meaning.{denotation}
 use Rattle.dslx_meaning.specs.declared.ty.DslxType.{DslxType, out-DslxType}
 use Rattle.dslx_meaning.specs.declared.ty.DslxType as ty
 use Rattle.dslx_meaning.specs.declared.ty.DslxType.TheOpen.{DslxType-F}
-use Rattle.dslx_meaning.specs.declared.value.Bare.{Bare}
+use Rattle.dslx_meaning.specs.declared.value.UntypedLiteral.{UntypedLiteral}
 use Rattle.dslx_meaning.specs.declared.value.DslxValue.{DslxValue}
 use Rattle.dslx_meaning.specs.Rules.AggregateRules.{array_in}
 use Rattle.dslx_meaning.specs.Rules.Paired.{Sorts, Recursion, StmtPart, NodePart, ShapePart, TypeNodePart, BlockPart, LetPart, ArmPart, FieldPart, ForPart, NumberPart, paired_expr, paired_block, paired_type_expr}
@@ -23,68 +23,68 @@ use Rattle.dslx_core.specs.declared.expr.CoreExpr.{CoreExpr}
 use Rattle.dslx_core.specs.declared.expr.CoreExpr as core
 use Rattle.dslx_core.specs.declared.expr.Shape as shape
 use Rattle.dslx_core.specs.Lowering.EqualTypes.{equal_type}
-use Rattle.dslx_core.specs.Lowering.CorePlaces.{CorePlace, with_unnamed, constant_at, size_at, bound_at}
-use Rattle.dslx_core.specs.Lowering.Lowering.{LoweredExpr, lowered, literal, cores_of, name_lowered, number_lowered, prefix_lowered, binary_lowered, cast_lowered, slice_lowered, part_lowered, tuple_lowered, element_lowered, field_lowered, index_lowered, choice_lowered, call_lowered}
-use Rattle.dslx_core.specs.Lowering.Patterns.{Lowers, LoweredShape, LowersPattern, LowersArm, shaped, value_shape, name_shape, tuple_shape, names_of_all, match_lowered, loop_lowered, let_lowered}
+use Rattle.dslx_core.specs.Lowering.CoreScopes.{CoreScope, with_unnamed, constant_at, size_at, bound_at}
+use Rattle.dslx_core.specs.Lowering.Lowering.{LoweredExpr, lowered, literal, cores_of, lower_name, lower_number, lower_prefix, lower_binary, lower_cast, lower_slice, lower_part, lower_tuple, lower_element, lower_field, lower_index, lower_choice, lower_call}
+use Rattle.dslx_core.specs.Lowering.Patterns.{ExprLowering, LoweredShape, PatternLowering, ArmLowering, shaped, value_shape, name_shape, tuple_shape, names_of_all, lower_match, lower_loop, lower_let}
 
 -- what a written type means at each place
-abbrev pub LowersType : Type 0
-LowersType = CorePlace → Option DslxType
+abbrev pub TypeLowering : Type 0
+TypeLowering = CoreScope → Option DslxType
 
-pub record LowersField : Type 0 where
+pub record FieldLowering : Type 0 where
   pub name : List ℕ
-  pub value : Lowers
+  pub value : ExprLowering
 
-abbrev pub lowered_sorts : Sorts
-lowered_sorts = record {
-  stmt = Lowers → Lowers;
-  node = Lowers;
-  shape = LowersPattern;
-  type_node = LowersType;
-  block = Lowers;
-  bind = Lowers → Lowers;
+abbrev pub lowering_sorts : Sorts
+lowering_sorts = record {
+  stmt = ExprLowering → ExprLowering;
+  node = ExprLowering;
+  shape = PatternLowering;
+  type_node = TypeLowering;
+  block = ExprLowering;
+  bind = ExprLowering → ExprLowering;
   arg = Expr;
-  arm = LowersArm;
-  expr = Lowers;
-  field = LowersField;
-  loop = Lowers;
-  number = CorePlace → Option DslxValue;
-  pattern = LowersPattern;
-  type_expr = LowersType;
+  arm = ArmLowering;
+  expr = ExprLowering;
+  field = FieldLowering;
+  loop = ExprLowering;
+  number = CoreScope → Option DslxValue;
+  pattern = PatternLowering;
+  type_expr = TypeLowering;
 }
 
 -- an expression, and what it becomes
 abbrev pub LoweredPair : Type 0
-LoweredPair = Expr × Lowers
+LoweredPair = Expr × ExprLowering
 
 -- ---- types
 
-abbrev pub type_lowered : TypeNodePart lowered_sorts → LowersType
-type_lowered (TypeNode-F.Bits s w) place = Some (ty.Bits s w)
-type_lowered (TypeNode-F.Wide s e) place = and_then (size_at place e.0) (λ w. Some (ty.Bits s w))
-type_lowered TypeNode-F.TypeNode::Bool place = Some bool_type
-type_lowered (TypeNode-F.TypeNode::Name name) place = place.known.items.type_named name
-type_lowered (TypeNode-F.TypeNode::Tuple ts) place = and_then (all_some (map (λ (t : TypeExpr × LowersType). t.1 place) ts)) (λ ts. Some (ty.Tuple ts))
-type_lowered (TypeNode-F.TypeNode::Array t e) place = with_both (t.1 place) (size_at place e.0) (λ t n. Some (ty.Array t n))
+abbrev pub lower_type : TypeNodePart lowering_sorts → TypeLowering
+lower_type (TypeNode-F.Bits s w) place = Some (ty.Bits s w)
+lower_type (TypeNode-F.Wide s e) place = and_then (size_at place e.0) (λ w. Some (ty.Bits s w))
+lower_type TypeNode-F.TypeNode::Bool place = Some bool_type
+lower_type (TypeNode-F.TypeNode::Name name) place = place.known.items.type_named name
+lower_type (TypeNode-F.TypeNode::Tuple ts) place = and_then (all_some (map (λ (t : TypeExpr × TypeLowering). t.1 place) ts)) (λ ts. Some (ty.Tuple ts))
+lower_type (TypeNode-F.TypeNode::Array t e) place = with_both (t.1 place) (size_at place e.0) (λ t n. Some (ty.Array t n))
 
-abbrev pub written_lowered : Option (TypeExpr × LowersType) → CorePlace → Option DslxType
-written_lowered None place = None
-written_lowered (Some t) place = t.1 place
+abbrev pub lower_written : Option (TypeExpr × TypeLowering) → CoreScope → Option DslxType
+lower_written None place = None
+lower_written (Some t) place = t.1 place
 
-abbrev pub number_meaning : NumberPart lowered_sorts → CorePlace → Option DslxValue
-number_meaning n place = and_then (written_lowered n.ty place) (λ t. number_value t (record { is_negative = n.is_negative; value = n.value }))
+abbrev pub number_meaning : NumberPart lowering_sorts → CoreScope → Option DslxValue
+number_meaning n place = and_then (lower_written n.ty place) (λ t. number_value t (record { is_negative = n.is_negative; value = n.value }))
 
 -- ---- patterns
 
-abbrev pub second_parts : List (Pattern × LowersPattern) → List LowersPattern
-second_parts ps = map (λ (p : Pattern × LowersPattern). p.1) ps
+abbrev pub second_parts : List (Pattern × PatternLowering) → List PatternLowering
+second_parts ps = map (λ (p : Pattern × PatternLowering). p.1) ps
 
-abbrev pub shape_names_lowered : ShapePart lowered_sorts → List (List ℕ)
-shape_names_lowered (Shape-F.Shape::Name name) = name ∷ []
-shape_names_lowered (Shape-F.Shape::Tuple ps) = names_of_all (second_parts ps)
-shape_names_lowered _ = []
+abbrev pub lower_shape_names : ShapePart lowering_sorts → List (List ℕ)
+lower_shape_names (Shape-F.Shape::Name name) = name ∷ []
+lower_shape_names (Shape-F.Shape::Tuple ps) = names_of_all (second_parts ps)
+lower_shape_names _ = []
 
-abbrev pub shape_at : ShapePart lowered_sorts → CorePlace → CorePlace → DslxType → Option LoweredShape
+abbrev pub shape_at : ShapePart lowering_sorts → CoreScope → CoreScope → DslxType → Option LoweredShape
 shape_at Shape-F.Wild outer place t = shaped shape.Wild place
 shape_at (Shape-F.Shape::Bool b) outer place t = value_shape (Some (bool_value b)) place t
 shape_at (Shape-F.Shape::Number n) outer place t = value_shape (n.1 outer) place t
@@ -92,8 +92,8 @@ shape_at (Shape-F.Shape::Name name) outer place t = name_shape name place t
 shape_at (Shape-F.Shape::Member e a) outer place t = value_shape (place.known.items.member e.name a.name) place t
 shape_at (Shape-F.Shape::Tuple ps) outer place t = tuple_shape (second_parts ps) outer place (out-DslxType t)
 
-abbrev pub shape_lowered : ShapePart lowered_sorts → LowersPattern
-shape_lowered s = record { names = shape_names_lowered s; lower = shape_at s }
+abbrev pub lower_shape : ShapePart lowering_sorts → PatternLowering
+lower_shape s = record { names = lower_shape_names s; lower = shape_at s }
 
 -- ---- arrays
 
@@ -101,15 +101,15 @@ abbrev pub of_type : DslxType → Option LoweredExpr → Option LoweredExpr
 of_type t e = and_then e (λ e. where_true (equal_type t e.ty) (Some e))
 
 -- without a type the first element decides
-abbrev pub elements_lowered : List LoweredExpr → Option LoweredExpr
-elements_lowered [] = None
-elements_lowered (e ∷ es) =
+abbrev pub lower_array_elements : List LoweredExpr → Option LoweredExpr
+lower_array_elements [] = None
+lower_array_elements (e ∷ es) =
     where_true (list_all (λ (c : LoweredExpr). equal_type e.ty c.ty) es) (lowered (core.Array (cores_of (e ∷ es))) (ty.Array e.ty (suc (length es))))
 
 -- an element of an array that has a type may be a number without one
-abbrev pub element_or_number : DslxType → Option Bare → Option LoweredExpr → Option LoweredExpr
+abbrev pub element_or_number : DslxType → Option UntypedLiteral → Option LoweredExpr → Option LoweredExpr
 element_or_number t None e = of_type t e
-element_or_number t (Some number) e = of_type t (number_lowered (Some t) number)
+element_or_number t (Some number) e = of_type t (lower_number (Some t) number)
 
 -- the values that are bound from this number on, one for each of these
 abbrev pub slots_from : ℕ → List LoweredExpr → List CoreExpr
@@ -123,151 +123,151 @@ filled_array count n e es =
     (core.Array (slots_from count (e ∷ es) ++ repeated (n - suc (length es)) (core.Slot (count + length es))))
 
 -- `n` elements, where so many values are bound
-abbrev pub filled_lowered : ℕ → DslxType → Bool → ℕ → List LoweredExpr → Option LoweredExpr
-filled_lowered count t dots n [] = None
-filled_lowered count t false n (e ∷ es) = where_true (suc (length es) == n) (lowered (core.Array (cores_of (e ∷ es))) (ty.Array t n))
-filled_lowered count t true n (e ∷ es) = where_true (nat_le (suc (length es)) n) (lowered (filled_array count n e es) (ty.Array t n))
+abbrev pub lower_filled : ℕ → DslxType → Bool → ℕ → List LoweredExpr → Option LoweredExpr
+lower_filled count t dots n [] = None
+lower_filled count t false n (e ∷ es) = where_true (suc (length es) == n) (lowered (core.Array (cores_of (e ∷ es))) (ty.Array t n))
+lower_filled count t true n (e ∷ es) = where_true (nat_le (suc (length es)) n) (lowered (filled_array count n e es) (ty.Array t n))
 
-abbrev pub array_lowered : ℕ → Option (Option DslxType) → List (Option Bare × Option LoweredExpr) → Bool → Option LoweredExpr
-array_lowered count None es dots = if dots then None else and_then (all_some (map (λ (e : Option Bare × Option LoweredExpr). e.1) es)) elements_lowered
-array_lowered count (Some t) es dots =
-    and_then (and_then t array_in) (λ parts. and_then (all_some (map (λ (e : Option Bare × Option LoweredExpr). element_or_number parts.0 e.0 e.1) es)) (filled_lowered count parts.0 dots parts.1))
+abbrev pub lower_array : ℕ → Option (Option DslxType) → List (Option UntypedLiteral × Option LoweredExpr) → Bool → Option LoweredExpr
+lower_array count None es dots = if dots then None else and_then (all_some (map (λ (e : Option UntypedLiteral × Option LoweredExpr). e.1) es)) lower_array_elements
+lower_array count (Some t) es dots =
+    and_then (and_then t array_in) (λ parts. and_then (all_some (map (λ (e : Option UntypedLiteral × Option LoweredExpr). element_or_number parts.0 e.0 e.1) es)) (lower_filled count parts.0 dots parts.1))
 
 -- ---- structs
 
-abbrev pub field_value_lowered : List ℕ → Option LoweredPair → Lowers
-field_value_lowered name None = name_lowered name
-field_value_lowered name (Some e) = e.1
+abbrev pub lower_field_value : List ℕ → Option LoweredPair → ExprLowering
+lower_field_value name None = lower_name name
+lower_field_value name (Some e) = e.1
 
-abbrev pub value_written : List ℕ → List LowersField → Option Lowers
+abbrev pub value_written : List ℕ → List FieldLowering → Option ExprLowering
 value_written name [] = None
 value_written name (f ∷ fs) = if is_in name (f.name ∷ []) then Some f.value else value_written name fs
 
 -- a field that is written, or that of the value which gives the others
-abbrev pub field_or_other : CorePlace → Option LoweredExpr → List ℕ → Option Lowers → Option LoweredExpr
-field_or_other place others field None = field_lowered others field
+abbrev pub field_or_other : CoreScope → Option LoweredExpr → List ℕ → Option ExprLowering → Option LoweredExpr
+field_or_other place others field None = lower_field others field
 field_or_other place others field (Some value) = value place
 
-abbrev pub fields_lowered : CorePlace → List LowersField → Option LoweredExpr → List (List ℕ) → List DslxType → Option (List LoweredExpr)
-fields_lowered place written others [] [] = Some []
-fields_lowered place written others (field ∷ fields) (t ∷ ts) =
-    with_both (of_type t (field_or_other place others field (value_written field written))) (fields_lowered place written others fields ts) (λ e es. Some (e ∷ es))
-fields_lowered place written others [] (t ∷ ts) = None
-fields_lowered place written others (field ∷ fields) [] = None
+abbrev pub lower_fields : CoreScope → List FieldLowering → Option LoweredExpr → List (List ℕ) → List DslxType → Option (List LoweredExpr)
+lower_fields place written others [] [] = Some []
+lower_fields place written others (field ∷ fields) (t ∷ ts) =
+    with_both (of_type t (field_or_other place others field (value_written field written))) (lower_fields place written others fields ts) (λ e es. Some (e ∷ es))
+lower_fields place written others [] (t ∷ ts) = None
+lower_fields place written others (field ∷ fields) [] = None
 
-abbrev pub names_written : List LowersField → List (List ℕ)
-names_written fs = map (λ (f : LowersField). f.name) fs
+abbrev pub names_written : List FieldLowering → List (List ℕ)
+names_written fs = map (λ (f : FieldLowering). f.name) fs
 
 -- the value that gives the others is bound, to no name
-abbrev pub with_others : CorePlace → LoweredExpr → List LowersField → DslxType → List (List ℕ) → List DslxType → Option LoweredExpr
+abbrev pub with_others : CoreScope → LoweredExpr → List FieldLowering → DslxType → List (List ℕ) → List DslxType → Option LoweredExpr
 with_others place others written t fields ts =
-    and_then (fields_lowered (with_unnamed place) written (lowered (core.Slot place.count) others.ty) fields ts) (λ es. lowered (core.Bind others.core shape.Bound (core.Tuple (cores_of es))) t)
+    and_then (lower_fields (with_unnamed place) written (lowered (core.Slot place.count) others.ty) fields ts) (λ es. lowered (core.Bind others.core shape.Bound (core.Tuple (cores_of es))) t)
 
-abbrev pub without_others : CorePlace → List LowersField → DslxType → List (List ℕ) → List DslxType → Option LoweredExpr
-without_others place written t fields ts = and_then (fields_lowered place written None fields ts) (λ es. lowered (core.Tuple (cores_of es)) t)
+abbrev pub without_others : CoreScope → List FieldLowering → DslxType → List (List ℕ) → List DslxType → Option LoweredExpr
+without_others place written t fields ts = and_then (lower_fields place written None fields ts) (λ es. lowered (core.Tuple (cores_of es)) t)
 
 -- what gives the others is needed only where a field isn't written
-abbrev pub struct_fields : CorePlace → List LowersField → Option Lowers → DslxType → List (List ℕ) → List DslxType → Option LoweredExpr
+abbrev pub struct_fields : CoreScope → List FieldLowering → Option ExprLowering → DslxType → List (List ℕ) → List DslxType → Option LoweredExpr
 struct_fields place written None t fields ts = without_others place written t fields ts
 struct_fields place written (Some others) t fields ts =
     if list_all (λ field. is_in field (names_written written)) fields then without_others place written t fields ts
     else and_then (others place) (λ e. with_others place e written t fields ts)
 
-abbrev pub struct_lowered_in : CorePlace → List LowersField → Option Lowers → DslxType-F DslxType → Option LoweredExpr
-struct_lowered_in place written others (DslxType-F.Struct name fields ts) = struct_fields place written others (ty.Struct name fields ts) fields ts
-struct_lowered_in place written others _ = None
+abbrev pub lower_struct_in : CoreScope → List FieldLowering → Option ExprLowering → DslxType-F DslxType → Option LoweredExpr
+lower_struct_in place written others (DslxType-F.Struct name fields ts) = struct_fields place written others (ty.Struct name fields ts) fields ts
+lower_struct_in place written others _ = None
 
-abbrev pub others_of : Option LoweredPair → Option Lowers
+abbrev pub others_of : Option LoweredPair → Option ExprLowering
 others_of None = None
 others_of (Some e) = Some e.1
 
 -- ---- expressions
 
-abbrev pub all_lowered : CorePlace → List LoweredPair → List (Option LoweredExpr)
-all_lowered place es = map (λ (e : LoweredPair). e.1 place) es
+abbrev pub lower_all : CoreScope → List LoweredPair → List (Option LoweredExpr)
+lower_all place es = map (λ (e : LoweredPair). e.1 place) es
 
-abbrev pub node_lowered : NodePart lowered_sorts → Lowers
-node_lowered (Node-F.Node::Number n) place = and_then (n.1 place) literal
-node_lowered (Node-F.Node::Bool b) place = literal (bool_value b)
-node_lowered (Node-F.Node::Array None es dots) place = array_lowered place.count None (map (λ (e : LoweredPair). ((meant e.0).bare, e.1 place)) es) dots
-node_lowered (Node-F.Node::Array (Some t) es dots) place = array_lowered place.count (Some (t.1 place)) (map (λ (e : LoweredPair). ((meant e.0).bare, e.1 place)) es) dots
-node_lowered (Node-F.Node::Name name) place = name_lowered name place
-node_lowered (Node-F.Node::Member e a) place = and_then (place.known.items.member e.name a.name) literal
-node_lowered (Node-F.Call f numbers es) place = call_lowered (kind_of_call f.name) f.name place (map (λ a. constant_at place a.1) numbers) (all_lowered place es)
-node_lowered (Node-F.Node::Tuple es) place = tuple_lowered (all_lowered place es)
-node_lowered (Node-F.Struct s fields rest) place = and_then (place.known.items.struct_named s.name) (λ t. struct_lowered_in place (map (λ f. f.1) fields) (others_of rest) (out-DslxType t))
-node_lowered (Node-F.Block b) place = b.1 place
-node_lowered (Node-F.If c a b) place = choice_lowered (c.1 place) (a.1 place) (b.1 place)
-node_lowered (Node-F.Match e arms) place = match_lowered (e.1 place) (map (λ a. a.1) arms) place
-node_lowered (Node-F.For f) place = f.1 place
-node_lowered (Node-F.Index e i) place = index_lowered (e.1 place) (i.1 place)
-node_lowered (Node-F.Slice e a b) place = slice_lowered (e.1 place) (bound_at place a.0) (bound_at place b.0)
-node_lowered (Node-F.Part e i t) place = part_lowered (e.1 place) (i.1 place) (t.1 place)
-node_lowered (Node-F.Field e name) place = field_lowered (e.1 place) name.name
-node_lowered (Node-F.Element e span k) place = element_lowered (e.1 place) k
-node_lowered (Node-F.Prefix o e) place = prefix_lowered o (e.1 place)
-node_lowered (Node-F.Cast e t) place = cast_lowered (e.1 place) (t.1 place)
-node_lowered (Node-F.Binary o l r) place = binary_lowered o (l.1 place) (r.1 place)
+abbrev pub lower_node : NodePart lowering_sorts → ExprLowering
+lower_node (Node-F.Node::Number n) place = and_then (n.1 place) literal
+lower_node (Node-F.Node::Bool b) place = literal (bool_value b)
+lower_node (Node-F.Node::Array None es dots) place = lower_array place.count None (map (λ (e : LoweredPair). ((denotation e.0).bare, e.1 place)) es) dots
+lower_node (Node-F.Node::Array (Some t) es dots) place = lower_array place.count (Some (t.1 place)) (map (λ (e : LoweredPair). ((denotation e.0).bare, e.1 place)) es) dots
+lower_node (Node-F.Node::Name name) place = lower_name name place
+lower_node (Node-F.Node::Member e a) place = and_then (place.known.items.member e.name a.name) literal
+lower_node (Node-F.Call f parametric_args es) place = lower_call (kind_of_call f.name) f.name place (map (λ a. constant_at place a.1) parametric_args) (lower_all place es)
+lower_node (Node-F.Node::Tuple es) place = lower_tuple (lower_all place es)
+lower_node (Node-F.Struct s fields rest) place = and_then (place.known.items.struct_named s.name) (λ t. lower_struct_in place (map (λ f. f.1) fields) (others_of rest) (out-DslxType t))
+lower_node (Node-F.Block b) place = b.1 place
+lower_node (Node-F.If c a b) place = lower_choice (c.1 place) (a.1 place) (b.1 place)
+lower_node (Node-F.Match e arms) place = lower_match (e.1 place) (map (λ a. a.1) arms) place
+lower_node (Node-F.For f) place = f.1 place
+lower_node (Node-F.Index e i) place = lower_index (e.1 place) (i.1 place)
+lower_node (Node-F.Slice e a b) place = lower_slice (e.1 place) (bound_at place a.0) (bound_at place b.0)
+lower_node (Node-F.Part e i t) place = lower_part (e.1 place) (i.1 place) (t.1 place)
+lower_node (Node-F.Field e name) place = lower_field (e.1 place) name.name
+lower_node (Node-F.Element e span k) place = lower_element (e.1 place) k
+lower_node (Node-F.Prefix o e) place = lower_prefix o (e.1 place)
+lower_node (Node-F.Cast e t) place = lower_cast (e.1 place) (t.1 place)
+lower_node (Node-F.Binary o l r) place = lower_binary o (l.1 place) (r.1 place)
 
 -- ---- statements and blocks
 
 -- the value of an expression that stands as a statement isn't used
-abbrev pub stmt_lowered : StmtPart lowered_sorts → Lowers → Lowers
-stmt_lowered (Stmt-F.Let l) rest place = l.1 rest place
-stmt_lowered (Stmt-F.Bare e) rest place = rest place
+abbrev pub lower_stmt : StmtPart lowering_sorts → ExprLowering → ExprLowering
+lower_stmt (Stmt-F.Let l) rest place = l.1 rest place
+lower_stmt (Stmt-F.Bare e) rest place = rest place
 
-abbrev pub statements_lowered : List (Lowers → Lowers) → Lowers → Lowers
-statements_lowered [] last place = last place
-statements_lowered (s ∷ ss) last place = s (statements_lowered ss last) place
+abbrev pub lower_statements : List (ExprLowering → ExprLowering) → ExprLowering → ExprLowering
+lower_statements [] last place = last place
+lower_statements (s ∷ ss) last place = s (lower_statements ss last) place
 
-abbrev pub last_lowered : Option LoweredPair → Lowers
-last_lowered None place = lowered (core.Tuple []) unit_type
-last_lowered (Some e) place = e.1 place
+abbrev pub lower_last_value : Option LoweredPair → ExprLowering
+lower_last_value None place = lowered (core.Tuple []) unit_type
+lower_last_value (Some e) place = e.1 place
 
-abbrev pub block_lowered : BlockPart lowered_sorts → Lowers
-block_lowered b = statements_lowered (map (λ s. s.1) b.statements) (last_lowered b.value)
+abbrev pub lower_block : BlockPart lowering_sorts → ExprLowering
+lower_block b = lower_statements (map (λ s. s.1) b.statements) (lower_last_value b.value)
 
-abbrev pub bind_lowered : LetPart lowered_sorts → Lowers → Lowers
-bind_lowered l = let_lowered l.value.1 l.pattern.1
+abbrev pub lower_bind : LetPart lowering_sorts → ExprLowering → ExprLowering
+lower_bind l = lower_let l.value.1 l.pattern.1
 
-abbrev pub arm_part_lowered : ArmPart lowered_sorts → LowersArm
-arm_part_lowered a = record { patterns = second_parts a.patterns; value = a.value.1 }
+abbrev pub lower_arm_part : ArmPart lowering_sorts → ArmLowering
+lower_arm_part a = record { patterns = second_parts a.patterns; value = a.value.1 }
 
-abbrev pub field_part_lowered : FieldPart lowered_sorts → LowersField
-field_part_lowered f = record { name = f.name.name; value = field_value_lowered f.name.name f.value }
+abbrev pub lower_field_part : FieldPart lowering_sorts → FieldLowering
+lower_field_part f = record { name = f.name.name; value = lower_field_value f.name.name f.value }
 
-abbrev pub for_lowered : ForPart lowered_sorts → Lowers
-for_lowered f place =
-    loop_lowered (f.start.1 place) (f.from.1 place) (and_then (constant_at place f.from.0) bits_of) (and_then (constant_at place f.to.0) bits_of) f.index.1 f.accumulator.1 f.body.1 place
+abbrev pub lower_for : ForPart lowering_sorts → ExprLowering
+lower_for f place =
+    lower_loop (f.start.1 place) (f.from.1 place) (and_then (constant_at place f.from.0) bits_of) (and_then (constant_at place f.to.0) bits_of) f.index.1 f.accumulator.1 f.body.1 place
 
 -- ---- the trees
 
-abbrev pub lowering_steps : Recursion lowered_sorts
+abbrev pub lowering_steps : Recursion lowering_sorts
 lowering_steps = record {
-  stmt = stmt_lowered;
-  node = node_lowered;
-  shape = shape_lowered;
-  type_node = type_lowered;
-  block = block_lowered;
-  bind = bind_lowered;
+  stmt = lower_stmt;
+  node = lower_node;
+  shape = lower_shape;
+  type_node = lower_type;
+  block = lower_block;
+  bind = lower_bind;
   arg = λ a. a.value.0;
-  arm = arm_part_lowered;
+  arm = lower_arm_part;
   expr = λ e. e.node.1;
-  field = field_part_lowered;
-  loop = for_lowered;
+  field = lower_field_part;
+  loop = lower_for;
   number = number_meaning;
   pattern = λ p. p.shape.1;
   type_expr = λ t. t.node.1;
 }
 
 -- the core expression that an expression of a text becomes at a place, with its type
-abbrev pub expression_lowered : Expr → Lowers
-expression_lowered e = (paired_expr lowered_sorts lowering_steps e).1
+abbrev pub lower_expression : Expr → ExprLowering
+lower_expression e = (paired_expr lowering_sorts lowering_steps e).1
 
 -- the same of a block
-abbrev pub block_of_text_lowered : Block → Lowers
-block_of_text_lowered b = (paired_block lowered_sorts lowering_steps b).1
+abbrev pub lower_block_of_text : Block → ExprLowering
+lower_block_of_text b = (paired_block lowering_sorts lowering_steps b).1
 
 -- a written type
-abbrev pub type_of_text_lowered : TypeExpr → LowersType
-type_of_text_lowered t = (paired_type_expr lowered_sorts lowering_steps t).1
+abbrev pub lower_type_of_text : TypeExpr → TypeLowering
+lower_type_of_text t = (paired_type_expr lowering_sorts lowering_steps t).1

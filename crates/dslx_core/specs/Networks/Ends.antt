@@ -9,7 +9,7 @@ use Rattle.dslx_meaning.specs.Network.{Held, made_ends, outer_ends}
 
 -- each with its number in the place of a channel
 abbrev pub numbered_ends : Proc → List Held
-numbered_ends p = outer_ends 0 p.config.ends ++ made_ends (length p.config.ends) p.config.makings
+numbered_ends p = outer_ends 0 p.config.ends ++ made_ends (length p.config.ends) p.config.config_statements
 
 -- the number of the first one of a name
 abbrev pub end_number : List ℕ → List Held → Option ℕ

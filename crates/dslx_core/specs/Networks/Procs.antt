@@ -13,8 +13,8 @@ use Rattle.dslx_meaning.specs.declared.value.DslxValue.{DslxValue}
 use Rattle.dslx_typing.specs.Typed.Kinds.{is_of}
 use Rattle.dslx_core.specs.declared.design.Instance.{Instance}
 use Rattle.dslx_core.specs.Lowering.Functions.{CoreInstance, Instantiated}
-use Rattle.dslx_core.specs.Lowering.Steps.{LoweredNext, next_lowered, proc_known}
-use Rattle.dslx_core.specs.Networks.Configs.{LoweredConfig, ProcInstance, config_lowered}
+use Rattle.dslx_core.specs.Lowering.Steps.{LoweredNext, lower_next, proc_globals}
+use Rattle.dslx_core.specs.Networks.Configs.{LoweredConfig, ProcInstance, lower_config}
 
 abbrev pub instance_of : Proc → LoweredNext → LoweredConfig → DslxValue → Instance
 instance_of p next config opening = record {
@@ -28,16 +28,16 @@ instance_of p next config opening = record {
   next = next.next;
 }
 
--- a proc with these number arguments, where these instances of functions are there to be called, and these of procs to be spawned
-abbrev pub proc_lowered : Module → Meanings → List CoreInstance → List ProcInstance → Proc → List DslxValue → Option Instance
-proc_lowered m items functions procs p numbers =
-    with_both (next_lowered (proc_known m items functions p numbers) p) (config_lowered m items procs p numbers) (λ next config.
-    and_then (opening_state items p numbers) (λ v. where_true (is_of next.state v) (Some (instance_of p next config v))))
+-- a proc with these parametric arguments, where these instances of functions are there to be called, and these of procs to be spawned
+abbrev pub lower_proc : Module → Meanings → List CoreInstance → List ProcInstance → Proc → List DslxValue → Option Instance
+lower_proc m items functions procs p parametric_args =
+    with_both (lower_next (proc_globals m items functions p parametric_args) p) (lower_config m items procs p parametric_args) (λ next config.
+    and_then (opening_state items p parametric_args) (λ v. where_true (is_of next.state v) (Some (instance_of p next config v))))
 
 abbrev pub next_proc : Module → Meanings → List CoreInstance → List ProcInstance → Instantiated → Option ProcInstance
 next_proc m items functions before i =
     and_then (as_proc (item_named i.name m.items)) (λ p.
-    and_then (proc_lowered m items functions before p i.numbers) (λ l. Some (record { name = i.name; numbers = i.numbers; instance = l })))
+    and_then (lower_proc m items functions before p i.parametric_args) (λ l. Some (record { name = i.name; parametric_args = i.parametric_args; instance = l })))
 
 -- instances in order, each of which spawns those before it
 abbrev pub procs_from : Module → Meanings → List CoreInstance → List ProcInstance → List Instantiated → Option (List ProcInstance)

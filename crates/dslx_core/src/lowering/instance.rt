@@ -18,17 +18,17 @@ pub struct LoweredFunction {
     pub body: CoreExpr,
 }
 
-/// A name and its number arguments.
+/// A name and its parametric arguments.
 #[derive(Drop)]
 pub struct Instantiated {
     pub name: Name,
-    pub numbers: Seq<DslxValue>,
+    pub parametric_args: Seq<DslxValue>,
 }
 
-/// An instance by its name and its number arguments.
+/// An instance by its name and its parametric arguments.
 #[derive(Drop)]
 pub struct CoreInstance {
     pub name: Name,
-    pub numbers: Seq<DslxValue>,
+    pub parametric_args: Seq<DslxValue>,
     pub function: LoweredFunction,
 }

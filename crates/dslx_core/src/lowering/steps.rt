@@ -5,21 +5,21 @@ ghost use Rattle.dslx_meaning.specs.Activation.{state_type_of};
 ghost use Rattle.dslx_meaning.specs.Environment.{Meanings};
 ghost use Rattle.dslx_meaning.specs.Items.{meanings_over};
 ghost use Rattle.dslx_meaning.specs.declared.value.DslxValue.{DslxValue};
-ghost use Rattle.dslx_core.specs.Lowering.Activities.{NextStands};
+ghost use Rattle.dslx_core.specs.Lowering.Activities.{NextSimulates};
 ghost use Rattle.dslx_core.specs.Lowering.Functions.{CoreInstance, Instantiated, instances_from};
 ghost use Rattle.dslx_core.specs.Lowering.Instances.{ItemsAreOwn, functions_of_instances};
-ghost use Rattle.dslx_core.specs.Lowering.Steps.{LoweredNext, next_lowered, proc_known};
+ghost use Rattle.dslx_core.specs.Lowering.Steps.{LoweredNext, lower_next, proc_globals};
 
 /// An activation of an instance of a proc, from each state of its type and over each list of words: what it does at a site
 /// the steps that its `next` becomes do too, and where it ends in a state they do just that and end in this state, without
 /// signs and names. That type is the one that the text's state has.
-pub fn lowered_steps_do_the_same()
+pub fn lower_preserves_steps()
     ensures activations { (m : Module) (items : Meanings) → meanings_over m items ≡ items → ItemsAreOwn items
         → (is : List Instantiated) (instances : List CoreInstance) → instances_from m items [] is ≡ Some instances
-        → (p : Proc) (numbers : List DslxValue) (l : LoweredNext) → next_lowered (proc_known m items instances p numbers) p ≡ Some l
-        → NextStands (proc_known m items instances p numbers) (functions_of_instances instances) p numbers l }
+        → (p : Proc) (parametric_args : List DslxValue) (l : LoweredNext) → lower_next (proc_globals m items instances p parametric_args) p ≡ Some l
+        → NextSimulates (proc_globals m items instances p parametric_args) (functions_of_instances instances) p parametric_args l }
     ensures state { (m : Module) (items : Meanings) → meanings_over m items ≡ items → ItemsAreOwn items
         → (is : List Instantiated) (instances : List CoreInstance) → instances_from m items [] is ≡ Some instances
-        → (p : Proc) (numbers : List DslxValue) (l : LoweredNext) → next_lowered (proc_known m items instances p numbers) p ≡ Some l
-        → state_type_of items p numbers ≡ Some l.state }
+        → (p : Proc) (parametric_args : List DslxValue) (l : LoweredNext) → lower_next (proc_globals m items instances p parametric_args) p ≡ Some l
+        → state_type_of items p parametric_args ≡ Some l.state }
 {}

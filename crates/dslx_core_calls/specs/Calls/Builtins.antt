@@ -5,16 +5,16 @@ use Rattle.dslx_meaning.specs.Lists.{all_some, and_then}
 use Rattle.dslx_meaning.specs.declared.ty.DslxType as ty
 use Rattle.dslx_core.specs.declared.expr.CoreUnary.TheVariants as u
 use Rattle.dslx_core.specs.declared.expr.CoreExpr as core
-use Rattle.dslx_core.specs.Lowering.Lowering.{LoweredExpr, counted_lowered, lowered, reduced_lowered, updated_lowered}
+use Rattle.dslx_core.specs.Lowering.Lowering.{LoweredExpr, lower_counted, lowered, lower_reduced, lower_updated}
 
--- `call_lowered` of each kind but calls of functions of the text: names, places and number arguments are nothing to it
+-- `lower_call` of each kind but calls of functions of the text: names, places and parametric arguments are nothing to it
 abbrev pub builtin_of : CallKind → List LoweredExpr → Option LoweredExpr
 builtin_of Joins es = and_then (all_some (map Some es)) (λ es. lowered (core.Tuple []) ty.Token)
-builtin_of CountsLeading es = counted_lowered u.Clz (map Some es)
-builtin_of CountsTrailing es = counted_lowered u.Ctz (map Some es)
-builtin_of Reverses es = counted_lowered u.Rev (map Some es)
-builtin_of AllOnes es = reduced_lowered u.AndReduce (map Some es)
-builtin_of SomeOne es = reduced_lowered u.OrReduce (map Some es)
-builtin_of Parity es = reduced_lowered u.XorReduce (map Some es)
-builtin_of Updates es = updated_lowered (map Some es)
+builtin_of CountsLeading es = lower_counted u.Clz (map Some es)
+builtin_of CountsTrailing es = lower_counted u.Ctz (map Some es)
+builtin_of Reverses es = lower_counted u.Rev (map Some es)
+builtin_of AllOnes es = lower_reduced u.AndReduce (map Some es)
+builtin_of SomeOne es = lower_reduced u.OrReduce (map Some es)
+builtin_of Parity es = lower_reduced u.XorReduce (map Some es)
+builtin_of Updates es = lower_updated (map Some es)
 builtin_of _ es = None

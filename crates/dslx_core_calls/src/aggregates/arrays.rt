@@ -20,11 +20,11 @@ use xb_value::Boxed;
 
 /// An array of these elements, if there are any and all are of one type.
 #[tactic(auto, using(crate::proofs::OnAggregates::Elements::elements_none, crate::proofs::OnAggregates::Elements::elements_some))]
-pub fn elements_lowered(
+pub fn lower_array_elements(
     alloc: Global,
     exprs: Vec<LoweredExpr>,
 ) -> Result<Option<LoweredExpr>, AllocError>
-    ensures { IfOk result (λ e. e ≡ trees.elements_lowered exprs.items) }
+    ensures { IfOk result (λ e. e ≡ trees.lower_array_elements exprs.items) }
 {
     match type_of_all(alloc, exprs.as_slice())? {
         Some(ty) => Ok(Some(array_of(alloc, ty, exprs)?)),

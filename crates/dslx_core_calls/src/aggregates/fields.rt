@@ -2,10 +2,10 @@
 
 ghost use Rattle.std.specs.Prelude.{◌≡◌, Some, IfOk, slice_get};
 ghost use Rattle.dslx_core.specs.declared.expr.CoreExpr.{Element as element_core, Slot as slot_core};
-ghost use Rattle.dslx_meaning.specs.Lists.{and_then, place_in};
+ghost use Rattle.dslx_meaning.specs.Lists.{and_then, index_in};
 ghost use Rattle.dslx_meaning.specs.declared.ty.DslxType.{out-DslxType};
 ghost use Rattle.dslx_core.specs.Lowering.Lowering as lowering;
-ghost use Rattle.dslx_core.specs.Lowering.Lowering.{field_place as the_place, lowered};
+ghost use Rattle.dslx_core.specs.Lowering.Lowering.{field_index as the_place, lowered};
 
 use base::texts::Name;
 use dslx_core::CoreExpr;
@@ -16,14 +16,14 @@ use std::alloc::{AllocError, Global};
 use xb_value::Boxed;
 
 /// The field of a struct of this name.
-pub fn field_lowered(
+pub fn lower_field(
     alloc: Global,
     expr: LoweredExpr,
     field: &Name,
 ) -> Result<Option<LoweredExpr>, AllocError>
-    ensures { IfOk result (λ e. e ≡ lowering.field_lowered (Some expr) field.now) }
+    ensures { IfOk result (λ e. e ≡ lowering.lower_field (Some expr) field.now) }
 {
-    match field_place(alloc, &expr.ty, field)? {
+    match field_index(alloc, &expr.ty, field)? {
         Some((place, ty)) => Ok(Some(LoweredExpr {
             core: Boxed::new(alloc, CoreExpr::Element(expr.core, place))?,
             ty,
@@ -39,9 +39,9 @@ pub fn field_of_slot(
     ty: &DslxType,
     field: &Name,
 ) -> Result<Option<LoweredExpr>, AllocError>
-    ensures { IfOk result (λ e. e ≡ lowering.field_lowered (lowered (slot_core slot) ty.now) field.now) }
+    ensures { IfOk result (λ e. e ≡ lowering.lower_field (lowered (slot_core slot) ty.now) field.now) }
 {
-    match field_place(alloc, ty, field)? {
+    match field_index(alloc, ty, field)? {
         Some((place, ty)) => Ok(Some(LoweredExpr {
             core: element_of_slot(alloc, slot, place)?,
             ty,
@@ -58,7 +58,7 @@ fn element_of_slot(alloc: Global, slot: u64, place: u64) -> Result<Boxed<CoreExp
 }
 
 /// The place of the field of this name of a struct, and its type, copied.
-fn field_place(
+fn field_index(
     alloc: Global,
     ty: &DslxType,
     field: &Name,
@@ -80,9 +80,9 @@ fn type_beside(
     types: &[DslxType],
     field: &Name,
 ) -> Result<Option<(u64, DslxType)>, AllocError>
-    ensures { IfOk result (λ p. p ≡ and_then (place_in field.now names.now) (λ k. and_then (slice_get types.now k) (λ t. Some (k, t)))) }
+    ensures { IfOk result (λ p. p ≡ and_then (index_in field.now names.now) (λ k. and_then (slice_get types.now k) (λ t. Some (k, t)))) }
 {
-    match place_of(field.as_str(), names) {
+    match index_of(field.as_str(), names) {
         Some(place) => type_at(alloc, types, place),
         None => Ok(None),
     }
@@ -103,8 +103,8 @@ fn type_at(
 }
 
 /// The place of the first of the names that is this one.
-fn place_of(name: &str, names: &[Name]) -> Option<usize>
-    ensures { result ≡ place_in name.now names.now }
+fn index_of(name: &str, names: &[Name]) -> Option<usize>
+    ensures { result ≡ index_in name.now names.now }
 {
     'names: for i in 0..names.len() {
         if name == names[i].as_str() {

@@ -13,7 +13,7 @@ use crate::aggregates::arrays::written_array;
 use crate::aggregates::parts::cores_of;
 use dslx_core::lowering::LoweredExpr;
 use dslx_core::{CoreExpr, Shape};
-use dslx_core_exprs::control::bind_lowered;
+use dslx_core_exprs::control::lower_bind;
 use dslx_meaning::DslxType;
 use std::alloc::{AllocError, Global};
 use xb_value::{Boxed, Seq};
@@ -22,7 +22,7 @@ use xb_value::{Boxed, Seq};
 /// repeated where dots stand. `None` where they are not as many, or with dots more or none. It takes time and memory as the
 /// array is large; where a value's number would pass 2^64 - 1 it gives up as for want of memory.
 #[tactic(auto, using(crate::proofs::OnAggregates::Elements::filled_none, crate::proofs::OnAggregates::Elements::filled_some))]
-pub fn filled_lowered(
+pub fn lower_filled(
     alloc: Global,
     count: u64,
     ty: DslxType,
@@ -30,10 +30,10 @@ pub fn filled_lowered(
     size: u128,
     exprs: Vec<LoweredExpr>,
 ) -> Result<Option<LoweredExpr>, AllocError>
-    ensures { IfOk result (λ e. e ≡ trees.filled_lowered count ty dots size exprs.items) }
+    ensures { IfOk result (λ e. e ≡ trees.lower_filled count ty dots size exprs.items) }
 {
     if fits_size(dots, size, exprs.as_slice()) {
-        Ok(Some(fitting_lowered(alloc, count, ty, dots, size, exprs)?))
+        Ok(Some(lower_fitting(alloc, count, ty, dots, size, exprs)?))
     } else {
         Ok(None)
     }
@@ -60,7 +60,7 @@ fn is_size(dots: bool, size: u128, written: u128) -> bool
 }
 
 /// The array of elements that are as many as are wanted, or with dots no more.
-fn fitting_lowered(
+fn lower_fitting(
     alloc: Global,
     count: u64,
     ty: DslxType,
@@ -94,7 +94,7 @@ fn filled_up(
         ty: DslxType::Array(Boxed::new(alloc, ty)?, size),
     };
     let values = Boxed::new(alloc, CoreExpr::Tuple(cores_of(alloc, exprs)?))?;
-    bind_lowered(alloc, values, Shape::Tuple(shapes), body)
+    lower_bind(alloc, values, Shape::Tuple(shapes), body)
 }
 
 /// Each part is bound.

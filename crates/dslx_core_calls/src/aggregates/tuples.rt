@@ -13,15 +13,15 @@ use std::alloc::{AllocError, Global};
 use xb_value::Boxed;
 
 /// A tuple of these parts.
-pub fn tuple_lowered(alloc: Global, exprs: Vec<LoweredExpr>) -> Result<LoweredExpr, AllocError>
+pub fn lower_tuple(alloc: Global, exprs: Vec<LoweredExpr>) -> Result<LoweredExpr, AllocError>
     ensures { IfOk result (λ e. Some e ≡ lowered (tuple_core (the_cores exprs.items)) (tuple_type (types_of_lowered exprs.items))) }
 {
     let types = types_of(alloc, exprs.as_slice())?;
-    struct_lowered(alloc, exprs, DslxType::Tuple(types))
+    lower_struct(alloc, exprs, DslxType::Tuple(types))
 }
 
 /// A tuple of these fields, as a value of a type.
-pub fn struct_lowered(
+pub fn lower_struct(
     alloc: Global,
     exprs: Vec<LoweredExpr>,
     ty: DslxType,

@@ -13,7 +13,7 @@ use crate::calls::held::where_holds;
 use dslx_core::lowering::LoweredExpr;
 use dslx_core::{CoreExpr, CoreUnary};
 use dslx_core_exprs::alike::equal_type;
-use dslx_core_exprs::operators::{counted_lowered, reduced_lowered};
+use dslx_core_exprs::operators::{lower_counted, lower_reduced};
 use dslx_meaning::DslxType;
 use dslx_names::Callee;
 use std::alloc::{AllocError, Global};
@@ -21,7 +21,7 @@ use xb_value::{Boxed, Seq};
 
 /// What a builtin gives for these operands. Effects, and functions of the text, are none.
 #[tactic(auto, using(crate::proofs::OnCalls::BuiltinLemmas::join_is))]
-pub fn builtin_lowered(
+pub fn lower_builtin(
     alloc: Global,
     callee: Callee,
     exprs: Vec<LoweredExpr>,
@@ -58,10 +58,10 @@ fn counted(
     operator: CoreUnary,
     exprs: Vec<LoweredExpr>,
 ) -> Result<Option<LoweredExpr>, AllocError>
-    ensures { IfOk result (λ e. e ≡ lowering.counted_lowered operator (map Some exprs.items)) }
+    ensures { IfOk result (λ e. e ≡ lowering.lower_counted operator (map Some exprs.items)) }
 {
     match one_of(Seq::from_vec(exprs)) {
-        Some(operand) => Ok(Some(counted_lowered(alloc, operator, operand)?)),
+        Some(operand) => Ok(Some(lower_counted(alloc, operator, operand)?)),
         None => Ok(None),
     }
 }
@@ -73,10 +73,10 @@ fn reduced(
     operator: CoreUnary,
     exprs: Vec<LoweredExpr>,
 ) -> Result<Option<LoweredExpr>, AllocError>
-    ensures { IfOk result (λ e. e ≡ lowering.reduced_lowered operator (map Some exprs.items)) }
+    ensures { IfOk result (λ e. e ≡ lowering.lower_reduced operator (map Some exprs.items)) }
 {
     match one_of(Seq::from_vec(exprs)) {
-        Some(operand) => Ok(Some(reduced_lowered(alloc, operator, operand)?)),
+        Some(operand) => Ok(Some(lower_reduced(alloc, operator, operand)?)),
         None => Ok(None),
     }
 }
@@ -84,23 +84,23 @@ fn reduced(
 /// An array with another element at an index, if there are these three.
 #[tactic(auto, using(crate::proofs::OnCalls::BuiltinLemmas::updated_none, crate::proofs::OnCalls::BuiltinLemmas::updated_some))]
 fn updated(alloc: Global, exprs: Vec<LoweredExpr>) -> Result<Option<LoweredExpr>, AllocError>
-    ensures { IfOk result (λ e. e ≡ lowering.updated_lowered (map Some exprs.items)) }
+    ensures { IfOk result (λ e. e ≡ lowering.lower_updated (map Some exprs.items)) }
 {
     match three_of(Seq::from_vec(exprs)) {
-        Some((array, index, new)) => update_lowered(alloc, array, index, new),
+        Some((array, index, new)) => lower_update(alloc, array, index, new),
         None => Ok(None),
     }
 }
 
 /// An array with another element at an index, if that is of its elements' type.
 #[tactic(auto, using(crate::proofs::OnCalls::BuiltinLemmas::update_refused, crate::proofs::OnCalls::BuiltinLemmas::update_made))]
-fn update_lowered(
+fn lower_update(
     alloc: Global,
     array: LoweredExpr,
     index: LoweredExpr,
     new: LoweredExpr,
 ) -> Result<Option<LoweredExpr>, AllocError>
-    ensures { IfOk result (λ e. e ≡ lowering.updated_lowered (Some array ∷ Some index ∷ Some new ∷ [])) }
+    ensures { IfOk result (λ e. e ≡ lowering.lower_updated (Some array ∷ Some index ∷ Some new ∷ [])) }
 {
     let fits = is_of_elements(&array.ty, &new.ty);
     match where_holds(fits, (array, index, new)) {

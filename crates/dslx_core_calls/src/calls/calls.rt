@@ -12,7 +12,7 @@ use std::alloc::{AllocError, Global};
 use xb_value::Boxed;
 
 /// A call of the instance of this number, which has a result of this type.
-pub fn call_lowered(
+pub fn lower_call(
     alloc: Global,
     number: u64,
     exprs: Vec<LoweredExpr>,

@@ -17,7 +17,7 @@ use xb_value::Boxed;
 
 /// A loop from one index to before another, if a turn gives what is accumulated its type again and there are fewer than 2^64 turns.
 #[tactic(auto, using(crate::proofs::OnCalls::LoopLemmas::loop_none, crate::proofs::OnCalls::LoopLemmas::loop_some))]
-pub fn loop_lowered(
+pub fn lower_loop(
     alloc: Global,
     start: LoweredExpr,
     from: SignedWord,

@@ -31,7 +31,7 @@ pub fn arm_of(shapes: Seq<Shape>, value: LoweredExpr) -> LoweredArm
 
 /// The value of the first of the arms that fits a value, if there are any and all have values of one type.
 #[tactic(auto, using(crate::proofs::OnCalls::MatchLemmas::select_none, crate::proofs::OnCalls::MatchLemmas::select_some))]
-pub fn select_lowered(
+pub fn lower_select(
     alloc: Global,
     value: LoweredExpr,
     arms: Vec<LoweredArm>,

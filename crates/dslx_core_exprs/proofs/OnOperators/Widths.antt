@@ -7,7 +7,7 @@ use Rattle.dslx_meaning.specs.declared.ty.BitKind.{BitKind}
 use Rattle.dslx_meaning.specs.declared.ty.DslxType.{DslxType}
 use Rattle.dslx_core.specs.CoreValues.{is_width}
 use Rattle.dslx_core.specs.declared.expr.CoreExpr as core
-use Rattle.dslx_core.specs.Lowering.Lowering.{LoweredExpr, lowered, part_lowered}
+use Rattle.dslx_core.specs.Lowering.Lowering.{LoweredExpr, lowered, lower_part}
 
 -- the width of bits, where words have so many
 abbrev pub word_width : DslxType → Option ℕ
@@ -16,7 +16,7 @@ word_width t = and_then (bits_in t) (λ kind. where_true (is_width kind.width) (
 abbrev part : LoweredExpr → LoweredExpr → ℕ → Option LoweredExpr
 part e i w = lowered (core.Part e.core i.core w) (unsigned w)
 
-part_is : (e i : LoweredExpr) (t : DslxType) → part_lowered (Some e) (Some i) (Some t) ≡ and_then (word_width t) (part e i)
+part_is : (e i : LoweredExpr) (t : DslxType) → lower_part (Some e) (Some i) (Some t) ≡ and_then (word_width t) (part e i)
 part_is e i t = by_kind (bits_in t)
   where
     by_width : (b : Bool) (w : ℕ) → where_true b (part e i w) ≡ and_then (where_true b (Some w)) (part e i)
@@ -28,10 +28,10 @@ part_is e i t = by_kind (bits_in t)
     by_kind None = refl
     by_kind (Some kind) = by_width (is_width kind.width) kind.width
 
-pub part_none : (e i : LoweredExpr) (t : DslxType) → None ≡ word_width t → None ≡ part_lowered (Some e) (Some i) (Some t)
+pub part_none : (e i : LoweredExpr) (t : DslxType) → None ≡ word_width t → None ≡ lower_part (Some e) (Some i) (Some t)
 part_none e i t h = ap (λ o. and_then o (part e i)) h ∙ sym (part_is e i t)
 
-pub part_some : (e i : LoweredExpr) (t : DslxType) (w : ℕ) → Some w ≡ word_width t → Some (record { core = core.Part e.core i.core w; ty = unsigned w }) ≡ part_lowered (Some e) (Some i) (Some t)
+pub part_some : (e i : LoweredExpr) (t : DslxType) (w : ℕ) → Some w ≡ word_width t → Some (record { core = core.Part e.core i.core w; ty = unsigned w }) ≡ lower_part (Some e) (Some i) (Some t)
 part_some e i t w h = ap (λ o. and_then o (part e i)) h ∙ sym (part_is e i t)
 
 within_word : (n : ℕ) → nat_le (min n (2 ^ 128 - 1)) 128 ≡ nat_le n 128

@@ -12,13 +12,13 @@ use std::alloc::{AllocError, Global};
 use xb_value::Boxed;
 
 /// The second where the first is 1, else the third, which are of one type.
-pub fn choice_lowered(
+pub fn lower_choice(
     alloc: Global,
     condition: LoweredExpr,
     yes: LoweredExpr,
     no: LoweredExpr,
 ) -> Result<Option<LoweredExpr>, AllocError>
-    ensures { IfOk result (λ e. e ≡ lowering.choice_lowered (Some condition) (Some yes) (Some no)) }
+    ensures { IfOk result (λ e. e ≡ lowering.lower_choice (Some condition) (Some yes) (Some no)) }
 {
     if equal_type(&yes.ty, &no.ty) {
         Ok(Some(chosen(alloc, condition, yes, no)?))
@@ -43,7 +43,7 @@ fn chosen(
 }
 
 /// An expression over what a value binds that is taken apart so.
-pub fn bind_lowered(
+pub fn lower_bind(
     alloc: Global,
     value: Boxed<CoreExpr>,
     shape: Shape,
@@ -59,12 +59,12 @@ pub fn bind_lowered(
 
 /// The part of a tuple of this number.
 #[tactic(auto, using(crate::proofs::OnControl::Elements::element_none, crate::proofs::OnControl::Elements::element_some))]
-pub fn element_lowered(
+pub fn lower_element(
     alloc: Global,
     tuple: LoweredExpr,
     place: u64,
 ) -> Result<Option<LoweredExpr>, AllocError>
-    ensures { IfOk result (λ e. e ≡ lowering.element_lowered (Some tuple) place) }
+    ensures { IfOk result (λ e. e ≡ lowering.lower_element (Some tuple) place) }
 {
     match into_part(tuple.ty, place) {
         Some(ty) => Ok(Some(LoweredExpr {
@@ -77,12 +77,12 @@ pub fn element_lowered(
 
 /// The element of an array at an index.
 #[tactic(auto, using(crate::proofs::OnControl::Elements::index_none, crate::proofs::OnControl::Elements::index_some))]
-pub fn index_lowered(
+pub fn lower_index(
     alloc: Global,
     array: LoweredExpr,
     index: LoweredExpr,
 ) -> Result<Option<LoweredExpr>, AllocError>
-    ensures { IfOk result (λ e. e ≡ lowering.index_lowered (Some array) (Some index)) }
+    ensures { IfOk result (λ e. e ≡ lowering.lower_index (Some array) (Some index)) }
 {
     match into_element(array.ty) {
         Some(ty) => Ok(Some(LoweredExpr {

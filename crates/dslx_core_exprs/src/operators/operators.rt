@@ -16,22 +16,22 @@ use std::alloc::{AllocError, Global};
 use xb_value::Boxed;
 
 /// What stands before an operand.
-pub fn prefix_lowered(
+pub fn lower_prefix(
     alloc: Global,
     prefix: Prefix,
     operand: LoweredExpr,
 ) -> Result<LoweredExpr, AllocError>
-    ensures { IfOk result (λ e. Some e ≡ lowering.prefix_lowered prefix (Some operand)) }
+    ensures { IfOk result (λ e. Some e ≡ lowering.lower_prefix prefix (Some operand)) }
 {
     let operator = match prefix {
         Prefix::Minus => CoreUnary::Neg,
         Prefix::Not => CoreUnary::Not,
     };
-    counted_lowered(alloc, operator, operand)
+    lower_counted(alloc, operator, operand)
 }
 
 /// An operation that gives a value of its operand's type.
-pub fn counted_lowered(
+pub fn lower_counted(
     alloc: Global,
     operator: CoreUnary,
     operand: LoweredExpr,
@@ -45,7 +45,7 @@ pub fn counted_lowered(
 }
 
 /// An operation that gives one bit.
-pub fn reduced_lowered(
+pub fn lower_reduced(
     alloc: Global,
     operator: CoreUnary,
     operand: LoweredExpr,
@@ -59,13 +59,13 @@ pub fn reduced_lowered(
 }
 
 /// An operator between two operands.
-pub fn binary_lowered(
+pub fn lower_binary(
     alloc: Global,
     operator: Binary,
     left: LoweredExpr,
     right: LoweredExpr,
 ) -> Result<Option<LoweredExpr>, AllocError>
-    ensures { IfOk result (λ e. e ≡ lowering.binary_lowered operator (Some left) (Some right)) }
+    ensures { IfOk result (λ e. e ≡ lowering.lower_binary operator (Some left) (Some right)) }
 {
     if fits_operands(operator, &left.ty, &right.ty) {
         Ok(Some(operation_of(alloc, operator, left, right)?))
@@ -160,12 +160,12 @@ fn result_of_binary(operator: Binary, left: DslxType, right: &DslxType) -> DslxT
 }
 
 /// An operand as bits of a type.
-pub fn cast_lowered(
+pub fn lower_cast(
     alloc: Global,
     operand: LoweredExpr,
     ty: DslxType,
 ) -> Result<Option<LoweredExpr>, AllocError>
-    ensures { IfOk result (λ e. e ≡ lowering.cast_lowered (Some operand) (Some ty)) }
+    ensures { IfOk result (λ e. e ≡ lowering.lower_cast (Some operand) (Some ty)) }
 {
     match word_width(&ty) {
         Some(width) => {
@@ -178,13 +178,13 @@ pub fn cast_lowered(
 }
 
 /// The bits of an operand from one bound to before another.
-pub fn slice_lowered(
+pub fn lower_slice(
     alloc: Global,
     operand: LoweredExpr,
     from: u128,
     to: u128,
 ) -> Result<Option<LoweredExpr>, AllocError>
-    ensures { IfOk result (λ e. e ≡ lowering.slice_lowered (Some operand) (Some from) (Some to)) }
+    ensures { IfOk result (λ e. e ≡ lowering.lower_slice (Some operand) (Some from) (Some to)) }
 {
     if !(from < to && to <= 128) {
         return Ok(None);
@@ -210,13 +210,13 @@ fn slice_of(
 
 /// Bits of a type, from a bit on that another operand gives.
 #[tactic(auto, using(crate::proofs::OnOperators::Widths::part_none, crate::proofs::OnOperators::Widths::part_some))]
-pub fn part_lowered(
+pub fn lower_part(
     alloc: Global,
     operand: LoweredExpr,
     start: LoweredExpr,
     ty: &DslxType,
 ) -> Result<Option<LoweredExpr>, AllocError>
-    ensures { IfOk result (λ e. e ≡ lowering.part_lowered (Some operand) (Some start) (Some ty.now)) }
+    ensures { IfOk result (λ e. e ≡ lowering.lower_part (Some operand) (Some start) (Some ty.now)) }
 {
     match word_width(ty) {
         Some(width) => Ok(Some(LoweredExpr {

@@ -51,7 +51,7 @@ pub fn literal(alloc: Global, value: &DslxValue) -> Result<LoweredExpr, AllocErr
 }
 
 /// The value of a block without a last expression.
-pub fn unit_lowered(alloc: Global) -> Result<LoweredExpr, AllocError>
+pub fn lower_unit(alloc: Global) -> Result<LoweredExpr, AllocError>
     ensures { IfOk result (λ e. Some e ≡ lowered (tuple_of []) unit_type) }
 {
     Ok(LoweredExpr {

@@ -2,55 +2,55 @@
 use Rattle.std.specs.Prelude.{suc, [], ◌∷◌, drop, take, reverse}
 use Rattle.dslx_tree.specs.declared.expr.Arg.{roll-Arg}
 use Rattle.dslx_tree.specs.declared.expr.Node as nodes
-use Rattle.dslx_actions.specs.declared.parts.Parts.{Parts}
+use Rattle.dslx_actions.specs.declared.parts.SemanticStacks.{SemanticStacks}
 use Rattle.dslx_actions.specs.Common.{across}
 use Rattle.dslx_actions.specs.Empty.{join, no_ident}
 use Rattle.base.specs.Stacks.Tops.{top_or}
-use Rattle.dslx_expr_actions.specs.Atoms.Exprs.{expr_at, first_expr, first_place}
+use Rattle.dslx_expr_actions.specs.Atoms.Exprs.{expr_at, first_expr, first_span}
 
 -- `( exprs )` behind a name
-abbrev pub call_expr : Parts → Parts
+abbrev pub call_expr : SemanticStacks → SemanticStacks
 call_expr s =
     let count = top_or 0 s.counts in
     let ident = top_or no_ident s.idents in
-    let span = join ident.span (across 2 s.marks) in
+    let span = join ident.span (across 2 s.token_spans) in
     record s {
-      marks = drop 2 s.marks;
+      token_spans = drop 2 s.token_spans;
       counts = drop 1 s.counts;
       idents = drop 1 s.idents;
-      places = span ∷ drop count s.places;
+      expr_spans = span ∷ drop count s.expr_spans;
       exprs = expr_at span (nodes.Call ident [] (reverse (take count s.exprs))) ∷ drop count s.exprs;
     }
 
 -- `< args > ( exprs )` behind a name
-abbrev pub call_with_args : Parts → Parts
+abbrev pub call_with_args : SemanticStacks → SemanticStacks
 call_with_args s =
     let count = top_or 0 s.counts in
     let args = suc (top_or 0 (drop 1 s.counts)) in
     let ident = top_or no_ident s.idents in
-    let span = join ident.span (across 4 s.marks) in
+    let span = join ident.span (across 4 s.token_spans) in
     record s {
-      marks = drop 4 s.marks;
+      token_spans = drop 4 s.token_spans;
       counts = drop 1 (drop 1 s.counts);
       idents = drop 1 s.idents;
       args = drop args s.args;
-      places = span ∷ drop count s.places;
+      expr_spans = span ∷ drop count s.expr_spans;
       exprs = expr_at span (nodes.Call ident (reverse (take args s.args)) (reverse (take count s.exprs))) ∷ drop count s.exprs;
     }
 
 -- what stands between `<` and `>`
-abbrev pub bare_arg : Parts → Parts
+abbrev pub bare_arg : SemanticStacks → SemanticStacks
 bare_arg s = record s {
-  places = drop 1 s.places;
+  expr_spans = drop 1 s.expr_spans;
   exprs = drop 1 s.exprs;
-  args = roll-Arg (record { span = first_place s; value = first_expr s }) ∷ s.args;
+  args = roll-Arg (record { span = first_span s; value = first_expr s }) ∷ s.args;
 }
 
 -- `{ expr }` between `<` and `>`
-abbrev pub braced_arg : Parts → Parts
+abbrev pub braced_arg : SemanticStacks → SemanticStacks
 braced_arg s = record s {
-  marks = drop 2 s.marks;
-  places = drop 1 s.places;
+  token_spans = drop 2 s.token_spans;
+  expr_spans = drop 1 s.expr_spans;
   exprs = drop 1 s.exprs;
-  args = roll-Arg (record { span = across 2 s.marks; value = first_expr s }) ∷ s.args;
+  args = roll-Arg (record { span = across 2 s.token_spans; value = first_expr s }) ∷ s.args;
 }

@@ -1,14 +1,14 @@
 -- What the rules of atoms and of arguments do where their symbols are complete.
-use Rattle.dslx_actions.specs.declared.parts.Parts.{Parts}
+use Rattle.dslx_actions.specs.declared.parts.SemanticStacks.{SemanticStacks}
 use Rattle.dslx_actions.specs.Types.Types.{named_type}
-use Rattle.dslx_expr_actions.specs.declared.atoms.rule.ArgRule.{ArgRule}
-use Rattle.dslx_expr_actions.specs.declared.atoms.rule.ArgRule.TheVariants as arg
-use Rattle.dslx_expr_actions.specs.declared.atoms.rule.AtomRule.{AtomRule}
-use Rattle.dslx_expr_actions.specs.declared.atoms.rule.AtomRule.TheVariants as atom
+use Rattle.dslx_expr_actions.specs.declared.atoms.rule.ArgAction.{ArgAction}
+use Rattle.dslx_expr_actions.specs.declared.atoms.rule.ArgAction.TheVariants as arg
+use Rattle.dslx_expr_actions.specs.declared.atoms.rule.AtomAction.{AtomAction}
+use Rattle.dslx_expr_actions.specs.declared.atoms.rule.AtomAction.TheVariants as atom
 use Rattle.dslx_expr_actions.specs.Atoms.Atoms as atoms
 use Rattle.dslx_expr_actions.specs.Atoms.Calls as calls
 
-abbrev pub reduced_atom : AtomRule → Parts → Parts
+abbrev pub reduced_atom : AtomAction → SemanticStacks → SemanticStacks
 reduced_atom atom.BareNumber s = atoms.bare_number s
 reduced_atom atom.TypedNumber s = atoms.typed_number s
 reduced_atom (atom.Bool value) s = atoms.bool_expr value s
@@ -24,7 +24,7 @@ reduced_atom atom.Unit s = atoms.unit_expr s
 reduced_atom atom.Grouped s = atoms.grouped s
 reduced_atom atom.Tuple s = atoms.tuple_expr s
 
-abbrev pub reduced_arg : ArgRule → Parts → Parts
+abbrev pub reduced_arg : ArgAction → SemanticStacks → SemanticStacks
 reduced_arg arg.Number s = calls.bare_arg (atoms.bare_number s)
 reduced_arg arg.Typed s = calls.bare_arg (atoms.typed_number s)
 reduced_arg arg.NamedTyped s = calls.bare_arg (atoms.typed_number (named_type s))

@@ -5,58 +5,58 @@ use Rattle.dslx_tree.specs.declared.expr.Arm.{roll-Arm}
 use Rattle.dslx_tree.specs.declared.expr.For.{For, roll-For}
 use Rattle.dslx_tree.specs.declared.expr.Node as nodes
 use Rattle.dslx_tree.specs.declared.type_expr.TypeExpr.{TypeExpr}
-use Rattle.dslx_actions.specs.declared.parts.Parts.{Parts}
+use Rattle.dslx_actions.specs.declared.parts.SemanticStacks.{SemanticStacks}
 use Rattle.dslx_actions.specs.Common.{across}
 use Rattle.dslx_actions.specs.Empty.{join, no_block, no_pattern}
 use Rattle.base.specs.Stacks.Tops.{top_or}
-use Rattle.dslx_expr_actions.specs.Atoms.Exprs.{expr_at, first_expr, first_place, second_expr, third_expr}
+use Rattle.dslx_expr_actions.specs.Atoms.Exprs.{expr_at, first_expr, first_span, second_expr, third_expr}
 
 -- a block where an expression stands
-abbrev pub block_expr : Parts → Parts
+abbrev pub block_expr : SemanticStacks → SemanticStacks
 block_expr s =
     let block = top_or no_block s.blocks in
     let span = (out-Block block).span in
-    record s { blocks = drop 1 s.blocks; places = span ∷ s.places; exprs = expr_at span (nodes.Block block) ∷ s.exprs }
+    record s { blocks = drop 1 s.blocks; expr_spans = span ∷ s.expr_spans; exprs = expr_at span (nodes.Block block) ∷ s.exprs }
 
 -- `if expr block else expr`
-abbrev pub if_expr : Parts → Parts
+abbrev pub if_expr : SemanticStacks → SemanticStacks
 if_expr s =
-    let span = join (across 2 s.marks) (first_place s) in
+    let span = join (across 2 s.token_spans) (first_span s) in
     record s {
-      marks = drop 2 s.marks;
+      token_spans = drop 2 s.token_spans;
       blocks = drop 1 s.blocks;
-      places = span ∷ drop 1 (drop 1 s.places);
+      expr_spans = span ∷ drop 1 (drop 1 s.expr_spans);
       exprs = expr_at span (nodes.If (second_expr s) (top_or no_block s.blocks) (first_expr s)) ∷ drop 1 (drop 1 s.exprs);
     }
 
 -- `pattern | patterns => expr`, with so many patterns behind the first
-abbrev pub arm : Parts → Parts
+abbrev pub arm : SemanticStacks → SemanticStacks
 arm s =
     let count = suc (top_or 0 s.counts) in
     record s {
-      marks = drop 1 s.marks;
+      token_spans = drop 1 s.token_spans;
       counts = drop 1 s.counts;
       patterns = drop count s.patterns;
-      places = drop 1 s.places;
+      expr_spans = drop 1 s.expr_spans;
       exprs = drop 1 s.exprs;
       arms = roll-Arm (record { patterns = reverse (take count s.patterns); value = first_expr s }) ∷ s.arms;
     }
 
 -- `match expr { arms }`
-abbrev pub match_expr : Parts → Parts
+abbrev pub match_expr : SemanticStacks → SemanticStacks
 match_expr s =
     let count = top_or 0 s.counts in
-    let span = across 3 s.marks in
+    let span = across 3 s.token_spans in
     record s {
-      marks = drop 3 s.marks;
+      token_spans = drop 3 s.token_spans;
       counts = drop 1 s.counts;
       arms = drop count s.arms;
-      places = span ∷ drop 1 s.places;
+      expr_spans = span ∷ drop 1 s.expr_spans;
       exprs = expr_at span (nodes.Match (first_expr s) (reverse (take count s.arms))) ∷ drop 1 s.exprs;
     }
 
 -- the parts of a loop with this type
-abbrev pub loop_of : Option TypeExpr → Parts → For
+abbrev pub loop_of : Option TypeExpr → SemanticStacks → For
 loop_of ty s = roll-For (record {
   index = top_or no_pattern (drop 1 s.patterns);
   accumulator = top_or no_pattern s.patterns;
@@ -68,22 +68,22 @@ loop_of ty s = roll-For (record {
 })
 
 -- what is left behind them
-abbrev pub without_loop : Parts → Parts
+abbrev pub without_loop : SemanticStacks → SemanticStacks
 without_loop s = record s {
   patterns = drop 1 (drop 1 s.patterns);
   blocks = drop 1 s.blocks;
-  places = drop 1 (drop 1 (drop 1 s.places));
+  expr_spans = drop 1 (drop 1 (drop 1 s.expr_spans));
   exprs = drop 1 (drop 1 (drop 1 s.exprs));
 }
 
 -- `for ( pattern , pattern ) : type in expr .. expr block ( expr )`
-abbrev pub for_expr : Parts → Parts
+abbrev pub for_expr : SemanticStacks → SemanticStacks
 for_expr s =
-    let span = across 8 s.marks in
+    let span = across 8 s.token_spans in
     let left = without_loop s in
     record left {
-      marks = drop 8 s.marks;
+      token_spans = drop 8 s.token_spans;
       annotations = drop 1 s.annotations;
-      places = span ∷ left.places;
+      expr_spans = span ∷ left.expr_spans;
       exprs = expr_at span (nodes.For (loop_of (top_or None s.annotations) s)) ∷ left.exprs;
     }

@@ -1,12 +1,12 @@
 -- What the rules of expressions with braces do where their symbols are complete.
-use Rattle.dslx_actions.specs.declared.parts.Parts.{Parts}
+use Rattle.dslx_actions.specs.declared.parts.SemanticStacks.{SemanticStacks}
 use Rattle.dslx_actions.specs.Common.{given, start}
-use Rattle.dslx_expr_actions.specs.declared.braces.rule.BraceRule.{BraceRule}
-use Rattle.dslx_expr_actions.specs.declared.braces.rule.BraceRule.TheVariants as rules
+use Rattle.dslx_expr_actions.specs.declared.braces.rule.BraceAction.{BraceAction}
+use Rattle.dslx_expr_actions.specs.declared.braces.rule.BraceAction.TheVariants as rules
 use Rattle.dslx_expr_actions.specs.Braces.Braces as braces
 use Rattle.dslx_expr_actions.specs.Braces.Fields as fields
 
-abbrev pub reduced_brace : BraceRule → Parts → Parts
+abbrev pub reduced_brace : BraceAction → SemanticStacks → SemanticStacks
 reduced_brace rules.Block s = braces.block_expr s
 reduced_brace rules.FieldValue s = fields.field_value s
 reduced_brace rules.FieldName s = fields.field_name s

@@ -1,10 +1,10 @@
 -- What the rules of operators and of what stands behind an atom do where their symbols are complete.
-use Rattle.dslx_actions.specs.declared.parts.Parts.{Parts}
-use Rattle.dslx_expr_actions.specs.declared.operators.rule.OperatorRule.{OperatorRule}
-use Rattle.dslx_expr_actions.specs.declared.operators.rule.OperatorRule.TheVariants as rules
+use Rattle.dslx_actions.specs.declared.parts.SemanticStacks.{SemanticStacks}
+use Rattle.dslx_expr_actions.specs.declared.operators.rule.OperatorAction.{OperatorAction}
+use Rattle.dslx_expr_actions.specs.declared.operators.rule.OperatorAction.TheVariants as rules
 use Rattle.dslx_expr_actions.specs.Operators.Operators as operators
 
-abbrev pub reduced_operator : OperatorRule → Parts → Parts
+abbrev pub reduced_operator : OperatorAction → SemanticStacks → SemanticStacks
 reduced_operator (rules.Sign sign) s = operators.operator sign s
 reduced_operator rules.Chain s = operators.chain s
 reduced_operator (rules.Prefixed sign) s = operators.prefixed sign s

@@ -7,13 +7,13 @@ use crate::atoms::atoms::{
     tuple_expr, typed_array, typed_number, unit_expr,
 };
 use crate::atoms::calls::{call_expr, call_with_args};
-use dslx_actions::Parts;
+use dslx_actions::SemanticStacks;
 use dslx_actions::types::named_type;
 use std::alloc::{AllocError, Global};
 
 /// What rules of atoms do where their symbols are complete.
 #[derive(Clone, Copy)]
-pub enum AtomRule {
+pub enum AtomAction {
     BareNumber,
     TypedNumber,
     Bool(bool),
@@ -32,7 +32,7 @@ pub enum AtomRule {
 
 /// What rules of arguments between `<` and `>` do where their symbols are complete.
 #[derive(Clone, Copy)]
-pub enum ArgRule {
+pub enum ArgAction {
     Number,
     Typed,
     /// The number behind the name of its type.
@@ -42,49 +42,49 @@ pub enum ArgRule {
 }
 
 /// Does what is done where a tree of a rule of atoms is complete.
-pub fn reduce_atom(parts: &mut Parts, alloc: Global, rule: AtomRule) -> Result<(), AllocError>
+pub fn reduce_atom(parts: &mut SemanticStacks, alloc: Global, rule: AtomAction) -> Result<(), AllocError>
     ensures { OnOk result (parts.new ≡ reduced_atom rule parts.old) }
 {
     match rule {
-        AtomRule::BareNumber => bare_number(parts),
-        AtomRule::TypedNumber => typed_number(parts, alloc),
-        AtomRule::Bool(value) => bool_expr(parts, value),
-        AtomRule::LastElement => last_element(parts),
-        AtomRule::Repeated => repeated(parts),
-        AtomRule::Array => array_expr(parts),
-        AtomRule::TypedArray => typed_array(parts, alloc),
-        AtomRule::Name => name_expr(parts, alloc),
-        AtomRule::Member => member_expr(parts, alloc),
-        AtomRule::Call => call_expr(parts, alloc),
-        AtomRule::CallWithArgs => call_with_args(parts, alloc),
-        AtomRule::Unit => unit_expr(parts, alloc),
-        AtomRule::Grouped => grouped(parts),
-        AtomRule::Tuple => tuple_expr(parts),
+        AtomAction::BareNumber => bare_number(parts),
+        AtomAction::TypedNumber => typed_number(parts, alloc),
+        AtomAction::Bool(value) => bool_expr(parts, value),
+        AtomAction::LastElement => last_element(parts),
+        AtomAction::Repeated => repeated(parts),
+        AtomAction::Array => array_expr(parts),
+        AtomAction::TypedArray => typed_array(parts, alloc),
+        AtomAction::Name => name_expr(parts, alloc),
+        AtomAction::Member => member_expr(parts, alloc),
+        AtomAction::Call => call_expr(parts, alloc),
+        AtomAction::CallWithArgs => call_with_args(parts, alloc),
+        AtomAction::Unit => unit_expr(parts, alloc),
+        AtomAction::Grouped => grouped(parts),
+        AtomAction::Tuple => tuple_expr(parts),
     }
 }
 
 /// Does what is done where a tree of a rule of arguments is complete.
-pub fn reduce_arg(parts: &mut Parts, alloc: Global, rule: ArgRule) -> Result<(), AllocError>
+pub fn reduce_arg(parts: &mut SemanticStacks, alloc: Global, rule: ArgAction) -> Result<(), AllocError>
     ensures { OnOk result (parts.new ≡ reduced_arg rule parts.old) }
 {
     match rule {
-        ArgRule::Number => {
+        ArgAction::Number => {
             bare_number(parts)?;
             bare_arg(parts)
         }
-        ArgRule::Typed => {
+        ArgAction::Typed => {
             typed_number(parts, alloc)?;
             bare_arg(parts)
         }
-        ArgRule::NamedTyped => {
+        ArgAction::NamedTyped => {
             named_type(parts, alloc)?;
             typed_number(parts, alloc)?;
             bare_arg(parts)
         }
-        ArgRule::Name => {
+        ArgAction::Name => {
             name_expr(parts, alloc)?;
             bare_arg(parts)
         }
-        ArgRule::Braced => braced_arg(parts),
+        ArgAction::Braced => braced_arg(parts),
     }
 }

@@ -5,13 +5,13 @@ ghost use Rattle.base.specs.Stacks.Tops.{top_or};
 ghost use Rattle.dslx_expr_actions.specs.Braces.Braces.{arm, block_expr, for_expr, if_expr, loop_of, match_expr, without_loop};
 
 use crate::atoms::{pop_boxed, pop_expr, push_expr};
-use dslx_actions::{Parts, join, no_block, no_pattern, one_more};
+use dslx_actions::{SemanticStacks, join, no_block, no_pattern, one_more};
 use dslx_tree::{Arm, For, Node, TypeExpr};
 use std::alloc::{AllocError, Global};
 use xb_value::{Boxed, Seq};
 
 /// A block where an expression stands.
-pub fn block_expr(parts: &mut Parts, alloc: Global) -> Result<(), AllocError>
+pub fn block_expr(parts: &mut SemanticStacks, alloc: Global) -> Result<(), AllocError>
     ensures { OnOk result (parts.new ≡ block_expr parts.old) }
 {
     let block = parts.blocks.pop_or(no_block(alloc));
@@ -21,18 +21,18 @@ pub fn block_expr(parts: &mut Parts, alloc: Global) -> Result<(), AllocError>
 }
 
 /// `if expr block else expr`
-pub fn if_expr(parts: &mut Parts, alloc: Global) -> Result<(), AllocError>
+pub fn if_expr(parts: &mut SemanticStacks, alloc: Global) -> Result<(), AllocError>
     ensures { OnOk result (parts.new ≡ if_expr parts.old) }
 {
-    let marks = parts.take_marks(2);
+    let token_spans = parts.take_token_spans(2);
     let (place, other) = pop_boxed(parts, alloc)?;
     let (_, condition) = pop_boxed(parts, alloc)?;
     let block = Boxed::new(alloc, parts.blocks.pop_or(no_block(alloc)))?;
-    push_expr(parts, join(marks, place), Node::If(condition, block, other))
+    push_expr(parts, join(token_spans, place), Node::If(condition, block, other))
 }
 
 /// `pattern | patterns => expr`
-pub fn arm(parts: &mut Parts) -> Result<(), AllocError>
+pub fn arm(parts: &mut SemanticStacks) -> Result<(), AllocError>
     ensures { OnOk result (parts.new ≡ arm parts.old) }
 {
     parts.skip(1);
@@ -43,10 +43,10 @@ pub fn arm(parts: &mut Parts) -> Result<(), AllocError>
 }
 
 /// `match expr { arms }`
-pub fn match_expr(parts: &mut Parts, alloc: Global) -> Result<(), AllocError>
+pub fn match_expr(parts: &mut SemanticStacks, alloc: Global) -> Result<(), AllocError>
     ensures { OnOk result (parts.new ≡ match_expr parts.old) }
 {
-    let span = parts.take_marks(3);
+    let span = parts.take_token_spans(3);
     let (_, value) = pop_boxed(parts, alloc)?;
     let count = parts.counts.pop_or(0);
     let arms = Seq::from_vec(parts.arms.take_top(count)?);
@@ -54,10 +54,10 @@ pub fn match_expr(parts: &mut Parts, alloc: Global) -> Result<(), AllocError>
 }
 
 /// `for ( pattern , pattern ) : type in expr .. expr block ( expr )`
-pub fn for_expr(parts: &mut Parts, alloc: Global) -> Result<(), AllocError>
+pub fn for_expr(parts: &mut SemanticStacks, alloc: Global) -> Result<(), AllocError>
     ensures { OnOk result (parts.new ≡ for_expr parts.old) }
 {
-    let span = parts.take_marks(8);
+    let span = parts.take_token_spans(8);
     let ty = take_annotation(parts, alloc)?;
     let body = take_loop(parts, alloc, ty);
     let body = Boxed::new(alloc, body)?;
@@ -65,7 +65,7 @@ pub fn for_expr(parts: &mut Parts, alloc: Global) -> Result<(), AllocError>
 }
 
 /// Takes a type that may be left out.
-fn take_annotation(parts: &mut Parts, alloc: Global) -> Result<Option<Boxed<TypeExpr>>, AllocError>
+fn take_annotation(parts: &mut SemanticStacks, alloc: Global) -> Result<Option<Boxed<TypeExpr>>, AllocError>
     ensures ty { IfOk result (λ ty. ty ≡ top_or None parts.old.annotations) }
     ensures rest { OnOk result (parts.new ≡ record parts.old { annotations = drop 1 parts.old.annotations }) }
 {
@@ -76,7 +76,7 @@ fn take_annotation(parts: &mut Parts, alloc: Global) -> Result<Option<Boxed<Type
 }
 
 /// Takes the parts of a loop with this type.
-fn take_loop(parts: &mut Parts, alloc: Global, ty: Option<Boxed<TypeExpr>>) -> For
+fn take_loop(parts: &mut SemanticStacks, alloc: Global, ty: Option<Boxed<TypeExpr>>) -> For
     ensures taken { result ≡ loop_of ty parts.old }
     ensures rest { parts.new ≡ without_loop parts.old }
 {

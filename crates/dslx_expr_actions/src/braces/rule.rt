@@ -3,12 +3,12 @@ ghost use Rattle.dslx_expr_actions.specs.Braces.Rules.{reduced_brace};
 
 use crate::braces::braces::{arm, block_expr, for_expr, if_expr, match_expr};
 use crate::braces::fields::{field_name, field_value, struct_expr};
-use dslx_actions::Parts;
+use dslx_actions::SemanticStacks;
 use std::alloc::{AllocError, Global};
 
 /// What rules of expressions with braces do where their symbols are complete.
 #[derive(Clone, Copy)]
-pub enum BraceRule {
+pub enum BraceAction {
     Block,
     FieldValue,
     FieldName,
@@ -22,21 +22,21 @@ pub enum BraceRule {
 }
 
 /// Does what is done where a tree of such a rule is complete.
-pub fn reduce_brace(parts: &mut Parts, alloc: Global, rule: BraceRule) -> Result<(), AllocError>
+pub fn reduce_brace(parts: &mut SemanticStacks, alloc: Global, rule: BraceAction) -> Result<(), AllocError>
     ensures { OnOk result (parts.new ≡ reduced_brace rule parts.old) }
 {
     match rule {
-        BraceRule::Block => block_expr(parts, alloc),
-        BraceRule::FieldValue => field_value(parts, alloc),
-        BraceRule::FieldName => field_name(parts, alloc),
-        BraceRule::Others => {
+        BraceAction::Block => block_expr(parts, alloc),
+        BraceAction::FieldValue => field_value(parts, alloc),
+        BraceAction::FieldName => field_name(parts, alloc),
+        BraceAction::Others => {
             parts.given(1)?;
             parts.start()
         }
-        BraceRule::Struct => struct_expr(parts, alloc),
-        BraceRule::If => if_expr(parts, alloc),
-        BraceRule::Arm => arm(parts),
-        BraceRule::Match => match_expr(parts, alloc),
-        BraceRule::For => for_expr(parts, alloc),
+        BraceAction::Struct => struct_expr(parts, alloc),
+        BraceAction::If => if_expr(parts, alloc),
+        BraceAction::Arm => arm(parts),
+        BraceAction::Match => match_expr(parts, alloc),
+        BraceAction::For => for_expr(parts, alloc),
     }
 }

@@ -1,10 +1,10 @@
 //! Expressions that become parts of a bigger one.
 
 ghost use Rattle.std.specs.Prelude.{◌≡◌, drop, IfOk, OnOk};
-ghost use Rattle.dslx_expr_actions.specs.Atoms.Exprs.{first_expr, second_expr, second_place};
+ghost use Rattle.dslx_expr_actions.specs.Atoms.Exprs.{first_expr, second_expr, second_span};
 
 use crate::atoms::pop_boxed;
-use dslx_actions::Parts;
+use dslx_actions::SemanticStacks;
 use dslx_tree::Expr;
 use std::alloc::{AllocError, Global};
 use xb_span::Span;
@@ -12,12 +12,12 @@ use xb_value::Boxed;
 
 /// Takes the two expressions on top, the lower one first, with its place.
 pub fn pop_pair(
-    parts: &mut Parts,
+    parts: &mut SemanticStacks,
     alloc: Global,
 ) -> Result<(Span, Boxed<Expr>, Boxed<Expr>), AllocError>
-    ensures top { IfOk result (λ r. r ≡ (second_place parts.old, second_expr parts.old, first_expr parts.old)) }
+    ensures top { IfOk result (λ r. r ≡ (second_span parts.old, second_expr parts.old, first_expr parts.old)) }
     ensures rest { OnOk result (parts.new ≡ record parts.old {
-      places = drop 1 (drop 1 parts.old.places);
+      expr_spans = drop 1 (drop 1 parts.old.expr_spans);
       exprs = drop 1 (drop 1 parts.old.exprs);
     }) }
 {

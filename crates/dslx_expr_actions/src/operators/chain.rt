@@ -5,7 +5,7 @@ ghost use Rattle.dslx_tree.specs.Operators.Levels.{tree_of};
 ghost use Rattle.dslx_expr_actions.specs.Operators.Operators.{chain, links_of, placed};
 
 use crate::atoms::{pop_boxed, pop_expr};
-use dslx_actions::Parts;
+use dslx_actions::SemanticStacks;
 use dslx_tree::operators::{Link, Operand, tree};
 use dslx_tree::{Binary, Expr};
 use std::alloc::{AllocError, Global};
@@ -13,7 +13,7 @@ use xb_span::Span;
 use xb_value::Boxed;
 
 /// Operands with operators between them.
-pub fn chain(parts: &mut Parts, alloc: Global) -> Result<(), AllocError>
+pub fn chain(parts: &mut SemanticStacks, alloc: Global) -> Result<(), AllocError>
     ensures { OnOk result (parts.new ≡ chain parts.old) }
 {
     let count = parts.counts.pop_or(0);
@@ -21,7 +21,7 @@ pub fn chain(parts: &mut Parts, alloc: Global) -> Result<(), AllocError>
     let (span, expr) = pop_expr(parts);
     let (span, expr) = joined(alloc, span, expr, links)?;
     parts.exprs.push(expr)?;
-    parts.places.push(span)
+    parts.expr_spans.push(span)
 }
 
 /// The tree of a chain with its place, at once where it has no operator, as most have none.
@@ -43,12 +43,12 @@ fn joined(
 }
 
 /// Takes the last so many operands with the operators before them, the last one first.
-fn take_links(parts: &mut Parts, alloc: Global, count: usize) -> Result<Vec<Link>, AllocError>
+fn take_links(parts: &mut SemanticStacks, alloc: Global, count: usize) -> Result<Vec<Link>, AllocError>
     ensures links { IfOk result (λ links. reverse links.items
-        ≡ links_of count parts.old.operators parts.old.places parts.old.exprs) }
+        ≡ links_of count parts.old.operators parts.old.expr_spans parts.old.exprs) }
     ensures rest { OnOk result (parts.new ≡ record parts.old {
       operators = drop count parts.old.operators;
-      places = drop count parts.old.places;
+      expr_spans = drop count parts.old.expr_spans;
       exprs = drop count parts.old.exprs;
     }) }
 {

@@ -5,13 +5,13 @@ ghost use Rattle.dslx_expr_actions.specs.Operators.Operators.{cast_expr, element
 
 use crate::atoms::{pop_boxed, push_expr};
 use crate::operators::boxes::pop_pair;
-use dslx_actions::{NO_DIGITS, Parts, join, no_ident, no_type};
+use dslx_actions::{NO_DIGITS, SemanticStacks, join, no_ident, no_type};
 use dslx_tree::{Binary, Node, Prefix};
 use std::alloc::{AllocError, Global};
 use xb_value::Boxed;
 
 /// The sign of an operator.
-pub fn operator(parts: &mut Parts, sign: Binary) -> Result<(), AllocError>
+pub fn operator(parts: &mut SemanticStacks, sign: Binary) -> Result<(), AllocError>
     ensures { OnOk result (parts.new ≡ operator sign parts.old) }
 {
     parts.skip(1);
@@ -19,16 +19,16 @@ pub fn operator(parts: &mut Parts, sign: Binary) -> Result<(), AllocError>
 }
 
 /// A sign before an expression.
-pub fn prefixed(parts: &mut Parts, alloc: Global, sign: Prefix) -> Result<(), AllocError>
+pub fn prefixed(parts: &mut SemanticStacks, alloc: Global, sign: Prefix) -> Result<(), AllocError>
     ensures { OnOk result (parts.new ≡ prefixed sign parts.old) }
 {
-    let mark = parts.take_marks(1);
+    let mark = parts.take_token_spans(1);
     let (place, value) = pop_boxed(parts, alloc)?;
     push_expr(parts, join(mark, place), Node::Prefix(sign, value))
 }
 
 /// `as type` behind an expression
-pub fn cast_expr(parts: &mut Parts, alloc: Global) -> Result<(), AllocError>
+pub fn cast_expr(parts: &mut SemanticStacks, alloc: Global) -> Result<(), AllocError>
     ensures { OnOk result (parts.new ≡ cast_expr parts.old) }
 {
     parts.skip(1);
@@ -40,36 +40,36 @@ pub fn cast_expr(parts: &mut Parts, alloc: Global) -> Result<(), AllocError>
 }
 
 /// `[ expr ]` behind an expression
-pub fn index_expr(parts: &mut Parts, alloc: Global) -> Result<(), AllocError>
+pub fn index_expr(parts: &mut SemanticStacks, alloc: Global) -> Result<(), AllocError>
     ensures { OnOk result (parts.new ≡ index_expr parts.old) }
 {
-    let marks = parts.take_marks(2);
+    let token_spans = parts.take_token_spans(2);
     let (place, value, index) = pop_pair(parts, alloc)?;
-    push_expr(parts, join(place, marks), Node::Index(value, index))
+    push_expr(parts, join(place, token_spans), Node::Index(value, index))
 }
 
 /// `[ expr : expr ]` behind an expression
-pub fn slice_expr(parts: &mut Parts, alloc: Global) -> Result<(), AllocError>
+pub fn slice_expr(parts: &mut SemanticStacks, alloc: Global) -> Result<(), AllocError>
     ensures { OnOk result (parts.new ≡ slice_expr parts.old) }
 {
-    let marks = parts.take_marks(3);
+    let token_spans = parts.take_token_spans(3);
     let (_, to) = pop_boxed(parts, alloc)?;
     let (place, value, from) = pop_pair(parts, alloc)?;
-    push_expr(parts, join(place, marks), Node::Slice(value, from, to))
+    push_expr(parts, join(place, token_spans), Node::Slice(value, from, to))
 }
 
 /// `[ expr +: type ]` behind an expression
-pub fn part_expr(parts: &mut Parts, alloc: Global) -> Result<(), AllocError>
+pub fn part_expr(parts: &mut SemanticStacks, alloc: Global) -> Result<(), AllocError>
     ensures { OnOk result (parts.new ≡ part_expr parts.old) }
 {
-    let marks = parts.take_marks(3);
+    let token_spans = parts.take_token_spans(3);
     let ty = Boxed::new(alloc, parts.types.pop_or(no_type()))?;
     let (place, value, first) = pop_pair(parts, alloc)?;
-    push_expr(parts, join(place, marks), Node::Part(value, first, ty))
+    push_expr(parts, join(place, token_spans), Node::Part(value, first, ty))
 }
 
 /// `. name` behind an expression
-pub fn field_expr(parts: &mut Parts, alloc: Global) -> Result<(), AllocError>
+pub fn field_expr(parts: &mut SemanticStacks, alloc: Global) -> Result<(), AllocError>
     ensures { OnOk result (parts.new ≡ field_expr parts.old) }
 {
     parts.skip(1);
@@ -79,7 +79,7 @@ pub fn field_expr(parts: &mut Parts, alloc: Global) -> Result<(), AllocError>
 }
 
 /// `. number` behind an expression
-pub fn element_expr(parts: &mut Parts, alloc: Global) -> Result<(), AllocError>
+pub fn element_expr(parts: &mut SemanticStacks, alloc: Global) -> Result<(), AllocError>
     ensures { OnOk result (parts.new ≡ element_expr parts.old) }
 {
     parts.skip(1);

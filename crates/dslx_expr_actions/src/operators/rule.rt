@@ -5,13 +5,13 @@ use crate::operators::chain::chain;
 use crate::operators::operators::{
     cast_expr, element_expr, field_expr, index_expr, operator, part_expr, prefixed, slice_expr,
 };
-use dslx_actions::Parts;
+use dslx_actions::SemanticStacks;
 use dslx_tree::{Binary, Prefix};
 use std::alloc::{AllocError, Global};
 
 /// What rules of operators and of what stands behind an atom do where their symbols are complete.
 #[derive(Clone, Copy)]
-pub enum OperatorRule {
+pub enum OperatorAction {
     Sign(Binary),
     Chain,
     Prefixed(Prefix),
@@ -25,21 +25,21 @@ pub enum OperatorRule {
 
 /// Does what is done where a tree of such a rule is complete.
 pub fn reduce_operator(
-    parts: &mut Parts,
+    parts: &mut SemanticStacks,
     alloc: Global,
-    rule: OperatorRule,
+    rule: OperatorAction,
 ) -> Result<(), AllocError>
     ensures { OnOk result (parts.new ≡ reduced_operator rule parts.old) }
 {
     match rule {
-        OperatorRule::Sign(sign) => operator(parts, sign),
-        OperatorRule::Chain => chain(parts, alloc),
-        OperatorRule::Prefixed(sign) => prefixed(parts, alloc, sign),
-        OperatorRule::Cast => cast_expr(parts, alloc),
-        OperatorRule::Index => index_expr(parts, alloc),
-        OperatorRule::Slice => slice_expr(parts, alloc),
-        OperatorRule::Part => part_expr(parts, alloc),
-        OperatorRule::Field => field_expr(parts, alloc),
-        OperatorRule::Element => element_expr(parts, alloc),
+        OperatorAction::Sign(sign) => operator(parts, sign),
+        OperatorAction::Chain => chain(parts, alloc),
+        OperatorAction::Prefixed(sign) => prefixed(parts, alloc, sign),
+        OperatorAction::Cast => cast_expr(parts, alloc),
+        OperatorAction::Index => index_expr(parts, alloc),
+        OperatorAction::Slice => slice_expr(parts, alloc),
+        OperatorAction::Part => part_expr(parts, alloc),
+        OperatorAction::Field => field_expr(parts, alloc),
+        OperatorAction::Element => element_expr(parts, alloc),
     }
 }

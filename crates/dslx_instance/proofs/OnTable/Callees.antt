@@ -3,7 +3,7 @@ use Rattle.std.proofs.Common.{◌≡◌, ◌∙◌, ℕ, Bool, true, false, List
 use Rattle.std.specs.Option.{option_map}
 use Rattle.dslx_meaning.specs.Lists.{and_then, pairwise, where_true}
 use Rattle.dslx_meaning.specs.declared.ty.DslxType.{DslxType}
-use Rattle.dslx_core.specs.Lowering.CorePlaces.{CoreCallee}
+use Rattle.dslx_core.specs.Lowering.CoreScopes.{CoreCallee}
 use Rattle.dslx_core.specs.Lowering.EqualTypes.{equal_type}
 use Rattle.dslx_core.specs.Lowering.Functions.{CoreInstance, LoweredFunction, callee_of}
 use Rattle.dslx_instance.proofs.OnTable.Pairs.{each_applied}

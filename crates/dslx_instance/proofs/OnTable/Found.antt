@@ -14,7 +14,7 @@ Entries = List (InstanceKey × LoweredFunction)
 
 -- the first instance of a key, with its number
 abbrev among : InstanceKey → ℕ → Entries → Option (ℕ × CoreInstance)
-among k n es = instance_in k.name k.numbers n (map instance_of es)
+among k n es = instance_in k.name k.parametric_args n (map instance_of es)
 
 -- ---- what is found
 
@@ -30,7 +30,7 @@ numbers_from k n (e ∷ es) =
     first_number (same_key k e.0) n (instance_of e) (among k (suc n) es) _ (ap (λ m. position_from (same_key k) m (keys_of es)) next ∙ numbers_from k (suc n) es)
 
 -- the place of a key is the number of its instance
-pub number_found : (k : InstanceKey) (es : Entries) → position (same_key k) (keys_of es) ≡ option_map (λ (p : ℕ × CoreInstance). p.0) (instance_in k.name k.numbers 0 (map instance_of es))
+pub number_found : (k : InstanceKey) (es : Entries) → position (same_key k) (keys_of es) ≡ option_map (λ (p : ℕ × CoreInstance). p.0) (instance_in k.name k.parametric_args 0 (map instance_of es))
 number_found k es = position_from-zero (same_key k) (keys_of es) ∙ numbers_from k 0 es
 
 first_function : (b : Bool) (n : ℕ) (i : CoreInstance) (found : Option (ℕ × CoreInstance)) (rest : Option LoweredFunction) → rest ≡ option_map (λ (p : ℕ × CoreInstance). p.1.function) found
@@ -43,15 +43,15 @@ functions_from k n [] = refl
 functions_from k n (e ∷ es) = first_function (same_key k e.0) n (instance_of e) (among k (suc n) es) (lookup (same_key k) es) (functions_from k (suc n) es)
 
 -- the value of a key is the function of its instance
-pub function_found : (k : InstanceKey) (es : Entries) → lookup (same_key k) es ≡ option_map (λ (p : ℕ × CoreInstance). p.1.function) (instance_in k.name k.numbers 0 (map instance_of es))
+pub function_found : (k : InstanceKey) (es : Entries) → lookup (same_key k) es ≡ option_map (λ (p : ℕ × CoreInstance). p.1.function) (instance_in k.name k.parametric_args 0 (map instance_of es))
 function_found k es = functions_from k 0 es
 
 there_by : (found : Option (ℕ × CoreInstance)) → is_some (option_map (λ (p : ℕ × CoreInstance). p.1.function) found) ≡ is_some found
 there_by None = refl
 there_by (Some p) = refl
 
-pub is_there : (k : InstanceKey) (es : Entries) → is_some (lookup (same_key k) es) ≡ is_some (instance_in k.name k.numbers 0 (map instance_of es))
-is_there k es = ap is_some (function_found k es) ∙ there_by (instance_in k.name k.numbers 0 (map instance_of es))
+pub is_there : (k : InstanceKey) (es : Entries) → is_some (lookup (same_key k) es) ≡ is_some (instance_in k.name k.parametric_args 0 (map instance_of es))
+is_there k es = ap is_some (function_found k es) ∙ there_by (instance_in k.name k.parametric_args 0 (map instance_of es))
 
 -- ---- the function at a place
 
@@ -77,11 +77,11 @@ with_last [] k f = refl
 with_last (e ∷ es) k f = ap (λ rest. instance_of e ∷ rest) (with_last es k f)
 
 put_by : (new : Bool) (i : CoreInstance) (es : Entries)
-    → map instance_of (if new then es ++ (record { name = i.name; numbers = i.numbers }, i.function) ∷ [] else es) ≡ (if new then map instance_of es ++ i ∷ [] else map instance_of es)
-put_by true i es = with_last es (record { name = i.name; numbers = i.numbers }) i.function
+    → map instance_of (if new then es ++ (record { name = i.name; parametric_args = i.parametric_args }, i.function) ∷ [] else es) ≡ (if new then map instance_of es ++ i ∷ [] else map instance_of es)
+put_by true i es = with_last es (record { name = i.name; parametric_args = i.parametric_args }) i.function
 put_by false i es = refl
 
-pub put_last : (new : Bool) (i : CoreInstance) (es all : Entries) → all ≡ (if new then es ++ (record { name = i.name; numbers = i.numbers }, i.function) ∷ [] else es)
+pub put_last : (new : Bool) (i : CoreInstance) (es all : Entries) → all ≡ (if new then es ++ (record { name = i.name; parametric_args = i.parametric_args }, i.function) ∷ [] else es)
     → map instance_of all ≡ (if new then map instance_of es ++ i ∷ [] else map instance_of es)
 put_last new i es all is = ap (map instance_of) is ∙ put_by new i es
 

@@ -15,15 +15,15 @@ use Rattle.dslx_instance.specs.declared.table.key.InstanceKey.{InstanceKey}
 use Rattle.dslx_instance.specs.declared.table.key.SoughtKey.{SoughtKey}
 
 abbrev pub same_key : InstanceKey → InstanceKey → Bool
-same_key a b = bytes_eq a.name b.name && pairwise equal_value a.numbers b.numbers
+same_key a b = bytes_eq a.name b.name && pairwise equal_value a.parametric_args b.parametric_args
 
 -- what is looked for, without references
 abbrev pub key_sought : SoughtKey → InstanceKey
-key_sought q = record { name = q.name.now; numbers = q.numbers.now }
+key_sought q = record { name = q.name.now; parametric_args = q.parametric_args.now }
 
 -- an instance, by what it is known by
 abbrev pub instance_of : InstanceKey × LoweredFunction → CoreInstance
-instance_of e = record { name = e.0.name; numbers = e.0.numbers; function = e.1 }
+instance_of e = record { name = e.0.name; parametric_args = e.0.parametric_args; function = e.1 }
 
 -- what a lowered function is in a checked text
 abbrev pub function_made : LoweredFunction → core.Function
@@ -37,6 +37,6 @@ word_of_bits (Some b) = b.word.value
 abbrev pub word_in : DslxValue → ℕ
 word_in v = word_of_bits (bits_of v)
 
--- what is hashed of a name and number arguments
+-- what is hashed of a name and parametric arguments
 abbrev pub fed_of : List ℕ → List DslxValue → HashWrites
-fed_of name numbers = str name ++ flat_map (λ v. u128 (word_in v)) numbers
+fed_of name parametric_args = str name ++ flat_map (λ v. u128 (word_in v)) parametric_args

@@ -47,7 +47,7 @@ abbrev pub parts_shown : PartsMaker → m.PartsMaker
 parts_shown parts.Tuple = m.MakesTuple
 parts_shown parts.Array = m.MakesArray
 parts_shown (parts.Fill t n dots) = m.Fills t n dots
-parts_shown (parts.Call name numbers) = m.CallsWith name.now numbers.now
+parts_shown (parts.Call name parametric_args) = m.CallsWith name.now parametric_args.now
 
 -- the bound value that has the other fields
 abbrev pub others_shown : Option OtherFields → Option LoweredExpr
@@ -102,8 +102,8 @@ abbrev pub instance_shown : OpenInstance → m.OpenInstance
 instance_shown o = record { instance = o.instance; arguments = o.arguments; body = body_shown o.body }
 
 -- a text, what its items mean, and these instances
-abbrev pub sight_of : Module → List CoreInstance → m.InstanceSight
-sight_of text table = record { text = text; items = meanings_of text; table = table }
+abbrev pub instance_env_of : Module → List CoreInstance → m.InstanceEnv
+instance_env_of text table = record { text = text; items = meanings_of text; table = table }
 
 abbrev pub machine_shown : InstanceMachine → m.InstanceMachine
-machine_shown x = record { sight = sight_of x.text.now x.table; limit = x.limit; root = body_shown x.root; opened = map instance_shown x.opened }
+machine_shown x = record { context = instance_env_of x.text.now x.table; limit = x.limit; root = body_shown x.root; opened = map instance_shown x.opened }

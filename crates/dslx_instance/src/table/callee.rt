@@ -10,18 +10,18 @@ use dslx_meaning::{DslxType, DslxValue};
 use dslx_values::copy_type;
 use std::alloc::{AllocError, Global};
 
-/// What a call of this name comes to, with these number arguments and operands of these types.
+/// What a call of this name comes to, with these parametric arguments and operands of these types.
 #[tactic(auto, using(crate::proofs::OnTable::Callees::callee_is, crate::proofs::OnTable::Callees::no_callee))]
 pub fn callee_there(
     alloc: Global,
     table: &InstanceTable,
     name: &Name,
-    numbers: &[DslxValue],
+    parametric_args: &[DslxValue],
     types: &[DslxType],
 ) -> Result<Option<CoreCallee>, AllocError>
-    ensures { IfOk result (λ callee. callee ≡ and_then (instance_in name.now numbers.now 0 table.now) (callee_of types.now)) }
+    ensures { IfOk result (λ callee. callee ≡ and_then (instance_in name.now parametric_args.now 0 table.now) (callee_of types.now)) }
 {
-    match table.find(name, numbers) {
+    match table.find(name, parametric_args) {
         Some((number, function)) => if equal_types(function.arguments.as_slice(), types) {
             Ok(Some(CoreCallee {
                 number: number as u64,

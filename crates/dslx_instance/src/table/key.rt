@@ -1,4 +1,4 @@
-//! What an instance is known by: a name and number arguments.
+//! What an instance is known by: a name and parametric arguments.
 
 ghost use Rattle.std.specs.Prelude.{◌≡◌};
 ghost use Rattle.std.specs.List.{fold, flat_map};
@@ -15,18 +15,18 @@ use indexmap::Equivalent;
 use std::hash::{Hash, Hasher};
 use xb_value::Seq;
 
-/// A name and its number arguments.
+/// A name and its parametric arguments.
 #[derive(Drop)]
 pub(crate) struct InstanceKey {
     pub(crate) name: Name,
-    pub(crate) numbers: Seq<DslxValue>,
+    pub(crate) parametric_args: Seq<DslxValue>,
 }
 
-/// A name and number arguments that are looked for.
+/// A name and parametric arguments that are looked for.
 #[derive(Clone, Copy)]
 pub(crate) struct SoughtKey<'a> {
     pub(crate) name: &'a Name,
-    pub(crate) numbers: &'a [DslxValue],
+    pub(crate) parametric_args: &'a [DslxValue],
 }
 
 impl PartialEq for InstanceKey {
@@ -35,7 +35,7 @@ impl PartialEq for InstanceKey {
     ghost laws = { partial_equiv_from_equiv keys_equivalence };
 
     fn eq(&self, other: &InstanceKey) -> bool {
-        self.name == other.name && equal_values(self.numbers.as_slice(), other.numbers.as_slice())
+        self.name == other.name && equal_values(self.parametric_args.as_slice(), other.parametric_args.as_slice())
     }
 }
 
@@ -44,12 +44,12 @@ impl Eq for InstanceKey {
 }
 
 impl Hash for InstanceKey {
-    ghost hash_input = { λ k. fed_of k.name k.numbers };
+    ghost hash_input = { λ k. fed_of k.name k.parametric_args };
 
     ghost respects_eq = { keys_fed_alike };
 
     fn hash<H: Hasher>(&self, state: &mut H) {
-        feed(&self.name, self.numbers.as_slice(), state);
+        feed(&self.name, self.parametric_args.as_slice(), state);
     }
 }
 
@@ -59,7 +59,7 @@ impl<'a> PartialEq for SoughtKey<'a> {
     ghost laws = { on_per key_sought (partial_equiv_from_equiv keys_equivalence) };
 
     fn eq(&self, other: &SoughtKey<'a>) -> bool {
-        *self.name == *other.name && equal_values(self.numbers, other.numbers)
+        *self.name == *other.name && equal_values(self.parametric_args, other.parametric_args)
     }
 }
 
@@ -68,12 +68,12 @@ impl<'a> Eq for SoughtKey<'a> {
 }
 
 impl<'a> Hash for SoughtKey<'a> {
-    ghost hash_input = { λ q. fed_of q.name.now q.numbers.now };
+    ghost hash_input = { λ q. fed_of q.name.now q.parametric_args.now };
 
     ghost respects_eq = { λ a b. keys_fed_alike (key_sought a) (key_sought b) };
 
     fn hash<H: Hasher>(&self, state: &mut H) {
-        feed(self.name, self.numbers, state);
+        feed(self.name, self.parametric_args, state);
     }
 }
 
@@ -85,16 +85,16 @@ impl<'a> Equivalent<InstanceKey> for SoughtKey<'a> {
     ghost respects_eq = { λ q. keys_equivalence.congr (key_sought q) };
 
     fn equivalent(&self, key: &InstanceKey) -> bool {
-        *self.name == key.name && equal_values(self.numbers, key.numbers.as_slice())
+        *self.name == key.name && equal_values(self.parametric_args, key.parametric_args.as_slice())
     }
 }
 
 /// Feeds a name, and the word of each number.
-fn feed<H: Hasher>(name: &Name, numbers: &[DslxValue], state: &mut H)
-    ensures { state.new ≡ fold H.write state.old (fed_of name.now numbers.now) }
+fn feed<H: Hasher>(name: &Name, parametric_args: &[DslxValue], state: &mut H)
+    ensures { state.new ≡ fold H.write state.old (fed_of name.now parametric_args.now) }
 {
     name.as_str().hash(state);
-    'numbers: for number in numbers {
+    'parametric_args: for number in parametric_args {
         word_of(number).hash(state);
     }
 }

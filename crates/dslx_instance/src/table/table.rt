@@ -15,7 +15,7 @@ use std::alloc::{AllocError, Global};
 use std::marker::Model;
 use xb_value::Seq;
 
-/// The instances that are done, by name and number arguments. Contracts see them in the order in which they were done.
+/// The instances that are done, by name and parametric arguments. Contracts see them in the order in which they were done.
 pub struct InstanceTable {
     functions: IndexMap<InstanceKey, LoweredFunction>,
 }
@@ -58,21 +58,21 @@ impl InstanceTable {
         self.functions.len()
     }
 
-    /// Whether the one of this name and these number arguments is done.
+    /// Whether the one of this name and these parametric arguments is done.
     #[tactic(auto, using(crate::proofs::OnTable::Found::is_there))]
-    pub fn has(&self, name: &Name, numbers: &[DslxValue]) -> bool
-        ensures { result ≡ is_some (instance_in name.now numbers.now 0 self.now) }
+    pub fn has(&self, name: &Name, parametric_args: &[DslxValue]) -> bool
+        ensures { result ≡ is_some (instance_in name.now parametric_args.now 0 self.now) }
     {
-        self.functions.contains_key(SoughtKey { name, numbers })
+        self.functions.contains_key(SoughtKey { name, parametric_args })
     }
 
-    /// The one of this name and these number arguments: its number and its function.
+    /// The one of this name and these parametric arguments: its number and its function.
     #[tactic(auto, using(crate::proofs::OnTable::Found::number_found, crate::proofs::OnTable::Found::function_found))]
-    pub fn find(&self, name: &Name, numbers: &[DslxValue]) -> Option<(usize, &LoweredFunction)>
-        ensures number { option_map (λ p. p.0) result ≡ option_map (λ p. p.0) (instance_in name.now numbers.now 0 self.now) }
-        ensures function { option_map (λ p. p.1.now) result ≡ option_map (λ p. p.1.function) (instance_in name.now numbers.now 0 self.now) }
+    pub fn find(&self, name: &Name, parametric_args: &[DslxValue]) -> Option<(usize, &LoweredFunction)>
+        ensures number { option_map (λ p. p.0) result ≡ option_map (λ p. p.0) (instance_in name.now parametric_args.now 0 self.now) }
+        ensures function { option_map (λ p. p.1.now) result ≡ option_map (λ p. p.1.function) (instance_in name.now parametric_args.now 0 self.now) }
     {
-        match self.functions.get_full(SoughtKey { name, numbers }) {
+        match self.functions.get_full(SoughtKey { name, parametric_args }) {
             Some((number, _, function)) => Some((number, function)),
             None => None,
         }
@@ -89,15 +89,15 @@ impl InstanceTable {
         }
     }
 
-    /// Puts one at the end, unless one of its name and number arguments is done; whether it is put there.
+    /// Puts one at the end, unless one of its name and parametric arguments is done; whether it is put there.
     #[tactic(auto, using(crate::proofs::OnTable::Found::is_there, crate::proofs::OnTable::Found::put_last))]
     pub fn push(&mut self, instance: CoreInstance) -> Result<bool, AllocError>
-        ensures new { IfOk result (λ new. new ≡ not (is_some (instance_in instance.name instance.numbers 0 self.old))) }
+        ensures new { IfOk result (λ new. new ≡ not (is_some (instance_in instance.name instance.parametric_args 0 self.old))) }
         ensures table { IfOk result (λ new. self.new ≡ (if new then self.old ++ instance ∷ [] else self.old)) }
     {
         let key = InstanceKey {
             name: instance.name,
-            numbers: instance.numbers,
+            parametric_args: instance.parametric_args,
         };
         put_new(&mut self.functions, key, instance.function)
     }

@@ -15,7 +15,7 @@ use std::alloc::{AllocError, Global};
 /// What is lowered in one place.
 #[derive(Drop)]
 pub struct OpenBody<'a> {
-    /// The number parameters, in order.
+    /// The parametrics, in order.
     pub given: Vec<Binding<'a>>,
     /// What is still to be done, the next task on the top.
     pub todo: Stack<LowerTask<'a>>,

@@ -25,6 +25,6 @@ pub enum PartsMaker<'a> {
     Array,
     /// An array of so many of a type, the last one repeated if the text says so.
     Fill(DslxType, u128, bool),
-    /// A call of this name with these number arguments.
+    /// A call of this name with these parametric arguments.
     Call(&'a Name, &'a [Arg]),
 }

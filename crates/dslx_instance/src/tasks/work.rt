@@ -6,7 +6,7 @@ use dslx_scope::locals::Locals;
 #[derive(Drop)]
 pub struct BodyWork<'a> {
     pub table: InstanceTable,
-    /// The number parameters, in order.
+    /// The parametrics, in order.
     pub given: Vec<Binding<'a>>,
     pub locals: Locals,
     pub count: u64,

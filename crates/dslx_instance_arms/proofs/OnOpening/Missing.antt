@@ -14,7 +14,7 @@ by_test None i = refl
 by_test (Some p) i = refl
 
 pub is_there : (table : List CoreInstance) (i : Instantiated) → done_in table i ≡ true → None ≡ missing_in table i
-is_there table i h = ap (λ b. left b i) (sym h) ∙ sym (by_test (instance_in i.name i.numbers 0 table) i)
+is_there table i h = ap (λ b. left b i) (sym h) ∙ sym (by_test (instance_in i.name i.parametric_args 0 table) i)
 
 pub is_missing : (table : List CoreInstance) (i : Instantiated) → done_in table i ≡ false → Some i ≡ missing_in table i
-is_missing table i h = ap (λ b. left b i) (sym h) ∙ sym (by_test (instance_in i.name i.numbers 0 table) i)
+is_missing table i h = ap (λ b. left b i) (sym h) ∙ sym (by_test (instance_in i.name i.parametric_args 0 table) i)

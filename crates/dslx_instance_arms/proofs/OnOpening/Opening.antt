@@ -4,34 +4,34 @@ use Rattle.std.specs.Option.{option_map}
 use Rattle.dslx_tree.specs.declared.item.Function.{Function}
 use Rattle.dslx_meaning.specs.Lists.{and_then, where_true}
 use Rattle.dslx_meaning.specs.declared.ty.DslxType.{DslxType}
-use Rattle.dslx_core.specs.Lowering.CorePlaces.{CoreKnown, CorePlace}
-use Rattle.dslx_core.specs.Lowering.Functions.{Instantiated, argument_types, arguments_placed, numbers_stand, outer_place}
+use Rattle.dslx_core.specs.Lowering.CoreScopes.{BodyEnv, CoreScope}
+use Rattle.dslx_core.specs.Lowering.Functions.{Instantiated, argument_types, arguments_in_scope, parametric_args_are_well_typed, outer_scope}
 use Rattle.dslx_scope_patterns.specs.Numbers.Placed.{arguments_of}
 use Rattle.dslx_machines.specs.Machine.Machines.{body_open, function_open}
 use Rattle.dslx_machines.specs.Machine.Tasks.{OpenInstance}
 
 -- an instance from the types of its arguments and the place where they are bound
-abbrev pub open_from : Function → Instantiated → List DslxType × CorePlace → Option OpenInstance
+abbrev pub open_from : Function → Instantiated → List DslxType × CoreScope → Option OpenInstance
 open_from f i p = Some (record { instance = i; arguments = p.0; body = body_open f i p.1 })
 
-with_types : (f : Function) (i : Instantiated) (known : CoreKnown) (o : Option (List DslxType))
-    → and_then (and_then o (λ ts. and_then (arguments_placed f.arguments ts (outer_place known)) (λ place. Some (ts, place)))) (open_from f i)
-    ≡ and_then o (λ ts. and_then (arguments_placed f.arguments ts (outer_place known)) (λ place. open_from f i (ts, place)))
+with_types : (f : Function) (i : Instantiated) (known : BodyEnv) (o : Option (List DslxType))
+    → and_then (and_then o (λ ts. and_then (arguments_in_scope f.arguments ts (outer_scope known)) (λ place. Some (ts, place)))) (open_from f i)
+    ≡ and_then o (λ ts. and_then (arguments_in_scope f.arguments ts (outer_scope known)) (λ place. open_from f i (ts, place)))
 with_types f i known None = refl
-with_types f i known (Some ts) = by (arguments_placed f.arguments ts (outer_place known))
+with_types f i known (Some ts) = by (arguments_in_scope f.arguments ts (outer_scope known))
   where
-    by : (p : Option CorePlace) → and_then (and_then p (λ place. Some (ts, place))) (open_from f i) ≡ and_then p (λ place. open_from f i (ts, place))
+    by : (p : Option CoreScope) → and_then (and_then p (λ place. Some (ts, place))) (open_from f i) ≡ and_then p (λ place. open_from f i (ts, place))
     by None = refl
     by (Some place) = refl
 
 -- it is opened so
-opens_from : (f : Function) (i : Instantiated) (known : CoreKnown) → where_true (numbers_stand known.items known.numbers) (and_then (arguments_of known f.arguments) (open_from f i)) ≡ function_open known f i
-opens_from f i known = ap (where_true (numbers_stand known.items known.numbers)) (with_types f i known (argument_types known f.arguments))
+opens_from : (f : Function) (i : Instantiated) (known : BodyEnv) → where_true (parametric_args_are_well_typed known.items known.parametric_args) (and_then (arguments_of known f.arguments) (open_from f i)) ≡ function_open known f i
+opens_from f i known = ap (where_true (parametric_args_are_well_typed known.items known.parametric_args)) (with_types f i known (argument_types known f.arguments))
 
--- its number parameters don't stand
-pub opens_none : (f : Function) (i : Instantiated) (known : CoreKnown) → numbers_stand known.items known.numbers ≡ false → None ≡ function_open known f i
+-- its parametrics don't stand
+pub opens_none : (f : Function) (i : Instantiated) (known : BodyEnv) → parametric_args_are_well_typed known.items known.parametric_args ≡ false → None ≡ function_open known f i
 opens_none f i known h = ap (λ b. where_true b (and_then (arguments_of known f.arguments) (open_from f i))) (sym h) ∙ opens_from f i known
 
 -- they do, and these are its arguments, if any
-pub opens_with : (f : Function) (i : Instantiated) (known : CoreKnown) → numbers_stand known.items known.numbers ≡ true → and_then (arguments_of known f.arguments) (open_from f i) ≡ function_open known f i
+pub opens_with : (f : Function) (i : Instantiated) (known : BodyEnv) → parametric_args_are_well_typed known.items known.parametric_args ≡ true → and_then (arguments_of known f.arguments) (open_from f i) ≡ function_open known f i
 opens_with f i known h = ap (λ b. where_true b (and_then (arguments_of known f.arguments) (open_from f i))) (sym h) ∙ opens_from f i known

@@ -4,8 +4,8 @@ use Rattle.dslx_tree.specs.declared.expr.For.{For, out-For}
 use Rattle.dslx_meaning.specs.Lists.{and_then, with_both}
 use Rattle.dslx_meaning.specs.Values.{bits_of}
 use Rattle.dslx_meaning.specs.declared.value.SignedWord.{SignedWord}
-use Rattle.dslx_core.specs.Lowering.CorePlaces.{CorePlace, constant_at}
+use Rattle.dslx_core.specs.Lowering.CoreScopes.{CoreScope, constant_at}
 
 -- both, if they are bits
-abbrev pub bounds_of : CorePlace → For → Option (SignedWord × SignedWord)
+abbrev pub bounds_of : CoreScope → For → Option (SignedWord × SignedWord)
 bounds_of place f = with_both (and_then (constant_at place (out-For f).from) bits_of) (and_then (constant_at place (out-For f).to) bits_of) (λ a b. Some (a, b))

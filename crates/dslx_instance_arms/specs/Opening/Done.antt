@@ -9,16 +9,16 @@ use Rattle.dslx_machines.specs.Machine.Tasks.{LowerTask}
 
 -- whether one is done
 abbrev pub done_in : List CoreInstance → Instantiated → Bool
-done_in table i = is_some (instance_in i.name i.numbers 0 table)
+done_in table i = is_some (instance_in i.name i.parametric_args 0 table)
 
 -- a call of one, for these operands
 abbrev pub call_in : List CoreInstance → Instantiated → List LoweredExpr → Option LoweredExpr
 call_in table i es =
-    and_then (and_then (instance_in i.name i.numbers 0 table) (callee_of (types_of_lowered es))) (λ callee. lowered (core.Call callee.number (cores_of es)) callee.result)
+    and_then (and_then (instance_in i.name i.parametric_args 0 table) (callee_of (types_of_lowered es))) (λ callee. lowered (core.Call callee.number (cores_of es)) callee.result)
 
 -- one that isn't done
 abbrev pub missing_in : List CoreInstance → Instantiated → Option Instantiated
-missing_in table i = unless_done (instance_in i.name i.numbers 0 table) i
+missing_in table i = unless_done (instance_in i.name i.parametric_args 0 table) i
 
 -- the one that a task needs and that isn't done
 abbrev pub missing_for_task : List CoreInstance → LowerTask → Option Instantiated

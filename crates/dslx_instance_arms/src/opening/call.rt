@@ -8,7 +8,7 @@ ghost use Rattle.dslx_instance.specs.Tasks.Shown.{body_shown, task_shown};
 
 use dslx_core::lowering::{CoreCallee, Instantiated, LoweredExpr};
 use dslx_core_calls::aggregates::types_of;
-use dslx_core_calls::calls::call_lowered;
+use dslx_core_calls::calls::lower_call;
 use dslx_instance::table::{InstanceTable, callee_there};
 use dslx_instance::tasks::{CallTask, LowerTask, OpenBody};
 use dslx_values::{copy_name, copy_values};
@@ -41,12 +41,12 @@ fn call_of(
         alloc,
         table,
         &instance.name,
-        instance.numbers.as_slice(),
+        instance.parametric_args.as_slice(),
         types.as_slice(),
     )?;
     match callee {
         Some(CoreCallee { number, result }) => {
-            Ok(Some(call_lowered(alloc, number, operands, result)?))
+            Ok(Some(lower_call(alloc, number, operands, result)?))
         }
         None => Ok(None),
     }
@@ -56,7 +56,7 @@ fn call_of(
 pub fn is_done(table: &InstanceTable, instance: &Instantiated) -> bool
     ensures { result ≡ done_in table.now instance.now }
 {
-    table.has(&instance.name, instance.numbers.as_slice())
+    table.has(&instance.name, instance.parametric_args.as_slice())
 }
 
 /// The instance that a task needs and that isn't done.
@@ -96,6 +96,6 @@ fn copy_instantiated(alloc: Global, instance: &Instantiated) -> Result<Instantia
 {
     Ok(Instantiated {
         name: copy_name(alloc, &instance.name)?,
-        numbers: copy_values(alloc, instance.numbers.as_slice())?,
+        parametric_args: copy_values(alloc, instance.parametric_args.as_slice())?,
     })
 }

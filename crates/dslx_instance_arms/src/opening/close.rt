@@ -36,7 +36,7 @@ fn finished(last: OpenInstance) -> Option<CoreInstance>
     match made.take_off() {
         Some(LoweredExpr { core, ty }) => Some(CoreInstance {
             name: instance.name,
-            numbers: instance.numbers,
+            parametric_args: instance.parametric_args,
             function: LoweredFunction {
                 arguments,
                 result: ty,

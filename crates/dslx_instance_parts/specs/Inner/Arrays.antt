@@ -5,8 +5,8 @@ use Rattle.dslx_meaning.specs.Lists.{and_then}
 use Rattle.dslx_meaning.specs.declared.ty.DslxType.{DslxType}
 use Rattle.dslx_meaning.specs.Rules.AggregateRules.{array_in}
 use Rattle.dslx_machines.specs.Machine.Parts.{gathers}
-use Rattle.dslx_machines.specs.Machine.Tasks.{Fills, InstanceSight, OpenBody}
+use Rattle.dslx_machines.specs.Machine.Tasks.{Fills, InstanceEnv, OpenBody}
 
 -- the elements, if the type is an array's
-abbrev pub fills_type : Option DslxType → InstanceSight → List Expr → Bool → OpenBody → Option OpenBody
-fills_type t sight es dots body = and_then (and_then t array_in) (λ parts. gathers sight [] es (Fills parts.0 parts.1 dots) body)
+abbrev pub fills_type : Option DslxType → InstanceEnv → List Expr → Bool → OpenBody → Option OpenBody
+fills_type t context es dots body = and_then (and_then t array_in) (λ parts. gathers context [] es (Fills parts.0 parts.1 dots) body)

@@ -2,19 +2,19 @@
 use Rattle.std.specs.Prelude.{[], ◌∷◌, Option, Some, None}
 use Rattle.dslx_tree.specs.declared.expr.Expr.{Expr}
 use Rattle.dslx_meaning.specs.declared.ty.DslxType.{DslxType}
-use Rattle.dslx_meaning.specs.declared.value.Bare.{Bare}
-use Rattle.dslx_const_machine.specs.Layers.{bare_of}
-use Rattle.dslx_core.specs.Lowering.Lowering.{LoweredExpr, number_lowered}
+use Rattle.dslx_meaning.specs.declared.value.UntypedLiteral.{UntypedLiteral}
+use Rattle.dslx_const_machine.specs.Layers.{untyped_of}
+use Rattle.dslx_core.specs.Lowering.Lowering.{LoweredExpr, lower_number}
 use Rattle.dslx_machines.specs.Machine.Bodies.{doing, gives}
 use Rattle.dslx_machines.specs.Machine.Tasks.{PartsMaker, Fills, LowersExpr, OpenBody}
 
-abbrev pub number_by : DslxType → Option Bare → Option (Option LoweredExpr)
+abbrev pub number_by : DslxType → Option UntypedLiteral → Option (Option LoweredExpr)
 number_by t None = None
-number_by t (Some b) = Some (number_lowered (Some t) b)
+number_by t (Some b) = Some (lower_number (Some t) b)
 
 -- what an element is that is not to be lowered
 abbrev pub element_by : PartsMaker → Expr → Option (Option LoweredExpr)
-element_by (Fills t n dots) e = number_by t (bare_of e)
+element_by (Fills t n dots) e = number_by t (untyped_of e)
 element_by maker e = None
 
 -- an element that is there already, or is to be lowered

@@ -6,7 +6,7 @@ use Rattle.xb_bits.specs.Word.{Word, word}
 use Rattle.xb_bits.specs.Operations.{add}
 use Rattle.xb_value.specs.declared.value.Value.{Value, Bits, Tuple, Array, out-Value}
 use Rattle.dslx_meaning.specs.Lists.{and_then}
-use Rattle.dslx_core.specs.CoreValues.{Bindings, Functions, CoreMeaning, ArmMeaning, core_value, core_step, arm_step, values_in, taken_apart, first_apart, chosen, is_one, word_of_value, select, arm_or, turns, one_turn}
+use Rattle.dslx_core.specs.CoreValues.{Bindings, Functions, CoreDen, CoreArmDen, core_value, core_step, arm_step, values_in, taken_apart, first_apart, chosen, is_one, word_of_value, select, arm_or, turns, one_turn}
 use Rattle.dslx_core.specs.CoreValues as core
 use Rattle.dslx_core.specs.declared.design.Function.{Function}
 use Rattle.dslx_core.specs.declared.expr.CoreExpr.{CoreExpr, out-CoreExpr}
@@ -15,39 +15,39 @@ use Rattle.dslx_core.specs.declared.expr.CoreExpr.TheFolds.{map-CoreExpr, fold_o
 use Rattle.dslx_core.specs.declared.expr.Shape.{Shape}
 use Rattle.dslx_core.specs.declared.expr.Arm.{Arm, out-Arm, fold-Arm}
 use Rattle.dslx_interp.specs.Eval.Inner.Operations.{top_of, below, top_word, put_on, operated}
-use Rattle.dslx_interp.specs.Eval.Inner.Tasks.{PlainTask, Evaluates, EvaluatesEach, Operates, Binds, Chooses, Selects, Turns, Calls, Forgets, Returns}
+use Rattle.dslx_interp.specs.Eval.Inner.Tasks.{PlainTask, ValueDen, EachValueDen, Operates, Binds, Chooses, Selects, Turns, Calls, Forgets, Returns}
 use Rattle.dslx_interp.specs.Eval.Inner.Machine.{MachineState, todo_with, with_values, begun, entered, inside, tried_by, selected, turned_from, called, callee, chosen_of, off_top, stepped}
 use Rattle.dslx_interp.proofs.OnEval.Calls.{calls_before, body_value, called_gives}
-use Rattle.dslx_interp.proofs.OnEval.Fronts.{Extends, shape_keeps, first_keeps, extends_on, front_left}
+use Rattle.dslx_interp.proofs.OnEval.Prefixes.{Extends, shape_keeps, first_keeps, extends_on, prefix_left}
 use Rattle.dslx_interp.proofs.OnEval.Options.{in_turn, one_goes, two_goes, three_goes, first_goes, each_goes, all_length}
 
-abbrev pub arm_meaning : Arm → ArmMeaning
-arm_meaning = fold-Arm CoreMeaning ArmMeaning core_step arm_step
+abbrev pub core_arm_den : Arm → CoreArmDen
+core_arm_den = fold-Arm CoreDen CoreArmDen core_step arm_step
 
-abbrev layer_value : CoreExpr-F CoreExpr Arm → CoreMeaning
-layer_value x = core_step (map-CoreExpr CoreExpr Arm CoreMeaning ArmMeaning core_value arm_meaning x)
+abbrev layer_value : CoreExpr-F CoreExpr Arm → CoreDen
+layer_value x = core_step (map-CoreExpr CoreExpr Arm CoreDen CoreArmDen core_value core_arm_den x)
 
 opened : (e : CoreExpr) → core_value e ≡ layer_value (out-CoreExpr e)
-opened e = fold_out-CoreExpr CoreMeaning ArmMeaning core_step arm_step e
+opened e = fold_out-CoreExpr CoreDen CoreArmDen core_step arm_step e
 
-abbrev plain_arm : Arm → ArmMeaning
+abbrev plain_arm : Arm → CoreArmDen
 plain_arm a = record { shapes = (out-Arm a).shapes; value = core_value (out-Arm a).value }
 
-arm_opened : (a : Arm) → arm_meaning a ≡ plain_arm a
-arm_opened a = fold_out-Arm CoreMeaning ArmMeaning core_step arm_step a
+arm_opened : (a : Arm) → core_arm_den a ≡ plain_arm a
+arm_opened a = fold_out-Arm CoreDen CoreArmDen core_step arm_step a
 
 -- what comes of what is still to be done, over the values that were found and what is bound
 abbrev pub answer : List Function → List PlainTask → List Value → Bindings → ℕ → Option Value
 answer fs [] vs bound n = slice_get vs 0
-answer fs (Evaluates e ∷ todo) vs bound n = and_then (core_value e (calls_before fs n) bound) (λ v. answer fs todo (v ∷ vs) bound n)
-answer fs (EvaluatesEach es ∷ todo) vs bound n = and_then (values_in (map core_value es) (calls_before fs n) bound) (λ ws. answer fs todo (reverse ws ++ vs) bound n)
+answer fs (ValueDen e ∷ todo) vs bound n = and_then (core_value e (calls_before fs n) bound) (λ v. answer fs todo (v ∷ vs) bound n)
+answer fs (EachValueDen es ∷ todo) vs bound n = and_then (values_in (map core_value es) (calls_before fs n) bound) (λ ws. answer fs todo (reverse ws ++ vs) bound n)
 answer fs (Operates o ∷ todo) vs bound n = and_then (operated o vs) (λ ws. answer fs todo ws bound n)
 answer fs (Binds shape e ∷ todo) vs bound n =
     and_then (top_of vs) (λ v. and_then (and_then (taken_apart shape v bound) (core_value e (calls_before fs n))) (λ w. answer fs todo (w ∷ below vs) bound n))
 answer fs (Chooses a c ∷ todo) vs bound n =
     and_then (chosen (and_then (top_word vs) is_one) (core_value a (calls_before fs n) bound) (core_value c (calls_before fs n) bound)) (λ w. answer fs todo (w ∷ below vs) bound n)
 answer fs (Selects arms ∷ todo) vs bound n =
-    and_then (top_of vs) (λ v. and_then (select (map arm_meaning arms) v (calls_before fs n) bound) (λ w. answer fs todo (w ∷ below vs) bound n))
+    and_then (top_of vs) (λ v. and_then (select (map core_arm_den arms) v (calls_before fs n) bound) (λ w. answer fs todo (w ∷ below vs) bound n))
 answer fs (Turns k i index acc e ∷ todo) vs bound n =
     and_then (top_of vs) (λ v. and_then (turns (one_turn index acc (core_value e) (calls_before fs n) bound) k i v) (λ w. answer fs todo (w ∷ below vs) bound n))
 answer fs (Calls f k ∷ todo) vs bound n = and_then (calls_before fs n f (reverse (take k vs))) (λ w. answer fs todo (w ∷ drop k vs) bound n)
@@ -68,8 +68,8 @@ calls_in run = calls_before run.functions run.before
 
 several : (es : List CoreExpr) (run : MachineState) (ws : List Value) → values_in (map core_value es) (calls_in run) run.bound ≡ Some ws → length ws ≡ length es
 several es run ws h =
-    all_length (map (λ (m : CoreMeaning). m (calls_in run) run.bound) (map core_value es)) ws h
-    ∙ (length-map (map core_value es) (λ (m : CoreMeaning). m (calls_in run) run.bound) ∙ length-map es core_value)
+    all_length (map (λ (m : CoreDen). m (calls_in run) run.bound) (map core_value es)) ws h
+    ∙ (length-map (map core_value es) (λ (m : CoreDen). m (calls_in run) run.bound) ∙ length-map es core_value)
 
 value_put : (o : Option Value) (run : MachineState) → and_then o (λ v. goes_on run (v ∷ run.values)) ≡ and_then (with_values run (put_on o run.values)) answer_of
 value_put None run = refl
@@ -116,7 +116,7 @@ inside_keeps : (e : CoreExpr) (run : MachineState) (o : Option Bindings) → ((m
     → and_then (and_then o (core_value e (calls_in run))) (λ w. goes_on run (w ∷ run.values)) ≡ and_then (inside e run o) answer_of
 inside_keeps e run None front = refl
 inside_keeps e run (Some more) front =
-    let back : take (length run.bound) more ≡ run.bound = front_left run.bound more (front more refl) in
+    let back : take (length run.bound) more ≡ run.bound = prefix_left run.bound more (front more refl) in
     λ i. and_then (core_value e (calls_in run) more) (λ w. answer run.functions run.todo (w ∷ run.values) (sym back i) run.before)
 
 same_keeps : (e : CoreExpr) (run : MachineState) → and_then (core_value e (calls_in run) run.bound) (λ w. goes_on run (w ∷ run.values)) ≡ answer_of (entered (length run.bound) e run)
@@ -132,13 +132,13 @@ bind_keeps shape e run (Some v) = inside_keeps e (off_top run) (taken_apart shap
 
 choose_keeps : (a c : CoreExpr) (run : MachineState) (o : Option Bool)
     → and_then (chosen o (core_value a (calls_in run) run.bound) (core_value c (calls_in run) run.bound)) (λ w. goes_on run (w ∷ below run.values))
-    ≡ and_then (and_then o (λ b. Some (todo_with (Evaluates (chosen_of a c b) ∷ []) (off_top run)))) answer_of
+    ≡ and_then (and_then o (λ b. Some (todo_with (ValueDen (chosen_of a c b) ∷ []) (off_top run)))) answer_of
 choose_keeps a c run None = refl
 choose_keeps a c run (Some true) = refl
 choose_keeps a c run (Some false) = refl
 
 select_keeps : (arms : List Arm) (v : Value) (run : MachineState)
-    → and_then (select (map arm_meaning arms) v (calls_in run) run.bound) (λ w. goes_on run (w ∷ run.values)) ≡ and_then (selected arms v run) answer_of
+    → and_then (select (map core_arm_den arms) v (calls_in run) run.bound) (λ w. goes_on run (w ∷ run.values)) ≡ and_then (selected arms v run) answer_of
 select_keeps [] v run = refl
 select_keeps (a ∷ []) v run =
     ap (λ m. and_then (select (m ∷ []) v (calls_in run) run.bound) (λ w. goes_on run (w ∷ run.values))) (arm_opened a)
@@ -150,17 +150,17 @@ select_keeps (a ∷ []) v run =
     by None front = same_keeps (out-Arm a).value run
     by (Some more) front = inside_keeps (out-Arm a).value run (Some more) front
 select_keeps (a ∷ c ∷ cs) v run =
-    ap (λ m. and_then (select (m ∷ map arm_meaning (c ∷ cs)) v (calls_in run) run.bound) (λ w. goes_on run (w ∷ run.values))) (arm_opened a)
+    ap (λ m. and_then (select (m ∷ map core_arm_den (c ∷ cs)) v (calls_in run) run.bound) (λ w. goes_on run (w ∷ run.values))) (arm_opened a)
     ∙ by (first_apart (out-Arm a).shapes v run.bound) (first_keeps (out-Arm a).shapes v run.bound)
   where
     by : (o : Option Bindings) → ((more : Bindings) → o ≡ Some more → Extends run.bound more)
-        → and_then (arm_or (calls_in run) (core_value (out-Arm a).value) o (select (map arm_meaning (c ∷ cs)) v (calls_in run) run.bound)) (λ w. goes_on run (w ∷ run.values))
+        → and_then (arm_or (calls_in run) (core_value (out-Arm a).value) o (select (map core_arm_den (c ∷ cs)) v (calls_in run) run.bound)) (λ w. goes_on run (w ∷ run.values))
         ≡ answer_of (tried_by o a (c ∷ cs) v run)
     by None front = refl
     by (Some more) front = inside_keeps (out-Arm a).value run (Some more) front
 
 arms_keep : (arms : List Arm) (run : MachineState) (o : Option Value)
-    → and_then o (λ v. and_then (select (map arm_meaning arms) v (calls_in run) run.bound) (λ w. goes_on run (w ∷ below run.values)))
+    → and_then o (λ v. and_then (select (map core_arm_den arms) v (calls_in run) run.bound) (λ w. goes_on run (w ∷ below run.values)))
     ≡ and_then (and_then o (λ v. selected arms v (off_top run))) answer_of
 arms_keep arms run None = refl
 arms_keep arms run (Some v) = select_keeps arms v (off_top run)
@@ -196,7 +196,7 @@ call_keeps None f vs run = refl
 call_keeps (Some g) f vs run = by (length vs == g.arity)
   where
     by : (b : Bool) → and_then (if b then core_value g.body (calls_before run.functions f) vs else None) (λ w. goes_on run (w ∷ run.values))
-        ≡ and_then (if b then Some (record { functions = run.functions; todo = Evaluates g.body ∷ Returns run.bound run.before ∷ run.todo; values = run.values; bound = vs; before = f }) else None) answer_of
+        ≡ and_then (if b then Some (record { functions = run.functions; todo = ValueDen g.body ∷ Returns run.bound run.before ∷ run.todo; values = run.values; bound = vs; before = f }) else None) answer_of
     by true = refl
     by false = refl
 
@@ -207,10 +207,10 @@ operation_keeps (Some vs) run = refl
 -- ---- each step
 
 pub keeps : (d : PlainTask) (run : MachineState) → answer run.functions (d ∷ run.todo) run.values run.bound run.before ≡ and_then (stepped d run) answer_of
-keeps (Evaluates e) run = ap (λ m. and_then (m (calls_in run) run.bound) (λ v. goes_on run (v ∷ run.values))) (opened e) ∙ planned (out-CoreExpr e) run
-keeps (EvaluatesEach []) run = refl
-keeps (EvaluatesEach (e ∷ es)) run =
-    first_goes (core_value e (calls_in run) run.bound) (map (λ (m : CoreMeaning). m (calls_in run) run.bound) (map core_value es)) run.values (goes_on run)
+keeps (ValueDen e) run = ap (λ m. and_then (m (calls_in run) run.bound) (λ v. goes_on run (v ∷ run.values))) (opened e) ∙ planned (out-CoreExpr e) run
+keeps (EachValueDen []) run = refl
+keeps (EachValueDen (e ∷ es)) run =
+    first_goes (core_value e (calls_in run) run.bound) (map (λ (m : CoreDen). m (calls_in run) run.bound) (map core_value es)) run.values (goes_on run)
 keeps (Operates o) run = operation_keeps (operated o run.values) run
 keeps (Binds shape e) run = bind_keeps shape e run (top_of run.values)
 keeps (Chooses a c) run = choose_keeps a c run (and_then (top_word run.values) is_one)

@@ -4,7 +4,7 @@ use Rattle.std.proofs.lemmas.List.{append_assoc, length-reverse, reverse-append,
 use Rattle.xb_value.specs.declared.value.Value.{Value}
 use Rattle.dslx_meaning.specs.Lists.{all_some, and_then, with_both}
 use Rattle.dslx_interp.specs.Eval.Inner.Operations.{put_on}
-use Rattle.dslx_interp.proofs.OnEval.Fronts.{take_front}
+use Rattle.dslx_interp.proofs.OnEval.Prefixes.{take_prefix}
 
 abbrev pub Goes : Type 0
 Goes = List Value → Option Value
@@ -87,16 +87,16 @@ all_length (Some v ∷ os) ws h = by (all_some os) refl (sym (all_some_more v os
         let is : v ∷ vs ≡ ws = cc in
         ap length (sym is) ∙ ap suc (rest vs e)
 
-drop_front : (xs ys : List Value) → drop (length xs) (xs ++ ys) ≡ ys
-drop_front [] ys = refl
-drop_front (x ∷ xs) ys = drop_front xs ys
+drop_prefix : (xs ys : List Value) → drop (length xs) (xs ++ ys) ≡ ys
+drop_prefix [] ys = refl
+drop_prefix (x ∷ xs) ys = drop_prefix xs ys
 
 taken_back : (ws vs : List Value) (n : ℕ) → length ws ≡ n → reverse (take n (reverse ws ++ vs)) ≡ ws
 taken_back ws vs n e =
-    ap (λ (m : ℕ). reverse (take m (reverse ws ++ vs))) (sym e ∙ sym (length-reverse ws)) ∙ (ap reverse (take_front (reverse ws) vs) ∙ reverse-reverse ws)
+    ap (λ (m : ℕ). reverse (take m (reverse ws ++ vs))) (sym e ∙ sym (length-reverse ws)) ∙ (ap reverse (take_prefix (reverse ws) vs) ∙ reverse-reverse ws)
 
 left_back : (ws vs : List Value) (n : ℕ) → length ws ≡ n → drop n (reverse ws ++ vs) ≡ vs
-left_back ws vs n e = ap (λ (m : ℕ). drop m (reverse ws ++ vs)) (sym e ∙ sym (length-reverse ws)) ∙ drop_front (reverse ws) vs
+left_back ws vs n e = ap (λ (m : ℕ). drop m (reverse ws ++ vs)) (sym e ∙ sym (length-reverse ws)) ∙ drop_prefix (reverse ws) vs
 
 -- what is made of several
 pub each_goes : (o : Option (List Value)) (n : ℕ) (f : List Value → Option Value) (vs : List Value) (k : Goes) → ((ws : List Value) → o ≡ Some ws → length ws ≡ n)

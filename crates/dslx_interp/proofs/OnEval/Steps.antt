@@ -9,7 +9,7 @@ use Rattle.dslx_core.specs.declared.expr.CoreExpr.{CoreExpr}
 use Rattle.dslx_interp.specs.declared.eval.machine.Machine.{Machine}
 use Rattle.dslx_interp.specs.declared.eval.task.Task.{Task}
 use Rattle.dslx_interp.specs.Eval.Inner.Machine.{MachineState, shown, stepped}
-use Rattle.dslx_interp.specs.Eval.Inner.Tasks.{Evaluates, plain_task}
+use Rattle.dslx_interp.specs.Eval.Inner.Tasks.{ValueDen, plain_task}
 use Rattle.dslx_interp.proofs.OnEval.Calls.{calls_before, all_calls}
 use Rattle.dslx_interp.proofs.OnEval.Keeps.{answer, answer_of, keeps}
 use Rattle.dslx_interp.proofs.OnEval.Options.{gives_itself}
@@ -25,7 +25,7 @@ emptied [] h = refl
 emptied (y ∷ ys) h = absurd (cc)
 
 -- an expression to be found, where nothing else is to be done
-pub begins : (fs : List Function) (e : CoreExpr) (bound : Bindings) → answer fs (Evaluates e ∷ []) [] bound (length fs) ≡ core_value e (functions_from 0 fs no_function) bound
+pub begins : (fs : List Function) (e : CoreExpr) (bound : Bindings) → answer fs (ValueDen e ∷ []) [] bound (length fs) ≡ core_value e (functions_from 0 fs no_function) bound
 begins fs e bound = gives_itself (core_value e (calls_before fs (length fs)) bound) ∙ ap (λ calls. core_value e calls bound) (all_calls fs)
 
 -- a task is taken and done, or can't be

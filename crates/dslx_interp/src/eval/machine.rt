@@ -1,6 +1,6 @@
 ghost use Rattle.std.specs.Prelude.{◌≡◌, ◌∷◌, Some, None, IfOk, MatchBool};
 ghost use Rattle.dslx_interp.specs.Eval.Inner.Machine.{shown, stepped};
-ghost use Rattle.dslx_interp.specs.Eval.Inner.Tasks.{EvaluatesEach, plain_task};
+ghost use Rattle.dslx_interp.specs.Eval.Inner.Tasks.{EachValueDen, plain_task};
 
 use crate::eval::operation::operate;
 use crate::eval::task::Task;
@@ -54,7 +54,7 @@ impl<'a> Machine<'a> {
     /// Goes on with the first of several expressions.
     fn eval_each(&mut self, exprs: &'a [CoreExpr]) -> Result<bool, AllocError>
         ensures { IfOk result (λ fits. MatchBool fits
-            (stepped (EvaluatesEach exprs.now) (shown self.old) ≡ Some (shown self.new)) (stepped (EvaluatesEach exprs.now) (shown self.old) ≡ None)) }
+            (stepped (EachValueDen exprs.now) (shown self.old) ≡ Some (shown self.new)) (stepped (EachValueDen exprs.now) (shown self.old) ≡ None)) }
     {
         match exprs {
             [] => Ok(true),

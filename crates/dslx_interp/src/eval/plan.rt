@@ -3,7 +3,7 @@
 ghost use Rattle.std.specs.Prelude.{◌≡◌, ◌∷◌, [], slice_get, Some, None, IfOk, IsTrue, MatchBool};
 ghost use Rattle.dslx_core.specs.declared.expr.CoreExpr.{out-CoreExpr};
 ghost use Rattle.dslx_interp.specs.Eval.Inner.Machine.{shown, todo_with, begun, put_in};
-ghost use Rattle.dslx_interp.specs.Eval.Inner.Tasks.{Evaluates, EvaluatesEach, plain_task};
+ghost use Rattle.dslx_interp.specs.Eval.Inner.Tasks.{ValueDen, EachValueDen, plain_task};
 
 use crate::eval::machine::Machine;
 use crate::eval::operation::{Operation, put};
@@ -105,7 +105,7 @@ impl<'a> Machine<'a> {
     /// An expression, and a task behind it.
     fn one(&mut self, expr: &'a CoreExpr, task: Task<'a>) -> Result<bool, AllocError>
         ensures done { IfOk result (λ fits. IsTrue fits) }
-        ensures new { IfOk result (λ fits. shown self.new ≡ todo_with (Evaluates expr.now ∷ plain_task task.entry ∷ []) (shown self.old)) }
+        ensures new { IfOk result (λ fits. shown self.new ≡ todo_with (ValueDen expr.now ∷ plain_task task.entry ∷ []) (shown self.old)) }
     {
         self.tasks.push(task)?;
         self.tasks.push(Task::Eval(expr))?;
@@ -120,7 +120,7 @@ impl<'a> Machine<'a> {
         task: Task<'a>,
     ) -> Result<bool, AllocError>
         ensures done { IfOk result (λ fits. IsTrue fits) }
-        ensures new { IfOk result (λ fits. shown self.new ≡ todo_with (Evaluates first.now ∷ Evaluates second.now ∷ plain_task task.entry ∷ []) (shown self.old)) }
+        ensures new { IfOk result (λ fits. shown self.new ≡ todo_with (ValueDen first.now ∷ ValueDen second.now ∷ plain_task task.entry ∷ []) (shown self.old)) }
     {
         self.tasks.push(task)?;
         self.tasks.push(Task::Eval(second))?;
@@ -137,7 +137,7 @@ impl<'a> Machine<'a> {
         task: Task<'a>,
     ) -> Result<bool, AllocError>
         ensures done { IfOk result (λ fits. IsTrue fits) }
-        ensures new { IfOk result (λ fits. shown self.new ≡ todo_with (Evaluates first.now ∷ Evaluates second.now ∷ Evaluates third.now ∷ plain_task task.entry ∷ []) (shown self.old)) }
+        ensures new { IfOk result (λ fits. shown self.new ≡ todo_with (ValueDen first.now ∷ ValueDen second.now ∷ ValueDen third.now ∷ plain_task task.entry ∷ []) (shown self.old)) }
     {
         self.tasks.push(task)?;
         self.tasks.push(Task::Eval(third))?;
@@ -149,7 +149,7 @@ impl<'a> Machine<'a> {
     /// Any number of expressions in order, and a task behind them.
     fn each(&mut self, exprs: &'a [CoreExpr], task: Task<'a>) -> Result<bool, AllocError>
         ensures done { IfOk result (λ fits. IsTrue fits) }
-        ensures new { IfOk result (λ fits. shown self.new ≡ todo_with (EvaluatesEach exprs.now ∷ plain_task task.entry ∷ []) (shown self.old)) }
+        ensures new { IfOk result (λ fits. shown self.new ≡ todo_with (EachValueDen exprs.now ∷ plain_task task.entry ∷ []) (shown self.old)) }
     {
         self.tasks.push(task)?;
         self.tasks.push(Task::EvalEach(exprs))?;

@@ -8,7 +8,7 @@ use Rattle.dslx_meaning.specs.declared.ty.BitKind.{BitKind}
 use Rattle.dslx_meaning.specs.declared.ty.DslxType.{DslxType, out-DslxType}
 use Rattle.dslx_meaning.specs.Rules.AggregateRules.{array_in, part_type}
 use Rattle.dslx_core.specs.Lowering.EqualTypes.{equal_type}
-use Rattle.dslx_core.specs.Lowering.Lowering.{LoweredExpr, binary_lowered, cast_lowered, choice_lowered, element_lowered, field_lowered, field_place, fits_operands, index_lowered, part_lowered, prefix_lowered, result_of_binary, slice_lowered}
+use Rattle.dslx_core.specs.Lowering.Lowering.{LoweredExpr, lower_binary, lower_cast, lower_choice, lower_element, lower_field, field_index, fits_operands, lower_index, lower_part, lower_prefix, result_of_binary, lower_slice}
 use Rattle.dslx_machines.proofs.OnAlike.Relation.{Alike, alike_itself, both_alike, both_same, both_there, then_alike, then_same, there_under}
 
 -- the two have one type
@@ -24,36 +24,36 @@ module _ (more : Bool) where
   abbrev pub ExprsAlike : Option LoweredExpr → Option LoweredExpr → Type 0
   ExprsAlike o q = Alike more OneType o q
 
-  pub prefix_alike : (p : Prefix) (e f : Option LoweredExpr) → ExprsAlike e f → ExprsAlike (prefix_lowered p e) (prefix_lowered p f)
+  pub prefix_alike : (p : Prefix) (e f : Option LoweredExpr) → ExprsAlike e f → ExprsAlike (lower_prefix p e) (lower_prefix p f)
   prefix_alike p e f h = then_alike more OneType OneType e f _ _ h (λ a b k. both_there more OneType _ _ k)
 
-  pub binary_alike : (op : Binary) (l r m s : Option LoweredExpr) → ExprsAlike l m → ExprsAlike r s → ExprsAlike (binary_lowered op l r) (binary_lowered op m s)
+  pub binary_alike : (op : Binary) (l r m s : Option LoweredExpr) → ExprsAlike l m → ExprsAlike r s → ExprsAlike (lower_binary op l r) (lower_binary op m s)
   binary_alike op l r m s h k =
       both_alike more OneType OneType OneType l m r s _ _ h k
       (λ a b c d e f. there_under more OneType _ _ _ _ (λ i. fits_operands op (e i) (f i)) (λ i. result_of_binary op (e i) (f i)))
 
-  pub cast_alike : (e f : Option LoweredExpr) (t : Option DslxType) → ExprsAlike e f → ExprsAlike (cast_lowered e t) (cast_lowered f t)
+  pub cast_alike : (e f : Option LoweredExpr) (t : Option DslxType) → ExprsAlike e f → ExprsAlike (lower_cast e t) (lower_cast f t)
   cast_alike e f t h =
       both_alike more OneType (λ (t u : DslxType). t ≡ u) OneType e f t t _ _ h (alike_itself more _ t (λ t. refl))
       (λ a b t u k q. then_of_type more OneType bits_in t u _ _ q (λ (kind : BitKind). there_under more OneType _ _ _ _ refl q))
 
-  pub slice_alike : (e f : Option LoweredExpr) (from to : Option ℕ) → ExprsAlike e f → ExprsAlike (slice_lowered e from to) (slice_lowered f from to)
+  pub slice_alike : (e f : Option LoweredExpr) (from to : Option ℕ) → ExprsAlike e f → ExprsAlike (lower_slice e from to) (lower_slice f from to)
   slice_alike e f from to h = then_alike more OneType OneType e f _ _ h (λ a b k. both_same more OneType from to _ _ (λ m n. there_under more OneType _ _ _ _ refl refl))
 
-  pub part_alike : (e f i j : Option LoweredExpr) (t : Option DslxType) → ExprsAlike e f → ExprsAlike i j → ExprsAlike (part_lowered e i t) (part_lowered f j t)
+  pub part_alike : (e f i j : Option LoweredExpr) (t : Option DslxType) → ExprsAlike e f → ExprsAlike i j → ExprsAlike (lower_part e i t) (lower_part f j t)
   part_alike e f i j t h k =
       both_alike more OneType OneType OneType e f i j _ _ h k (λ a b c d p q. then_same more OneType (and_then t bits_in) _ _ (λ (kind : BitKind). there_under more OneType _ _ _ _ refl refl))
 
-  pub element_alike : (e f : Option LoweredExpr) (k : ℕ) → ExprsAlike e f → ExprsAlike (element_lowered e k) (element_lowered f k)
+  pub element_alike : (e f : Option LoweredExpr) (k : ℕ) → ExprsAlike e f → ExprsAlike (lower_element e k) (lower_element f k)
   element_alike e f k h = then_alike more OneType OneType e f _ _ h (λ a b p. then_of_type more OneType (λ t. part_type t k) a.ty b.ty _ _ p (λ t. both_there more OneType _ _ refl))
 
-  pub field_alike : (e f : Option LoweredExpr) (name : List ℕ) → ExprsAlike e f → ExprsAlike (field_lowered e name) (field_lowered f name)
-  field_alike e f name h = then_alike more OneType OneType e f _ _ h (λ a b p. then_of_type more OneType (λ t. field_place name (out-DslxType t)) a.ty b.ty _ _ p (λ k. both_there more OneType _ _ refl))
+  pub field_alike : (e f : Option LoweredExpr) (name : List ℕ) → ExprsAlike e f → ExprsAlike (lower_field e name) (lower_field f name)
+  field_alike e f name h = then_alike more OneType OneType e f _ _ h (λ a b p. then_of_type more OneType (λ t. field_index name (out-DslxType t)) a.ty b.ty _ _ p (λ k. both_there more OneType _ _ refl))
 
-  pub index_alike : (e f i j : Option LoweredExpr) → ExprsAlike e f → ExprsAlike i j → ExprsAlike (index_lowered e i) (index_lowered f j)
+  pub index_alike : (e f i j : Option LoweredExpr) → ExprsAlike e f → ExprsAlike i j → ExprsAlike (lower_index e i) (lower_index f j)
   index_alike e f i j h k = both_alike more OneType OneType OneType e f i j _ _ h k (λ a b c d p q. then_of_type more OneType array_in a.ty b.ty _ _ p (λ parts. both_there more OneType _ _ refl))
 
-  pub choice_alike : (c d a b x y : Option LoweredExpr) → ExprsAlike c d → ExprsAlike a b → ExprsAlike x y → ExprsAlike (choice_lowered c a x) (choice_lowered d b y)
+  pub choice_alike : (c d a b x y : Option LoweredExpr) → ExprsAlike c d → ExprsAlike a b → ExprsAlike x y → ExprsAlike (lower_choice c a x) (lower_choice d b y)
   choice_alike c d a b x y h k m =
       then_alike more OneType OneType c d _ _ h
       (λ c d p. both_alike more OneType OneType OneType a b x y _ _ k m (λ a b x y q r. there_under more OneType _ _ _ _ (λ i. equal_type (q i) (r i)) q))

@@ -7,10 +7,10 @@ use Rattle.dslx_meaning.specs.Meaning.{turn_count}
 use Rattle.dslx_meaning.specs.declared.ty.DslxType.{DslxType}
 use Rattle.dslx_meaning.specs.declared.value.SignedWord.{SignedWord}
 use Rattle.dslx_core.specs.declared.expr.Shape.{Shape}
-use Rattle.dslx_core.specs.Lowering.CorePlaces.{CorePlace}
+use Rattle.dslx_core.specs.Lowering.CoreScopes.{CoreScope}
 use Rattle.dslx_core.specs.Lowering.EqualTypes.{equal_type}
 use Rattle.dslx_core.specs.Lowering.Lowering.{LoweredExpr}
-use Rattle.dslx_core.specs.Lowering.Patterns.{LoweredArm, LoweredShape, Lowers, LowersArm, LowersPattern, alternatives_shaped, arm_lowered, arm_of, arms_of, binding_arm, let_lowered, loop_lowered, lowered_at_place, match_lowered, names_of_all}
+use Rattle.dslx_core.specs.Lowering.Patterns.{LoweredArm, LoweredShape, ExprLowering, ArmLowering, PatternLowering, alternatives_shaped, lower_arm, arm_of, arms_of, binding_arm, lower_let, lower_loop, lower_in_scope, lower_match, names_of_all}
 use Rattle.dslx_machines.specs.Machine.Callees.{CalleesByName, moved, with_callee}
 use Rattle.dslx_machines.proofs.Lemmas.Machine.Steady.{PatternIsSteady}
 use Rattle.dslx_machines.proofs.OnAlike.OfOperators.{ExprsAlike, OneType}
@@ -20,15 +20,15 @@ use Rattle.dslx_machines.proofs.OnAlike.Relation.{Alike, Each, EachAlike, all_al
 abbrev shape_with : CalleesByName → LoweredShape → LoweredShape
 shape_with c s = record { shape = s.shape; place = with_callee c s.place }
 
-abbrev pub EachIsSteady : List LowersPattern → Type 0
+abbrev pub EachIsSteady : List PatternLowering → Type 0
 EachIsSteady [] = Unit {0}
 EachIsSteady (p ∷ ps) = PatternIsSteady p × EachIsSteady ps
 
 -- alternatives become the same shapes whatever calls come to
-alternatives_move : (ps : List LowersPattern) → EachIsSteady ps → (place : CorePlace) (t : DslxType) (c : CalleesByName) → alternatives_shaped ps (with_callee c place) t ≡ alternatives_shaped ps place t
+alternatives_move : (ps : List PatternLowering) → EachIsSteady ps → (place : CoreScope) (t : DslxType) (c : CalleesByName) → alternatives_shaped ps (with_callee c place) t ≡ alternatives_shaped ps place t
 alternatives_move [] h place t c = refl
 alternatives_move (p ∷ ps) h place t c =
-    (λ i. with_both (h.0.moves place place t c i) (alternatives_move ps h.1 place t c i) (λ s ss. Some (s.shape ∷ ss))) ∙ by (lowered_at_place p place t) (alternatives_shaped ps place t)
+    (λ i. with_both (h.0.moves place place t c i) (alternatives_move ps h.1 place t c i) (λ s ss. Some (s.shape ∷ ss))) ∙ by (lower_in_scope p place t) (alternatives_shaped ps place t)
   where
     by : (o : Option LoweredShape) (q : Option (List Shape)) → with_both (moved c o) q (λ s ss. Some (s.shape ∷ ss)) ≡ with_both o q (λ s ss. Some (s.shape ∷ ss))
     by None q = refl
@@ -55,17 +55,17 @@ arms_alike more e f (a ∷ as') (b ∷ bs) h = there_under more OneType _ _ _ _ 
 
 module _ (more : Bool) (c d : CalleesByName) where
   -- what is lowered at each place is alike at the two
-  abbrev pub IsAlike : Lowers → Type 0
-  IsAlike l = (place : CorePlace) → ExprsAlike more (l (with_callee c place)) (l (with_callee d place))
+  abbrev pub IsAlike : ExprLowering → Type 0
+  IsAlike l = (place : CoreScope) → ExprsAlike more (l (with_callee c place)) (l (with_callee d place))
 
   -- what stands behind a pattern
-  behind_pattern : {A B : Type 0} (R : A → B → Type 0) (p : LowersPattern) → PatternIsSteady p → (place : CorePlace) (t u : DslxType) → t ≡ u → (f : LoweredShape → Option A) (g : LoweredShape → Option B)
+  behind_pattern : {A B : Type 0} (R : A → B → Type 0) (p : PatternLowering) → PatternIsSteady p → (place : CoreScope) (t u : DslxType) → t ≡ u → (f : LoweredShape → Option A) (g : LoweredShape → Option B)
       → ((s : LoweredShape) → Alike more R (f (shape_with c s)) (g (shape_with d s)))
-      → Alike more R (and_then (lowered_at_place p (with_callee c place) t) f) (and_then (lowered_at_place p (with_callee d place) u) g)
+      → Alike more R (and_then (lower_in_scope p (with_callee c place) t) f) (and_then (lower_in_scope p (with_callee d place) u) g)
   behind_pattern R p steady place t u q f g h =
-      subst (λ v. Alike more R (and_then (lowered_at_place p (with_callee c place) t) f) (and_then (lowered_at_place p (with_callee d place) v) g)) q
-      (subst (λ o. Alike more R (and_then o f) (and_then (lowered_at_place p (with_callee d place) t) g)) (sym (steady.moves place place t c))
-      (subst (λ o. Alike more R (and_then (moved c (lowered_at_place p place t)) f) (and_then o g)) (sym (steady.moves place place t d)) (by (lowered_at_place p place t))))
+      subst (λ v. Alike more R (and_then (lower_in_scope p (with_callee c place) t) f) (and_then (lower_in_scope p (with_callee d place) v) g)) q
+      (subst (λ o. Alike more R (and_then o f) (and_then (lower_in_scope p (with_callee d place) t) g)) (sym (steady.moves place place t c))
+      (subst (λ o. Alike more R (and_then (moved c (lower_in_scope p place t)) f) (and_then o g)) (sym (steady.moves place place t d)) (by (lower_in_scope p place t))))
     where
       by : (o : Option LoweredShape) → Alike more R (and_then (moved c o) f) (and_then (moved d o) g)
       by None = none_alike more R _
@@ -73,14 +73,14 @@ module _ (more : Bool) (c d : CalleesByName) where
 
   -- ---- blocks and loops
 
-  pub let_alike : (value : Lowers) (p : LowersPattern) (rest : Lowers) → IsAlike value → PatternIsSteady p → IsAlike rest → IsAlike (let_lowered value p rest)
+  pub let_alike : (value : ExprLowering) (p : PatternLowering) (rest : ExprLowering) → IsAlike value → PatternIsSteady p → IsAlike rest → IsAlike (lower_let value p rest)
   let_alike value p rest h steady k place =
       then_alike more OneType OneType _ _ _ _ (h place)
       (λ e f q. behind_pattern OneType p steady place e.ty f.ty q _ _ (λ s. then_alike more OneType OneType _ _ _ _ (k s.place) (λ r x i. both_there more OneType _ _ i)))
 
-  pub loop_alike : (start index : Lowers) (first end : Option SignedWord) (i acc : LowersPattern) (body : Lowers) (place : CorePlace) → IsAlike start → IsAlike index → PatternIsSteady i → PatternIsSteady acc → IsAlike body
-      → ExprsAlike more (loop_lowered (start (with_callee c place)) (index (with_callee c place)) first end i acc body (with_callee c place))
-      (loop_lowered (start (with_callee d place)) (index (with_callee d place)) first end i acc body (with_callee d place))
+  pub loop_alike : (start index : ExprLowering) (first end : Option SignedWord) (i acc : PatternLowering) (body : ExprLowering) (place : CoreScope) → IsAlike start → IsAlike index → PatternIsSteady i → PatternIsSteady acc → IsAlike body
+      → ExprsAlike more (lower_loop (start (with_callee c place)) (index (with_callee c place)) first end i acc body (with_callee c place))
+      (lower_loop (start (with_callee d place)) (index (with_callee d place)) first end i acc body (with_callee d place))
   loop_alike start index first end i acc body place h k steady_index steady_acc m =
       both_alike more OneType OneType OneType _ _ _ _ _ _ (h place) (k place)
       (λ s t x y p q. both_same more OneType first end _ _ (λ a b.
@@ -90,18 +90,18 @@ module _ (more : Bool) (c d : CalleesByName) where
 
   -- ---- matches
 
-  pub record ArmIsAlike (a : LowersArm) : Type 0 where
+  pub record ArmIsAlike (a : ArmLowering) : Type 0 where
     pub patterns : EachIsSteady a.patterns
     pub value : IsAlike a.value
 
-  abbrev pub EachArmIsAlike : List LowersArm → Type 0
+  abbrev pub EachArmIsAlike : List ArmLowering → Type 0
   EachArmIsAlike [] = Unit {0}
   EachArmIsAlike (a ∷ as') = ArmIsAlike a × EachArmIsAlike as'
 
   abbrev ArmsAlike : Option LoweredArm → Option LoweredArm → Type 0
   ArmsAlike o q = Alike more OneArmType o q
 
-  alternatives_alike : (a : LowersArm) → ArmIsAlike a → (place : CorePlace) (t u : DslxType) → t ≡ u
+  alternatives_alike : (a : ArmLowering) → ArmIsAlike a → (place : CoreScope) (t u : DslxType) → t ≡ u
       → ArmsAlike (with_both (alternatives_shaped a.patterns (with_callee c place) t) (a.value (with_callee c place)) arm_of) (with_both (alternatives_shaped a.patterns (with_callee d place) u) (a.value (with_callee d place)) arm_of)
   alternatives_alike a h place t u q =
       both_alike more (λ (s x : List Shape). s ≡ x) OneType OneArmType _ _ _ _ arm_of arm_of
@@ -111,14 +111,14 @@ module _ (more : Bool) (c d : CalleesByName) where
       same : alternatives_shaped a.patterns (with_callee c place) t ≡ alternatives_shaped a.patterns (with_callee d place) u
       same = alternatives_move a.patterns h.patterns place t c ∙ sym (alternatives_move a.patterns h.patterns place t d) ∙ ap (alternatives_shaped a.patterns (with_callee d place)) q
 
-  binding_alike : (ps : List LowersPattern) (value : Lowers) → EachIsSteady ps → IsAlike value → (place : CorePlace) (t u : DslxType) → t ≡ u
+  binding_alike : (ps : List PatternLowering) (value : ExprLowering) → EachIsSteady ps → IsAlike value → (place : CoreScope) (t u : DslxType) → t ≡ u
       → ArmsAlike (binding_arm ps value (with_callee c place) t) (binding_arm ps value (with_callee d place) u)
   binding_alike [] value steady h place t u q = none_alike more OneArmType _
   binding_alike (p ∷ x ∷ ps) value steady h place t u q = none_alike more OneArmType _
   binding_alike (p ∷ []) value steady h place t u q =
       behind_pattern OneArmType p steady.0 place t u q _ _ (λ s. then_alike more OneType OneArmType _ _ _ _ (h s.place) (λ e f i. both_there more OneArmType _ _ i))
 
-  arm_alike : (a : LowersArm) → ArmIsAlike a → (place : CorePlace) (t u : DslxType) → t ≡ u → ArmsAlike (arm_lowered a (with_callee c place) t) (arm_lowered a (with_callee d place) u)
+  arm_alike : (a : ArmLowering) → ArmIsAlike a → (place : CoreScope) (t u : DslxType) → t ≡ u → ArmsAlike (lower_arm a (with_callee c place) t) (lower_arm a (with_callee d place) u)
   arm_alike a h place t u q = by (list_all place.known.items.is_constant (names_of_all a.patterns))
     where
       by : (b : Bool)
@@ -127,13 +127,13 @@ module _ (more : Bool) (c d : CalleesByName) where
       by true = alternatives_alike a h place t u q
       by false = binding_alike a.patterns a.value h.patterns h.value place t u q
 
-  each_arm_alike : (as' : List LowersArm) → EachArmIsAlike as' → (place : CorePlace) (t u : DslxType) → t ≡ u
-      → EachAlike more OneArmType (map (λ (a : LowersArm). arm_lowered a (with_callee c place) t) as') (map (λ (a : LowersArm). arm_lowered a (with_callee d place) u) as')
+  each_arm_alike : (as' : List ArmLowering) → EachArmIsAlike as' → (place : CoreScope) (t u : DslxType) → t ≡ u
+      → EachAlike more OneArmType (map (λ (a : ArmLowering). lower_arm a (with_callee c place) t) as') (map (λ (a : ArmLowering). lower_arm a (with_callee d place) u) as')
   each_arm_alike [] h place t u q = tt
   each_arm_alike (a ∷ as') h place t u q = (arm_alike a h.0 place t u q, each_arm_alike as' h.1 place t u q)
 
-  pub match_alike : (value : Lowers) (as' : List LowersArm) → IsAlike value → EachArmIsAlike as' → (place : CorePlace)
-      → ExprsAlike more (match_lowered (value (with_callee c place)) as' (with_callee c place)) (match_lowered (value (with_callee d place)) as' (with_callee d place))
+  pub match_alike : (value : ExprLowering) (as' : List ArmLowering) → IsAlike value → EachArmIsAlike as' → (place : CoreScope)
+      → ExprsAlike more (lower_match (value (with_callee c place)) as' (with_callee c place)) (lower_match (value (with_callee d place)) as' (with_callee d place))
   match_alike value as' h k place =
       then_alike more OneType OneType _ _ _ _ (h place)
       (λ e f q. then_alike more (Each OneArmType) OneType _ _ _ _ (all_alike more OneArmType _ _ (each_arm_alike as' k place e.ty f.ty q)) (λ x y i. arms_alike more e f x y i))

@@ -14,7 +14,7 @@ use Rattle.dslx_meaning.specs.declared.value.DslxValue.{DslxValue}
 use Rattle.dslx_meaning.specs.Rules.EqualValues.{equal_value}
 use Rattle.dslx_typing.proofs.Lemmas.Laws.{and_true}
 use Rattle.dslx_typing.proofs.Lemmas.Typed.{none_some, same_some}
-use Rattle.dslx_core.specs.Lowering.Functions.{CoreInstance, Instantiated, LoweredFunction, instance_in, instance_known, instance_lowered, instances_from, is_instance, next_instance}
+use Rattle.dslx_core.specs.Lowering.Functions.{CoreInstance, Instantiated, LoweredFunction, instance_in, instance_globals, lower_instance, instances_from, is_instance, next_instance}
 use Rattle.dslx_core.proofs.Lemmas.Lowering.{all_one_number, from_then}
 use Rattle.dslx_machines.specs.Machine.Reached.{IsTable}
 use Rattle.dslx_machines.proofs.Lemmas.Machine.Instances.{table_further}
@@ -27,7 +27,7 @@ use Rattle.dslx_machines.proofs.OnAlike.Relation.{from_agreeing, from_more, ther
 
 -- by what it is found
 abbrev pub key_of : CoreInstance → Instantiated
-key_of c = record { name = c.name; numbers = c.numbers }
+key_of c = record { name = c.name; parametric_args = c.parametric_args }
 
 -- each of the rest is made of those before it
 abbrev pub EachIsMade : Module → Meanings → List CoreInstance → List CoreInstance → Type 0
@@ -38,9 +38,9 @@ module _ (m : Module) (items : Meanings) where
   -- what is made is the instance that was wanted
   pub made_as : (before : List CoreInstance) (i : Instantiated) (c : CoreInstance) → next_instance m items before i ≡ Some c → key_of c ≡ i
   made_as before i c e =
-      let f = from_then (as_function (item_named i.name m.items)) (λ f. and_then (instance_lowered (instance_known m items before f i.numbers) f) (λ l. Some (record { name = i.name; numbers = i.numbers; function = l }))) c e in
-      let l = from_then (instance_lowered (instance_known m items before f.0 i.numbers) f.0) (λ (l : LoweredFunction). Some (record { name = i.name; numbers = i.numbers; function = l })) c f.2 in
-      ap key_of (sym (same_some (record { name = i.name; numbers = i.numbers; function = l.0 }) c l.2))
+      let f = from_then (as_function (item_named i.name m.items)) (λ f. and_then (lower_instance (instance_globals m items before f i.parametric_args) f) (λ l. Some (record { name = i.name; parametric_args = i.parametric_args; function = l }))) c e in
+      let l = from_then (lower_instance (instance_globals m items before f.0 i.parametric_args) f.0) (λ (l : LoweredFunction). Some (record { name = i.name; parametric_args = i.parametric_args; function = l })) c f.2 in
+      ap key_of (sym (same_some (record { name = i.name; parametric_args = i.parametric_args; function = l.0 }) c l.2))
 
   record MadeBehind (before table : List CoreInstance) : Type 0 where
     rest : List CoreInstance
@@ -83,15 +83,15 @@ module _ (m : Module) (items : Meanings) where
     pub made : next_instance m items (before ++ front) i ≡ Some p.1
     pub each : EachIsMade m items before front
 
-  pub found_there : (before rest : List CoreInstance) → EachIsMade m items before rest → (i : Instantiated) (n : ℕ) (p : ℕ × CoreInstance) → instance_in i.name i.numbers n rest ≡ Some p → FoundThere before rest i n p
+  pub found_there : (before rest : List CoreInstance) → EachIsMade m items before rest → (i : Instantiated) (n : ℕ) (p : ℕ × CoreInstance) → instance_in i.name i.parametric_args n rest ≡ Some p → FoundThere before rest i n p
   found_there before [] each i n p e = none_some p e
-  found_there before (c ∷ rest) each i n p e = by (is_instance i.name i.numbers c) refl e (found_there (before ++ c ∷ []) rest each.1 i (suc n) p)
+  found_there before (c ∷ rest) each i n p e = by (is_instance i.name i.parametric_args c) refl e (found_there (before ++ c ∷ []) rest each.1 i (suc n) p)
     where
-      by : (b : Bool) → is_instance i.name i.numbers c ≡ b → (if b then Some (n, c) else instance_in i.name i.numbers (suc n) rest) ≡ Some p
-          → (instance_in i.name i.numbers (suc n) rest ≡ Some p → FoundThere (before ++ c ∷ []) rest i (suc n) p) → FoundThere before (c ∷ rest) i n p
+      by : (b : Bool) → is_instance i.name i.parametric_args c ≡ b → (if b then Some (n, c) else instance_in i.name i.parametric_args (suc n) rest) ≡ Some p
+          → (instance_in i.name i.parametric_args (suc n) rest ≡ Some p → FoundThere (before ++ c ∷ []) rest i (suc n) p) → FoundThere before (c ∷ rest) i n p
       by true q e further =
-          let t = and_true (bytes_eq i.name c.name) (pairwise equal_value i.numbers c.numbers) q in
-          let key : i ≡ key_of c = λ k. record { name = (bytes_eq-Decides i.name c.name).0 t.0 k; numbers = all_one_number i.numbers c.numbers t.1 k } in
+          let t = and_true (bytes_eq i.name c.name) (pairwise equal_value i.parametric_args c.parametric_args) q in
+          let key : i ≡ key_of c = λ k. record { name = (bytes_eq-Decides i.name c.name).0 t.0 k; parametric_args = all_one_number i.parametric_args c.parametric_args t.1 k } in
           subst (FoundThere before (c ∷ rest) i n) (same_some (n, c) p e)
           (record { front = []; back = rest; is = refl; place = omega arith; made = ap (λ t. next_instance m items t i) (append-nil before) ∙ ap (next_instance m items before) key ∙ each.0; each = tt })
       by false q e further =
@@ -115,38 +115,38 @@ module _ (m : Module) (items : Meanings) where
 
   -- by the number of instances before it
   one_type : (k : ℕ) (a b : List CoreInstance) → length a ≤ k → EachIsMade m items [] a → EachIsMade m items [] b → (i : Instantiated) (p q : ℕ × CoreInstance)
-      → instance_in i.name i.numbers 0 a ≡ Some p → instance_in i.name i.numbers 0 b ≡ Some q → OfOneType p.1 q.1
+      → instance_in i.name i.parametric_args 0 a ≡ Some p → instance_in i.name i.parametric_args 0 b ≡ Some q → OfOneType p.1 q.1
   one_type zero [] b l made made' i p q e h = none_some p e
   one_type zero (c ∷ a) b l made made' i p q e h = absurd (omega (arith, l))
   one_type (suc k) a b l made made' i p q e h =
       let x = found_there [] a made i 0 p e in
       let y = found_there [] b made' i 0 q h in
       let agree : TablesAlike false x.front y.front =
-      λ name numbers. from_agreeing (λ (p q : ℕ × CoreInstance). OfOneType p.1 q.1) (instance_in name numbers 0 x.front) (instance_in name numbers 0 y.front)
-      (one_type k x.front y.front (shorter a x.front x.back p.1 k x.is l) x.each y.each (record { name = name; numbers = numbers })) in
+      λ name parametric_args. from_agreeing (λ (p q : ℕ × CoreInstance). OfOneType p.1 q.1) (instance_in name parametric_args 0 x.front) (instance_in name parametric_args 0 y.front)
+      (one_type k x.front y.front (shorter a x.front x.back p.1 k x.is l) x.each y.each (record { name = name; parametric_args = parametric_args })) in
       where_both OfOneType _ _ (next_alike false m items x.front y.front (calls_by_tables false m items x.front y.front agree) i) p.1 q.1 x.made y.made
 
   pub found_one_type : (a b : List CoreInstance) → EachIsMade m items [] a → EachIsMade m items [] b → (i : Instantiated) (p q : ℕ × CoreInstance)
-      → instance_in i.name i.numbers 0 a ≡ Some p → instance_in i.name i.numbers 0 b ≡ Some q → OfOneType p.1 q.1
+      → instance_in i.name i.parametric_args 0 a ≡ Some p → instance_in i.name i.parametric_args 0 b ≡ Some q → OfOneType p.1 q.1
   found_one_type a b = one_type (length a) a b (omega arith)
 
 -- ---- whether an instance is in a table
 
-pub found_has : (name : List ℕ) (numbers : List DslxValue) (n : ℕ) (table : List CoreInstance) (p : ℕ × CoreInstance) → instance_in name numbers n table ≡ Some p → has_instance name numbers table ≡ true
-found_has name numbers n [] p e = none_some p e
-found_has name numbers n (c ∷ table) p e = by (is_instance name numbers c) e (found_has name numbers (suc n) table p)
+pub found_has : (name : List ℕ) (parametric_args : List DslxValue) (n : ℕ) (table : List CoreInstance) (p : ℕ × CoreInstance) → instance_in name parametric_args n table ≡ Some p → has_instance name parametric_args table ≡ true
+found_has name parametric_args n [] p e = none_some p e
+found_has name parametric_args n (c ∷ table) p e = by (is_instance name parametric_args c) e (found_has name parametric_args (suc n) table p)
   where
-    by : (b : Bool) → (if b then Some (n, c) else instance_in name numbers (suc n) table) ≡ Some p → (instance_in name numbers (suc n) table ≡ Some p → has_instance name numbers table ≡ true)
-        → (b || has_instance name numbers table) ≡ true
+    by : (b : Bool) → (if b then Some (n, c) else instance_in name parametric_args (suc n) table) ≡ Some p → (instance_in name parametric_args (suc n) table ≡ Some p → has_instance name parametric_args table ≡ true)
+        → (b || has_instance name parametric_args table) ≡ true
     by true e rest = refl
     by false e rest = rest e
 
-pub has_found : (name : List ℕ) (numbers : List DslxValue) (n : ℕ) (table : List CoreInstance) → has_instance name numbers table ≡ true → (p : ℕ × CoreInstance) × (instance_in name numbers n table ≡ Some p)
-has_found name numbers n [] e = absurd (true≢false (sym e))
-has_found name numbers n (c ∷ table) e = by (is_instance name numbers c) e (has_found name numbers (suc n) table)
+pub has_found : (name : List ℕ) (parametric_args : List DslxValue) (n : ℕ) (table : List CoreInstance) → has_instance name parametric_args table ≡ true → (p : ℕ × CoreInstance) × (instance_in name parametric_args n table ≡ Some p)
+has_found name parametric_args n [] e = absurd (true≢false (sym e))
+has_found name parametric_args n (c ∷ table) e = by (is_instance name parametric_args c) e (has_found name parametric_args (suc n) table)
   where
-    by : (b : Bool) → (b || has_instance name numbers table) ≡ true → (has_instance name numbers table ≡ true → (p : ℕ × CoreInstance) × (instance_in name numbers (suc n) table ≡ Some p))
-        → (p : ℕ × CoreInstance) × ((if b then Some (n, c) else instance_in name numbers (suc n) table) ≡ Some p)
+    by : (b : Bool) → (b || has_instance name parametric_args table) ≡ true → (has_instance name parametric_args table ≡ true → (p : ℕ × CoreInstance) × (instance_in name parametric_args (suc n) table ≡ Some p))
+        → (p : ℕ × CoreInstance) × ((if b then Some (n, c) else instance_in name parametric_args (suc n) table) ≡ Some p)
     by true e rest = ((n, c), refl)
     by false e rest = rest e
 
@@ -154,20 +154,20 @@ has_found name numbers n (c ∷ table) e = by (is_instance name numbers c) e (ha
 
 -- the second has the instances of the first
 abbrev pub HasThose : List CoreInstance → List CoreInstance → Type 0
-HasThose before table = (name : List ℕ) (numbers : List DslxValue) → has_instance name numbers before ≡ true → has_instance name numbers table ≡ true
+HasThose before table = (name : List ℕ) (parametric_args : List DslxValue) → has_instance name parametric_args before ≡ true → has_instance name parametric_args table ≡ true
 
 module _ (m : Module) (items : Meanings) where
   pub more_tables_alike : (before table : List CoreInstance) → EachIsMade m items [] before → EachIsMade m items [] table → HasThose before table → TablesAlike true before table
-  more_tables_alike before table made made' has name numbers =
-      from_more (λ (p q : ℕ × CoreInstance). OfOneType p.1 q.1) (instance_in name numbers 0 before) (instance_in name numbers 0 table)
-      (λ p e. let q = has_found name numbers 0 table (has name numbers (found_has name numbers 0 before p e)) in
-      (q.0, q.1, found_one_type m items before table made made' (record { name = name; numbers = numbers }) p q.0 e q.1))
+  more_tables_alike before table made made' has name parametric_args =
+      from_more (λ (p q : ℕ × CoreInstance). OfOneType p.1 q.1) (instance_in name parametric_args 0 before) (instance_in name parametric_args 0 table)
+      (λ p e. let q = has_found name parametric_args 0 table (has name parametric_args (found_has name parametric_args 0 before p e)) in
+      (q.0, q.1, found_one_type m items before table made made' (record { name = name; parametric_args = parametric_args }) p q.0 e q.1))
 
   -- a table behind which the instances of another were made again
   record Extended (table rest : List CoreInstance) : Type 0 where
     more : List CoreInstance
     is_table : IsTable m items (table ++ more)
-    has : (name : List ℕ) (numbers : List DslxValue) → has_instance name numbers (table ++ more) ≡ (has_instance name numbers table || has_instance name numbers rest)
+    has : (name : List ℕ) (parametric_args : List DslxValue) → has_instance name parametric_args (table ++ more) ≡ (has_instance name parametric_args table || has_instance name parametric_args rest)
 
   or_nothing : (a : Bool) → (a || false) ≡ a
   or_nothing true = refl
@@ -184,27 +184,27 @@ module _ (m : Module) (items : Meanings) where
   extended before [] table made each is has = record {
     more = [];
     is_table = subst (IsTable m items) (sym (append-nil table)) is;
-    has = λ name numbers. ap (has_instance name numbers) (append-nil table) ∙ sym (or_nothing (has_instance name numbers table));
+    has = λ name parametric_args. ap (has_instance name parametric_args) (append-nil table) ∙ sym (or_nothing (has_instance name parametric_args table));
   }
   extended before (c ∷ rest) table made each is has =
       let alike = next_alike true m items before table (calls_by_tables true m items before table (more_tables_alike before table made (table_made m items table is) has)) (key_of c) in
       let d = there_too OfOneType _ _ alike c each.0 in
       let key : key_of d.0 ≡ key_of c = made_as m items table (key_of c) d.0 d.1 in
-      let same : (name : List ℕ) (numbers : List DslxValue) → is_instance name numbers c ≡ is_instance name numbers d.0 =
-      λ name numbers. ap (λ (i : Instantiated). bytes_eq name i.name && pairwise equal_value numbers i.numbers) (sym key) in
+      let same : (name : List ℕ) (parametric_args : List DslxValue) → is_instance name parametric_args c ≡ is_instance name parametric_args d.0 =
+      λ name parametric_args. ap (λ (i : Instantiated). bytes_eq name i.name && pairwise equal_value parametric_args i.parametric_args) (sym key) in
       let r = extended (before ++ c ∷ []) rest (table ++ d.0 ∷ []) (one_more_made m items [] before c made each.0) each.1 (table_further m items table (key_of c) d.0 is d.1)
-      (λ name numbers e. list_any-append (is_instance name numbers) table (d.0 ∷ [])
-      ∙ either _ _ _ _ (has name numbers) (λ k. ap (λ b. b || false) (sym (same name numbers)) ∙ k) (sym (list_any-append (is_instance name numbers) before (c ∷ [])) ∙ e)) in
+      (λ name parametric_args e. list_any-append (is_instance name parametric_args) table (d.0 ∷ [])
+      ∙ either _ _ _ _ (has name parametric_args) (λ k. ap (λ b. b || false) (sym (same name parametric_args)) ∙ k) (sym (list_any-append (is_instance name parametric_args) before (c ∷ [])) ∙ e)) in
       record {
         more = d.0 ∷ r.more;
         is_table = subst (IsTable m items) (append_assoc table (d.0 ∷ []) r.more) r.is_table;
-        has = λ name numbers. ap (has_instance name numbers) (sym (append_assoc table (d.0 ∷ []) r.more)) ∙ r.has name numbers
-            ∙ ap (λ b. b || has_instance name numbers rest) (list_any-append (is_instance name numbers) table (d.0 ∷ []))
-            ∙ or_assoc (has_instance name numbers table) (is_instance name numbers d.0 || false) (has_instance name numbers rest)
-            ∙ ap (λ b. has_instance name numbers table || (b || has_instance name numbers rest)) (or_nothing (is_instance name numbers d.0) ∙ sym (same name numbers));
+        has = λ name parametric_args. ap (has_instance name parametric_args) (sym (append_assoc table (d.0 ∷ []) r.more)) ∙ r.has name parametric_args
+            ∙ ap (λ b. b || has_instance name parametric_args rest) (list_any-append (is_instance name parametric_args) table (d.0 ∷ []))
+            ∙ or_assoc (has_instance name parametric_args table) (is_instance name parametric_args d.0 || false) (has_instance name parametric_args rest)
+            ∙ ap (λ b. has_instance name parametric_args table || (b || has_instance name parametric_args rest)) (or_nothing (is_instance name parametric_args d.0) ∙ sym (same name parametric_args));
       }
 
   pub joined : (first second : List CoreInstance) → IsTable m items first → IsTable m items second → JoinedTable m items first second
   joined first second is is' =
-      let r = extended [] second first tt (table_made m items second is') is (λ name numbers e. absurd (true≢false (sym e))) in
+      let r = extended [] second first tt (table_made m items second is') is (λ name parametric_args e. absurd (true≢false (sym e))) in
       record { table = first ++ r.more; is_table = r.is_table; begins = record { more = r.more; is = refl }; has = r.has }

@@ -12,13 +12,13 @@ use Rattle.dslx_tree.specs.declared.item.Function.{Function}
 use Rattle.dslx_tree.specs.declared.type_expr.TypeExpr.{TypeExpr}
 use Rattle.dslx_meaning.specs.Callees as k
 use Rattle.dslx_meaning.specs.Callees.{CallKind, kind_of_call}
-use Rattle.dslx_meaning.specs.Items.{all_numbers, as_function, inferred_from, item_named}
+use Rattle.dslx_meaning.specs.Items.{all_parametric_args, as_function, inferred_from, item_named}
 use Rattle.dslx_meaning.specs.Lists.{all_some, and_then, is_in, with_both}
-use Rattle.dslx_meaning.specs.Meaning.{meant}
+use Rattle.dslx_meaning.specs.Meaning.{denotation}
 use Rattle.dslx_meaning.specs.declared.ty.DslxType.{DslxType, out-DslxType}
 use Rattle.dslx_meaning.specs.declared.ty.DslxType as ty
 use Rattle.dslx_meaning.specs.declared.ty.DslxType.TheOpen.{DslxType-F}
-use Rattle.dslx_meaning.specs.declared.value.Bare.{Bare}
+use Rattle.dslx_meaning.specs.declared.value.UntypedLiteral.{UntypedLiteral}
 use Rattle.dslx_meaning.specs.declared.value.DslxValue.{DslxValue}
 use Rattle.dslx_meaning.specs.Rules.AggregateRules.{array_in}
 use Rattle.dslx_core.specs.declared.expr.CoreUnary.{CoreUnary}
@@ -26,18 +26,18 @@ use Rattle.dslx_core.specs.declared.expr.CoreUnary.TheVariants as u
 use Rattle.dslx_core.specs.declared.expr.CoreExpr as core
 use Rattle.dslx_core.specs.declared.expr.Shape as shape
 use Rattle.dslx_const_machine.specs.Layers.{field_among}
-use Rattle.dslx_core.specs.Lowering.CorePlaces.{CoreCallee, CorePlace, with_unnamed}
+use Rattle.dslx_core.specs.Lowering.CoreScopes.{CoreCallee, CoreScope, with_unnamed}
 use Rattle.dslx_core.specs.Lowering.Functions.{CoreInstance, callee_in, callee_of, instance_in}
-use Rattle.dslx_core.specs.Lowering.Lowering.{LoweredExpr, call_lowered, cores_of, counted_lowered, field_lowered, lowered, name_lowered, number_lowered, reduced_lowered, tuple_lowered, types_of_lowered, updated_lowered}
-use Rattle.dslx_core.specs.Lowering.Trees.{LowersField, array_lowered, element_or_number, elements_lowered, expression_lowered, field_or_other, fields_lowered, filled_lowered, names_written, of_type, struct_fields, struct_lowered_in, type_of_text_lowered, value_written, with_others, without_others}
-use Rattle.dslx_machines.specs.Machine.Tasks.{PartsMaker, MakesTuple, MakesArray, Fills, CallsWith, StructWork, LowersExpr, Gathers, GathersFields, TakesOthers, MakesBind, CallsInstance, OpenBody, InstanceSight}
-use Rattle.dslx_machines.specs.Machine.Bodies.{doing, place_in, restores, unnamed}
+use Rattle.dslx_core.specs.Lowering.Lowering.{LoweredExpr, lower_call, cores_of, lower_counted, lower_field, lowered, lower_name, lower_number, lower_reduced, lower_tuple, types_of_lowered, lower_updated}
+use Rattle.dslx_core.specs.Lowering.Trees.{FieldLowering, lower_array, element_or_number, lower_array_elements, lower_expression, field_or_other, lower_fields, lower_filled, names_written, of_type, struct_fields, lower_struct_in, lower_type_of_text, value_written, with_others, without_others}
+use Rattle.dslx_machines.specs.Machine.Tasks.{PartsMaker, MakesTuple, MakesArray, Fills, CallsWith, StructWork, LowersExpr, Gathers, GathersFields, TakesOthers, MakesBind, CallsInstance, OpenBody, InstanceEnv}
+use Rattle.dslx_machines.specs.Machine.Bodies.{doing, scope_in, restores, unnamed}
 use Rattle.dslx_machines.specs.Machine.Parts as s
-use Rattle.dslx_machines.specs.Machine.Parts.{names_of_fields, numbers_at, part_taken}
-use Rattle.dslx_machines.proofs.OnMachine.Becomes.{all_become, array_type_at, element_pair, field_becomes, field_by_parts, field_opened, field_value_becomes}
+use Rattle.dslx_machines.specs.Machine.Parts.{names_of_fields, parametric_args_at, part_taken}
+use Rattle.dslx_machines.proofs.OnMachine.LowersTo.{all_become, array_type_at, element_pair, field_lowers_to, field_by_parts, field_opened, field_value_lowers_to}
 use Rattle.dslx_machines.specs.Machine.Reached.{at_table}
 use Rattle.dslx_machines.proofs.Lemmas.Machine.Options.{all_there, first_of_all, gives_itself, in_turn, nothing_behind}
-use Rattle.dslx_machines.proofs.Lemmas.Machine.Places.{does_all, end_of_next, fields_in, list_in, made_in, makes, part_in, spot_of}
+use Rattle.dslx_machines.proofs.Lemmas.Machine.Scopes.{does_all, end_of_next, fields_in, list_in, made_in, makes, part_in, spot_of}
 use Rattle.dslx_machines.proofs.OnMachine.Sequels.{back_from_unnamed, gives_keep, taken_next}
 use Rattle.dslx_machines.proofs.Lemmas.Machine.Steady.{type_anywhere}
 
@@ -55,19 +55,19 @@ two_or_more o p os f is =
     ∙ (λ i. and_then o (λ a. and_then p (λ b. nothing_behind {B = LoweredExpr} (all_some os) i)))
     ∙ (λ i. and_then o (λ a. nothing_behind {B = LoweredExpr} p i)) ∙ nothing_behind o)
 
-counted_strict : (o : CoreUnary) (os : List (Option LoweredExpr)) → counted_lowered o os ≡ and_then (all_some os) (λ es. counted_lowered o (map Some es))
+counted_strict : (o : CoreUnary) (os : List (Option LoweredExpr)) → lower_counted o os ≡ and_then (all_some os) (λ es. lower_counted o (map Some es))
 counted_strict o [] = refl
 counted_strict o (None ∷ []) = refl
 counted_strict o (Some a ∷ []) = refl
-counted_strict o (a ∷ b ∷ os) = two_or_more a b os (λ es. counted_lowered o (map Some es)) (λ a b es. refl)
+counted_strict o (a ∷ b ∷ os) = two_or_more a b os (λ es. lower_counted o (map Some es)) (λ a b es. refl)
 
-reduced_strict : (o : CoreUnary) (os : List (Option LoweredExpr)) → reduced_lowered o os ≡ and_then (all_some os) (λ es. reduced_lowered o (map Some es))
+reduced_strict : (o : CoreUnary) (os : List (Option LoweredExpr)) → lower_reduced o os ≡ and_then (all_some os) (λ es. lower_reduced o (map Some es))
 reduced_strict o [] = refl
 reduced_strict o (None ∷ []) = refl
 reduced_strict o (Some a ∷ []) = refl
-reduced_strict o (a ∷ b ∷ os) = two_or_more a b os (λ es. reduced_lowered o (map Some es)) (λ a b es. refl)
+reduced_strict o (a ∷ b ∷ os) = two_or_more a b os (λ es. lower_reduced o (map Some es)) (λ a b es. refl)
 
-updated_strict : (os : List (Option LoweredExpr)) → updated_lowered os ≡ and_then (all_some os) (λ es. updated_lowered (map Some es))
+updated_strict : (os : List (Option LoweredExpr)) → lower_updated os ≡ and_then (all_some os) (λ es. lower_updated (map Some es))
 updated_strict [] = refl
 updated_strict (None ∷ []) = refl
 updated_strict (Some a ∷ []) = refl
@@ -81,23 +81,23 @@ updated_strict (Some a ∷ None ∷ Some c ∷ []) = refl
 updated_strict (Some a ∷ Some b ∷ None ∷ []) = refl
 updated_strict (Some a ∷ Some b ∷ Some c ∷ []) = refl
 updated_strict (a ∷ b ∷ c ∷ d ∷ os) =
-    sym (first_of_all a (b ∷ c ∷ d ∷ os) (λ es. updated_lowered (map Some es))
-    ∙ (λ i. and_then a (λ x. first_of_all b (c ∷ d ∷ os) (λ es. updated_lowered (Some x ∷ map Some es)) i))
-    ∙ (λ i. and_then a (λ x. and_then b (λ y. sym (two_or_more c d os (λ es. updated_lowered (Some x ∷ Some y ∷ map Some es)) (λ z w es. refl)) i)))
+    sym (first_of_all a (b ∷ c ∷ d ∷ os) (λ es. lower_updated (map Some es))
+    ∙ (λ i. and_then a (λ x. first_of_all b (c ∷ d ∷ os) (λ es. lower_updated (Some x ∷ map Some es)) i))
+    ∙ (λ i. and_then a (λ x. and_then b (λ y. sym (two_or_more c d os (λ es. lower_updated (Some x ∷ Some y ∷ map Some es)) (λ z w es. refl)) i)))
     ∙ (λ i. and_then a (λ x. nothing_behind {B = LoweredExpr} b i)) ∙ nothing_behind a)
 
 joins_strict : (os : List (Option LoweredExpr)) → and_then (all_some os) (λ es. lowered (core.Tuple []) ty.Token) ≡ and_then (all_some os) (λ es. and_then (all_some (map Some es)) (λ es. lowered (core.Tuple []) ty.Token))
 joins_strict os = λ i. and_then (all_some os) (λ es. and_then (sym (all_there es) i) (λ es. lowered (core.Tuple []) ty.Token))
 
-function_strict : (place : CorePlace) (name : List ℕ) (ns : Option (List DslxValue)) (os : Option (List LoweredExpr)) (f : List DslxValue → List LoweredExpr → Option LoweredExpr)
+function_strict : (place : CoreScope) (name : List ℕ) (ns : Option (List DslxValue)) (os : Option (List LoweredExpr)) (f : List DslxValue → List LoweredExpr → Option LoweredExpr)
     → with_both ns os f ≡ and_then os (λ es. with_both ns (all_some (map Some es)) f)
 function_strict place name None None f = refl
 function_strict place name None (Some es) f = refl
 function_strict place name (Some ns) None f = refl
 function_strict place name (Some ns) (Some es) f = ap (λ o. with_both (Some ns) o f) (sym (all_there es))
 
-call_strict : (kind : CallKind) (name : List ℕ) (place : CorePlace) (ns : List (Option DslxValue)) (os : List (Option LoweredExpr))
-    → call_lowered kind name place ns os ≡ and_then (all_some os) (λ es. call_lowered kind name place ns (map Some es))
+call_strict : (kind : CallKind) (name : List ℕ) (place : CoreScope) (ns : List (Option DslxValue)) (os : List (Option LoweredExpr))
+    → lower_call kind name place ns os ≡ and_then (all_some os) (λ es. lower_call kind name place ns (map Some es))
 call_strict k.Joins name place ns os = joins_strict os
 call_strict k.Receives name place ns os = sym (nothing_behind (all_some os))
 call_strict k.ReceivesIf name place ns os = sym (nothing_behind (all_some os))
@@ -111,15 +111,15 @@ call_strict k.SomeOne name place ns os = reduced_strict u.OrReduce os
 call_strict k.Parity name place ns os = reduced_strict u.XorReduce os
 call_strict k.Updates name place ns os = updated_strict os
 call_strict k.Calls name place ns os =
-    function_strict place name (all_some ns) (all_some os) (λ numbers es. and_then (place.known.callee name numbers (types_of_lowered es)) (λ callee. lowered (core.Call callee.number (cores_of es)) callee.result))
+    function_strict place name (all_some ns) (all_some os) (λ parametric_args es. and_then (place.known.callee name parametric_args (types_of_lowered es)) (λ callee. lowered (core.Call callee.number (cores_of es)) callee.result))
 
 -- ---- a part and those behind it
 
-abbrev element_begun : DslxType → Option Bare → Option LoweredExpr → Option LoweredExpr
+abbrev element_begun : DslxType → Option UntypedLiteral → Option LoweredExpr → Option LoweredExpr
 element_begun t None e = e
-element_begun t (Some number) e = number_lowered (Some t) number
+element_begun t (Some number) e = lower_number (Some t) number
 
-element_is : (t : DslxType) (o : Option Bare) (e : Option LoweredExpr) → and_then (element_begun t o e) (λ e. of_type t (Some e)) ≡ element_or_number t o e
+element_is : (t : DslxType) (o : Option UntypedLiteral) (e : Option LoweredExpr) → and_then (element_begun t o e) (λ e. of_type t (Some e)) ≡ element_or_number t o e
 element_is t None e = refl
 element_is t (Some number) e = refl
 
@@ -139,115 +139,115 @@ next_field t (Some r) rest before u = by (of_type t (Some r)) rest
 
 -- ---- names of fields
 
-names_are : (fs : List FieldValue) → names_written (map field_becomes fs) ≡ names_of_fields fs
-names_are fs = map-map (λ (f : LowersField). f.name) field_becomes fs ∙ (λ i. map (λ f. (field_opened f i).name) fs)
+names_are : (fs : List FieldValue) → names_written (map field_lowers_to fs) ≡ names_of_fields fs
+names_are fs = map-map (λ (f : FieldLowering). f.name) field_lowers_to fs ∙ (λ i. map (λ f. (field_opened f i).name) fs)
 
-written_is : (field : List ℕ) (fields : List FieldValue) → value_written field (map field_becomes fields) ≡ option_map (λ f. (field_by_parts f).value) (field_among field fields)
+written_is : (field : List ℕ) (fields : List FieldValue) → value_written field (map field_lowers_to fields) ≡ option_map (λ f. (field_by_parts f).value) (field_among field fields)
 written_is field [] = refl
 written_is field (f ∷ fs) =
-    ap (λ (x : LowersField). if is_in field (x.name ∷ []) then Some x.value else value_written field (map field_becomes fs)) (field_opened f)
+    ap (λ (x : FieldLowering). if is_in field (x.name ∷ []) then Some x.value else value_written field (map field_lowers_to fs)) (field_opened f)
     ∙ by (bytes_eq field (out-FieldValue f).name.name) (written_is field fs)
   where
-    by : (b : Bool) → value_written field (map field_becomes fs) ≡ option_map (λ g. (field_by_parts g).value) (field_among field fs)
-        → (if (if b then true else false) then Some (field_by_parts f).value else value_written field (map field_becomes fs))
+    by : (b : Bool) → value_written field (map field_lowers_to fs) ≡ option_map (λ g. (field_by_parts g).value) (field_among field fs)
+        → (if (if b then true else false) then Some (field_by_parts f).value else value_written field (map field_lowers_to fs))
         ≡ option_map (λ g. (field_by_parts g).value) (if b then Some f else field_among field fs)
     by true rest = refl
     by false rest = rest
 
 -- ---- steps
 
-module _ (sight : InstanceSight) (table : List CoreInstance) where
-  abbrev at : InstanceSight
-  at = at_table sight table
+module _ (context : InstanceEnv) (table : List CoreInstance) where
+  abbrev at : InstanceEnv
+  at = at_table context table
 
   -- what comes of a step, by what is made
-  abbrev Comes : Option OpenBody → Option LoweredExpr → OpenBody → Type 0
-  Comes next o body = end_of_next at next ≡ and_then (makes o (spot_of at body)) (does_all at body.todo)
+  abbrev TableResult : Option OpenBody → Option LoweredExpr → OpenBody → Type 0
+  TableResult next o body = end_of_next at next ≡ and_then (makes o (spot_of at body)) (does_all at body.todo)
 
-  abbrev place : OpenBody → CorePlace
-  place body = place_in at body
+  abbrev place : OpenBody → CoreScope
+  place body = scope_in at body
 
   -- ---- calls
 
-  abbrev numbers_of : List LoweredExpr → List DslxValue → Function → Option (List DslxValue)
-  numbers_of es given f = all_numbers sight.items (inferred_from f.arguments (types_of_lowered es)) [] f.parameters given
+  abbrev parametric_args_of : List LoweredExpr → List DslxValue → Function → Option (List DslxValue)
+  parametric_args_of es given f = all_parametric_args context.items (inferred_from f.arguments (types_of_lowered es)) [] f.parametrics given
 
   calls_function_keeps : (name : List ℕ) (es : List LoweredExpr) (given : List DslxValue) (body : OpenBody)
-      → Comes (s.calls_function sight name es given body) (and_then (callee_in sight.text sight.items table name given (types_of_lowered es)) (λ callee. lowered (core.Call callee.number (cores_of es)) callee.result)) body
-  calls_function_keeps name es given body = by (as_function (item_named name sight.text.items))
+      → TableResult (s.calls_function context name es given body) (and_then (callee_in context.text context.items table name given (types_of_lowered es)) (λ callee. lowered (core.Call callee.number (cores_of es)) callee.result)) body
+  calls_function_keeps name es given body = by (as_function (item_named name context.text.items))
     where
       calls : List DslxValue → Option OpenBody
-      calls numbers = Some (doing (CallsInstance (record { name = name; numbers = numbers }) es ∷ []) body)
+      calls parametric_args = Some (doing (CallsInstance (record { name = name; parametric_args = parametric_args }) es ∷ []) body)
 
       found : List DslxValue → Option CoreCallee
-      found numbers = and_then (instance_in name numbers 0 table) (callee_of (types_of_lowered es))
+      found parametric_args = and_then (instance_in name parametric_args 0 table) (callee_of (types_of_lowered es))
 
       call : CoreCallee → Option LoweredExpr
       call callee = lowered (core.Call callee.number (cores_of es)) callee.result
 
-      by_numbers : (q : Option (List DslxValue)) → Comes (and_then q calls) (and_then (and_then q found) call) body
-      by_numbers None = refl
-      by_numbers (Some numbers) = refl
+      by_parametric_args : (q : Option (List DslxValue)) → TableResult (and_then q calls) (and_then (and_then q found) call) body
+      by_parametric_args None = refl
+      by_parametric_args (Some parametric_args) = refl
 
-      by : (o : Option Function) → Comes (and_then o (λ f. and_then (numbers_of es given f) calls)) (and_then (and_then o (λ f. and_then (numbers_of es given f) found)) call) body
+      by : (o : Option Function) → TableResult (and_then o (λ f. and_then (parametric_args_of es given f) calls)) (and_then (and_then o (λ f. and_then (parametric_args_of es given f) found)) call) body
       by None = refl
-      by (Some f) = by_numbers (numbers_of es given f)
+      by (Some f) = by_parametric_args (parametric_args_of es given f)
 
-  all_numbers_keep : (ns : Option (List DslxValue)) (name : List ℕ) (es : List LoweredExpr) (body : OpenBody)
-      → Comes (and_then ns (λ given. s.calls_function sight name es given body))
+  all_parametric_args_keep : (ns : Option (List DslxValue)) (name : List ℕ) (es : List LoweredExpr) (body : OpenBody)
+      → TableResult (and_then ns (λ given. s.calls_function context name es given body))
       (with_both ns (all_some (map Some es)) (λ given es. and_then ((place body).known.callee name given (types_of_lowered es)) (λ callee. lowered (core.Call callee.number (cores_of es)) callee.result))) body
-  all_numbers_keep None name es body = refl
-  all_numbers_keep (Some given) name es body =
+  all_parametric_args_keep None name es body = refl
+  all_parametric_args_keep (Some given) name es body =
       calls_function_keeps name es given body
-      ∙ ap (λ o. and_then (makes (with_both (Some given) o (λ given es. and_then (callee_in sight.text sight.items table name given (types_of_lowered es))
+      ∙ ap (λ o. and_then (makes (with_both (Some given) o (λ given es. and_then (callee_in context.text context.items table name given (types_of_lowered es))
       (λ callee. lowered (core.Call callee.number (cores_of es)) callee.result))) (spot_of at body)) (does_all at body.todo)) (sym (all_there es))
 
-  calls_keep : (kind : CallKind) (name : List ℕ) (numbers : List Arg) (es : List LoweredExpr) (body : OpenBody)
-      → Comes (s.calls_by_kind kind sight name numbers es body) (call_lowered kind name (place body) (numbers_at (place body) numbers) (map Some es)) body
-  calls_keep k.Joins name numbers es body = gives_keep sight table (call_lowered k.Joins name (place body) [] (map Some es)) body
-  calls_keep k.Receives name numbers es body = refl
-  calls_keep k.ReceivesIf name numbers es body = refl
-  calls_keep k.Sends name numbers es body = refl
-  calls_keep k.SendsIf name numbers es body = refl
-  calls_keep k.CountsLeading name numbers es body = gives_keep sight table (counted_lowered u.Clz (map Some es)) body
-  calls_keep k.CountsTrailing name numbers es body = gives_keep sight table (counted_lowered u.Ctz (map Some es)) body
-  calls_keep k.Reverses name numbers es body = gives_keep sight table (counted_lowered u.Rev (map Some es)) body
-  calls_keep k.AllOnes name numbers es body = gives_keep sight table (reduced_lowered u.AndReduce (map Some es)) body
-  calls_keep k.SomeOne name numbers es body = gives_keep sight table (reduced_lowered u.OrReduce (map Some es)) body
-  calls_keep k.Parity name numbers es body = gives_keep sight table (reduced_lowered u.XorReduce (map Some es)) body
-  calls_keep k.Updates name numbers es body = gives_keep sight table (updated_lowered (map Some es)) body
-  calls_keep k.Calls name numbers es body = all_numbers_keep (all_some (numbers_at (place body) numbers)) name es body
+  calls_keep : (kind : CallKind) (name : List ℕ) (parametric_args : List Arg) (es : List LoweredExpr) (body : OpenBody)
+      → TableResult (s.calls_by_kind kind context name parametric_args es body) (lower_call kind name (place body) (parametric_args_at (place body) parametric_args) (map Some es)) body
+  calls_keep k.Joins name parametric_args es body = gives_keep context table (lower_call k.Joins name (place body) [] (map Some es)) body
+  calls_keep k.Receives name parametric_args es body = refl
+  calls_keep k.ReceivesIf name parametric_args es body = refl
+  calls_keep k.Sends name parametric_args es body = refl
+  calls_keep k.SendsIf name parametric_args es body = refl
+  calls_keep k.CountsLeading name parametric_args es body = gives_keep context table (lower_counted u.Clz (map Some es)) body
+  calls_keep k.CountsTrailing name parametric_args es body = gives_keep context table (lower_counted u.Ctz (map Some es)) body
+  calls_keep k.Reverses name parametric_args es body = gives_keep context table (lower_counted u.Rev (map Some es)) body
+  calls_keep k.AllOnes name parametric_args es body = gives_keep context table (lower_reduced u.AndReduce (map Some es)) body
+  calls_keep k.SomeOne name parametric_args es body = gives_keep context table (lower_reduced u.OrReduce (map Some es)) body
+  calls_keep k.Parity name parametric_args es body = gives_keep context table (lower_reduced u.XorReduce (map Some es)) body
+  calls_keep k.Updates name parametric_args es body = gives_keep context table (lower_updated (map Some es)) body
+  calls_keep k.Calls name parametric_args es body = all_parametric_args_keep (all_some (parametric_args_at (place body) parametric_args)) name es body
 
-  made_keeps : (maker : PartsMaker) (es : List LoweredExpr) (body : OpenBody) → Comes (s.made_of_parts maker sight es body) (made_in maker (place body) es) body
+  made_keeps : (maker : PartsMaker) (es : List LoweredExpr) (body : OpenBody) → TableResult (s.made_of_parts maker context es body) (made_in maker (place body) es) body
   made_keeps MakesTuple es body = refl
-  made_keeps MakesArray es body = gives_keep sight table (elements_lowered es) body
-  made_keeps (Fills t n dots) es body = gives_keep sight table (filled_lowered body.count t dots n es) body
-  made_keeps (CallsWith name numbers) es body = calls_keep (kind_of_call name) name numbers es body
+  made_keeps MakesArray es body = gives_keep context table (lower_array_elements es) body
+  made_keeps (Fills t n dots) es body = gives_keep context table (lower_filled body.count t dots n es) body
+  made_keeps (CallsWith name parametric_args) es body = calls_keep (kind_of_call name) name parametric_args es body
 
   -- ---- expressions in order
 
   -- a part, before it is taken
-  abbrev part_begun : PartsMaker → CorePlace → Expr → Option LoweredExpr
-  part_begun (Fills t n dots) here e = element_begun t (meant e).bare (expression_lowered e here)
-  part_begun maker here e = expression_lowered e here
+  abbrev part_begun : PartsMaker → CoreScope → Expr → Option LoweredExpr
+  part_begun (Fills t n dots) here e = element_begun t (denotation e).bare (lower_expression e here)
+  part_begun maker here e = lower_expression e here
 
-  element_keeps : (t : DslxType) (o : Option Bare) (e : Expr) (body : OpenBody) → Comes (s.element_begins t o e body) (element_begun t o (expression_lowered e (place body))) body
+  element_keeps : (t : DslxType) (o : Option UntypedLiteral) (e : Expr) (body : OpenBody) → TableResult (s.element_begins t o e body) (element_begun t o (lower_expression e (place body))) body
   element_keeps t None e body = refl
-  element_keeps t (Some number) e body = gives_keep sight table (number_lowered (Some t) number) body
+  element_keeps t (Some number) e body = gives_keep context table (lower_number (Some t) number) body
 
-  part_keeps : (maker : PartsMaker) (e : Expr) (body : OpenBody) → Comes (s.part_begins maker e body) (part_begun maker (place body) e) body
+  part_keeps : (maker : PartsMaker) (e : Expr) (body : OpenBody) → TableResult (s.part_begins maker e body) (part_begun maker (place body) e) body
   part_keeps MakesTuple e body = refl
   part_keeps MakesArray e body = refl
-  part_keeps (Fills t n dots) e body = element_keeps t (meant e).bare e body
-  part_keeps (CallsWith name numbers) e body = refl
+  part_keeps (Fills t n dots) e body = element_keeps t (denotation e).bare e body
+  part_keeps (CallsWith name parametric_args) e body = refl
 
-  part_is : (maker : PartsMaker) (here : CorePlace) (e : Expr) → and_then (part_begun maker here e) (part_taken maker) ≡ part_in maker here e
-  part_is MakesTuple here e = gives_itself (expression_lowered e here)
-  part_is MakesArray here e = gives_itself (expression_lowered e here)
-  part_is (Fills t n dots) here e = element_is t (meant e).bare (expression_lowered e here)
-  part_is (CallsWith name numbers) here e = gives_itself (expression_lowered e here)
+  part_is : (maker : PartsMaker) (here : CoreScope) (e : Expr) → and_then (part_begun maker here e) (part_taken maker) ≡ part_in maker here e
+  part_is MakesTuple here e = gives_itself (lower_expression e here)
+  part_is MakesArray here e = gives_itself (lower_expression e here)
+  part_is (Fills t n dots) here e = element_is t (denotation e).bare (lower_expression e here)
+  part_is (CallsWith name parametric_args) here e = gives_itself (lower_expression e here)
 
-  pub gathers_keep : (before : List LoweredExpr) (es : List Expr) (maker : PartsMaker) (body : OpenBody) → Comes (s.gathers sight before es maker body) (list_in (place body) before es maker) body
+  pub gathers_keep : (before : List LoweredExpr) (es : List Expr) (maker : PartsMaker) (body : OpenBody) → TableResult (s.gathers context before es maker body) (list_in (place body) before es maker) body
   gathers_keep before [] maker body =
       made_keeps maker before body ∙ ap (λ es. and_then (makes (made_in maker (place body) es) (spot_of at body)) (does_all at body.todo)) (sym (append-nil before))
   gathers_keep before (e ∷ es) maker body =
@@ -261,48 +261,48 @@ module _ (sight : InstanceSight) (table : List CoreInstance) where
   -- ---- arrays
 
   pub array_keeps : (t : Option TypeExpr) (es : List Expr) (dots : Bool) (body : OpenBody)
-      → Comes (s.array_begins t sight es dots body) (array_lowered (place body).count (array_type_at (place body) t) (map (element_pair (place body)) es) dots) body
+      → TableResult (s.array_begins t context es dots body) (lower_array (place body).count (array_type_at (place body) t) (map (element_pair (place body)) es) dots) body
   array_keeps None es true body = refl
   array_keeps None es false body =
       gathers_keep [] es MakesArray body
-      ∙ ap (λ os. and_then (makes (and_then (all_some os) elements_lowered) (spot_of at body)) (does_all at body.todo))
-      (sym (map-map (λ (e : Option Bare × Option LoweredExpr). e.1) (element_pair (place body)) es))
+      ∙ ap (λ os. and_then (makes (and_then (all_some os) lower_array_elements) (spot_of at body)) (does_all at body.todo))
+      (sym (map-map (λ (e : Option UntypedLiteral × Option LoweredExpr). e.1) (element_pair (place body)) es))
   array_keeps (Some t) es dots body =
-      (λ i. end_of_next at (and_then (and_then (sym (type_anywhere t (place_in sight body) (callee_in sight.text sight.items table)) i) array_in) (λ parts. s.gathers sight [] es (Fills parts.0 parts.1 dots) body)))
-      ∙ by (and_then (type_of_text_lowered t (place body)) array_in)
+      (λ i. end_of_next at (and_then (and_then (sym (type_anywhere t (scope_in context body) (callee_in context.text context.items table)) i) array_in) (λ parts. s.gathers context [] es (Fills parts.0 parts.1 dots) body)))
+      ∙ by (and_then (lower_type_of_text t (place body)) array_in)
     where
-      by : (o : Option (DslxType × ℕ)) → Comes (and_then o (λ parts. s.gathers sight [] es (Fills parts.0 parts.1 dots) body))
-          (and_then o (λ parts. and_then (all_some (map (λ (e : Option Bare × Option LoweredExpr). element_or_number parts.0 e.0 e.1) (map (element_pair (place body)) es))) (filled_lowered (place body).count parts.0 dots parts.1))) body
+      by : (o : Option (DslxType × ℕ)) → TableResult (and_then o (λ parts. s.gathers context [] es (Fills parts.0 parts.1 dots) body))
+          (and_then o (λ parts. and_then (all_some (map (λ (e : Option UntypedLiteral × Option LoweredExpr). element_or_number parts.0 e.0 e.1) (map (element_pair (place body)) es))) (lower_filled (place body).count parts.0 dots parts.1))) body
       by None = refl
       by (Some parts) =
           gathers_keep [] es (Fills parts.0 parts.1 dots) body
-          ∙ ap (λ os. and_then (makes (and_then (all_some os) (filled_lowered (place body).count parts.0 dots parts.1)) (spot_of at body)) (does_all at body.todo))
-          (sym (map-map (λ (e : Option Bare × Option LoweredExpr). element_or_number parts.0 e.0 e.1) (element_pair (place body)) es))
+          ∙ ap (λ os. and_then (makes (and_then (all_some os) (lower_filled (place body).count parts.0 dots parts.1)) (spot_of at body)) (does_all at body.todo))
+          (sym (map-map (λ (e : Option UntypedLiteral × Option LoweredExpr). element_or_number parts.0 e.0 e.1) (element_pair (place body)) es))
 
-  pub tuple_keeps : (es : List Expr) (body : OpenBody) → Comes (s.gathers sight [] es MakesTuple body) (tuple_lowered (all_become (place body) es)) body
+  pub tuple_keeps : (es : List Expr) (body : OpenBody) → TableResult (s.gathers context [] es MakesTuple body) (lower_tuple (all_become (place body) es)) body
   tuple_keeps es body = gathers_keep [] es MakesTuple body
 
-  pub call_keeps : (name : List ℕ) (numbers : List Arg) (es : List Expr) (body : OpenBody)
-      → Comes (s.gathers sight [] es (CallsWith name numbers) body) (call_lowered (kind_of_call name) name (place body) (numbers_at (place body) numbers) (all_become (place body) es)) body
-  call_keeps name numbers es body =
-      gathers_keep [] es (CallsWith name numbers) body
-      ∙ ap (λ o. and_then (makes o (spot_of at body)) (does_all at body.todo)) (sym (call_strict (kind_of_call name) name (place body) (numbers_at (place body) numbers) (all_become (place body) es)))
+  pub call_keeps : (name : List ℕ) (parametric_args : List Arg) (es : List Expr) (body : OpenBody)
+      → TableResult (s.gathers context [] es (CallsWith name parametric_args) body) (lower_call (kind_of_call name) name (place body) (parametric_args_at (place body) parametric_args) (all_become (place body) es)) body
+  call_keeps name parametric_args es body =
+      gathers_keep [] es (CallsWith name parametric_args) body
+      ∙ ap (λ o. and_then (makes o (spot_of at body)) (does_all at body.todo)) (sym (call_strict (kind_of_call name) name (place body) (parametric_args_at (place body) parametric_args) (all_become (place body) es)))
 
   -- ---- fields
 
-  abbrev field_begun : CorePlace → Option LoweredExpr → List ℕ → Option FieldValue → Option LoweredExpr
+  abbrev field_begun : CoreScope → Option LoweredExpr → List ℕ → Option FieldValue → Option LoweredExpr
   field_begun here others field o = field_or_other here others field (option_map (λ f. (field_by_parts f).value) o)
 
-  field_value_keeps : (name : List ℕ) (o : Option Expr) (body : OpenBody) → Comes (s.field_value_begins name o sight body) (field_value_becomes name o (place body)) body
-  field_value_keeps name None body = gives_keep sight table (name_lowered name (place body)) body
+  field_value_keeps : (name : List ℕ) (o : Option Expr) (body : OpenBody) → TableResult (s.field_value_begins name o context body) (field_value_lowers_to name o (place body)) body
+  field_value_keeps name None body = gives_keep context table (lower_name name (place body)) body
   field_value_keeps name (Some e) body = refl
 
-  field_keeps : (o : Option FieldValue) (field : List ℕ) (others : Option LoweredExpr) (body : OpenBody) → Comes (s.field_begins o field others sight body) (field_begun (place body) others field o) body
-  field_keeps None field others body = gives_keep sight table (field_lowered others field) body
+  field_keeps : (o : Option FieldValue) (field : List ℕ) (others : Option LoweredExpr) (body : OpenBody) → TableResult (s.field_begins o field others context body) (field_begun (place body) others field o) body
+  field_keeps None field others body = gives_keep context table (lower_field others field) body
   field_keeps (Some f) field others body = field_value_keeps (out-FieldValue f).name.name (out-FieldValue f).value body
 
   pub fields_on_keep : (work : StructWork) (before : List LoweredExpr) (fields : List (List ℕ)) (ts : List DslxType) (body : OpenBody)
-      → Comes (s.fields_on sight work before fields ts body) (fields_in (place body) work before fields ts) body
+      → TableResult (s.fields_on context work before fields ts body) (fields_in (place body) work before fields ts) body
   fields_on_keep work before [] [] body = ap (λ es. and_then (makes (lowered (core.Tuple (cores_of es)) work.ty) (spot_of at body)) (does_all at body.todo)) (sym (append-nil before))
   fields_on_keep work before [] (t ∷ ts) body = refl
   fields_on_keep work before (field ∷ fields) [] body = refl
@@ -311,14 +311,14 @@ module _ (sight : InstanceSight) (table : List CoreInstance) where
       ∙ taken_next (λ here r. and_then (of_type t (Some r)) (λ e. fields_in here work (before ++ e ∷ []) fields ts)) (field_begun (place body) work.others field (field_among field work.written)) (spot_of at body) (does_all at body.todo)
       ∙ ap (λ o. and_then (makes o (spot_of at body)) (does_all at body.todo))
       ((λ i. and_then (field_or_other (place body) work.others field (sym (written_is field work.written) i)) (λ r. and_then (of_type t (Some r)) (λ e. fields_in (place body) work (before ++ e ∷ []) fields ts)))
-      ∙ next_field t (field_or_other (place body) work.others field (value_written field (map field_becomes work.written))) (fields_lowered (place body) (map field_becomes work.written) work.others fields ts) before work.ty)
+      ∙ next_field t (field_or_other (place body) work.others field (value_written field (map field_lowers_to work.written))) (lower_fields (place body) (map field_lowers_to work.written) work.others fields ts) before work.ty)
 
   -- the value that has the other fields is bound
   pub others_keep : (e : LoweredExpr) (t : DslxType) (fields : List (List ℕ)) (ts : List DslxType) (written : List FieldValue) (body : OpenBody)
-      → Comes (s.others_taken sight e t fields ts written body) (with_others (place body) e (map field_becomes written) t fields ts) body
+      → TableResult (s.others_taken context e t fields ts written body) (with_others (place body) e (map field_lowers_to written) t fields ts) body
   others_keep e t fields ts written body =
       fields_on_keep (record { ty = t; written = written; others = lowered (core.Slot body.count) e.ty }) [] fields ts (unnamed (doing (MakesBind e shape.Bound ∷ restores body ∷ []) body))
-      ∙ by (fields_lowered (with_unnamed (place body)) (map field_becomes written) (lowered (core.Slot body.count) e.ty) fields ts)
+      ∙ by (lower_fields (with_unnamed (place body)) (map field_lowers_to written) (lowered (core.Slot body.count) e.ty) fields ts)
     where
       by : (o : Option (List LoweredExpr))
           → and_then (makes (and_then o (λ es. lowered (core.Tuple (cores_of es)) t)) (spot_of at (unnamed body))) (does_all at (MakesBind e shape.Bound ∷ restores body ∷ body.todo))
@@ -328,21 +328,21 @@ module _ (sight : InstanceSight) (table : List CoreInstance) where
           ap (λ here. does_all at body.todo (record { place = here; made = record { core = core.Bind e.core shape.Bound (core.Tuple (cores_of es)); ty = t } ∷ body.made })) (back_from_unnamed (place body))
 
   struct_of_fields : (written : List FieldValue) (rest : Option Expr) (t : DslxType) (fields : List (List ℕ)) (ts : List DslxType) (body : OpenBody)
-      → Comes (s.fields_begin sight written rest t fields ts body) (struct_fields (place body) (map field_becomes written) (option_map expression_lowered rest) t fields ts) body
+      → TableResult (s.fields_begin context written rest t fields ts body) (struct_fields (place body) (map field_lowers_to written) (option_map lower_expression rest) t fields ts) body
   struct_of_fields written None t fields ts body = fields_on_keep (record { ty = t; written = written; others = None }) [] fields ts body
   struct_of_fields written (Some e) t fields ts body =
       by (list_all (λ field. is_in field (names_of_fields written)) fields)
-      ∙ ap (λ names. and_then (makes (if list_all (λ field. is_in field names) fields then without_others (place body) (map field_becomes written) t fields ts
-      else and_then (expression_lowered e (place body)) (λ e. with_others (place body) e (map field_becomes written) t fields ts)) (spot_of at body)) (does_all at body.todo)) (sym (names_are written))
+      ∙ ap (λ names. and_then (makes (if list_all (λ field. is_in field names) fields then without_others (place body) (map field_lowers_to written) t fields ts
+      else and_then (lower_expression e (place body)) (λ e. with_others (place body) e (map field_lowers_to written) t fields ts)) (spot_of at body)) (does_all at body.todo)) (sym (names_are written))
     where
       by : (b : Bool)
-          → Comes (if b then s.fields_on sight (record { ty = t; written = written; others = None }) [] fields ts body else Some (doing (LowersExpr e ∷ TakesOthers t fields ts written ∷ []) body))
-          (if b then without_others (place body) (map field_becomes written) t fields ts else and_then (expression_lowered e (place body)) (λ e. with_others (place body) e (map field_becomes written) t fields ts)) body
+          → TableResult (if b then s.fields_on context (record { ty = t; written = written; others = None }) [] fields ts body else Some (doing (LowersExpr e ∷ TakesOthers t fields ts written ∷ []) body))
+          (if b then without_others (place body) (map field_lowers_to written) t fields ts else and_then (lower_expression e (place body)) (λ e. with_others (place body) e (map field_lowers_to written) t fields ts)) body
       by true = fields_on_keep (record { ty = t; written = written; others = None }) [] fields ts body
-      by false = taken_next (λ here e. with_others here e (map field_becomes written) t fields ts) (expression_lowered e (place body)) (spot_of at body) (does_all at body.todo)
+      by false = taken_next (λ here e. with_others here e (map field_lowers_to written) t fields ts) (lower_expression e (place body)) (spot_of at body) (does_all at body.todo)
 
   struct_by_type : (x : DslxType-F DslxType) (written : List FieldValue) (rest : Option Expr) (body : OpenBody)
-      → Comes (s.struct_begins sight written rest x body) (struct_lowered_in (place body) (map field_becomes written) (option_map expression_lowered rest) x) body
+      → TableResult (s.struct_begins context written rest x body) (lower_struct_in (place body) (map field_lowers_to written) (option_map lower_expression rest) x) body
   struct_by_type (DslxType-F.Bits sign w) written rest body = refl
   struct_by_type (DslxType-F.Tuple ts) written rest body = refl
   struct_by_type (DslxType-F.Array t n) written rest body = refl
@@ -351,6 +351,6 @@ module _ (sight : InstanceSight) (table : List CoreInstance) where
   struct_by_type DslxType-F.Token written rest body = refl
 
   pub struct_keeps : (o : Option DslxType) (written : List FieldValue) (rest : Option Expr) (body : OpenBody)
-      → Comes (and_then o (λ t. s.struct_begins sight written rest (out-DslxType t) body)) (and_then o (λ t. struct_lowered_in (place body) (map field_becomes written) (option_map expression_lowered rest) (out-DslxType t))) body
+      → TableResult (and_then o (λ t. s.struct_begins context written rest (out-DslxType t) body)) (and_then o (λ t. lower_struct_in (place body) (map field_lowers_to written) (option_map lower_expression rest) (out-DslxType t))) body
   struct_keeps None written rest body = refl
   struct_keeps (Some t) written rest body = struct_by_type (out-DslxType t) written rest body

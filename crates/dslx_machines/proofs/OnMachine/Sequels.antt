@@ -1,23 +1,23 @@
 -- What comes of tasks that stand one behind another.
 use Rattle.std.proofs.Common.{◌≡◌, List, [], ◌∷◌, length, Option, Some, None, refl, sym, ap, ◌∙◌}
 use Rattle.dslx_meaning.specs.Lists.{and_then, with_both}
-use Rattle.dslx_core.specs.Lowering.CorePlaces.{CorePlace, with_unnamed}
+use Rattle.dslx_core.specs.Lowering.CoreScopes.{CoreScope, with_unnamed}
 use Rattle.dslx_core.specs.Lowering.Functions.{CoreInstance, callee_in}
 use Rattle.dslx_core.specs.Lowering.Lowering.{LoweredExpr}
-use Rattle.dslx_machines.specs.Machine.Tasks.{OpenBody, InstanceSight}
-use Rattle.dslx_machines.specs.Machine.Bodies.{first_bound, gives, with_last, place_in, restores, bound_as}
+use Rattle.dslx_machines.specs.Machine.Tasks.{OpenBody, InstanceEnv}
+use Rattle.dslx_machines.specs.Machine.Bodies.{first_bound, gives, with_last, scope_in, restores, bound_as}
 use Rattle.dslx_machines.specs.Machine.Steps.{of_last, of_last_two, of_last_three}
 use Rattle.dslx_machines.specs.Machine.Reached.{at_table}
 use Rattle.dslx_machines.proofs.Lemmas.Machine.Options.{dropped_again}
-use Rattle.dslx_machines.proofs.Lemmas.Machine.Places.{Spot, back, does_all, end_of_next, having, makes, spot_of}
+use Rattle.dslx_machines.proofs.Lemmas.Machine.Scopes.{Spot, back, does_all, end_of_next, having, makes, spot_of}
 use Rattle.dslx_machines.specs.Machine.Callees.{CalleesByName, with_callee}
 use Rattle.dslx_machines.proofs.Lemmas.Machine.Steady.{Grows}
 
 -- what is made where nothing else is to be done first
-pub gives_keep : (sight : InstanceSight) (table : List CoreInstance) (o : Option LoweredExpr) (body : OpenBody)
-    → end_of_next (at_table sight table) (gives o body) ≡ and_then (makes o (spot_of (at_table sight table) body)) (does_all (at_table sight table) body.todo)
-gives_keep sight table None body = refl
-gives_keep sight table (Some e) body = refl
+pub gives_keep : (context : InstanceEnv) (table : List CoreInstance) (o : Option LoweredExpr) (body : OpenBody)
+    → end_of_next (at_table context table) (gives o body) ≡ and_then (makes o (spot_of (at_table context table) body)) (does_all (at_table context table) body.todo)
+gives_keep context table None body = refl
+gives_keep context table (Some e) body = refl
 
 -- ---- parts that are made first
 
@@ -29,12 +29,12 @@ made_next None made p k = refl
 made_next (Some r) made p k = refl
 
 -- one part, without which nothing is made
-pub one_next : (f : CorePlace → Option LoweredExpr → Option LoweredExpr) (o : Option LoweredExpr) (p : Spot) (k : Sequel) → f p.place None ≡ None
+pub one_next : (f : CoreScope → Option LoweredExpr → Option LoweredExpr) (o : Option LoweredExpr) (p : Spot) (k : Sequel) → f p.place None ≡ None
     → and_then (makes o p) (λ q. and_then (and_then (of_last q.made (λ a. f q.place (Some a))) (λ made. Some (having made q))) k) ≡ and_then (makes (f p.place o) p) k
 one_next f None p k none = ap (λ r. and_then (makes r p) k) (sym none)
 one_next f (Some a) p k none = made_next (f p.place (Some a)) p.made p k
 
-pub two_next : (f : CorePlace → Option LoweredExpr → Option LoweredExpr → Option LoweredExpr) (o : Option LoweredExpr) (second : CorePlace → Option LoweredExpr) (p : Spot) (k : Sequel)
+pub two_next : (f : CoreScope → Option LoweredExpr → Option LoweredExpr → Option LoweredExpr) (o : Option LoweredExpr) (second : CoreScope → Option LoweredExpr) (p : Spot) (k : Sequel)
     → f p.place None (second p.place) ≡ None → ((a : LoweredExpr) → f p.place (Some a) None ≡ None)
     → and_then (makes o p) (λ q. and_then (makes (second q.place) q) (λ q. and_then (and_then (of_last_two q.made (λ a b. f q.place (Some a) (Some b))) (λ made. Some (having made q))) k))
     ≡ and_then (makes (f p.place o (second p.place)) p) k
@@ -47,7 +47,7 @@ two_next f (Some a) second p k none none' = by (second p.place)
     by None = ap (λ r. and_then (makes r p) k) (sym (none' a))
     by (Some b) = made_next (f p.place (Some a) (Some b)) p.made p k
 
-pub three_next : (f : Option LoweredExpr → Option LoweredExpr → Option LoweredExpr → Option LoweredExpr) (o : Option LoweredExpr) (second third : CorePlace → Option LoweredExpr) (p : Spot) (k : Sequel)
+pub three_next : (f : Option LoweredExpr → Option LoweredExpr → Option LoweredExpr → Option LoweredExpr) (o : Option LoweredExpr) (second third : CoreScope → Option LoweredExpr) (p : Spot) (k : Sequel)
     → ((b c : Option LoweredExpr) → f None b c ≡ None) → ((a : LoweredExpr) (c : Option LoweredExpr) → f (Some a) None c ≡ None) → ((a b : LoweredExpr) → f (Some a) (Some b) None ≡ None)
     → and_then (makes o p) (λ q. and_then (makes (second q.place) q) (λ q. and_then (makes (third q.place) q)
     (λ q. and_then (and_then (of_last_three q.made (λ a b c. f (Some a) (Some b) (Some c))) (λ made. Some (having made q))) k)))
@@ -69,12 +69,12 @@ three_next f (Some a) second third p k none none' none'' = by (second p.place)
         last (Some c) = made_next (f (Some a) (Some b) (Some c)) p.made p k
 
 -- what was made is taken for what comes next
-pub taken_next : (f : CorePlace → LoweredExpr → Option LoweredExpr) (o : Option LoweredExpr) (p : Spot) (k : Sequel)
+pub taken_next : (f : CoreScope → LoweredExpr → Option LoweredExpr) (o : Option LoweredExpr) (p : Spot) (k : Sequel)
     → and_then (makes o p) (λ q. and_then (with_last q.made (λ e made. makes (f q.place e) (having made q))) k) ≡ and_then (makes (and_then o (f p.place)) p) k
 taken_next f None p k = refl
 taken_next f (Some e) p k = refl
 
-pub two_taken_next : (f : CorePlace → LoweredExpr → LoweredExpr → Option LoweredExpr) (o : Option LoweredExpr) (second : CorePlace → Option LoweredExpr) (p : Spot) (k : Sequel)
+pub two_taken_next : (f : CoreScope → LoweredExpr → LoweredExpr → Option LoweredExpr) (o : Option LoweredExpr) (second : CoreScope → Option LoweredExpr) (p : Spot) (k : Sequel)
     → and_then (makes o p) (λ q. and_then (makes (second q.place) q) (λ q. and_then (with_last q.made (λ b made. with_last made (λ a made. makes (f q.place a b) (having made q)))) k))
     ≡ and_then (makes (with_both o (second p.place) (f p.place)) p) k
 two_taken_next f None second p k = refl
@@ -88,27 +88,27 @@ two_taken_next f (Some a) second p k = by (second p.place)
 
 -- ---- what a pattern binds, and back
 
-pub back_before : (place after : CorePlace) → Grows place after → back (length place.locals) place.count after ≡ place
+pub back_before : (place after : CoreScope) → Grows place after → back (length place.locals) place.count after ≡ place
 back_before place after g = λ i. record { known = g.known i; locals = locals i; count = place.count }
   where
     locals : first_bound (length place.locals) after.locals ≡ place.locals
     locals = ap (first_bound (length place.locals)) g.locals ∙ dropped_again g.new place.locals
 
-pub back_from_unnamed : (place : CorePlace) → back (length place.locals) place.count (with_unnamed place) ≡ place
+pub back_from_unnamed : (place : CoreScope) → back (length place.locals) place.count (with_unnamed place) ≡ place
 back_from_unnamed place = back_before place (with_unnamed place) (record { known = refl; new = []; locals = refl })
 
-module _ (sight : InstanceSight) (table : List CoreInstance) where
-  abbrev at : InstanceSight
-  at = at_table sight table
+module _ (context : InstanceEnv) (table : List CoreInstance) where
+  abbrev at : InstanceEnv
+  at = at_table context table
 
   abbrev pub calls : CalleesByName
-  calls = callee_in sight.text sight.items table
+  calls = callee_in context.text context.items table
 
   -- the place behind a pattern is that of the body that goes on there
-  pub behind_pattern : (body : OpenBody) (q : CorePlace) → Grows (place_in sight body) q → with_callee calls q ≡ place_in at (bound_as q body)
-  behind_pattern body q g = λ i. record { known = record { items = (g.known i).items; numbers = (g.known i).numbers; callee = calls }; locals = q.locals; count = q.count }
+  pub behind_pattern : (body : OpenBody) (q : CoreScope) → Grows (scope_in context body) q → with_callee calls q ≡ scope_in at (bound_as q body)
+  behind_pattern body q g = λ i. record { known = record { items = (g.known i).items; parametric_args = (g.known i).parametric_args; callee = calls }; locals = q.locals; count = q.count }
 
-  pub goes_back : (body : OpenBody) (q : CorePlace) (made : List LoweredExpr) → Grows (place_in sight body) q
-      → does_all at (restores body ∷ body.todo) (record { place = place_in at (bound_as q body); made = made }) ≡ does_all at body.todo (record { place = place_in at body; made = made })
+  pub goes_back : (body : OpenBody) (q : CoreScope) (made : List LoweredExpr) → Grows (scope_in context body) q
+      → does_all at (restores body ∷ body.todo) (record { place = scope_in at (bound_as q body); made = made }) ≡ does_all at body.todo (record { place = scope_in at body; made = made })
   goes_back body q made g =
-      ap (λ here. does_all at body.todo (record { place = here; made = made })) (back_before (place_in at body) (place_in at (bound_as q body)) (record { known = refl; new = g.new; locals = g.locals }))
+      ap (λ here. does_all at body.todo (record { place = here; made = made })) (back_before (scope_in at body) (scope_in at (bound_as q body)) (record { known = refl; new = g.new; locals = g.locals }))

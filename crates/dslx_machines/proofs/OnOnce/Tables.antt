@@ -1,4 +1,4 @@
--- One more instance in a table, where none of its name and number arguments stands.
+-- One more instance in a table, where none of its name and parametric arguments stands.
 use Rattle.std.proofs.Common.{◌≡◌, ◌+◌, ◌&&◌, ◌⊎◌, inl, inr, ℕ, suc, Bool, true, false, if◌then◌else◌, List, [], ◌∷◌, ◌++◌, length, Some, None, refl, sym, ap, ◌∙◌, arith}
 use Rattle.std.specs.Prelude.{slice_get}
 use Rattle.std.proofs.lemmas.Slice.Eq.{bytes_eq-Decides}
@@ -10,46 +10,46 @@ use Rattle.dslx_typing.proofs.Lemmas.Typed.{none_some}
 use Rattle.dslx_core.specs.Lowering.Functions.{CoreInstance, instance_in, is_instance}
 use Rattle.dslx_core.proofs.Lemmas.Lowering.{at_the_end}
 use Rattle.dslx_machines.proofs.Lemmas.Machine.Keeps.{found_longer}
-use Rattle.dslx_machines.specs.Once.Once.{StandsOnce}
+use Rattle.dslx_machines.specs.Once.Once.{OccursOnce}
 
--- ---- an instance is of its own name and number arguments
+-- ---- an instance is of its own name and parametric arguments
 
-numbers_themselves : (vs : List DslxValue) → pairwise equal_value vs vs ≡ true
-numbers_themselves [] = refl
-numbers_themselves (v ∷ vs) = λ i. value_equals_itself v i && numbers_themselves vs i
+parametric_args_themselves : (vs : List DslxValue) → pairwise equal_value vs vs ≡ true
+parametric_args_themselves [] = refl
+parametric_args_themselves (v ∷ vs) = λ i. value_equals_itself v i && parametric_args_themselves vs i
 
-instance_itself : (c : CoreInstance) → is_instance c.name c.numbers c ≡ true
-instance_itself c = λ i. (bytes_eq-Decides c.name c.name).1 refl i && numbers_themselves c.numbers i
+instance_itself : (c : CoreInstance) → is_instance c.name c.parametric_args c ≡ true
+instance_itself c = λ i. (bytes_eq-Decides c.name c.name).1 refl i && parametric_args_themselves c.parametric_args i
 
 -- ---- the last of a table is found there, where none before it is
 
-found_last : (c : CoreInstance) (n : ℕ) (table : List CoreInstance) → instance_in c.name c.numbers n table ≡ None → instance_in c.name c.numbers n (table ++ c ∷ []) ≡ Some (n + length table, c)
+found_last : (c : CoreInstance) (n : ℕ) (table : List CoreInstance) → instance_in c.name c.parametric_args n table ≡ None → instance_in c.name c.parametric_args n (table ++ c ∷ []) ≡ Some (n + length table, c)
 found_last c n [] e = ap (λ b. if b then Some (n, c) else None) (instance_itself c) ∙ ap (λ k. Some (k, c)) (nothing n)
   where
     nothing : (n : ℕ) → n ≡ (n + 0)
     nothing n = omega arith
-found_last c n (d ∷ table) e = by (is_instance c.name c.numbers d) (found_last c (suc n) table) e
+found_last c n (d ∷ table) e = by (is_instance c.name c.parametric_args d) (found_last c (suc n) table) e
   where
     further : (n k : ℕ) → (suc n + k) ≡ (n + suc k)
     further n k = omega arith
 
-    by : (b : Bool) → (instance_in c.name c.numbers (suc n) table ≡ None → instance_in c.name c.numbers (suc n) (table ++ c ∷ []) ≡ Some (suc n + length table, c))
-        → (if b then Some (n, d) else instance_in c.name c.numbers (suc n) table) ≡ None
-        → (if b then Some (n, d) else instance_in c.name c.numbers (suc n) (table ++ c ∷ [])) ≡ Some (n + suc (length table), c)
+    by : (b : Bool) → (instance_in c.name c.parametric_args (suc n) table ≡ None → instance_in c.name c.parametric_args (suc n) (table ++ c ∷ []) ≡ Some (suc n + length table, c))
+        → (if b then Some (n, d) else instance_in c.name c.parametric_args (suc n) table) ≡ None
+        → (if b then Some (n, d) else instance_in c.name c.parametric_args (suc n) (table ++ c ∷ [])) ≡ Some (n + suc (length table), c)
     by true rest e = none_some (n, d) (sym e)
     by false rest e = rest e ∙ ap (λ k. Some (k, c)) (further n (length table))
 
 -- ---- tables in which each stands once
 
-pub none_yet : StandsOnce []
+pub none_yet : OccursOnce []
 none_yet k i e = none_some i e
 
-pub one_more : (table : List CoreInstance) (c : CoreInstance) → StandsOnce table → instance_in c.name c.numbers 0 table ≡ None → StandsOnce (table ++ c ∷ [])
-one_more table c once new k i e = by_place (at_the_end table c k i e)
+pub one_more : (table : List CoreInstance) (c : CoreInstance) → OccursOnce table → instance_in c.name c.parametric_args 0 table ≡ None → OccursOnce (table ++ c ∷ [])
+one_more table c once new k i e = by_scope (at_the_end table c k i e)
   where
     nothing_added : (n : ℕ) → (0 + n) ≡ n
     nothing_added n = omega arith
 
-    by_place : (slice_get table k ≡ Some i) ⊎ ((k ≡ length table) × (c ≡ i)) → instance_in i.name i.numbers 0 (table ++ c ∷ []) ≡ Some (k, i)
-    by_place (inl p) = found_longer i.name i.numbers 0 table (c ∷ []) (k, i) (once k i p)
-    by_place (inr p) = (λ t. instance_in (sym p.1 t).name (sym p.1 t).numbers 0 (table ++ c ∷ [])) ∙ found_last c 0 table new ∙ (λ t. Some ((nothing_added (length table) ∙ sym p.0) t, p.1 t))
+    by_scope : (slice_get table k ≡ Some i) ⊎ ((k ≡ length table) × (c ≡ i)) → instance_in i.name i.parametric_args 0 (table ++ c ∷ []) ≡ Some (k, i)
+    by_scope (inl p) = found_longer i.name i.parametric_args 0 table (c ∷ []) (k, i) (once k i p)
+    by_scope (inr p) = (λ t. instance_in (sym p.1 t).name (sym p.1 t).parametric_args 0 (table ++ c ∷ [])) ∙ found_last c 0 table new ∙ (λ t. Some ((nothing_added (length table) ∙ sym p.0) t, p.1 t))

@@ -11,77 +11,77 @@ use Rattle.dslx_machines.specs.Machine.Machines.{missing_for, needed_for, unless
 use Rattle.dslx_machines.specs.Machine.Reached.{at_table}
 use Rattle.dslx_machines.specs.Machine.Steps.{call_made, instance_of, stepped}
 use Rattle.dslx_machines.specs.Machine.Tasks as task
-use Rattle.dslx_machines.specs.Machine.Tasks.{InstanceSight, LowerTask, OpenBody}
+use Rattle.dslx_machines.specs.Machine.Tasks.{InstanceEnv, LowerTask, OpenBody}
 use Rattle.dslx_machines.proofs.Lemmas.Machine.Keeps.{keeps}
 use Rattle.dslx_machines.proofs.Lemmas.Machine.Options.{from_then}
-use Rattle.dslx_machines.proofs.Lemmas.Machine.Places.{Spot, does_all, done, end_of, having, spot_of}
+use Rattle.dslx_machines.proofs.Lemmas.Machine.Scopes.{Spot, does_all, done, end_of, having, spot_of}
 use Rattle.dslx_machines.specs.Alike.Tables.{JoinedTable, has_instance}
 use Rattle.dslx_machines.proofs.Lemmas.Alike.{found_has, has_found}
 
 -- ---- instances that are needed
 
-abbrev IsFound : InstanceSight → Instantiated → Type 0
-IsFound sight i = (p : ℕ × CoreInstance) × (instance_of sight i ≡ Some p)
+abbrev IsFound : InstanceEnv → Instantiated → Type 0
+IsFound context i = (p : ℕ × CoreInstance) × (instance_of context i ≡ Some p)
 
 -- a task that needs an instance comes to nothing without it
-needed_found : (sight : InstanceSight) (d : LowerTask) (i : Instantiated) (p q : Spot) → needed_for d ≡ Some i → done sight d p ≡ Some q → IsFound sight i
-needed_found sight (task.LowersExpr e) i p q h k = none_some i h
-needed_found sight (task.LowersBlock b) i p q h k = none_some i h
-needed_found sight (task.LowersStatements ss last) i p q h k = none_some i h
-needed_found sight (task.Makes maker) i p q h k = none_some i h
-needed_found sight (task.BindsValue x ss last) i p q h k = none_some i h
-needed_found sight (task.MakesBind e s) i p q h k = none_some i h
-needed_found sight (task.Gathers before es maker) i p q h k = none_some i h
-needed_found sight (task.TakesOthers t fields ts written) i p q h k = none_some i h
-needed_found sight (task.GathersFields work before t fields ts) i p q h k = none_some i h
-needed_found sight (task.LowersArms arms) i p q h k = none_some i h
-needed_found sight (task.TakesArm work shapes) i p q h k = none_some i h
-needed_found sight (task.LoopBegins f) i p q h k = none_some i h
-needed_found sight (task.MakesLoop start a b index acc) i p q h k = none_some i h
-needed_found sight (task.Restores n count) i p q h k = none_some i h
-needed_found sight (task.NeedsInstance j) i p q h k =
-    let x = from_then (instance_of sight j) (λ r. Some p) q k in
-    (x.0, ap (instance_of sight) (sym (same_some j i h)) ∙ x.1)
-needed_found sight (task.CallsInstance j es) i p q h k =
-    let e = from_then (call_made sight j es) (λ e. Some (having (e ∷ p.made) p)) q k in
-    let c = from_then (and_then (instance_of sight j) (callee_of (types_of_lowered es))) (λ callee. lowered (core.Call callee.number (cores_of es)) callee.result) e.0 e.1 in
-    let x = from_then (instance_of sight j) (callee_of (types_of_lowered es)) c.0 c.1 in
-    (x.0, ap (instance_of sight) (sym (same_some j i h)) ∙ x.1)
+needed_found : (context : InstanceEnv) (d : LowerTask) (i : Instantiated) (p q : Spot) → needed_for d ≡ Some i → done context d p ≡ Some q → IsFound context i
+needed_found context (task.LowersExpr e) i p q h k = none_some i h
+needed_found context (task.LowersBlock b) i p q h k = none_some i h
+needed_found context (task.LowersStatements ss last) i p q h k = none_some i h
+needed_found context (task.Makes maker) i p q h k = none_some i h
+needed_found context (task.BindsValue x ss last) i p q h k = none_some i h
+needed_found context (task.MakesBind e s) i p q h k = none_some i h
+needed_found context (task.Gathers before es maker) i p q h k = none_some i h
+needed_found context (task.TakesOthers t fields ts written) i p q h k = none_some i h
+needed_found context (task.GathersFields work before t fields ts) i p q h k = none_some i h
+needed_found context (task.LowersArms arms) i p q h k = none_some i h
+needed_found context (task.TakesArm work shapes) i p q h k = none_some i h
+needed_found context (task.LoopBegins f) i p q h k = none_some i h
+needed_found context (task.MakesLoop start a b index acc) i p q h k = none_some i h
+needed_found context (task.Restores n count) i p q h k = none_some i h
+needed_found context (task.NeedsInstance j) i p q h k =
+    let x = from_then (instance_of context j) (λ r. Some p) q k in
+    (x.0, ap (instance_of context) (sym (same_some j i h)) ∙ x.1)
+needed_found context (task.CallsInstance j es) i p q h k =
+    let e = from_then (call_made context j es) (λ e. Some (having (e ∷ p.made) p)) q k in
+    let c = from_then (and_then (instance_of context j) (callee_of (types_of_lowered es))) (λ callee. lowered (core.Call callee.number (cores_of es)) callee.result) e.0 e.1 in
+    let x = from_then (instance_of context j) (callee_of (types_of_lowered es)) c.0 c.1 in
+    (x.0, ap (instance_of context) (sym (same_some j i h)) ∙ x.1)
 
 -- an instance that is missing is needed, and isn't found
-missing : (sight : InstanceSight) (d : LowerTask) (i : Instantiated) → missing_for d sight ≡ Some i → (needed_for d ≡ Some i) × (instance_of sight i ≡ None)
-missing sight d i e =
-    let j = from_then (needed_for d) (λ j. unless_done (instance_of sight j) j) i e in
-    by j.0 j.1 (instance_of sight j.0) refl j.2
+missing : (context : InstanceEnv) (d : LowerTask) (i : Instantiated) → missing_for d context ≡ Some i → (needed_for d ≡ Some i) × (instance_of context i ≡ None)
+missing context d i e =
+    let j = from_then (needed_for d) (λ j. unless_done (instance_of context j) j) i e in
+    by j.0 j.1 (instance_of context j.0) refl j.2
   where
-    by : (j : Instantiated) → needed_for d ≡ Some j → (o : Option (ℕ × CoreInstance)) → instance_of sight j ≡ o → unless_done o j ≡ Some i → (needed_for d ≡ Some i) × (instance_of sight i ≡ None)
-    by j h None q k = (h ∙ k, ap (instance_of sight) (sym (same_some j i k)) ∙ q)
+    by : (j : Instantiated) → needed_for d ≡ Some j → (o : Option (ℕ × CoreInstance)) → instance_of context j ≡ o → unless_done o j ≡ Some i → (needed_for d ≡ Some i) × (instance_of context i ≡ None)
+    by j h None q k = (h ∙ k, ap (instance_of context) (sym (same_some j i k)) ∙ q)
     by j h (Some p) q k = none_some i k
 
 -- ---- the next step
 
-module _ (sight : InstanceSight) (front : List CoreInstance) (both : JoinedTable sight.text sight.items sight.table front) where
+module _ (context : InstanceEnv) (front : List CoreInstance) (both : JoinedTable context.text context.items context.table front) where
   -- what comes of the body where calls come to the instances of both tables
-  abbrev pub Comes : OpenBody → Type 0
-  Comes body = (p : Spot) × (end_of (at_table sight both.table) body ≡ Some p)
+  abbrev pub TableResult : OpenBody → Type 0
+  TableResult body = (p : Spot) × (end_of (at_table context both.table) body ≡ Some p)
 
-  pub goes : (d : LowerTask) (todo : List LowerTask) (body : OpenBody) → Comes (behind (d ∷ todo) body) → missing_for d sight ≡ None → (next : OpenBody) × (stepped d sight (behind todo body) ≡ Some next)
+  pub goes : (d : LowerTask) (todo : List LowerTask) (body : OpenBody) → TableResult (behind (d ∷ todo) body) → missing_for d context ≡ None → (next : OpenBody) × (stepped d context (behind todo body) ≡ Some next)
   goes d todo body comes there =
-      let s = from_then (stepped d sight (behind todo body)) (end_of (at_table sight both.table)) comes.0 (keeps sight both.table d (behind todo body) both.begins there ∙ comes.1) in
+      let s = from_then (stepped d context (behind todo body)) (end_of (at_table context both.table)) comes.0 (keeps context both.table d (behind todo body) both.begins there ∙ comes.1) in
       (s.0, s.1)
 
-  not_there : (i : Instantiated) → instance_of sight i ≡ None → has_instance i.name i.numbers sight.table ≡ false
-  not_there i e = by (has_instance i.name i.numbers sight.table) refl
+  not_there : (i : Instantiated) → instance_of context i ≡ None → has_instance i.name i.parametric_args context.table ≡ false
+  not_there i e = by (has_instance i.name i.parametric_args context.table) refl
     where
-      by : (b : Bool) → has_instance i.name i.numbers sight.table ≡ b → b ≡ false
-      by true h = let p = has_found i.name i.numbers 0 sight.table h in none_some p.0 (sym e ∙ p.1)
+      by : (b : Bool) → has_instance i.name i.parametric_args context.table ≡ b → b ≡ false
+      by true h = let p = has_found i.name i.parametric_args 0 context.table h in none_some p.0 (sym e ∙ p.1)
       by false h = refl
 
   -- an instance that is missing is one of the second table, and isn't done
-  pub needs : (d : LowerTask) (todo : List LowerTask) (body : OpenBody) (i : Instantiated) → Comes (behind (d ∷ todo) body) → missing_for d sight ≡ Some i
-      → (has_instance i.name i.numbers front ≡ true) × (instance_of sight i ≡ None)
+  pub needs : (d : LowerTask) (todo : List LowerTask) (body : OpenBody) (i : Instantiated) → TableResult (behind (d ∷ todo) body) → missing_for d context ≡ Some i
+      → (has_instance i.name i.parametric_args front ≡ true) × (instance_of context i ≡ None)
   needs d todo body i comes e =
-      let m = missing sight d i e in
-      let q = from_then (done (at_table sight both.table) d (spot_of (at_table sight both.table) body)) (does_all (at_table sight both.table) todo) comes.0 comes.1 in
-      let x = needed_found (at_table sight both.table) d i (spot_of (at_table sight both.table) body) q.0 m.0 q.1 in
-      (ap (λ b. b || has_instance i.name i.numbers front) (sym (not_there i m.1)) ∙ sym (both.has i.name i.numbers) ∙ found_has i.name i.numbers 0 both.table x.0 x.1, m.1)
+      let m = missing context d i e in
+      let q = from_then (done (at_table context both.table) d (spot_of (at_table context both.table) body)) (does_all (at_table context both.table) todo) comes.0 comes.1 in
+      let x = needed_found (at_table context both.table) d i (spot_of (at_table context both.table) body) q.0 m.0 q.1 in
+      (ap (λ b. b || has_instance i.name i.parametric_args front) (sym (not_there i m.1)) ∙ sym (both.has i.name i.parametric_args) ∙ found_has i.name i.parametric_args 0 both.table x.0 x.1, m.1)

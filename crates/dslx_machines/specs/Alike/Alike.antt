@@ -2,7 +2,7 @@
 use Rattle.std.specs.Prelude.{◌≡◌, ℕ, List, Option, Some}
 use Rattle.dslx_meaning.specs.declared.ty.DslxType.{DslxType}
 use Rattle.dslx_meaning.specs.declared.value.DslxValue.{DslxValue}
-use Rattle.dslx_core.specs.Lowering.CorePlaces.{CoreCallee}
+use Rattle.dslx_core.specs.Lowering.CoreScopes.{CoreCallee}
 use Rattle.dslx_core.specs.Lowering.Functions.{CoreInstance}
 use Rattle.dslx_core.specs.Lowering.Lowering.{LoweredExpr}
 use Rattle.dslx_machines.specs.Machine.Callees.{CalleesByName}
@@ -22,12 +22,12 @@ Agree c d = (name : List ℕ) (given : List DslxValue) (types : List DslxType) (
 -- ---- what is lowered
 
 -- if the first is there, so is the second, and it has the same type
-abbrev pub LowersMore : Option LoweredExpr → Option LoweredExpr → Type 0
-LowersMore o q = (r : LoweredExpr) → o ≡ Some r → (s : LoweredExpr) × (q ≡ Some s) × (r.ty ≡ s.ty)
+abbrev pub LowerMono : Option LoweredExpr → Option LoweredExpr → Type 0
+LowerMono o q = (r : LoweredExpr) → o ≡ Some r → (s : LoweredExpr) × (q ≡ Some s) × (r.ty ≡ s.ty)
 
 -- if both are there, they have one type
-abbrev pub LowersAlike : Option LoweredExpr → Option LoweredExpr → Type 0
-LowersAlike o q = (r s : LoweredExpr) → o ≡ Some r → q ≡ Some s → r.ty ≡ s.ty
+abbrev pub LowerAgree : Option LoweredExpr → Option LoweredExpr → Type 0
+LowerAgree o q = (r s : LoweredExpr) → o ≡ Some r → q ≡ Some s → r.ty ≡ s.ty
 
 -- ---- instances
 

@@ -1,15 +1,15 @@
 -- The changes that steps make where an instance is lowered.
 use Rattle.std.specs.Prelude.{ℕ, suc, List, [], ◌∷◌, ◌++◌, ◌-◌, drop, length, Option, Some, None}
 use Rattle.dslx_meaning.specs.Lists.{and_then}
-use Rattle.dslx_core.specs.Lowering.CorePlaces.{BoundSlot, CorePlace}
+use Rattle.dslx_core.specs.Lowering.CoreScopes.{BoundSlot, CoreScope}
 use Rattle.dslx_core.specs.Lowering.Functions.{callee_in}
 use Rattle.dslx_core.specs.Lowering.Lowering.{LoweredExpr}
-use Rattle.dslx_machines.specs.Machine.Tasks.{LowerTask, Restores, OpenBody, InstanceSight}
+use Rattle.dslx_machines.specs.Machine.Tasks.{LowerTask, Restores, OpenBody, InstanceEnv}
 
 -- the place there
-abbrev pub place_in : InstanceSight → OpenBody → CorePlace
-place_in sight body = record {
-  known = record { items = sight.items; numbers = body.given; callee = callee_in sight.text sight.items sight.table };
+abbrev pub scope_in : InstanceEnv → OpenBody → CoreScope
+scope_in context body = record {
+  known = record { items = context.items; parametric_args = body.given; callee = callee_in context.text context.items context.table };
   locals = body.locals;
   count = body.count;
 }
@@ -35,7 +35,7 @@ with_last [] f = None
 with_last (e ∷ made) f = f e made
 
 -- with what is bound at another place
-abbrev pub bound_as : CorePlace → OpenBody → OpenBody
+abbrev pub bound_as : CoreScope → OpenBody → OpenBody
 bound_as place body = record body { locals = place.locals; count = place.count }
 
 -- one more value is bound, to no name

@@ -3,15 +3,15 @@ use Rattle.std.specs.Prelude.{ℕ, List, Option, Some}
 use Rattle.dslx_meaning.specs.Lists.{and_then}
 use Rattle.dslx_meaning.specs.declared.ty.DslxType.{DslxType}
 use Rattle.dslx_meaning.specs.declared.value.DslxValue.{DslxValue}
-use Rattle.dslx_core.specs.Lowering.CorePlaces.{CoreCallee, CorePlace}
+use Rattle.dslx_core.specs.Lowering.CoreScopes.{CoreCallee, CoreScope}
 use Rattle.dslx_core.specs.Lowering.Patterns.{LoweredShape}
 
 -- what calls come to
 abbrev pub CalleesByName : Type 0
 CalleesByName = List ℕ → List DslxValue → List DslxType → Option CoreCallee
 
-abbrev pub with_callee : CalleesByName → CorePlace → CorePlace
-with_callee c place = record { known = record { items = place.known.items; numbers = place.known.numbers; callee = c }; locals = place.locals; count = place.count }
+abbrev pub with_callee : CalleesByName → CoreScope → CoreScope
+with_callee c place = record { known = record { items = place.known.items; parametric_args = place.known.parametric_args; callee = c }; locals = place.locals; count = place.count }
 
 -- the same shape, behind which calls come to this
 abbrev pub moved : CalleesByName → Option LoweredShape → Option LoweredShape

@@ -4,10 +4,10 @@ use Rattle.dslx_tree.specs.declared.expr.Expr.{Expr}
 use Rattle.dslx_tree.specs.declared.item.Module.{Module}
 use Rattle.dslx_meaning.specs.Environment.{Meanings}
 use Rattle.dslx_core.specs.Lowering.Functions.{CoreInstance, Instantiated, instances_from}
-use Rattle.dslx_core.specs.Lowering.Trees.{expression_lowered}
+use Rattle.dslx_core.specs.Lowering.Trees.{lower_expression}
 use Rattle.dslx_machines.specs.Machine.Tasks as task
-use Rattle.dslx_machines.specs.Machine.Tasks.{OpenBody, InstanceMachine, InstanceSight}
-use Rattle.dslx_machines.specs.Machine.Bodies.{place_in}
+use Rattle.dslx_machines.specs.Machine.Tasks.{OpenBody, InstanceMachine, InstanceEnv}
+use Rattle.dslx_machines.specs.Machine.Bodies.{scope_in}
 use Rattle.dslx_machines.specs.Machine.Machines.{last_made}
 
 -- instances, each of which calls those before it
@@ -15,13 +15,13 @@ abbrev pub IsTable : Module → Meanings → List CoreInstance → Type 0
 IsTable m items table = (is : List Instantiated) × (instances_from m items [] is ≡ Some table)
 
 -- a table that begins with another
-pub record GrownFrom (table before : List CoreInstance) : Type 0 where
+pub record ExtendsTable (table before : List CoreInstance) : Type 0 where
   pub more : List CoreInstance
   pub is : table ≡ before ++ more
 
 -- with another table
-abbrev pub at_table : InstanceSight → List CoreInstance → InstanceSight
-at_table sight table = record { text = sight.text; items = sight.items; table = table }
+abbrev pub at_table : InstanceEnv → List CoreInstance → InstanceEnv
+at_table context table = record { text = context.text; items = context.items; table = table }
 
 -- nothing is left to do
 pub record HasEnded (m : InstanceMachine) : Type 0 where
@@ -33,5 +33,5 @@ abbrev pub lowering_alone : Expr → OpenBody → OpenBody
 lowering_alone e body = record { given = body.given; todo = task.LowersExpr e ∷ []; made = []; locals = body.locals; count = body.count }
 
 -- what the machine has made is what the expression becomes, however many more instances are done later
-abbrev pub MakesExpression : InstanceSight → Expr → OpenBody → InstanceMachine → Type 0
-MakesExpression sight e body m = (table : List CoreInstance) → GrownFrom table m.sight.table → expression_lowered e (place_in (at_table sight table) body) ≡ last_made m.root.made
+abbrev pub MakesExpression : InstanceEnv → Expr → OpenBody → InstanceMachine → Type 0
+MakesExpression context e body m = (table : List CoreInstance) → ExtendsTable table m.context.table → lower_expression e (scope_in (at_table context table) body) ≡ last_made m.root.made

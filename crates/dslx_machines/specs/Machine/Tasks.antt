@@ -16,7 +16,7 @@ use Rattle.dslx_meaning.specs.Environment.{Given, Meanings}
 use Rattle.dslx_meaning.specs.declared.ty.DslxType.{DslxType}
 use Rattle.dslx_meaning.specs.declared.value.SignedWord.{SignedWord}
 use Rattle.dslx_core.specs.declared.expr.Shape.{Shape}
-use Rattle.dslx_core.specs.Lowering.CorePlaces.{BoundSlot}
+use Rattle.dslx_core.specs.Lowering.CoreScopes.{BoundSlot}
 use Rattle.dslx_core.specs.Lowering.Functions.{CoreInstance, Instantiated}
 use Rattle.dslx_core.specs.Lowering.Lowering.{LoweredExpr}
 use Rattle.dslx_core.specs.Lowering.Patterns.{LoweredArm}
@@ -41,7 +41,7 @@ pub data PartsMaker : Type 0 where
   MakesArray : PartsMaker
   -- an array of so many of a type, the last one repeated if the text says so
   Fills : DslxType → ℕ → Bool → PartsMaker
-  -- a call of this name with these number arguments
+  -- a call of this name with these parametric arguments
   CallsWith : List ℕ → List Arg → PartsMaker
 
 -- a struct value of a type, while its fields are lowered: the fields that are written, and what has the others
@@ -88,7 +88,7 @@ pub data LowerTask : Type 0 where
   NeedsInstance : Instantiated → LowerTask
   CallsInstance : Instantiated → List LoweredExpr → LowerTask
 
--- what is lowered in one place: the number parameters, what is still to be done, what was made so far, the last one first,
+-- what is lowered in one place: the parametrics, what is still to be done, what was made so far, the last one first,
 -- the names that are bound, the last one first, and how many values are bound
 pub record OpenBody : Type 0 where
   pub given : List Given
@@ -104,14 +104,14 @@ pub record OpenInstance : Type 0 where
   pub body : OpenBody
 
 -- a text, what its items mean, and the instances that are done
-pub record InstanceSight : Type 0 where
+pub record InstanceEnv : Type 0 where
   pub text : Module
   pub items : Meanings
   pub table : List CoreInstance
 
 -- where the machine stands: what it lowers, and the instances that are open for it, the last one first. At most so many are open
 pub record InstanceMachine : Type 0 where
-  pub sight : InstanceSight
+  pub context : InstanceEnv
   pub limit : ℕ
   pub root : OpenBody
   pub opened : List OpenInstance

@@ -2,16 +2,16 @@
 use Rattle.std.specs.Prelude.{◌≡◌, ◌≤◌, ℕ, List, None, length}
 use Rattle.dslx_tree.specs.declared.expr.Expr.{Expr}
 use Rattle.dslx_core.specs.Lowering.Functions.{CoreInstance, Instantiated, instance_in}
-use Rattle.dslx_core.specs.Lowering.Trees.{expression_lowered}
-use Rattle.dslx_machines.specs.Machine.Bodies.{place_in}
+use Rattle.dslx_core.specs.Lowering.Trees.{lower_expression}
+use Rattle.dslx_machines.specs.Machine.Bodies.{scope_in}
 use Rattle.dslx_machines.specs.Machine.Reached.{IsTable, at_table}
-use Rattle.dslx_machines.specs.Machine.Tasks.{InstanceSight, OpenBody}
+use Rattle.dslx_machines.specs.Machine.Tasks.{InstanceEnv, OpenBody}
 
 -- no table of the text's instances has this one
-abbrev pub InNoTable : InstanceSight → ℕ → Instantiated → Type 0
-InNoTable sight limit i = (table : List CoreInstance) → IsTable sight.text sight.items table → length table ≤ limit → instance_in i.name i.numbers 0 table ≡ None
+abbrev pub InNoTable : InstanceEnv → ℕ → Instantiated → Type 0
+InNoTable context limit i = (table : List CoreInstance) → IsTable context.text context.items table → length table ≤ limit → instance_in i.name i.parametric_args 0 table ≡ None
 
 -- the expression becomes nothing there, whatever table calls are looked up in
-abbrev pub LoweredByNoTable : InstanceSight → ℕ → Expr → OpenBody → Type 0
-LoweredByNoTable sight limit e body =
-    (table : List CoreInstance) → IsTable sight.text sight.items table → length table ≤ limit → expression_lowered e (place_in (at_table sight table) body) ≡ None
+abbrev pub NoTableLowers : InstanceEnv → ℕ → Expr → OpenBody → Type 0
+NoTableLowers context limit e body =
+    (table : List CoreInstance) → IsTable context.text context.items table → length table ≤ limit → lower_expression e (scope_in (at_table context table) body) ≡ None

@@ -13,26 +13,26 @@ use Rattle.dslx_meaning.specs.declared.ty.DslxType.{DslxType, out-DslxType}
 use Rattle.dslx_meaning.specs.declared.ty.DslxType as ty
 use Rattle.dslx_meaning.specs.declared.ty.DslxType.TheOpen.{DslxType-F}
 use Rattle.dslx_meaning.specs.Rules.Mentions.{is_cyclic}
-use Rattle.dslx_meaning.specs.Rules.Judging.{Sight, Judgement, ExprPair, breaks, breaks_if, unlimited, settled, span_of, bare_of, alone, within, no_token, faults_of_all, reached_of_all, size_of_all, types_of, plus_size, one_and}
-use Rattle.dslx_meaning.specs.Rules.Judgings.{FieldSeen}
-use Rattle.dslx_meaning.specs.Rules.ConstantRules.{bare_judged, is_empty, is_unsigned}
-use Rattle.dslx_meaning.specs.Rules.NameRules.{name_judged}
+use Rattle.dslx_meaning.specs.Rules.TypeEnvs.{TypeEnv, Judgement, ExprPair, breaks, breaks_if, unlimited, settled, span_of, untyped_of, alone, within, no_token, faults_of_all, reached_of_all, size_of_all, types_of, plus_size, one_and}
+use Rattle.dslx_meaning.specs.Rules.Typings.{FieldSeen}
+use Rattle.dslx_meaning.specs.Rules.ConstantRules.{untyped_typing, is_empty, is_unsigned}
+use Rattle.dslx_meaning.specs.Rules.NameRules.{name_typing}
 use Rattle.dslx_meaning.specs.Rules.PatternRules.{is_there}
 use Rattle.dslx_meaning.specs.Rules.OperatorRules.{unless_type}
 use Rattle.dslx_meaning.specs.Rules.TypeRules.{unit_faults}
-use Rattle.dslx_meaning.specs.declared.value.Bare.{Bare}
+use Rattle.dslx_meaning.specs.declared.value.UntypedLiteral.{UntypedLiteral}
 
 -- ---- numbers
 
 -- rule 6: the number doesn't lie in the range of the type, or the type isn't bits
-abbrev pub range_faults : Span → Option DslxType → Bare → List Fault
+abbrev pub range_faults : Span → Option DslxType → UntypedLiteral → List Fault
 range_faults span None number = []
 range_faults span (Some t) number = breaks_if (not (is_there (number_value t number))) 6 span
 
 -- rule 7: without a type a number stands in few places, which judge it themselves
-abbrev pub number_judged : Span → Option Judgement → Bare → Judgement
-number_judged span None number = unlimited None (breaks 7 span ∷ []) [] (Some 1)
-number_judged span (Some t) number = unlimited t.ty (t.faults ++ range_faults span t.ty number) t.reached (Some 1)
+abbrev pub number_typing : Span → Option Judgement → UntypedLiteral → Judgement
+number_typing span None number = unlimited None (breaks 7 span ∷ []) [] (Some 1)
+number_typing span (Some t) number = unlimited t.ty (t.faults ++ range_faults span t.ty number) t.reached (Some 1)
 
 -- ---- arrays
 
@@ -49,12 +49,12 @@ wanted_faults span (Some wanted) (Some t) = breaks_if (not (same_type wanted t))
 wanted_faults span _ _ = []
 
 -- an element of an array literal that has a type, which may be a number without one
-abbrev pub element_in : Sight → Option DslxType → ExprPair → Judgement
-element_in sight wanted e = by_bare (bare_of e)
+abbrev pub element_in : TypeEnv → Option DslxType → ExprPair → Judgement
+element_in context wanted e = by_untyped (untyped_of e)
   where
-    by_bare : Option Bare → Judgement
-    by_bare None = let j = alone sight e in record j { faults = j.faults ++ wanted_faults (span_of e) wanted j.ty }
-    by_bare (Some number) = record bare_judged { ty = wanted; faults = range_faults (span_of e) wanted number }
+    by_untyped : Option UntypedLiteral → Judgement
+    by_untyped None = let j = alone context e in record j { faults = j.faults ++ wanted_faults (span_of e) wanted j.ty }
+    by_untyped (Some number) = record untyped_typing { ty = wanted; faults = range_faults (span_of e) wanted number }
 
 -- rule 21: more elements than the size, or fewer without three dots, which repeat the last one
 abbrev pub count_wrong : Bool → ℕ → ℕ → Bool
@@ -75,16 +75,16 @@ element_type (Some parts) = Some parts.0
 abbrev pub when_all : List (Option DslxType) → Option DslxType → Option DslxType
 when_all types t = and_then (all_some types) (λ ts. t)
 
-abbrev pub typed_array : Span → Sight → Judgement → List ExprPair → Bool → Judgement
-typed_array span sight t es dots =
+abbrev pub typed_array : Span → TypeEnv → Judgement → List ExprPair → Bool → Judgement
+typed_array span context t es dots =
     let parts = and_then t.ty array_in in
-    let js = map (element_in sight (element_type parts)) es in
+    let js = map (element_in context (element_type parts)) es in
     settled span (when_all (types_of js) t.ty) (t.faults ++ faults_of_all js ++ array_faults span t.ty parts (length es) dots)
     (t.reached ++ reached_of_all js) (one_and (size_of_all js))
 
 -- rule 31: an element is ()
-abbrev pub element_alone : Sight → ExprPair → Judgement
-element_alone sight e = let j = alone sight e in record j { faults = j.faults ++ unit_faults (span_of e) j.ty }
+abbrev pub element_alone : TypeEnv → ExprPair → Judgement
+element_alone context e = let j = alone context e in record j { faults = j.faults ++ unit_faults (span_of e) j.ty }
 
 -- without a type the first element decides
 abbrev pub like_first : Option DslxType → List ExprPair → List (Option DslxType) → List Fault
@@ -96,34 +96,34 @@ abbrev pub first_type_of : List (Option DslxType) → Option DslxType
 first_type_of [] = None
 first_type_of (t ∷ ts) = t
 
-abbrev pub untyped_array : Span → Sight → List ExprPair → Bool → Judgement
-untyped_array span sight es dots =
-    let js = map (element_alone sight) es in
+abbrev pub untyped_array : Span → TypeEnv → List ExprPair → Bool → Judgement
+untyped_array span context es dots =
+    let js = map (element_alone context) es in
     let first = first_type_of (types_of js) in
     settled span (when_all (types_of js) (and_then first (λ t. Some (ty.Array t (length es)))))
     (faults_of_all js ++ like_first first es (types_of js) ++ breaks_if (dots || is_empty es) 21 span) (reached_of_all js) (one_and (size_of_all js))
 
-abbrev pub array_judged : Span → Sight → Option Judgement → List ExprPair → Bool → Judgement
-array_judged span sight None es dots = untyped_array span sight es dots
-array_judged span sight (Some t) es dots = typed_array span sight t es dots
+abbrev pub array_typing : Span → TypeEnv → Option Judgement → List ExprPair → Bool → Judgement
+array_typing span context None es dots = untyped_array span context es dots
+array_typing span context (Some t) es dots = typed_array span context t es dots
 
 -- rule 19: not an array, or not an unsigned index
 abbrev pub is_array : DslxType → Bool
 is_array t = is_there (array_in t)
 
-abbrev pub index_judged : Span → Sight → ExprPair → ExprPair → Judgement
-index_judged span sight e i =
-    let whole = alone sight e in
-    let place = alone sight i in
+abbrev pub index_typing : Span → TypeEnv → ExprPair → ExprPair → Judgement
+index_typing span context e i =
+    let whole = alone context e in
+    let place = alone context i in
     settled span (and_then place.ty (λ k. element_type (and_then whole.ty array_in)))
     (whole.faults ++ place.faults ++ unless_type is_array 19 span whole.ty ++ unless_type is_unsigned 19 span place.ty)
     (whole.reached ++ place.reached) (one_and (plus_size whole.size place.size))
 
 -- ---- tuples
 
-abbrev pub tuple_judged : Span → Sight → List ExprPair → Judgement
-tuple_judged span sight es =
-    let js = map (element_alone sight) es in
+abbrev pub tuple_typing : Span → TypeEnv → List ExprPair → Judgement
+tuple_typing span context es =
+    let js = map (element_alone context) es in
     settled span (and_then (all_some (types_of js)) (λ ts. Some (ty.Tuple ts))) (faults_of_all js) (reached_of_all js) (one_and (size_of_all js))
 
 abbrev pub tuple_parts : DslxType-F DslxType → List DslxType
@@ -138,17 +138,17 @@ is_some_tuple (DslxType-F.Tuple ts) = true
 is_some_tuple _ = false
 
 -- a receive's pair may stand here, but no token
-abbrev pub pair_alone : Sight → ExprPair → Judgement
-pair_alone sight e = let j = within sight e in if_pair j j.ty
+abbrev pub pair_alone : TypeEnv → ExprPair → Judgement
+pair_alone context e = let j = within context e in if_pair j j.ty
   where
     if_pair : Judgement → Option DslxType → Judgement
     if_pair j None = j
     if_pair j (Some t) = if is_some_tuple (out-DslxType t) then j else no_token (span_of e) j
 
 -- rule 19: no such part
-abbrev pub tuple_element_judged : Span → Sight → ExprPair → ℕ → Judgement
-tuple_element_judged span sight e k =
-    let whole = pair_alone sight e in
+abbrev pub tuple_element_typing : Span → TypeEnv → ExprPair → ℕ → Judgement
+tuple_element_typing span context e k =
+    let whole = pair_alone context e in
     settled span (and_then whole.ty (λ t. part_type t k)) (whole.faults ++ unless_type (λ t. is_there (part_type t k)) 19 span whole.ty)
     whole.reached (one_and whole.size)
 
@@ -163,15 +163,15 @@ field_type None field = None
 field_type (Some t) field = struct_field_type (out-DslxType t) field
 
 -- a field of a struct value: given by its name alone it has the value of that name
-abbrev pub field_judged : Sight → Option DslxType → FieldSeen → Judgement
-field_judged sight struct f = by_value f.value
+abbrev pub field_typing : TypeEnv → Option DslxType → FieldSeen → Judgement
+field_typing context struct f = by_value f.value
   where
     wanted : Option DslxType
     wanted = field_type struct f.name.name
 
     by_value : Option ExprPair → Judgement
-    by_value None = let j = no_token f.name.span (name_judged f.name.span sight f.name.name) in record j { faults = j.faults ++ wanted_faults f.name.span wanted j.ty }
-    by_value (Some e) = let j = alone sight e in record j { faults = j.faults ++ wanted_faults (span_of e) wanted j.ty }
+    by_value None = let j = no_token f.name.span (name_typing f.name.span context f.name.name) in record j { faults = j.faults ++ wanted_faults f.name.span wanted j.ty }
+    by_value (Some e) = let j = alone context e in record j { faults = j.faults ++ wanted_faults (span_of e) wanted j.ty }
 
 -- rule 1: a field that the struct hasn't
 abbrev pub unknown_fields : List (List ℕ) → List FieldSeen → List Fault
@@ -191,33 +191,33 @@ lacks_one declared written true = false
 lacks_one declared written false = list_any (λ name. not (is_in name written)) declared
 
 -- what gives the other fields is of the struct
-abbrev pub others_judged : Sight → Option DslxType → Option ExprPair → Judgement
-others_judged sight struct None = record { ty = struct; faults = []; reached = []; size = Some 0 }
-others_judged sight struct (Some e) = let j = alone sight e in record j { faults = j.faults ++ wanted_faults (span_of e) struct j.ty }
+abbrev pub others_typing : TypeEnv → Option DslxType → Option ExprPair → Judgement
+others_typing context struct None = record { ty = struct; faults = []; reached = []; size = Some 0 }
+others_typing context struct (Some e) = let j = alone context e in record j { faults = j.faults ++ wanted_faults (span_of e) struct j.ty }
 
-abbrev pub struct_with : Span → Sight → Ident → List FieldSeen → Option ExprPair → Option DslxType → Struct → Judgement
-struct_with span sight name fields others struct declared =
-    let js = map (field_judged sight struct) fields in
-    let rest = others_judged sight struct others in
+abbrev pub struct_with : Span → TypeEnv → Ident → List FieldSeen → Option ExprPair → Option DslxType → Struct → Judgement
+struct_with span context name fields others struct declared =
+    let js = map (field_typing context struct) fields in
+    let rest = others_typing context struct others in
     let names = map name_of_field declared.fields in
     settled span (when_all (rest.ty ∷ types_of js) struct)
-    (breaks_if (is_cyclic sight.known.whole sight.home name.name) 3 name.span ++ faults_of_all js ++ rest.faults ++ unknown_fields names fields
+    (breaks_if (is_cyclic context.known.whole context.owner name.name) 3 name.span ++ faults_of_all js ++ rest.faults ++ unknown_fields names fields
     ++ breaks_if (has_twice (written_fields fields) || lacks_one names (written_fields fields) (is_there others)) 22 span)
     (reached_of_all js ++ rest.reached) (one_and (plus_size (size_of_all js) rest.size))
 
-abbrev pub struct_if : Span → Sight → Ident → List FieldSeen → Option ExprPair → Option Struct → Judgement
-struct_if span sight name fields others None =
-    let js = map (field_judged sight None) fields in
-    let rest = others_judged sight None others in
+abbrev pub struct_if : Span → TypeEnv → Ident → List FieldSeen → Option ExprPair → Option Struct → Judgement
+struct_if span context name fields others None =
+    let js = map (field_typing context None) fields in
+    let rest = others_typing context None others in
     settled span None (breaks 1 name.span ∷ faults_of_all js ++ rest.faults) (reached_of_all js ++ rest.reached) (one_and (plus_size (size_of_all js) rest.size))
-struct_if span sight name fields others (Some declared) = struct_with span sight name fields others (sight.known.items.struct_named name.name) declared
+struct_if span context name fields others (Some declared) = struct_with span context name fields others (context.known.items.struct_named name.name) declared
 
-abbrev pub struct_judged : Span → Sight → Ident → List FieldSeen → Option ExprPair → Judgement
-struct_judged span sight name fields others = struct_if span sight name fields others (as_struct (item_named name.name sight.known.whole.items))
+abbrev pub struct_typing : Span → TypeEnv → Ident → List FieldSeen → Option ExprPair → Judgement
+struct_typing span context name fields others = struct_if span context name fields others (as_struct (item_named name.name context.known.whole.items))
 
 -- rule 19: no such field
-abbrev pub field_part_judged : Span → Sight → ExprPair → Ident → Judgement
-field_part_judged span sight e name =
-    let whole = alone sight e in
+abbrev pub field_part_typing : Span → TypeEnv → ExprPair → Ident → Judgement
+field_part_typing span context e name =
+    let whole = alone context e in
     settled span (field_type whole.ty name.name) (whole.faults ++ unless_type (λ t. is_there (field_type (Some t) name.name)) 19 span whole.ty)
     whole.reached (one_and whole.size)

@@ -9,7 +9,7 @@ use Rattle.dslx_tree.specs.declared.block.Stmt.TheOpen.{Node-F, TypeNode-F}
 use Rattle.dslx_tree.specs.declared.expr.Expr.{Expr, out-Expr}
 use Rattle.dslx_tree.specs.declared.type_expr.TypeExpr.{TypeExpr, fold-TypeExpr}
 use Rattle.dslx_tree.specs.declared.item.Function.{Function}
-use Rattle.dslx_tree.specs.declared.item.Parameter.{Parameter}
+use Rattle.dslx_tree.specs.declared.item.Parametric.{Parametric}
 use Rattle.dslx_tree.specs.declared.item.Field.{Field}
 use Rattle.dslx_tree.specs.declared.process.Direction.{Direction}
 use Rattle.dslx_tree.specs.declared.process.Direction.TheVariants.{In, Out}
@@ -25,13 +25,13 @@ use Rattle.dslx_meaning.specs.declared.ty.DslxType.{DslxType}
 use Rattle.dslx_meaning.specs.declared.ty.DslxType as ty
 use Rattle.dslx_meaning.specs.declared.value.DslxValue.{DslxValue}
 use Rattle.dslx_meaning.specs.Rules.Mentions.{is_cyclic}
-use Rattle.dslx_meaning.specs.Rules.Judging.{Known, Instance, Outlet, Sight, Judgement, ExprPair, breaks, breaks_if, settled, has_broken, span_of, name_of_expr, within, alone, all_alone, faults_of_all, reached_of_all, size_of_all, types_of, plus_size, one_and, typed_in}
-use Rattle.dslx_meaning.specs.Rules.Judgings.{ArgPair}
+use Rattle.dslx_meaning.specs.Rules.TypeEnvs.{GlobalEnv, Instance, ChannelEnd, TypeEnv, Judgement, ExprPair, breaks, breaks_if, settled, has_broken, span_of, name_of_expr, within, alone, all_alone, faults_of_all, reached_of_all, size_of_all, types_of, plus_size, one_and, typed_in}
+use Rattle.dslx_meaning.specs.Rules.Typings.{ArgPair}
 use Rattle.dslx_meaning.specs.Rules.ConstantRules.{ConstantSeen, constant_of, is_empty, is_unsigned}
 use Rattle.dslx_meaning.specs.Rules.OperatorRules.{unless_type, is_bits, is_bool}
 use Rattle.dslx_meaning.specs.Rules.AggregateRules.{wanted_faults, is_array, array_in, element_type, when_all}
 
--- ---- number parameters
+-- ---- parametrics
 
 -- which names a written type may infer
 abbrev pub NameList : Type 0
@@ -75,12 +75,12 @@ maybe_inferred (f ∷ fs) (None ∷ ts) = inferable_in f.ty ++ maybe_inferred fs
 maybe_inferred (f ∷ fs) (Some t ∷ ts) = maybe_inferred fs ts
 
 -- all numbers that are inferred for a name
-abbrev pub numbers_for : List ℕ → List Inferred → List ℕ
-numbers_for name [] = []
-numbers_for name (i ∷ is) = if bytes_eq name i.name then i.number ∷ numbers_for name is else numbers_for name is
+abbrev pub parametric_args_for : List ℕ → List Inferred → List ℕ
+parametric_args_for name [] = []
+parametric_args_for name (i ∷ is) = if bytes_eq name i.name then i.number ∷ parametric_args_for name is else parametric_args_for name is
 
--- a number argument that is written
-pub record GivenNumber : Type 0 where
+-- a parametric argument that is written
+pub record ParametricArgument : Type 0 where
   pub span : Span
   pub seen : ConstantSeen
 
@@ -115,14 +115,14 @@ pub record Before : Type 0 where
 abbrev pub known_before : List Given → Before
 known_before values = record { values = values; unknown = [] }
 
-abbrev pub and_parameter : Before → Parameter → Resolved → Before
-and_parameter before p (Number v) = record before { values = with_number before.values p v }
-and_parameter before p Unknown = record before { unknown = p.name.name ∷ before.unknown }
-and_parameter before p Wrong = record before { unknown = p.name.name ∷ before.unknown }
+abbrev pub and_parametric : Before → Parametric → Resolved → Before
+and_parametric before p (Number v) = record before { values = with_number before.values p v }
+and_parametric before p Unknown = record before { unknown = p.name.name ∷ before.unknown }
+and_parametric before p Wrong = record before { unknown = p.name.name ∷ before.unknown }
 
 -- the type that is declared for a parameter, an argument or an end, where () is none
-abbrev pub declared_type : Known → List ℕ → Before → TypeExpr → Option DslxType
-declared_type known home before t = and_then (known.type_in home before.values before.unknown t) (λ t. if is_unit t then None else Some t)
+abbrev pub declared_type : GlobalEnv → List ℕ → Before → TypeExpr → Option DslxType
+declared_type known owner before t = and_then (known.type_in owner before.values before.unknown t) (λ t. if is_unit t then None else Some t)
 
 -- what is judged of another declaration: what it breaks and passes there, and the instances that it reaches
 pub record JudgedThere : Type 0 where
@@ -136,41 +136,41 @@ abbrev pub and_there : JudgedThere → JudgedThere → JudgedThere
 and_there a b = record { faults = a.faults ++ b.faults; reached = a.reached ++ b.reached }
 
 -- the type of a parameter is judged at a call, up to the first parameter without a value
-abbrev pub type_there : Known → List ℕ → Before → Parameter → JudgedThere
-type_there known home before p =
+abbrev pub type_there : GlobalEnv → List ℕ → Before → Parametric → JudgedThere
+type_there known owner before p =
     if is_empty before.unknown
-    then record { faults = (known.type_seen_in home before.values p.ty).faults; reached = (known.type_seen_in home before.values p.ty).reached }
+    then record { faults = (known.type_seen_in owner before.values p.ty).faults; reached = (known.type_seen_in owner before.values p.ty).reached }
     else nothing_there
 
 -- a parameter that isn't given, with what is judged of its default where that is used
 pub record NotGiven : Type 0 where
   pub value : Resolved
-  pub judged : JudgedThere
+  pub typing : JudgedThere
 
 abbrev pub without_default : Resolved → NotGiven
-without_default r = record { value = r; judged = nothing_there }
+without_default r = record { value = r; typing = nothing_there }
 
-abbrev pub default_there : Known → List ℕ → List Given → Option DslxType → Expr → NotGiven
-default_there known home values t e =
-    let default = known.default_in home values e in
+abbrev pub default_there : GlobalEnv → List ℕ → List Given → Option DslxType → Expr → NotGiven
+default_there known owner values t e =
+    let default = known.default_in owner values e in
     record {
       value = resolved_value (of_type t default.value);
-      judged = record { faults = default.judgement.faults ++ wanted_faults (out-Expr e).span t default.judgement.ty; reached = default.judgement.reached };
+      typing = record { faults = default.judgement.faults ++ wanted_faults (out-Expr e).span t default.judgement.ty; reached = default.judgement.reached };
     }
 
 -- behind a parameter without a value no default is looked at
-abbrev pub default_value : Known → List ℕ → Before → Option DslxType → Option Expr → NotGiven
-default_value known home before t None = without_default Wrong
-default_value known home before t (Some e) = if is_empty before.unknown then default_there known home before.values t e else without_default Unknown
+abbrev pub default_value : GlobalEnv → List ℕ → Before → Option DslxType → Option Expr → NotGiven
+default_value known owner before t None = without_default Wrong
+default_value known owner before t (Some e) = if is_empty before.unknown then default_there known owner before.values t e else without_default Unknown
 
 -- inferred, if that is one number, or else the default
-abbrev pub not_given : Known → List ℕ → Before → Parameter → Option DslxType → Bool → List ℕ → NotGiven
-not_given known home before p t maybe [] = if maybe then without_default Unknown else default_value known home before t p.default
-not_given known home before p t maybe (n ∷ ns) = without_default (if list_all (λ k. k == n) ns then in_type t n else Wrong)
+abbrev pub not_given : GlobalEnv → List ℕ → Before → Parametric → Option DslxType → Bool → List ℕ → NotGiven
+not_given known owner before p t maybe [] = if maybe then without_default Unknown else default_value known owner before t p.default
+not_given known owner before p t maybe (n ∷ ns) = without_default (if list_all (λ k. k == n) ns then in_type t n else Wrong)
 
--- the number parameters of a call or a spawn: the values where all are known, those that are, whether rule 10 is broken, rule 9
+-- the parametrics of a call or a spawn: the values where all are known, those that are, whether rule 10 is broken, rule 9
 -- at what is given, and what is judged of the other declaration
-pub record NumbersSeen : Type 0 where
+pub record ParametricArgsSeen : Type 0 where
   pub values : Option (List DslxValue)
   pub bound : Before
   pub is_wrong : Bool
@@ -181,103 +181,103 @@ abbrev pub value_before : Resolved → Option (List DslxValue) → Option (List 
 value_before (Number v) (Some vs) = Some (v ∷ vs)
 value_before _ _ = None
 
-abbrev pub is_wrong_number : Resolved → Bool
-is_wrong_number Wrong = true
-is_wrong_number _ = false
+abbrev pub is_wrong_parametric : Resolved → Bool
+is_wrong_parametric Wrong = true
+is_wrong_parametric _ = false
 
-abbrev pub number_before : Resolved → List Fault → JudgedThere → NumbersSeen → NumbersSeen
+abbrev pub number_before : Resolved → List Fault → JudgedThere → ParametricArgsSeen → ParametricArgsSeen
 number_before r faults declared rest = record {
   values = value_before r rest.values;
   bound = rest.bound;
-  is_wrong = is_wrong_number r || rest.is_wrong;
+  is_wrong = is_wrong_parametric r || rest.is_wrong;
   faults = faults ++ rest.faults;
   declared = and_there declared rest.declared;
 }
 
-abbrev pub numbers_seen : Known → List ℕ → List Inferred → List (List ℕ) → Before → List Parameter → List GivenNumber → NumbersSeen
-numbers_seen known home inferred maybe before [] [] = record { values = Some []; bound = before; is_wrong = false; faults = []; declared = nothing_there }
-numbers_seen known home inferred maybe before [] (g ∷ gs) = record { values = None; bound = before; is_wrong = true; faults = []; declared = nothing_there }
-numbers_seen known home inferred maybe before (p ∷ ps) (g ∷ gs) =
-    let t = declared_type known home before p.ty in
+abbrev pub parametric_args_seen : GlobalEnv → List ℕ → List Inferred → List (List ℕ) → Before → List Parametric → List ParametricArgument → ParametricArgsSeen
+parametric_args_seen known owner inferred maybe before [] [] = record { values = Some []; bound = before; is_wrong = false; faults = []; declared = nothing_there }
+parametric_args_seen known owner inferred maybe before [] (g ∷ gs) = record { values = None; bound = before; is_wrong = true; faults = []; declared = nothing_there }
+parametric_args_seen known owner inferred maybe before (p ∷ ps) (g ∷ gs) =
+    let t = declared_type known owner before p.ty in
     let r = resolved_value (of_type t g.seen.value) in
-    number_before r (wanted_faults g.span t g.seen.judgement.ty) (type_there known home before p)
-    (numbers_seen known home inferred maybe (and_parameter before p r) ps gs)
-numbers_seen known home inferred maybe before (p ∷ ps) [] =
-    let r = not_given known home before p (declared_type known home before p.ty) (is_in p.name.name maybe) (numbers_for p.name.name inferred) in
-    number_before r.value [] (and_there (type_there known home before p) r.judged)
-    (numbers_seen known home inferred maybe (and_parameter before p r.value) ps [])
+    number_before r (wanted_faults g.span t g.seen.judgement.ty) (type_there known owner before p)
+    (parametric_args_seen known owner inferred maybe (and_parametric before p r) ps gs)
+parametric_args_seen known owner inferred maybe before (p ∷ ps) [] =
+    let r = not_given known owner before p (declared_type known owner before p.ty) (is_in p.name.name maybe) (parametric_args_for p.name.name inferred) in
+    number_before r.value [] (and_there (type_there known owner before p) r.typing)
+    (parametric_args_seen known owner inferred maybe (and_parametric before p r.value) ps [])
 
 -- a call or a spawn that breaks rule 3 or 10 judges nothing of the other declaration, and reaches no instance of it
-abbrev pub is_refused : List Fault → NumbersSeen → Bool
-is_refused cyclic numbers = has_broken cyclic || numbers.is_wrong
+abbrev pub is_refused : List Fault → ParametricArgsSeen → Bool
+is_refused cyclic parametric_args = has_broken cyclic || parametric_args.is_wrong
 
-abbrev pub judged_there : List Fault → NumbersSeen → JudgedThere
-judged_there cyclic numbers = if is_refused cyclic numbers then nothing_there else numbers.declared
+abbrev pub typing_there : List Fault → ParametricArgsSeen → JudgedThere
+typing_there cyclic parametric_args = if is_refused cyclic parametric_args then nothing_there else parametric_args.declared
 
-abbrev pub given_numbers : Sight → List ArgPair → List GivenNumber
-given_numbers sight as' = map (λ (a : ArgPair). record { span = span_of a.1; seen = constant_of sight a.1 }) as'
+abbrev pub given_parametric_args : TypeEnv → List ArgPair → List ParametricArgument
+given_parametric_args context as' = map (λ (a : ArgPair). record { span = span_of a.1; seen = constant_of context a.1 }) as'
 
-abbrev pub given_judgements : List GivenNumber → List Judgement
-given_judgements gs = map (λ (g : GivenNumber). g.seen.judgement) gs
+abbrev pub given_judgements : List ParametricArgument → List Judgement
+given_judgements gs = map (λ (g : ParametricArgument). g.seen.judgement) gs
 
 -- ---- calls of functions
 
 -- rule 9 at the operands
-abbrev pub operand_faults : Known → List ℕ → Before → List Field → List ExprPair → List Judgement → List Fault
-operand_faults known home bound (f ∷ fs) (e ∷ es) (j ∷ js) =
-    wanted_faults (span_of e) (declared_type known home bound f.ty) j.ty ++ operand_faults known home bound fs es js
-operand_faults known home bound _ _ _ = []
+abbrev pub operand_faults : GlobalEnv → List ℕ → Before → List Field → List ExprPair → List Judgement → List Fault
+operand_faults known owner bound (f ∷ fs) (e ∷ es) (j ∷ js) =
+    wanted_faults (span_of e) (declared_type known owner bound f.ty) j.ty ++ operand_faults known owner bound fs es js
+operand_faults known owner bound _ _ _ = []
 
-abbrev pub result_type : Known → List ℕ → Before → Option TypeExpr → Option DslxType
-result_type known home bound None = Some unit_type
-result_type known home bound (Some t) = known.type_in home bound.values bound.unknown t
+abbrev pub result_type : GlobalEnv → List ℕ → Before → Option TypeExpr → Option DslxType
+result_type known owner bound None = Some unit_type
+result_type known owner bound (Some t) = known.type_in owner bound.values bound.unknown t
 
--- the type of what a call gives: where all number parameters are known, and each operand has a type
-abbrev pub call_type : Known → Function → NumbersSeen → List Judgement → Option DslxType
-call_type known f numbers js = and_then numbers.values (λ vs. when_all (types_of js) (result_type known f.name.name numbers.bound f.result))
+-- the type of what a call gives: where all parametrics are known, and each operand has a type
+abbrev pub call_type : GlobalEnv → Function → ParametricArgsSeen → List Judgement → Option DslxType
+call_type known f parametric_args js = and_then parametric_args.values (λ vs. when_all (types_of js) (result_type known f.name.name parametric_args.bound f.result))
 
 abbrev pub reached_by : Bool → List ℕ → Option (List DslxValue) → List Instance
-reached_by true name numbers = []
+reached_by true name parametric_args = []
 reached_by false name None = []
-reached_by false name (Some vs) = record { name = name; numbers = vs } ∷ []
+reached_by false name (Some vs) = record { name = name; parametric_args = vs } ∷ []
 
-abbrev pub callee_size : Known → List ℕ → Option (List DslxValue) → Option ℕ
+abbrev pub callee_size : GlobalEnv → List ℕ → Option (List DslxValue) → Option ℕ
 callee_size known name None = None
-callee_size known name (Some vs) = known.body_size (record { name = name; numbers = vs })
+callee_size known name (Some vs) = known.body_size (record { name = name; parametric_args = vs })
 
-abbrev pub call_parts_faults : List GivenNumber → List Judgement → List Fault
+abbrev pub call_parts_faults : List ParametricArgument → List Judgement → List Fault
 call_parts_faults given js = faults_of_all (given_judgements given) ++ faults_of_all js
 
-abbrev pub call_parts_reached : List GivenNumber → List Judgement → List Instance
+abbrev pub call_parts_reached : List ParametricArgument → List Judgement → List Instance
 call_parts_reached given js = reached_of_all (given_judgements given) ++ reached_of_all js
 
 -- rule 10: another number of arguments
-abbrev pub wrong_call : Span → List GivenNumber → List Judgement → List Fault → Judgement
+abbrev pub wrong_call : Span → List ParametricArgument → List Judgement → List Fault → Judgement
 wrong_call span given js more =
     settled span None (call_parts_faults given js ++ breaks 10 span ∷ more) (call_parts_reached given js) None
 
-abbrev pub right_call : Span → Sight → Function → List GivenNumber → List ExprPair → List Judgement → List Fault → NumbersSeen → Judgement
-right_call span sight f given es js cyclic numbers =
-    let declared = judged_there cyclic numbers in
-    settled span (call_type sight.known f numbers js)
-    (call_parts_faults given js ++ cyclic ++ numbers.faults ++ declared.faults ++ breaks_if numbers.is_wrong 10 span
-    ++ (if numbers.is_wrong then [] else operand_faults sight.known f.name.name numbers.bound f.arguments es js))
-    (call_parts_reached given js ++ declared.reached ++ reached_by (is_refused cyclic numbers) f.name.name numbers.values)
-    (one_and (plus_size (size_of_all js) (callee_size sight.known f.name.name numbers.values)))
+abbrev pub right_call : Span → TypeEnv → Function → List ParametricArgument → List ExprPair → List Judgement → List Fault → ParametricArgsSeen → Judgement
+right_call span context f given es js cyclic parametric_args =
+    let declared = typing_there cyclic parametric_args in
+    settled span (call_type context.known f parametric_args js)
+    (call_parts_faults given js ++ cyclic ++ parametric_args.faults ++ declared.faults ++ breaks_if parametric_args.is_wrong 10 span
+    ++ (if parametric_args.is_wrong then [] else operand_faults context.known f.name.name parametric_args.bound f.arguments es js))
+    (call_parts_reached given js ++ declared.reached ++ reached_by (is_refused cyclic parametric_args) f.name.name parametric_args.values)
+    (one_and (plus_size (size_of_all js) (callee_size context.known f.name.name parametric_args.values)))
 
--- operands of these types infer number parameters
-abbrev pub call_numbers : Known → Function → List GivenNumber → List (Option DslxType) → NumbersSeen
-call_numbers known f given types = numbers_seen known f.name.name (inferred_by f.arguments types) (maybe_inferred f.arguments types) (known_before []) f.parameters given
+-- operands of these types infer parametrics
+abbrev pub call_parametric_args : GlobalEnv → Function → List ParametricArgument → List (Option DslxType) → ParametricArgsSeen
+call_parametric_args known f given types = parametric_args_seen known f.name.name (inferred_by f.arguments types) (maybe_inferred f.arguments types) (known_before []) f.parametrics given
 
-abbrev pub has_right_count : Function → List GivenNumber → List ExprPair → Bool
-has_right_count f given es = length es == length f.arguments && not (nat_lt (length f.parameters) (length given))
+abbrev pub has_right_count : Function → List ParametricArgument → List ExprPair → Bool
+has_right_count f given es = length es == length f.arguments && not (nat_lt (length f.parametrics) (length given))
 
-abbrev pub function_call : Span → Sight → Ident → List GivenNumber → List ExprPair → List Judgement → Option Function → Judgement
-function_call span sight name given es js None = settled span None (call_parts_faults given js ++ breaks 1 name.span ∷ []) (call_parts_reached given js) None
-function_call span sight name given es js (Some f) =
-    let cyclic = breaks_if (is_cyclic sight.known.whole sight.home name.name) 3 span in
+abbrev pub function_call : Span → TypeEnv → Ident → List ParametricArgument → List ExprPair → List Judgement → Option Function → Judgement
+function_call span context name given es js None = settled span None (call_parts_faults given js ++ breaks 1 name.span ∷ []) (call_parts_reached given js) None
+function_call span context name given es js (Some f) =
+    let cyclic = breaks_if (is_cyclic context.known.whole context.owner name.name) 3 span in
     if has_right_count f given es then
-    right_call span sight f given es js cyclic (call_numbers sight.known f given (types_of js))
+    right_call span context f given es js cyclic (call_parametric_args context.known f given (types_of js))
     else wrong_call span given js cyclic
 
 -- ---- builtins
@@ -315,45 +315,45 @@ abbrev pub token_faults : Span → Option DslxType → List Fault
 token_faults span None = []
 token_faults span (Some t) = held_faults span (Some t) ++ breaks_if (not (holds_token t)) 9 span
 
-abbrev pub token_judged : Sight → ExprPair → Judgement
-token_judged sight e = let j = within sight e in record j { faults = j.faults ++ token_faults (span_of e) j.ty }
+abbrev pub token_typing : TypeEnv → ExprPair → Judgement
+token_typing context e = let j = within context e in record j { faults = j.faults ++ token_faults (span_of e) j.ty }
 
-abbrev pub held_judged : Sight → ExprPair → Judgement
-held_judged sight e = let j = within sight e in record j { faults = j.faults ++ held_faults (span_of e) j.ty }
+abbrev pub held_typing : TypeEnv → ExprPair → Judgement
+held_typing context e = let j = within context e in record j { faults = j.faults ++ held_faults (span_of e) j.ty }
 
-abbrev pub joining : Span → Sight → List ExprPair → Judgement
-joining span sight es =
-    let js = map (token_judged sight) es in
+abbrev pub joining : Span → TypeEnv → List ExprPair → Judgement
+joining span context es =
+    let js = map (token_typing context) es in
     settled span (when_all (types_of js) (Some ty.Token)) (faults_of_all js) (reached_of_all js) (one_and (size_of_all js))
 
-abbrev pub outlet_in : List ℕ → List Outlet → Option Outlet
-outlet_in name [] = None
-outlet_in name (o ∷ os) = if bytes_eq name o.name then Some o else outlet_in name os
+abbrev pub channel_end_in : List ℕ → List ChannelEnd → Option ChannelEnd
+channel_end_in name [] = None
+channel_end_in name (o ∷ os) = if bytes_eq name o.name then Some o else channel_end_in name os
 
 -- the end that a name stands for: a member's, unless a bound name hides it
-abbrev pub outlet_if : Option (Option DslxType) → Option Outlet → Option Outlet
-outlet_if None outlet = outlet
-outlet_if (Some ty) outlet = None
+abbrev pub channel_end_if : Option (Option DslxType) → Option ChannelEnd → Option ChannelEnd
+channel_end_if None channel_end = channel_end
+channel_end_if (Some ty) channel_end = None
 
-abbrev pub outlet_at : Sight → List ℕ → Option Outlet
-outlet_at sight name = outlet_if (typed_in name sight.locals) (outlet_in name sight.members)
+abbrev pub channel_end_at : TypeEnv → List ℕ → Option ChannelEnd
+channel_end_at context name = channel_end_if (typed_in name context.locals) (channel_end_in name context.members)
 
 -- an effect's channel: the end, if it is one, and its name
 pub record ChannelSeen : Type 0 where
   pub judgement : Judgement
-  pub outlet : Option Outlet
+  pub channel_end : Option ChannelEnd
   pub name : Option (List ℕ)
 
-abbrev pub named_channel : Span → List ℕ → Option Outlet → Judgement
+abbrev pub named_channel : Span → List ℕ → Option ChannelEnd → Judgement
 named_channel span name None = record { ty = None; faults = breaks 1 span ∷ []; reached = []; size = Some 1 }
-named_channel span name (Some outlet) = record { ty = None; faults = []; reached = []; size = Some 1 }
+named_channel span name (Some channel_end) = record { ty = None; faults = []; reached = []; size = Some 1 }
 
-abbrev pub channel_named : Sight → ExprPair → Option (List ℕ) → ChannelSeen
-channel_named sight e None = record { judgement = alone sight e; outlet = None; name = None }
-channel_named sight e (Some name) = record { judgement = named_channel (span_of e) name (outlet_at sight name); outlet = outlet_at sight name; name = Some name }
+abbrev pub channel_named : TypeEnv → ExprPair → Option (List ℕ) → ChannelSeen
+channel_named context e None = record { judgement = alone context e; channel_end = None; name = None }
+channel_named context e (Some name) = record { judgement = named_channel (span_of e) name (channel_end_at context name); channel_end = channel_end_at context name; name = Some name }
 
-abbrev pub channel_seen : Sight → ExprPair → ChannelSeen
-channel_seen sight e = channel_named sight e (name_of_expr e)
+abbrev pub channel_seen : TypeEnv → ExprPair → ChannelSeen
+channel_seen context e = channel_named context e (name_of_expr e)
 
 abbrev pub same_direction : Direction → Direction → Bool
 same_direction In In = true
@@ -361,68 +361,68 @@ same_direction Out Out = true
 same_direction In Out = false
 same_direction Out In = false
 
-abbrev pub goes_there : Direction → Option Outlet → Bool
+abbrev pub goes_there : Direction → Option ChannelEnd → Bool
 goes_there direction None = false
 goes_there direction (Some o) = same_direction direction o.direction
 
-abbrev pub has_site : Sight → Option (List ℕ) → Bool
-has_site sight None = false
-has_site sight (Some name) = is_in name sight.used
+abbrev pub has_site : TypeEnv → Option (List ℕ) → Bool
+has_site context None = false
+has_site context (Some name) = is_in name context.used
 
 -- rule 29: no member, of the other direction, or with a site before
-abbrev pub site_faults : Span → Sight → Direction → ChannelSeen → List Fault
-site_faults span sight direction c = breaks_if (not (goes_there direction c.outlet) || has_site sight c.name) 29 span
+abbrev pub site_faults : Span → TypeEnv → Direction → ChannelSeen → List Fault
+site_faults span context direction c = breaks_if (not (goes_there direction c.channel_end) || has_site context c.name) 29 span
 
 abbrev pub word_of : ChannelSeen → Option DslxType
-word_of c = and_then c.outlet (λ (o : Outlet). o.word)
+word_of c = and_then c.channel_end (λ (o : ChannelEnd). o.word)
 
 -- an effect of these arguments: a token, a channel, and others, with their faults
-abbrev pub effect_with : Span → Sight → Direction → Judgement → ChannelSeen → List Judgement → List Fault → Option DslxType → Judgement
-effect_with span sight direction t c others more given =
+abbrev pub effect_with : Span → TypeEnv → Direction → Judgement → ChannelSeen → List Judgement → List Fault → Option DslxType → Judgement
+effect_with span context direction t c others more given =
     settled span (and_then t.ty (λ u. when_all (types_of others) given))
-    (t.faults ++ c.judgement.faults ++ faults_of_all others ++ more ++ site_faults span sight direction c)
+    (t.faults ++ c.judgement.faults ++ faults_of_all others ++ more ++ site_faults span context direction c)
     (t.reached ++ c.judgement.reached ++ reached_of_all others)
     (one_and (plus_size t.size (plus_size c.judgement.size (size_of_all others))))
 
--- another number of arguments than the effect's, or number arguments
-abbrev pub wrong_effect : Span → Sight → List GivenNumber → List ExprPair → Judgement
-wrong_effect span sight given [] = wrong_call span given [] []
-wrong_effect span sight given (t ∷ []) = wrong_call span given (held_judged sight t ∷ []) []
-wrong_effect span sight given (t ∷ c ∷ es) = wrong_call span given (held_judged sight t ∷ (channel_seen sight c).judgement ∷ all_alone sight es) []
+-- another number of arguments than the effect's, or parametric arguments
+abbrev pub wrong_effect : Span → TypeEnv → List ParametricArgument → List ExprPair → Judgement
+wrong_effect span context given [] = wrong_call span given [] []
+wrong_effect span context given (t ∷ []) = wrong_call span given (held_typing context t ∷ []) []
+wrong_effect span context given (t ∷ c ∷ es) = wrong_call span given (held_typing context t ∷ (channel_seen context c).judgement ∷ all_alone context es) []
 
-abbrev pub receiving : Span → Sight → List ExprPair → Judgement
-receiving span sight (t ∷ c ∷ []) =
-    let channel = channel_seen sight c in
-    effect_with span sight In (token_judged sight t) channel [] [] (and_then (word_of channel) (λ w. Some (received w)))
-receiving span sight es = wrong_effect span sight [] es
+abbrev pub receiving : Span → TypeEnv → List ExprPair → Judgement
+receiving span context (t ∷ c ∷ []) =
+    let channel = channel_seen context c in
+    effect_with span context In (token_typing context t) channel [] [] (and_then (word_of channel) (λ w. Some (received w)))
+receiving span context es = wrong_effect span context [] es
 
-abbrev pub receiving_if : Span → Sight → List ExprPair → Judgement
-receiving_if span sight (t ∷ c ∷ p ∷ e ∷ []) =
-    let channel = channel_seen sight c in
-    let condition = alone sight p in
-    let default = alone sight e in
-    effect_with span sight In (token_judged sight t) channel (condition ∷ default ∷ [])
+abbrev pub receiving_if : Span → TypeEnv → List ExprPair → Judgement
+receiving_if span context (t ∷ c ∷ p ∷ e ∷ []) =
+    let channel = channel_seen context c in
+    let condition = alone context p in
+    let default = alone context e in
+    effect_with span context In (token_typing context t) channel (condition ∷ default ∷ [])
     (unless_type is_bool 15 (span_of p) condition.ty ++ wanted_faults (span_of e) (word_of channel) default.ty)
     (and_then (word_of channel) (λ w. Some (received w)))
-receiving_if span sight es = wrong_effect span sight [] es
+receiving_if span context es = wrong_effect span context [] es
 
-abbrev pub sending : Span → Sight → List ExprPair → Judgement
-sending span sight (t ∷ c ∷ e ∷ []) =
-    let channel = channel_seen sight c in
-    let word = alone sight e in
-    effect_with span sight Out (token_judged sight t) channel (word ∷ []) (wanted_faults (span_of e) (word_of channel) word.ty)
+abbrev pub sending : Span → TypeEnv → List ExprPair → Judgement
+sending span context (t ∷ c ∷ e ∷ []) =
+    let channel = channel_seen context c in
+    let word = alone context e in
+    effect_with span context Out (token_typing context t) channel (word ∷ []) (wanted_faults (span_of e) (word_of channel) word.ty)
     (and_then (word_of channel) (λ w. Some ty.Token))
-sending span sight es = wrong_effect span sight [] es
+sending span context es = wrong_effect span context [] es
 
-abbrev pub sending_if : Span → Sight → List ExprPair → Judgement
-sending_if span sight (t ∷ c ∷ p ∷ e ∷ []) =
-    let channel = channel_seen sight c in
-    let condition = alone sight p in
-    let word = alone sight e in
-    effect_with span sight Out (token_judged sight t) channel (condition ∷ word ∷ [])
+abbrev pub sending_if : Span → TypeEnv → List ExprPair → Judgement
+sending_if span context (t ∷ c ∷ p ∷ e ∷ []) =
+    let channel = channel_seen context c in
+    let condition = alone context p in
+    let word = alone context e in
+    effect_with span context Out (token_typing context t) channel (condition ∷ word ∷ [])
     (unless_type is_bool 15 (span_of p) condition.ty ++ wanted_faults (span_of e) (word_of channel) word.ty)
     (and_then (word_of channel) (λ w. Some ty.Token))
-sending_if span sight es = wrong_effect span sight [] es
+sending_if span context es = wrong_effect span context [] es
 
 -- rule 28: an effect stands at the top of `next` alone
 abbrev pub only_on_top : Bool → Span → Judgement → Judgement
@@ -431,29 +431,29 @@ only_on_top false span j = record { ty = None; faults = j.faults ++ breaks 28 sp
 
 -- ---- any call
 
--- rule 10: a builtin has no number arguments
-abbrev pub without_numbers : Span → Sight → List ArgPair → List ExprPair → Judgement → Judgement
-without_numbers span sight [] es j = j
-without_numbers span sight (n ∷ ns) es j = wrong_call span (given_numbers sight (n ∷ ns)) (all_alone sight es) []
+-- rule 10: a builtin has no parametric arguments
+abbrev pub without_parametric_args : Span → TypeEnv → List ArgPair → List ExprPair → Judgement → Judgement
+without_parametric_args span context [] es j = j
+without_parametric_args span context (n ∷ ns) es j = wrong_call span (given_parametric_args context (n ∷ ns)) (all_alone context es) []
 
-abbrev pub builtin_judged : CallKind → Span → List ExprPair → Sight → Judgement
-builtin_judged Joins span es sight = joining span sight es
-builtin_judged CountsLeading span es sight = let js = all_alone sight es in counting span es js (first_operand_type js)
-builtin_judged CountsTrailing span es sight = let js = all_alone sight es in counting span es js (first_operand_type js)
-builtin_judged Reverses span es sight = let js = all_alone sight es in counting span es js (first_operand_type js)
-builtin_judged Updates span es sight = updating span es (all_alone sight es)
-builtin_judged _ span es sight = counting span es (all_alone sight es) (Some bool_type)
+abbrev pub builtin_typing : CallKind → Span → List ExprPair → TypeEnv → Judgement
+builtin_typing Joins span es context = joining span context es
+builtin_typing CountsLeading span es context = let js = all_alone context es in counting span es js (first_operand_type js)
+builtin_typing CountsTrailing span es context = let js = all_alone context es in counting span es js (first_operand_type js)
+builtin_typing Reverses span es context = let js = all_alone context es in counting span es js (first_operand_type js)
+builtin_typing Updates span es context = updating span es (all_alone context es)
+builtin_typing _ span es context = counting span es (all_alone context es) (Some bool_type)
 
 -- nor has an effect
-abbrev pub unnumbered_effect : Span → Sight → List ArgPair → List ExprPair → Judgement → Judgement
-unnumbered_effect span sight [] es j = j
-unnumbered_effect span sight (n ∷ ns) es j = wrong_effect span sight (given_numbers sight (n ∷ ns)) es
+abbrev pub unnumbered_effect : Span → TypeEnv → List ArgPair → List ExprPair → Judgement → Judgement
+unnumbered_effect span context [] es j = j
+unnumbered_effect span context (n ∷ ns) es j = wrong_effect span context (given_parametric_args context (n ∷ ns)) es
 
-abbrev pub call_judged : CallKind → Span → Ident → List ArgPair → List ExprPair → Bool → Sight → Judgement
-call_judged Receives span name numbers es on_top sight = only_on_top on_top span (unnumbered_effect span sight numbers es (receiving span sight es))
-call_judged ReceivesIf span name numbers es on_top sight = only_on_top on_top span (unnumbered_effect span sight numbers es (receiving_if span sight es))
-call_judged Sends span name numbers es on_top sight = only_on_top on_top span (unnumbered_effect span sight numbers es (sending span sight es))
-call_judged SendsIf span name numbers es on_top sight = only_on_top on_top span (unnumbered_effect span sight numbers es (sending_if span sight es))
-call_judged Calls span name numbers es on_top sight =
-    function_call span sight name (given_numbers sight numbers) es (all_alone sight es) (as_function (item_named name.name sight.known.whole.items))
-call_judged kind span name numbers es on_top sight = without_numbers span sight numbers es (builtin_judged kind span es sight)
+abbrev pub call_typing : CallKind → Span → Ident → List ArgPair → List ExprPair → Bool → TypeEnv → Judgement
+call_typing Receives span name parametric_args es on_top context = only_on_top on_top span (unnumbered_effect span context parametric_args es (receiving span context es))
+call_typing ReceivesIf span name parametric_args es on_top context = only_on_top on_top span (unnumbered_effect span context parametric_args es (receiving_if span context es))
+call_typing Sends span name parametric_args es on_top context = only_on_top on_top span (unnumbered_effect span context parametric_args es (sending span context es))
+call_typing SendsIf span name parametric_args es on_top context = only_on_top on_top span (unnumbered_effect span context parametric_args es (sending_if span context es))
+call_typing Calls span name parametric_args es on_top context =
+    function_call span context name (given_parametric_args context parametric_args) es (all_alone context es) (as_function (item_named name.name context.known.whole.items))
+call_typing kind span name parametric_args es on_top context = without_parametric_args span context parametric_args es (builtin_typing kind span es context)

@@ -1,4 +1,4 @@
--- Expressions that must be constant: those of `const`, widths, sizes, depths, bounds, number arguments, defaults and enum
+-- Expressions that must be constant: those of `const`, widths, sizes, depths, bounds, parametric arguments, defaults and enum
 -- members.
 use Rattle.std.specs.Prelude.{ℕ, zero, suc, List, [], ◌∷◌, ◌++◌, ◌&&◌, map, Bool, true, false, not, Option, Some, None, if◌then◌else◌}
 use Rattle.std.specs.List.{list_any, list_all}
@@ -12,16 +12,16 @@ use Rattle.dslx_meaning.specs.Meaning.{value_of, some_count}
 use Rattle.dslx_meaning.specs.declared.ty.DslxType.{DslxType}
 use Rattle.dslx_meaning.specs.declared.value.DslxValue.{DslxValue}
 use Rattle.dslx_meaning.specs.Rules.Mentions.{free_names}
-use Rattle.dslx_meaning.specs.Rules.Judging.{Known, Typed, Sight, Judgement, ExprPair, breaks_if, has_broken, passes_count, span_of, bare_of, alone, size_if_typed, constant_env}
+use Rattle.dslx_meaning.specs.Rules.TypeEnvs.{GlobalEnv, Typed, TypeEnv, Judgement, ExprPair, breaks_if, has_broken, passes_count, span_of, untyped_of, alone, size_if_typed, constant_env}
 use Rattle.dslx_meaning.specs.declared.ty.BitKind.{BitKind}
-use Rattle.dslx_meaning.specs.declared.value.Bare.{Bare}
+use Rattle.dslx_meaning.specs.declared.value.UntypedLiteral.{UntypedLiteral}
 
 -- the most nodes that a body or a constant has
 abbrev pub most_nodes : ℕ
 most_nodes = 65536
 
 -- it reaches nothing that breaks a rule
-abbrev pub reaches_no_broken : Known → Judgement → Bool
+abbrev pub reaches_no_broken : GlobalEnv → Judgement → Bool
 reaches_no_broken known j = not (has_broken j.faults) && list_all known.is_unbroken j.reached
 
 abbrev pub over_size : ℕ → Option ℕ → List Fault
@@ -29,10 +29,10 @@ over_size end None = []
 over_size end (Some n) = passes_count what.Size most_nodes end n
 
 -- the limit on the size of a body or a constant that ends there: where a broken rule is reached there is no size
-abbrev pub size_faults : Known → ℕ → Judgement → List Fault
+abbrev pub size_faults : GlobalEnv → ℕ → Judgement → List Fault
 size_faults known end j = if reaches_no_broken known j then over_size end j.size else []
 
-abbrev pub with_size_limit : Known → ℕ → Judgement → Judgement
+abbrev pub with_size_limit : GlobalEnv → ℕ → Judgement → Judgement
 with_size_limit known end j = record j { faults = j.faults ++ size_faults known end j }
 
 abbrev pub is_empty : {A : Type 0} → List A → Bool
@@ -40,49 +40,49 @@ is_empty [] = true
 is_empty (a ∷ as') = false
 
 -- nothing that it reaches breaks a rule or passes a limit
-abbrev pub is_sound_here : Known → Judgement → Bool
+abbrev pub is_sound_here : GlobalEnv → Judgement → Bool
 is_sound_here known j = is_empty j.faults && list_all known.is_sound j.reached
 
 -- some name that is free in it is bound around it
-abbrev pub names_a_local : Sight → ExprPair → Bool
-names_a_local sight e = list_any (λ name. is_in name (map (λ (l : Typed). l.name) sight.locals)) (free_names e.0)
+abbrev pub names_a_local : TypeEnv → ExprPair → Bool
+names_a_local context e = list_any (λ name. is_in name (map (λ (l : Typed). l.name) context.locals)) (free_names e.0)
 
 -- a constant: its judgement, and its value if it has one, without which it has no type either. A number without a type has a
 -- value only by its place
 pub record ConstantSeen : Type 0 where
   pub judgement : Judgement
-  pub bare : Option Bare
+  pub bare : Option UntypedLiteral
   pub value : Option DslxValue
 
-abbrev pub constant_judged : Sight → ExprPair → Judgement
-constant_judged sight e =
-    let inner = alone sight e in
-    with_size_limit sight.known (span_of e).to (record inner { faults = inner.faults ++ breaks_if (names_a_local sight e) 5 (span_of e) })
+abbrev pub constant_typing : TypeEnv → ExprPair → Judgement
+constant_typing context e =
+    let inner = alone context e in
+    with_size_limit context.known (span_of e).to (record inner { faults = inner.faults ++ breaks_if (names_a_local context e) 5 (span_of e) })
 
 -- where some part of it has no type, it has no value either: it names something that has none
 abbrev pub value_if_whole : Judgement → Option DslxValue → Option DslxValue
 value_if_whole j v = and_then j.ty (λ t. and_then j.size (λ n. v))
 
-abbrev pub constant_value_in : Sight → ExprPair → Judgement → Option DslxValue
-constant_value_in sight e j = if is_sound_here sight.known j then value_if_whole j (value_of e.0 (constant_env sight)) else None
+abbrev pub constant_value_in : TypeEnv → ExprPair → Judgement → Option DslxValue
+constant_value_in context e j = if is_sound_here context.known j then value_if_whole j (value_of e.0 (constant_env context)) else None
 
-abbrev pub constant_of : Sight → ExprPair → ConstantSeen
-constant_of sight e =
-    let j = constant_judged sight e in
-    let v = constant_value_in sight e j in
+abbrev pub constant_of : TypeEnv → ExprPair → ConstantSeen
+constant_of context e =
+    let j = constant_typing context e in
+    let v = constant_value_in context e j in
     let ty = and_then v (λ v. j.ty) in
     record { judgement = record j { ty = ty; size = size_if_typed ty j.size }; bare = None; value = v }
 
-abbrev pub bare_judged : Judgement
-bare_judged = record { ty = None; faults = []; reached = []; size = Some 1 }
+abbrev pub untyped_typing : Judgement
+untyped_typing = record { ty = None; faults = []; reached = []; size = Some 1 }
 
 -- where a number may stand without a type
-abbrev pub constant_or_bare : Sight → ExprPair → ConstantSeen
-constant_or_bare sight e = by_bare (bare_of e)
+abbrev pub constant_or_untyped : TypeEnv → ExprPair → ConstantSeen
+constant_or_untyped context e = by_untyped (untyped_of e)
   where
-    by_bare : Option Bare → ConstantSeen
-    by_bare None = constant_of sight e
-    by_bare (Some number) = record { judgement = bare_judged; bare = Some number; value = None }
+    by_untyped : Option UntypedLiteral → ConstantSeen
+    by_untyped None = constant_of context e
+    by_untyped (Some number) = record { judgement = untyped_typing; bare = Some number; value = None }
 
 -- ---- widths, sizes and depths
 
@@ -121,15 +121,15 @@ count_with span c n = record {
 }
 
 -- a negative number is no count, and so it is judged as 0 is
-abbrev pub bare_count : Bare → ℕ
-bare_count number = if number.is_negative then 0 else number.value
+abbrev pub untyped_count : UntypedLiteral → ℕ
+untyped_count number = if number.is_negative then 0 else number.value
 
 abbrev pub count_number : ConstantSeen → Option ℕ
-count_number c = by_bare c.bare
+count_number c = by_untyped c.bare
   where
-    by_bare : Option Bare → Option ℕ
-    by_bare None = number_of_value c.value
-    by_bare (Some number) = Some (bare_count number)
+    by_untyped : Option UntypedLiteral → Option ℕ
+    by_untyped None = number_of_value c.value
+    by_untyped (Some number) = Some (untyped_count number)
 
-abbrev pub count_of : Sight → ExprPair → CountSeen
-count_of sight e = let c = constant_or_bare sight e in count_with (span_of e) c (count_number c)
+abbrev pub count_of : TypeEnv → ExprPair → CountSeen
+count_of context e = let c = constant_or_untyped context e in count_with (span_of e) c (count_number c)

@@ -20,8 +20,8 @@ use Rattle.dslx_meaning.specs.declared.ty.DslxType.{DslxType, out-DslxType}
 use Rattle.dslx_meaning.specs.declared.ty.DslxType as ty
 use Rattle.dslx_meaning.specs.declared.ty.DslxType.TheOpen.{DslxType-F}
 use Rattle.dslx_meaning.specs.declared.value.DslxValue.{DslxValue}
-use Rattle.dslx_meaning.specs.Rules.Judging.{Sight, Typed, Instance, Judgement, ExprPair, Judging, breaks_if, settled, passes, span_of, alone, no_token, types_of, plus_size, one_and, with_typed, constant_env}
-use Rattle.dslx_meaning.specs.Rules.Judgings.{ArmSeen, BlockPair, PatternPair, PatternSeen, StatementSeen, StatementJudging, StmtSeenLayer, BlockLayer, LetLayer, ForLayer, TypePair}
+use Rattle.dslx_meaning.specs.Rules.TypeEnvs.{TypeEnv, Typed, Instance, Judgement, ExprPair, ExprTyping, breaks_if, settled, passes, span_of, alone, no_token, types_of, plus_size, one_and, with_typed, constant_env}
+use Rattle.dslx_meaning.specs.Rules.Typings.{ArmSeen, BlockPair, PatternPair, PatternSeen, StatementSeen, StatementTyping, StmtSeenLayer, BlockLayer, LetLayer, ForLayer, TypePair}
 use Rattle.dslx_meaning.specs.Rules.ConstantRules.{ConstantSeen, constant_of, is_empty}
 use Rattle.dslx_meaning.specs.Rules.Mentions.{item_reaches}
 use Rattle.dslx_meaning.specs.Rules.PatternRules.{pattern_alone, is_there}
@@ -36,8 +36,8 @@ abbrev pub used_after : Option (List ℕ) → List (List ℕ) → List (List ℕ
 used_after None used = used
 used_after (Some name) used = name ∷ used
 
-abbrev pub behind : Sight → List Typed → Expr → Sight
-behind sight locals e = record sight { locals = locals; used = used_after (effect_channel e) sight.used }
+abbrev pub behind : TypeEnv → List Typed → Expr → TypeEnv
+behind context locals e = record context { locals = locals; used = used_after (effect_channel e) context.used }
 
 -- the type that a `let` gives its pattern: a written one only where it is the value's, which has none where it breaks rule 9
 abbrev pub bound_type : Option Judgement → Option DslxType → Option DslxType
@@ -57,54 +57,54 @@ abbrev pub annotation_size : Option Judgement → Option ℕ
 annotation_size None = Some 0
 annotation_size (Some written) = written.size
 
-abbrev pub written_judged : Sight → Option TypePair → Option Judgement
-written_judged sight None = None
-written_judged sight (Some t) = Some (t.1 sight)
+abbrev pub written_typing : TypeEnv → Option TypePair → Option Judgement
+written_typing context None = None
+written_typing context (Some t) = Some (t.1 context)
 
-abbrev pub let_with : Sight → Expr → Span → Judgement → Option Judgement → PatternSeen → StatementSeen
-let_with sight e span value written bound = record {
-  sight = behind sight bound.locals e;
+abbrev pub let_with : TypeEnv → Expr → Span → Judgement → Option Judgement → PatternSeen → StatementSeen
+let_with context e span value written bound = record {
+  context = behind context bound.locals e;
   faults = value.faults ++ annotation_faults span written value.ty ++ bound.faults;
   reached = value.reached ++ annotation_reached written ++ bound.reached;
   size = plus_size (annotation_size written) (plus_size value.size (Some bound.size));
 }
 
-abbrev pub let_judged : LetLayer → StatementJudging
-let_judged l on_top sight =
-    let value = l.value.1 on_top sight in
-    let written = written_judged sight l.ty in
-    let_with sight l.value.0 (span_of l.value) value written (pattern_alone false sight (bound_type written value.ty) l.pattern)
+abbrev pub let_typing : LetLayer → StatementTyping
+let_typing l on_top context =
+    let value = l.value.1 on_top context in
+    let written = written_typing context l.ty in
+    let_with context l.value.0 (span_of l.value) value written (pattern_alone false context (bound_type written value.ty) l.pattern)
 
 -- an effect as a statement drops what it gives; no other token is dropped
-abbrev pub bare_judged_at : Bool → ExprPair → Judgement → Judgement
-bare_judged_at on_top e j = if on_top && is_effect e.0 then j else no_token (span_of e) j
+abbrev pub expr_statement_typing : Bool → ExprPair → Judgement → Judgement
+expr_statement_typing on_top e j = if on_top && is_effect e.0 then j else no_token (span_of e) j
 
-abbrev pub stmt_judged : StmtSeenLayer → StatementJudging
-stmt_judged (Stmt-F.Let l) on_top sight = l.1 on_top sight
-stmt_judged (Stmt-F.Bare e) on_top sight =
-    let j = bare_judged_at on_top e (e.1 on_top sight) in
-    record { sight = behind sight sight.locals e.0; faults = j.faults; reached = j.reached; size = j.size }
+abbrev pub stmt_typing : StmtSeenLayer → StatementTyping
+stmt_typing (Stmt-F.Let l) on_top context = l.1 on_top context
+stmt_typing (Stmt-F.Bare e) on_top context =
+    let j = expr_statement_typing on_top e (e.1 on_top context) in
+    record { context = behind context context.locals e.0; faults = j.faults; reached = j.reached; size = j.size }
 
-abbrev pub statements_judged : List StatementJudging → StatementJudging
-statements_judged [] on_top sight = record { sight = sight; faults = []; reached = []; size = Some 0 }
-statements_judged (s ∷ ss) on_top sight =
-    let first = s on_top sight in
-    let rest = statements_judged ss on_top first.sight in
-    record { sight = rest.sight; faults = first.faults ++ rest.faults; reached = first.reached ++ rest.reached; size = plus_size first.size rest.size }
+abbrev pub statements_typing : List StatementTyping → StatementTyping
+statements_typing [] on_top context = record { context = context; faults = []; reached = []; size = Some 0 }
+statements_typing (s ∷ ss) on_top context =
+    let first = s on_top context in
+    let rest = statements_typing ss on_top first.context in
+    record { context = rest.context; faults = first.faults ++ rest.faults; reached = first.reached ++ rest.reached; size = plus_size first.size rest.size }
 
-abbrev pub last_judged : Sight → Option ExprPair → Judgement
-last_judged sight None = record { ty = Some unit_type; faults = []; reached = []; size = Some 0 }
-last_judged sight (Some e) = alone sight e
+abbrev pub last_typing : TypeEnv → Option ExprPair → Judgement
+last_typing context None = record { ty = Some unit_type; faults = []; reached = []; size = Some 0 }
+last_typing context (Some e) = alone context e
 
 -- a block has the type of its last expression, if its statements break no rule
-abbrev pub block_judged : BlockLayer → Judging
-block_judged b on_top sight =
-    let walked = statements_judged (map (λ s. s.1) b.statements) on_top sight in
-    let last = last_judged walked.sight b.value in
+abbrev pub block_typing : BlockLayer → ExprTyping
+block_typing b on_top context =
+    let walked = statements_typing (map (λ s. s.1) b.statements) on_top context in
+    let last = last_typing walked.context b.value in
     settled b.span last.ty (walked.faults ++ last.faults) (walked.reached ++ last.reached) (one_and (plus_size walked.size last.size))
 
-abbrev pub block_alone : Sight → BlockPair → Judgement
-block_alone sight b = b.1 false sight
+abbrev pub block_alone : TypeEnv → BlockPair → Judgement
+block_alone context b = b.1 false context
 
 abbrev pub span_of_block : BlockPair → Span
 span_of_block b = (out-Block b.0).span
@@ -112,11 +112,11 @@ span_of_block b = (out-Block b.0).span
 -- ---- if
 
 -- rules 15 and 25
-abbrev pub if_judged : Span → Sight → ExprPair → BlockPair → ExprPair → Judgement
-if_judged span sight c a b =
-    let condition = alone sight c in
-    let first = block_alone sight a in
-    let second = alone sight b in
+abbrev pub if_typing : Span → TypeEnv → ExprPair → BlockPair → ExprPair → Judgement
+if_typing span context c a b =
+    let condition = alone context c in
+    let first = block_alone context a in
+    let second = alone context b in
     settled span (and_then condition.ty (λ t. with_both first.ty second.ty (λ u v. Some u)))
     (condition.faults ++ first.faults ++ second.faults ++ unless_type is_bool 15 (span_of c) condition.ty
     ++ unless_types same_type 25 span first.ty second.ty)
@@ -135,12 +135,12 @@ pub record AlternativesSeen : Type 0 where
   pub is_sure : Bool
   pub binds : Bool
 
-abbrev pub no_alternative : Sight → AlternativesSeen
-no_alternative sight = record { locals = sight.locals; faults = []; reached = []; size = 0; is_known = true; is_sure = false; binds = false }
+abbrev pub no_alternative : TypeEnv → AlternativesSeen
+no_alternative context = record { locals = context.locals; faults = []; reached = []; size = 0; is_known = true; is_sure = false; binds = false }
 
 -- an alternative before others, from what those bind
-abbrev pub one_alternative : Sight → Option DslxType → PatternPair → AlternativesSeen → PatternSeen
-one_alternative sight t p rest = p.1 true sight t [] rest.locals
+abbrev pub one_alternative : TypeEnv → Option DslxType → PatternPair → AlternativesSeen → PatternSeen
+one_alternative context t p rest = p.1 true context t [] rest.locals
 
 abbrev pub with_alternative : PatternSeen → AlternativesSeen → AlternativesSeen
 with_alternative first rest = record {
@@ -154,22 +154,22 @@ with_alternative first rest = record {
 }
 
 -- what any of them binds is in sight behind them; where several bind one name, it is the first one's
-abbrev pub alternatives_seen : Sight → Option DslxType → List PatternPair → AlternativesSeen
-alternatives_seen sight t [] = no_alternative sight
-alternatives_seen sight t (p ∷ ps) =
-    let rest = alternatives_seen sight t ps in
-    with_alternative (one_alternative sight t p rest) rest
+abbrev pub alternatives_seen : TypeEnv → Option DslxType → List PatternPair → AlternativesSeen
+alternatives_seen context t [] = no_alternative context
+alternatives_seen context t (p ∷ ps) =
+    let rest = alternatives_seen context t ps in
+    with_alternative (one_alternative context t p rest) rest
 
 -- an arm: its alternatives and its value
-pub record ArmJudged : Type 0 where
+pub record ArmTyping : Type 0 where
   pub patterns : List PatternPair
   pub seen : AlternativesSeen
   pub value : Judgement
 
-abbrev pub arm_judged : Sight → Option DslxType → ArmSeen → ArmJudged
-arm_judged sight t a =
-    let seen = alternatives_seen sight t a.patterns in
-    record { patterns = a.patterns; seen = seen; value = alone (with_typed sight seen.locals) a.value }
+abbrev pub arm_typing : TypeEnv → Option DslxType → ArmSeen → ArmTyping
+arm_typing context t a =
+    let seen = alternatives_seen context t a.patterns in
+    record { patterns = a.patterns; seen = seen; value = alone (with_typed context seen.locals) a.value }
 
 abbrev pub has_several : {A : Type 0} → List A → Bool
 has_several [] = false
@@ -177,42 +177,42 @@ has_several (a ∷ []) = false
 has_several (a ∷ b ∷ as') = true
 
 -- rule 24: an alternative binds a name
-abbrev pub some_binds : List ArmJudged → Bool
-some_binds arms = list_any (λ (a : ArmJudged). has_several a.patterns && a.seen.binds) arms
+abbrev pub some_binds : List ArmTyping → Bool
+some_binds arms = list_any (λ (a : ArmTyping). has_several a.patterns && a.seen.binds) arms
 
 -- the value is matched by some pattern of some arm
-abbrev pub is_matched : Sight → List ArmJudged → DslxValue → Bool
-is_matched sight arms v = list_any (λ (a : ArmJudged). list_any (λ (p : PatternPair). is_there (fitted p.0 v (constant_env sight))) a.patterns) arms
+abbrev pub is_matched : TypeEnv → List ArmTyping → DslxValue → Bool
+is_matched context arms v = list_any (λ (a : ArmTyping). list_any (λ (p : PatternPair). is_there (fitted p.0 v (constant_env context))) a.patterns) arms
 
-abbrev pub all_words_match : Sight → List ArmJudged → DslxType → ℕ → ℕ → Bool
-all_words_match sight arms t w zero = true
-all_words_match sight arms t w (suc n) = is_matched sight arms (from_word t (word w n)) && all_words_match sight arms t w n
+abbrev pub all_words_match : TypeEnv → List ArmTyping → DslxType → ℕ → ℕ → Bool
+all_words_match context arms t w zero = true
+all_words_match context arms t w (suc n) = is_matched context arms (from_word t (word w n)) && all_words_match context arms t w n
 
-abbrev pub member_matches : Sight → List ArmJudged → Option DslxValue → Bool
-member_matches sight arms None = true
-member_matches sight arms (Some v) = is_matched sight arms v
+abbrev pub member_matches : TypeEnv → List ArmTyping → Option DslxValue → Bool
+member_matches context arms None = true
+member_matches context arms (Some v) = is_matched context arms v
 
-abbrev pub members_match : Sight → List ArmJudged → List ℕ → Option Enum → Bool
-members_match sight arms name None = true
-members_match sight arms name (Some e) = list_all (λ (m : Member). member_matches sight arms (sight.known.items.member name m.name.name)) e.members
+abbrev pub members_match : TypeEnv → List ArmTyping → List ℕ → Option Enum → Bool
+members_match context arms name None = true
+members_match context arms name (Some e) = list_all (λ (m : Member). member_matches context arms (context.known.items.member name m.name.name)) e.members
 
-abbrev pub last_is_sure : Option ArmJudged → Bool
+abbrev pub last_is_sure : Option ArmTyping → Bool
 last_is_sure None = false
 last_is_sure (Some a) = a.seen.is_sure
 
 -- each value of a type of at most 8 bits is matched; of a wider one the last arm fits all
-abbrev pub values_match : Sight → List ArmJudged → DslxType → Bool
-values_match sight arms t =
-    if nat_le (flat_bits t) 8 then all_words_match sight arms t (flat_bits t) (2 ^ flat_bits t) else last_is_sure (last_of arms)
+abbrev pub values_match : TypeEnv → List ArmTyping → DslxType → Bool
+values_match context arms t =
+    if nat_le (flat_bits t) 8 then all_words_match context arms t (flat_bits t) (2 ^ flat_bits t) else last_is_sure (last_of arms)
 
 -- each member of an enum is, which the item reaches as it does each enum that a type in its text names
-abbrev pub is_exhaustive_in : Sight → List ArmJudged → DslxType → DslxType-F DslxType → Bool
-is_exhaustive_in sight arms t (DslxType-F.Enum name s w) =
-    item_reaches sight.known.whole sight.home name && members_match sight arms name (as_enum (item_named name sight.known.whole.items))
-is_exhaustive_in sight arms t _ = values_match sight arms t
+abbrev pub is_exhaustive_in : TypeEnv → List ArmTyping → DslxType → DslxType-F DslxType → Bool
+is_exhaustive_in context arms t (DslxType-F.Enum name s w) =
+    item_reaches context.known.whole context.owner name && members_match context arms name (as_enum (item_named name context.known.whole.items))
+is_exhaustive_in context arms t _ = values_match context arms t
 
-abbrev pub is_exhaustive : Sight → List ArmJudged → DslxType → Bool
-is_exhaustive sight arms t = is_exhaustive_in sight arms t (out-DslxType t)
+abbrev pub is_exhaustive : TypeEnv → List ArmTyping → DslxType → Bool
+is_exhaustive context arms t = is_exhaustive_in context arms t (out-DslxType t)
 
 abbrev pub all_like : DslxType → List DslxType → Bool
 all_like t us = list_all (same_type t) us
@@ -222,27 +222,27 @@ differ None = false
 differ (Some []) = false
 differ (Some (t ∷ ts)) = not (all_like t ts)
 
-abbrev pub not_exhaustive : Sight → List ArmJudged → Option DslxType → Bool
-not_exhaustive sight arms None = false
-not_exhaustive sight arms (Some t) = list_all (λ (a : ArmJudged). a.seen.is_known && is_empty a.seen.faults) arms && not (is_exhaustive sight arms t)
+abbrev pub not_exhaustive : TypeEnv → List ArmTyping → Option DslxType → Bool
+not_exhaustive context arms None = false
+not_exhaustive context arms (Some t) = list_all (λ (a : ArmTyping). a.seen.is_known && is_empty a.seen.faults) arms && not (is_exhaustive context arms t)
 
-abbrev pub arm_values : List ArmJudged → List Judgement
-arm_values arms = map (λ (a : ArmJudged). a.value) arms
+abbrev pub arm_values : List ArmTyping → List Judgement
+arm_values arms = map (λ (a : ArmTyping). a.value) arms
 
 -- rule 24
-abbrev pub match_faults : Span → Sight → Option DslxType → List ArmJudged → List Fault
-match_faults span sight t arms =
-    breaks_if (is_empty arms || some_binds arms || differ (all_some (types_of (arm_values arms))) || not_exhaustive sight arms t) 24 span
+abbrev pub match_faults : Span → TypeEnv → Option DslxType → List ArmTyping → List Fault
+match_faults span context t arms =
+    breaks_if (is_empty arms || some_binds arms || differ (all_some (types_of (arm_values arms))) || not_exhaustive context arms t) 24 span
 
-abbrev pub arms_faults : List ArmJudged → List Fault
+abbrev pub arms_faults : List ArmTyping → List Fault
 arms_faults [] = []
 arms_faults (a ∷ as') = a.seen.faults ++ a.value.faults ++ arms_faults as'
 
-abbrev pub arms_reached : List ArmJudged → List Instance
+abbrev pub arms_reached : List ArmTyping → List Instance
 arms_reached [] = []
 arms_reached (a ∷ as') = a.seen.reached ++ a.value.reached ++ arms_reached as'
 
-abbrev pub arms_size : List ArmJudged → Option ℕ
+abbrev pub arms_size : List ArmTyping → Option ℕ
 arms_size [] = Some 0
 arms_size (a ∷ as') = plus_size (Some a.seen.size) (plus_size a.value.size (arms_size as'))
 
@@ -252,16 +252,16 @@ first_of_types (Some []) = None
 first_of_types (Some (t ∷ ts)) = Some t
 
 -- what each pattern is compared with is known
-abbrev pub all_known : List ArmJudged → Bool
-all_known arms = list_all (λ (a : ArmJudged). a.seen.is_known) arms
+abbrev pub all_known : List ArmTyping → Bool
+all_known arms = list_all (λ (a : ArmTyping). a.seen.is_known) arms
 
 -- a pattern that names a constant without a value leaves the whole without a type
-abbrev pub match_judged : Span → Sight → ExprPair → List ArmSeen → Judgement
-match_judged span sight e arms =
-    let value = alone sight e in
-    let js = map (arm_judged sight value.ty) arms in
+abbrev pub match_typing : Span → TypeEnv → ExprPair → List ArmSeen → Judgement
+match_typing span context e arms =
+    let value = alone context e in
+    let js = map (arm_typing context value.ty) arms in
     settled span (and_then value.ty (λ t. where_true (all_known js) (first_of_types (all_some (types_of (arm_values js))))))
-    (value.faults ++ arms_faults js ++ match_faults span sight value.ty js)
+    (value.faults ++ arms_faults js ++ match_faults span context value.ty js)
     (value.reached ++ arms_reached js) (one_and (plus_size value.size (arms_size js)))
 
 -- ---- for
@@ -333,25 +333,25 @@ turns_size l = times_size (turns_of l.from.value l.to.value) (plus_size (Some (1
 abbrev pub loop_size : LoopSeen → Option ℕ
 loop_size l = one_and (plus_size (plus_size l.from.judgement.size l.to.judgement.size) (plus_size l.start.size (turns_size l)))
 
-abbrev pub loop_seen : ForLayer → Sight → LoopSeen
-loop_seen f sight =
-    let from = constant_of sight f.from in
-    let to = constant_of sight f.to in
-    let start = alone sight f.start in
-    let index = pattern_alone false sight (same_ends from.judgement.ty to.judgement.ty) f.index in
-    let acc = pattern_alone false (with_typed sight index.locals) start.ty f.accumulator in
+abbrev pub loop_seen : ForLayer → TypeEnv → LoopSeen
+loop_seen f context =
+    let from = constant_of context f.from in
+    let to = constant_of context f.to in
+    let start = alone context f.start in
+    let index = pattern_alone false context (same_ends from.judgement.ty to.judgement.ty) f.index in
+    let acc = pattern_alone false (with_typed context index.locals) start.ty f.accumulator in
     record {
       from = from;
       to = to;
-      written = written_judged sight f.ty;
+      written = written_typing context f.ty;
       start = start;
       index = index;
       acc = acc;
-      body = block_alone (with_typed sight acc.locals) f.body;
+      body = block_alone (with_typed context acc.locals) f.body;
     }
 
 abbrev pub loop_with : Span → Span → LoopSeen → Judgement
 loop_with span body_span l = settled span (loop_type l) (loop_parts_faults l ++ loop_faults span body_span l) (loop_reached l) (loop_size l)
 
-abbrev pub loop_judged : ForLayer → Span → Sight → Judgement
-loop_judged f span sight = loop_with span (span_of_block f.body) (loop_seen f sight)
+abbrev pub loop_typing : ForLayer → Span → TypeEnv → Judgement
+loop_typing f span context = loop_with span (span_of_block f.body) (loop_seen f context)

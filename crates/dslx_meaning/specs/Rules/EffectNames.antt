@@ -13,7 +13,7 @@ is_effect_kind SendsIf = true
 is_effect_kind _ = false
 
 abbrev pub is_effect_node : NodeLayer → Bool
-is_effect_node (Node-F.Call f numbers es) = is_effect_kind (kind_of_call f.name)
+is_effect_node (Node-F.Call f parametric_args es) = is_effect_kind (kind_of_call f.name)
 is_effect_node _ = false
 
 -- the expression is a receive or a send
@@ -29,7 +29,7 @@ channel_if true es = second_name es
 channel_if false es = None
 
 abbrev pub channel_in : NodeLayer → Option (List ℕ)
-channel_in (Node-F.Call f numbers es) = channel_if (is_effect_kind (kind_of_call f.name)) es
+channel_in (Node-F.Call f parametric_args es) = channel_if (is_effect_kind (kind_of_call f.name)) es
 channel_in _ = None
 
 -- the name of an effect's channel, if it is an effect whose channel is a name

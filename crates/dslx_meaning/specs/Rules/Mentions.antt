@@ -14,13 +14,13 @@ use Rattle.dslx_tree.specs.declared.type_expr.TypeExpr.{TypeExpr, fold-TypeExpr}
 use Rattle.dslx_tree.specs.declared.item.Module.{Module}
 use Rattle.dslx_tree.specs.declared.item.Definition.{Definition}
 use Rattle.dslx_tree.specs.declared.item.Definition.TheVariants as d
-use Rattle.dslx_tree.specs.declared.item.Parameter.{Parameter}
+use Rattle.dslx_tree.specs.declared.item.Parametric.{Parametric}
 use Rattle.dslx_tree.specs.declared.item.Field.{Field}
 use Rattle.dslx_tree.specs.declared.item.Member.{Member}
 use Rattle.dslx_tree.specs.declared.process.Proc.{Proc}
 use Rattle.dslx_tree.specs.declared.process.End.{End}
-use Rattle.dslx_tree.specs.declared.process.Making.{Making}
-use Rattle.dslx_tree.specs.declared.process.Making.TheVariants as making
+use Rattle.dslx_tree.specs.declared.process.ConfigStatement.{ConfigStatement}
+use Rattle.dslx_tree.specs.declared.process.ConfigStatement.TheVariants as config_statement
 use Rattle.dslx_meaning.specs.Lists.{is_in}
 use Rattle.dslx_meaning.specs.Callees.{is_text_function, kind_of_call}
 use Rattle.dslx_meaning.specs.Items.{item_named}
@@ -128,8 +128,8 @@ node_mentions (Node-F.Node::Bool b) bound = []
 node_mentions (Node-F.Node::Array ty es dots) bound = mentions_if ty bound ++ all_mentions es bound
 node_mentions (Node-F.Node::Name name) bound = value_mention name bound
 node_mentions (Node-F.Node::Member e a) bound = mention AsEnum e.name
-node_mentions (Node-F.Call f numbers es) bound =
-    (if is_text_function (kind_of_call f.name) then mention AsFunction f.name else []) ++ all_mentions numbers bound ++ all_mentions es bound
+node_mentions (Node-F.Call f parametric_args es) bound =
+    (if is_text_function (kind_of_call f.name) then mention AsFunction f.name else []) ++ all_mentions parametric_args bound ++ all_mentions es bound
 node_mentions (Node-F.Node::Tuple es) bound = all_mentions es bound
 node_mentions (Node-F.Struct s fields rest) bound = mention AsStruct s.name ++ all_mentions fields bound ++ mentions_if rest bound
 node_mentions (Node-F.Block b) bound = b bound
@@ -207,8 +207,8 @@ free_names e = value_names (mentioned e [])
 
 -- ---- what an item mentions
 
-abbrev pub parameter_names : List Parameter → List (List ℕ)
-parameter_names ps = map (λ (p : Parameter). p.name.name) ps
+abbrev pub parametric_names : List Parametric → List (List ℕ)
+parametric_names ps = map (λ (p : Parametric). p.name.name) ps
 
 abbrev pub field_names : List Field → List (List ℕ)
 field_names fs = map (λ (f : Field). f.name.name) fs
@@ -222,9 +222,9 @@ expr_if None bound = []
 expr_if (Some e) bound = mentioned e bound
 
 -- a parameter's type and default see the parameters before it
-abbrev pub parameters_mentions : List Parameter → Mentions
-parameters_mentions [] bound = []
-parameters_mentions (p ∷ ps) bound = mentioned_in_type p.ty bound ++ expr_if p.default bound ++ parameters_mentions ps (p.name.name ∷ bound)
+abbrev pub parametrics_mentions : List Parametric → Mentions
+parametrics_mentions [] bound = []
+parametrics_mentions (p ∷ ps) bound = mentioned_in_type p.ty bound ++ expr_if p.default bound ++ parametrics_mentions ps (p.name.name ∷ bound)
 
 abbrev pub fields_mentions : List Field → Mentions
 fields_mentions fs bound = flat_map (λ (f : Field). mentioned_in_type f.ty bound) fs
@@ -236,23 +236,23 @@ abbrev pub arg_if : Option Arg → Mentions
 arg_if None bound = []
 arg_if (Some a) bound = mentioned_in_arg a bound
 
-abbrev pub making_mentions : Making → Mentions
-making_mentions (making.Channel c) bound = mentioned_in_type c.word bound ++ arg_if c.depth bound
-making_mentions (making.Spawn s) bound = mention AsProc s.target.name ++ flat_map (λ a. mentioned_in_arg a bound) s.arguments
+abbrev pub config_statement_mentions : ConfigStatement → Mentions
+config_statement_mentions (config_statement.Channel c) bound = mentioned_in_type c.word bound ++ arg_if c.depth bound
+config_statement_mentions (config_statement.Spawn s) bound = mention AsProc s.target.name ++ flat_map (λ a. mentioned_in_arg a bound) s.arguments
 
 abbrev pub proc_mentions : Proc → List Mention
 proc_mentions p =
-    let numbers = parameter_names p.parameters in
-    parameters_mentions p.parameters [] ++ ends_mentions p.members numbers ++ ends_mentions p.config.ends numbers
-    ++ flat_map (λ m. making_mentions m numbers) p.config.makings
-    ++ mentioned_in_block p.init numbers ++ mentioned_in_type p.next.ty numbers
-    ++ mentioned_in_block p.next.body (p.next.state.name ∷ numbers)
+    let parametric_args = parametric_names p.parametrics in
+    parametrics_mentions p.parametrics [] ++ ends_mentions p.members parametric_args ++ ends_mentions p.config.ends parametric_args
+    ++ flat_map (λ m. config_statement_mentions m parametric_args) p.config.config_statements
+    ++ mentioned_in_block p.init parametric_args ++ mentioned_in_type p.next.ty parametric_args
+    ++ mentioned_in_block p.next.body (p.next.state.name ∷ parametric_args)
 
 abbrev pub definition_mentions : Definition → List Mention
 definition_mentions (d.Function f) =
-    let numbers = parameter_names f.parameters in
-    parameters_mentions f.parameters [] ++ fields_mentions f.arguments numbers ++ type_if f.result numbers
-    ++ mentioned_in_block f.body (field_names f.arguments ++ numbers)
+    let parametric_args = parametric_names f.parametrics in
+    parametrics_mentions f.parametrics [] ++ fields_mentions f.arguments parametric_args ++ type_if f.result parametric_args
+    ++ mentioned_in_block f.body (field_names f.arguments ++ parametric_args)
 definition_mentions (d.Proc p) = proc_mentions p
 definition_mentions (d.Constant c) = type_if c.ty [] ++ mentioned c.value []
 definition_mentions (d.Alias a) = mentioned_in_type a.ty []
@@ -275,13 +275,13 @@ is_of_use AsStruct (Some (d.Struct s)) = true
 is_of_use _ _ = false
 
 -- the items that an item mentions
-abbrev pub names_meant : Module → List Mention → List (List ℕ)
-names_meant m [] = []
-names_meant m (n ∷ ns) = if is_of_use n.use_as (item_named n.name m.items) then n.name ∷ names_meant m ns else names_meant m ns
+abbrev pub names_mentioned : Module → List Mention → List (List ℕ)
+names_mentioned m [] = []
+names_mentioned m (n ∷ ns) = if is_of_use n.use_as (item_named n.name m.items) then n.name ∷ names_mentioned m ns else names_mentioned m ns
 
 abbrev pub mentions_of : Module → Option Definition → List (List ℕ)
 mentions_of m None = []
-mentions_of m (Some definition) = names_meant m (definition_mentions definition)
+mentions_of m (Some definition) = names_mentioned m (definition_mentions definition)
 
 -- whether the first item reaches the second one by at most so many mentions
 abbrev pub reaches_within : Module → ℕ → List ℕ → List ℕ → Bool
@@ -294,4 +294,4 @@ item_reaches m from to = reaches_within m (length m.items) from to
 
 -- a use in the text of an item of an item that is the same or reaches it, which rule 3 refuses
 abbrev pub is_cyclic : Module → List ℕ → List ℕ → Bool
-is_cyclic m home target = bytes_eq target home || item_reaches m target home
+is_cyclic m owner target = bytes_eq target owner || item_reaches m target owner

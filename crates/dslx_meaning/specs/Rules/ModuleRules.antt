@@ -13,7 +13,7 @@ use Rattle.dslx_tree.specs.declared.item.Item.{Item}
 use Rattle.dslx_tree.specs.declared.item.Definition.{Definition}
 use Rattle.dslx_tree.specs.declared.item.Definition.TheVariants as d
 use Rattle.dslx_tree.specs.declared.item.Function.{Function}
-use Rattle.dslx_tree.specs.declared.item.Parameter.{Parameter}
+use Rattle.dslx_tree.specs.declared.item.Parametric.{Parametric}
 use Rattle.dslx_tree.specs.declared.process.Proc.{Proc}
 use Rattle.dslx_meaning.specs.Lists.{and_then}
 use Rattle.dslx_meaning.specs.Environment.{Given}
@@ -21,63 +21,63 @@ use Rattle.dslx_meaning.specs.Items.{item_named, as_function, as_constant, as_st
 use Rattle.dslx_meaning.specs.Network.{top_proc}
 use Rattle.dslx_meaning.specs.declared.ty.DslxType.{DslxType}
 use Rattle.dslx_meaning.specs.declared.value.DslxValue.{DslxValue}
-use Rattle.dslx_meaning.specs.Rules.Judging.{Known, Instance, same_instance, DefaultSeen, breaks, has_broken}
-use Rattle.dslx_meaning.specs.Rules.ConstantRules.{constant_of, is_empty, bare_judged}
+use Rattle.dslx_meaning.specs.Rules.TypeEnvs.{GlobalEnv, Instance, same_instance, DefaultSeen, breaks, has_broken}
+use Rattle.dslx_meaning.specs.Rules.ConstantRules.{constant_of, is_empty, untyped_typing}
 use Rattle.dslx_meaning.specs.Rules.NameRules.{listed_name}
 use Rattle.dslx_meaning.specs.Rules.PatternRules.{is_there}
-use Rattle.dslx_meaning.specs.Rules.CallRules.{NumbersSeen, judged_there}
+use Rattle.dslx_meaning.specs.Rules.CallRules.{ParametricArgsSeen, typing_there}
 use Rattle.dslx_meaning.specs.Rules.NodeRules.{expr_pair}
-use Rattle.dslx_meaning.specs.Rules.ItemRules.{Found, nothing_found, and_found, only_faults, all_found, item_sight, judged_type, judged_inner, function_seen, constant_seen, alias_seen, struct_seen, enum_seen, enum_member_value}
-use Rattle.dslx_meaning.specs.Rules.ProcRules.{proc_numbers, proc_seen}
+use Rattle.dslx_meaning.specs.Rules.ItemRules.{Found, nothing_found, and_found, only_faults, all_found, item_type_env, typing_of_type, typing_of_inner, function_seen, constant_seen, alias_seen, struct_seen, enum_seen, enum_member_value}
+use Rattle.dslx_meaning.specs.Rules.ProcRules.{proc_parametric_args, proc_seen}
 use Rattle.dslx_meaning.specs.Rules.Namesakes.{told_apart}
 
 -- ---- what is known of items, from what is known of those that they mention
 
-abbrev pub found_of_item : Known → List DslxValue → Option Definition → Found
-found_of_item known numbers (Some (d.Function f)) = (function_seen known f numbers).found
-found_of_item known numbers (Some (d.Proc p)) = proc_seen known p numbers
-found_of_item known numbers _ = nothing_found
+abbrev pub found_of_item : GlobalEnv → List DslxValue → Option Definition → Found
+found_of_item known parametric_args (Some (d.Function f)) = (function_seen known f parametric_args).found
+found_of_item known parametric_args (Some (d.Proc p)) = proc_seen known p parametric_args
+found_of_item known parametric_args _ = nothing_found
 
 -- what an instance's text breaks and reaches
-abbrev pub found_of_instance : Known → Instance → Found
-found_of_instance known i = found_of_item known i.numbers (item_named i.name known.whole.items)
+abbrev pub found_of_instance : GlobalEnv → Instance → Found
+found_of_instance known i = found_of_item known i.parametric_args (item_named i.name known.whole.items)
 
-abbrev pub type_known : Known → Option Definition → Option DslxType
+abbrev pub type_known : GlobalEnv → Option Definition → Option DslxType
 type_known known (Some (d.Alias a)) = (alias_seen known a).ty
 type_known known (Some (d.Struct s)) = (struct_seen known s).ty
 type_known known (Some (d.Enum e)) = (enum_seen known e).ty
 type_known known _ = None
 
-abbrev pub sound_instance : Known → Instance → Bool
+abbrev pub sound_instance : GlobalEnv → Instance → Bool
 sound_instance known i = let found = found_of_instance known i in is_empty found.faults && list_all known.is_sound found.reached
 
-abbrev pub unbroken_instance : Known → Instance → Bool
+abbrev pub unbroken_instance : GlobalEnv → Instance → Bool
 unbroken_instance known i = let found = found_of_instance known i in not (has_broken found.faults) && list_all known.is_unbroken found.reached
 
-abbrev pub size_known : Known → List DslxValue → Option Function → Option ℕ
-size_known known numbers None = None
-size_known known numbers (Some f) = (function_seen known f numbers).body.size
+abbrev pub size_known : GlobalEnv → List DslxValue → Option Function → Option ℕ
+size_known known parametric_args None = None
+size_known known parametric_args (Some f) = (function_seen known f parametric_args).body.size
 
-abbrev pub default_known : Known → List ℕ → List Given → Expr → DefaultSeen
-default_known known home numbers e =
-    let c = constant_of (item_sight known home numbers) (expr_pair e) in
+abbrev pub default_known : GlobalEnv → List ℕ → List Given → Expr → DefaultSeen
+default_known known owner parametric_args e =
+    let c = constant_of (item_type_env known owner parametric_args) (expr_pair e) in
     record { judgement = c.judgement; value = c.value }
 
 -- nothing is known
-abbrev pub known_nothing : Module → Known
-known_nothing m = record {
+abbrev pub no_globals : Module → GlobalEnv
+no_globals m = record {
   whole = m;
   items = record nothing_known { is_constant = λ name. is_constant_item (item_named name m.items) };
   is_sound = λ i. false;
   is_unbroken = λ i. false;
   body_size = λ i. None;
-  type_in = λ home numbers unknown t. None;
-  type_seen_in = λ home numbers t. bare_judged;
-  default_in = λ home numbers e. record { judgement = bare_judged; value = None };
+  type_in = λ owner parametric_args unknown t. None;
+  type_seen_in = λ owner parametric_args t. untyped_typing;
+  default_in = λ owner parametric_args e. record { judgement = untyped_typing; value = None };
 }
 
-abbrev pub known_over : Known → Known
-known_over known = record {
+abbrev pub globals_over : GlobalEnv → GlobalEnv
+globals_over known = record {
   whole = known.whole;
   items = record {
     type_named = λ name. type_known known (item_named name known.whole.items);
@@ -85,24 +85,24 @@ known_over known = record {
     is_constant = λ name. is_constant_item (item_named name known.whole.items);
     constant = λ name. and_then (as_constant (item_named name known.whole.items)) (λ c. (constant_seen known c).value);
     member = λ name a. and_then (as_enum (item_named name known.whole.items)) (λ e. enum_member_value known e a (member_named a e.members));
-    call = λ name numbers operands. and_then (as_function (item_named name known.whole.items)) (λ f. call_of known.items f numbers operands);
+    call = λ name parametric_args operands. and_then (as_function (item_named name known.whole.items)) (λ f. call_of known.items f parametric_args operands);
   };
   is_sound = sound_instance known;
   is_unbroken = unbroken_instance known;
-  body_size = λ i. size_known known i.numbers (as_function (item_named i.name known.whole.items));
-  type_in = λ home numbers unknown t. (judged_type (record (item_sight known home numbers) { unknown = unknown }) t).ty;
-  type_seen_in = λ home numbers t. judged_inner (item_sight known home numbers) t;
+  body_size = λ i. size_known known i.parametric_args (as_function (item_named i.name known.whole.items));
+  type_in = λ owner parametric_args unknown t. (typing_of_type (record (item_type_env known owner parametric_args) { unknown = unknown }) t).ty;
+  type_seen_in = λ owner parametric_args t. typing_of_inner (item_type_env known owner parametric_args) t;
   default_in = default_known known;
 }
 
 -- what is known to a use that stands at the head of a chain of at most so many items, each of which mentions the next. No
 -- chain without a cycle is longer than the list of items, and rule 3 refuses cycles
-abbrev pub known_within : Module → ℕ → Known
-known_within m zero = known_nothing m
-known_within m (suc n) = known_over (known_within m n)
+abbrev pub globals_within : Module → ℕ → GlobalEnv
+globals_within m zero = no_globals m
+globals_within m (suc n) = globals_over (globals_within m n)
 
-abbrev pub known_of : Module → Known
-known_of m = known_within m (length m.items)
+abbrev pub globals_of : Module → GlobalEnv
+globals_of m = globals_within m (length m.items)
 
 -- ---- instances
 
@@ -114,19 +114,19 @@ abbrev pub add_new : List Instance → List Instance → List Instance
 add_new found [] = found
 add_new found (i ∷ is) = add_new (if is_reached i found then found else found ++ i ∷ []) is
 
-abbrev pub reached_next : Known → List Instance → List Instance
+abbrev pub reached_next : GlobalEnv → List Instance → List Instance
 reached_next known found = add_new found (flat_map (λ i. (found_of_instance known i).reached) found)
 
 -- all that these reach by at most so many calls and spawns
-abbrev pub reached_within : Known → ℕ → List Instance → List Instance
+abbrev pub reached_within : GlobalEnv → ℕ → List Instance → List Instance
 reached_within known zero found = found
 reached_within known (suc n) found = reached_within known n (reached_next known found)
 
 -- ---- the items of a module
 
--- what is checked of an item whether something reaches it or not. A function or a proc with number parameters is checked
+-- what is checked of an item whether something reaches it or not. A function or a proc with parametrics is checked
 -- in its instances alone
-abbrev pub item_found : Known → Definition → Found
+abbrev pub item_found : GlobalEnv → Definition → Found
 item_found known (d.Function f) = nothing_found
 item_found known (d.Proc p) = nothing_found
 item_found known (d.Constant c) = (constant_seen known c).found
@@ -135,11 +135,11 @@ item_found known (d.Struct s) = (struct_seen known s).found
 item_found known (d.Enum e) = (enum_seen known e).found
 
 abbrev pub own_instance : Definition → List Instance
-own_instance (d.Function f) = if is_empty f.parameters then record { name = f.name.name; numbers = [] } ∷ [] else []
-own_instance (d.Proc p) = if is_empty p.parameters then record { name = p.name.name; numbers = [] } ∷ [] else []
+own_instance (d.Function f) = if is_empty f.parametrics then record { name = f.name.name; parametric_args = [] } ∷ [] else []
+own_instance (d.Proc p) = if is_empty p.parametrics then record { name = p.name.name; parametric_args = [] } ∷ [] else []
 own_instance _ = []
 
-abbrev pub items_found : Known → List Item → Found
+abbrev pub items_found : GlobalEnv → List Item → Found
 items_found known is = all_found (map (λ (i : Item). item_found known i.definition) is)
 
 abbrev pub own_instances : List Item → List Instance
@@ -167,53 +167,53 @@ abbrev pub not_a_proc : Option Definition → List Fault
 not_a_proc None = breaks 32 nowhere ∷ []
 not_a_proc (Some definition) = breaks 32 (ident_of definition).span ∷ []
 
-abbrev pub lacks_default : Parameter → Bool
+abbrev pub lacks_default : Parametric → Bool
 lacks_default p = not (is_there p.default)
 
 -- rule 32: no proc of the text, or one with a parameter that has no default
 abbrev pub top_faults : Module → Option (List ℕ) → Option Proc → List Fault
 top_faults m None None = breaks 32 nowhere ∷ []
 top_faults m (Some name) None = not_a_proc (item_named name m.items)
-top_faults m top (Some p) = if list_any lacks_default p.parameters then breaks 32 p.name.span ∷ [] else []
+top_faults m top (Some p) = if list_any lacks_default p.parametrics then breaks 32 p.name.span ∷ [] else []
 
 -- its defaults give its instance
-abbrev pub top_found : Known → Option Proc → Found
+abbrev pub top_found : GlobalEnv → Option Proc → Found
 top_found known None = nothing_found
-top_found known (Some p) = with_numbers (proc_numbers known p [])
+top_found known (Some p) = with_parametric_args (proc_parametric_args known p [])
   where
     instance_if : Option (List DslxValue) → List Instance
     instance_if None = []
-    instance_if (Some vs) = record { name = p.name.name; numbers = vs } ∷ []
+    instance_if (Some vs) = record { name = p.name.name; parametric_args = vs } ∷ []
 
-    with_numbers : NumbersSeen → Found
-    with_numbers n = let declared = judged_there [] n in record { faults = n.faults ++ declared.faults; reached = declared.reached ++ instance_if n.values }
+    with_parametric_args : ParametricArgsSeen → Found
+    with_parametric_args n = let declared = typing_there [] n in record { faults = n.faults ++ declared.faults; reached = declared.reached ++ instance_if n.values }
 
 -- ---- all faults
 
 -- what is found outside all instances
 abbrev pub outside_instances : Module → Option (List ℕ) → Found
 outside_instances m top =
-    let known = known_of m in
+    let known = globals_of m in
     and_found (only_faults (top_faults m top (top_proc m top)))
     (and_found (items_found known m.items) (top_found known (top_proc m top)))
 
--- the instances that are checked: functions and procs without number parameters, the top's, and all that is reached
+-- the instances that are checked: functions and procs without parametrics, the top's, and all that is reached
 abbrev pub instances_of : Module → Option (List ℕ) → List Instance
 instances_of m top =
-    reached_within (known_of m) (length m.items) (add_new (add_new [] (own_instances m.items)) (outside_instances m top).reached)
+    reached_within (globals_of m) (length m.items) (add_new (add_new [] (own_instances m.items)) (outside_instances m top).reached)
 
 -- a module has at most 4,096 instances
 abbrev pub instance_limit : List Instance → List Fault
 instance_limit is = if nat_lt 4096 (length is) then Whole (record { what = what.Instances; found = 4097; most = 4096 }) ∷ [] else []
 
-abbrev pub instances_faults : Known → List Instance → List Fault
+abbrev pub instances_faults : GlobalEnv → List Instance → List Fault
 instances_faults known is = flat_map (λ i. (found_of_instance known i).faults) is
 
 -- all that the items break and pass
 abbrev pub items_faults : Module → Option (List ℕ) → List Fault
 items_faults m top =
     let instances = instances_of m top in
-    instance_limit instances ++ (outside_instances m top).faults ++ instances_faults (known_of m) instances
+    instance_limit instances ++ (outside_instances m top).faults ++ instances_faults (globals_of m) instances
 
 -- all rules that the parts of a module break, and all limits that they pass. Items of one name are told apart
 abbrev pub faults_of : Module → Option (List ℕ) → List Fault

@@ -13,53 +13,53 @@ use Rattle.dslx_meaning.specs.Items.{item_named, as_enum}
 use Rattle.dslx_meaning.specs.declared.ty.DslxType.{DslxType}
 use Rattle.dslx_meaning.specs.declared.value.DslxValue.{DslxValue}
 use Rattle.dslx_meaning.specs.Rules.Mentions.{is_cyclic}
-use Rattle.dslx_meaning.specs.Rules.Judging.{Sight, Judgement, breaks, breaks_if, unlimited, settled, typed_in, is_item}
+use Rattle.dslx_meaning.specs.Rules.TypeEnvs.{TypeEnv, Judgement, breaks, breaks_if, unlimited, settled, typed_in, is_item}
 
 -- ---- uses
 
 -- a constant of the text, or nothing that has a value
-abbrev pub item_value : Span → Sight → List ℕ → Bool → Judgement
-item_value span sight name false = settled span None (breaks 1 span ∷ []) [] (Some 1)
-item_value span sight name true =
-    settled span (option_map type_of_value (sight.known.items.constant name)) (breaks_if (is_cyclic sight.known.whole sight.home name) 3 span) [] (Some 1)
+abbrev pub item_value : Span → TypeEnv → List ℕ → Bool → Judgement
+item_value span context name false = settled span None (breaks 1 span ∷ []) [] (Some 1)
+item_value span context name true =
+    settled span (option_map type_of_value (context.known.items.constant name)) (breaks_if (is_cyclic context.known.whole context.owner name) 3 span) [] (Some 1)
 
--- a number parameter has no type where no value of it is known
-abbrev pub number_or_item : Span → Sight → List ℕ → Option DslxValue → Judgement
-number_or_item span sight name None =
-    if is_in name sight.unknown then settled span None [] [] (Some 1)
-    else item_value span sight name (sight.known.items.is_constant name)
-number_or_item span sight name (Some v) = settled span (Some (type_of_value v)) [] [] (Some 1)
+-- a parametric has no type where no value of it is known
+abbrev pub parametric_or_item : Span → TypeEnv → List ℕ → Option DslxValue → Judgement
+parametric_or_item span context name None =
+    if is_in name context.unknown then settled span None [] [] (Some 1)
+    else item_value span context name (context.known.items.is_constant name)
+parametric_or_item span context name (Some v) = settled span (Some (type_of_value v)) [] [] (Some 1)
 
--- an end of a `config` is no value, and hides number parameters and items of its name
-abbrev pub end_or_other : Span → Sight → List ℕ → Bool → Judgement
-end_or_other span sight name true = settled span None (breaks 1 span ∷ []) [] (Some 1)
-end_or_other span sight name false = number_or_item span sight name (given_in name sight.numbers)
+-- an end of a `config` is no value, and hides parametrics and items of its name
+abbrev pub end_or_other : Span → TypeEnv → List ℕ → Bool → Judgement
+end_or_other span context name true = settled span None (breaks 1 span ∷ []) [] (Some 1)
+end_or_other span context name false = parametric_or_item span context name (given_in name context.parametric_args)
 
-abbrev pub local_or_other : Span → Sight → List ℕ → Option (Option DslxType) → Judgement
-local_or_other span sight name None = end_or_other span sight name (is_in name sight.ends)
-local_or_other span sight name (Some ty) = settled span ty [] [] (Some 1)
+abbrev pub local_or_other : Span → TypeEnv → List ℕ → Option (Option DslxType) → Judgement
+local_or_other span context name None = end_or_other span context name (is_in name context.ends)
+local_or_other span context name (Some ty) = settled span ty [] [] (Some 1)
 
--- a name as a value: a bound name, a number parameter or a constant. Rule 1 refuses all else, rule 3 a constant that reaches
+-- a name as a value: a bound name, a parametric or a constant. Rule 1 refuses all else, rule 3 a constant that reaches
 -- the item in whose text it is named
-abbrev pub name_judged : Span → Sight → List ℕ → Judgement
-name_judged span sight name = local_or_other span sight name (typed_in name sight.locals)
+abbrev pub name_typing : Span → TypeEnv → List ℕ → Judgement
+name_typing span context name = local_or_other span context name (typed_in name context.locals)
 
 abbrev pub has_member : Enum → List ℕ → Bool
 has_member e name = is_in name (map (λ (m : Member). m.name.name) e.members)
 
 -- a member without a value has no type
-abbrev pub member_type : Sight → Ident → Ident → Option DslxType
-member_type sight e a = and_then (sight.known.items.member e.name a.name) (λ v. sight.known.items.type_named e.name)
+abbrev pub member_type : TypeEnv → Ident → Ident → Option DslxType
+member_type context e a = and_then (context.known.items.member e.name a.name) (λ v. context.known.items.type_named e.name)
 
-abbrev pub member_of : Sight → Ident → Ident → Option Enum → Judgement
-member_of sight e a None = unlimited None (breaks 1 e.span ∷ []) [] (Some 1)
-member_of sight e a (Some declared) =
-    unlimited (member_type sight e a)
-    (breaks_if (is_cyclic sight.known.whole sight.home e.name) 3 e.span ++ breaks_if (not (has_member declared a.name)) 1 a.span) [] (Some 1)
+abbrev pub member_of : TypeEnv → Ident → Ident → Option Enum → Judgement
+member_of context e a None = unlimited None (breaks 1 e.span ∷ []) [] (Some 1)
+member_of context e a (Some declared) =
+    unlimited (member_type context e a)
+    (breaks_if (is_cyclic context.known.whole context.owner e.name) 3 e.span ++ breaks_if (not (has_member declared a.name)) 1 a.span) [] (Some 1)
 
 -- `E::A`
-abbrev pub member_judged : Sight → Ident → Ident → Judgement
-member_judged sight e a = member_of sight e a (as_enum (item_named e.name sight.known.whole.items))
+abbrev pub member_typing : TypeEnv → Ident → Ident → Judgement
+member_typing context e a = member_of context e a (as_enum (item_named e.name context.known.whole.items))
 
 -- ---- declarations
 
@@ -68,5 +68,5 @@ abbrev pub listed_name : List (List ℕ) → Ident → List Fault
 listed_name before ident = breaks_if (is_own_name ident.name || is_in ident.name before) 2 ident.span
 
 -- the same of a local binding, which has no item's name either
-abbrev pub local_name : Sight → List (List ℕ) → Ident → List Fault
-local_name sight before ident = breaks_if (is_own_name ident.name || is_item sight ident.name || is_in ident.name before) 2 ident.span
+abbrev pub local_name : TypeEnv → List (List ℕ) → Ident → List Fault
+local_name context before ident = breaks_if (is_own_name ident.name || is_item context ident.name || is_in ident.name before) 2 ident.span

@@ -10,14 +10,14 @@ use Rattle.xb_span.specs.Fault.{first_of}
 use Rattle.dslx_tree.specs.declared.item.Module.{Module}
 use Rattle.dslx_tree.specs.declared.process.Proc.{Proc}
 use Rattle.dslx_tree.specs.declared.process.Spawn.{Spawn}
-use Rattle.dslx_tree.specs.declared.process.Making.{Making}
-use Rattle.dslx_tree.specs.declared.process.Making.TheVariants as making
+use Rattle.dslx_tree.specs.declared.process.ConfigStatement.{ConfigStatement}
+use Rattle.dslx_tree.specs.declared.process.ConfigStatement.TheVariants as config_statement
 use Rattle.dslx_meaning.specs.Lists.{or_else}
 use Rattle.dslx_meaning.specs.Environment.{Meanings, Env}
 use Rattle.dslx_meaning.specs.Items.{item_named, instance_env, meanings_of}
-use Rattle.dslx_meaning.specs.Network.{as_proc, spawn_numbers, top_numbers, top_proc}
+use Rattle.dslx_meaning.specs.Network.{as_proc, spawn_parametric_args, top_parametric_args, top_proc}
 use Rattle.dslx_meaning.specs.declared.value.DslxValue.{DslxValue}
-use Rattle.dslx_meaning.specs.Rules.Judging.{Instance, same_instance}
+use Rattle.dslx_meaning.specs.Rules.TypeEnvs.{Instance, same_instance}
 use Rattle.dslx_meaning.specs.Rules.ModuleRules.{instances_of, first_fault}
 
 -- how many procs and channels
@@ -43,31 +43,31 @@ abbrev pub count_in : List Counted → Instance → Count
 count_in [] i = nobody
 count_in (c ∷ cs) i = if same_instance c.instance i then c.count else count_in cs i
 
-abbrev pub count_of_numbers : List Counted → Proc → Option (List DslxValue) → Count
-count_of_numbers counted p None = nobody
-count_of_numbers counted p (Some numbers) = count_in counted (record { name = p.name.name; numbers = numbers })
+abbrev pub count_of_parametric_args : List Counted → Proc → Option (List DslxValue) → Count
+count_of_parametric_args counted p None = nobody
+count_of_parametric_args counted p (Some parametric_args) = count_in counted (record { name = p.name.name; parametric_args = parametric_args })
 
 abbrev pub spawn_count : Meanings → List Counted → Env → Spawn → Option Proc → Count
 spawn_count items counted env s None = nobody
-spawn_count items counted env s (Some target) = count_of_numbers counted target (spawn_numbers items env target s.arguments)
+spawn_count items counted env s (Some target) = count_of_parametric_args counted target (spawn_parametric_args items env target s.arguments)
 
-abbrev pub makings_count : Module → Meanings → List Counted → Env → List Making → Count
-makings_count m items counted env [] = nobody
-makings_count m items counted env (making.Channel c ∷ ms) = and_count one_channel (makings_count m items counted env ms)
-makings_count m items counted env (making.Spawn s ∷ ms) =
-    and_count (spawn_count items counted env s (as_proc (item_named s.target.name m.items))) (makings_count m items counted env ms)
+abbrev pub config_statements_count : Module → Meanings → List Counted → Env → List ConfigStatement → Count
+config_statements_count m items counted env [] = nobody
+config_statements_count m items counted env (config_statement.Channel c ∷ ms) = and_count one_channel (config_statements_count m items counted env ms)
+config_statements_count m items counted env (config_statement.Spawn s ∷ ms) =
+    and_count (spawn_count items counted env s (as_proc (item_named s.target.name m.items))) (config_statements_count m items counted env ms)
 
--- a proc with these number arguments, by the counts of those that it spawns
+-- a proc with these parametric arguments, by the counts of those that it spawns
 abbrev pub proc_count : Module → Meanings → List Counted → Proc → List DslxValue → Count
-proc_count m items counted p numbers =
-    and_count (record { procs = 1; channels = 0 }) (makings_count m items counted (instance_env items p.parameters numbers) p.config.makings)
+proc_count m items counted p parametric_args =
+    and_count (record { procs = 1; channels = 0 }) (config_statements_count m items counted (instance_env items p.parametrics parametric_args) p.config.config_statements)
 
 abbrev pub count_of_proc : Module → Meanings → List Counted → List DslxValue → Option Proc → Count
-count_of_proc m items counted numbers None = nobody
-count_of_proc m items counted numbers (Some p) = proc_count m items counted p numbers
+count_of_proc m items counted parametric_args None = nobody
+count_of_proc m items counted parametric_args (Some p) = proc_count m items counted p parametric_args
 
 abbrev pub instance_count : Module → Meanings → List Counted → Instance → Count
-instance_count m items counted i = count_of_proc m items counted i.numbers (as_proc (item_named i.name m.items))
+instance_count m items counted i = count_of_proc m items counted i.parametric_args (as_proc (item_named i.name m.items))
 
 -- these instances, by chains of at most so many spawns
 abbrev pub counted_within : Module → Meanings → List Instance → ℕ → List Counted
@@ -80,7 +80,7 @@ abbrev pub network_count : Module → Option (List ℕ) → Proc → Count
 network_count m top p =
     let items = meanings_of m in
     and_count (record { procs = 0; channels = length p.config.ends })
-    (count_in (counted_within m items (instances_of m top) (length m.items)) (record { name = p.name.name; numbers = top_numbers items p }))
+    (count_in (counted_within m items (instances_of m top) (length m.items)) (record { name = p.name.name; parametric_args = top_parametric_args items p }))
 
 -- ---- limits
 

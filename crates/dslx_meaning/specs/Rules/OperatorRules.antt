@@ -8,11 +8,11 @@ use Rattle.dslx_meaning.specs.Lists.{and_then, with_both}
 use Rattle.dslx_meaning.specs.Types.{same_type, bits_in, bits_or_enum, bool_type, unsigned}
 use Rattle.dslx_meaning.specs.Operators.{index_number}
 use Rattle.dslx_meaning.specs.declared.ty.DslxType.{DslxType}
-use Rattle.dslx_meaning.specs.Rules.Judging.{Sight, Judgement, ExprPair, breaks_if, settled, span_of, alone, plus_size, one_and}
-use Rattle.dslx_meaning.specs.Rules.ConstantRules.{ConstantSeen, constant_or_bare, is_unsigned}
+use Rattle.dslx_meaning.specs.Rules.TypeEnvs.{TypeEnv, Judgement, ExprPair, breaks_if, settled, span_of, alone, plus_size, one_and}
+use Rattle.dslx_meaning.specs.Rules.ConstantRules.{ConstantSeen, constant_or_untyped, is_unsigned}
 use Rattle.dslx_meaning.specs.Rules.PatternRules.{is_there}
 use Rattle.dslx_meaning.specs.declared.ty.BitKind.{BitKind}
-use Rattle.dslx_meaning.specs.declared.value.Bare.{Bare}
+use Rattle.dslx_meaning.specs.declared.value.UntypedLiteral.{UntypedLiteral}
 
 -- a part that has a type breaks the rule unless the type passes the test
 abbrev pub unless_type : (DslxType → Bool) → ℕ → Span → Option DslxType → List Fault
@@ -105,23 +105,23 @@ binary_type b.Ge t u = when_both t u bool_type
 binary_type b.Both t u = when_both t u bool_type
 binary_type b.Either t u = when_both t u bool_type
 
-abbrev pub binary_judged : Span → Sight → Binary → ExprPair → ExprPair → Judgement
-binary_judged span sight o l r =
-    let a = alone sight l in
-    let c = alone sight r in
+abbrev pub binary_typing : Span → TypeEnv → Binary → ExprPair → ExprPair → Judgement
+binary_typing span context o l r =
+    let a = alone context l in
+    let c = alone context r in
     settled span (binary_type o a.ty c.ty) (a.faults ++ c.faults ++ binary_faults o span (span_of l) a.ty (span_of r) c.ty)
     (a.reached ++ c.reached) (one_and (plus_size a.size c.size))
 
 -- rule 11
-abbrev pub prefix_judged : Span → Sight → ExprPair → Judgement
-prefix_judged span sight e =
-    let a = alone sight e in
+abbrev pub prefix_typing : Span → TypeEnv → ExprPair → Judgement
+prefix_typing span context e =
+    let a = alone context e in
     settled span a.ty (a.faults ++ unless_type is_bits 11 span a.ty) a.reached (one_and a.size)
 
 -- rule 20: from bits or an enum to bits
-abbrev pub cast_judged : Span → Sight → ExprPair → Judgement → Judgement
-cast_judged span sight e target =
-    let a = alone sight e in
+abbrev pub cast_typing : Span → TypeEnv → ExprPair → Judgement → Judgement
+cast_typing span context e target =
+    let a = alone context e in
     settled span (and_then a.ty (λ t. target.ty))
     (a.faults ++ target.faults ++ unless_type is_bits_or_enum 20 span a.ty ++ unless_type is_bits 20 span target.ty)
     (a.reached ++ target.reached) (one_and a.size)
@@ -129,11 +129,11 @@ cast_judged span sight e target =
 -- ---- rule 18: slices
 
 abbrev pub bound_number : ConstantSeen → Option ℕ
-bound_number c = by_bare c.bare
+bound_number c = by_untyped c.bare
   where
-    by_bare : Option Bare → Option ℕ
-    by_bare None = and_then c.value index_number
-    by_bare (Some number) = if number.is_negative then None else (Some number.value)
+    by_untyped : Option UntypedLiteral → Option ℕ
+    by_untyped None = and_then c.value index_number
+    by_untyped (Some number) = if number.is_negative then None else (Some number.value)
 
 -- a bound that is known is not negative
 abbrev pub is_negative_bound : ConstantSeen → Bool
@@ -158,21 +158,21 @@ slice_faults span t from to =
     ++ unless_type is_bits 18 span from.judgement.ty ++ unless_type is_bits 18 span to.judgement.ty
     ++ breaks_if (is_wrong_bound t from || is_wrong_bound t to || bounds_fall (bound_number from) (bound_number to)) 18 span
 
-abbrev pub slice_judged : Span → Sight → ExprPair → ExprPair → ExprPair → Judgement
-slice_judged span sight e a c =
-    let whole = alone sight e in
-    let from = constant_or_bare sight a in
-    let to = constant_or_bare sight c in
+abbrev pub slice_typing : Span → TypeEnv → ExprPair → ExprPair → ExprPair → Judgement
+slice_typing span context e a c =
+    let whole = alone context e in
+    let from = constant_or_untyped context a in
+    let to = constant_or_untyped context c in
     settled span (and_then whole.ty (λ t. with_both (bound_number from) (bound_number to) (λ i j. Some (unsigned (j - i)))))
     (whole.faults ++ from.judgement.faults ++ to.judgement.faults ++ slice_faults span whole.ty from to)
     (whole.reached ++ from.judgement.reached ++ to.judgement.reached)
     (one_and (plus_size whole.size (plus_size from.judgement.size to.judgement.size)))
 
 -- the start and the type of a part are unsigned
-abbrev pub part_judged : Span → Sight → ExprPair → ExprPair → Judgement → Judgement
-part_judged span sight e i target =
-    let whole = alone sight e in
-    let start = alone sight i in
+abbrev pub part_typing : Span → TypeEnv → ExprPair → ExprPair → Judgement → Judgement
+part_typing span context e i target =
+    let whole = alone context e in
+    let start = alone context i in
     settled span (and_then whole.ty (λ t. and_then start.ty (λ u. target.ty)))
     (whole.faults ++ start.faults ++ target.faults
     ++ unless_type is_bits 18 span whole.ty ++ unless_type is_unsigned 18 span start.ty ++ unless_type is_unsigned 18 span target.ty)

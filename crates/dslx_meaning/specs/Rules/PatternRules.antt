@@ -9,9 +9,9 @@ use Rattle.dslx_meaning.specs.declared.ty.DslxType.{DslxType, out-DslxType}
 use Rattle.dslx_meaning.specs.declared.ty.DslxType.TheOpen.{DslxType-F}
 use Rattle.dslx_meaning.specs.declared.value.DslxValue.{DslxValue}
 use Rattle.dslx_meaning.specs.Rules.Mentions.{is_cyclic}
-use Rattle.dslx_meaning.specs.Rules.Judging.{Sight, Typed, Judgement, breaks, breaks_if, unlimited}
-use Rattle.dslx_meaning.specs.Rules.Judgings.{PatternSeen, PatternJudging, PatternPair, ShapeLayer}
-use Rattle.dslx_meaning.specs.Rules.NameRules.{member_judged, local_name}
+use Rattle.dslx_meaning.specs.Rules.TypeEnvs.{TypeEnv, Typed, Judgement, breaks, breaks_if, unlimited}
+use Rattle.dslx_meaning.specs.Rules.Typings.{PatternSeen, PatternTyping, PatternPair, ShapeLayer}
+use Rattle.dslx_meaning.specs.Rules.NameRules.{member_typing, local_name}
 
 -- rule 8: it hasn't the value's shape
 abbrev pub shape_faults : Span → Option DslxType → Option DslxType → List Fault
@@ -35,11 +35,11 @@ one_value span may_fail ty names locals own is_known = record {
 }
 
 -- a name that is bound
-abbrev pub bound_name : Span → Sight → Option DslxType → List (List ℕ) → List Typed → List ℕ → PatternSeen
-bound_name span sight ty names locals name = record {
+abbrev pub bound_name : Span → TypeEnv → Option DslxType → List (List ℕ) → List Typed → List ℕ → PatternSeen
+bound_name span context ty names locals name = record {
   names = name ∷ names;
   locals = record { name = name; ty = ty } ∷ locals;
-  faults = local_name sight names (record { span = span; name = name });
+  faults = local_name context names (record { span = span; name = name });
   reached = [];
   size = 1;
   is_known = true;
@@ -47,8 +47,8 @@ bound_name span sight ty names locals name = record {
 }
 
 -- no limit applies to a pattern's type
-abbrev pub constant_pattern : Span → Sight → List ℕ → Option DslxValue → Judgement
-constant_pattern span sight name v = unlimited (option_map type_of_value v) (breaks_if (is_cyclic sight.known.whole sight.home name) 3 span) [] (Some 1)
+abbrev pub constant_pattern : Span → TypeEnv → List ℕ → Option DslxValue → Judgement
+constant_pattern span context name v = unlimited (option_map type_of_value v) (breaks_if (is_cyclic context.known.whole context.owner name) 3 span) [] (Some 1)
 
 -- the types of the parts of a tuple, where it has as many
 abbrev pub part_types_in : ℕ → DslxType-F DslxType → Option (List DslxType)
@@ -89,34 +89,34 @@ other_part_types (Some []) = None
 other_part_types (Some (t ∷ ts)) = Some ts
 
 -- the parts in order, each from what those before it bound
-abbrev pub parts_judged : Bool → Sight → List PatternPair → Option (List DslxType) → List (List ℕ) → List Typed → PatternSeen
-parts_judged may_fail sight [] types names locals = nothing_bound names locals
-parts_judged may_fail sight (p ∷ ps) types names locals =
-    let first = p.1 may_fail sight (first_part_type types) names locals in
-    both_patterns first (parts_judged may_fail sight ps (other_part_types types) first.names first.locals)
+abbrev pub parts_typing : Bool → TypeEnv → List PatternPair → Option (List DslxType) → List (List ℕ) → List Typed → PatternSeen
+parts_typing may_fail context [] types names locals = nothing_bound names locals
+parts_typing may_fail context (p ∷ ps) types names locals =
+    let first = p.1 may_fail context (first_part_type types) names locals in
+    both_patterns first (parts_typing may_fail context ps (other_part_types types) first.names first.locals)
 
 abbrev pub tuple_pattern : Span → Option DslxType → Option (List DslxType) → PatternSeen → PatternSeen
 tuple_pattern span ty types parts = record parts { faults = tuple_faults span ty types ++ parts.faults; size = 1 + parts.size }
 
-abbrev pub name_pattern : Span → Bool → Sight → Option DslxType → List (List ℕ) → List Typed → List ℕ → Bool → PatternSeen
-name_pattern span may_fail sight ty names locals name false = bound_name span sight ty names locals name
-name_pattern span may_fail sight ty names locals name true =
-    let v = sight.known.items.constant name in
-    one_value span may_fail ty names locals (constant_pattern span sight name v) (is_there v)
+abbrev pub name_pattern : Span → Bool → TypeEnv → Option DslxType → List (List ℕ) → List Typed → List ℕ → Bool → PatternSeen
+name_pattern span may_fail context ty names locals name false = bound_name span context ty names locals name
+name_pattern span may_fail context ty names locals name true =
+    let v = context.known.items.constant name in
+    one_value span may_fail ty names locals (constant_pattern span context name v) (is_there v)
 
-abbrev pub shape_judged : ShapeLayer → Span → PatternJudging
-shape_judged Shape-F.Wild span may_fail sight ty names locals = record (nothing_bound names locals) { size = 1 }
-shape_judged (Shape-F.Shape::Bool b) span may_fail sight ty names locals = one_value span may_fail ty names locals (unlimited (Some bool_type) [] [] (Some 1)) true
-shape_judged (Shape-F.Shape::Number n) span may_fail sight ty names locals =
-    let own = n.1 span sight in
+abbrev pub shape_typing : ShapeLayer → Span → PatternTyping
+shape_typing Shape-F.Wild span may_fail context ty names locals = record (nothing_bound names locals) { size = 1 }
+shape_typing (Shape-F.Shape::Bool b) span may_fail context ty names locals = one_value span may_fail ty names locals (unlimited (Some bool_type) [] [] (Some 1)) true
+shape_typing (Shape-F.Shape::Number n) span may_fail context ty names locals =
+    let own = n.1 span context in
     one_value span may_fail ty names locals own (is_there own.ty)
-shape_judged (Shape-F.Shape::Name name) span may_fail sight ty names locals = name_pattern span may_fail sight ty names locals name (sight.known.items.is_constant name)
-shape_judged (Shape-F.Shape::Member e a) span may_fail sight ty names locals =
-    one_value span may_fail ty names locals (member_judged sight e a) (is_there (sight.known.items.member e.name a.name))
-shape_judged (Shape-F.Shape::Tuple ps) span may_fail sight ty names locals =
+shape_typing (Shape-F.Shape::Name name) span may_fail context ty names locals = name_pattern span may_fail context ty names locals name (context.known.items.is_constant name)
+shape_typing (Shape-F.Shape::Member e a) span may_fail context ty names locals =
+    one_value span may_fail ty names locals (member_typing context e a) (is_there (context.known.items.member e.name a.name))
+shape_typing (Shape-F.Shape::Tuple ps) span may_fail context ty names locals =
     let types = part_types (length ps) ty in
-    tuple_pattern span ty types (parts_judged may_fail sight ps types names locals)
+    tuple_pattern span ty types (parts_typing may_fail context ps types names locals)
 
--- a pattern of its own, from what is in sight
-abbrev pub pattern_alone : Bool → Sight → Option DslxType → PatternPair → PatternSeen
-pattern_alone may_fail sight ty p = p.1 may_fail sight ty [] sight.locals
+-- a pattern of its own, from the type environment
+abbrev pub pattern_alone : Bool → TypeEnv → Option DslxType → PatternPair → PatternSeen
+pattern_alone may_fail context ty p = p.1 may_fail context ty [] context.locals

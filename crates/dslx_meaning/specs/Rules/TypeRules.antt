@@ -10,9 +10,9 @@ use Rattle.dslx_meaning.specs.Items.{item_named}
 use Rattle.dslx_meaning.specs.declared.ty.DslxType.{DslxType}
 use Rattle.dslx_meaning.specs.declared.ty.DslxType as ty
 use Rattle.dslx_meaning.specs.Rules.Mentions.{is_of_use, AsType, is_cyclic}
-use Rattle.dslx_meaning.specs.Rules.Judging.{Sight, Judgement, breaks, breaks_if, settled, faults_of_all, reached_of_all, types_of}
+use Rattle.dslx_meaning.specs.Rules.TypeEnvs.{TypeEnv, Judgement, breaks, breaks_if, settled, faults_of_all, reached_of_all, types_of}
 use Rattle.dslx_meaning.specs.Rules.ConstantRules.{CountSeen, count_of, count_faults}
-use Rattle.dslx_meaning.specs.Rules.Judgings.{TypePair, TypeNodeLayer}
+use Rattle.dslx_meaning.specs.Rules.Typings.{TypePair, TypeNodeLayer}
 
 -- rule 31: () stands inside another type
 abbrev pub unit_faults : Span → Option DslxType → List Fault
@@ -23,13 +23,13 @@ abbrev pub span_of_type : TypePair → Span
 span_of_type t = (out-TypeExpr t.0).span
 
 -- a type inside another, or where () may not stand
-abbrev pub inner_type : Sight → TypePair → Judgement
-inner_type sight t =
-    let j = t.1 sight in
+abbrev pub inner_type : TypeEnv → TypePair → Judgement
+inner_type context t =
+    let j = t.1 context in
     record j { faults = j.faults ++ unit_faults (span_of_type t) j.ty }
 
-abbrev pub inner_types : Sight → List TypePair → List Judgement
-inner_types sight ts = map (inner_type sight) ts
+abbrev pub inner_types : TypeEnv → List TypePair → List Judgement
+inner_types context ts = map (inner_type context) ts
 
 -- a type that has no parts
 abbrev pub whole_type : Span → DslxType → Judgement
@@ -43,10 +43,10 @@ abbrev pub counted_type : Span → Option DslxType → List Fault → CountSeen 
 counted_type span t faults n = settled span t (faults ++ n.judgement.faults) n.judgement.reached (Some 0)
 
 -- rule 1: no item, or none that names a type; rule 3: it reaches the item in whose text it stands
-abbrev pub named_type : Span → Sight → List ℕ → Bool → Judgement
-named_type span sight name false = settled span None (breaks 1 span ∷ []) [] (Some 0)
-named_type span sight name true =
-    settled span (sight.known.items.type_named name) (breaks_if (is_cyclic sight.known.whole sight.home name) 3 span) [] (Some 0)
+abbrev pub named_type : Span → TypeEnv → List ℕ → Bool → Judgement
+named_type span context name false = settled span None (breaks 1 span ∷ []) [] (Some 0)
+named_type span context name true =
+    settled span (context.known.items.type_named name) (breaks_if (is_cyclic context.known.whole context.owner name) 3 span) [] (Some 0)
 
 abbrev pub joined_reached : Judgement → CountSeen → Judgement → Judgement
 joined_reached a n j = record j { reached = a.reached ++ n.judgement.reached }
@@ -54,12 +54,12 @@ joined_reached a n j = record j { reached = a.reached ++ n.judgement.reached }
 abbrev pub array_of : Span → Judgement → CountSeen → Judgement
 array_of span t n = joined_reached t n (counted_type span (with_both t.ty n.count (λ t n. Some (ty.Array t n))) t.faults n)
 
-abbrev pub type_judged : TypeNodeLayer → Span → Sight → Judgement
-type_judged (TypeNode-F.Bits s w) span sight = named_bits span s w
-type_judged (TypeNode-F.Wide s e) span sight = let n = count_of sight e in counted_type span (and_then n.count (λ w. Some (ty.Bits s w))) [] n
-type_judged TypeNode-F.TypeNode::Bool span sight = whole_type span (ty.Bits false 1)
-type_judged (TypeNode-F.TypeNode::Name name) span sight = named_type span sight name (is_of_use AsType (item_named name sight.known.whole.items))
-type_judged (TypeNode-F.TypeNode::Tuple ts) span sight =
-    let js = inner_types sight ts in
+abbrev pub type_expr_typing : TypeNodeLayer → Span → TypeEnv → Judgement
+type_expr_typing (TypeNode-F.Bits s w) span context = named_bits span s w
+type_expr_typing (TypeNode-F.Wide s e) span context = let n = count_of context e in counted_type span (and_then n.count (λ w. Some (ty.Bits s w))) [] n
+type_expr_typing TypeNode-F.TypeNode::Bool span context = whole_type span (ty.Bits false 1)
+type_expr_typing (TypeNode-F.TypeNode::Name name) span context = named_type span context name (is_of_use AsType (item_named name context.known.whole.items))
+type_expr_typing (TypeNode-F.TypeNode::Tuple ts) span context =
+    let js = inner_types context ts in
     settled span (and_then (all_some (types_of js)) (λ ts. Some (ty.Tuple ts))) (faults_of_all js) (reached_of_all js) (Some 0)
-type_judged (TypeNode-F.TypeNode::Array t e) span sight = array_of span (inner_type sight t) (count_of sight e)
+type_expr_typing (TypeNode-F.TypeNode::Array t e) span context = array_of span (inner_type context t) (count_of context e)

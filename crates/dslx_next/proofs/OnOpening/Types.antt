@@ -5,7 +5,7 @@ use Rattle.dslx_tree.specs.declared.process.End.{End}
 use Rattle.dslx_tree.specs.declared.type_expr.TypeExpr.{TypeExpr}
 use Rattle.dslx_meaning.specs.Activation.{SiteAct, Computes, SendsWord, SendsWordIf, TakesWord, TakesWordIf}
 use Rattle.dslx_meaning.specs.Items.{meanings_of}
-use Rattle.dslx_meaning.specs.Lists.{and_then, place_in, where_true}
+use Rattle.dslx_meaning.specs.Lists.{and_then, index_in, where_true}
 use Rattle.dslx_meaning.specs.Types.{received}
 use Rattle.dslx_meaning.specs.declared.ty.DslxType.{DslxType}
 use Rattle.dslx_meaning.specs.declared.ty.DslxType as ty
@@ -14,26 +14,26 @@ use Rattle.dslx_core.specs.declared.step.Step.{Step}
 use Rattle.dslx_core.specs.Lowering.Functions.{CoreInstance, callee_in}
 use Rattle.dslx_core.specs.Lowering.Lowering.{LoweredExpr}
 use Rattle.dslx_core.specs.Lowering.Steps.{CoreMember, can_travel, end_names, member_in}
-use Rattle.dslx_core.specs.Lowering.Trees.{expression_lowered, of_type, type_of_text_lowered}
+use Rattle.dslx_core.specs.Lowering.Trees.{lower_expression, of_type, lower_type_of_text}
 use Rattle.dslx_core.proofs.Lemmas.Lowering.{from_then}
 use Rattle.dslx_machines.specs.Machine.Reached.{IsTable}
 use Rattle.dslx_machines.proofs.Lemmas.Machine.Steady.{type_anywhere}
 use Rattle.dslx_instance.specs.declared.tasks.work.BodyWork.{BodyWork}
 use Rattle.dslx_machines.proofs.Lemmas.Extension.OneType.{one_type}
 use Rattle.dslx_next.specs.Opening.Opened.{computing, conditional, opened, receiving, sending}
-use Rattle.dslx_next.specs.Opening.Works.{opened_at, outer_at, place_at}
+use Rattle.dslx_next.specs.Opening.Works.{opened_at, outer_at, scope_at}
 use Rattle.dslx_next.specs.declared.opening.opened.OpenStep.{OpenStep}
 use Rattle.dslx_next.specs.declared.opening.work.Conditional.{Conditional}
-use Rattle.dslx_next.specs.declared.opening.work.NextKnown.{NextKnown}
+use Rattle.dslx_next.specs.declared.opening.work.NextScope.{NextScope}
 
 -- the type that a step was opened with
 type_of : (s : Step) (t : DslxType) (o : OpenStep) → opened s t ≡ Some o → t ≡ o.ty
 type_of s t o e = ap (λ (p : OpenStep). p.ty) (same_some (record { step = s; ty = t }) o e)
 
-module _ (k : NextKnown) (w : BodyWork) where
+module _ (k : NextScope) (w : BodyWork) where
   -- ---- members
 
-  same_word : (t u : List CoreInstance) (word : TypeExpr) → type_of_text_lowered word (outer_at k w t) ≡ type_of_text_lowered word (outer_at k w u)
+  same_word : (t u : List CoreInstance) (word : TypeExpr) → lower_type_of_text word (outer_at k w t) ≡ lower_type_of_text word (outer_at k w u)
   same_word t u word = type_anywhere word (outer_at k w u) (callee_in k.text.now (meanings_of k.text.now) t)
 
   -- a member by each table
@@ -42,7 +42,7 @@ module _ (k : NextKnown) (w : BodyWork) where
 
   same_member : (t u : List CoreInstance) (c : List ℕ) → member_by c t ≡ member_by c u
   same_member t u c =
-      λ i. and_then (place_in c (end_names k.ends.now)) (λ n.
+      λ i. and_then (index_in c (end_names k.ends.now)) (λ n.
       and_then (slice_get k.ends.now n) (λ (e : End).
       and_then (same_word t u e.word i) (λ ty. where_true (can_travel ty) (Some (record { number = n; word = ty })))))
 
@@ -85,14 +85,14 @@ module _ (k : NextKnown) (w : BodyWork) where
   pub opens_one_type : (t u : List CoreInstance) → IsTable k.text.now (meanings_of k.text.now) t → IsTable k.text.now (meanings_of k.text.now) u → (a : SiteAct) (e : Expr) (o q : OpenStep)
       → opened_at k w a e t ≡ Some o → opened_at k w a e u ≡ Some q → o.ty ≡ q.ty
   opens_one_type t u is other Computes e o q at_t at_u =
-      let x = from_then (expression_lowered e (place_at k w t)) computing o at_t in
-      let y = from_then (expression_lowered e (place_at k w u)) computing q at_u in
-      sym (type_of _ x.0.ty o x.2) ∙ one_type k.text.now t u is other e (place_at k w t) x.0 y.0 x.1 y.1 ∙ type_of _ y.0.ty q y.2
+      let x = from_then (lower_expression e (scope_at k w t)) computing o at_t in
+      let y = from_then (lower_expression e (scope_at k w u)) computing q at_u in
+      sym (type_of _ x.0.ty o x.2) ∙ one_type k.text.now t u is other e (scope_at k w t) x.0 y.0 x.1 y.1 ∙ type_of _ y.0.ty q y.2
   opens_one_type t u is other (TakesWord c) e o q at_t at_u =
       both_taken t u c (λ m. receiving m None) (λ m. receiving m None) o q (λ m h. type_of _ (received m.word) o h) (λ m h. type_of _ (received m.word) q h) at_t at_u
   opens_one_type t u is other (TakesWordIf c p word) e o q at_t at_u =
-      both_taken t u c _ _ o q (λ m. takes_if m (conditional m.word p word (place_at k w t)) o) (λ m. takes_if m (conditional m.word p word (place_at k w u)) q) at_t at_u
+      both_taken t u c _ _ o q (λ m. takes_if m (conditional m.word p word (scope_at k w t)) o) (λ m. takes_if m (conditional m.word p word (scope_at k w u)) q) at_t at_u
   opens_one_type t u is other (SendsWord c word) e o q at_t at_u =
-      sym (sends t c (λ m. of_type m.word (expression_lowered word (place_at k w t))) o at_t) ∙ sends u c (λ m. of_type m.word (expression_lowered word (place_at k w u))) q at_u
+      sym (sends t c (λ m. of_type m.word (lower_expression word (scope_at k w t))) o at_t) ∙ sends u c (λ m. of_type m.word (lower_expression word (scope_at k w u))) q at_u
   opens_one_type t u is other (SendsWordIf c p word) e o q at_t at_u =
-      sym (sends_if t c (λ m. conditional m.word p word (place_at k w t)) o at_t) ∙ sends_if u c (λ m. conditional m.word p word (place_at k w u)) q at_u
+      sym (sends_if t c (λ m. conditional m.word p word (scope_at k w t)) o at_t) ∙ sends_if u c (λ m. conditional m.word p word (scope_at k w u)) q at_u

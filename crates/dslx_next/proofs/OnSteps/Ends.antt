@@ -13,20 +13,20 @@ use Rattle.dslx_meaning.specs.Lists.{and_then, where_true}
 use Rattle.dslx_meaning.specs.declared.ty.DslxType.{DslxType}
 use Rattle.dslx_core.specs.declared.step.Step.{Step}
 use Rattle.dslx_typing.proofs.Lemmas.Typed.{same_some}
-use Rattle.dslx_core.specs.Lowering.CorePlaces.{CorePlace, with_local}
+use Rattle.dslx_core.specs.Lowering.CoreScopes.{CoreScope, with_local}
 use Rattle.dslx_core.specs.Lowering.EqualTypes.{equal_type}
-use Rattle.dslx_core.specs.Lowering.Functions.{CoreInstance, numbers_stand, outer_place}
+use Rattle.dslx_core.specs.Lowering.Functions.{CoreInstance, parametric_args_are_well_typed, outer_scope}
 use Rattle.dslx_core.specs.Lowering.Lowering.{LoweredExpr}
-use Rattle.dslx_core.specs.Lowering.Steps.{LoweredNext, LoweredSteps, LowersSteps, is_sized, last_of_steps, next_lowered, statement_steps, statements_steps, steps_from}
-use Rattle.dslx_core.specs.Lowering.Trees.{type_of_text_lowered}
+use Rattle.dslx_core.specs.Lowering.Steps.{LoweredNext, LoweredSteps, StepsLowering, is_sized, last_of_steps, lower_next, statement_steps, statements_steps, steps_from}
+use Rattle.dslx_core.specs.Lowering.Trees.{lower_type_of_text}
 use Rattle.dslx_core.proofs.Lemmas.Lowering.{from_then}
 use Rattle.dslx_machines.specs.Machine.Reached.{IsTable}
 use Rattle.dslx_machines.proofs.Lemmas.Machine.Instances.{begins_further, begins_itself}
 use Rattle.dslx_instance.specs.declared.tasks.work.BodyWork.{BodyWork}
-use Rattle.dslx_machines.specs.Extension.Comes.{Comes}
-use Rattle.dslx_next.specs.Opening.Works.{BodyMakes, numbers_known, outer_at, place_at}
+use Rattle.dslx_machines.specs.Extension.Results.{TableResult}
+use Rattle.dslx_next.specs.Opening.Works.{BodyMakes, parametric_args_known, outer_at, scope_at}
 use Rattle.dslx_next.specs.Steps.Passing.{HasOneState, HasState, IsPassed, BodyPasses, behind_steps, body_at, last_at, statements_at, statements_then}
-use Rattle.dslx_next.specs.declared.opening.work.NextKnown.{NextKnown}
+use Rattle.dslx_next.specs.declared.opening.work.NextScope.{NextScope}
 use Rattle.dslx_machines.proofs.Lemmas.Extension.Coming.{comes_as, never_as, never_behind, never_then, value_comes}
 use Rattle.dslx_machines.proofs.Lemmas.Extension.Growing.{grows_on}
 use Rattle.dslx_next.proofs.OnOpening.Sequels.{lowered_types}
@@ -38,10 +38,10 @@ use Rattle.dslx_next.proofs.OnSteps.Passed.{no_state}
 abbrev state_alone : LoweredExpr → Option LoweredSteps
 state_alone e = Some (record { steps = []; next = e })
 
-abbrev ended : Option Expr → LowersSteps
+abbrev ended : Option Expr → StepsLowering
 ended last place = and_then (last_of_steps last place) state_alone
 
-in_order : (outer : CorePlace) (k : NextKnown) (ss : List Stmt) (last : Option Expr) (place : CorePlace) → statements_steps outer k.ends.now ss last place ≡ statements_then outer k ss (ended last) place
+in_order : (outer : CoreScope) (k : NextScope) (ss : List Stmt) (last : Option Expr) (place : CoreScope) → statements_steps outer k.ends.now ss last place ≡ statements_then outer k ss (ended last) place
 in_order outer k [] last place = refl
 in_order outer k (s ∷ ss) last place = λ i. statement_steps outer k.ends.now (out-Stmt s) (λ p. in_order outer k ss last p i) place
 
@@ -50,26 +50,26 @@ behind_none None = refl
 behind_none (Some r) = refl
 
 -- a body by its statements
-by_statements : (k : NextKnown) (w : BodyWork) (b : Block) (t : List CoreInstance) → body_at k w b t ≡ behind_steps [] (statements_at k w (out-Block b).statements t (ended (out-Block b).value))
-by_statements k w b t = in_order (outer_at k w t) k (out-Block b).statements (out-Block b).value (place_at k w t) ∙ sym (behind_none (statements_at k w (out-Block b).statements t (ended (out-Block b).value)))
+by_statements : (k : NextScope) (w : BodyWork) (b : Block) (t : List CoreInstance) → body_at k w b t ≡ behind_steps [] (statements_at k w (out-Block b).statements t (ended (out-Block b).value))
+by_statements k w b t = in_order (outer_at k w t) k (out-Block b).statements (out-Block b).value (scope_at k w t) ∙ sym (behind_none (statements_at k w (out-Block b).statements t (ended (out-Block b).value)))
 
 -- a body, and what comes behind all its statements
-state_of_last : (k : NextKnown) (w after : BodyWork) (b : Block) (steps : List Step) → IsPassed k (statements_at k w (out-Block b).statements) [] w steps after → (t : List CoreInstance) → IsTable k.text.now (meanings_of k.text.now) t
+state_of_last : (k : NextScope) (w after : BodyWork) (b : Block) (steps : List Step) → IsPassed k (statements_at k w (out-Block b).statements) [] w steps after → (t : List CoreInstance) → IsTable k.text.now (meanings_of k.text.now) t
     → HasState (body_at k w b t) (and_then (last_at k after (out-Block b).value t) state_alone)
 state_of_last k w after b steps passed t is =
-    subst (λ (o : Option LoweredSteps). HasState o (and_then (last_at k after (out-Block b).value t) state_alone)) (sym (in_order (outer_at k w t) k (out-Block b).statements (out-Block b).value (place_at k w t)))
+    subst (λ (o : Option LoweredSteps). HasState o (and_then (last_at k after (out-Block b).value t) state_alone)) (sym (in_order (outer_at k w t) k (out-Block b).statements (out-Block b).value (scope_at k w t)))
     (passed.state t is (ended (out-Block b).value))
 
-pub body_stopped : (k : NextKnown) (w : BodyWork) (b : Block) (steps : List Step) → BodyPasses k (statements_at k w (out-Block b).statements) [] w steps None → Comes k.text.now k.limit w.table (body_at k w b) None
-body_stopped k w b steps never t is small = in_order (outer_at k w t) k (out-Block b).statements (out-Block b).value (place_at k w t) ∙ never (λ t. ended (out-Block b).value) t is small
+pub body_stopped : (k : NextScope) (w : BodyWork) (b : Block) (steps : List Step) → BodyPasses k (statements_at k w (out-Block b).statements) [] w steps None → TableResult k.text.now k.limit w.table (body_at k w b) None
+body_stopped k w b steps never t is small = in_order (outer_at k w t) k (out-Block b).statements (out-Block b).value (scope_at k w t) ∙ never (λ t. ended (out-Block b).value) t is small
 
-pub body_endless : (k : NextKnown) (w after : BodyWork) (b : Block) (steps : List Step) → IsPassed k (statements_at k w (out-Block b).statements) [] w steps after
-    → BodyMakes k after (last_at k after (out-Block b).value) None → Comes k.text.now k.limit w.table (body_at k w b) None
+pub body_endless : (k : NextScope) (w after : BodyWork) (b : Block) (steps : List Step) → IsPassed k (statements_at k w (out-Block b).statements) [] w steps after
+    → BodyMakes k after (last_at k after (out-Block b).value) None → TableResult k.text.now k.limit w.table (body_at k w b) None
 body_endless k w after b steps passed never t is small =
     no_state (body_at k w b t) (and_then (last_at k after (out-Block b).value t) state_alone) (state_of_last k w after b steps passed t is) (ap (λ o. and_then o state_alone) (never t is small))
 
-pub body_ended : (k : NextKnown) (w after last : BodyWork) (b : Block) (steps : List Step) (next : LoweredExpr) → IsPassed k (statements_at k w (out-Block b).statements) [] w steps after
-    → BodyMakes k after (last_at k after (out-Block b).value) (Some (next, last)) → Comes k.text.now k.limit w.table (body_at k w b) (Some (record { steps = steps; next = next }, last.table))
+pub body_ended : (k : NextScope) (w after last : BodyWork) (b : Block) (steps : List Step) (next : LoweredExpr) → IsPassed k (statements_at k w (out-Block b).statements) [] w steps after
+    → BodyMakes k after (last_at k after (out-Block b).value) (Some (next, last)) → TableResult k.text.now k.limit w.table (body_at k w b) (Some (record { steps = steps; next = next }, last.table))
 body_ended k w after last b steps next passed made = record {
   grows = grows_on k.text.now w.table after.table last.table passed.grows made.0.grows;
   some = λ t from. by_statements k w b t ∙ passed.passed t (begins_further after.table last.table t made.0.grows.begins from) (ended (out-Block b).value)
@@ -78,12 +78,12 @@ body_ended k w after last b steps next passed made = record {
 }
 
 -- the last expression has one type by all tables
-last_types : (k : NextKnown) (w last : BodyWork) (o : Option Expr) (r s : LoweredExpr) (t : List CoreInstance) → BodyMakes k w (last_at k w o) (Some (r, last)) → IsTable k.text.now (meanings_of k.text.now) t
+last_types : (k : NextScope) (w last : BodyWork) (o : Option Expr) (r s : LoweredExpr) (t : List CoreInstance) → BodyMakes k w (last_at k w o) (Some (r, last)) → IsTable k.text.now (meanings_of k.text.now) t
     → last_at k w o t ≡ Some s → s.ty ≡ r.ty
 last_types k w last None r s t made is e = ap (λ (x : LoweredExpr). x.ty) (same_some s r (sym e ∙ made.0.some last.table (begins_itself last.table)))
 last_types k w last (Some e) r s t made is by_table = lowered_types k w last e r s t made is by_table
 
-pub body_of_one_type : (k : NextKnown) (w after last : BodyWork) (b : Block) (steps : List Step) (next : LoweredExpr) → IsPassed k (statements_at k w (out-Block b).statements) [] w steps after
+pub body_of_one_type : (k : NextScope) (w after last : BodyWork) (b : Block) (steps : List Step) (next : LoweredExpr) → IsPassed k (statements_at k w (out-Block b).statements) [] w steps after
     → BodyMakes k after (last_at k after (out-Block b).value) (Some (next, last)) → HasOneState k w b (Some (record { steps = steps; next = next }, last.table))
 body_of_one_type k w after last b steps next passed made t is r e =
     let x = state_of_last k w after b steps passed t is r e in
@@ -91,7 +91,7 @@ body_of_one_type k w after last b steps next passed made t is r e =
     ap (λ (l : LoweredExpr). l.ty) x.2 ∙ ap (λ (l : LoweredSteps). l.next.ty) (sym (same_some (record { steps = []; next = y.0 }) x.0 y.2)) ∙ last_types k after last (out-Block b).value next y.0 t made is y.1
 
 -- all statements, behind no steps
-pub passes_all : (k : NextKnown) (w : BodyWork) (ss all : List Stmt) (steps new_steps : List Step) (o : Option BodyWork) → ss ≡ all → steps ≡ [] → BodyPasses k (statements_at k w ss) steps w new_steps o
+pub passes_all : (k : NextScope) (w : BodyWork) (ss all : List Stmt) (steps new_steps : List Step) (o : Option BodyWork) → ss ≡ all → steps ≡ [] → BodyPasses k (statements_at k w ss) steps w new_steps o
     → BodyPasses k (statements_at k w all) [] w new_steps o
 passes_all k w ss all steps new_steps o e none passes =
     subst (λ (l : List Step). BodyPasses k (statements_at k w all) l w new_steps o) none (subst (λ (l : List Stmt). BodyPasses k (statements_at k w l) steps w new_steps o) e passes)
@@ -107,35 +107,35 @@ by_sized (Some t) f = by (is_sized t)
     by true = refl
     by false = refl
 
-module _ (m : Module) (limit : ℕ) (before : List CoreInstance) (numbers : List Binding) (p : Proc) where
-  abbrev outer : List CoreInstance → CorePlace
-  outer t = outer_place (numbers_known m numbers t)
+module _ (m : Module) (limit : ℕ) (before : List CoreInstance) (parametric_args : List Binding) (p : Proc) where
+  abbrev outer : List CoreInstance → CoreScope
+  outer t = outer_scope (parametric_args_known m parametric_args t)
 
   -- the type that is declared, if it has elements
   abbrev declared : List CoreInstance → Option DslxType
-  declared t = and_then (type_of_text_lowered p.next.ty (outer t)) (λ t. where_true (is_sized t) (Some t))
+  declared t = and_then (lower_type_of_text p.next.ty (outer t)) (λ t. where_true (is_sized t) (Some t))
 
   abbrev stand : Bool
-  stand = numbers_stand (meanings_of m) (reverse (map given numbers)) && not ((meanings_of m).is_constant p.next.state.name)
+  stand = parametric_args_are_well_typed (meanings_of m) (reverse (map given parametric_args)) && not ((meanings_of m).is_constant p.next.state.name)
 
-  by_state : (t : List CoreInstance) (state : Option DslxType) → stand ≡ true → state ≡ declared t → next_lowered (numbers_known m numbers t) p ≡ and_then state (steps_from (outer t) p)
+  by_state : (t : List CoreInstance) (state : Option DslxType) → stand ≡ true → state ≡ declared t → lower_next (parametric_args_known m parametric_args t) p ≡ and_then state (steps_from (outer t) p)
   by_state t state stands is =
-      ap (λ b. where_true b (and_then (type_of_text_lowered p.next.ty (outer t)) (λ ty. where_true (is_sized ty) (steps_from (outer t) p ty)))) stands
-      ∙ by_sized (type_of_text_lowered p.next.ty (outer t)) (steps_from (outer t) p) ∙ ap (λ o. and_then o (steps_from (outer t) p)) (sym is)
+      ap (λ b. where_true b (and_then (lower_type_of_text p.next.ty (outer t)) (λ ty. where_true (is_sized ty) (steps_from (outer t) p ty)))) stands
+      ∙ by_sized (lower_type_of_text p.next.ty (outer t)) (steps_from (outer t) p) ∙ ap (λ o. and_then o (steps_from (outer t) p)) (sym is)
 
-  pub without_names : stand ≡ false → Comes m limit before (λ t. next_lowered (numbers_known m numbers t) p) None
-  without_names none t is small = ap (λ b. where_true b (and_then (type_of_text_lowered p.next.ty (outer t)) (λ ty. where_true (is_sized ty) (steps_from (outer t) p ty)))) none
+  pub without_names : stand ≡ false → TableResult m limit before (λ t. lower_next (parametric_args_known m parametric_args t) p) None
+  without_names none t is small = ap (λ b. where_true b (and_then (lower_type_of_text p.next.ty (outer t)) (λ ty. where_true (is_sized ty) (steps_from (outer t) p ty)))) none
 
-  pub without_state : stand ≡ true → ((t : List CoreInstance) → None ≡ declared t) → Comes m limit before (λ t. next_lowered (numbers_known m numbers t) p) None
+  pub without_state : stand ≡ true → ((t : List CoreInstance) → None ≡ declared t) → TableResult m limit before (λ t. lower_next (parametric_args_known m parametric_args t) p) None
   without_state stands none t is small = by_state t None stands (none t)
 
   pub with_state : (state : DslxType) (o : Option (LoweredNext × List CoreInstance)) → stand ≡ true → ((t : List CoreInstance) → Some state ≡ declared t)
-      → Comes m limit before (λ t. steps_from (outer t) p state) o → Comes m limit before (λ t. next_lowered (numbers_known m numbers t) p) o
-  with_state state o stands is comes = comes_as m limit before (λ t. steps_from (outer t) p state) (λ t. next_lowered (numbers_known m numbers t) p) o (λ t. by_state t (Some state) stands (is t)) comes
+      → TableResult m limit before (λ t. steps_from (outer t) p state) o → TableResult m limit before (λ t. lower_next (parametric_args_known m parametric_args t) p) o
+  with_state state o stands is comes = comes_as m limit before (λ t. steps_from (outer t) p state) (λ t. lower_next (parametric_args_known m parametric_args t) p) o (λ t. by_state t (Some state) stands (is t)) comes
 
 -- ---- the steps behind the state
 
-module _ (k : NextKnown) (w : BodyWork) (p : Proc) (state : DslxType) (ends : k.ends.now ≡ p.members) (locals : w.locals ≡ record { name = p.next.state.name; slot = 0; ty = state } ∷ []) (count : w.count ≡ 1) where
+module _ (k : NextScope) (w : BodyWork) (p : Proc) (state : DslxType) (ends : k.ends.now ≡ p.members) (locals : w.locals ≡ record { name = p.next.state.name; slot = 0; ty = state } ∷ []) (count : w.count ≡ 1) where
   -- the whole, if the state behind has the type of the state
   abbrev whole : LoweredSteps → Option LoweredNext
   whole s = where_true (equal_type state s.next.ty) (Some (record { state = state; steps = s.steps; next = s.next.core }))
@@ -143,23 +143,23 @@ module _ (k : NextKnown) (w : BodyWork) (p : Proc) (state : DslxType) (ends : k.
   abbrev from_state : List CoreInstance → Option LoweredNext
   from_state t = steps_from (outer_at k w t) p state
 
-  state_place : (t : List CoreInstance) → place_at k w t ≡ with_local p.next.state.name state (outer_at k w t)
-  state_place t = λ i. record { known = (outer_at k w t).known; locals = locals i; count = count i }
+  state_scope : (t : List CoreInstance) → scope_at k w t ≡ with_local p.next.state.name state (outer_at k w t)
+  state_scope t = λ i. record { known = (outer_at k w t).known; locals = locals i; count = count i }
 
   by_body : (t : List CoreInstance) → from_state t ≡ and_then (body_at k w p.next.body t) whole
-  by_body t = λ i. and_then (statements_steps (outer_at k w t) (sym ends i) (out-Block p.next.body).statements (out-Block p.next.body).value (sym (state_place t) i)) whole
+  by_body t = λ i. and_then (statements_steps (outer_at k w t) (sym ends i) (out-Block p.next.body).statements (out-Block p.next.body).value (sym (state_scope t) i)) whole
 
-  pub without_body : (limit : ℕ) → Comes k.text.now limit w.table (body_at k w p.next.body) None → Comes k.text.now limit w.table from_state None
+  pub without_body : (limit : ℕ) → TableResult k.text.now limit w.table (body_at k w p.next.body) None → TableResult k.text.now limit w.table from_state None
   without_body limit never = never_as k.text.now limit (λ t. and_then (body_at k w p.next.body t) whole) from_state by_body (never_then k.text.now limit (body_at k w p.next.body) (λ s t. whole s) never)
 
-  pub with_body : (limit : ℕ) (s : LoweredSteps) (after : List CoreInstance) → Comes k.text.now limit w.table (body_at k w p.next.body) (Some (s, after)) → equal_type state s.next.ty ≡ true
-      → Comes k.text.now limit w.table from_state (Some (record { state = state; steps = s.steps; next = s.next.core }, after))
+  pub with_body : (limit : ℕ) (s : LoweredSteps) (after : List CoreInstance) → TableResult k.text.now limit w.table (body_at k w p.next.body) (Some (s, after)) → equal_type state s.next.ty ≡ true
+      → TableResult k.text.now limit w.table from_state (Some (record { state = state; steps = s.steps; next = s.next.core }, after))
   with_body limit s after comes same =
       comes_as k.text.now limit w.table (λ t. and_then (body_at k w p.next.body t) whole) from_state (Some (record { state = state; steps = s.steps; next = s.next.core }, after)) by_body
       (value_comes k.text.now limit w.table after (body_at k w p.next.body) whole s (record { state = state; steps = s.steps; next = s.next.core }) comes
       (ap (λ b. where_true b (Some (record { state = state; steps = s.steps; next = s.next.core }))) same))
 
-  pub with_other : (limit : ℕ) (s : LoweredSteps) (after : List CoreInstance) → HasOneState k w p.next.body (Some (s, after)) → equal_type state s.next.ty ≡ false → Comes k.text.now limit w.table from_state None
+  pub with_other : (limit : ℕ) (s : LoweredSteps) (after : List CoreInstance) → HasOneState k w p.next.body (Some (s, after)) → equal_type state s.next.ty ≡ false → TableResult k.text.now limit w.table from_state None
   with_other limit s after one other =
       never_as k.text.now limit (λ t. and_then (body_at k w p.next.body t) whole) from_state by_body
       (never_behind k.text.now limit (body_at k w p.next.body) (λ s t. whole s)

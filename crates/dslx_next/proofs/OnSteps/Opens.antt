@@ -6,10 +6,10 @@ use Rattle.dslx_tree.specs.declared.process.End.{End}
 use Rattle.dslx_meaning.specs.Activation.{SiteAct, Computes, SendsWord, SendsWordIf, TakesWord, TakesWordIf}
 use Rattle.dslx_meaning.specs.Lists.{and_then, with_both}
 use Rattle.dslx_core.specs.declared.step.Step.{Step}
-use Rattle.dslx_core.specs.Lowering.CorePlaces.{CorePlace}
+use Rattle.dslx_core.specs.Lowering.CoreScopes.{CoreScope}
 use Rattle.dslx_core.specs.Lowering.Lowering.{LoweredExpr}
-use Rattle.dslx_core.specs.Lowering.Steps.{BindsAtPlace, CoreMember, LoweredSteps, LowersSteps, act_lowered, compute_lowered, member_in, receive_lowered, send_lowered, step_then}
-use Rattle.dslx_core.specs.Lowering.Trees.{expression_lowered, of_type}
+use Rattle.dslx_core.specs.Lowering.Steps.{BindsInScope, CoreMember, LoweredSteps, StepsLowering, lower_act, lower_compute, member_in, lower_receive, lower_send, step_then}
+use Rattle.dslx_core.specs.Lowering.Trees.{lower_expression, of_type}
 use Rattle.dslx_next.specs.Opening.Opened.{act_opened, binds_then, computing, receiving, sending}
 use Rattle.dslx_next.specs.Steps.Passing.{behind_steps}
 use Rattle.dslx_next.specs.declared.opening.opened.OpenStep.{OpenStep}
@@ -23,45 +23,45 @@ in_turn None p f g h same = refl
 in_turn (Some c) None f g h same = refl
 in_turn (Some c) (Some e) f g h same = same c e
 
-pub act_opens : (outer : CorePlace) (ends : List End) (a : SiteAct) (e : Expr) (binds : BindsAtPlace) (rest : LowersSteps) (place : CorePlace)
-    → act_lowered outer ends a e binds rest place ≡ binds_then (act_opened outer ends a e place) binds rest place
-act_opens outer ends Computes e binds rest place = by (expression_lowered e place)
+pub act_opens : (outer : CoreScope) (ends : List End) (a : SiteAct) (e : Expr) (binds : BindsInScope) (rest : StepsLowering) (place : CoreScope)
+    → lower_act outer ends a e binds rest place ≡ binds_then (act_opened outer ends a e place) binds rest place
+act_opens outer ends Computes e binds rest place = by (lower_expression e place)
   where
-    by : (o : Option LoweredExpr) → and_then o (λ e. compute_lowered e binds rest place) ≡ binds_then (and_then o computing) binds rest place
+    by : (o : Option LoweredExpr) → and_then o (λ e. lower_compute e binds rest place) ≡ binds_then (and_then o computing) binds rest place
     by None = refl
     by (Some e) = refl
 act_opens outer ends (TakesWord c) e binds rest place = by (member_in outer ends c)
   where
-    by : (o : Option CoreMember) → and_then o (λ m. receive_lowered m None binds rest place) ≡ binds_then (and_then o (λ m. receiving m None)) binds rest place
+    by : (o : Option CoreMember) → and_then o (λ m. lower_receive m None binds rest place) ≡ binds_then (and_then o (λ m. receiving m None)) binds rest place
     by None = refl
     by (Some m) = refl
 act_opens outer ends (TakesWordIf c p other) e binds rest place = by (member_in outer ends c)
   where
     by : (o : Option CoreMember)
-        → and_then o (λ m. with_both (expression_lowered p place) (of_type m.word (expression_lowered other place)) (λ p other. receive_lowered m (Some (p, other)) binds rest place))
-        ≡ binds_then (and_then o (λ m. and_then (and_then (expression_lowered p place) (λ c. and_then (of_type m.word (expression_lowered other place)) (λ e. Some (record { condition = c; value = e }))))
+        → and_then o (λ m. with_both (lower_expression p place) (of_type m.word (lower_expression other place)) (λ p other. lower_receive m (Some (p, other)) binds rest place))
+        ≡ binds_then (and_then o (λ m. and_then (and_then (lower_expression p place) (λ c. and_then (of_type m.word (lower_expression other place)) (λ e. Some (record { condition = c; value = e }))))
         (λ (b : Conditional). receiving m (Some (b.condition.core, b.value.core))))) binds rest place
     by None = refl
-    by (Some m) = in_turn (expression_lowered p place) (of_type m.word (expression_lowered other place)) (λ p other. receive_lowered m (Some (p, other)) binds rest place)
+    by (Some m) = in_turn (lower_expression p place) (of_type m.word (lower_expression other place)) (λ p other. lower_receive m (Some (p, other)) binds rest place)
         (λ (b : Conditional). receiving m (Some (b.condition.core, b.value.core))) (λ o. binds_then (Some o) binds rest place) (λ c e. refl)
 act_opens outer ends (SendsWord c word) e binds rest place = by (member_in outer ends c)
   where
-    by_word : (m : CoreMember) (o : Option LoweredExpr) → and_then o (λ word. send_lowered m None word binds rest place) ≡ binds_then (and_then o (sending m None)) binds rest place
+    by_word : (m : CoreMember) (o : Option LoweredExpr) → and_then o (λ word. lower_send m None word binds rest place) ≡ binds_then (and_then o (sending m None)) binds rest place
     by_word m None = refl
     by_word m (Some w) = refl
 
-    by : (o : Option CoreMember) → and_then o (λ m. and_then (of_type m.word (expression_lowered word place)) (λ word. send_lowered m None word binds rest place))
-        ≡ binds_then (and_then o (λ m. and_then (of_type m.word (expression_lowered word place)) (sending m None))) binds rest place
+    by : (o : Option CoreMember) → and_then o (λ m. and_then (of_type m.word (lower_expression word place)) (λ word. lower_send m None word binds rest place))
+        ≡ binds_then (and_then o (λ m. and_then (of_type m.word (lower_expression word place)) (sending m None))) binds rest place
     by None = refl
-    by (Some m) = by_word m (of_type m.word (expression_lowered word place))
+    by (Some m) = by_word m (of_type m.word (lower_expression word place))
 act_opens outer ends (SendsWordIf c p word) e binds rest place = by (member_in outer ends c)
   where
     by : (o : Option CoreMember)
-        → and_then o (λ m. with_both (expression_lowered p place) (of_type m.word (expression_lowered word place)) (λ p word. send_lowered m (Some p) word binds rest place))
-        ≡ binds_then (and_then o (λ m. and_then (and_then (expression_lowered p place) (λ c. and_then (of_type m.word (expression_lowered word place)) (λ e. Some (record { condition = c; value = e }))))
+        → and_then o (λ m. with_both (lower_expression p place) (of_type m.word (lower_expression word place)) (λ p word. lower_send m (Some p) word binds rest place))
+        ≡ binds_then (and_then o (λ m. and_then (and_then (lower_expression p place) (λ c. and_then (of_type m.word (lower_expression word place)) (λ e. Some (record { condition = c; value = e }))))
         (λ (b : Conditional). sending m (Some b.condition.core) b.value))) binds rest place
     by None = refl
-    by (Some m) = in_turn (expression_lowered p place) (of_type m.word (expression_lowered word place)) (λ p word. send_lowered m (Some p) word binds rest place)
+    by (Some m) = in_turn (lower_expression p place) (of_type m.word (lower_expression word place)) (λ p word. lower_send m (Some p) word binds rest place)
         (λ (b : Conditional). sending m (Some b.condition.core) b.value) (λ o. binds_then (Some o) binds rest place) (λ c e. refl)
 
 -- a step behind others

@@ -12,30 +12,30 @@ use Rattle.dslx_meaning.specs.Lists.{and_then}
 use Rattle.dslx_typing.proofs.Lemmas.Typed.{none_some, same_some}
 use Rattle.dslx_core.specs.declared.step.Step.{Step}
 use Rattle.dslx_names.specs.Bound.{given}
-use Rattle.dslx_core.specs.Lowering.Functions.{CoreInstance, callee_in, outer_place}
+use Rattle.dslx_core.specs.Lowering.Functions.{CoreInstance, callee_in, outer_scope}
 use Rattle.dslx_core.specs.Lowering.Patterns.{LoweredShape}
 use Rattle.dslx_core.proofs.Lemmas.Lowering.{from_then}
-use Rattle.dslx_core.specs.Lowering.Steps.{BindsAtPlace, LoweredSteps, LowersSteps, binds_nothing, statement_steps, step_then}
+use Rattle.dslx_core.specs.Lowering.Steps.{BindsInScope, LoweredSteps, StepsLowering, binds_nothing, statement_steps, step_then}
 use Rattle.dslx_machines.specs.Machine.Arms.{shaped_at}
-use Rattle.dslx_machines.specs.Machine.Reached.{GrownFrom, IsTable}
+use Rattle.dslx_machines.specs.Machine.Reached.{ExtendsTable, IsTable}
 use Rattle.dslx_machines.proofs.Lemmas.Machine.Instances.{begins_further, begins_itself}
 use Rattle.dslx_instance.specs.declared.tasks.work.BodyWork.{BodyWork}
-use Rattle.dslx_machines.specs.Extension.Comes.{TableGrows}
+use Rattle.dslx_machines.specs.Extension.Results.{TableExtends}
 use Rattle.dslx_next.specs.Opening.Opened.{binds_then, with_shape}
-use Rattle.dslx_next.specs.Opening.Works.{HasTable, BodyMakes, opened_at, outer_at, place_at}
+use Rattle.dslx_next.specs.Opening.Works.{HasTable, BodyMakes, opened_at, outer_at, scope_at}
 use Rattle.dslx_next.specs.Steps.Passing.{HasState, IsBound, StepBinds, IsPassed, BodyPasses, act_at, behind_steps, statement_at, statements_at, statements_then}
 use Rattle.dslx_next.specs.declared.opening.opened.OpenStep.{OpenStep}
-use Rattle.dslx_next.specs.declared.opening.work.NextKnown.{NextKnown}
+use Rattle.dslx_next.specs.declared.opening.work.NextScope.{NextScope}
 use Rattle.dslx_machines.proofs.Lemmas.Extension.Coming.{never_as, never_behind}
 use Rattle.dslx_machines.proofs.Lemmas.Extension.Growing.{grows_itself, grows_on}
 use Rattle.dslx_next.proofs.OnSteps.Opens.{act_opens, pushed_behind}
-use Rattle.dslx_next.proofs.OnOpening.Sequels.{same_place}
+use Rattle.dslx_next.proofs.OnOpening.Sequels.{same_scope}
 use Rattle.dslx_next.proofs.OnOpening.Types.{opens_one_type}
 
 -- what an expression that stands as a statement leads to, by the step that it becomes
-act_by : (k : NextKnown) (w : BodyWork) (e : Expr) (binds : BindsAtPlace) (t : List CoreInstance) (rest : LowersSteps) (o : Option OpenStep) → opened_at k w (act_of e) e t ≡ o
-    → act_at k w e binds t rest ≡ binds_then o binds rest (place_at k w t)
-act_by k w e binds t rest o is = act_opens (outer_at k w t) k.ends.now (act_of e) e binds rest (place_at k w t) ∙ ap (λ p. binds_then p binds rest (place_at k w t)) is
+act_by : (k : NextScope) (w : BodyWork) (e : Expr) (binds : BindsInScope) (t : List CoreInstance) (rest : StepsLowering) (o : Option OpenStep) → opened_at k w (act_of e) e t ≡ o
+    → act_at k w e binds t rest ≡ binds_then o binds rest (scope_at k w t)
+act_by k w e binds t rest o is = act_opens (outer_at k w t) k.ends.now (act_of e) e binds rest (scope_at k w t) ∙ ap (λ p. binds_then p binds rest (scope_at k w t)) is
 
 -- ---- states
 
@@ -57,51 +57,51 @@ no_state (Some r) behind has none =
 
 -- ---- one statement
 
-pub never_passed : (k : NextKnown) (w : BodyWork) (e : Expr) (binds : BindsAtPlace) (steps new_steps : List Step) → BodyMakes k w (opened_at k w (act_of e) e) None
+pub never_passed : (k : NextScope) (w : BodyWork) (e : Expr) (binds : BindsInScope) (steps new_steps : List Step) → BodyMakes k w (opened_at k w (act_of e) e) None
     → BodyPasses k (act_at k w e binds) steps w new_steps None
 never_passed k w e binds steps new_steps never rest t is small = act_by k w e binds t (rest t) None (never t is small)
 
-module _ (k : NextKnown) (w w' : BodyWork) (e : Expr) (binds : BindsAtPlace) (o : OpenStep) (made : BodyMakes k w (opened_at k w (act_of e) e) (Some (o, w'))) where
+module _ (k : NextScope) (w w' : BodyWork) (e : Expr) (binds : BindsInScope) (o : OpenStep) (made : BodyMakes k w (opened_at k w (act_of e) e) (Some (o, w'))) where
   -- by each table what is bound is of the type of this step
-  binds_type : (t : List CoreInstance) → IsTable k.text.now (meanings_of k.text.now) t → (q : OpenStep) → opened_at k w (act_of e) e t ≡ Some q → binds (place_at k w t) q.ty ≡ binds (place_at k w' t) o.ty
+  binds_type : (t : List CoreInstance) → IsTable k.text.now (meanings_of k.text.now) t → (q : OpenStep) → opened_at k w (act_of e) e t ≡ Some q → binds (scope_at k w t) q.ty ≡ binds (scope_at k w' t) o.ty
   binds_type t is q by_table =
-      ap (binds (place_at k w t)) (opens_one_type k w t w'.table is made.0.grows.is_table (act_of e) e q o by_table (made.0.some w'.table (begins_itself w'.table)))
-      ∙ ap (λ p. binds p o.ty) (sym (same_place k w w' t made.1))
+      ap (binds (scope_at k w t)) (opens_one_type k w t w'.table is made.0.grows.is_table (act_of e) e q o by_table (made.0.some w'.table (begins_itself w'.table)))
+      ∙ ap (λ p. binds p o.ty) (sym (same_scope k w w' t made.1))
 
   -- a step by any table, and the rest behind it
-  abbrev binds_rest : (t : List CoreInstance) → LowersSteps → OpenStep → Option LoweredShape → Option LoweredSteps
+  abbrev binds_rest : (t : List CoreInstance) → StepsLowering → OpenStep → Option LoweredShape → Option LoweredSteps
   binds_rest t rest q shape = and_then shape (λ s. step_then (with_shape q.step s.shape) (rest s.place))
 
-  pub unbound_passed : (steps new_steps : List Step) → ((t : List CoreInstance) → binds (place_at k w' t) o.ty ≡ None) → BodyPasses k (act_at k w e binds) steps w new_steps None
+  pub unbound_passed : (steps new_steps : List Step) → ((t : List CoreInstance) → binds (scope_at k w' t) o.ty ≡ None) → BodyPasses k (act_at k w e binds) steps w new_steps None
   unbound_passed steps new_steps none rest =
-      never_as k.text.now k.limit (λ t. binds_then (opened_at k w (act_of e) e t) binds (rest t) (place_at k w t)) (λ t. act_at k w e binds t (rest t))
+      never_as k.text.now k.limit (λ t. binds_then (opened_at k w (act_of e) e t) binds (rest t) (scope_at k w t)) (λ t. act_at k w e binds t (rest t))
       (λ t. act_by k w e binds t (rest t) (opened_at k w (act_of e) e t) refl)
-      (never_behind k.text.now k.limit (opened_at k w (act_of e) e) (λ q t. binds_rest t (rest t) q (binds (place_at k w t) q.ty))
+      (never_behind k.text.now k.limit (opened_at k w (act_of e) e) (λ q t. binds_rest t (rest t) q (binds (scope_at k w t) q.ty))
       (λ t is small q by_table. ap (binds_rest t (rest t) q) (binds_type t is q by_table ∙ none t)))
 
   -- what comes of the rest behind the step
   state_behind : (steps new_steps : List Step) (after : BodyWork) → IsBound k binds o steps w' new_steps after → (t : List CoreInstance) → IsTable k.text.now (meanings_of k.text.now) t
-      → (rest : LowersSteps) → HasState (act_at k w e binds t rest) (rest (place_at k after t))
+      → (rest : StepsLowering) → HasState (act_at k w e binds t rest) (rest (scope_at k after t))
   state_behind steps new_steps after bound t is rest r comes =
-      let q = from_then (opened_at k w (act_of e) e t) (λ (q : OpenStep). binds_rest t rest q (binds (place_at k w t) q.ty)) r (sym (act_by k w e binds t rest (opened_at k w (act_of e) e t) refl) ∙ comes) in
-      let s = from_then (binds (place_at k w t) q.0.ty) (λ s. step_then (with_shape q.0.step s.shape) (rest s.place)) r q.2 in
-      let place : s.0.place ≡ place_at k after t = ap (λ (x : LoweredShape). x.place) (same_some s.0 (record { shape = bound.shape; place = place_at k after t }) (sym s.1 ∙ binds_type t is q.0 q.1 ∙ bound.bound t)) in
+      let q = from_then (opened_at k w (act_of e) e t) (λ (q : OpenStep). binds_rest t rest q (binds (scope_at k w t) q.ty)) r (sym (act_by k w e binds t rest (opened_at k w (act_of e) e t) refl) ∙ comes) in
+      let s = from_then (binds (scope_at k w t) q.0.ty) (λ s. step_then (with_shape q.0.step s.shape) (rest s.place)) r q.2 in
+      let place : s.0.place ≡ scope_at k after t = ap (λ (x : LoweredShape). x.place) (same_some s.0 (record { shape = bound.shape; place = scope_at k after t }) (sym s.1 ∙ binds_type t is q.0 q.1 ∙ bound.bound t)) in
       let x = from_then (rest s.0.place) (λ (x : LoweredSteps). Some (record { steps = with_shape q.0.step s.0.shape ∷ x.steps; next = x.next })) r s.2 in
       (x.0, ap rest (sym place) ∙ x.1, ap (λ (l : LoweredSteps). l.next) (sym (same_some (record { steps = with_shape q.0.step s.0.shape ∷ x.0.steps; next = x.0.next }) r x.2)))
 
   pub shape_passed : (steps new_steps : List Step) (after : BodyWork) → IsBound k binds o steps w' new_steps after → IsPassed k (act_at k w e binds) steps w new_steps after
   shape_passed steps new_steps after bound = record {
-    grows = subst (λ t. TableGrows k.text.now w.table t) (sym bound.table) made.0.grows;
-    numbers = bound.numbers ∙ made.1.numbers;
+    grows = subst (λ t. TableExtends k.text.now w.table t) (sym bound.table) made.0.grows;
+    parametric_args = bound.parametric_args ∙ made.1.parametric_args;
     passed = λ t from rest.
-        ap (behind_steps steps) (act_by k w e binds t rest (Some o) (made.0.some t (subst (λ b. GrownFrom t b) bound.table from))
-        ∙ ap (binds_rest t rest o) (ap (λ p. binds p o.ty) (sym (same_place k w w' t made.1)) ∙ bound.bound t))
-        ∙ pushed_behind steps (with_shape o.step bound.shape) (rest (place_at k after t))
-        ∙ ap (λ l. behind_steps l (rest (place_at k after t))) (sym bound.pushed);
+        ap (behind_steps steps) (act_by k w e binds t rest (Some o) (made.0.some t (subst (λ b. ExtendsTable t b) bound.table from))
+        ∙ ap (binds_rest t rest o) (ap (λ p. binds p o.ty) (sym (same_scope k w w' t made.1)) ∙ bound.bound t))
+        ∙ pushed_behind steps (with_shape o.step bound.shape) (rest (scope_at k after t))
+        ∙ ap (λ l. behind_steps l (rest (scope_at k after t))) (sym bound.pushed);
     state = state_behind steps new_steps after bound;
   }
 
-pub bound_passed : (k : NextKnown) (w w' : BodyWork) (e : Expr) (binds : BindsAtPlace) (o : OpenStep) (steps new_steps : List Step) (r : Option BodyWork)
+pub bound_passed : (k : NextScope) (w w' : BodyWork) (e : Expr) (binds : BindsInScope) (o : OpenStep) (steps new_steps : List Step) (r : Option BodyWork)
     → BodyMakes k w (opened_at k w (act_of e) e) (Some (o, w')) → StepBinds k binds o steps w' new_steps r → BodyPasses k (act_at k w e binds) steps w new_steps r
 bound_passed k w w' e binds o steps new_steps None made none = unbound_passed k w w' e binds o made steps new_steps none
 bound_passed k w w' e binds o steps new_steps (Some after) made bound = shape_passed k w w' e binds o made steps new_steps after bound
@@ -109,55 +109,55 @@ bound_passed k w w' e binds o steps new_steps (Some after) made bound = shape_pa
 -- ---- several
 
 -- behind some of the statements, these are left
-pub record IsPassedTo (k : NextKnown) (w : BodyWork) (ss : List Stmt) (steps : List Step) (left : List Stmt) (new_steps : List Step) (after : BodyWork) : Type 0 where
-  pub grows : TableGrows k.text.now w.table after.table
-  pub numbers : map given after.given.items ≡ map given w.given.items
-  pub passed : (t : List CoreInstance) → GrownFrom t after.table → (rest : LowersSteps)
-      → behind_steps steps (statements_at k w ss t rest) ≡ behind_steps new_steps (statements_then (outer_at k w t) k left rest (place_at k after t))
-  pub state : (t : List CoreInstance) → IsTable k.text.now (meanings_of k.text.now) t → (rest : LowersSteps) → HasState (statements_at k w ss t rest) (statements_then (outer_at k w t) k left rest (place_at k after t))
+pub record IsPassedTo (k : NextScope) (w : BodyWork) (ss : List Stmt) (steps : List Step) (left : List Stmt) (new_steps : List Step) (after : BodyWork) : Type 0 where
+  pub grows : TableExtends k.text.now w.table after.table
+  pub parametric_args : map given after.given.items ≡ map given w.given.items
+  pub passed : (t : List CoreInstance) → ExtendsTable t after.table → (rest : StepsLowering)
+      → behind_steps steps (statements_at k w ss t rest) ≡ behind_steps new_steps (statements_then (outer_at k w t) k left rest (scope_at k after t))
+  pub state : (t : List CoreInstance) → IsTable k.text.now (meanings_of k.text.now) t → (rest : StepsLowering) → HasState (statements_at k w ss t rest) (statements_then (outer_at k w t) k left rest (scope_at k after t))
 
-pub begun : (k : NextKnown) (w : BodyWork) (ss : List Stmt) (steps : List Step) → HasTable k w → IsPassedTo k w ss steps ss steps w
-begun k w ss steps has = record { grows = grows_itself k.text.now w.table has; numbers = refl; passed = λ t from rest. refl; state = λ t is rest. same_state (statements_at k w ss t rest) }
+pub begun : (k : NextScope) (w : BodyWork) (ss : List Stmt) (steps : List Step) → HasTable k w → IsPassedTo k w ss steps ss steps w
+begun k w ss steps has = record { grows = grows_itself k.text.now w.table has; parametric_args = refl; passed = λ t from rest. refl; state = λ t is rest. same_state (statements_at k w ss t rest) }
 
-same_outer : (k : NextKnown) (w after : BodyWork) (t : List CoreInstance) → map given after.given.items ≡ map given w.given.items → outer_at k after t ≡ outer_at k w t
-same_outer k w after t e = λ i. outer_place (record { items = meanings_of k.text.now; numbers = reverse (e i); callee = callee_in k.text.now (meanings_of k.text.now) t })
+same_outer : (k : NextScope) (w after : BodyWork) (t : List CoreInstance) → map given after.given.items ≡ map given w.given.items → outer_at k after t ≡ outer_at k w t
+same_outer k w after t e = λ i. outer_scope (record { items = meanings_of k.text.now; parametric_args = reverse (e i); callee = callee_in k.text.now (meanings_of k.text.now) t })
 
-module _ (k : NextKnown) (w : BodyWork) (ss : List Stmt) (steps : List Step) (s : Stmt) (left : List Stmt) (new_steps : List Step) (behind : BodyWork) (so_far : IsPassedTo k w ss steps (s ∷ left) new_steps behind) where
+module _ (k : NextScope) (w : BodyWork) (ss : List Stmt) (steps : List Step) (s : Stmt) (left : List Stmt) (new_steps : List Step) (behind : BodyWork) (so_far : IsPassedTo k w ss steps (s ∷ left) new_steps behind) where
   -- the statements that are left behind this one
-  abbrev rest_left : (t : List CoreInstance) → LowersSteps → LowersSteps
+  abbrev rest_left : (t : List CoreInstance) → StepsLowering → StepsLowering
   rest_left t rest = statements_then (outer_at k w t) k left rest
 
   -- this one and the others, seen from where it begins
-  from_here : (t : List CoreInstance) (rest : LowersSteps) → statement_steps (outer_at k w t) k.ends.now (out-Stmt s) (rest_left t rest) (place_at k behind t) ≡ statement_at k behind s t (rest_left t rest)
-  from_here t rest = ap (λ outer. statement_steps outer k.ends.now (out-Stmt s) (rest_left t rest) (place_at k behind t)) (sym (same_outer k w behind t so_far.numbers))
+  from_here : (t : List CoreInstance) (rest : StepsLowering) → statement_steps (outer_at k w t) k.ends.now (out-Stmt s) (rest_left t rest) (scope_at k behind t) ≡ statement_at k behind s t (rest_left t rest)
+  from_here t rest = ap (λ outer. statement_steps outer k.ends.now (out-Stmt s) (rest_left t rest) (scope_at k behind t)) (sym (same_outer k w behind t so_far.parametric_args))
 
-  state_here : (t : List CoreInstance) → IsTable k.text.now (meanings_of k.text.now) t → (rest : LowersSteps) → HasState (statements_at k w ss t rest) (statement_at k behind s t (rest_left t rest))
+  state_here : (t : List CoreInstance) → IsTable k.text.now (meanings_of k.text.now) t → (rest : StepsLowering) → HasState (statements_at k w ss t rest) (statement_at k behind s t (rest_left t rest))
   state_here t is rest = subst (HasState (statements_at k w ss t rest)) (from_here t rest) (so_far.state t is rest)
 
   pub advanced : (more_steps : List Step) (after : BodyWork) → IsPassed k (statement_at k behind s) new_steps behind more_steps after → IsPassedTo k w ss steps left more_steps after
   advanced more_steps after one = record {
     grows = grows_on k.text.now w.table behind.table after.table so_far.grows one.grows;
-    numbers = one.numbers ∙ so_far.numbers;
+    parametric_args = one.parametric_args ∙ so_far.parametric_args;
     passed = λ t from rest. so_far.passed t (begins_further behind.table after.table t one.grows.begins from) rest ∙ ap (behind_steps new_steps) (from_here t rest) ∙ one.passed t from (rest_left t rest);
-    state = λ t is rest. state_on (statements_at k w ss t rest) (statement_at k behind s t (rest_left t rest)) (rest_left t rest (place_at k after t)) (state_here t is rest) (one.state t is (rest_left t rest));
+    state = λ t is rest. state_on (statements_at k w ss t rest) (statement_at k behind s t (rest_left t rest)) (rest_left t rest (scope_at k after t)) (state_here t is rest) (one.state t is (rest_left t rest));
   }
 
   pub stopped : (more_steps last_steps : List Step) → BodyPasses k (statement_at k behind s) new_steps behind more_steps None → BodyPasses k (statements_at k w ss) steps w last_steps None
   stopped more_steps last_steps never rest t is small =
       no_state (statements_at k w ss t (rest t)) (statement_at k behind s t (rest_left t (rest t))) (state_here t is (rest t)) (never (λ t. rest_left t (rest t)) t is small)
 
-pub all_passed : (k : NextKnown) (w : BodyWork) (ss : List Stmt) (steps new_steps : List Step) (after : BodyWork) → IsPassedTo k w ss steps [] new_steps after → IsPassed k (statements_at k w ss) steps w new_steps after
-all_passed k w ss steps new_steps after so_far = record { grows = so_far.grows; numbers = so_far.numbers; passed = so_far.passed; state = so_far.state }
+pub all_passed : (k : NextScope) (w : BodyWork) (ss : List Stmt) (steps new_steps : List Step) (after : BodyWork) → IsPassedTo k w ss steps [] new_steps after → IsPassed k (statements_at k w ss) steps w new_steps after
+all_passed k w ss steps new_steps after so_far = record { grows = so_far.grows; parametric_args = so_far.parametric_args; passed = so_far.passed; state = so_far.state }
 
 -- ---- the two kinds of statements
 
-pub let_passed : (k : NextKnown) (w : BodyWork) (s : Stmt) (l : Let) (steps new_steps : List Step) (r : Option BodyWork) → out-Stmt s ≡ Stmt-F.Let l
+pub let_passed : (k : NextScope) (w : BodyWork) (s : Stmt) (l : Let) (steps new_steps : List Step) (r : Option BodyWork) → out-Stmt s ≡ Stmt-F.Let l
     → BodyPasses k (act_at k w (out-Let l).value (shaped_at (out-Let l).pattern)) steps w new_steps r → BodyPasses k (statement_at k w s) steps w new_steps r
-let_passed k w s l steps new_steps r e = subst (λ (x : StmtLayer). BodyPasses k (λ t rest. statement_steps (outer_at k w t) k.ends.now x rest (place_at k w t)) steps w new_steps r) (sym e)
+let_passed k w s l steps new_steps r e = subst (λ (x : StmtLayer). BodyPasses k (λ t rest. statement_steps (outer_at k w t) k.ends.now x rest (scope_at k w t)) steps w new_steps r) (sym e)
 
-pub bare_passed : (k : NextKnown) (w : BodyWork) (s : Stmt) (e : Expr) (steps new_steps : List Step) (r : Option BodyWork) → out-Stmt s ≡ Stmt-F.Bare e
+pub bare_passed : (k : NextScope) (w : BodyWork) (s : Stmt) (e : Expr) (steps new_steps : List Step) (r : Option BodyWork) → out-Stmt s ≡ Stmt-F.Bare e
     → BodyPasses k (act_at k w e binds_nothing) steps w new_steps r → BodyPasses k (statement_at k w s) steps w new_steps r
-bare_passed k w s e steps new_steps r is = subst (λ (x : StmtLayer). BodyPasses k (λ t rest. statement_steps (outer_at k w t) k.ends.now x rest (place_at k w t)) steps w new_steps r) (sym is)
+bare_passed k w s e steps new_steps r is = subst (λ (x : StmtLayer). BodyPasses k (λ t rest. statement_steps (outer_at k w t) k.ends.now x rest (scope_at k w t)) steps w new_steps r) (sym is)
 
 -- ---- by their numbers
 

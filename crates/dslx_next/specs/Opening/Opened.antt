@@ -12,10 +12,10 @@ use Rattle.dslx_core.specs.declared.expr.Shape.{Shape}
 use Rattle.dslx_core.specs.declared.expr.Shape as shape
 use Rattle.dslx_core.specs.declared.step.Step.{Step}
 use Rattle.dslx_core.specs.declared.step.Step.TheVariants as step
-use Rattle.dslx_core.specs.Lowering.CorePlaces.{CorePlace}
+use Rattle.dslx_core.specs.Lowering.CoreScopes.{CoreScope}
 use Rattle.dslx_core.specs.Lowering.Lowering.{LoweredExpr}
-use Rattle.dslx_core.specs.Lowering.Steps.{BindsAtPlace, CoreMember, LowersSteps, member_in, step_then}
-use Rattle.dslx_core.specs.Lowering.Trees.{expression_lowered, of_type}
+use Rattle.dslx_core.specs.Lowering.Steps.{BindsInScope, CoreMember, StepsLowering, member_in, step_then}
+use Rattle.dslx_core.specs.Lowering.Trees.{lower_expression, of_type}
 use Rattle.dslx_next.specs.declared.opening.opened.OpenStep.{OpenStep}
 use Rattle.dslx_next.specs.declared.opening.work.Conditional.{Conditional}
 
@@ -40,31 +40,31 @@ sending m c word = opened (step.Send (record { member = m.number; condition = c;
 -- ---- at a member
 
 -- a condition, and a value of the type
-abbrev pub conditional : DslxType → Expr → Expr → CorePlace → Option Conditional
-conditional t c e place = and_then (expression_lowered c place) (λ c. and_then (of_type t (expression_lowered e place)) (λ e. Some (record { condition = c; value = e })))
+abbrev pub conditional : DslxType → Expr → Expr → CoreScope → Option Conditional
+conditional t c e place = and_then (lower_expression c place) (λ c. and_then (of_type t (lower_expression e place)) (λ e. Some (record { condition = c; value = e })))
 
 abbrev pub receive_opened : Option CoreMember → Option OpenStep
 receive_opened m = and_then m (λ m. receiving m None)
 
-abbrev pub receive_if_opened : Option CoreMember → Expr → Expr → CorePlace → Option OpenStep
+abbrev pub receive_if_opened : Option CoreMember → Expr → Expr → CoreScope → Option OpenStep
 receive_if_opened m c other place = and_then m (λ m. and_then (conditional m.word c other place) (λ (b : Conditional). receiving m (Some (b.condition.core, b.value.core))))
 
-abbrev pub send_opened : Option CoreMember → Expr → CorePlace → Option OpenStep
-send_opened m word place = and_then m (λ m. and_then (of_type m.word (expression_lowered word place)) (sending m None))
+abbrev pub send_opened : Option CoreMember → Expr → CoreScope → Option OpenStep
+send_opened m word place = and_then m (λ m. and_then (of_type m.word (lower_expression word place)) (sending m None))
 
-abbrev pub send_if_opened : Option CoreMember → Expr → Expr → CorePlace → Option OpenStep
+abbrev pub send_if_opened : Option CoreMember → Expr → Expr → CoreScope → Option OpenStep
 send_if_opened m c word place = and_then m (λ m. and_then (conditional m.word c word place) (λ (b : Conditional). sending m (Some b.condition.core) b.value))
 
 -- ---- any expression
 
 -- as a statement or as the whole value of a `let`
-abbrev pub act_opened : CorePlace → List End → SiteAct → Expr → CorePlace → Option OpenStep
-act_opened outer ends Computes e place = and_then (expression_lowered e place) computing
+abbrev pub act_opened : CoreScope → List End → SiteAct → Expr → CoreScope → Option OpenStep
+act_opened outer ends Computes e place = and_then (lower_expression e place) computing
 act_opened outer ends (TakesWord c) e place = receive_opened (member_in outer ends c)
 act_opened outer ends (TakesWordIf c p other) e place = receive_if_opened (member_in outer ends c) p other place
 act_opened outer ends (SendsWord c word) e place = send_opened (member_in outer ends c) word place
 act_opened outer ends (SendsWordIf c p word) e place = send_if_opened (member_in outer ends c) p word place
 
 -- what it binds, and the steps behind it
-abbrev pub binds_then : Option OpenStep → BindsAtPlace → LowersSteps → LowersSteps
+abbrev pub binds_then : Option OpenStep → BindsInScope → StepsLowering → StepsLowering
 binds_then o binds rest place = and_then o (λ (o : OpenStep). and_then (binds place o.ty) (λ s. step_then (with_shape o.step s.shape) (rest s.place)))

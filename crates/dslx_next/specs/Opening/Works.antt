@@ -6,46 +6,46 @@ use Rattle.dslx_meaning.specs.Activation.{SiteAct}
 use Rattle.dslx_meaning.specs.Items.{meanings_of}
 use Rattle.dslx_names.specs.Bound.{given}
 use Rattle.dslx_names.specs.declared.scope.Binding.{Binding}
-use Rattle.dslx_core.specs.Lowering.CorePlaces.{CoreKnown, CorePlace}
-use Rattle.dslx_core.specs.Lowering.Functions.{CoreInstance, callee_in, outer_place}
+use Rattle.dslx_core.specs.Lowering.CoreScopes.{BodyEnv, CoreScope}
+use Rattle.dslx_core.specs.Lowering.Functions.{CoreInstance, callee_in, outer_scope}
 use Rattle.dslx_machines.specs.Machine.Reached.{IsTable}
-use Rattle.dslx_instance.specs.Tasks.Works.{work_place}
+use Rattle.dslx_instance.specs.Tasks.Works.{work_scope}
 use Rattle.dslx_instance.specs.declared.tasks.work.BodyWork.{BodyWork}
-use Rattle.dslx_machines.specs.Extension.Comes.{IsAlways, IsNever}
+use Rattle.dslx_machines.specs.Extension.Results.{StableFrom, NoTableGives}
 use Rattle.dslx_next.specs.Opening.Opened.{act_opened}
 use Rattle.dslx_next.specs.declared.opening.opened.OpenStep.{OpenStep}
-use Rattle.dslx_next.specs.declared.opening.work.NextKnown.{NextKnown}
+use Rattle.dslx_next.specs.declared.opening.work.NextScope.{NextScope}
 
 -- ---- places
 
--- number parameters, the last one last, and what calls come to among these instances
-abbrev pub numbers_known : Module → List Binding → List CoreInstance → CoreKnown
-numbers_known m numbers table = record { items = meanings_of m; numbers = reverse (map given numbers); callee = callee_in m (meanings_of m) table }
+-- parametrics, the last one last, and what calls come to among these instances
+abbrev pub parametric_args_known : Module → List Binding → List CoreInstance → BodyEnv
+parametric_args_known m parametric_args table = record { items = meanings_of m; parametric_args = reverse (map given parametric_args); callee = callee_in m (meanings_of m) table }
 
--- where nothing is bound but number parameters
-abbrev pub outer_at : NextKnown → BodyWork → List CoreInstance → CorePlace
-outer_at k w table = outer_place (numbers_known k.text.now w.given.items table)
+-- where nothing is bound but parametrics
+abbrev pub outer_at : NextScope → BodyWork → List CoreInstance → CoreScope
+outer_at k w table = outer_scope (parametric_args_known k.text.now w.given.items table)
 
-abbrev pub place_at : NextKnown → BodyWork → List CoreInstance → CorePlace
-place_at k w table = work_place k.text.now table w
+abbrev pub scope_at : NextScope → BodyWork → List CoreInstance → CoreScope
+scope_at k w table = work_scope k.text.now table w
 
 -- the instances that are made are of the text
-abbrev pub HasTable : NextKnown → BodyWork → Type 0
+abbrev pub HasTable : NextScope → BodyWork → Type 0
 HasTable k w = IsTable k.text.now (meanings_of k.text.now) w.table
 
 -- the same is bound
 pub record IsThere (before after : BodyWork) : Type 0 where
-  pub numbers : map given after.given.items ≡ map given before.given.items
+  pub parametric_args : map given after.given.items ≡ map given before.given.items
   pub locals : after.locals ≡ before.locals
   pub count : after.count ≡ before.count
 
 -- ---- expressions
 
 -- nothing, or a value and the body behind it, where the same is bound
-abbrev pub BodyMakes : {A : Type 0} → NextKnown → BodyWork → (List CoreInstance → Option A) → Option (A × BodyWork) → Type 0
-BodyMakes k w meaning None = IsNever k.text.now k.limit meaning
-BodyMakes k w meaning (Some (a, after)) = IsAlways k.text.now w.table after.table meaning a × IsThere w after
+abbrev pub BodyMakes : {A : Type 0} → NextScope → BodyWork → (List CoreInstance → Option A) → Option (A × BodyWork) → Type 0
+BodyMakes k w meaning None = NoTableGives k.text.now k.limit meaning
+BodyMakes k w meaning (Some (a, after)) = StableFrom k.text.now w.table after.table meaning a × IsThere w after
 
 -- a step that binds nothing yet
-abbrev pub opened_at : NextKnown → BodyWork → SiteAct → Expr → List CoreInstance → Option OpenStep
-opened_at k w a e table = act_opened (outer_at k w table) k.ends.now a e (place_at k w table)
+abbrev pub opened_at : NextScope → BodyWork → SiteAct → Expr → List CoreInstance → Option OpenStep
+opened_at k w a e table = act_opened (outer_at k w table) k.ends.now a e (scope_at k w table)

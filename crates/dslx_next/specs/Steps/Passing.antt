@@ -9,31 +9,31 @@ use Rattle.dslx_meaning.specs.Lists.{and_then}
 use Rattle.dslx_core.specs.declared.expr.Shape.{Shape}
 use Rattle.dslx_core.specs.declared.step.Step.{Step}
 use Rattle.dslx_names.specs.Bound.{given}
-use Rattle.dslx_core.specs.Lowering.CorePlaces.{CorePlace}
+use Rattle.dslx_core.specs.Lowering.CoreScopes.{CoreScope}
 use Rattle.dslx_core.specs.Lowering.Functions.{CoreInstance}
 use Rattle.dslx_core.specs.Lowering.Lowering.{LoweredExpr}
 use Rattle.dslx_core.specs.Lowering.Patterns.{shaped}
-use Rattle.dslx_core.specs.Lowering.Steps.{BindsAtPlace, LoweredSteps, LowersSteps, act_lowered, last_of_steps, statement_steps, statements_steps}
-use Rattle.dslx_machines.specs.Machine.Reached.{GrownFrom, IsTable}
+use Rattle.dslx_core.specs.Lowering.Steps.{BindsInScope, LoweredSteps, StepsLowering, lower_act, last_of_steps, statement_steps, statements_steps}
+use Rattle.dslx_machines.specs.Machine.Reached.{ExtendsTable, IsTable}
 use Rattle.dslx_instance.specs.declared.tasks.work.BodyWork.{BodyWork}
-use Rattle.dslx_machines.specs.Extension.Comes.{TableGrows, IsNever}
+use Rattle.dslx_machines.specs.Extension.Results.{TableExtends, NoTableGives}
 use Rattle.dslx_next.specs.Opening.Opened.{with_shape}
 use Rattle.dslx_next.specs.declared.opening.opened.OpenStep.{OpenStep}
-use Rattle.dslx_next.specs.declared.opening.work.NextKnown.{NextKnown}
-use Rattle.dslx_next.specs.Opening.Works.{outer_at, place_at}
+use Rattle.dslx_next.specs.declared.opening.work.NextScope.{NextScope}
+use Rattle.dslx_next.specs.Opening.Works.{outer_at, scope_at}
 
 -- ---- what steps bind
 
 -- what is bound by the value that a step gives, which goes behind others, and the body behind it
-pub record IsBound (k : NextKnown) (binds : BindsAtPlace) (o : OpenStep) (steps : List Step) (w : BodyWork) (new_steps : List Step) (after : BodyWork) : Type 0 where
+pub record IsBound (k : NextScope) (binds : BindsInScope) (o : OpenStep) (steps : List Step) (w : BodyWork) (new_steps : List Step) (after : BodyWork) : Type 0 where
   pub table : after.table ≡ w.table
-  pub numbers : map given after.given.items ≡ map given w.given.items
+  pub parametric_args : map given after.given.items ≡ map given w.given.items
   pub shape : Shape
   pub pushed : new_steps ≡ steps ++ with_shape o.step shape ∷ []
-  pub bound : (t : List CoreInstance) → binds (place_at k w t) o.ty ≡ shaped shape (place_at k after t)
+  pub bound : (t : List CoreInstance) → binds (scope_at k w t) o.ty ≡ shaped shape (scope_at k after t)
 
-abbrev pub StepBinds : NextKnown → BindsAtPlace → OpenStep → List Step → BodyWork → List Step → Option BodyWork → Type 0
-StepBinds k binds o steps w new_steps None = (t : List CoreInstance) → binds (place_at k w t) o.ty ≡ None
+abbrev pub StepBinds : NextScope → BindsInScope → OpenStep → List Step → BodyWork → List Step → Option BodyWork → Type 0
+StepBinds k binds o steps w new_steps None = (t : List CoreInstance) → binds (scope_at k w t) o.ty ≡ None
 StepBinds k binds o steps w new_steps (Some after) = IsBound k binds o steps w new_steps after
 
 -- ---- statements
@@ -44,49 +44,49 @@ behind_steps steps o = and_then o (λ (r : LoweredSteps). Some (record { steps =
 
 -- what comes of statements, from what comes of the rest
 abbrev pub Leads : Type 0
-Leads = List CoreInstance → LowersSteps → Option LoweredSteps
+Leads = List CoreInstance → StepsLowering → Option LoweredSteps
 
 -- an expression that stands as a statement or as the whole value of a `let`
-abbrev pub act_at : NextKnown → BodyWork → Expr → BindsAtPlace → Leads
-act_at k w e binds table rest = act_lowered (outer_at k w table) k.ends.now (act_of e) e binds rest (place_at k w table)
+abbrev pub act_at : NextScope → BodyWork → Expr → BindsInScope → Leads
+act_at k w e binds table rest = lower_act (outer_at k w table) k.ends.now (act_of e) e binds rest (scope_at k w table)
 
-abbrev pub statement_at : NextKnown → BodyWork → Stmt → Leads
-statement_at k w s table rest = statement_steps (outer_at k w table) k.ends.now (out-Stmt s) rest (place_at k w table)
+abbrev pub statement_at : NextScope → BodyWork → Stmt → Leads
+statement_at k w s table rest = statement_steps (outer_at k w table) k.ends.now (out-Stmt s) rest (scope_at k w table)
 
 -- these in order
-abbrev pub statements_then : CorePlace → NextKnown → List Stmt → LowersSteps → LowersSteps
+abbrev pub statements_then : CoreScope → NextScope → List Stmt → StepsLowering → StepsLowering
 statements_then outer k [] rest place = rest place
 statements_then outer k (s ∷ ss) rest place = statement_steps outer k.ends.now (out-Stmt s) (statements_then outer k ss rest) place
 
-abbrev pub statements_at : NextKnown → BodyWork → List Stmt → Leads
-statements_at k w ss table rest = statements_then (outer_at k w table) k ss rest (place_at k w table)
+abbrev pub statements_at : NextScope → BodyWork → List Stmt → Leads
+statements_at k w ss table rest = statements_then (outer_at k w table) k ss rest (scope_at k w table)
 
 -- if there are steps, there are those behind them, with the same state
 abbrev pub HasState : Option LoweredSteps → Option LoweredSteps → Type 0
 HasState all behind = (r : LoweredSteps) → all ≡ Some r → (s : LoweredSteps) × (behind ≡ Some s) × (r.next ≡ s.next)
 
 -- the steps of statements go behind others, and the body behind them; by a table that doesn't begin with that one they may be others
-pub record IsPassed (k : NextKnown) (leads : Leads) (steps : List Step) (w : BodyWork) (new_steps : List Step) (after : BodyWork) : Type 0 where
-  pub grows : TableGrows k.text.now w.table after.table
-  pub numbers : map given after.given.items ≡ map given w.given.items
-  pub passed : (t : List CoreInstance) → GrownFrom t after.table → (rest : LowersSteps) → behind_steps steps (leads t rest) ≡ behind_steps new_steps (rest (place_at k after t))
-  pub state : (t : List CoreInstance) → IsTable k.text.now (meanings_of k.text.now) t → (rest : LowersSteps) → HasState (leads t rest) (rest (place_at k after t))
+pub record IsPassed (k : NextScope) (leads : Leads) (steps : List Step) (w : BodyWork) (new_steps : List Step) (after : BodyWork) : Type 0 where
+  pub grows : TableExtends k.text.now w.table after.table
+  pub parametric_args : map given after.given.items ≡ map given w.given.items
+  pub passed : (t : List CoreInstance) → ExtendsTable t after.table → (rest : StepsLowering) → behind_steps steps (leads t rest) ≡ behind_steps new_steps (rest (scope_at k after t))
+  pub state : (t : List CoreInstance) → IsTable k.text.now (meanings_of k.text.now) t → (rest : StepsLowering) → HasState (leads t rest) (rest (scope_at k after t))
 
-abbrev pub BodyPasses : NextKnown → Leads → List Step → BodyWork → List Step → Option BodyWork → Type 0
-BodyPasses k leads steps w new_steps None = (rest : List CoreInstance → LowersSteps) → IsNever k.text.now k.limit (λ t. leads t (rest t))
+abbrev pub BodyPasses : NextScope → Leads → List Step → BodyWork → List Step → Option BodyWork → Type 0
+BodyPasses k leads steps w new_steps None = (rest : List CoreInstance → StepsLowering) → NoTableGives k.text.now k.limit (λ t. leads t (rest t))
 BodyPasses k leads steps w new_steps (Some after) = IsPassed k leads steps w new_steps after
 
 -- ---- bodies
 
 -- the value of the last expression
-abbrev pub last_at : NextKnown → BodyWork → Option Expr → List CoreInstance → Option LoweredExpr
-last_at k w last table = last_of_steps last (place_at k w table)
+abbrev pub last_at : NextScope → BodyWork → Option Expr → List CoreInstance → Option LoweredExpr
+last_at k w last table = last_of_steps last (scope_at k w table)
 
 -- all steps, and the state behind them
-abbrev pub body_at : NextKnown → BodyWork → Block → List CoreInstance → Option LoweredSteps
-body_at k w b table = statements_steps (outer_at k w table) k.ends.now (out-Block b).statements (out-Block b).value (place_at k w table)
+abbrev pub body_at : NextScope → BodyWork → Block → List CoreInstance → Option LoweredSteps
+body_at k w b table = statements_steps (outer_at k w table) k.ends.now (out-Block b).statements (out-Block b).value (scope_at k w table)
 
 -- the state behind it has the type of this one by each table by which there is one
-abbrev pub HasOneState : NextKnown → BodyWork → Block → Option (LoweredSteps × List CoreInstance) → Type 0
+abbrev pub HasOneState : NextScope → BodyWork → Block → Option (LoweredSteps × List CoreInstance) → Type 0
 HasOneState k w b None = Unit {0}
 HasOneState k w b (Some (s, after)) = (t : List CoreInstance) → IsTable k.text.now (meanings_of k.text.now) t → (r : LoweredSteps) → body_at k w b t ≡ Some r → r.next.ty ≡ s.next.ty

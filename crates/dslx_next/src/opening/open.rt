@@ -3,21 +3,21 @@
 ghost use Rattle.std.specs.Prelude.{◌≡◌, List, IfOk};
 ghost use Rattle.dslx_core.specs.Lowering.Functions.{CoreInstance};
 ghost use Rattle.dslx_core.specs.Lowering.Steps.{member_in};
-ghost use Rattle.dslx_core.specs.Lowering.Trees.{expression_lowered};
+ghost use Rattle.dslx_core.specs.Lowering.Trees.{lower_expression};
 ghost use Rattle.dslx_meaning.specs.Activation.{act_of as the_act};
 ghost use Rattle.dslx_meaning.specs.Lists.{and_then};
 ghost use Rattle.dslx_names.specs.Sites.Acts.{act_shown};
 ghost use Rattle.dslx_next.specs.Opening.Opened.{computing, receive_if_opened, receive_opened, send_if_opened, send_opened};
-ghost use Rattle.dslx_next.specs.Opening.Works.{HasTable, BodyMakes, opened_at, outer_at, place_at};
+ghost use Rattle.dslx_next.specs.Opening.Works.{HasTable, BodyMakes, opened_at, outer_at, scope_at};
 
 use crate::opening::opened::{OpenStep, compute, receive, send};
-use crate::opening::work::{Conditional, NextKnown, lower, lower_conditional, lower_of_type};
+use crate::opening::work::{Conditional, NextScope, lower, lower_conditional, lower_of_type};
 use base::texts::Name;
 use dslx_config::members::member_there;
 use dslx_core::lowering::CoreMember;
 use dslx_instance::tasks::BodyWork;
 use dslx_names::sites::{Act, act_of};
-use dslx_scope_patterns::patterns::BodyKnown;
+use dslx_scope_patterns::patterns::BodyScope;
 use dslx_tree::Expr;
 use std::alloc::{AllocError, Global};
 use xb_value::Boxed;
@@ -25,7 +25,7 @@ use xb_value::Boxed;
 /// What an expression becomes as a statement or as the whole value of a `let`: a step that binds nothing yet.
 pub fn open_step<'a>(
     alloc: Global,
-    known: NextKnown<'a>,
+    known: NextScope<'a>,
     work: BodyWork<'a>,
     expr: &'a Expr,
 ) -> Result<Option<(OpenStep, BodyWork<'a>)>, AllocError>
@@ -37,7 +37,7 @@ pub fn open_step<'a>(
 
 fn open_act<'a>(
     alloc: Global,
-    known: NextKnown<'a>,
+    known: NextScope<'a>,
     work: BodyWork<'a>,
     act: Act<'a>,
     expr: &'a Expr,
@@ -60,12 +60,12 @@ fn open_act<'a>(
 
 fn open_compute<'a>(
     alloc: Global,
-    known: NextKnown<'a>,
+    known: NextScope<'a>,
     work: BodyWork<'a>,
     expr: &'a Expr,
 ) -> Result<Option<(OpenStep, BodyWork<'a>)>, AllocError>
     requires has_table { HasTable known work }
-    ensures { IfOk result (λ o. BodyMakes known.entry work.entry (λ table. and_then (expression_lowered expr.now (place_at known.entry work.entry table)) computing) o) }
+    ensures { IfOk result (λ o. BodyMakes known.entry work.entry (λ table. and_then (lower_expression expr.now (scope_at known.entry work.entry table)) computing) o) }
 {
     match lower(alloc, known, work, expr)? {
         Some((value, work)) => Ok(Some((compute(value), work))),
@@ -75,7 +75,7 @@ fn open_compute<'a>(
 
 fn open_receive<'a>(
     alloc: Global,
-    known: NextKnown<'a>,
+    known: NextScope<'a>,
     work: BodyWork<'a>,
     name: &'a Name,
 ) -> Result<Option<(OpenStep, BodyWork<'a>)>, AllocError>
@@ -90,14 +90,14 @@ fn open_receive<'a>(
 
 fn open_receive_if<'a>(
     alloc: Global,
-    known: NextKnown<'a>,
+    known: NextScope<'a>,
     work: BodyWork<'a>,
     name: &'a Name,
     condition: &'a Expr,
     other: &'a Expr,
 ) -> Result<Option<(OpenStep, BodyWork<'a>)>, AllocError>
     requires has_table { HasTable known work }
-    ensures { IfOk result (λ o. BodyMakes known.entry work.entry (λ table. receive_if_opened (member_in (outer_at known.entry work.entry table) known.entry.ends.now name.now) condition.now other.now (place_at known.entry work.entry table)) o) }
+    ensures { IfOk result (λ o. BodyMakes known.entry work.entry (λ table. receive_if_opened (member_in (outer_at known.entry work.entry table) known.entry.ends.now name.now) condition.now other.now (scope_at known.entry work.entry table)) o) }
 {
     let Some(member) = member_at(alloc, known, &work, name)? else {
         return Ok(None);
@@ -114,13 +114,13 @@ fn open_receive_if<'a>(
 
 fn open_send<'a>(
     alloc: Global,
-    known: NextKnown<'a>,
+    known: NextScope<'a>,
     work: BodyWork<'a>,
     name: &'a Name,
     word: &'a Expr,
 ) -> Result<Option<(OpenStep, BodyWork<'a>)>, AllocError>
     requires has_table { HasTable known work }
-    ensures { IfOk result (λ o. BodyMakes known.entry work.entry (λ table. send_opened (member_in (outer_at known.entry work.entry table) known.entry.ends.now name.now) word.now (place_at known.entry work.entry table)) o) }
+    ensures { IfOk result (λ o. BodyMakes known.entry work.entry (λ table. send_opened (member_in (outer_at known.entry work.entry table) known.entry.ends.now name.now) word.now (scope_at known.entry work.entry table)) o) }
 {
     let Some(member) = member_at(alloc, known, &work, name)? else {
         return Ok(None);
@@ -133,14 +133,14 @@ fn open_send<'a>(
 
 fn open_send_if<'a>(
     alloc: Global,
-    known: NextKnown<'a>,
+    known: NextScope<'a>,
     work: BodyWork<'a>,
     name: &'a Name,
     condition: &'a Expr,
     word: &'a Expr,
 ) -> Result<Option<(OpenStep, BodyWork<'a>)>, AllocError>
     requires has_table { HasTable known work }
-    ensures { IfOk result (λ o. BodyMakes known.entry work.entry (λ table. send_if_opened (member_in (outer_at known.entry work.entry table) known.entry.ends.now name.now) condition.now word.now (place_at known.entry work.entry table)) o) }
+    ensures { IfOk result (λ o. BodyMakes known.entry work.entry (λ table. send_if_opened (member_in (outer_at known.entry work.entry table) known.entry.ends.now name.now) condition.now word.now (scope_at known.entry work.entry table)) o) }
 {
     let Some(member) = member_at(alloc, known, &work, name)? else {
         return Ok(None);
@@ -157,15 +157,15 @@ fn open_send_if<'a>(
 /// The member of this name, in a box: letting it go is one call.
 fn member_at<'b>(
     alloc: Global,
-    known: NextKnown<'b>,
+    known: NextScope<'b>,
     work: &'b BodyWork<'b>,
     name: &Name,
 ) -> Result<Option<Boxed<CoreMember>>, AllocError>
     ensures { IfOk result (λ m. (table : List CoreInstance) → m ≡ member_in (outer_at known.entry work.now table) known.entry.ends.now name.now) }
 {
-    let body = BodyKnown {
+    let body = BodyScope {
         text: known.text,
-        numbers: work.given.as_slice(),
+        parametric_args: work.given.as_slice(),
     };
     match member_there(alloc, body, known.ends, name)? {
         Some(member) => Ok(Some(Boxed::new(alloc, member)?)),

@@ -2,9 +2,9 @@
 
 ghost use Rattle.std.specs.Prelude.{◌≡◌, Some, IfOk};
 ghost use Rattle.dslx_meaning.specs.Lists.{where_true};
-ghost use Rattle.dslx_core.specs.Lowering.Trees.{expression_lowered, of_type as the_one_of_type};
+ghost use Rattle.dslx_core.specs.Lowering.Trees.{lower_expression, of_type as the_one_of_type};
 ghost use Rattle.dslx_next.specs.Opening.Opened.{conditional};
-ghost use Rattle.dslx_next.specs.Opening.Works.{HasTable, BodyMakes, place_at};
+ghost use Rattle.dslx_next.specs.Opening.Works.{HasTable, BodyMakes, scope_at};
 
 use dslx_core::lowering::LoweredExpr;
 use dslx_core_exprs::alike::equal_type;
@@ -17,7 +17,7 @@ use xb_value::Boxed;
 
 /// What is known in all of a `next`: the text, how many instances of functions there may be, and the members.
 #[derive(Clone, Copy)]
-pub struct NextKnown<'a> {
+pub struct NextScope<'a> {
     pub text: &'a Module,
     pub limit: usize,
     pub ends: &'a [End],
@@ -33,12 +33,12 @@ pub struct Conditional {
 /// An expression.
 pub fn lower<'a>(
     alloc: Global,
-    known: NextKnown<'a>,
+    known: NextScope<'a>,
     work: BodyWork<'a>,
     expr: &'a Expr,
 ) -> Result<Option<(LoweredExpr, BodyWork<'a>)>, AllocError>
     requires has_table { HasTable known work }
-    ensures { IfOk result (λ o. BodyMakes known.entry work.entry (λ table. expression_lowered expr.now (place_at known.entry work.entry table)) o) }
+    ensures { IfOk result (λ o. BodyMakes known.entry work.entry (λ table. lower_expression expr.now (scope_at known.entry work.entry table)) o) }
 {
     lower_in(alloc, known.text, known.limit, work, expr)
 }
@@ -46,13 +46,13 @@ pub fn lower<'a>(
 /// An expression of this type.
 pub fn lower_of_type<'a>(
     alloc: Global,
-    known: NextKnown<'a>,
+    known: NextScope<'a>,
     work: BodyWork<'a>,
     expr: &'a Expr,
     ty: &DslxType,
 ) -> Result<Option<(LoweredExpr, BodyWork<'a>)>, AllocError>
     requires has_table { HasTable known work }
-    ensures { IfOk result (λ o. BodyMakes known.entry work.entry (λ table. the_one_of_type ty.now (expression_lowered expr.now (place_at known.entry work.entry table))) o) }
+    ensures { IfOk result (λ o. BodyMakes known.entry work.entry (λ table. the_one_of_type ty.now (lower_expression expr.now (scope_at known.entry work.entry table))) o) }
 {
     match lower(alloc, known, work, expr)? {
         Some((value, work)) => {
@@ -73,14 +73,14 @@ fn where_holds<T: Drop>(holds: bool, made: T) -> Option<T>
 /// A condition, and then a value of this type.
 pub fn lower_conditional<'a>(
     alloc: Global,
-    known: NextKnown<'a>,
+    known: NextScope<'a>,
     work: BodyWork<'a>,
     condition: &'a Expr,
     value: &'a Expr,
     ty: &DslxType,
 ) -> Result<Option<(Conditional, BodyWork<'a>)>, AllocError>
     requires has_table { HasTable known work }
-    ensures { IfOk result (λ o. BodyMakes known.entry work.entry (λ table. conditional ty.now condition.now value.now (place_at known.entry work.entry table)) o) }
+    ensures { IfOk result (λ o. BodyMakes known.entry work.entry (λ table. conditional ty.now condition.now value.now (scope_at known.entry work.entry table)) o) }
 {
     match lower(alloc, known, work, condition)? {
         Some((condition, work)) => {

@@ -1,15 +1,15 @@
 //! The body of a `next`.
 
 ghost use Rattle.std.specs.Prelude.{IfOk};
-ghost use Rattle.dslx_machines.specs.Extension.Comes.{Comes};
+ghost use Rattle.dslx_machines.specs.Extension.Results.{TableResult};
 ghost use Rattle.dslx_next.specs.Opening.Works.{HasTable, BodyMakes};
 ghost use Rattle.dslx_next.specs.Steps.Passing.{BodyPasses, HasOneState, body_at, last_at, statements_at};
 
-use crate::opening::{NextKnown, lower};
+use crate::opening::{NextScope, lower};
 use crate::steps::statement::pass_statement;
 use dslx_core::Step;
 use dslx_core::lowering::{LoweredExpr, LoweredSteps};
-use dslx_core_exprs::types::unit_lowered;
+use dslx_core_exprs::types::lower_unit;
 use dslx_instance::table::InstanceTable;
 use dslx_instance::tasks::BodyWork;
 use dslx_tree::{Block, Expr, Stmt};
@@ -19,12 +19,12 @@ use xb_value::{Boxed, Seq};
 /// The steps of the statements, and the state behind them, which is the value of the last expression.
 pub(crate) fn lower_body<'a>(
     alloc: Global,
-    known: NextKnown<'a>,
+    known: NextScope<'a>,
     work: BodyWork<'a>,
     body: &'a Block,
 ) -> Result<Option<(LoweredSteps, InstanceTable)>, AllocError>
     requires has_table { HasTable known work }
-    ensures comes { IfOk result (λ o. Comes known.entry.text.now known.entry.limit work.entry.table (body_at known.entry work.entry body.now) o) }
+    ensures comes { IfOk result (λ o. TableResult known.entry.text.now known.entry.limit work.entry.table (body_at known.entry work.entry body.now) o) }
     ensures one_state { IfOk result (λ o. HasOneState known.entry work.entry body.now o) }
 {
     let mut steps = Vec::new(alloc);
@@ -47,7 +47,7 @@ pub(crate) fn lower_body<'a>(
 /// The steps of the statements in order go behind the others.
 fn pass_statements<'a>(
     alloc: Global,
-    known: NextKnown<'a>,
+    known: NextScope<'a>,
     steps: &mut Vec<Step>,
     mut work: BodyWork<'a>,
     statements: &'a [Stmt],
@@ -67,7 +67,7 @@ fn pass_statements<'a>(
 /// The value of the last expression; `()` without one.
 fn lower_last<'a>(
     alloc: Global,
-    known: NextKnown<'a>,
+    known: NextScope<'a>,
     work: BodyWork<'a>,
     last: &'a Option<Boxed<Expr>>,
 ) -> Result<Option<(LoweredExpr, BodyWork<'a>)>, AllocError>
@@ -76,6 +76,6 @@ fn lower_last<'a>(
 {
     match last {
         Some(expr) => lower(alloc, known, work, expr.get()),
-        None => Ok(Some((unit_lowered(alloc)?, work))),
+        None => Ok(Some((lower_unit(alloc)?, work))),
     }
 }

@@ -3,17 +3,17 @@
 ghost use Rattle.std.specs.Prelude.{◌≡◌, ◌∷◌, ◌&&◌, [], not, map, reverse, Some, IfOk};
 ghost use Rattle.dslx_machines.specs.Machine.Callees.{CalleesByName};
 ghost use Rattle.dslx_machines.specs.Machine.Reached.{IsTable};
-ghost use Rattle.dslx_core.specs.Lowering.Functions.{numbers_stand as all_stand, outer_place};
-ghost use Rattle.dslx_core.specs.Lowering.Steps.{is_sized as has_elements, next_lowered, steps_from};
-ghost use Rattle.dslx_core.specs.Lowering.Trees.{type_of_text_lowered};
+ghost use Rattle.dslx_core.specs.Lowering.Functions.{parametric_args_are_well_typed as all_stand, outer_scope};
+ghost use Rattle.dslx_core.specs.Lowering.Steps.{is_sized as has_elements, lower_next, steps_from};
+ghost use Rattle.dslx_core.specs.Lowering.Trees.{lower_type_of_text};
 ghost use Rattle.dslx_meaning.specs.Items.{meanings_of};
 ghost use Rattle.dslx_meaning.specs.Lists.{and_then, where_true};
 ghost use Rattle.dslx_names.specs.Bound.{given};
-ghost use Rattle.dslx_scope_patterns.specs.Patterns.Behind.{body_place};
-ghost use Rattle.dslx_machines.specs.Extension.Comes.{Comes};
-ghost use Rattle.dslx_next.specs.Opening.Works.{numbers_known};
+ghost use Rattle.dslx_scope_patterns.specs.Patterns.Behind.{body_scope};
+ghost use Rattle.dslx_machines.specs.Extension.Results.{TableResult};
+ghost use Rattle.dslx_next.specs.Opening.Works.{parametric_args_known};
 
-use crate::opening::{NextKnown, outer_type};
+use crate::opening::{NextScope, outer_type};
 use crate::steps::body::lower_body;
 use base::texts::Name;
 use dslx_core::lowering::{BoundSlot, LoweredNext};
@@ -24,13 +24,13 @@ use dslx_meaning::DslxType;
 use dslx_names::Binding;
 use dslx_scope::locals::Locals;
 use dslx_scope_names::names::is_constant_named;
-use dslx_scope_patterns::numbers::numbers_stand;
-use dslx_scope_patterns::patterns::BodyKnown;
+use dslx_scope_patterns::parametric_args::parametric_args_are_well_typed;
+use dslx_scope_patterns::patterns::BodyScope;
 use dslx_tree::{Module, Proc, TypeExpr};
 use dslx_values::{copy_name, copy_type};
 use std::alloc::{AllocError, Global};
 
-/// What the `next` of a proc becomes where these number parameters are bound, the last one last, with the instances of functions that
+/// What the `next` of a proc becomes where these parametrics are bound, the last one last, with the instances of functions that
 /// it needs behind those that are made; `None` only where it becomes nothing by any table of at most `limit` instances.
 pub fn next_there<'a>(
     alloc: Global,
@@ -38,43 +38,43 @@ pub fn next_there<'a>(
     limit: usize,
     table: InstanceTable,
     proc: &'a Proc,
-    numbers: Vec<Binding<'a>>,
+    parametric_args: Vec<Binding<'a>>,
 ) -> Result<Option<(LoweredNext, InstanceTable)>, AllocError>
     requires is_table { IsTable text.now (meanings_of text.now) table }
-    ensures { IfOk result (λ o. Comes text.now limit table (λ instances. next_lowered (numbers_known text.now numbers.entry.items instances) proc.now) o) }
+    ensures { IfOk result (λ o. TableResult text.now limit table (λ instances. lower_next (parametric_args_known text.now parametric_args.entry.items instances) proc.now) o) }
 {
-    if !names_stand(alloc, text, numbers.as_slice(), &proc.next.state.name)? {
+    if !names_are_well_typed(alloc, text, parametric_args.as_slice(), &proc.next.state.name)? {
         return Ok(None);
     }
-    let known = BodyKnown {
+    let known = BodyScope {
         text,
-        numbers: numbers.as_slice(),
+        parametric_args: parametric_args.as_slice(),
     };
     match state_type(alloc, known, &proc.next.ty)? {
-        Some(state) => next_from(alloc, text, limit, table, proc, numbers, state),
+        Some(state) => next_from(alloc, text, limit, table, proc, parametric_args, state),
         None => Ok(None),
     }
 }
 
-/// Whether the number parameters stand, and the state has no constant's name.
-fn names_stand(
+/// Whether the parametrics stand, and the state has no constant's name.
+fn names_are_well_typed(
     alloc: Global,
     text: &Module,
-    numbers: &[Binding],
+    parametric_args: &[Binding],
     state: &Name,
 ) -> Result<bool, AllocError>
-    ensures { IfOk result (λ stand. stand ≡ (all_stand (meanings_of text.now) (reverse (map given numbers.now)) && not ((meanings_of text.now).is_constant state.now))) }
+    ensures { IfOk result (λ stand. stand ≡ (all_stand (meanings_of text.now) (reverse (map given parametric_args.now)) && not ((meanings_of text.now).is_constant state.now))) }
 {
-    Ok(numbers_stand(alloc, text, numbers)? && !is_constant_named(text, state))
+    Ok(parametric_args_are_well_typed(alloc, text, parametric_args)? && !is_constant_named(text, state))
 }
 
 /// The type of the state, if each array in it has an element.
 fn state_type<'a>(
     alloc: Global,
-    known: BodyKnown<'a>,
+    known: BodyScope<'a>,
     ty: &'a TypeExpr,
 ) -> Result<Option<DslxType>, AllocError>
-    ensures { IfOk result (λ t. (callee : CalleesByName) → t ≡ and_then (type_of_text_lowered ty.now (body_place callee known.entry [] 0)) (λ t. where_true (has_elements t) (Some t))) }
+    ensures { IfOk result (λ t. (callee : CalleesByName) → t ≡ and_then (lower_type_of_text ty.now (body_scope callee known.entry [] 0)) (λ t. where_true (has_elements t) (Some t))) }
 {
     match outer_type(alloc, known, ty)? {
         Some(ty) => if is_sized(&ty) {
@@ -93,20 +93,20 @@ fn next_from<'a>(
     limit: usize,
     table: InstanceTable,
     proc: &'a Proc,
-    numbers: Vec<Binding<'a>>,
+    parametric_args: Vec<Binding<'a>>,
     state: DslxType,
 ) -> Result<Option<(LoweredNext, InstanceTable)>, AllocError>
     requires is_table { IsTable text.now (meanings_of text.now) table }
-    ensures { IfOk result (λ o. Comes text.now limit table (λ instances. steps_from (outer_place (numbers_known text.now numbers.entry.items instances)) proc.now state) o) }
+    ensures { IfOk result (λ o. TableResult text.now limit table (λ instances. steps_from (outer_scope (parametric_args_known text.now parametric_args.entry.items instances)) proc.now state) o) }
 {
-    let known = NextKnown {
+    let known = NextScope {
         text,
         limit,
         ends: proc.members.as_slice(),
     };
     let work = BodyWork {
         table,
-        given: numbers,
+        given: parametric_args,
         locals: state_alone(alloc, &proc.next.state.name, &state)?,
         count: 1,
     };

@@ -7,21 +7,21 @@ ghost use Rattle.dslx_core.specs.Lowering.Patterns.{shaped};
 ghost use Rattle.dslx_core.specs.Lowering.Steps.{binds_nothing};
 ghost use Rattle.dslx_meaning.specs.Lists.{and_then};
 ghost use Rattle.dslx_names.specs.Bound.{given};
-ghost use Rattle.dslx_next.specs.Opening.Works.{HasTable, place_at};
+ghost use Rattle.dslx_next.specs.Opening.Works.{HasTable, scope_at};
 ghost use Rattle.dslx_next.specs.Steps.Passing.{StepBinds, BodyPasses, act_at, statement_at};
 
-use crate::opening::{NextKnown, OpenStep, open_step, with_shape};
+use crate::opening::{NextScope, OpenStep, open_step, with_shape};
 use dslx_core::{Shape, Step};
 use dslx_instance::tasks::BodyWork;
 use dslx_meaning::DslxType;
-use dslx_scope_patterns::patterns::{BodyKnown, bind_there};
+use dslx_scope_patterns::patterns::{BodyScope, bind_there};
 use dslx_tree::{Expr, Pattern, Stmt};
 use std::alloc::{AllocError, Global};
 
 /// The step of a statement goes behind the others, and what it binds is bound.
 pub(crate) fn pass_statement<'a>(
     alloc: Global,
-    known: NextKnown<'a>,
+    known: NextScope<'a>,
     steps: &mut Vec<Step>,
     work: BodyWork<'a>,
     statement: &'a Stmt,
@@ -37,7 +37,7 @@ pub(crate) fn pass_statement<'a>(
 
 fn pass_let<'a>(
     alloc: Global,
-    known: NextKnown<'a>,
+    known: NextScope<'a>,
     steps: &mut Vec<Step>,
     work: BodyWork<'a>,
     pattern: &'a Pattern,
@@ -55,7 +55,7 @@ fn pass_let<'a>(
 /// An expression that binds nothing.
 fn pass_bare<'a>(
     alloc: Global,
-    known: NextKnown<'a>,
+    known: NextScope<'a>,
     steps: &mut Vec<Step>,
     work: BodyWork<'a>,
     value: &'a Expr,
@@ -75,7 +75,7 @@ fn pass_bare<'a>(
 /// A step goes behind the others with what the pattern binds.
 fn bind_step<'a>(
     alloc: Global,
-    known: NextKnown<'a>,
+    known: NextScope<'a>,
     steps: &mut Vec<Step>,
     mut work: BodyWork<'a>,
     opened: OpenStep,
@@ -95,18 +95,18 @@ fn bind_step<'a>(
 /// What the pattern becomes; its names are bound then.
 fn bind_pattern<'a>(
     alloc: Global,
-    known: NextKnown<'a>,
+    known: NextScope<'a>,
     work: &mut BodyWork<'a>,
     pattern: &'a Pattern,
     ty: &DslxType,
 ) -> Result<Option<Shape>, AllocError>
-    ensures bound { IfOk result (λ s. (table : List CoreInstance) → shaped_at pattern.now (place_at known.entry work.old table) ty.now ≡ and_then s (λ s. shaped s (place_at known.entry work.new table))) }
+    ensures bound { IfOk result (λ s. (table : List CoreInstance) → shaped_at pattern.now (scope_at known.entry work.old table) ty.now ≡ and_then s (λ s. shaped s (scope_at known.entry work.new table))) }
     ensures table { IfOk result (λ s. work.new.table ≡ work.old.table) }
-    ensures numbers { IfOk result (λ s. map given work.new.given.items ≡ map given work.old.given.items) }
+    ensures parametric_args { IfOk result (λ s. map given work.new.given.items ≡ map given work.old.given.items) }
 {
-    let body = BodyKnown {
+    let body = BodyScope {
         text: known.text,
-        numbers: work.given.as_slice(),
+        parametric_args: work.given.as_slice(),
     };
     match bind_there(alloc, body, &mut work.locals, work.count, pattern, ty)? {
         Some(bound) => {

@@ -7,7 +7,7 @@ use Rattle.dslx_core.specs.Lowering.Functions.{CoreInstance, Instantiated}
 use Rattle.dslx_machines.specs.Machine.Steps.{instance_of}
 use Rattle.dslx_machines.specs.Machine.Tasks.{OpenBody}
 use Rattle.dslx_instance_arms.specs.Opening.Done.{done_in}
-use Rattle.dslx_instance.specs.Tasks.Shown.{sight_of}
+use Rattle.dslx_instance.specs.Tasks.Shown.{instance_env_of}
 
 by_test : (o : Option (ℕ × CoreInstance)) (body : OpenBody) → where_true (is_some o) (Some body) ≡ and_then o (λ p. Some body)
 by_test None body = refl
@@ -15,5 +15,5 @@ by_test (Some p) body = refl
 
 -- the body goes on where it is done
 pub is_there : (m : Module) (table : List CoreInstance) (i : Instantiated) (is : Bool) (body : OpenBody) → is ≡ done_in table i
-    → where_true is (Some body) ≡ and_then (instance_of (sight_of m table) i) (λ p. Some body)
-is_there m table i is body h = ap (λ b. where_true b (Some body)) h ∙ by_test (instance_of (sight_of m table) i) body
+    → where_true is (Some body) ≡ and_then (instance_of (instance_env_of m table) i) (λ p. Some body)
+is_there m table i is body h = ap (λ b. where_true b (Some body)) h ∙ by_test (instance_of (instance_env_of m table) i) body

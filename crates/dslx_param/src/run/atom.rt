@@ -5,10 +5,10 @@ ghost use Rattle.dslx_meaning.specs.Items.{meanings_of};
 ghost use Rattle.dslx_meaning.specs.Lists.{and_then, where_true};
 ghost use Rattle.dslx_meaning.specs.Values.{bool_value as truth_value};
 ghost use Rattle.dslx_core.specs.Lowering.Functions.{CoreInstance};
-ghost use Rattle.dslx_core.specs.Lowering.Lowering.{literal as the_literal, name_lowered};
-ghost use Rattle.dslx_machines.specs.Machine.Bodies.{gives, place_in};
+ghost use Rattle.dslx_core.specs.Lowering.Lowering.{literal as the_literal, lower_name};
+ghost use Rattle.dslx_machines.specs.Machine.Bodies.{gives, scope_in};
 ghost use Rattle.dslx_machines.specs.Machine.Steps.{number_at};
-ghost use Rattle.dslx_instance.specs.Tasks.Shown.{body_shown, sight_of};
+ghost use Rattle.dslx_instance.specs.Tasks.Shown.{body_shown, instance_env_of};
 
 use base::texts::Name;
 use dslx_instance::tasks::OpenBody;
@@ -23,7 +23,7 @@ pub(crate) fn give_number<'a>(
     text: &'a Module,
     number: &'a Number,
 ) -> Result<bool, AllocError>
-    ensures { IfOk result (λ is. (table : List CoreInstance) → where_true is (Some (body_shown body.new)) ≡ gives (and_then (number_at (place_in (sight_of text.now table) (body_shown body.old)) number.now) the_literal) (body_shown body.old)) }
+    ensures { IfOk result (λ is. (table : List CoreInstance) → where_true is (Some (body_shown body.new)) ≡ gives (and_then (number_at (scope_in (instance_env_of text.now table) (body_shown body.old)) number.now) the_literal) (body_shown body.old)) }
 {
     let value = number_in_body(alloc, text, body, number)?;
     body.give_if(value)
@@ -42,7 +42,7 @@ pub(crate) fn give_name<'a>(
     text: &'a Module,
     name: &'a Name,
 ) -> Result<bool, AllocError>
-    ensures { IfOk result (λ is. (table : List CoreInstance) → where_true is (Some (body_shown body.new)) ≡ gives (name_lowered name.now (place_in (sight_of text.now table) (body_shown body.old))) (body_shown body.old)) }
+    ensures { IfOk result (λ is. (table : List CoreInstance) → where_true is (Some (body_shown body.new)) ≡ gives (lower_name name.now (scope_in (instance_env_of text.now table) (body_shown body.old))) (body_shown body.old)) }
 {
     let value = name_in_body(alloc, text, body, name)?;
     body.give_if(value)

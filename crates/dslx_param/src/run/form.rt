@@ -7,7 +7,7 @@ ghost use Rattle.dslx_core.specs.Lowering.Functions.{CoreInstance};
 ghost use Rattle.dslx_machines.specs.Machine.Bodies.{doing};
 ghost use Rattle.dslx_machines.specs.Machine.Tasks.{LoopBegins, LowersArms, LowersBlock, LowersExpr, Makes, MakesChoice};
 ghost use Rattle.dslx_param.specs.Run.Inner.Structs.{struct_named_begins};
-ghost use Rattle.dslx_instance.specs.Tasks.Shown.{body_shown, last_shown, sight_of};
+ghost use Rattle.dslx_instance.specs.Tasks.Shown.{body_shown, last_shown, instance_env_of};
 
 use base::texts::Name;
 use dslx_instance::tasks::{BlockTask, LastMaker, OpenBody};
@@ -99,7 +99,7 @@ pub(crate) fn first_struct<'a>(
     fields: &'a [FieldValue],
     rest: &'a Option<Boxed<Expr>>,
 ) -> Result<bool, AllocError>
-    ensures { IfOk result (λ is. (table : List CoreInstance) → where_true is (Some (body_shown body.new)) ≡ struct_named_begins (sight_of text.now table) name.now fields.now rest.now (body_shown body.old)) }
+    ensures { IfOk result (λ is. (table : List CoreInstance) → where_true is (Some (body_shown body.new)) ≡ struct_named_begins (instance_env_of text.now table) name.now fields.now rest.now (body_shown body.old)) }
 {
     let ty = struct_named(alloc, text, name)?;
     begin_struct(body, alloc, text, ty, fields, rest)

@@ -46,7 +46,7 @@ fn do_task<'a>(
     last: OpenInstance<'a>,
     task: LowerTask<'a>,
 ) -> Result<bool, AllocError>
-    ensures { IfOk result (λ is. where_true is (Some (machine_shown machine.new)) ≡ in_instance (the_missing (task_shown task.entry) (machine_shown machine.old).sight) (task_shown task.entry) (instance_shown last.entry).body.todo (with_task (task_shown task.entry) (instance_shown last.entry)) (machine_shown machine.old).opened (with_opened (with_task (task_shown task.entry) (instance_shown last.entry)) (machine_shown machine.old))) }
+    ensures { IfOk result (λ is. where_true is (Some (machine_shown machine.new)) ≡ in_instance (the_missing (task_shown task.entry) (machine_shown machine.old).context) (task_shown task.entry) (instance_shown last.entry).body.todo (with_task (task_shown task.entry) (instance_shown last.entry)) (machine_shown machine.old).opened (with_opened (with_task (task_shown task.entry) (instance_shown last.entry)) (machine_shown machine.old))) }
 {
     let mut last = last;
     match missing_for(alloc, &machine.table, &task)? {
@@ -78,7 +78,7 @@ fn do_root_task<'a>(
     alloc: Global,
     task: LowerTask<'a>,
 ) -> Result<bool, AllocError>
-    ensures { IfOk result (λ is. where_true is (Some (machine_shown machine.new)) ≡ in_root (the_missing (task_shown task.entry) (machine_shown machine.old).sight) (task_shown task.entry) (machine_shown machine.old).root.todo (with_root_task (task_shown task.entry) (machine_shown machine.old))) }
+    ensures { IfOk result (λ is. where_true is (Some (machine_shown machine.new)) ≡ in_root (the_missing (task_shown task.entry) (machine_shown machine.old).context) (task_shown task.entry) (machine_shown machine.old).root.todo (with_root_task (task_shown task.entry) (machine_shown machine.old))) }
 {
     match missing_for(alloc, &machine.table, &task)? {
         Some(needed) => {

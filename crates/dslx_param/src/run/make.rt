@@ -3,17 +3,17 @@
 ghost use Rattle.std.specs.Prelude.{◌≡◌, List, Some, IfOk};
 ghost use Rattle.dslx_meaning.specs.Lists.{and_then, where_true};
 ghost use Rattle.dslx_core.specs.Lowering.Functions.{CoreInstance};
-ghost use Rattle.dslx_core.specs.Lowering.Lowering.{LoweredExpr, cast_lowered, field_lowered as the_field, part_lowered, slice_lowered};
-ghost use Rattle.dslx_core.specs.Lowering.CorePlaces.{bound_at};
-ghost use Rattle.dslx_core.specs.Lowering.Trees.{type_of_text_lowered};
-ghost use Rattle.dslx_machines.specs.Machine.Bodies.{place_in, with_made};
+ghost use Rattle.dslx_core.specs.Lowering.Lowering.{LoweredExpr, lower_cast, lower_field as the_field, lower_part, lower_slice};
+ghost use Rattle.dslx_core.specs.Lowering.CoreScopes.{bound_at};
+ghost use Rattle.dslx_core.specs.Lowering.Trees.{lower_type_of_text};
+ghost use Rattle.dslx_machines.specs.Machine.Bodies.{scope_in, with_made};
 ghost use Rattle.dslx_machines.specs.Machine.Steps.{made_of_last, of_last, of_last_two};
-ghost use Rattle.dslx_instance.specs.Tasks.Shown.{body_shown, last_shown, sight_of};
+ghost use Rattle.dslx_instance.specs.Tasks.Shown.{body_shown, last_shown, instance_env_of};
 
 use base::stacks::Stack;
 use base::texts::Name;
 use dslx_core::lowering::LoweredExpr;
-use dslx_core_calls::aggregates::field_lowered;
+use dslx_core_calls::aggregates::lower_field;
 use dslx_instance::tasks::{LastMaker, OpenBody};
 use dslx_instance_parts::{
     bound_in_body, make_binary, make_cast, make_choice, make_element, make_indexed, make_part,
@@ -29,7 +29,7 @@ pub(crate) fn make_last<'a>(
     text: &'a Module,
     maker: LastMaker<'a>,
 ) -> Result<bool, AllocError>
-    ensures { IfOk result (λ is. (table : List CoreInstance) → where_true is (Some (body_shown body.new)) ≡ and_then (made_of_last (last_shown maker.entry) (place_in (sight_of text.now table) (body_shown body.old)) (body_shown body.old).made) (λ made. Some (with_made made (body_shown body.old)))) }
+    ensures { IfOk result (λ is. (table : List CoreInstance) → where_true is (Some (body_shown body.new)) ≡ and_then (made_of_last (last_shown maker.entry) (scope_in (instance_env_of text.now table) (body_shown body.old)) (body_shown body.old).made) (λ made. Some (with_made made (body_shown body.old)))) }
 {
     match maker {
         LastMaker::Prefix(prefix) => make_prefix(&mut body.made, alloc, prefix),
@@ -50,7 +50,7 @@ fn cast<'a>(
     text: &'a Module,
     ty: &'a TypeExpr,
 ) -> Result<bool, AllocError>
-    ensures { IfOk result (λ is. (table : List CoreInstance) → where_true is (Some (body_shown body.new)) ≡ and_then (of_last (body_shown body.old).made (λ e. cast_lowered (Some e) (type_of_text_lowered ty.now (place_in (sight_of text.now table) (body_shown body.old))))) (λ made. Some (with_made made (body_shown body.old)))) }
+    ensures { IfOk result (λ is. (table : List CoreInstance) → where_true is (Some (body_shown body.new)) ≡ and_then (of_last (body_shown body.old).made (λ e. lower_cast (Some e) (lower_type_of_text ty.now (scope_in (instance_env_of text.now table) (body_shown body.old))))) (λ made. Some (with_made made (body_shown body.old)))) }
 {
     let ty = type_in_body(alloc, text, body, ty)?;
     make_cast(&mut body.made, alloc, ty)
@@ -63,7 +63,7 @@ fn slice<'a>(
     from: &'a Expr,
     to: &'a Expr,
 ) -> Result<bool, AllocError>
-    ensures { IfOk result (λ is. (table : List CoreInstance) → where_true is (Some (body_shown body.new)) ≡ and_then (of_last (body_shown body.old).made (λ e. slice_lowered (Some e) (bound_at (place_in (sight_of text.now table) (body_shown body.old)) from.now) (bound_at (place_in (sight_of text.now table) (body_shown body.old)) to.now))) (λ made. Some (with_made made (body_shown body.old)))) }
+    ensures { IfOk result (λ is. (table : List CoreInstance) → where_true is (Some (body_shown body.new)) ≡ and_then (of_last (body_shown body.old).made (λ e. lower_slice (Some e) (bound_at (scope_in (instance_env_of text.now table) (body_shown body.old)) from.now) (bound_at (scope_in (instance_env_of text.now table) (body_shown body.old)) to.now))) (λ made. Some (with_made made (body_shown body.old)))) }
 {
     let from = bound_in_body(alloc, text, body, from)?;
     let to = bound_in_body(alloc, text, body, to)?;
@@ -76,7 +76,7 @@ fn part<'a>(
     text: &'a Module,
     ty: &'a TypeExpr,
 ) -> Result<bool, AllocError>
-    ensures { IfOk result (λ is. (table : List CoreInstance) → where_true is (Some (body_shown body.new)) ≡ and_then (of_last_two (body_shown body.old).made (λ e i. part_lowered (Some e) (Some i) (type_of_text_lowered ty.now (place_in (sight_of text.now table) (body_shown body.old))))) (λ made. Some (with_made made (body_shown body.old)))) }
+    ensures { IfOk result (λ is. (table : List CoreInstance) → where_true is (Some (body_shown body.new)) ≡ and_then (of_last_two (body_shown body.old).made (λ e i. lower_part (Some e) (Some i) (lower_type_of_text ty.now (scope_in (instance_env_of text.now table) (body_shown body.old))))) (λ made. Some (with_made made (body_shown body.old)))) }
 {
     let ty = type_in_body(alloc, text, body, ty)?;
     make_part(&mut body.made, alloc, &ty)
@@ -87,7 +87,7 @@ fn make_field(made: &mut Stack<LoweredExpr>, alloc: Global, name: &Name) -> Resu
     ensures { IfOk result (λ is. where_true is (Some made.new) ≡ of_last made.old (λ e. the_field (Some e) name.now)) }
 {
     match made.take_off() {
-        Some(value) => match field_lowered(alloc, value, name)? {
+        Some(value) => match lower_field(alloc, value, name)? {
             Some(field) => {
                 made.push(field)?;
                 Ok(true)

@@ -5,7 +5,7 @@ ghost use Rattle.dslx_meaning.specs.Activation.{node_of};
 ghost use Rattle.dslx_meaning.specs.Lists.{where_true};
 ghost use Rattle.dslx_core.specs.Lowering.Functions.{CoreInstance};
 ghost use Rattle.dslx_machines.specs.Machine.Steps.{node_begins};
-ghost use Rattle.dslx_instance.specs.Tasks.Shown.{body_shown, sight_of};
+ghost use Rattle.dslx_instance.specs.Tasks.Shown.{body_shown, instance_env_of};
 
 use crate::run::atom::{give_bool, give_member, give_name, give_number};
 use crate::run::form::{
@@ -23,7 +23,7 @@ pub(crate) fn begin_node<'a>(
     text: &'a Module,
     expr: &'a Expr,
 ) -> Result<bool, AllocError>
-    ensures { IfOk result (λ is. (table : List CoreInstance) → where_true is (Some (body_shown body.new)) ≡ node_begins (node_of expr.now) (sight_of text.now table) (body_shown body.old)) }
+    ensures { IfOk result (λ is. (table : List CoreInstance) → where_true is (Some (body_shown body.new)) ≡ node_begins (node_of expr.now) (instance_env_of text.now table) (body_shown body.old)) }
 {
     match &expr.node {
         Node::Number(number) => give_number(body, alloc, text, number),
@@ -35,13 +35,13 @@ pub(crate) fn begin_node<'a>(
         Node::Member(choice, member) => {
             give_member(body, alloc, text, &choice.name, &member.name)
         }
-        Node::Call(name, numbers, operands) => gather(
+        Node::Call(name, parametric_args, operands) => gather(
             body,
             alloc,
             text,
             Vec::new(alloc),
             operands.as_slice(),
-            PartsMaker::Call(&name.name, numbers.as_slice()),
+            PartsMaker::Call(&name.name, parametric_args.as_slice()),
         ),
         Node::Tuple(parts) => gather(
             body,

@@ -4,7 +4,7 @@ ghost use Rattle.std.specs.Prelude.{◌≡◌, List, Some, IfOk};
 ghost use Rattle.dslx_meaning.specs.Lists.{where_true};
 ghost use Rattle.dslx_core.specs.Lowering.Functions.{CoreInstance};
 ghost use Rattle.dslx_machines.specs.Machine.Steps.{statements_begin, stepped};
-ghost use Rattle.dslx_instance.specs.Tasks.Shown.{arms_task_shown, block_task_shown, body_shown, loop_task_shown, parts_task_shown, sight_of, task_shown};
+ghost use Rattle.dslx_instance.specs.Tasks.Shown.{arms_task_shown, block_task_shown, body_shown, loop_task_shown, parts_task_shown, instance_env_of, task_shown};
 
 use crate::run::make::make_last;
 use crate::run::node::begin_node;
@@ -28,7 +28,7 @@ pub(crate) fn step_body<'a>(
     table: &InstanceTable,
     task: LowerTask<'a>,
 ) -> Result<bool, AllocError>
-    ensures { IfOk result (λ is. where_true is (Some (body_shown body.new)) ≡ stepped (task_shown task.entry) (sight_of text.now table.now) (body_shown body.old)) }
+    ensures { IfOk result (λ is. where_true is (Some (body_shown body.new)) ≡ stepped (task_shown task.entry) (instance_env_of text.now table.now) (body_shown body.old)) }
 {
     match task {
         LowerTask::Expr(expr) => begin_node(body, alloc, text, expr),
@@ -56,7 +56,7 @@ fn step_block<'a>(
     text: &'a Module,
     task: BlockTask<'a>,
 ) -> Result<bool, AllocError>
-    ensures { IfOk result (λ is. (table : List CoreInstance) → where_true is (Some (body_shown body.new)) ≡ stepped (block_task_shown task.entry) (sight_of text.now table) (body_shown body.old)) }
+    ensures { IfOk result (λ is. (table : List CoreInstance) → where_true is (Some (body_shown body.new)) ≡ stepped (block_task_shown task.entry) (instance_env_of text.now table) (body_shown body.old)) }
 {
     match task {
         BlockTask::Block(block) => {
@@ -90,7 +90,7 @@ fn step_parts<'a>(
     text: &'a Module,
     task: PartsTask<'a>,
 ) -> Result<bool, AllocError>
-    ensures { IfOk result (λ is. (table : List CoreInstance) → where_true is (Some (body_shown body.new)) ≡ stepped (parts_task_shown task.entry) (sight_of text.now table) (body_shown body.old)) }
+    ensures { IfOk result (λ is. (table : List CoreInstance) → where_true is (Some (body_shown body.new)) ≡ stepped (parts_task_shown task.entry) (instance_env_of text.now table) (body_shown body.old)) }
 {
     match task {
         PartsTask::Gather(before, rest, maker) => {
@@ -111,7 +111,7 @@ fn step_arms<'a>(
     text: &'a Module,
     task: ArmsTask<'a>,
 ) -> Result<bool, AllocError>
-    ensures { IfOk result (λ is. (table : List CoreInstance) → where_true is (Some (body_shown body.new)) ≡ stepped (arms_task_shown task.entry) (sight_of text.now table) (body_shown body.old)) }
+    ensures { IfOk result (λ is. (table : List CoreInstance) → where_true is (Some (body_shown body.new)) ≡ stepped (arms_task_shown task.entry) (instance_env_of text.now table) (body_shown body.old)) }
 {
     match task {
         ArmsTask::Arms(arms) => begin_arms(body, alloc, text, arms),
@@ -125,7 +125,7 @@ fn step_loop<'a>(
     text: &'a Module,
     task: LoopTask<'a>,
 ) -> Result<bool, AllocError>
-    ensures { IfOk result (λ is. (table : List CoreInstance) → where_true is (Some (body_shown body.new)) ≡ stepped (loop_task_shown task.entry) (sight_of text.now table) (body_shown body.old)) }
+    ensures { IfOk result (λ is. (table : List CoreInstance) → where_true is (Some (body_shown body.new)) ≡ stepped (loop_task_shown task.entry) (instance_env_of text.now table) (body_shown body.old)) }
 {
     match task {
         LoopTask::Begin(turns) => start_loop(body, alloc, text, turns),

@@ -6,7 +6,7 @@ use Rattle.dslx_tree.specs.declared.expr.Expr.{Expr}
 use Rattle.dslx_tree.specs.declared.operator.Binary.{Binary}
 use Rattle.dslx_tree.specs.declared.operators.chain.Link.{Link}
 use Rattle.dslx_tree.specs.Operators.Levels.{tree_of}
-use Rattle.dslx_actions.specs.declared.parts.Parts.{Parts}
+use Rattle.dslx_actions.specs.declared.parts.SemanticStacks.{SemanticStacks}
 use Rattle.dslx_expr_actions.specs.Operators.Operators.{links_of, operand_of}
 use Rattle.dslx_parser.proofs.OnBuilt.Onto.{onto}
 
@@ -20,10 +20,10 @@ abbrev pub expr_of : Link → Expr
 expr_of l = l.operand.expr
 
 -- a chain that is made a tree, over these stacks
-abbrev pub chained : Parts → List Span → List Expr → List Binary → List Link → Parts
-chained s places exprs signs links =
-    let tree = tree_of (operand_of places exprs) links in
-    record s { operators = signs; places = tree.span ∷ drop 1 places; exprs = tree.expr ∷ drop 1 exprs }
+abbrev pub chained : SemanticStacks → List Span → List Expr → List Binary → List Link → SemanticStacks
+chained s expr_spans exprs signs links =
+    let tree = tree_of (operand_of expr_spans exprs) links in
+    record s { operators = signs; expr_spans = tree.span ∷ drop 1 expr_spans; exprs = tree.expr ∷ drop 1 exprs }
 
 shift_one : (n k : ℕ) → suc n + k ≡ n + suc k
 shift_one n k = omega arith
@@ -31,16 +31,16 @@ shift_one n k = omega arith
 none_past : (n : ℕ) → 0 + n ≡ n
 none_past n = omega arith
 
-linked_past : (ls : List Link) (signs : List Binary) (places : List Span) (es : List Expr) (k : ℕ) → links_of (length ls + k) (onto (map operator_of ls) signs) (onto (map span_of ls) places) (onto (map expr_of ls) es) ≡ links_of k signs places es ++ ls
-linked_past [] signs places es k = ap (λ (n : ℕ). links_of n signs places es) (none_past k) ∙ sym (append-nil (links_of k signs places es))
-linked_past (l ∷ ls) signs places es k =
-    ap (λ (n : ℕ). links_of n (onto (map operator_of ls) (l.operator ∷ signs)) (onto (map span_of ls) (l.operand.span ∷ places)) (onto (map expr_of ls) (l.operand.expr ∷ es))) (shift_one (length ls) k)
-    ∙ linked_past ls (l.operator ∷ signs) (l.operand.span ∷ places) (l.operand.expr ∷ es) (suc k)
-    ∙ append_assoc (links_of k signs places es) (l ∷ []) ls
+linked_past : (ls : List Link) (signs : List Binary) (expr_spans : List Span) (es : List Expr) (k : ℕ) → links_of (length ls + k) (onto (map operator_of ls) signs) (onto (map span_of ls) expr_spans) (onto (map expr_of ls) es) ≡ links_of k signs expr_spans es ++ ls
+linked_past [] signs expr_spans es k = ap (λ (n : ℕ). links_of n signs expr_spans es) (none_past k) ∙ sym (append-nil (links_of k signs expr_spans es))
+linked_past (l ∷ ls) signs expr_spans es k =
+    ap (λ (n : ℕ). links_of n (onto (map operator_of ls) (l.operator ∷ signs)) (onto (map span_of ls) (l.operand.span ∷ expr_spans)) (onto (map expr_of ls) (l.operand.expr ∷ es))) (shift_one (length ls) k)
+    ∙ linked_past ls (l.operator ∷ signs) (l.operand.span ∷ expr_spans) (l.operand.expr ∷ es) (suc k)
+    ∙ append_assoc (links_of k signs expr_spans es) (l ∷ []) ls
 
 all_of : (n : ℕ) → n ≡ n + 0
 all_of n = omega arith
 
-pub linked : (ls : List Link) (signs : List Binary) (places : List Span) (es : List Expr) → links_of (length ls) (onto (map operator_of ls) signs) (onto (map span_of ls) places) (onto (map expr_of ls) es) ≡ ls
-linked ls signs places es =
-    ap (λ (n : ℕ). links_of n (onto (map operator_of ls) signs) (onto (map span_of ls) places) (onto (map expr_of ls) es)) (all_of (length ls)) ∙ linked_past ls signs places es 0
+pub linked : (ls : List Link) (signs : List Binary) (expr_spans : List Span) (es : List Expr) → links_of (length ls) (onto (map operator_of ls) signs) (onto (map span_of ls) expr_spans) (onto (map expr_of ls) es) ≡ ls
+linked ls signs expr_spans es =
+    ap (λ (n : ℕ). links_of n (onto (map operator_of ls) signs) (onto (map span_of ls) expr_spans) (onto (map expr_of ls) es)) (all_of (length ls)) ∙ linked_past ls signs expr_spans es 0

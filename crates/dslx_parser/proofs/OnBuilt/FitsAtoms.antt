@@ -6,7 +6,7 @@ use Rattle.dslx_token.specs.declared.rules.generated.kind.TheConstants as kind
 use Rattle.dslx_token.specs.declared.rules.generated.nonterminal.TheConstants as nonterminal
 use Rattle.dslx_tree.specs.declared.type_expr.TypeExpr.{out-TypeExpr}
 use Rattle.dslx_tree.specs.declared.expr.Node as nodes
-use Rattle.dslx_actions.specs.declared.parts.Parts.{Parts}
+use Rattle.dslx_actions.specs.declared.parts.SemanticStacks.{SemanticStacks}
 use Rattle.dslx_actions.specs.Empty.{no_expr, no_ident, no_type, nowhere}
 use Rattle.base.specs.Stacks.Tops.{top_or}
 use Rattle.dslx_parser.specs.Builder.Building.{reduced, rule_of}
@@ -19,7 +19,7 @@ use Rattle.dslx_parser.specs.Syntax.Statements as statements_rules
 use Rattle.dslx_parser.specs.Syntax.Operators as operators_rules
 use Rattle.dslx_parser.specs.Syntax.Atoms as atoms_rules
 use Rattle.dslx_parser.proofs.OnBuilt.Onto.{dropped, dropped_by, taken, taken_by}
-use Rattle.dslx_parser.proofs.OnBuilt.Putting.{place_of, put_all, sized, value_of, with_operand}
+use Rattle.dslx_parser.proofs.OnBuilt.Putting.{offset_of, put_all, sized, value_of, with_operand}
 use Rattle.dslx_parser.proofs.OnBuilt.Fitting.{AllFit, behind}
 
 pub fit : AllFit (behind operators_rules.rules (behind statements_rules.rules (behind types_rules.rules (behind procs_rules.rules (behind items_rules.rules rule_of))))) atoms_rules.rules
@@ -30,13 +30,13 @@ fit =
       λ parts s. refl,
       -- atom = base_keyword type_tail COLON typed
       (
-        λ parts s. ap (λ (t : Parts). reduced (rule_of 185) (put_all (Terminal kind.COLON ∷ Nonterminal nonterminal.TYPED ∷ []) parts.1.1 t)) (sized parts.1.0 parts.0 s),
+        λ parts s. ap (λ (t : SemanticStacks). reduced (rule_of 185) (put_all (Terminal kind.COLON ∷ Nonterminal nonterminal.TYPED ∷ []) parts.1.1 t)) (sized parts.1.0 parts.0 s),
         -- atom = alias_name type_tail COLON typed
         (
-          λ parts s. ap (λ (t : Parts). reduced (rule_of 186) (put_all (Terminal kind.COLON ∷ Nonterminal nonterminal.TYPED ∷ []) parts.1.1 t)) (sized parts.1.0 parts.0 s),
+          λ parts s. ap (λ (t : SemanticStacks). reduced (rule_of 186) (put_all (Terminal kind.COLON ∷ Nonterminal nonterminal.TYPED ∷ []) parts.1.1 t)) (sized parts.1.0 parts.0 s),
           -- atom = elements
           (
-            λ parts s. λ i. with_operand (record s { places = dropped_by place_of parts.0.2 s.places i; exprs = dropped_by value_of parts.0.2 s.exprs i }) (from_to parts.0.0 parts.0.1) (nodes.Array None (taken_by value_of parts.0.2 s.exprs i) parts.0.3),
+            λ parts s. λ i. with_operand (record s { expr_spans = dropped_by offset_of parts.0.2 s.expr_spans i; exprs = dropped_by value_of parts.0.2 s.exprs i }) (from_to parts.0.0 parts.0.1) (nodes.Array None (taken_by value_of parts.0.2 s.exprs i) parts.0.3),
             -- atom = TRUE
             (
               λ parts s. refl,
@@ -78,7 +78,7 @@ fit =
                                       λ parts s. refl,
                                       -- typed = elements
                                       (
-                                        λ parts s. λ i. with_operand (record s { marks = drop 1 s.marks; types = drop 1 s.types; places = dropped_by place_of parts.0.2 s.places i; exprs = dropped_by value_of parts.0.2 s.exprs i }) (from_to (out-TypeExpr (top_or no_type s.types)).span parts.0.1) (nodes.Array (Some (top_or no_type s.types)) (taken_by value_of parts.0.2 s.exprs i) parts.0.3),
+                                        λ parts s. λ i. with_operand (record s { token_spans = drop 1 s.token_spans; types = drop 1 s.types; expr_spans = dropped_by offset_of parts.0.2 s.expr_spans i; exprs = dropped_by value_of parts.0.2 s.exprs i }) (from_to (out-TypeExpr (top_or no_type s.types)).span parts.0.1) (nodes.Array (Some (top_or no_type s.types)) (taken_by value_of parts.0.2 s.exprs i) parts.0.3),
                                         -- name_tail = PATH any_name
                                         (
                                           λ parts s. refl,
@@ -129,10 +129,10 @@ fit =
                                                                         λ parts s. refl,
                                                                         -- call = LPAREN exprs RPAREN
                                                                         (
-                                                                          λ parts s. λ i. with_operand (record s { idents = drop 1 s.idents; places = dropped_by place_of parts.1.0 s.places i; exprs = dropped_by value_of parts.1.0 s.exprs i }) (from_to (top_or no_ident s.idents).span parts.1.1.0.span) (nodes.Call (top_or no_ident s.idents) [] (taken_by value_of parts.1.0 s.exprs i)),
+                                                                          λ parts s. λ i. with_operand (record s { idents = drop 1 s.idents; expr_spans = dropped_by offset_of parts.1.0 s.expr_spans i; exprs = dropped_by value_of parts.1.0 s.exprs i }) (from_to (top_or no_ident s.idents).span parts.1.1.0.span) (nodes.Call (top_or no_ident s.idents) [] (taken_by value_of parts.1.0 s.exprs i)),
                                                                           -- call_with_args = ARGS arg args_more GT LPAREN exprs RPAREN
                                                                           (
-                                                                            λ parts s. λ i. with_operand (record s { idents = drop 1 s.idents; args = dropped (parts.1.0 ∷ parts.1.1.0) s.args i; places = dropped_by place_of parts.1.1.1.1.1.0 s.places i; exprs = dropped_by value_of parts.1.1.1.1.1.0 s.exprs i }) (from_to (top_or no_ident s.idents).span parts.1.1.1.1.1.1.0.span) (nodes.Call (top_or no_ident s.idents) (taken (parts.1.0 ∷ parts.1.1.0) s.args i) (taken_by value_of parts.1.1.1.1.1.0 s.exprs i)),
+                                                                            λ parts s. λ i. with_operand (record s { idents = drop 1 s.idents; args = dropped (parts.1.0 ∷ parts.1.1.0) s.args i; expr_spans = dropped_by offset_of parts.1.1.1.1.1.0 s.expr_spans i; exprs = dropped_by value_of parts.1.1.1.1.1.0 s.exprs i }) (from_to (top_or no_ident s.idents).span parts.1.1.1.1.1.1.0.span) (nodes.Call (top_or no_ident s.idents) (taken (parts.1.0 ∷ parts.1.1.0) s.args i) (taken_by value_of parts.1.1.1.1.1.0 s.exprs i)),
                                                                             -- exprs = expr exprs_more
                                                                             (
                                                                               λ parts s. refl,
@@ -180,7 +180,7 @@ fit =
                                                                                                           λ parts s. refl,
                                                                                                           -- parenthesis_end = COMMA exprs RPAREN
                                                                                                           (
-                                                                                                            λ parts s. λ i. with_operand (record s { marks = drop 1 s.marks; places = drop 1 (dropped_by place_of parts.1.0 s.places i); exprs = drop 1 (dropped_by value_of parts.1.0 s.exprs i) }) (from_to (top_or nowhere s.marks) parts.1.1.0.span) (nodes.Tuple (top_or no_expr (dropped_by value_of parts.1.0 s.exprs i) ∷ taken_by value_of parts.1.0 s.exprs i)),
+                                                                                                            λ parts s. λ i. with_operand (record s { token_spans = drop 1 s.token_spans; expr_spans = drop 1 (dropped_by offset_of parts.1.0 s.expr_spans i); exprs = drop 1 (dropped_by value_of parts.1.0 s.exprs i) }) (from_to (top_or nowhere s.token_spans) parts.1.1.0.span) (nodes.Tuple (top_or no_expr (dropped_by value_of parts.1.0 s.exprs i) ∷ taken_by value_of parts.1.0 s.exprs i)),
                                                                                                             -- elements = LBRACKET expr elements_more RBRACKET
                                                                                                             (
                                                                                                               λ parts s. refl,

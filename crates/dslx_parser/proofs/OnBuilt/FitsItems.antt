@@ -74,7 +74,7 @@ fit =
                                             λ parts s. refl,
                                             -- function = FN any_name parameters LPAREN arguments_declared RPAREN result_type block
                                             (
-                                              λ parts s. λ i. record s { fields = dropped parts.1.1.1.1.0 s.fields i; parameters = dropped parts.1.1.0 s.parameters i; definitions = definitions.Function (record { span = from_to parts.0.span (out-Block parts.1.1.1.1.1.1.1.0).span; name = parts.1.0; parameters = taken parts.1.1.0 s.parameters i; arguments = taken parts.1.1.1.1.0 s.fields i; result = parts.1.1.1.1.1.1.0; body = parts.1.1.1.1.1.1.1.0 }) ∷ s.definitions },
+                                              λ parts s. λ i. record s { fields = dropped parts.1.1.1.1.0 s.fields i; parametrics = dropped parts.1.1.0 s.parametrics i; definitions = definitions.Function (record { span = from_to parts.0.span (out-Block parts.1.1.1.1.1.1.1.0).span; name = parts.1.0; parametrics = taken parts.1.1.0 s.parametrics i; arguments = taken parts.1.1.1.1.0 s.fields i; result = parts.1.1.1.1.1.1.0; body = parts.1.1.1.1.1.1.1.0 }) ∷ s.definitions },
                                               -- result_type = ARROW type
                                               (
                                                 λ parts s. refl,

@@ -17,7 +17,7 @@ unfolding table items_rules.rules procs_rules.rules types_rules.rules statements
 fit =
     -- expr = operand operands
     (
-      λ parts s. λ i. chained s (dropped_by span_of parts.1.0 (parts.0.span ∷ s.places) i) (dropped_by expr_of parts.1.0 (parts.0.expr ∷ s.exprs) i) (dropped_by operator_of parts.1.0 s.operators i) (linked parts.1.0 s.operators (parts.0.span ∷ s.places) (parts.0.expr ∷ s.exprs) i),
+      λ parts s. λ i. chained s (dropped_by span_of parts.1.0 (parts.0.span ∷ s.expr_spans) i) (dropped_by expr_of parts.1.0 (parts.0.expr ∷ s.exprs) i) (dropped_by operator_of parts.1.0 s.operators i) (linked parts.1.0 s.operators (parts.0.span ∷ s.expr_spans) (parts.0.expr ∷ s.exprs) i),
       -- operands = binary operand operands
       (
         λ parts s. refl,

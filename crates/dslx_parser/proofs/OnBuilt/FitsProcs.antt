@@ -1,7 +1,7 @@
 -- What the builder does at the rules of procs is what they make.
 use Rattle.std.proofs.Common.{refl, ◌∷◌, drop}
 use Rattle.dslx_tree.specs.declared.item.Definition.TheVariants as definitions
-use Rattle.dslx_tree.specs.declared.process.Making.TheVariants as makings
+use Rattle.dslx_tree.specs.declared.process.ConfigStatement.TheVariants as config_statements
 use Rattle.dslx_actions.specs.Empty.{no_ident}
 use Rattle.base.specs.Stacks.Tops.{top_or}
 use Rattle.dslx_parser.specs.Builder.Building.{rule_of}
@@ -17,7 +17,7 @@ unfolding table items_rules.rules procs_rules.rules
 fit =
     -- proc = PROC any_name parameters open_brace proc_members parts RBRACE
     (
-      λ parts s. λ i. record s { ends = dropped parts.1.1.1.1.0 s.ends i; parameters = dropped parts.1.1.0 s.parameters i; definitions = definitions.Proc (record { span = from_to parts.0.span parts.1.1.1.1.1.1.0.span; name = parts.1.0; parameters = taken parts.1.1.0 s.parameters i; members = taken parts.1.1.1.1.0 s.ends i; config = parts.1.1.1.1.1.0.0; init = parts.1.1.1.1.1.0.1; next = parts.1.1.1.1.1.0.2 }) ∷ s.definitions },
+      λ parts s. λ i. record s { ends = dropped parts.1.1.1.1.0 s.ends i; parametrics = dropped parts.1.1.0 s.parametrics i; definitions = definitions.Proc (record { span = from_to parts.0.span parts.1.1.1.1.1.1.0.span; name = parts.1.0; parametrics = taken parts.1.1.0 s.parametrics i; members = taken parts.1.1.1.1.0 s.ends i; config = parts.1.1.1.1.1.0.0; init = parts.1.1.1.1.1.0.1; next = parts.1.1.1.1.1.0.2 }) ∷ s.definitions },
       -- proc_members = proc_member proc_members
       (
         λ parts s. refl,
@@ -65,7 +65,7 @@ fit =
                                     λ parts s. refl,
                                     -- config = CONFIG LPAREN ends RPAREN LBRACE makings config_result RBRACE
                                     (
-                                      λ parts s. λ i. record s { ends = dropped parts.1.1.0 s.ends i; makings = dropped parts.1.1.1.1.1.0 s.makings i; idents = dropped parts.1.1.1.1.1.1.0 s.idents i; configs = record { span = from_to parts.0.span parts.1.1.1.1.1.1.1.0.span; ends = taken parts.1.1.0 s.ends i; makings = taken parts.1.1.1.1.1.0 s.makings i; result = taken parts.1.1.1.1.1.1.0 s.idents i } ∷ s.configs },
+                                      λ parts s. λ i. record s { ends = dropped parts.1.1.0 s.ends i; config_statements = dropped parts.1.1.1.1.1.0 s.config_statements i; idents = dropped parts.1.1.1.1.1.1.0 s.idents i; configs = record { span = from_to parts.0.span parts.1.1.1.1.1.1.1.0.span; ends = taken parts.1.1.0 s.ends i; config_statements = taken parts.1.1.1.1.1.0 s.config_statements i; result = taken parts.1.1.1.1.1.1.0 s.idents i } ∷ s.configs },
                                       -- ends = end_declared ends_more
                                       (
                                         λ parts s. refl,
@@ -107,7 +107,7 @@ fit =
                                                                 λ parts s. refl,
                                                                 -- spawn = SPAWN any_name spawn_args LPAREN names RPAREN SEMI
                                                                 (
-                                                                  λ parts s. λ i. record s { idents = drop 1 (dropped parts.1.1.1.1.0 (parts.1.0 ∷ s.idents) i); args = dropped parts.1.1.0 s.args i; makings = makings.Spawn (record { span = from_to parts.0.span parts.1.1.1.1.1.1.0.span; target = top_or no_ident (dropped parts.1.1.1.1.0 (parts.1.0 ∷ s.idents) i); arguments = taken parts.1.1.0 s.args i; ends = taken parts.1.1.1.1.0 (parts.1.0 ∷ s.idents) i }) ∷ s.makings },
+                                                                  λ parts s. λ i. record s { idents = drop 1 (dropped parts.1.1.1.1.0 (parts.1.0 ∷ s.idents) i); args = dropped parts.1.1.0 s.args i; config_statements = config_statements.Spawn (record { span = from_to parts.0.span parts.1.1.1.1.1.1.0.span; target = top_or no_ident (dropped parts.1.1.1.1.0 (parts.1.0 ∷ s.idents) i); arguments = taken parts.1.1.0 s.args i; ends = taken parts.1.1.1.1.0 (parts.1.0 ∷ s.idents) i }) ∷ s.config_statements },
                                                                   -- spawn_args = open_angle arg args_more GT
                                                                   (
                                                                     λ parts s. refl,

@@ -4,7 +4,7 @@ use Rattle.grammar.specs.declared.table.Symbol.TheVariants.{Terminal, Nontermina
 use Rattle.dslx_token.specs.declared.rules.generated.kind.TheConstants as kind
 use Rattle.dslx_token.specs.declared.rules.generated.nonterminal.TheConstants as nonterminal
 use Rattle.dslx_tree.specs.declared.pattern.Shape as shapes
-use Rattle.dslx_actions.specs.declared.parts.Parts.{Parts}
+use Rattle.dslx_actions.specs.declared.parts.SemanticStacks.{SemanticStacks}
 use Rattle.dslx_actions.specs.Empty.{no_ident}
 use Rattle.base.specs.Stacks.Tops.{top_or}
 use Rattle.dslx_parser.specs.Builder.Building.{reduced, rule_of}
@@ -56,7 +56,7 @@ fit =
                           λ parts s. refl,
                           -- let_name = name_size type_tail COLON signed let_type
                           (
-                            λ parts s. ap (λ (t : Parts). reduced (rule_of 125) (put_all (Terminal kind.COLON ∷ Nonterminal nonterminal.SIGNED ∷ Nonterminal nonterminal.LET_TYPE ∷ []) parts.1.1 t)) (sized parts.1.0 (parts.0 (top_or no_ident s.idents)) (record s { idents = drop 1 s.idents })),
+                            λ parts s. ap (λ (t : SemanticStacks). reduced (rule_of 125) (put_all (Terminal kind.COLON ∷ Nonterminal nonterminal.SIGNED ∷ Nonterminal nonterminal.LET_TYPE ∷ []) parts.1.1 t)) (sized parts.1.0 (parts.0 (top_or no_ident s.idents)) (record s { idents = drop 1 s.idents })),
                             -- let_name = COLON let_colon
                             (
                               λ parts s. refl,
@@ -92,7 +92,7 @@ fit =
                                                   λ parts s. refl,
                                                   -- plain_pattern = base_keyword type_tail COLON signed
                                                   (
-                                                    λ parts s. ap (λ (t : Parts). reduced (rule_of 137) (put_all (Terminal kind.COLON ∷ Nonterminal nonterminal.SIGNED ∷ []) parts.1.1 t)) (sized parts.1.0 parts.0 s),
+                                                    λ parts s. ap (λ (t : SemanticStacks). reduced (rule_of 137) (put_all (Terminal kind.COLON ∷ Nonterminal nonterminal.SIGNED ∷ []) parts.1.1 t)) (sized parts.1.0 parts.0 s),
                                                     -- plain_pattern = LPAREN patterns RPAREN
                                                     (
                                                       λ parts s. λ i. record s { patterns = pattern_at (from_to parts.0.span parts.1.1.0.span) (shapes.Tuple (taken parts.1.0 s.patterns i)) ∷ dropped parts.1.0 s.patterns i },
@@ -104,7 +104,7 @@ fit =
                                                           λ parts s. refl,
                                                           -- pattern_name = name_size type_tail COLON signed
                                                           (
-                                                            λ parts s. ap (λ (t : Parts). reduced (rule_of 141) (put_all (Terminal kind.COLON ∷ Nonterminal nonterminal.SIGNED ∷ []) parts.1.1 t)) (sized parts.1.0 (parts.0 (top_or no_ident s.idents)) (record s { idents = drop 1 s.idents })),
+                                                            λ parts s. ap (λ (t : SemanticStacks). reduced (rule_of 141) (put_all (Terminal kind.COLON ∷ Nonterminal nonterminal.SIGNED ∷ []) parts.1.1 t)) (sized parts.1.0 (parts.0 (top_or no_ident s.idents)) (record s { idents = drop 1 s.idents })),
                                                             -- pattern_name = (nothing)
                                                             (
                                                               λ parts s. refl,

@@ -4,7 +4,7 @@ use Rattle.grammar.specs.declared.table.Symbol.TheVariants.{Terminal, Nontermina
 use Rattle.dslx_token.specs.declared.rules.generated.kind.TheConstants as kind
 use Rattle.dslx_token.specs.declared.rules.generated.nonterminal.TheConstants as nonterminal
 use Rattle.dslx_tree.specs.declared.type_expr.TypeNode as types
-use Rattle.dslx_actions.specs.declared.parts.Parts.{Parts}
+use Rattle.dslx_actions.specs.declared.parts.SemanticStacks.{SemanticStacks}
 use Rattle.dslx_actions.specs.Empty.{no_ident}
 use Rattle.base.specs.Stacks.Tops.{top_or}
 use Rattle.dslx_parser.specs.Builder.Building.{reduced, rule_of}
@@ -31,7 +31,7 @@ fit =
           λ parts s. refl,
           -- arg = base_keyword type_tail COLON signed
           (
-            λ parts s. ap (λ (t : Parts). reduced (rule_of 90) (put_all (Terminal kind.COLON ∷ Nonterminal nonterminal.SIGNED ∷ []) parts.1.1 t)) (sized parts.1.0 parts.0 s),
+            λ parts s. ap (λ (t : SemanticStacks). reduced (rule_of 90) (put_all (Terminal kind.COLON ∷ Nonterminal nonterminal.SIGNED ∷ []) parts.1.1 t)) (sized parts.1.0 parts.0 s),
             -- arg = any_name arg_name
             (
               λ parts s. refl,
@@ -43,7 +43,7 @@ fit =
                   λ parts s. refl,
                   -- arg_name = name_size type_tail COLON signed
                   (
-                    λ parts s. ap (λ (t : Parts). reduced (rule_of 94) (put_all (Terminal kind.COLON ∷ Nonterminal nonterminal.SIGNED ∷ []) parts.1.1 t)) (sized parts.1.0 (parts.0 (top_or no_ident s.idents)) (record s { idents = drop 1 s.idents })),
+                    λ parts s. ap (λ (t : SemanticStacks). reduced (rule_of 94) (put_all (Terminal kind.COLON ∷ Nonterminal nonterminal.SIGNED ∷ []) parts.1.1 t)) (sized parts.1.0 (parts.0 (top_or no_ident s.idents)) (record s { idents = drop 1 s.idents })),
                     -- arg_name = (nothing)
                     (
                       λ parts s. refl,
@@ -55,7 +55,7 @@ fit =
                           λ parts s. refl,
                           -- type = base type_tail
                           (
-                            λ parts s. ap (λ (t : Parts). reduced (rule_of 98) (put_all ([]) parts.1.1 t)) (sized parts.1.0 parts.0 s),
+                            λ parts s. ap (λ (t : SemanticStacks). reduced (rule_of 98) (put_all ([]) parts.1.1 t)) (sized parts.1.0 parts.0 s),
                             -- base = base_keyword
                             (
                               λ parts s. refl,

@@ -6,31 +6,31 @@ use Rattle.grammar.specs.declared.table.Symbol.TheVariants.{Terminal, Nontermina
 use Rattle.grammar.specs.Syntax.{Rule}
 use Rattle.grammar.specs.Tree.{Forest, token, node, Grows, leaves_of}
 use Rattle.dslx_token.specs.Lexeme.{Lexeme}
-use Rattle.dslx_parser.specs.Syntax.SymbolParts.{MakingRule, PartsOf, made_from}
-use Rattle.dslx_parser.specs.Syntax.Trees.{Makes, empty, leaf, branch, making_rules, rule_of}
+use Rattle.dslx_parser.specs.Syntax.SymbolParts.{SemanticAction, PartsOf, made_from}
+use Rattle.dslx_parser.specs.Syntax.Trees.{Makes, empty, leaf, branch, semantic_actions, rule_of}
 
 abbrev pub kinds_of : List Lexeme → List ℕ
 kinds_of ls = map (λ l. l.kind) ls
 
 -- ---- the rule at a place
 
-rule_mapped : (rs : List MakingRule) (p : ℕ) (r : MakingRule) → slice_get rs p ≡ Some r → slice_get (map rule_of rs) p ≡ Some (rule_of r)
+rule_mapped : (rs : List SemanticAction) (p : ℕ) (r : SemanticAction) → slice_get rs p ≡ Some r → slice_get (map rule_of rs) p ≡ Some (rule_of r)
 rule_mapped [] p r found = absurd (none_there p found)
   where
-    none_there : (n : ℕ) → slice_get {X = MakingRule} [] n ≡ Some r → ⊥
+    none_there : (n : ℕ) → slice_get {X = SemanticAction} [] n ≡ Some r → ⊥
     none_there n e = cc
-rule_mapped (q ∷ rs) zero r found = ap (λ (x : MakingRule). Some (rule_of x)) (first_is q r found)
+rule_mapped (q ∷ rs) zero r found = ap (λ (x : SemanticAction). Some (rule_of x)) (first_is q r found)
   where
-    first_is : (a b : MakingRule) → Some a ≡ Some b → a ≡ b
+    first_is : (a b : SemanticAction) → Some a ≡ Some b → a ≡ b
     first_is a b e = cc
 rule_mapped (q ∷ rs) (suc p) r found = rule_mapped rs p r found
 
-pub record HasRule (rs : List MakingRule) (p : ℕ) (rule : Rule) : Type 0 where
-  pub of : MakingRule
+pub record HasRule (rs : List SemanticAction) (p : ℕ) (rule : Rule) : Type 0 where
+  pub of : SemanticAction
   pub found : slice_get rs p ≡ Some of
   pub same : rule_of of ≡ rule
 
-rule_found : (rs : List MakingRule) (p : ℕ) (rule : Rule) → slice_get (map rule_of rs) p ≡ Some rule → HasRule rs p rule
+rule_found : (rs : List SemanticAction) (p : ℕ) (rule : Rule) → slice_get (map rule_of rs) p ≡ Some rule → HasRule rs p rule
 rule_found [] p rule found = absurd (none_there p found)
   where
     none_there : (n : ℕ) → slice_get {X = Rule} [] n ≡ Some rule → ⊥
@@ -49,11 +49,11 @@ kinds_append : (a b : List Lexeme) → kinds_of (a ++ b) ≡ kinds_of a ++ kinds
 kinds_append [] b = refl
 kinds_append (l ∷ a) b = ap (λ (t : List ℕ). l.kind ∷ t) (kinds_append a b)
 
-pub made_grows : (rules : List Rule) → map rule_of making_rules ≡ rules → {symbols : List Symbol} {f : Forest} {ls : List Lexeme} {parts : PartsOf symbols} → Makes symbols f ls parts → Grows rules symbols f
+pub made_grows : (rules : List Rule) → map rule_of semantic_actions ≡ rules → {symbols : List Symbol} {f : Forest} {ls : List Lexeme} {parts : PartsOf symbols} → Makes symbols f ls parts → Grows rules symbols f
 made_grows rules same empty = Grows.empty
 made_grows rules same (leaf l makes) = Grows.leaf (made_grows rules same makes)
 made_grows rules same (branch {p = p} r inner found makes more) =
-    Grows.branch r.body (subst (λ (rs : List Rule). slice_get rs p ≡ Some (rule_of r)) same (rule_mapped making_rules p r found)) (made_grows rules same makes) (made_grows rules same more)
+    Grows.branch r.body (subst (λ (rs : List Rule). slice_get rs p ≡ Some (rule_of r)) same (rule_mapped semantic_actions p r found)) (made_grows rules same makes) (made_grows rules same more)
 
 pub made_kinds : {symbols : List Symbol} {f : Forest} {ls : List Lexeme} {parts : PartsOf symbols} → Makes symbols f ls parts → leaves_of f ≡ kinds_of ls
 made_kinds empty = refl
@@ -103,7 +103,7 @@ token_made : {s : List Symbol} {right : Forest} {ls : List Lexeme} (t : ℕ) (l 
 token_made {s} {right} {ls} t l same made =
     subst (λ (k : ℕ). IsMade (Terminal k ∷ s) (token k right) (l ∷ ls)) same ((l, made.0), leaf l made.1)
 
-node_made : {s : List Symbol} {p n : ℕ} {b : List Symbol} {below right : Forest} {own others ls : List Lexeme} → HasRule making_rules p (record { head = n; body = b }) → own ++ others ≡ ls → IsMade b below own → IsMade s right others → IsMade (Nonterminal n ∷ s) (node p below right) ls
+node_made : {s : List Symbol} {p n : ℕ} {b : List Symbol} {below right : Forest} {own others ls : List Lexeme} → HasRule semantic_actions p (record { head = n; body = b }) → own ++ others ≡ ls → IsMade b below own → IsMade s right others → IsMade (Nonterminal n ∷ s) (node p below right) ls
 node_made {s} {p} {n} {b} {below} {right} {own} {others} {ls} rule whole inner more =
     let inside : IsMade rule.of.body below own = subst (λ (x : Rule). IsMade x.body below own) (sym rule.same) inner in
     let here : IsMade (Nonterminal rule.of.head ∷ s) (node p below right) (own ++ others) =
@@ -111,7 +111,7 @@ node_made {s} {p} {n} {b} {below} {right} {own} {others} {ls} rule whole inner m
     subst (λ (tokens : List Lexeme). IsMade (Nonterminal n ∷ s) (node p below right) tokens) whole
     (subst (λ (x : Rule). IsMade (Nonterminal x.head ∷ s) (node p below right) (own ++ others)) rule.same here)
 
-pub grown_is_made : (rules : List Rule) → map rule_of making_rules ≡ rules → {symbols : List Symbol} {f : Forest} → Grows rules symbols f → (ls : List Lexeme) → kinds_of ls ≡ leaves_of f → IsMade symbols f ls
+pub grown_is_made : (rules : List Rule) → map rule_of semantic_actions ≡ rules → {symbols : List Symbol} {f : Forest} → Grows rules symbols f → (ls : List Lexeme) → kinds_of ls ≡ leaves_of f → IsMade symbols f ls
 grown_is_made rules same Grows.empty [] e = (tt, empty)
 grown_is_made rules same Grows.empty (l ∷ ls) e = absurd (some_tokens l.kind (kinds_of ls) e)
 grown_is_made rules same (Grows.leaf {t = t} {f = f} right) [] e = absurd (no_tokens t (leaves_of f) e)
@@ -119,7 +119,7 @@ grown_is_made rules same (Grows.leaf {t = t} {f = f} right) (l ∷ ls) e =
     token_made t l (head_is l.kind t (kinds_of ls) (leaves_of f) e) (grown_is_made rules same right ls (tail_is l.kind t (kinds_of ls) (leaves_of f) e))
 grown_is_made rules same (Grows.branch {p = p} {n = n} b {below = below} {right = right} rule inside more) ls e =
     let parts = split ls (leaves_of below) (leaves_of right) e in
-    node_made (rule_found making_rules p (record { head = n; body = b }) (subst (λ (rs : List Rule). slice_get rs p ≡ Some (record { head = n; body = b })) (sym same) rule))
+    node_made (rule_found semantic_actions p (record { head = n; body = b }) (subst (λ (rs : List Rule). slice_get rs p ≡ Some (record { head = n; body = b })) (sym same) rule))
     parts.whole
     (grown_is_made rules same inside parts.own parts.own_kinds)
     (grown_is_made rules same more parts.others parts.others_kinds)

@@ -8,12 +8,12 @@ use Rattle.grammar.specs.declared.table.Symbol.{Symbol}
 use Rattle.grammar.specs.Steps.{steps_of}
 use Rattle.grammar.specs.Tree.{Forest}
 use Rattle.dslx_token.specs.Lexeme.{Lexeme}
-use Rattle.dslx_actions.specs.declared.parts.Parts.{Parts}
+use Rattle.dslx_actions.specs.declared.parts.SemanticStacks.{SemanticStacks}
 use Rattle.dslx_actions.specs.Tokens.{shifted}
 use Rattle.dslx_parser.specs.Builder.Building.{built, reduced, rule_of}
 use Rattle.dslx_parser.specs.Syntax.Sorts.{sort_of}
-use Rattle.dslx_parser.specs.Syntax.SymbolParts.{MakingRule, PartsOf, made_from}
-use Rattle.dslx_parser.specs.Syntax.Trees.{Makes, empty, leaf, branch, making_rules}
+use Rattle.dslx_parser.specs.Syntax.SymbolParts.{SemanticAction, PartsOf, made_from}
+use Rattle.dslx_parser.specs.Syntax.Trees.{Makes, empty, leaf, branch, semantic_actions}
 use Rattle.dslx_parser.specs.Syntax.Atoms as atoms
 use Rattle.dslx_parser.specs.Syntax.Blocks as blocks
 use Rattle.dslx_parser.specs.Syntax.Items as items
@@ -32,8 +32,8 @@ use Rattle.dslx_parser.proofs.OnBuilt.Fitting.{AllFit, Fit, all_fit, behind, fit
 use Rattle.dslx_parser.proofs.OnBuilt.Putting.{put, put_all}
 
 -- every rule
-every_rule : AllFit rule_of making_rules
-unfolding making_rules
+every_rule : AllFit rule_of semantic_actions
+unfolding semantic_actions
 every_rule =
     let a = behind items.rules rule_of in
     let b = behind procs.rules a in
@@ -47,18 +47,18 @@ every_rule =
     (all_fit d operators.rules (atoms.rules ++ blocks.rules) fits_operators.fit
     (all_fit e atoms.rules blocks.rules fits_atoms.fit fits_blocks.fit)))))
 
-fits : (p : ℕ) (r : MakingRule) → slice_get making_rules p ≡ Some r → Fit (rule_of p) r
-fits p r found = fit_at rule_of making_rules p r every_rule found
+fits : (p : ℕ) (r : SemanticAction) → slice_get semantic_actions p ≡ Some r → Fit (rule_of p) r
+fits p r found = fit_at rule_of semantic_actions p r every_rule found
 
-built_reduce : (p : ℕ) (steps : List Step) (ls : List Lexeme) (s t : Parts) → reduced (rule_of p) s ≡ t → built (Reduce p ∷ steps) ls s ≡ built steps ls t
+built_reduce : (p : ℕ) (steps : List Step) (ls : List Lexeme) (s t : SemanticStacks) → reduced (rule_of p) s ≡ t → built (Reduce p ∷ steps) ls s ≡ built steps ls t
 unfolding built
-built_reduce p steps ls s t e = ap (λ (u : Parts). built steps ls u) e
+built_reduce p steps ls s t e = ap (λ (u : SemanticStacks). built steps ls u) e
 
-built_shift : (steps : List Step) (l : Lexeme) (ls : List Lexeme) (s : Parts) → built (Shift ∷ steps) (l ∷ ls) s ≡ built steps ls (shifted l s)
+built_shift : (steps : List Step) (l : Lexeme) (ls : List Lexeme) (s : SemanticStacks) → built (Shift ∷ steps) (l ∷ ls) s ≡ built steps ls (shifted l s)
 unfolding built
 built_shift steps l ls s = refl
 
-pub steps_put : {symbols : List Symbol} {f : Forest} {ls : List Lexeme} {parts : PartsOf symbols} → Makes symbols f ls parts → (rest : List Step) (others : List Lexeme) (s : Parts) → built (steps_of f ++ rest) (ls ++ others) s ≡ built rest others (put_all symbols parts s)
+pub steps_put : {symbols : List Symbol} {f : Forest} {ls : List Lexeme} {parts : PartsOf symbols} → Makes symbols f ls parts → (rest : List Step) (others : List Lexeme) (s : SemanticStacks) → built (steps_of f ++ rest) (ls ++ others) s ≡ built rest others (put_all symbols parts s)
 steps_put empty rest others s = refl
 steps_put (leaf {right = right} {ls = ls} l makes) rest others s =
     built_shift (steps_of right ++ rest) l (ls ++ others) s ∙ steps_put makes rest others (shifted l s)

@@ -8,13 +8,13 @@ use Rattle.dslx_tree.specs.declared.ident.Ident.{Ident}
 use Rattle.dslx_tree.specs.declared.type_expr.TypeExpr.{TypeExpr}
 use Rattle.dslx_tree.specs.declared.operators.chain.Link.{Link}
 use Rattle.dslx_tree.specs.declared.operators.chain.Operand.{Operand}
-use Rattle.dslx_token.specs.Roles.Roles.{role_of}
+use Rattle.dslx_token.specs.BracketClasses.BracketClasses.{bracket_class_of}
 use Rattle.dslx_parser.specs.Syntax.Nodes.{exprs_of, in_turn}
 use Rattle.dslx_parser.specs.Syntax.Sorts.{OfSort, Sort, sort_of}
-use Rattle.dslx_parser.specs.Syntax.SymbolParts.{MakingRule, PartsOf, made_from}
+use Rattle.dslx_parser.specs.Syntax.SymbolParts.{SemanticAction, PartsOf, made_from}
 use Rattle.dslx_parser.specs.Spans.Places.{Thing}
 use Rattle.dslx_parser.specs.Spans.Places as things
-use Rattle.dslx_parser.specs.Depths.Heights.{height_within}
+use Rattle.dslx_parser.specs.Depths.TreeDepths.{depth_within}
 use Rattle.dslx_parser.proofs.OnDepths.NoHigher.{AreNoHigher}
 use Rattle.dslx_parser.proofs.OnDepths.Effects.{after, begin_at, began_with, effect_of}
 use Rattle.dslx_parser.proofs.OnDepths.States.{Low, State, deep, step}
@@ -23,9 +23,9 @@ use Rattle.dslx_parser.proofs.OnDepths.States.{Low, State, deep, step}
 abbrev pub room : ℕ → ℕ
 room d = 129 - d
 
--- the height of what stands in brackets there; of types and of expressions without marks; and of all that stands there
+-- the depth of what stands in brackets there; of types and of expressions without marks; and of all that stands there
 abbrev pub inner : ℕ → ℕ
-inner d = height_within (room d)
+inner d = depth_within (room d)
 
 abbrev pub typed : ℕ → ℕ
 typed d = suc (inner d)
@@ -37,7 +37,7 @@ abbrev pub plain : ℕ → ℕ
 plain d = inner d + 4
 
 abbrev pub whole : ℕ → ℕ
-whole d = height_within (suc (room d))
+whole d = depth_within (suc (room d))
 
 -- The parts are no higher than this number and the marks that are read in them.
 pub record Rises (height : ℕ) (xs : List Thing) (from to : ℕ) : Type 0 where
@@ -69,8 +69,8 @@ Fits Sort.definition x d from to = AreNoHigher (suc (whole 0)) (things.definitio
 Fits Sort.ident x d from to = from ≤ to
 Fits Sort.idents xs d from to = AreNoHigher (whole d) (map things.ident xs)
 Fits Sort.annotation x d from to = Rises (plain d) (things.maybe_type x) from to
-Fits Sort.parameter x d from to = AreNoHigher (whole d) (things.parameter x ∷ [])
-Fits Sort.parameters xs d from to = AreNoHigher (whole d) (map things.parameter xs)
+Fits Sort.parametric x d from to = AreNoHigher (whole d) (things.parametric x ∷ [])
+Fits Sort.parametrics xs d from to = AreNoHigher (whole d) (map things.parametric xs)
 Fits Sort.given x d from to = AreNoHigher (whole d) (things.maybe_expr x)
 Fits Sort.field x d from to = AreNoHigher (whole d) (things.field x ∷ [])
 Fits Sort.fields xs d from to = AreNoHigher (whole d) (map things.field xs)
@@ -86,8 +86,8 @@ Fits Sort.proc_parts p d from to = AreNoHigher (whole d) (things.config p.0 ∷ 
 Fits Sort.init_and_next p d from to = AreNoHigher (whole d) (things.block p.0 ∷ things.next p.1 ∷ [])
 Fits Sort.config_and_next p d from to = AreNoHigher (whole d) (things.config p.0 ∷ []) × AreNoHigher (whole d) (things.next p.1 ∷ [])
 Fits Sort.config_and_init p d from to = AreNoHigher (whole d) (things.config p.0 ∷ things.block p.1 ∷ [])
-Fits Sort.making x d from to = AreNoHigher (suc (whole d)) (things.making x ∷ [])
-Fits Sort.makings xs d from to = AreNoHigher (suc (whole d)) (map things.making xs)
+Fits Sort.config_statement x d from to = AreNoHigher (suc (whole d)) (things.config_statement x ∷ [])
+Fits Sort.config_statements xs d from to = AreNoHigher (suc (whole d)) (map things.config_statement xs)
 Fits Sort.made m d from to = AreNoHigher (whole d) (things.type_expr m.0 ∷ (things.maybe_arg m.1 ++ things.spot m.2.span ∷ []))
 Fits Sort.depth x d from to = AreNoHigher (whole d) (things.maybe_arg x)
 Fits Sort.arg x d from to = Rises (argument d) (things.arg x ∷ []) from to
@@ -133,32 +133,32 @@ Fits Sort.range r d from to = Rises (suc (suc (inner d))) (things.expr r.first.e
 -- the part of a nonterminal that begins there, and ends with so many marks
 pub record Part (n : ℕ) (part : OfSort (sort_of n)) (s : State) (m : ℕ) : Type 0 where
   pub low : Low (after (effect_of n) s m)
-  pub fits : Fits (sort_of n) part (deep (after (effect_of n) s m)) (began_with (effect_of n) s) (after (effect_of n) s m).marks
+  pub fits : Fits (sort_of n) part (deep (after (effect_of n) s m)) (began_with (effect_of n) s) (after (effect_of n) s m).token_spans
 
 -- what is so of the parts of the body of a rule
 abbrev pub PartsFit : ℕ → (symbols : List Symbol) → PartsOf symbols → State → Type 0
 PartsFit p [] parts s = Unit {0}
-PartsFit p (Terminal kind ∷ symbols) parts s = PartsFit p symbols parts.1 (step s (role_of p kind))
+PartsFit p (Terminal kind ∷ symbols) parts s = PartsFit p symbols parts.1 (step s (bracket_class_of p kind))
 PartsFit p (Nonterminal n ∷ symbols) parts s = (m : ℕ) × Part n parts.0 s m × PartsFit p symbols parts.1 (after (effect_of n) s m)
 
 -- what is open behind them
 abbrev pub end_of : (p : ℕ) (symbols : List Symbol) (parts : PartsOf symbols) (s : State) → PartsFit p symbols parts s → State
 end_of p [] parts s k = s
-end_of p (Terminal kind ∷ symbols) parts s k = end_of p symbols parts.1 (step s (role_of p kind)) k
+end_of p (Terminal kind ∷ symbols) parts s k = end_of p symbols parts.1 (step s (bracket_class_of p kind)) k
 end_of p (Nonterminal n ∷ symbols) parts s k = end_of p symbols parts.1 (after (effect_of n) s k.0) k.2
 
 -- Where the parts of the body are so high, the part that the rule makes is; and the body does what its nonterminal does.
-abbrev pub KeepsFrom : ℕ → MakingRule → State → Type 0
+abbrev pub KeepsFrom : ℕ → SemanticAction → State → Type 0
 KeepsFrom p r s = (parts : PartsOf r.body) (k : PartsFit p r.body parts s) →
-    (end_of p r.body parts s k ≡ after (effect_of r.head) s (end_of p r.body parts s k).marks)
-    × Fits (sort_of r.head) (made_from r.body r.part parts) (deep (end_of p r.body parts s k)) (began_with (effect_of r.head) s) (end_of p r.body parts s k).marks
+    (end_of p r.body parts s k ≡ after (effect_of r.head) s (end_of p r.body parts s k).token_spans)
+    × Fits (sort_of r.head) (made_from r.body r.part parts) (deep (end_of p r.body parts s k)) (began_with (effect_of r.head) s) (end_of p r.body parts s k).token_spans
 
-abbrev pub Keeps : ℕ → MakingRule → Type 0
+abbrev pub Keeps : ℕ → SemanticAction → Type 0
 Keeps p r = (s : State) (o : ℕ) → KeepsFrom p r (begin_at (effect_of r.head) s o)
 
 -- each of these rules does, of which this is the number of the first
-pub data AllKeep : ℕ → List MakingRule → Type 0 where
+pub data AllKeep : ℕ → List SemanticAction → Type 0 where
   none : {p : ℕ} → AllKeep p []
-  ◌&◌ : {p : ℕ} {r : MakingRule} {rs : List MakingRule} → Keeps p r → AllKeep (suc p) rs → AllKeep p (r ∷ rs)
+  ◌&◌ : {p : ℕ} {r : SemanticAction} {rs : List SemanticAction} → Keeps p r → AllKeep (suc p) rs → AllKeep p (r ∷ rs)
 
 infixr 40 ◌&◌

@@ -14,25 +14,25 @@ pub keep : AllKeep ATOM__NUMBER rules
 unfolding rules
 keep =
     -- atom = NUMBER
-    (λ s _ parts k. (refl, number_up (deep s) (number_of parts.0) s.marks s.marks (same s.marks))) &
+    (λ s _ parts k. (refl, number_up (deep s) (number_of parts.0) s.token_spans s.token_spans (same s.token_spans))) &
     -- atom = base_keyword type_tail COLON typed
-    (λ s _ parts (_, base, (_, sizes, (_, operand, _))). (refl, operand.fits (in_turn parts.1.0 parts.0) s.marks (sizes.fits parts.0 s.marks base.fits))) &
+    (λ s _ parts (_, base, (_, sizes, (_, operand, _))). (refl, operand.fits (in_turn parts.1.0 parts.0) s.token_spans (sizes.fits parts.0 s.token_spans base.fits))) &
     -- atom = alias_name type_tail COLON typed
-    (λ s _ parts (_, base, (_, sizes, (_, operand, _))). (refl, operand.fits (in_turn parts.1.0 parts.0) s.marks (sizes.fits parts.0 s.marks base.fits))) &
+    (λ s _ parts (_, base, (_, sizes, (_, operand, _))). (refl, operand.fits (in_turn parts.1.0 parts.0) s.token_spans (sizes.fits parts.0 s.token_spans base.fits))) &
     -- atom = elements
     (λ s _ parts (_, elements, _). (refl, over_inner_expr (deep s) (things.of_array _ None (exprs_of parts.0.2) parts.0.3) elements.fits)) &
     -- atom = TRUE
-    (λ s _ parts k. (refl, bare_expr_up (deep s) s.marks (things.of_bool _ _))) &
+    (λ s _ parts k. (refl, bare_expr_up (deep s) s.token_spans (things.of_bool _ _))) &
     -- atom = FALSE
-    (λ s _ parts k. (refl, bare_expr_up (deep s) s.marks (things.of_bool _ _))) &
+    (λ s _ parts k. (refl, bare_expr_up (deep s) s.token_spans (things.of_bool _ _))) &
     -- atom = NAME name_tail
-    (λ s _ parts (_, operand, _). (refl, operand.fits (ident_of parts.0) s.marks (same s.marks))) &
+    (λ s _ parts (_, operand, _). (refl, operand.fits (ident_of parts.0) s.token_spans (same s.token_spans))) &
     -- atom = FUNNAME function_tail
-    (λ s _ parts (_, operand, _). (refl, operand.fits (ident_of parts.0) s.marks (same s.marks))) &
+    (λ s _ parts (_, operand, _). (refl, operand.fits (ident_of parts.0) s.token_spans (same s.token_spans))) &
     -- atom = STRUCTNAME struct_tail
-    (λ s _ parts (_, operand, _). (refl, operand.fits (ident_of parts.0) s.marks (same s.marks))) &
+    (λ s _ parts (_, operand, _). (refl, operand.fits (ident_of parts.0) s.token_spans (same s.token_spans))) &
     -- atom = BOTHNAME both_tail
-    (λ s _ parts (_, operand, _). (refl, operand.fits (ident_of parts.0) s.marks (same s.marks))) &
+    (λ s _ parts (_, operand, _). (refl, operand.fits (ident_of parts.0) s.token_spans (same s.token_spans))) &
     -- atom = LPAREN parenthesis
     (λ s _ parts (_, operand, _). (refl, operand.fits parts.0.span)) &
     -- atom = block
@@ -44,7 +44,7 @@ keep =
     -- atom = for
     (λ s _ parts (_, operand, _). (refl, operand.fits)) &
     -- alias_name = TYPENAME
-    (λ s _ parts k. (refl, named_type_up (deep s) (ident_of parts.0) (same s.marks))) &
+    (λ s _ parts k. (refl, named_type_up (deep s) (ident_of parts.0) (same s.token_spans))) &
     -- typed = signed
     (λ s _ parts (_, number, _). (refl, λ ty start t. typed_up (deep s) ty parts.0 t number.fits)) &
     -- typed = elements
@@ -84,7 +84,7 @@ keep =
     -- call = LPAREN exprs RPAREN
     (λ s _ parts (_, values, _). (refl, λ name start n. call_up (deep s) n (things.of_call _ _ _ _) (name_inner (deep s) name (inside s _ values.low values.fits)))) &
     -- call_with_args = ARGS arg args_more GT LPAREN exprs RPAREN
-    (λ s _ parts (_, arg, (m, others, (_, values, _))). (refl, λ name start n. over_args (deep s) name n (joined_up arg.fits others.fits) (inside (record { marks = m; outer = s.outer; heads = s.heads }) _ values.low values.fits) (things.of_call _ _ _ _))) &
+    (λ s _ parts (_, arg, (m, others, (_, values, _))). (refl, λ name start n. over_args (deep s) name n (joined_up arg.fits others.fits) (inside (record { token_spans = m; outer = s.outer; heads = s.heads }) _ values.low values.fits) (things.of_call _ _ _ _))) &
     -- exprs = expr exprs_more
     (λ s _ parts (_, value, (_, others, _)). (refl, both (all_of (deep s) value.low value.fits) others.fits)) &
     -- exprs = (nothing)
@@ -110,15 +110,15 @@ keep =
     -- field_more = (nothing)
     (λ s _ parts k. (refl, nothing)) &
     -- parenthesis = RPAREN
-    (λ s marks parts k. (refl, λ opening. bare_expr_up (deep s) marks (things.of_tuple _ _))) &
+    (λ s token_spans parts k. (refl, λ opening. bare_expr_up (deep s) token_spans (things.of_tuple _ _))) &
     -- parenthesis = expr parenthesis_end
-    (λ s marks parts (_, first, (_, operand, _)). (refl, λ opening. operand.fits opening parts.0 (expr_in (record { marks = marks; outer = s.outer; heads = s.heads }) _ first.low first.fits))) &
+    (λ s token_spans parts (_, first, (_, operand, _)). (refl, λ opening. operand.fits opening parts.0 (expr_in (record { token_spans = token_spans; outer = s.outer; heads = s.heads }) _ first.low first.fits))) &
     -- parenthesis_end = RPAREN
-    (λ s marks parts k. (refl, λ opening o up. inner_expr (deep s) marks up)) &
+    (λ s token_spans parts k. (refl, λ opening o up. inner_expr (deep s) token_spans up)) &
     -- parenthesis_end = COMMA exprs RPAREN
-    (λ s marks parts (_, others, _). (refl, λ opening o up. call_up (deep s) (same marks) (things.of_tuple _ _) (one_higher (both up (inside (record { marks = marks; outer = s.outer; heads = s.heads }) _ others.low others.fits))))) &
+    (λ s token_spans parts (_, others, _). (refl, λ opening o up. call_up (deep s) (same token_spans) (things.of_tuple _ _) (one_higher (both up (inside (record { token_spans = token_spans; outer = s.outer; heads = s.heads }) _ others.low others.fits))))) &
     -- elements = LBRACKET expr elements_more RBRACKET
-    (λ s _ parts (_, first, (_, others, _)). (refl, still s.marks (suc s.marks) (more s.marks) (both (expr_in_mark s _ first.low first.fits) (inside_mark s _ others.low others.fits)))) &
+    (λ s _ parts (_, first, (_, others, _)). (refl, still s.token_spans (suc s.token_spans) (more s.token_spans) (both (expr_in_mark s _ first.low first.fits) (inside_mark s _ others.low others.fits)))) &
     -- elements_more = COMMA elements_next
     (λ s _ parts (_, others, _). (refl, others.fits)) &
     -- elements_more = (nothing)

@@ -18,7 +18,7 @@ keep =
     -- else = if
     (λ s _ parts (_, operand, _). (refl, operand.fits)) &
     -- match = MATCH expr LBRACE arms RBRACE
-    (λ s _ parts (m, value, (_, arms, _)). (refl, over_inner_expr (deep s) (things.of_match _ _ _) (joined_up (raised (inner (deep s)) (head_inner s m value.low) value.fits) (still m m (same m) (inside (record { marks = m; outer = s.outer; heads = s.heads }) _ arms.low arms.fits))))) &
+    (λ s _ parts (m, value, (_, arms, _)). (refl, over_inner_expr (deep s) (things.of_match _ _ _) (joined_up (raised (inner (deep s)) (head_inner s m value.low) value.fits) (still m m (same m) (inside (record { token_spans = m; outer = s.outer; heads = s.heads }) _ arms.low arms.fits))))) &
     -- arms = arm arms_more
     (λ s _ parts (_, arm, (_, others, _)). (refl, both arm.fits others.fits)) &
     -- arms = (nothing)
@@ -34,13 +34,13 @@ keep =
     -- alternatives = (nothing)
     (λ s _ parts k. (refl, nothing)) &
     -- for = FOR LPAREN pattern COMMA pattern RPAREN for_type for_range
-    (λ s _ parts (_, index, (_, accumulator, (m, ty, (_, range, _)))). (refl, over_range (deep s) (things.of_for _ _ _ _ _ _ _ _) (joined_up (in_range (deep s) s.marks (both (inside_head s _ index.low index.fits) (inside_head s _ accumulator.low accumulator.fits))) (joined_up (to_range (deep s) (head_inner s m ty.low) ty.fits) range.fits)))) &
+    (λ s _ parts (_, index, (_, accumulator, (m, ty, (_, range, _)))). (refl, over_range (deep s) (things.of_for _ _ _ _ _ _ _ _) (joined_up (in_range (deep s) s.token_spans (both (inside_head s _ index.low index.fits) (inside_head s _ accumulator.low accumulator.fits))) (joined_up (to_range (deep s) (head_inner s m ty.low) ty.fits) range.fits)))) &
     -- for_type = COLON type
     (λ s _ parts (_, ty, _). (refl, type_plain (deep s) ty.fits)) &
     -- for_type = (nothing)
-    (λ s _ parts k. (refl, none_there (plain (deep s)) s.marks s.marks (same s.marks))) &
+    (λ s _ parts k. (refl, none_there (plain (deep s)) s.token_spans s.token_spans (same s.token_spans))) &
     -- for_range = IN expr REST expr headed_block LPAREN expr RPAREN
-    (λ s _ parts (mid, first, (to, end, (last, body, (_, start, _)))). (refl, joined_up (to_range (deep s) (head_inner (record { marks = s.marks; outer = s.outer; heads = s.heads }) mid first.low) first.fits) (joined_up (to_range (deep s) (head_inner (record { marks = s.marks; outer = s.outer; heads = s.heads }) to end.low) end.fits) (joined_up (block_rises (deep s) body.fits) (in_range (deep s) last (expr_in (record { marks = last; outer = s.outer; heads = s.heads }) _ start.low start.fits)))))) &
+    (λ s _ parts (mid, first, (to, end, (last, body, (_, start, _)))). (refl, joined_up (to_range (deep s) (head_inner (record { token_spans = s.token_spans; outer = s.outer; heads = s.heads }) mid first.low) first.fits) (joined_up (to_range (deep s) (head_inner (record { token_spans = s.token_spans; outer = s.outer; heads = s.heads }) to end.low) end.fits) (joined_up (block_rises (deep s) body.fits) (in_range (deep s) last (expr_in (record { token_spans = last; outer = s.outer; heads = s.heads }) _ start.low start.fits)))))) &
     -- headed_block = LBRACE statements RBRACE
-    (λ s _ parts (_, statements, _). (refl, (same s.marks, one_up (things.of_block _ _ _) (statements_in (record { marks = s.marks; outer = s.outer; heads = s.heads }) _ statements.low statements.fits)))) &
+    (λ s _ parts (_, statements, _). (refl, (same s.token_spans, one_up (things.of_block _ _ _) (statements_in (record { token_spans = s.token_spans; outer = s.outer; heads = s.heads }) _ statements.low statements.fits)))) &
     none

@@ -12,7 +12,7 @@ pub keep : AllKeep PROC rules
 unfolding rules
 keep =
     -- proc = PROC any_name parameters open_brace proc_members parts RBRACE
-    (λ s _ parts (_, name, (mid, parameters, (_, brace, (_, members, (_, all, _))))). (refl, one_up (things.of_proc _ _ things.abc) (both (a_name_whole 0 parts.1.0) (both parameters.fits (both (whole_in (record { marks = mid; outer = []; heads = 0 }) _ members.low members.fits) (whole_in (record { marks = mid; outer = []; heads = 0 }) _ all.low all.fits)))))) &
+    (λ s _ parts (_, name, (mid, parametrics, (_, brace, (_, members, (_, all, _))))). (refl, one_up (things.of_proc _ _ things.abc) (both (a_name_whole 0 parts.1.0) (both parametrics.fits (both (whole_in (record { token_spans = mid; outer = []; heads = 0 }) _ members.low members.fits) (whole_in (record { token_spans = mid; outer = []; heads = 0 }) _ all.low all.fits)))))) &
     -- proc_members = proc_member proc_members
     (λ s _ parts (_, member, (_, others, _)). (refl, both member.fits others.fits)) &
     -- proc_members = (nothing)
@@ -44,7 +44,7 @@ keep =
     -- parts_config_init = init config
     (λ s _ parts (_, init, (_, config, _)). (refl, both config.fits (block_whole (deep s) init.fits.1))) &
     -- config = CONFIG LPAREN ends RPAREN LBRACE makings config_result RBRACE
-    (λ s _ parts (_, ends, (_, makings, (_, result, _))). (refl, over_config (deep s) (things.of_config _) (both (one_higher (inside s _ ends.low ends.fits)) (both (statements_in s _ makings.low makings.fits) (one_higher (inside s _ result.low result.fits)))))) &
+    (λ s _ parts (_, ends, (_, config_statements, (_, result, _))). (refl, over_config (deep s) (things.of_config _) (both (one_higher (inside s _ ends.low ends.fits)) (both (statements_in s _ config_statements.low config_statements.fits) (one_higher (inside s _ result.low result.fits)))))) &
     -- ends = end_declared ends_more
     (λ s _ parts (_, end, (_, others, _)). (refl, both end.fits others.fits)) &
     -- ends = (nothing)
@@ -56,9 +56,9 @@ keep =
     -- end_declared = any_name COLON end
     (λ s _ parts (_, name, (_, word, _)). (refl, made_of (things.of_end _) (both (a_name_whole (deep s) parts.0) word.fits))) &
     -- makings = channel makings
-    (λ s _ parts (_, making, (_, others, _)). (refl, both making.fits others.fits)) &
+    (λ s _ parts (_, config_statement, (_, others, _)). (refl, both config_statement.fits others.fits)) &
     -- makings = spawn makings
-    (λ s _ parts (_, making, (_, others, _)). (refl, both making.fits others.fits)) &
+    (λ s _ parts (_, config_statement, (_, others, _)). (refl, both config_statement.fits others.fits)) &
     -- makings = (nothing)
     (λ s _ parts k. (refl, nothing)) &
     -- channel = LET LPAREN any_name COMMA any_name RPAREN ASSIGN channel_made
@@ -66,17 +66,17 @@ keep =
     -- channel_made = CHAN LT type channel_depth GT LPAREN STRING channel_end
     (λ s _ parts (_, ty, (_, depth, (_, end, _))). (refl, both (all_type (deep s) ty.low ty.fits) (both depth.fits (a_spot_whole (deep s) _)))) &
     -- channel_end = RPAREN SEMI
-    (λ s marks parts k. (refl, tt)) &
+    (λ s token_spans parts k. (refl, tt)) &
     -- channel_depth = COMMA arg
     (λ s _ parts (_, arg, _). (refl, all_args (deep s) arg.low arg.fits)) &
     -- channel_depth = (nothing)
     (λ s _ parts k. (refl, nothing)) &
     -- spawn = SPAWN any_name spawn_args LPAREN names RPAREN SEMI
-    (λ s _ parts (_, name, (mid, arguments, (_, names, _))). (refl, one_up (things.of_spawn _) (both (a_name_whole (deep s) parts.1.0) (both (all_args (deep s) arguments.low arguments.fits) (whole_in (record { marks = mid; outer = s.outer; heads = s.heads }) _ names.low names.fits))))) &
+    (λ s _ parts (_, name, (mid, arguments, (_, names, _))). (refl, one_up (things.of_spawn _) (both (a_name_whole (deep s) parts.1.0) (both (all_args (deep s) arguments.low arguments.fits) (whole_in (record { token_spans = mid; outer = s.outer; heads = s.heads }) _ names.low names.fits))))) &
     -- spawn_args = open_angle arg args_more GT
     (λ s _ parts (_, angle, (_, arg, (_, others, _))). (refl, joined_up arg.fits others.fits)) &
     -- spawn_args = (nothing)
-    (λ s _ parts k. (refl, none_there (argument (deep s)) s.marks s.marks (same s.marks))) &
+    (λ s _ parts k. (refl, none_there (argument (deep s)) s.token_spans s.token_spans (same s.token_spans))) &
     -- config_result = LPAREN names RPAREN
     (λ s _ parts (_, names, _). (refl, whole_in s _ names.low names.fits)) &
     -- config_result = (nothing)

@@ -13,7 +13,7 @@ pub keep : AllKeep BLOCK rules
 unfolding rules
 keep =
     -- block = LBRACE statements RBRACE
-    (λ s _ parts (_, statements, _). (refl, (same s.marks, one_up (things.of_block _ _ _) (statements_in s _ statements.low statements.fits)))) &
+    (λ s _ parts (_, statements, _). (refl, (same s.token_spans, one_up (things.of_block _ _ _) (statements_in s _ statements.low statements.fits)))) &
     -- statements = let statements
     (λ s _ parts (_, statement, (_, others, _)). (refl, both statement.fits others.fits)) &
     -- statements = expr statement_end
@@ -31,7 +31,7 @@ keep =
     -- let_pattern = plain_pattern let_type
     (λ s _ parts (_, pattern, (_, ty, _)). (refl, both pattern.fits (all_of (deep s) ty.low ty.fits))) &
     -- let_pattern = any_name let_name
-    (λ s _ parts (_, name, (_, bound, _)). (refl, bound.fits parts.0 s.marks name.fits)) &
+    (λ s _ parts (_, name, (_, bound, _)). (refl, bound.fits parts.0 s.token_spans name.fits)) &
     -- let_name = PATH any_name let_type
     (λ s _ parts (_, member, (_, ty, _)). (refl, λ owner start n. both (member_pattern_up (deep s) owner parts.1.0) (all_of (deep s) ty.low ty.fits))) &
     -- let_name = name_size type_tail COLON signed let_type
@@ -47,11 +47,11 @@ keep =
     -- let_type = COLON type
     (λ s _ parts (_, ty, _). (refl, type_plain (deep s) ty.fits)) &
     -- let_type = (nothing)
-    (λ s _ parts k. (refl, none_there (plain (deep s)) s.marks s.marks (same s.marks))) &
+    (λ s _ parts k. (refl, none_there (plain (deep s)) s.token_spans s.token_spans (same s.token_spans))) &
     -- pattern = plain_pattern
     (λ s _ parts (_, pattern, _). (refl, pattern.fits)) &
     -- pattern = any_name pattern_name
-    (λ s _ parts (_, name, (_, pattern, _)). (refl, pattern.fits parts.0 s.marks name.fits)) &
+    (λ s _ parts (_, name, (_, pattern, _)). (refl, pattern.fits parts.0 s.token_spans name.fits)) &
     -- plain_pattern = WILD
     (λ s _ parts k. (refl, bare_whole (deep s) (things.of_wild _))) &
     -- plain_pattern = TRUE
@@ -59,7 +59,7 @@ keep =
     -- plain_pattern = FALSE
     (λ s _ parts k. (refl, bare_whole (deep s) (things.of_bool_pattern _ _))) &
     -- plain_pattern = base_keyword type_tail COLON signed
-    (λ s _ parts (_, base, (_, sizes, (_, number, _))). (refl, number_pattern_up (deep s) (in_turn parts.1.0 parts.0) parts.1.1.1.0 sizes.low (sizes.fits parts.0 s.marks base.fits))) &
+    (λ s _ parts (_, base, (_, sizes, (_, number, _))). (refl, number_pattern_up (deep s) (in_turn parts.1.0 parts.0) parts.1.1.1.0 sizes.low (sizes.fits parts.0 s.token_spans base.fits))) &
     -- plain_pattern = LPAREN patterns RPAREN
     (λ s _ parts (_, patterns, _). (refl, over_inner (deep s) (things.of_tuple_pattern _ _) (inside s _ patterns.low patterns.fits))) &
     -- pattern_name = PATH any_name

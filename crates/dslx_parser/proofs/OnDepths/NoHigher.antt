@@ -28,7 +28,7 @@ use Rattle.dslx_tree.proofs.Lemmas.Folds.Folds as folds
 use Rattle.dslx_tree.proofs.Lemmas.Folds.Folds.{Steps, fold_arg-roll, fold_arm-roll, fold_bind-roll, fold_block-roll, fold_expr-roll, fold_field-roll, fold_loop-roll, fold_node, fold_number, fold_number-roll, fold_pattern-roll, fold_shape, fold_type_expr-roll, fold_type_node, fold_loop, fold_stmt}
 use Rattle.dslx_parser.specs.Spans.Places.{Thing, Inside, IsMadeOf, InSomeOrder}
 use Rattle.dslx_parser.specs.Spans.Places as things
-use Rattle.dslx_parser.specs.Depths.Heights.{arg_height, arg_level, arm_height, arm_level, block_height, block_level, config_height, definition_height, end_height, expr_height, expr_level, field_height, field_value_height, field_value_level, for_level, highest, item_height, let_level, making_height, member_height, next_height, node_level, number_level, parameter_height, pattern_height, pattern_level, shape_level, stmt_height, stmt_level, type_expr_height, type_expr_level, type_node_level, where_written}
+use Rattle.dslx_parser.specs.Depths.TreeDepths.{arg_depth, arg_level, arm_depth, arm_level, block_depth, block_level, config_depth, definition_depth, end_depth, expr_depth, expr_level, field_depth, field_value_depth, field_value_level, for_level, highest, item_depth, let_level, config_statement_depth, member_depth, next_depth, node_level, number_level, parametric_depth, pattern_depth, pattern_level, shape_level, stmt_depth, stmt_level, type_expr_depth, type_expr_level, type_node_level, where_written}
 
 -- a name, by itself or as an expression, a type or a pattern
 pub data IsAName : Thing → Type 0 where
@@ -45,7 +45,7 @@ pub data AreNoHigher : ℕ → List Thing → Type 0 where
   called : {x : Thing} {more : List Thing} {n : ℕ} → IsAName x → AreNoHigher (suc n) more → AreNoHigher (suc n) (x ∷ more)
   spread : {x : Thing} {inner more : List Thing} {n : ℕ} → IsMadeOf x inner → AreNoHigher n (inner ++ more) → AreNoHigher n (x ∷ more)
 
--- ---- the heights of parts
+-- ---- the depths of parts
 
 abbrev numbers : Carriers
 numbers = record { stmt = ℕ; node = ℕ; shape = ℕ; type_node = ℕ; block = ℕ; bind = ℕ; arg = ℕ; arm = ℕ; expr = ℕ; field = ℕ; loop = ℕ; number = ℕ; pattern = ℕ; type_expr = ℕ }
@@ -55,24 +55,24 @@ levels = record { stmt = stmt_level; node = node_level; shape = shape_level; typ
 
 abbrev height : Thing → ℕ
 height (things.spot span) = 0
-height (things.expr e) = expr_height e
-height (things.type_expr ty) = type_expr_height ty
-height (things.pattern p) = pattern_height p
-height (things.block b) = block_height b
-height (things.statement s) = stmt_height s
-height (things.arg a) = arg_height a
-height (things.arm a) = arm_height a
-height (things.field_value f) = field_value_height f
+height (things.expr e) = expr_depth e
+height (things.type_expr ty) = type_expr_depth ty
+height (things.pattern p) = pattern_depth p
+height (things.block b) = block_depth b
+height (things.statement s) = stmt_depth s
+height (things.arg a) = arg_depth a
+height (things.arm a) = arm_depth a
+height (things.field_value f) = field_value_depth f
 height (things.ident name) = 0
-height (things.item x) = item_height x
-height (things.definition d) = definition_height d
-height (things.parameter p) = parameter_height p
-height (things.field f) = field_height f
-height (things.member m) = member_height m
-height (things.end e) = end_height e
-height (things.config c) = config_height c
-height (things.making m) = making_height m
-height (things.next n) = next_height n
+height (things.item x) = item_depth x
+height (things.definition d) = definition_depth d
+height (things.parametric p) = parametric_depth p
+height (things.field f) = field_depth f
+height (things.member m) = member_depth m
+height (things.end e) = end_depth e
+height (things.config c) = config_depth c
+height (things.config_statement m) = config_statement_depth m
+height (things.next n) = next_depth n
 
 abbrev Below : ℕ → List Thing → Type 0
 Below n [] = Unit {0}
@@ -82,7 +82,7 @@ split : (n : ℕ) (xs ys : List Thing) → Below n (xs ++ ys) → Below n xs × 
 split n [] ys below = (tt, below)
 split n (x ∷ xs) ys below = let rest = split n xs ys below.1 in ((below.0, rest.0), rest.1)
 
--- ---- the greatest of the heights
+-- ---- the greatest of the depths
 
 none_by : (n : ℕ) → 0 ≤ n
 none_by n = omega arith
@@ -98,15 +98,15 @@ list_by : {T : Type 0} (n : ℕ) (kind : T → Thing) (ts : List T) → Below n 
 list_by n kind [] below = none_by n
 list_by n kind (t ∷ ts) below = max-le below.0 (list_by n kind ts below.1)
 
-maybe_expr_by : (n : ℕ) (o : Option Expr) → Below n (things.maybe_expr o) → highest (where_written (option_map expr_height o)) ≤ n
+maybe_expr_by : (n : ℕ) (o : Option Expr) → Below n (things.maybe_expr o) → highest (where_written (option_map expr_depth o)) ≤ n
 maybe_expr_by n None below = none_by n
 maybe_expr_by n (Some e) below = max-le below.0 (none_by n)
 
-maybe_type_by : (n : ℕ) (o : Option TypeExpr) → Below n (things.maybe_type o) → highest (where_written (option_map type_expr_height o)) ≤ n
+maybe_type_by : (n : ℕ) (o : Option TypeExpr) → Below n (things.maybe_type o) → highest (where_written (option_map type_expr_depth o)) ≤ n
 maybe_type_by n None below = none_by n
 maybe_type_by n (Some ty) below = max-le below.0 (none_by n)
 
-maybe_arg_by : (n : ℕ) (o : Option Arg) → Below n (things.maybe_arg o) → highest (where_written (option_map arg_height o)) ≤ n
+maybe_arg_by : (n : ℕ) (o : Option Arg) → Below n (things.maybe_arg o) → highest (where_written (option_map arg_depth o)) ≤ n
 maybe_arg_by n None below = none_by n
 maybe_arg_by n (Some a) below = max-le below.0 (none_by n)
 
@@ -118,40 +118,40 @@ next_up a b n e le = omega (arith, e, le)
 
 -- ---- nodes
 
-expr_up : (span : Span) (node : Node) (k n : ℕ) → fold_node numbers levels node ≡ k → k ≤ n → expr_height (roll-Expr (record { span = span; node = node })) ≤ suc n
+expr_up : (span : Span) (node : Node) (k n : ℕ) → fold_node numbers levels node ≡ k → k ≤ n → expr_depth (roll-Expr (record { span = span; node = node })) ≤ suc n
 expr_up span node k n e le =
-    let level : expr_height (roll-Expr (record { span = span; node = node })) ≡ suc (fold_node numbers levels node) = fold_expr-roll numbers levels (record { span = span; node = node }) in
+    let level : expr_depth (roll-Expr (record { span = span; node = node })) ≡ suc (fold_node numbers levels node) = fold_expr-roll numbers levels (record { span = span; node = node }) in
     omega (arith, level, e, le)
 
-type_up : (span : Span) (node : TypeNode) (k n : ℕ) → fold_type_node numbers levels node ≡ k → k ≤ n → type_expr_height (roll-TypeExpr (record { span = span; node = node })) ≤ suc n
+type_up : (span : Span) (node : TypeNode) (k n : ℕ) → fold_type_node numbers levels node ≡ k → k ≤ n → type_expr_depth (roll-TypeExpr (record { span = span; node = node })) ≤ suc n
 type_up span node k n e le =
-    let level : type_expr_height (roll-TypeExpr (record { span = span; node = node })) ≡ suc (fold_type_node numbers levels node) = fold_type_expr-roll numbers levels (record { span = span; node = node }) in
+    let level : type_expr_depth (roll-TypeExpr (record { span = span; node = node })) ≡ suc (fold_type_node numbers levels node) = fold_type_expr-roll numbers levels (record { span = span; node = node }) in
     omega (arith, level, e, le)
 
-pattern_up : (span : Span) (shape : Shape) (k n : ℕ) → fold_shape numbers levels shape ≡ k → k ≤ n → pattern_height (roll-Pattern (record { span = span; shape = shape })) ≤ suc n
+pattern_up : (span : Span) (shape : Shape) (k n : ℕ) → fold_shape numbers levels shape ≡ k → k ≤ n → pattern_depth (roll-Pattern (record { span = span; shape = shape })) ≤ suc n
 pattern_up span shape k n e le =
-    let level : pattern_height (roll-Pattern (record { span = span; shape = shape })) ≡ suc (fold_shape numbers levels shape) = fold_pattern-roll numbers levels (record { span = span; shape = shape }) in
+    let level : pattern_depth (roll-Pattern (record { span = span; shape = shape })) ≡ suc (fold_shape numbers levels shape) = fold_pattern-roll numbers levels (record { span = span; shape = shape }) in
     omega (arith, level, e, le)
 
-number_is : (ty : Option TypeExpr) (is_negative : Bool) (value : ℕ) → fold_number numbers levels (roll-Number (record { ty = ty; is_negative = is_negative; value = value })) ≡ highest (where_written (option_map type_expr_height ty))
+number_is : (ty : Option TypeExpr) (is_negative : Bool) (value : ℕ) → fold_number numbers levels (roll-Number (record { ty = ty; is_negative = is_negative; value = value })) ≡ highest (where_written (option_map type_expr_depth ty))
 number_is None is_negative value = fold_number-roll numbers levels (record { ty = None; is_negative = is_negative; value = value })
 number_is (Some ty) is_negative value = fold_number-roll numbers levels (record { ty = Some ty; is_negative = is_negative; value = value })
 
 loop_is : (index accumulator : Pattern) (ty : Option TypeExpr) (from to : Expr) (body : Block) (start : Expr)
     → fold_loop numbers levels (roll-For (record { index = index; accumulator = accumulator; ty = ty; from = from; to = to; body = body; start = start }))
-    ≡ highest (pattern_height index ∷ pattern_height accumulator ∷ (where_written (option_map type_expr_height ty) ++ expr_height from ∷ expr_height to ∷ block_height body ∷ expr_height start ∷ []))
+    ≡ highest (pattern_depth index ∷ pattern_depth accumulator ∷ (where_written (option_map type_expr_depth ty) ++ expr_depth from ∷ expr_depth to ∷ block_depth body ∷ expr_depth start ∷ []))
 loop_is index accumulator None from to body start = fold_loop-roll numbers levels (record { index = index; accumulator = accumulator; ty = None; from = from; to = to; body = body; start = start })
 loop_is index accumulator (Some ty) from to body start = fold_loop-roll numbers levels (record { index = index; accumulator = accumulator; ty = Some ty; from = from; to = to; body = body; start = start })
 
-block_is : (span : Span) (statements : List Stmt) (value : Option Expr) → block_height (roll-Block (record { span = span; statements = statements; value = value })) ≡ suc (highest (map stmt_height statements ++ where_written (option_map expr_height value)))
+block_is : (span : Span) (statements : List Stmt) (value : Option Expr) → block_depth (roll-Block (record { span = span; statements = statements; value = value })) ≡ suc (highest (map stmt_depth statements ++ where_written (option_map expr_depth value)))
 block_is span statements None = fold_block-roll numbers levels (record { span = span; statements = statements; value = None })
 block_is span statements (Some e) = fold_block-roll numbers levels (record { span = span; statements = statements; value = Some e })
 
-let_is : (span : Span) (pattern : Pattern) (ty : Option TypeExpr) (value : Expr) → folds.fold_bind numbers levels (roll-Let (record { span = span; pattern = pattern; ty = ty; value = value })) ≡ suc (highest (pattern_height pattern ∷ (where_written (option_map type_expr_height ty) ++ expr_height value ∷ [])))
+let_is : (span : Span) (pattern : Pattern) (ty : Option TypeExpr) (value : Expr) → folds.fold_bind numbers levels (roll-Let (record { span = span; pattern = pattern; ty = ty; value = value })) ≡ suc (highest (pattern_depth pattern ∷ (where_written (option_map type_expr_depth ty) ++ expr_depth value ∷ [])))
 let_is span pattern None value = fold_bind-roll numbers levels (record { span = span; pattern = pattern; ty = None; value = value })
 let_is span pattern (Some ty) value = fold_bind-roll numbers levels (record { span = span; pattern = pattern; ty = Some ty; value = value })
 
-field_is : (name : Ident) (value : Option Expr) → field_value_height (roll-FieldValue (record { name = name; value = value })) ≡ highest (where_written (option_map expr_height value))
+field_is : (name : Ident) (value : Option Expr) → field_value_depth (roll-FieldValue (record { name = name; value = value })) ≡ highest (where_written (option_map expr_depth value))
 field_is name None = fold_field-roll numbers levels (record { name = name; value = None })
 field_is name (Some e) = fold_field-roll numbers levels (record { name = name; value = Some e })
 
@@ -176,25 +176,25 @@ inside_up (things.of_bool span value) n below = expr_up span _ _ n (folds.fold_n
 inside_up (things.of_array span ty elements is_repeated) n below =
     let parts = split n (things.maybe_type ty) (map things.expr elements) below in
     expr_up span _ _ n (folds.fold_node-Array numbers levels ty elements is_repeated)
-    (append_by n (where_written (option_map type_expr_height ty)) (map expr_height elements) (maybe_type_by n ty parts.0) (list_by n things.expr elements parts.1))
+    (append_by n (where_written (option_map type_expr_depth ty)) (map expr_depth elements) (maybe_type_by n ty parts.0) (list_by n things.expr elements parts.1))
 inside_up (things.of_name span name there) n below = expr_up span _ _ n (folds.fold_node-Name numbers levels name) (none_by n)
 inside_up (things.of_member span owner name) n below = expr_up span _ _ n (folds.fold_node-Member numbers levels owner name) (none_by n)
 inside_up (things.of_call span name args values) n below =
     let parts = split n (map things.arg args) (map things.expr values) below.1 in
     expr_up span _ _ n (folds.fold_node-Call numbers levels name args values)
-    (append_by n (map arg_height args) (map expr_height values) (list_by n things.arg args parts.0) (list_by n things.expr values parts.1))
+    (append_by n (map arg_depth args) (map expr_depth values) (list_by n things.arg args parts.0) (list_by n things.expr values parts.1))
 inside_up (things.of_tuple span values) n below = expr_up span _ _ n (folds.fold_node-Tuple numbers levels values) (list_by n things.expr values below)
 inside_up (things.of_struct span name fields others) n below =
     let parts = split n (map things.field_value fields) (things.maybe_expr others) below.1 in
     expr_up span _ _ n (folds.fold_node-Struct numbers levels name fields others)
-    (append_by n (map field_value_height fields) (where_written (option_map expr_height others)) (list_by n things.field_value fields parts.0) (maybe_expr_by n others parts.1))
+    (append_by n (map field_value_depth fields) (where_written (option_map expr_depth others)) (list_by n things.field_value fields parts.0) (maybe_expr_by n others parts.1))
 inside_up (things.of_block_value span value) n below = expr_up span _ _ n (folds.fold_node-Block numbers levels value) below.0
 inside_up (things.of_if span condition body other) n (a, (b, (c, _))) = expr_up span _ _ n (folds.fold_node-If numbers levels condition body other) (max-le a (max-le b (one_by n c)))
 inside_up (things.of_match span value arms) n below = expr_up span _ _ n (folds.fold_node-Match numbers levels value arms) (max-le below.0 (list_by n things.arm arms below.1))
 inside_up (things.of_for span index accumulator ty from to body start) n (a, (b, below)) =
     let parts = split n (things.maybe_type ty) (things.expr from ∷ things.expr to ∷ things.block body ∷ things.expr start ∷ []) below in
     expr_up span _ _ n (folds.fold_node-For numbers levels _ ∙ loop_is index accumulator ty from to body start)
-    (max-le a (max-le b (append_by n (where_written (option_map type_expr_height ty)) (expr_height from ∷ expr_height to ∷ block_height body ∷ expr_height start ∷ []) (maybe_type_by n ty parts.0)
+    (max-le a (max-le b (append_by n (where_written (option_map type_expr_depth ty)) (expr_depth from ∷ expr_depth to ∷ block_depth body ∷ expr_depth start ∷ []) (maybe_type_by n ty parts.0)
     (max-le parts.1.0 (max-le parts.1.1.0 (max-le parts.1.1.1.0 (one_by n parts.1.1.1.1.0)))))))
 inside_up (things.of_index span value index) n (a, (b, _)) = expr_up span _ _ n (folds.fold_node-Index numbers levels value index) (max-le a (one_by n b))
 inside_up (things.of_slice span value from to) n (a, (b, (c, _))) = expr_up span _ _ n (folds.fold_node-Slice numbers levels value from to) (max-le a (max-le b (one_by n c)))
@@ -204,7 +204,7 @@ inside_up (things.of_element span value place number) n below = expr_up span _ _
 inside_up (things.of_prefix span sign value) n below = expr_up span _ _ n (folds.fold_node-Prefix numbers levels sign value) below.0
 inside_up (things.of_cast span value ty) n (a, (b, _)) = expr_up span _ _ n (folds.fold_node-Cast numbers levels value ty) (max-le a (one_by n b))
 inside_up (things.of_binary span operator left right) n (a, (b, _)) = expr_up span _ _ n (folds.fold_node-Binary numbers levels operator left right) (max-le a (one_by n b))
-inside_up (things.of_arg span value) n below = next_up _ (suc (expr_height value)) (suc n) (fold_arg-roll numbers levels (record { span = span; value = value })) (one_more_by (expr_height value) n below.0)
+inside_up (things.of_arg span value) n below = next_up _ (suc (expr_depth value)) (suc n) (fold_arg-roll numbers levels (record { span = span; value = value })) (one_more_by (expr_depth value) n below.0)
 inside_up (things.of_bits span is_signed width) n below = type_up span _ _ n (folds.fold_type_node-Bits numbers levels is_signed width) (none_by n)
 inside_up (things.of_wide span is_signed width) n below = type_up span _ _ n (folds.fold_type_node-Wide numbers levels is_signed width) below.0
 inside_up (things.of_bool_type span) n below = type_up span _ _ n (folds.fold_type_node-Bool numbers levels) (none_by n)
@@ -220,35 +220,35 @@ inside_up (things.of_tuple_pattern span parts) n below = pattern_up span _ _ n (
 inside_up (things.of_block span statements value) n below =
     let parts = split n (map things.statement statements) (things.maybe_expr value) below in
     next_up _ _ (suc n) (block_is span statements value)
-    (one_more_by _ n (append_by n (map stmt_height statements) (where_written (option_map expr_height value)) (list_by n things.statement statements parts.0) (maybe_expr_by n value parts.1)))
+    (one_more_by _ n (append_by n (map stmt_depth statements) (where_written (option_map expr_depth value)) (list_by n things.statement statements parts.0) (maybe_expr_by n value parts.1)))
 inside_up (things.of_let span pattern ty value) n (a, below) =
     let parts = split n (things.maybe_type ty) (things.expr value ∷ []) below in
     next_up _ _ (suc n) (folds.fold_stmt-Let numbers levels _ ∙ let_is span pattern ty value)
-    (one_more_by _ n (max-le a (append_by n (where_written (option_map type_expr_height ty)) (expr_height value ∷ []) (maybe_type_by n ty parts.0) (one_by n parts.1.0))))
+    (one_more_by _ n (max-le a (append_by n (where_written (option_map type_expr_depth ty)) (expr_depth value ∷ []) (maybe_type_by n ty parts.0) (one_by n parts.1.0))))
 inside_up (things.of_function f) n (_, below) =
-    let parts = split n (map things.parameter f.parameters) (map things.field f.arguments ++ (things.maybe_type f.result ++ things.block f.body ∷ [])) below in
+    let parts = split n (map things.parametric f.parametrics) (map things.field f.arguments ++ (things.maybe_type f.result ++ things.block f.body ∷ [])) below in
     let others = split n (map things.field f.arguments) (things.maybe_type f.result ++ things.block f.body ∷ []) parts.1 in
     let last = split n (things.maybe_type f.result) (things.block f.body ∷ []) others.1 in
-    one_more_by _ n (append_by n (map parameter_height f.parameters) (map field_height f.arguments ++ (where_written (option_map type_expr_height f.result) ++ block_height f.body ∷ [])) (list_by n things.parameter f.parameters parts.0)
-    (append_by n (map field_height f.arguments) (where_written (option_map type_expr_height f.result) ++ block_height f.body ∷ []) (list_by n things.field f.arguments others.0)
-    (append_by n (where_written (option_map type_expr_height f.result)) (block_height f.body ∷ []) (maybe_type_by n f.result last.0) (one_by n last.1.0))))
+    one_more_by _ n (append_by n (map parametric_depth f.parametrics) (map field_depth f.arguments ++ (where_written (option_map type_expr_depth f.result) ++ block_depth f.body ∷ [])) (list_by n things.parametric f.parametrics parts.0)
+    (append_by n (map field_depth f.arguments) (where_written (option_map type_expr_depth f.result) ++ block_depth f.body ∷ []) (list_by n things.field f.arguments others.0)
+    (append_by n (where_written (option_map type_expr_depth f.result)) (block_depth f.body ∷ []) (maybe_type_by n f.result last.0) (one_by n last.1.0))))
 inside_up (things.of_constant c) n (_, below) =
     let parts = split n (things.maybe_type c.ty) (things.expr c.value ∷ []) below in
-    one_more_by _ n (append_by n (where_written (option_map type_expr_height c.ty)) (expr_height c.value ∷ []) (maybe_type_by n c.ty parts.0) (one_by n parts.1.0))
+    one_more_by _ n (append_by n (where_written (option_map type_expr_depth c.ty)) (expr_depth c.value ∷ []) (maybe_type_by n c.ty parts.0) (one_by n parts.1.0))
 inside_up (things.of_alias a) n (_, (t, _)) = one_more_by _ n t
 inside_up (things.of_structure s) n (_, below) = one_more_by _ n (list_by n things.field s.fields below)
 inside_up (things.of_enumeration e) n (_, (t, below)) = one_more_by _ n (max-le t (list_by n things.member e.members below))
 inside_up (things.of_proc p all order) n (_, below) =
-    let parts = split n (map things.parameter p.parameters) (map things.end p.members ++ all) below in
+    let parts = split n (map things.parametric p.parametrics) (map things.end p.members ++ all) below in
     let others = split n (map things.end p.members) all parts.1 in
     let last = in_any_order order others.1 in
-    one_more_by _ n (append_by n (map parameter_height p.parameters) (map end_height p.members ++ config_height p.config ∷ block_height p.init ∷ next_height p.next ∷ []) (list_by n things.parameter p.parameters parts.0)
-    (append_by n (map end_height p.members) (config_height p.config ∷ block_height p.init ∷ next_height p.next ∷ []) (list_by n things.end p.members others.0)
+    one_more_by _ n (append_by n (map parametric_depth p.parametrics) (map end_depth p.members ++ config_depth p.config ∷ block_depth p.init ∷ next_depth p.next ∷ []) (list_by n things.parametric p.parametrics parts.0)
+    (append_by n (map end_depth p.members) (config_depth p.config ∷ block_depth p.init ∷ next_depth p.next ∷ []) (list_by n things.end p.members others.0)
     (max-le last.0 (max-le last.1.0 (one_by n last.1.1.0)))))
 inside_up (things.of_config c) n below =
-    let parts = split n (map things.end c.ends) (map things.making c.makings ++ map things.ident c.result) below in
-    let others = split n (map things.making c.makings) (map things.ident c.result) parts.1 in
-    one_more_by _ n (append_by n (map end_height c.ends) (map making_height c.makings) (list_by n things.end c.ends parts.0) (list_by n things.making c.makings others.0))
+    let parts = split n (map things.end c.ends) (map things.config_statement c.config_statements ++ map things.ident c.result) below in
+    let others = split n (map things.config_statement c.config_statements) (map things.ident c.result) parts.1 in
+    one_more_by _ n (append_by n (map end_depth c.ends) (map config_statement_depth c.config_statements) (list_by n things.end c.ends parts.0) (list_by n things.config_statement c.config_statements others.0))
 inside_up (things.of_channel c) n (_, (_, (w, below))) =
     let parts = split n (things.maybe_arg c.depth) (things.spot c.name.span ∷ []) below in
     one_more_by _ n (max-le w (maybe_arg_by n c.depth parts.0))
@@ -262,10 +262,10 @@ made_up (things.of_bare value) n below = next_up _ _ n (folds.fold_stmt-Bare num
 made_up (things.of_arm patterns value) n below =
     let parts = split n (map things.pattern patterns) (things.expr value ∷ []) below in
     next_up _ _ n (fold_arm-roll numbers levels (record { patterns = patterns; value = value }))
-    (append_by n (map pattern_height patterns) (expr_height value ∷ []) (list_by n things.pattern patterns parts.0) (one_by n parts.1.0))
+    (append_by n (map pattern_depth patterns) (expr_depth value ∷ []) (list_by n things.pattern patterns parts.0) (one_by n parts.1.0))
 made_up (things.of_field_value name value) n (_, below) = next_up _ _ n (field_is name value) (maybe_expr_by n value below)
 made_up (things.of_item x) n below = below.0
-made_up (things.of_parameter p) n (_, (t, below)) = max-le t (maybe_expr_by n p.default below)
+made_up (things.of_parametric p) n (_, (t, below)) = max-le t (maybe_expr_by n p.default below)
 made_up (things.of_declared f) n (_, (t, _)) = t
 made_up (things.of_constant_member m) n (_, (v, _)) = v
 made_up (things.of_end e) n (_, (t, _)) = t
@@ -284,5 +284,5 @@ below (placed {n = n} inside under more) = (inside_up inside n (below under), be
 below (called {n = n} is more) = (name_low is n, below more)
 below {n} (spread {inner = inner} {more = more} made rest) = let parts = split n inner more (below rest) in (made_up made n parts.0, parts.1)
 
-pub no_higher : (n : ℕ) (items : List Item) → AreNoHigher n (map things.item items) → highest (map item_height items) ≤ n
+pub no_higher : (n : ℕ) (items : List Item) → AreNoHigher n (map things.item items) → highest (map item_depth items) ≤ n
 no_higher n items up = list_by n things.item items (below up)

@@ -8,10 +8,10 @@ use Rattle.dslx_tree.specs.declared.block.Block.{Block, out-Block}
 use Rattle.dslx_tree.specs.declared.ident.Ident.{Ident}
 use Rattle.dslx_tree.specs.declared.type_expr.TypeExpr.{TypeExpr, out-TypeExpr}
 use Rattle.dslx_tree.specs.declared.operators.chain.Operand.{Operand}
-use Rattle.dslx_parser.specs.Syntax.Nodes.{Numeral, arg_of, array_type, bare_number, block_alone, from_to, member_of, member_pattern, name_alone, name_pattern, named_type, number_pattern, number_place, typed_number}
+use Rattle.dslx_parser.specs.Syntax.Nodes.{Numeral, arg_of, array_type, bare_number, block_alone, from_to, member_of, member_pattern, name_alone, name_pattern, named_type, number_pattern, number_span, typed_number}
 use Rattle.dslx_parser.specs.Spans.Places.{Thing, Inside, IsMadeOf}
 use Rattle.dslx_parser.specs.Spans.Places as things
-use Rattle.dslx_parser.specs.Depths.Heights.{height_within}
+use Rattle.dslx_parser.specs.Depths.TreeDepths.{depth_within}
 use Rattle.dslx_parser.proofs.OnDepths.NoHigher.{AreNoHigher, as_expr, as_pattern, as_type, called, itself, nothing, placed, spread}
 use Rattle.dslx_parser.proofs.OnDepths.Fits.{AType, AnExpr, Rises, argument, inner, plain, room, typed, whole}
 use Rattle.dslx_parser.proofs.OnDepths.States.{Low, State, base, deep}
@@ -52,13 +52,13 @@ name_by n name = called (itself name) nothing
 pub spot_by : (n : ℕ) (span : Span) → AreNoHigher (suc n) (things.spot span ∷ [])
 spot_by n span = one_up (things.of_spot span) nothing
 
--- ---- heights
+-- ---- depths
 
-pub more_room : (a b : ℕ) → a ≤ b → height_within a ≤ height_within b
+pub more_room : (a b : ℕ) → a ≤ b → depth_within a ≤ depth_within b
 more_room zero b le = omega arith
 more_room (suc a) zero le = absurd (none_fits le)
 more_room (suc a) (suc b) le =
-    let h : height_within a ≤ height_within b = more_room a b (omega (arith, le)) in
+    let h : depth_within a ≤ depth_within b = more_room a b (omega (arith, le)) in
     omega (arith, le, h)
 
 -- what stands in a bracket is no higher than what may stand in one
@@ -66,22 +66,22 @@ pub deeper : {xs : List Thing} (d e m : ℕ) → suc d ≤ e → e + m ≤ 129 �
 deeper d e m less low up = wider up (inner d) (more_room (suc (room e)) (room d) (omega (arith, less, low)))
 
 -- the same, behind the bracket, one that is a mark too, and in the head of an `if`, a `match` or a `for`
-pub inside : (s : State) (m : ℕ) {xs : List Thing} → Low (record { marks = m; outer = s.marks ∷ s.outer; heads = s.heads }) → AreNoHigher (whole (deep (record { marks = m; outer = s.marks ∷ s.outer; heads = s.heads }))) xs → AreNoHigher (inner (deep s)) xs
-inside s m low up = deeper (base s.outer + s.heads) (base (s.marks ∷ s.outer) + s.heads) m (omega arith) low up
+pub inside : (s : State) (m : ℕ) {xs : List Thing} → Low (record { token_spans = m; outer = s.token_spans ∷ s.outer; heads = s.heads }) → AreNoHigher (whole (deep (record { token_spans = m; outer = s.token_spans ∷ s.outer; heads = s.heads }))) xs → AreNoHigher (inner (deep s)) xs
+inside s m low up = deeper (base s.outer + s.heads) (base (s.token_spans ∷ s.outer) + s.heads) m (omega arith) low up
 
-pub inside_mark : (s : State) (m : ℕ) {xs : List Thing} → Low (record { marks = m; outer = suc s.marks ∷ s.outer; heads = s.heads }) → AreNoHigher (whole (deep (record { marks = m; outer = suc s.marks ∷ s.outer; heads = s.heads }))) xs → AreNoHigher (inner (deep s)) xs
-inside_mark s m low up = deeper (base s.outer + s.heads) (base (suc s.marks ∷ s.outer) + s.heads) m (omega arith) low up
+pub inside_mark : (s : State) (m : ℕ) {xs : List Thing} → Low (record { token_spans = m; outer = suc s.token_spans ∷ s.outer; heads = s.heads }) → AreNoHigher (whole (deep (record { token_spans = m; outer = suc s.token_spans ∷ s.outer; heads = s.heads }))) xs → AreNoHigher (inner (deep s)) xs
+inside_mark s m low up = deeper (base s.outer + s.heads) (base (suc s.token_spans ∷ s.outer) + s.heads) m (omega arith) low up
 
 -- statements may be one higher
-pub statements_in : (s : State) (m : ℕ) {xs : List Thing} → Low (record { marks = m; outer = s.marks ∷ s.outer; heads = s.heads }) → AreNoHigher (suc (whole (deep (record { marks = m; outer = s.marks ∷ s.outer; heads = s.heads })))) xs → AreNoHigher (suc (inner (deep s))) xs
+pub statements_in : (s : State) (m : ℕ) {xs : List Thing} → Low (record { token_spans = m; outer = s.token_spans ∷ s.outer; heads = s.heads }) → AreNoHigher (suc (whole (deep (record { token_spans = m; outer = s.token_spans ∷ s.outer; heads = s.heads })))) xs → AreNoHigher (suc (inner (deep s))) xs
 statements_in s m low up =
-    let e : ℕ = base (s.marks ∷ s.outer) + s.heads in
+    let e : ℕ = base (s.token_spans ∷ s.outer) + s.heads in
     let more : whole e ≤ inner (deep s) = more_room (suc (room e)) (room (deep s)) (omega (arith, low)) in
     wider up (suc (inner (deep s))) (omega (arith, more))
 
 -- what stands in brackets in a head
-pub inside_head : (s : State) (m : ℕ) {xs : List Thing} → Low (record { marks = m; outer = s.marks ∷ s.outer; heads = suc s.heads }) → AreNoHigher (whole (deep (record { marks = m; outer = s.marks ∷ s.outer; heads = suc s.heads }))) xs → AreNoHigher (inner (deep s)) xs
-inside_head s m low up = deeper (base s.outer + s.heads) (base (s.marks ∷ s.outer) + suc s.heads) m (omega arith) low up
+pub inside_head : (s : State) (m : ℕ) {xs : List Thing} → Low (record { token_spans = m; outer = s.token_spans ∷ s.outer; heads = suc s.heads }) → AreNoHigher (whole (deep (record { token_spans = m; outer = s.token_spans ∷ s.outer; heads = suc s.heads }))) xs → AreNoHigher (inner (deep s)) xs
+inside_head s m low up = deeper (base s.outer + s.heads) (base (s.token_spans ∷ s.outer) + suc s.heads) m (omega arith) low up
 
 -- what stands in a head
 pub head_plain : (s : State) → plain (base s.outer + suc s.heads) ≤ plain (deep s)
@@ -89,7 +89,7 @@ head_plain s =
     let more = more_room (room (base s.outer + suc s.heads)) (room (deep s)) (omega arith) in
     omega (arith, more)
 
-pub head_inner : (s : State) (m : ℕ) → Low (record { marks = m; outer = s.outer; heads = suc s.heads }) → plain (base s.outer + suc s.heads) ≤ inner (deep s)
+pub head_inner : (s : State) (m : ℕ) → Low (record { token_spans = m; outer = s.outer; heads = suc s.heads }) → plain (base s.outer + suc s.heads) ≤ inner (deep s)
 head_inner s m low =
     let more = more_room (suc (room (base s.outer + suc s.heads))) (room (deep s)) (omega (arith, low)) in
     omega (arith, more)
@@ -145,14 +145,14 @@ pub all_args : {xs : List Thing} {from to : ℕ} (d : ℕ) → d + to ≤ 129 �
 all_args d low r = all_of d low (raised (plain d) (omega arith) r)
 
 -- an expression in brackets
-pub expr_in : (s : State) (m : ℕ) {from : ℕ} {xs : List Thing} → Low (record { marks = m; outer = s.marks ∷ s.outer; heads = s.heads }) → Rises (plain (deep (record { marks = m; outer = s.marks ∷ s.outer; heads = s.heads }))) xs from m → AreNoHigher (inner (deep s)) xs
-expr_in s m low r = inside s m low (all_of (deep (record { marks = m; outer = s.marks ∷ s.outer; heads = s.heads })) low r)
+pub expr_in : (s : State) (m : ℕ) {from : ℕ} {xs : List Thing} → Low (record { token_spans = m; outer = s.token_spans ∷ s.outer; heads = s.heads }) → Rises (plain (deep (record { token_spans = m; outer = s.token_spans ∷ s.outer; heads = s.heads }))) xs from m → AreNoHigher (inner (deep s)) xs
+expr_in s m low r = inside s m low (all_of (deep (record { token_spans = m; outer = s.token_spans ∷ s.outer; heads = s.heads })) low r)
 
-pub expr_in_mark : (s : State) (m : ℕ) {from : ℕ} {xs : List Thing} → Low (record { marks = m; outer = suc s.marks ∷ s.outer; heads = s.heads }) → Rises (plain (deep (record { marks = m; outer = suc s.marks ∷ s.outer; heads = s.heads }))) xs from m → AreNoHigher (inner (deep s)) xs
-expr_in_mark s m low r = inside_mark s m low (all_of (deep (record { marks = m; outer = suc s.marks ∷ s.outer; heads = s.heads })) low r)
+pub expr_in_mark : (s : State) (m : ℕ) {from : ℕ} {xs : List Thing} → Low (record { token_spans = m; outer = suc s.token_spans ∷ s.outer; heads = s.heads }) → Rises (plain (deep (record { token_spans = m; outer = suc s.token_spans ∷ s.outer; heads = s.heads }))) xs from m → AreNoHigher (inner (deep s)) xs
+expr_in_mark s m low r = inside_mark s m low (all_of (deep (record { token_spans = m; outer = suc s.token_spans ∷ s.outer; heads = s.heads })) low r)
 
-pub type_in : (s : State) (m : ℕ) {from : ℕ} {xs : List Thing} → Low (record { marks = m; outer = s.marks ∷ s.outer; heads = s.heads }) → Rises (typed (deep (record { marks = m; outer = s.marks ∷ s.outer; heads = s.heads }))) xs from m → AreNoHigher (inner (deep s)) xs
-type_in s m low r = inside s m low (all_type (deep (record { marks = m; outer = s.marks ∷ s.outer; heads = s.heads })) low r)
+pub type_in : (s : State) (m : ℕ) {from : ℕ} {xs : List Thing} → Low (record { token_spans = m; outer = s.token_spans ∷ s.outer; heads = s.heads }) → Rises (typed (deep (record { token_spans = m; outer = s.token_spans ∷ s.outer; heads = s.heads }))) xs from m → AreNoHigher (inner (deep s)) xs
+type_in s m low r = inside s m low (all_type (deep (record { token_spans = m; outer = s.token_spans ∷ s.outer; heads = s.heads })) low r)
 
 pub inner_plain : {xs : List Thing} (d : ℕ) → AreNoHigher (inner d) xs → AreNoHigher (plain d) xs
 inner_plain d up = wider up (plain d) (omega arith)
@@ -222,16 +222,16 @@ number_up d n from to le = up_to (plain d) from to (omega arith) le (one_up {n =
 
 pub typed_up : (d : ℕ) (ty : TypeExpr) (n : Numeral) {a b c : ℕ} → AType d ty a b → b ≤ c → AnExpr d (typed_number ty n) a c
 typed_up d ty n {a} {b} {c} t le =
-    expr_node d (omega arith) (things.of_number (number_place ty n) (Some ty) n.is_negative n.value) (later c le t)
+    expr_node d (omega arith) (things.of_number (number_span ty n) (Some ty) n.is_negative n.value) (later c le t)
 
 pub number_pattern_up : (d : ℕ) (ty : TypeExpr) (n : Numeral) {a b : ℕ} → d + b ≤ 129 → AType d ty a b → AreNoHigher (whole d) (things.pattern (number_pattern ty n) ∷ [])
 number_pattern_up d ty n low t =
-    all_of d low (raised (plain d) (omega arith) (node_up (things.of_number_pattern (number_place ty n) (Some ty) n.is_negative n.value) t))
+    all_of d low (raised (plain d) (omega arith) (node_up (things.of_number_pattern (number_span ty n) (Some ty) n.is_negative n.value) t))
 
 -- what stands between `<` and `>`
 pub number_arg_up : (d : ℕ) (ty : TypeExpr) (n : Numeral) {a b c : ℕ} → AType d ty a b → b ≤ c → Rises (argument d) (things.arg (arg_of (typed_number ty n)) ∷ []) a c
 number_arg_up d ty n {a} {b} {c} t le =
-    node_up (things.of_arg (number_place ty n) (typed_number ty n).expr) (node_up (things.of_number (number_place ty n) (Some ty) n.is_negative n.value) (later c le t))
+    node_up (things.of_arg (number_span ty n) (typed_number ty n).expr) (node_up (things.of_number (number_span ty n) (Some ty) n.is_negative n.value) (later c le t))
 
 pub bare_arg_up : (d : ℕ) (n : Numeral) (from to : ℕ) → from ≤ to → Rises (argument d) (things.arg (arg_of (bare_number n)) ∷ []) from to
 bare_arg_up d n from to le =
@@ -324,7 +324,7 @@ over_range d inside r = expr_node d (omega arith) inside r
 -- ---- items
 
 -- what stands in brackets, among all that stands there
-pub whole_in : (s : State) (m : ℕ) {xs : List Thing} → Low (record { marks = m; outer = s.marks ∷ s.outer; heads = s.heads }) → AreNoHigher (whole (deep (record { marks = m; outer = s.marks ∷ s.outer; heads = s.heads }))) xs → AreNoHigher (whole (deep s)) xs
+pub whole_in : (s : State) (m : ℕ) {xs : List Thing} → Low (record { token_spans = m; outer = s.token_spans ∷ s.outer; heads = s.heads }) → AreNoHigher (whole (deep (record { token_spans = m; outer = s.token_spans ∷ s.outer; heads = s.heads }))) xs → AreNoHigher (whole (deep s)) xs
 whole_in s m low up = inner_whole (deep s) (inside s m low up)
 
 pub over_config : {x : Thing} {span : Span} {xs : List Thing} (d : ℕ) → Inside x span xs → AreNoHigher (suc (inner d)) xs → AreNoHigher (whole d) (x ∷ [])

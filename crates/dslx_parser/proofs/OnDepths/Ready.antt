@@ -3,9 +3,9 @@ use Rattle.std.proofs.Common.{◌≡◌, ◌≤◌, ℕ, zero, suc, Bool, true, 
 use Rattle.std.specs.Prelude.{◌&&◌}
 use Rattle.grammar.specs.declared.table.Symbol.{Symbol}
 use Rattle.grammar.specs.declared.table.Symbol.TheVariants.{Terminal, Nonterminal}
-use Rattle.xb_span.specs.declared.nesting.role.Role.{Role}
-use Rattle.xb_span.specs.declared.nesting.role.Role.TheVariants.{Open, OpenMark, OpenBody, Close, Mark, Stop, Item, Head, Plain}
-use Rattle.dslx_token.specs.Roles.Roles.{role_of}
+use Rattle.xb_span.specs.declared.nesting.bracket_class.BracketClass.{BracketClass}
+use Rattle.xb_span.specs.declared.nesting.bracket_class.BracketClass.TheVariants.{Open, OpenMark, OpenBody, Close, Mark, Stop, Item, Head, Plain}
+use Rattle.dslx_token.specs.BracketClasses.BracketClasses.{bracket_class_of}
 use Rattle.dslx_parser.proofs.OnDepths.Effects.{Effect, after, begin_at, effect_of, outer_of, outside_with}
 use Rattle.dslx_parser.proofs.OnDepths.Effects.{item, stays, within, opens, closes, ends_head}
 use Rattle.dslx_parser.proofs.OnDepths.States.{State, last_cleared, one_less, step}
@@ -17,7 +17,7 @@ pub data Ready : Type 0 where
 
 -- the same of what is open there
 abbrev pub fitting : Ready → State → Type 0
-fitting outside s = s ≡ outside_with s.marks
+fitting outside s = s ≡ outside_with s.token_spans
 fitting (among brackets heads) s = (brackets ≤ length s.outer) × (heads ≤ s.heads)
 
 -- where the tokens of a nonterminal begin
@@ -29,7 +29,7 @@ begins opens = among 0 0
 begins closes = among 1 0
 begins ends_head = among 0 1
 
-abbrev pub ready_behind : Ready → Role → Ready
+abbrev pub ready_behind : Ready → BracketClass → Ready
 ready_behind outside Item = outside
 ready_behind outside Open = among 1 0
 ready_behind outside OpenMark = among 1 0
@@ -82,7 +82,7 @@ may_begin (among brackets (suc heads)) ends_head = true
 
 abbrev pub is_ready : Ready → ℕ → List Symbol → Bool
 is_ready at p [] = true
-is_ready at p (Terminal kind ∷ symbols) = is_ready (ready_behind at (role_of p kind)) p symbols
+is_ready at p (Terminal kind ∷ symbols) = is_ready (ready_behind at (bracket_class_of p kind)) p symbols
 is_ready at p (Nonterminal n ∷ symbols) = may_begin at (effect_of n) && is_ready (ready_after at (effect_of n)) p symbols
 
 -- ---- that what is known is so
@@ -117,11 +117,11 @@ shorter zero outer le = omega arith
 shorter (suc n) [] le = omega (arith, le)
 shorter (suc n) (o ∷ os) le = omega (arith, le)
 
-close_fits : (n heads marks : ℕ) (outer : List ℕ) (all : ℕ) → n ≤ length outer → heads ≤ all → fitting (among (one_less n) heads) (step (record { marks = marks; outer = outer; heads = all }) Close)
-close_fits n heads marks [] all le less = (shorter n [] le, less)
-close_fits n heads marks (o ∷ os) all le less = (shorter n (o ∷ os) le, less)
+close_fits : (n heads token_spans : ℕ) (outer : List ℕ) (all : ℕ) → n ≤ length outer → heads ≤ all → fitting (among (one_less n) heads) (step (record { token_spans = token_spans; outer = outer; heads = all }) Close)
+close_fits n heads token_spans [] all le less = (shorter n [] le, less)
+close_fits n heads token_spans (o ∷ os) all le less = (shorter n (o ∷ os) le, less)
 
-outside_fits : (m : ℕ) (role : Role) → fitting (ready_behind outside role) (step (outside_with m) role)
+outside_fits : (m : ℕ) (role : BracketClass) → fitting (ready_behind outside role) (step (outside_with m) role)
 outside_fits m Item = refl
 outside_fits m Open = (one_more_by 0 0 (none 0), none 0)
 outside_fits m OpenMark = (one_more_by 0 0 (none 0), none 0)
@@ -132,12 +132,12 @@ outside_fits m Stop = refl
 outside_fits m Head = (none 0, one_more_by 0 0 (none 0))
 outside_fits m Plain = refl
 
-pub fits_token : (at : Ready) (s : State) (role : Role) → fitting at s → fitting (ready_behind at role) (step s role)
-fits_token outside s role fits = subst (λ (u : State). fitting (ready_behind outside role) (step u role)) (sym fits) (outside_fits s.marks role)
+pub fits_token : (at : Ready) (s : State) (role : BracketClass) → fitting at s → fitting (ready_behind at role) (step s role)
+fits_token outside s role fits = subst (λ (u : State). fitting (ready_behind outside role) (step u role)) (sym fits) (outside_fits s.token_spans role)
 fits_token (among n heads) s Open fits = (one_more_by n (length s.outer) fits.0, fits.1)
 fits_token (among n heads) s OpenMark fits = (one_more_by n (length s.outer) fits.0, fits.1)
 fits_token (among n heads) s OpenBody fits = (one_more_by n (length s.outer) fits.0, one_less_by heads s.heads fits.1)
-fits_token (among n heads) s Close fits = close_fits n heads s.marks s.outer s.heads fits.0 fits.1
+fits_token (among n heads) s Close fits = close_fits n heads s.token_spans s.outer s.heads fits.0 fits.1
 fits_token (among n heads) s Mark fits = fits
 fits_token (among n heads) s Stop fits = fits
 fits_token (among n heads) s Item fits = (none (length (last_cleared s.outer)), fits.1)
@@ -161,9 +161,9 @@ fits_begin (among n zero) ends_head s may fits = absurd (cc)
 fits_begin (among n (suc heads)) ends_head s may fits = (none (length s.outer), some_there heads s.heads fits.1)
 
 pub fits_after : (at : Ready) (e : Effect) (s : State) (m : ℕ) → fitting at s → fitting (ready_after at e) (after e s m)
-fits_after outside item s m fits = ap (λ (u : State). record { marks = m; outer = u.outer; heads = u.heads }) fits
+fits_after outside item s m fits = ap (λ (u : State). record { token_spans = m; outer = u.outer; heads = u.heads }) fits
 fits_after outside stays s m fits = fits
-fits_after outside within s m fits = ap (λ (u : State). record { marks = m; outer = u.outer; heads = u.heads }) fits
+fits_after outside within s m fits = ap (λ (u : State). record { token_spans = m; outer = u.outer; heads = u.heads }) fits
 fits_after outside opens s m fits = (one_more_by 0 (length s.outer) (none (length s.outer)), none s.heads)
 fits_after outside closes s m fits = (none (length (outer_of s.outer)), none s.heads)
 fits_after outside ends_head s m fits = (none (length s.outer), none (one_less s.heads))
@@ -182,18 +182,18 @@ none_open le = omega (arith, le)
 abbrev pub AtEach : Effect → (State → Type 0) → Type 0
 AtEach e P = (s : State) (o : ℕ) → P (begin_at e s o)
 
-in_bracket : (P : State → Type 0) (m : ℕ) (outer : List ℕ) (heads : ℕ) → 1 ≤ length outer → AtEach closes P → P (record { marks = m; outer = outer; heads = heads })
+in_bracket : (P : State → Type 0) (m : ℕ) (outer : List ℕ) (heads : ℕ) → 1 ≤ length outer → AtEach closes P → P (record { token_spans = m; outer = outer; heads = heads })
 in_bracket P m [] heads le each = absurd (none_open le)
-in_bracket P m (o ∷ os) heads le each = each (record { marks = m; outer = os; heads = heads }) o
+in_bracket P m (o ∷ os) heads le each = each (record { token_spans = m; outer = os; heads = heads }) o
 
-in_head : (P : State → Type 0) (m : ℕ) (outer : List ℕ) (heads : ℕ) → 1 ≤ heads → AtEach ends_head P → P (record { marks = m; outer = outer; heads = heads })
+in_head : (P : State → Type 0) (m : ℕ) (outer : List ℕ) (heads : ℕ) → 1 ≤ heads → AtEach ends_head P → P (record { token_spans = m; outer = outer; heads = heads })
 in_head P m outer zero le each = absurd (none_open le)
-in_head P m outer (suc heads) le each = each (record { marks = m; outer = outer; heads = heads }) 0
+in_head P m outer (suc heads) le each = each (record { token_spans = m; outer = outer; heads = heads }) 0
 
 pub at_ready : (e : Effect) (P : State → Type 0) (s : State) → fitting (begins e) s → AtEach e P → P s
 at_ready item P s fits each = subst P (sym fits) (each s 0)
 at_ready stays P s fits each = each s 0
 at_ready within P s fits each = each s 0
 at_ready opens P s fits each = each s 0
-at_ready closes P s fits each = in_bracket P s.marks s.outer s.heads fits.0 each
-at_ready ends_head P s fits each = in_head P s.marks s.outer s.heads fits.1 each
+at_ready closes P s fits each = in_bracket P s.token_spans s.outer s.heads fits.0 each
+at_ready ends_head P s fits each = in_head P s.token_spans s.outer s.heads fits.1 each

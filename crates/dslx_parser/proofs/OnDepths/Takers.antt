@@ -6,10 +6,10 @@ use Rattle.grammar.specs.declared.table.Symbol.TheVariants.{Terminal}
 use Rattle.grammar.specs.Syntax.{Rule}
 use Rattle.grammar.specs.Tree.{Forest, Grows, empty, leaf, branch, leaves_of, productions_of}
 use Rattle.grammar.specs.Tree as forests
-use Rattle.xb_span.specs.declared.nesting.role.Role.{Role}
-use Rattle.dslx_token.specs.declared.roles.owners.Owned.{Owned}
-use Rattle.dslx_token.specs.Roles.Roles.{role_of, roles_by}
-use Rattle.dslx_token.specs.Roles.Takers.{body_of, body_of_rule, owned_by, takers_from}
+use Rattle.xb_span.specs.declared.nesting.bracket_class.BracketClass.{BracketClass}
+use Rattle.dslx_token.specs.declared.bracket_classes.owners.Owned.{Owned}
+use Rattle.dslx_token.specs.BracketClasses.BracketClasses.{bracket_class_of, bracket_classes_by}
+use Rattle.dslx_token.specs.BracketClasses.Takers.{body_of, body_of_rule, owned_by, takers_from}
 
 -- the rule of each token, where this one has the trees in its body
 abbrev pub takers_along : ℕ → Forest → List ℕ
@@ -18,10 +18,10 @@ takers_along p (forests.token t right) = p ∷ takers_along p right
 takers_along p (forests.node q below right) = takers_along q below ++ takers_along p right
 
 -- what each token does to the nesting
-abbrev pub roles_along : ℕ → Forest → List Role
-roles_along p forests.nothing = []
-roles_along p (forests.token t right) = role_of p t ∷ roles_along p right
-roles_along p (forests.node q below right) = roles_along q below ++ roles_along p right
+abbrev pub bracket_classes_along : ℕ → Forest → List BracketClass
+bracket_classes_along p forests.nothing = []
+bracket_classes_along p (forests.token t right) = bracket_class_of p t ∷ bracket_classes_along p right
+bracket_classes_along p (forests.node q below right) = bracket_classes_along q below ++ bracket_classes_along p right
 
 took : (rules : List Rule) (ps : List ℕ) (p t : ℕ) (ahead : List Owned) → takers_from rules ps (record { rule = p; symbol = Terminal t } ∷ ahead) ≡ p ∷ takers_from rules ps ahead
 took rules [] p t ahead = refl
@@ -40,23 +40,23 @@ along rules p (branch {p = q} b {s = s} {below = below} {right = right} rule und
     ∙ ap (λ (ts : List ℕ). takers_along q below ++ ts) (along rules p more ps ahead)
     ∙ sym (append_assoc (takers_along q below) (takers_along p right) (takers_from rules ps ahead))
 
-by_taker : (p : ℕ) (f : Forest) (ts ks : List ℕ) → roles_by (takers_along p f ++ ts) (leaves_of f ++ ks) ≡ roles_along p f ++ roles_by ts ks
+by_taker : (p : ℕ) (f : Forest) (ts ks : List ℕ) → bracket_classes_by (takers_along p f ++ ts) (leaves_of f ++ ks) ≡ bracket_classes_along p f ++ bracket_classes_by ts ks
 by_taker p forests.nothing ts ks = refl
-by_taker p (forests.token t right) ts ks = ap (λ (rs : List Role). role_of p t ∷ rs) (by_taker p right ts ks)
+by_taker p (forests.token t right) ts ks = ap (λ (rs : List BracketClass). bracket_class_of p t ∷ rs) (by_taker p right ts ks)
 by_taker p (forests.node q below right) ts ks =
-    ap (λ (xs : List ℕ). roles_by xs ((leaves_of below ++ leaves_of right) ++ ks)) (append_assoc (takers_along q below) (takers_along p right) ts)
-    ∙ ap (λ (xs : List ℕ). roles_by (takers_along q below ++ (takers_along p right ++ ts)) xs) (append_assoc (leaves_of below) (leaves_of right) ks)
+    ap (λ (xs : List ℕ). bracket_classes_by xs ((leaves_of below ++ leaves_of right) ++ ks)) (append_assoc (takers_along q below) (takers_along p right) ts)
+    ∙ ap (λ (xs : List ℕ). bracket_classes_by (takers_along q below ++ (takers_along p right ++ ts)) xs) (append_assoc (leaves_of below) (leaves_of right) ks)
     ∙ by_taker q below (takers_along p right ++ ts) (leaves_of right ++ ks)
-    ∙ ap (λ (rs : List Role). roles_along q below ++ rs) (by_taker p right ts ks)
-    ∙ sym (append_assoc (roles_along q below) (roles_along p right) (roles_by ts ks))
+    ∙ ap (λ (rs : List BracketClass). bracket_classes_along q below ++ rs) (by_taker p right ts ks)
+    ∙ sym (append_assoc (bracket_classes_along q below) (bracket_classes_along p right) (bracket_classes_by ts ks))
 
 -- the roles of the tokens of a derivation are those along its tree
-pub roles_are : (rules : List Rule) {s : List Symbol} {f : Forest} → Grows rules s f → roles_by (takers_from rules (productions_of f) (owned_by 0 s)) (leaves_of f) ≡ roles_along 0 f
-roles_are rules {s} {f} grows =
+pub bracket_classes_are : (rules : List Rule) {s : List Symbol} {f : Forest} → Grows rules s f → bracket_classes_by (takers_from rules (productions_of f) (owned_by 0 s)) (leaves_of f) ≡ bracket_classes_along 0 f
+bracket_classes_are rules {s} {f} grows =
     let nothing_more : List ℕ = [] in
-    ap (λ (ps : List ℕ). roles_by (takers_from rules ps (owned_by 0 s)) (leaves_of f)) (sym (append-nil (productions_of f)))
-    ∙ ap (λ (os : List Owned). roles_by (takers_from rules (productions_of f ++ []) os) (leaves_of f)) (sym (append-nil (owned_by 0 s)))
-    ∙ ap (λ (ts : List ℕ). roles_by ts (leaves_of f)) (along rules 0 grows [] [])
-    ∙ ap (λ (ks : List ℕ). roles_by (takers_along 0 f ++ []) ks) (sym (append-nil (leaves_of f)))
+    ap (λ (ps : List ℕ). bracket_classes_by (takers_from rules ps (owned_by 0 s)) (leaves_of f)) (sym (append-nil (productions_of f)))
+    ∙ ap (λ (os : List Owned). bracket_classes_by (takers_from rules (productions_of f ++ []) os) (leaves_of f)) (sym (append-nil (owned_by 0 s)))
+    ∙ ap (λ (ts : List ℕ). bracket_classes_by ts (leaves_of f)) (along rules 0 grows [] [])
+    ∙ ap (λ (ks : List ℕ). bracket_classes_by (takers_along 0 f ++ []) ks) (sym (append-nil (leaves_of f)))
     ∙ by_taker 0 f [] []
-    ∙ append-nil (roles_along 0 f)
+    ∙ append-nil (bracket_classes_along 0 f)

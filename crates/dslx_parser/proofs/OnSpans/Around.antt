@@ -11,8 +11,8 @@ use Rattle.dslx_tree.specs.declared.process.Next.{Next}
 use Rattle.dslx_tree.specs.declared.type_expr.TypeExpr.{TypeExpr, out-TypeExpr}
 use Rattle.dslx_tree.specs.declared.operators.chain.Operand.{Operand}
 use Rattle.dslx_actions.specs.Tokens.{is_name}
-use Rattle.dslx_parser.specs.Syntax.Nodes.{Numeral, arg_of, array_type, bare_number, block_alone, from_to, ident_of, member_of, member_pattern, name_alone, name_pattern, named_type, number_pattern, number_place, number_with, typed_number}
-use Rattle.dslx_parser.specs.Spans.Places.{Thing, Inside, InSomeOrder, IsMadeOf, Stand, nothing, placed, spread}
+use Rattle.dslx_parser.specs.Syntax.Nodes.{Numeral, arg_of, array_type, bare_number, block_alone, from_to, ident_of, member_of, member_pattern, name_alone, name_pattern, named_type, number_pattern, number_span, number_with, typed_number}
+use Rattle.dslx_parser.specs.Spans.Places.{Thing, Inside, InSomeOrder, IsMadeOf, LieBetween, nothing, placed, spread}
 use Rattle.dslx_parser.specs.Spans.Places as things
 use Rattle.dslx_parser.proofs.OnSpans.Fits.{InEitherOrder, IsTokenAt, One, ProcParts, a_block, a_name, a_type}
 use Rattle.dslx_parser.proofs.OnSpans.Standing.{IsOperand, StandsAt, Within, alone, begins_by, behind, ends_by, operand_in, operand_stands, same, starts_at, through, type_stands}
@@ -26,20 +26,20 @@ pub goes_by : {kind : ℕ} {l : Lexeme} {from to : ℕ} → IsTokenAt kind l fro
 goes_by t = spans t.within
 
 -- with a token before it, or behind it
-pub before : {kind : ℕ} {l : Lexeme} {xs : List Thing} {a b c : ℕ} → IsTokenAt kind l a b → Stand xs b c → Stand xs a c
+pub before : {kind : ℕ} {l : Lexeme} {xs : List Thing} {a b c : ℕ} → IsTokenAt kind l a b → LieBetween xs b c → LieBetween xs a c
 before {a = a} t s = begins_by a s (goes_by t)
 
-pub after : {kind : ℕ} {l : Lexeme} {xs : List Thing} {a b c : ℕ} → Stand xs a b → IsTokenAt kind l b c → Stand xs a c
+pub after : {kind : ℕ} {l : Lexeme} {xs : List Thing} {a b c : ℕ} → LieBetween xs a b → IsTokenAt kind l b c → LieBetween xs a c
 after {c = c} s t = ends_by c s (goes_by t)
 
-pub before_mark : {span : Span} {xs : List Thing} {a b c : ℕ} → Within span a b → Stand xs b c → Stand xs a c
+pub before_mark : {span : Span} {xs : List Thing} {a b c : ℕ} → Within span a b → LieBetween xs b c → LieBetween xs a c
 before_mark {a = a} w s = begins_by a s (spans w)
 
 -- from the beginning of the token, or to its end
-pub starting : {kind : ℕ} {l : Lexeme} {xs : List Thing} {a b c : ℕ} → IsTokenAt kind l a b → Stand xs b c → Stand xs l.span.from c
+pub starting : {kind : ℕ} {l : Lexeme} {xs : List Thing} {a b c : ℕ} → IsTokenAt kind l a b → LieBetween xs b c → LieBetween xs l.span.from c
 starting {l = l} {b = b} t s = begins_by l.span.from s (through l.span.from l.span.to b t.within.goes t.within.last)
 
-pub ending : {kind : ℕ} {l : Lexeme} {xs : List Thing} {a b c : ℕ} → Stand xs a b → IsTokenAt kind l b c → Stand xs a l.span.to
+pub ending : {kind : ℕ} {l : Lexeme} {xs : List Thing} {a b c : ℕ} → LieBetween xs a b → IsTokenAt kind l b c → LieBetween xs a l.span.to
 ending {l = l} {b = b} s t = ends_by l.span.to s (through b l.span.from l.span.to t.within.first t.within.goes)
 
 pub both_tokens : {kind other : ℕ} {l m : Lexeme} {a b c : ℕ} → IsTokenAt kind l a b → IsTokenAt other m b c → Within (from_to l.span m.span) a c
@@ -58,7 +58,7 @@ at_by {span = span} {b = b} {c = c} s le = record { within = record { first = s.
 pub at_after : {kind : ℕ} {l : Lexeme} {x : Thing} {span : Span} {a b c : ℕ} → IsTokenAt kind l a b → StandsAt x span b c → StandsAt x span a c
 at_after {span = span} {a = a} {b = b} t s = record { within = record { first = through a b span.from (goes_by t) s.within.first; goes = s.within.goes; last = s.within.last }; there = s.there }
 
-pub up_to_end : {x : Thing} {span : Span} {a b : ℕ} → StandsAt x span a b → Stand (x ∷ []) a span.to
+pub up_to_end : {x : Thing} {span : Span} {a b : ℕ} → StandsAt x span a b → LieBetween (x ∷ []) a span.to
 up_to_end {a = a} s = begins_by a s.there s.within.first
 
 pub operand_by : {o : Operand} {a b c : ℕ} → IsOperand o a b → b ≤ c → IsOperand o a c
@@ -81,7 +81,7 @@ inside_named (things.of_ident name there) = there
 never_made : {name : Ident} {inner : List Thing} → IsMadeOf (things.ident name) inner → ⊥
 never_made made = elim made [ ]
 
-stands_named : {name : Ident} {from to : ℕ} → Stand (things.ident name ∷ []) from to → name.name ≢ []
+stands_named : {name : Ident} {from to : ℕ} → LieBetween (things.ident name ∷ []) from to → name.name ≢ []
 stands_named (placed inside first inner more) = inside_named inside
 stands_named (spread made more) = absurd (never_made made)
 
@@ -109,19 +109,19 @@ member_pattern_stands owner member {a = a} {d = d} n t m =
 pub bare_stands : (n : Numeral) {from to : ℕ} → Within n.span from to → IsOperand (bare_number n) from to
 bare_stands n {from} {to} w = operand_stands n.span (nodes.Number (number_with None n)) from to (things.of_number n.span None n.is_negative n.value) (nothing w.goes) w.first w.last
 
-typed_there : (ty : TypeExpr) (n : Numeral) {a b c d : ℕ} → a_type ty a b → b ≤ c → Within n.span c d → Stand (things.type_expr ty ∷ []) (number_place ty n).from (number_place ty n).to
+typed_there : (ty : TypeExpr) (n : Numeral) {a b c d : ℕ} → a_type ty a b → b ≤ c → Within n.span c d → LieBetween (things.type_expr ty ∷ []) (number_span ty n).from (number_span ty n).to
 typed_there ty n {b = b} {c = c} t le w =
     let p = t.within.last in let q = w.first in let r = w.goes in
     ends_by n.span.to t.there (omega (arith, p, le, q, r))
 
 pub typed_stands : (ty : TypeExpr) (n : Numeral) {a b c d : ℕ} → a_type ty a b → b ≤ c → Within n.span c d → IsOperand (typed_number ty n) a d
 typed_stands ty n {a = a} {d = d} t le w =
-    operand_stands (number_place ty n) (nodes.Number (number_with (Some ty) n)) a d (things.of_number (number_place ty n) (Some ty) n.is_negative n.value)
+    operand_stands (number_span ty n) (nodes.Number (number_with (Some ty) n)) a d (things.of_number (number_span ty n) (Some ty) n.is_negative n.value)
     (typed_there ty n t le w) t.within.first w.last
 
 pub number_pattern_stands : (ty : TypeExpr) (n : Numeral) {a b c d : ℕ} → a_type ty a b → b ≤ c → Within n.span c d → One (things.pattern (number_pattern ty n)) a d
 number_pattern_stands ty n {a = a} {d = d} t le w =
-    alone a d (things.of_number_pattern (number_place ty n) (Some ty) n.is_negative n.value) (typed_there ty n t le w) t.within.first w.last
+    alone a d (things.of_number_pattern (number_span ty n) (Some ty) n.is_negative n.value) (typed_there ty n t le w) t.within.first w.last
 
 -- ---- types, arguments, blocks
 

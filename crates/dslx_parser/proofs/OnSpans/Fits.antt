@@ -18,17 +18,17 @@ use Rattle.dslx_tree.specs.declared.operators.chain.Operand.{Operand}
 use Rattle.dslx_actions.specs.Tokens.{is_name}
 use Rattle.dslx_parser.specs.Syntax.Nodes.{LoopRange, exprs_of, in_turn}
 use Rattle.dslx_parser.specs.Syntax.Sorts.{OfSort, Sort, sort_of}
-use Rattle.dslx_parser.specs.Syntax.SymbolParts.{MakingRule, PartOf, PartsOf, made_from}
-use Rattle.dslx_parser.specs.Spans.Places.{Thing, InSomeOrder, Stand}
+use Rattle.dslx_parser.specs.Syntax.SymbolParts.{SemanticAction, PartOf, PartsOf, made_from}
+use Rattle.dslx_parser.specs.Spans.Places.{Thing, InSomeOrder, LieBetween}
 use Rattle.dslx_parser.specs.Spans.Places as things
 use Rattle.dslx_parser.proofs.OnSpans.Standing.{IsOperand, StandsAt, Within}
 
 -- one part, or a list of parts of one sort
 abbrev pub One : Thing → ℕ → ℕ → Type 0
-One x from to = Stand (x ∷ []) from to
+One x from to = LieBetween (x ∷ []) from to
 
 abbrev pub All : {T : Type 0} → (T → Thing) → List T → ℕ → ℕ → Type 0
-All kind xs from to = Stand (map kind xs) from to
+All kind xs from to = LieBetween (map kind xs) from to
 
 abbrev pub a_type : TypeExpr → ℕ → ℕ → Type 0
 a_type ty from to = StandsAt (things.type_expr ty) (out-TypeExpr ty).span from to
@@ -41,11 +41,11 @@ a_name name from to = StandsAt (things.ident name) name.span from to
 
 -- statements and the value of a block
 abbrev pub Statements : List Stmt × Option Expr → ℕ → ℕ → Type 0
-Statements p from to = Stand (map things.statement p.0 ++ things.maybe_expr p.1) from to
+Statements p from to = LieBetween (map things.statement p.0 ++ things.maybe_expr p.1) from to
 
 -- a pattern and its type
 abbrev pub Bound : Pattern × Option TypeExpr → ℕ → ℕ → Type 0
-Bound b from to = Stand (things.pattern b.0 ∷ things.maybe_type b.1) from to
+Bound b from to = LieBetween (things.pattern b.0 ∷ things.maybe_type b.1) from to
 
 -- operands, each with the operator before it
 abbrev pub Links : List Link → ℕ → ℕ → Type 0
@@ -60,14 +60,14 @@ Post f from to = (o : Operand) (start : ℕ) → IsOperand o start from → IsOp
 pub record ProcParts (c : Config) (i : Block) (n : Next) (from to : ℕ) : Type 0 where
   pub parts : List Thing
   pub order : InSomeOrder (things.config c) (things.block i) (things.next n) parts
-  pub there : Stand parts from to
+  pub there : LieBetween parts from to
 
 abbrev pub InEitherOrder : Thing → Thing → ℕ → ℕ → Type 0
-InEitherOrder x y from to = Stand (x ∷ y ∷ []) from to ⊎ Stand (y ∷ x ∷ []) from to
+InEitherOrder x y from to = LieBetween (x ∷ y ∷ []) from to ⊎ LieBetween (y ∷ x ∷ []) from to
 
 -- what stands behind the patterns and the type of a loop
 abbrev pub Range : LoopRange → ℕ → ℕ → Type 0
-Range r from to = Stand (things.expr r.first.expr ∷ things.expr r.end.expr ∷ things.block r.body ∷ things.expr r.start.expr ∷ []) from r.closing.from × (r.closing.from ≤ r.closing.to) × (r.closing.to ≤ to)
+Range r from to = LieBetween (things.expr r.first.expr ∷ things.expr r.end.expr ∷ things.block r.body ∷ things.expr r.start.expr ∷ []) from r.closing.from × (r.closing.from ≤ r.closing.to) × (r.closing.to ≤ to)
 
 abbrev pub Fits : (kind : Sort) → OfSort kind → ℕ → ℕ → Type 0
 Fits Sort.nothing p from to = from ≤ to
@@ -78,10 +78,10 @@ Fits Sort.item x from to = One (things.item x) from to
 Fits Sort.definition x from to = One (things.definition x) from to
 Fits Sort.ident x from to = a_name x from to
 Fits Sort.idents xs from to = All things.ident xs from to
-Fits Sort.annotation x from to = Stand (things.maybe_type x) from to
-Fits Sort.parameter x from to = One (things.parameter x) from to
-Fits Sort.parameters xs from to = All things.parameter xs from to
-Fits Sort.given x from to = Stand (things.maybe_expr x) from to
+Fits Sort.annotation x from to = LieBetween (things.maybe_type x) from to
+Fits Sort.parametric x from to = One (things.parametric x) from to
+Fits Sort.parametrics xs from to = All things.parametric xs from to
+Fits Sort.given x from to = LieBetween (things.maybe_expr x) from to
 Fits Sort.field x from to = One (things.field x) from to
 Fits Sort.fields xs from to = All things.field xs from to
 Fits Sort.member x from to = One (things.member x) from to
@@ -96,10 +96,10 @@ Fits Sort.proc_parts p from to = ProcParts p.0 p.1 p.2 from to
 Fits Sort.init_and_next p from to = InEitherOrder (things.block p.0) (things.next p.1) from to
 Fits Sort.config_and_next p from to = InEitherOrder (things.config p.0) (things.next p.1) from to
 Fits Sort.config_and_init p from to = InEitherOrder (things.config p.0) (things.block p.1) from to
-Fits Sort.making x from to = One (things.making x) from to
-Fits Sort.makings xs from to = All things.making xs from to
-Fits Sort.made m from to = Stand (things.type_expr m.0 ∷ (things.maybe_arg m.1 ++ things.spot m.2.span ∷ [])) from m.3.from × (m.3.from ≤ m.3.to) × (m.3.to ≤ to)
-Fits Sort.depth x from to = Stand (things.maybe_arg x) from to
+Fits Sort.config_statement x from to = One (things.config_statement x) from to
+Fits Sort.config_statements xs from to = All things.config_statement xs from to
+Fits Sort.made m from to = LieBetween (things.type_expr m.0 ∷ (things.maybe_arg m.1 ++ things.spot m.2.span ∷ [])) from m.3.from × (m.3.from ≤ m.3.to) × (m.3.to ≤ to)
+Fits Sort.depth x from to = LieBetween (things.maybe_arg x) from to
 Fits Sort.arg x from to = One (things.arg x) from to
 Fits Sort.args xs from to = All things.arg xs from to
 Fits Sort.named_arg f from to = (name : Ident) (start : ℕ) → a_name name start from → One (things.arg (f name)) start to
@@ -133,7 +133,7 @@ Fits Sort.parenthesis_end f from to = (opening : Span) (o : Operand) (start mid 
 Fits Sort.typed f from to = (ty : TypeExpr) (start : ℕ) → a_type ty start from → IsOperand (f ty) start to
 Fits Sort.named_operand f from to = (name : Ident) (start : ℕ) → a_name name start from → IsOperand (f name) start to
 Fits Sort.named_field f from to = (name : Ident) (start : ℕ) → a_name name start from → One (things.field_value (f name)) start to
-Fits Sort.field_values p from to = Stand (map things.field_value p.0 ++ things.maybe_expr p.1) from to
+Fits Sort.field_values p from to = LieBetween (map things.field_value p.0 ++ things.maybe_expr p.1) from to
 Fits Sort.elements e from to = Within e.0 from e.0.to × All things.expr (exprs_of e.2) e.0.to e.1.from × Within e.1 e.1.from to
 Fits Sort.more_elements e from to = All things.expr (exprs_of e.0) from to
 Fits Sort.arm x from to = One (things.arm x) from to
@@ -159,12 +159,12 @@ PartsFit [] parts from to = from ≤ to
 PartsFit (x ∷ symbols) parts from to = FirstFit x symbols parts.0 parts.1 from to
 
 -- where the parts of the body stand, the part that the rule makes does
-abbrev pub Keeps : MakingRule → Type 0
+abbrev pub Keeps : SemanticAction → Type 0
 Keeps r = (parts : PartsOf r.body) (from to : ℕ) → PartsFit r.body parts from to → Fits (sort_of r.head) (made_from r.body r.part parts) from to
 
 -- each of these rules does
-pub data AllKeep : List MakingRule → Type 0 where
+pub data AllKeep : List SemanticAction → Type 0 where
   none : AllKeep []
-  ◌&◌ : {r : MakingRule} {rs : List MakingRule} → Keeps r → AllKeep rs → AllKeep (r ∷ rs)
+  ◌&◌ : {r : SemanticAction} {rs : List SemanticAction} → Keeps r → AllKeep rs → AllKeep (r ∷ rs)
 
 infixr 40 ◌&◌

@@ -7,10 +7,10 @@ use Rattle.grammar.specs.Tree.{Forest}
 use Rattle.dslx_token.specs.Lexeme.{Lexeme}
 use Rattle.dslx_tree.specs.declared.item.Module.{Module}
 use Rattle.dslx_parser.specs.Syntax.Sorts.{OfSort, sort_of}
-use Rattle.dslx_parser.specs.Syntax.SymbolParts.{MakingRule, PartsOf, made_from}
-use Rattle.dslx_parser.specs.Syntax.Trees.{IsTextOf, Makes, empty, leaf, branch, making_rules}
+use Rattle.dslx_parser.specs.Syntax.SymbolParts.{SemanticAction, PartsOf, made_from}
+use Rattle.dslx_parser.specs.Syntax.Trees.{IsTextOf, Makes, empty, leaf, branch, semantic_actions}
 use Rattle.dslx_parser.specs.Spans.Along.{AreAlong}
-use Rattle.dslx_parser.specs.Spans.Places.{AreItemsPlaced}
+use Rattle.dslx_parser.specs.Spans.Places.{ItemsHaveSpans}
 use Rattle.dslx_parser.proofs.OnSpans.Around.{after}
 use Rattle.dslx_parser.proofs.OnSpans.Fits.{AllKeep, none, ◌&◌, Fits, IsTokenAt, Keeps, PartsFit}
 use Rattle.dslx_parser.proofs.OnSpans.KeepsAtoms as keeps_atoms
@@ -24,21 +24,21 @@ use Rattle.dslx_parser.proofs.OnSpans.Standing.{same, through}
 
 -- ---- every rule
 
-all_keep : {rs others : List MakingRule} → AllKeep rs → AllKeep others → AllKeep (rs ++ others)
+all_keep : {rs others : List SemanticAction} → AllKeep rs → AllKeep others → AllKeep (rs ++ others)
 all_keep none more = more
 all_keep (keep & keeps) more = keep & all_keep keeps more
 
-every_rule : AllKeep making_rules
-unfolding making_rules
+every_rule : AllKeep semantic_actions
+unfolding semantic_actions
 every_rule = all_keep keeps_items.keep (all_keep keeps_procs.keep (all_keep keeps_types.keep (all_keep keeps_statements.keep (all_keep keeps_operators.keep (all_keep keeps_atoms.keep keeps_blocks.keep)))))
 
-found_first : (r q : MakingRule) → Some r ≡ Some q → r ≡ q
+found_first : (r q : SemanticAction) → Some r ≡ Some q → r ≡ q
 found_first r q e = cc
 
-keeps_at : (rs : List MakingRule) (p : ℕ) (r : MakingRule) → AllKeep rs → slice_get rs p ≡ Some r → Keeps r
+keeps_at : (rs : List SemanticAction) (p : ℕ) (r : SemanticAction) → AllKeep rs → slice_get rs p ≡ Some r → Keeps r
 keeps_at [] p r keep found = absurd (none_there p found)
   where
-    none_there : (n : ℕ) → slice_get {X = MakingRule} [] n ≡ Some r → ⊥
+    none_there : (n : ℕ) → slice_get {X = SemanticAction} [] n ≡ Some r → ⊥
     none_there n e = cc
 keeps_at (q ∷ rs) zero r (keep & keeps) found = subst Keeps (found_first q r found) keep
 keeps_at (q ∷ rs) (suc p) r (keep & keeps) found = keeps_at rs p r keeps found
@@ -72,12 +72,12 @@ go (leaf {s = s} {parts = parts} l makes) a b k =
 go (branch {p = p} {s = s} {own = own} {others = others} {parts = parts} r inner found makes more) a b k =
     let at = split own others a b k in
     part_first r.head (made_from r.body r.part inner) s parts a at.0 b
-    (λ c le. keeps_at making_rules p r every_rule found inner a c (go makes a c (along_by own a at.0 c at.1 le)))
+    (λ c le. keeps_at semantic_actions p r every_rule found inner a c (go makes a c (along_by own a at.0 c at.1 le)))
     (go more at.0 b at.2)
 
 -- ---- a whole text
 
-pub text_is_placed : (ls : List Lexeme) (m : Module) (to : ℕ) → AreAlong ls 0 to → IsTextOf ls m → AreItemsPlaced m 0 to
+pub text_is_placed : (ls : List Lexeme) (m : Module) (to : ℕ) → AreAlong ls 0 to → IsTextOf ls m → ItemsHaveSpans m 0 to
 text_is_placed ls m to k text =
     let fit = go text.makes 0 to k in
     after fit.1 fit.2

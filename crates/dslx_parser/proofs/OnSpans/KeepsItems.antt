@@ -51,21 +51,21 @@ keep =
     -- open_angle = ARGS
     (λ _ from to angle. angle.within) &
     -- function = FN any_name parameters LPAREN arguments_declared RPAREN result_type block
-    (λ _ from to (_, keyword, (_, name, (_, parameters, (_, opening, (_, arguments, (_, closing, (_, result, body))))))). alone from to (things.of_function _) (starting keyword (behind (stands_in name) (behind parameters (before opening (behind arguments (before closing (behind result (up_to_end body)))))))) keyword.within.first body.within.last) &
+    (λ _ from to (_, keyword, (_, name, (_, parametrics, (_, opening, (_, arguments, (_, closing, (_, result, body))))))). alone from to (things.of_function _) (starting keyword (behind (stands_in name) (behind parametrics (before opening (behind arguments (before closing (behind result (up_to_end body)))))))) keyword.within.first body.within.last) &
     -- result_type = ARROW type
     (λ _ from to (_, arrow, ty). before arrow (stands_in ty)) &
     -- result_type = (nothing)
     (λ _ from to k. nothing k) &
     -- parameters = open_angle parameter parameters_more GT
-    (λ _ from to (_, open_angle, (_, parameter, (_, more, end))). behind (before_mark open_angle parameter) (after more end)) &
+    (λ _ from to (_, open_angle, (_, parametric, (_, more, end))). behind (before_mark open_angle parametric) (after more end)) &
     -- parameters = (nothing)
     (λ _ from to k. nothing k) &
     -- parameters_more = COMMA parameter parameters_more
-    (λ _ from to (_, comma, (_, parameter, more)). behind (before comma parameter) more) &
+    (λ _ from to (_, comma, (_, parametric, more)). behind (before comma parametric) more) &
     -- parameters_more = (nothing)
     (λ _ from to k. nothing k) &
     -- parameter = any_name COLON type parameter_default
-    (λ _ from to (_, name, (_, colon, (_, ty, default))). made_of (things.of_parameter _) (behind (stands_in name) (before colon (behind (stands_in ty) default)))) &
+    (λ _ from to (_, name, (_, colon, (_, ty, default))). made_of (things.of_parametric _) (behind (stands_in name) (before colon (behind (stands_in ty) default)))) &
     -- parameter_default = ASSIGN LBRACE expr RBRACE
     (λ _ from to (_, sign, (_, opening, (_, value, closing))). before sign (before opening (after (operand_in value) closing))) &
     -- parameter_default = (nothing)

@@ -11,7 +11,7 @@ pub keep : AllKeep rules
 unfolding rules
 keep =
     -- proc = PROC any_name parameters open_brace proc_members parts RBRACE
-    (λ _ from to (_, keyword, (_, name, (_, parameters, (_, open_brace, (_, members, (_, parts, closing)))))). alone from to (things.of_proc _ parts.parts parts.order) (starting keyword (behind (stands_in name) (behind parameters (before_mark open_brace (behind members (ending parts.there closing)))))) keyword.within.first closing.within.last) &
+    (λ _ from to (_, keyword, (_, name, (_, parametrics, (_, open_brace, (_, members, (_, parts, closing)))))). alone from to (things.of_proc _ parts.parts parts.order) (starting keyword (behind (stands_in name) (behind parametrics (before_mark open_brace (behind members (ending parts.there closing)))))) keyword.within.first closing.within.last) &
     -- proc_members = proc_member proc_members
     (λ _ from to (_, member, more). behind member more) &
     -- proc_members = (nothing)
@@ -43,7 +43,7 @@ keep =
     -- parts_config_init = init config
     (λ _ from to (_, init, config). inr (behind (stands_in init) config)) &
     -- config = CONFIG LPAREN ends RPAREN LBRACE makings config_result RBRACE
-    (λ _ from to (_, keyword, (_, opening, (_, ends, (_, closing, (_, opening_2, (_, makings, (_, result, closing_2))))))). alone from to (things.of_config _) (starting keyword (before opening (behind ends (before closing (before opening_2 (behind makings (ending result closing_2))))))) keyword.within.first closing_2.within.last) &
+    (λ _ from to (_, keyword, (_, opening, (_, ends, (_, closing, (_, opening_2, (_, config_statements, (_, result, closing_2))))))). alone from to (things.of_config _) (starting keyword (before opening (behind ends (before closing (before opening_2 (behind config_statements (ending result closing_2))))))) keyword.within.first closing_2.within.last) &
     -- ends = end_declared ends_more
     (λ _ from to (_, end, more). behind end more) &
     -- ends = (nothing)
@@ -55,9 +55,9 @@ keep =
     -- end_declared = any_name COLON end
     (λ _ from to (_, name, (_, colon, word)). made_of (things.of_end _) (behind (stands_in name) (before colon word))) &
     -- makings = channel makings
-    (λ _ from to (_, making, more). behind making more) &
+    (λ _ from to (_, config_statement, more). behind config_statement more) &
     -- makings = spawn makings
-    (λ _ from to (_, making, more). behind making more) &
+    (λ _ from to (_, config_statement, more). behind config_statement more) &
     -- makings = (nothing)
     (λ _ from to k. nothing k) &
     -- channel = LET LPAREN any_name COMMA any_name RPAREN ASSIGN channel_made

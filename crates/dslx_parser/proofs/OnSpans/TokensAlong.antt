@@ -8,7 +8,7 @@ use Rattle.dslx_token.specs.Blank.{after_blank, behind_blank}
 use Rattle.dslx_token.specs.Characters.{is_white}
 use Rattle.dslx_token.specs.Kinds.{kind_behind, name_kind, plain_kind, settled}
 use Rattle.dslx_token.specs.Lexeme.{Lexeme}
-use Rattle.dslx_token.specs.Tokens.{PlainTokens, Tokens, at_end, next, place_of}
+use Rattle.dslx_token.specs.Tokens.{PlainTokens, Tokens, at_end, next, offset_of}
 use Rattle.dslx_parser.specs.Spans.Along.{AreAlong}
 
 -- ---- white space and comments are not longer than what they stand before
@@ -36,7 +36,7 @@ says named before (c ∷ cs) is = λ e. absurd (cc)
 
 -- ---- one behind the other
 
-first_before : (text rest token behind : List ℕ) → after_blank rest ≡ token ++ behind → place_of text rest ≤ place_of text (token ++ behind)
+first_before : (text rest token behind : List ℕ) → after_blank rest ≡ token ++ behind → offset_of text rest ≤ offset_of text (token ++ behind)
 first_before text rest token behind split =
     let shorter : length (after_blank rest) ≤ length rest = blank_shorter false rest in
     let here : length (token ++ behind) ≤ length rest = subst (λ (xs : List ℕ). length xs ≤ length rest) split shorter in
@@ -49,7 +49,7 @@ all_of token behind rest text split within =
     let both = length-append token behind in
     omega (arith, here, both, within)
 
-last_before : (text token behind : List ℕ) → length token + length behind ≤ length text → place_of text (token ++ behind) + length token ≤ place_of text behind
+last_before : (text token behind : List ℕ) → length token + length behind ≤ length text → offset_of text (token ++ behind) + length token ≤ offset_of text behind
 last_before text token behind all =
     let both = length-append token behind in
     omega (arith, all, both)
@@ -58,7 +58,7 @@ first_by : (ls : List Lexeme) (a b to : ℕ) → a ≤ b → AreAlong ls b to �
 first_by [] a b to le k = omega (arith, le, k)
 first_by (l ∷ ls) a b to le k = let first = k.0 in (omega (arith, le, first), k.1, k.2, k.3)
 
-plain_along : (named : List ℕ → ℕ) (text : List ℕ) {rest : List ℕ} {ls : List Lexeme} → PlainTokens text rest ls → (before : ℕ) → length rest ≤ length text → AreAlong (settled named before ls) (place_of text rest) (length text)
+plain_along : (named : List ℕ → ℕ) (text : List ℕ) {rest : List ℕ} {ls : List Lexeme} → PlainTokens text rest ls → (before : ℕ) → length rest ≤ length text → AreAlong (settled named before ls) (offset_of text rest) (length text)
 plain_along named text (at_end rest blank) before within = (omega arith, omega arith, says named before [], omega arith)
 plain_along named text (next rest token behind more split is tokens) before within =
     let all = all_of token behind rest text split within in
@@ -66,13 +66,13 @@ plain_along named text (next rest token behind more split is tokens) before with
       first_before text rest token behind split,
       omega arith,
       says named before token,
-      first_by (settled named kind more) (place_of text (token ++ behind) + length token) (place_of text behind) (length text) (last_before text token behind all)
+      first_by (settled named kind more) (offset_of text (token ++ behind) + length token) (offset_of text behind) (length text) (last_before text token behind all)
           (plain_along named text tokens kind (omega (arith, all))),
     )
 
 pub tokens_along : (text : List ℕ) (ls : List Lexeme) → Tokens text ls → AreAlong ls 0 (length text)
 tokens_along text ls tokens =
-    let start : place_of text text ≡ 0 = omega arith in
+    let start : offset_of text text ≡ 0 = omega arith in
     subst (λ (xs : List Lexeme). AreAlong xs 0 (length text)) (sym tokens.settled_so)
     (subst (λ (n : ℕ). AreAlong (settled (name_kind tokens.plain) END tokens.plain) n (length text)) start
     (plain_along (name_kind tokens.plain) text tokens.plainly END (omega arith)))

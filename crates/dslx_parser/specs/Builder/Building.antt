@@ -4,7 +4,7 @@ use Rattle.grammar.specs.declared.bottom_up.Step.{Step}
 use Rattle.grammar.specs.declared.bottom_up.Step.TheVariants.{Shift, Reduce}
 use Rattle.dslx_tree.specs.declared.item.Module.{Module}
 use Rattle.dslx_token.specs.Lexeme.{Lexeme}
-use Rattle.dslx_actions.specs.declared.parts.Parts.{Parts}
+use Rattle.dslx_actions.specs.declared.parts.SemanticStacks.{SemanticStacks}
 use Rattle.dslx_actions.specs.Tokens.{shifted}
 use Rattle.dslx_actions.specs.Types.Rules.{reduced_pattern, reduced_type}
 use Rattle.dslx_expr_actions.specs.Atoms.Rules.{reduced_arg, reduced_atom}
@@ -28,7 +28,7 @@ abbrev pub rule_of : ℕ → Rule
 rule_of production = entry_at table production
 
 -- what a complete tree of a rule does
-abbrev pub reduced : Rule → Parts → Parts
+abbrev pub reduced : Rule → SemanticStacks → SemanticStacks
 reduced Keep s = s
 reduced (Common rule) s = reduced_common rule s
 reduced (TypeExpr rule) s = reduced_type rule s
@@ -41,12 +41,12 @@ reduced (Item rule) s = reduced_item rule s
 reduced (Proc rule) s = reduced_proc rule s
 
 -- what is built by the steps from the tokens
-unfoldable pub built : List Step → List Lexeme → Parts → Parts
+unfoldable pub built : List Step → List Lexeme → SemanticStacks → SemanticStacks
 built [] ls s = s
 built (Shift ∷ steps) [] s = built steps [] s
 built (Shift ∷ steps) (l ∷ ls) s = built steps ls (shifted l s)
 built (Reduce p ∷ steps) ls s = built steps ls (reduced (rule_of p) s)
 
 -- the tree of a text whose items have been built
-abbrev pub module_of : Parts → Module
+abbrev pub module_of : SemanticStacks → Module
 module_of s = record { items = reverse s.items }

@@ -1,10 +1,10 @@
 -- What rules of several sorts do where their symbols are complete.
-use Rattle.dslx_actions.specs.declared.parts.Parts.{Parts}
-use Rattle.dslx_parser.specs.declared.builder.rule.CommonRule.{CommonRule}
-use Rattle.dslx_parser.specs.declared.builder.rule.CommonRule.TheVariants.{Skip, LastMark, Start, More, SkipMore, NothingMore, Annotation, NoAnnotation, Given, LeftOut}
+use Rattle.dslx_actions.specs.declared.parts.SemanticStacks.{SemanticStacks}
+use Rattle.dslx_parser.specs.declared.builder.rule.CommonAction.{CommonAction}
+use Rattle.dslx_parser.specs.declared.builder.rule.CommonAction.TheVariants.{Skip, LastMark, Start, More, SkipMore, NothingMore, Annotation, NoAnnotation, Given, LeftOut}
 use Rattle.dslx_actions.specs.Common as common
 
-abbrev pub reduced_common : CommonRule → Parts → Parts
+abbrev pub reduced_common : CommonAction → SemanticStacks → SemanticStacks
 reduced_common (Skip count) s = common.skip count s
 reduced_common (LastMark count) s = common.last_mark count s
 reduced_common Start s = common.start s

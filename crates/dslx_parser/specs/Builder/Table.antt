@@ -4,15 +4,15 @@ use Rattle.dslx_token.specs.declared.rules.generated.production.TheConstants as 
 use Rattle.dslx_tree.specs.declared.operator.Binary.TheVariants as binary
 use Rattle.dslx_tree.specs.declared.operator.Prefix.TheVariants as prefix
 use Rattle.dslx_tree.specs.declared.process.Direction.TheVariants as direction
-use Rattle.dslx_actions.specs.declared.types.rule.TypeRule.TheVariants as types
-use Rattle.dslx_actions.specs.declared.types.rule.PatternRule.TheVariants as patterns
-use Rattle.dslx_expr_actions.specs.declared.atoms.rule.ArgRule.TheVariants as args
-use Rattle.dslx_expr_actions.specs.declared.atoms.rule.AtomRule.TheVariants as atoms
-use Rattle.dslx_expr_actions.specs.declared.operators.rule.OperatorRule.TheVariants as operators
-use Rattle.dslx_expr_actions.specs.declared.braces.rule.BraceRule.TheVariants as braces
-use Rattle.dslx_item_actions.specs.declared.rule.ItemRule.TheVariants as items
-use Rattle.dslx_item_actions.specs.declared.rule.ProcRule.TheVariants as procs
-use Rattle.dslx_parser.specs.declared.builder.rule.CommonRule.TheVariants as common
+use Rattle.dslx_actions.specs.declared.types.rule.TypeAction.TheVariants as types
+use Rattle.dslx_actions.specs.declared.types.rule.PatternAction.TheVariants as patterns
+use Rattle.dslx_expr_actions.specs.declared.atoms.rule.ArgAction.TheVariants as args
+use Rattle.dslx_expr_actions.specs.declared.atoms.rule.AtomAction.TheVariants as atoms
+use Rattle.dslx_expr_actions.specs.declared.operators.rule.OperatorAction.TheVariants as operators
+use Rattle.dslx_expr_actions.specs.declared.braces.rule.BraceAction.TheVariants as braces
+use Rattle.dslx_item_actions.specs.declared.rule.ItemAction.TheVariants as items
+use Rattle.dslx_item_actions.specs.declared.rule.ProcAction.TheVariants as procs
+use Rattle.dslx_parser.specs.declared.builder.rule.CommonAction.TheVariants as common
 use Rattle.dslx_parser.specs.declared.builder.rule.Rule.{Rule}
 use Rattle.dslx_parser.specs.declared.builder.rule.Rule.TheVariants.{Keep, Common, TypeExpr, Pattern, Atom, Arg, Operator, Brace, Item, Proc}
 
@@ -74,7 +74,7 @@ table =
     -- parameters_more = (nothing)
     (production.PARAMETERS_MORE__NONE, Common common.Start) ∷
     -- parameter = any_name COLON type parameter_default
-    (production.PARAMETER, Item items.Parameter) ∷
+    (production.PARAMETER, Item items.Parametric) ∷
     -- parameter_default = ASSIGN LBRACE expr RBRACE
     (production.PARAMETER_DEFAULT__ASSIGN, Common (common.Given 3)) ∷
     -- parameter_default = (nothing)

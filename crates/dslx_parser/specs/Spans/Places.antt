@@ -24,7 +24,7 @@ use Rattle.dslx_tree.specs.declared.item.Function.{Function}
 use Rattle.dslx_tree.specs.declared.item.Item.{Item}
 use Rattle.dslx_tree.specs.declared.item.Member.{Member}
 use Rattle.dslx_tree.specs.declared.item.Module.{Module}
-use Rattle.dslx_tree.specs.declared.item.Parameter.{Parameter}
+use Rattle.dslx_tree.specs.declared.item.Parametric.{Parametric}
 use Rattle.dslx_tree.specs.declared.item.Struct.{Struct}
 use Rattle.dslx_tree.specs.declared.operator.Binary.{Binary}
 use Rattle.dslx_tree.specs.declared.operator.Prefix.{Prefix}
@@ -34,8 +34,8 @@ use Rattle.dslx_tree.specs.declared.pattern.Shape as shapes
 use Rattle.dslx_tree.specs.declared.process.Channel.{Channel}
 use Rattle.dslx_tree.specs.declared.process.Config.{Config}
 use Rattle.dslx_tree.specs.declared.process.End.{End}
-use Rattle.dslx_tree.specs.declared.process.Making.{Making}
-use Rattle.dslx_tree.specs.declared.process.Making.TheVariants as makings
+use Rattle.dslx_tree.specs.declared.process.ConfigStatement.{ConfigStatement}
+use Rattle.dslx_tree.specs.declared.process.ConfigStatement.TheVariants as config_statements
 use Rattle.dslx_tree.specs.declared.process.Next.{Next}
 use Rattle.dslx_tree.specs.declared.process.Proc.{Proc}
 use Rattle.dslx_tree.specs.declared.process.Spawn.{Spawn}
@@ -57,12 +57,12 @@ pub data Thing : Type 0 where
   ident : Ident → Thing
   item : Item → Thing
   definition : Definition → Thing
-  parameter : Parameter → Thing
+  parametric : Parametric → Thing
   field : Field → Thing
   member : Member → Thing
   end : End → Thing
   config : Config → Thing
-  making : Making → Thing
+  config_statement : ConfigStatement → Thing
   next : Next → Thing
 
 abbrev pub maybe_expr : Option Expr → List Thing
@@ -140,16 +140,16 @@ pub data Inside : Thing → Span → List Thing → Type 0 where
   of_block : (span : Span) (statements : List Stmt) (value : Option Expr) → Inside (block (roll-Block (record { span = span; statements = statements; value = value }))) span (map statement statements ++ maybe_expr value)
   of_let : (span : Span) (bound : Pattern) (ty : Option TypeExpr) (value : Expr) → Inside (statement (stmts.Let (roll-Let (record { span = span; pattern = bound; ty = ty; value = value })))) span (pattern bound ∷ (maybe_type ty ++ expr value ∷ []))
   -- definitions
-  of_function : (f : Function) → Inside (definition (definitions.Function f)) f.span (ident f.name ∷ (map parameter f.parameters ++ (map field f.arguments ++ (maybe_type f.result ++ block f.body ∷ []))))
+  of_function : (f : Function) → Inside (definition (definitions.Function f)) f.span (ident f.name ∷ (map parametric f.parametrics ++ (map field f.arguments ++ (maybe_type f.result ++ block f.body ∷ []))))
   of_constant : (c : Constant) → Inside (definition (definitions.Constant c)) c.span (ident c.name ∷ (maybe_type c.ty ++ expr c.value ∷ []))
   of_alias : (a : Alias) → Inside (definition (definitions.Alias a)) a.span (ident a.name ∷ type_expr a.ty ∷ [])
   of_structure : (s : Struct) → Inside (definition (definitions.Struct s)) s.span (ident s.name ∷ map field s.fields)
   of_enumeration : (e : Enum) → Inside (definition (definitions.Enum e)) e.span (ident e.name ∷ type_expr e.base ∷ map member e.members)
-  of_proc : (p : Proc) (parts : List Thing) → InSomeOrder (config p.config) (block p.init) (next p.next) parts → Inside (definition (definitions.Proc p)) p.span (ident p.name ∷ (map parameter p.parameters ++ (map end p.members ++ parts)))
+  of_proc : (p : Proc) (parts : List Thing) → InSomeOrder (config p.config) (block p.init) (next p.next) parts → Inside (definition (definitions.Proc p)) p.span (ident p.name ∷ (map parametric p.parametrics ++ (map end p.members ++ parts)))
   -- procs
-  of_config : (c : Config) → Inside (config c) c.span (map end c.ends ++ (map making c.makings ++ map ident c.result))
-  of_channel : (c : Channel) → Inside (making (makings.Channel c)) c.span (ident c.sender ∷ ident c.receiver ∷ type_expr c.word ∷ (maybe_arg c.depth ++ spot c.name.span ∷ []))
-  of_spawn : (s : Spawn) → Inside (making (makings.Spawn s)) s.span (ident s.target ∷ (map arg s.arguments ++ map ident s.ends))
+  of_config : (c : Config) → Inside (config c) c.span (map end c.ends ++ (map config_statement c.config_statements ++ map ident c.result))
+  of_channel : (c : Channel) → Inside (config_statement (config_statements.Channel c)) c.span (ident c.sender ∷ ident c.receiver ∷ type_expr c.word ∷ (maybe_arg c.depth ++ spot c.name.span ∷ []))
+  of_spawn : (s : Spawn) → Inside (config_statement (config_statements.Spawn s)) s.span (ident s.target ∷ (map arg s.arguments ++ map ident s.ends))
   of_next : (n : Next) → Inside (next n) n.span (ident n.state ∷ type_expr n.ty ∷ block n.body ∷ [])
 
 -- The part has no place of its own: it is these parts.
@@ -158,17 +158,17 @@ pub data IsMadeOf : Thing → List Thing → Type 0 where
   of_arm : (patterns : List Pattern) (value : Expr) → IsMadeOf (arm (roll-Arm (record { patterns = patterns; value = value }))) (map pattern patterns ++ expr value ∷ [])
   of_field_value : (name : Ident) (value : Option Expr) → IsMadeOf (field_value (roll-FieldValue (record { name = name; value = value }))) (ident name ∷ maybe_expr value)
   of_item : (x : Item) → IsMadeOf (item x) (definition x.definition ∷ [])
-  of_parameter : (p : Parameter) → IsMadeOf (parameter p) (ident p.name ∷ type_expr p.ty ∷ maybe_expr p.default)
+  of_parametric : (p : Parametric) → IsMadeOf (parametric p) (ident p.name ∷ type_expr p.ty ∷ maybe_expr p.default)
   of_declared : (f : Field) → IsMadeOf (field f) (ident f.name ∷ type_expr f.ty ∷ [])
   of_constant_member : (m : Member) → IsMadeOf (member m) (ident m.name ∷ expr m.value ∷ [])
   of_end : (e : End) → IsMadeOf (end e) (ident e.name ∷ type_expr e.word ∷ [])
 
 -- The parts stand between these bytes, one behind the other, and so do the parts inside each.
-pub data Stand : List Thing → ℕ → ℕ → Type 0 where
-  nothing : {from to : ℕ} → from ≤ to → Stand [] from to
-  placed : {x : Thing} {span : Span} {inner more : List Thing} {from to : ℕ} → Inside x span inner → from ≤ span.from → Stand inner span.from span.to → Stand more span.to to → Stand (x ∷ more) from to
-  spread : {x : Thing} {inner more : List Thing} {from to : ℕ} → IsMadeOf x inner → Stand (inner ++ more) from to → Stand (x ∷ more) from to
+pub data LieBetween : List Thing → ℕ → ℕ → Type 0 where
+  nothing : {from to : ℕ} → from ≤ to → LieBetween [] from to
+  placed : {x : Thing} {span : Span} {inner more : List Thing} {from to : ℕ} → Inside x span inner → from ≤ span.from → LieBetween inner span.from span.to → LieBetween more span.to to → LieBetween (x ∷ more) from to
+  spread : {x : Thing} {inner more : List Thing} {from to : ℕ} → IsMadeOf x inner → LieBetween (inner ++ more) from to → LieBetween (x ∷ more) from to
 
 -- The items of the text stand between these bytes, and so does all inside them.
-abbrev pub AreItemsPlaced : Module → ℕ → ℕ → Type 0
-AreItemsPlaced m from to = Stand (map item m.items) from to
+abbrev pub ItemsHaveSpans : Module → ℕ → ℕ → Type 0
+ItemsHaveSpans m from to = LieBetween (map item m.items) from to

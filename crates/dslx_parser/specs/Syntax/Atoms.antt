@@ -7,9 +7,9 @@ use Rattle.dslx_tree.specs.declared.expr.FieldValue.{roll-FieldValue}
 use Rattle.dslx_tree.specs.declared.type_expr.TypeExpr.{out-TypeExpr}
 use Rattle.dslx_tree.specs.declared.expr.Node as nodes
 use Rattle.dslx_parser.specs.Syntax.Nodes.{array_at, bare_number, block_alone, exprs_of, from_to, ident_of, in_turn, member_of, name_alone, named_type, number_of, operand_at, typed_number}
-use Rattle.dslx_parser.specs.Syntax.SymbolParts.{MakingRule, makes}
+use Rattle.dslx_parser.specs.Syntax.SymbolParts.{SemanticAction, makes}
 
-unfoldable pub rules : List MakingRule
+unfoldable pub rules : List SemanticAction
 rules =
     -- atom = NUMBER
     makes nonterminal.ATOM (Terminal kind.NUMBER ∷ []) (λ number. bare_number (number_of number)) ∷

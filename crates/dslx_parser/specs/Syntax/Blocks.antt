@@ -7,9 +7,9 @@ use Rattle.dslx_tree.specs.declared.expr.Arm.{roll-Arm}
 use Rattle.dslx_tree.specs.declared.expr.For.{roll-For}
 use Rattle.dslx_tree.specs.declared.expr.Node as nodes
 use Rattle.dslx_parser.specs.Syntax.Nodes.{block_alone, block_at, from_to, operand_at}
-use Rattle.dslx_parser.specs.Syntax.SymbolParts.{MakingRule, makes}
+use Rattle.dslx_parser.specs.Syntax.SymbolParts.{SemanticAction, makes}
 
-unfoldable pub rules : List MakingRule
+unfoldable pub rules : List SemanticAction
 rules =
     -- if = IF expr headed_block ELSE else
     makes nonterminal.IF (Terminal kind.IF ∷ Nonterminal nonterminal.EXPR ∷ Nonterminal nonterminal.HEADED_BLOCK ∷ Terminal kind.ELSE ∷ Nonterminal nonterminal.ELSE ∷ []) (λ keyword condition block _ other. operand_at (from_to keyword.span other.span) (nodes.If condition.expr block other.expr)) ∷

@@ -6,9 +6,9 @@ use Rattle.dslx_token.specs.declared.rules.generated.nonterminal.TheConstants as
 use Rattle.dslx_tree.specs.declared.block.Block.{out-Block}
 use Rattle.dslx_tree.specs.declared.item.Definition.TheVariants as definitions
 use Rattle.dslx_parser.specs.Syntax.Nodes.{from_to, ident_of}
-use Rattle.dslx_parser.specs.Syntax.SymbolParts.{MakingRule, makes}
+use Rattle.dslx_parser.specs.Syntax.SymbolParts.{SemanticAction, makes}
 
-unfoldable pub rules : List MakingRule
+unfoldable pub rules : List SemanticAction
 rules =
     -- module = items
     makes nonterminal.MODULE (Nonterminal nonterminal.ITEMS ∷ []) (λ items. record { items = items }) ∷
@@ -51,17 +51,17 @@ rules =
     -- open_angle = ARGS
     makes nonterminal.OPEN_ANGLE (Terminal kind.ARGS ∷ []) (λ angle. angle.span) ∷
     -- function = FN any_name parameters LPAREN arguments_declared RPAREN result_type block
-    makes nonterminal.FUNCTION (Terminal kind.FN ∷ Nonterminal nonterminal.ANY_NAME ∷ Nonterminal nonterminal.PARAMETERS ∷ Terminal kind.LPAREN ∷ Nonterminal nonterminal.ARGUMENTS_DECLARED ∷ Terminal kind.RPAREN ∷ Nonterminal nonterminal.RESULT_TYPE ∷ Nonterminal nonterminal.BLOCK ∷ []) (λ keyword name parameters _ arguments _ result body. definitions.Function (record { span = from_to keyword.span (out-Block body).span; name = name; parameters = parameters; arguments = arguments; result = result; body = body })) ∷
+    makes nonterminal.FUNCTION (Terminal kind.FN ∷ Nonterminal nonterminal.ANY_NAME ∷ Nonterminal nonterminal.PARAMETERS ∷ Terminal kind.LPAREN ∷ Nonterminal nonterminal.ARGUMENTS_DECLARED ∷ Terminal kind.RPAREN ∷ Nonterminal nonterminal.RESULT_TYPE ∷ Nonterminal nonterminal.BLOCK ∷ []) (λ keyword name parametrics _ arguments _ result body. definitions.Function (record { span = from_to keyword.span (out-Block body).span; name = name; parametrics = parametrics; arguments = arguments; result = result; body = body })) ∷
     -- result_type = ARROW type
     makes nonterminal.RESULT_TYPE (Terminal kind.ARROW ∷ Nonterminal nonterminal.TYPE ∷ []) (λ _ ty. Some ty) ∷
     -- result_type = (nothing)
     makes nonterminal.RESULT_TYPE [] (None) ∷
     -- parameters = open_angle parameter parameters_more GT
-    makes nonterminal.PARAMETERS (Nonterminal nonterminal.OPEN_ANGLE ∷ Nonterminal nonterminal.PARAMETER ∷ Nonterminal nonterminal.PARAMETERS_MORE ∷ Terminal kind.GT ∷ []) (λ _ parameter more _. parameter ∷ more) ∷
+    makes nonterminal.PARAMETERS (Nonterminal nonterminal.OPEN_ANGLE ∷ Nonterminal nonterminal.PARAMETER ∷ Nonterminal nonterminal.PARAMETERS_MORE ∷ Terminal kind.GT ∷ []) (λ _ parametric more _. parametric ∷ more) ∷
     -- parameters = (nothing)
     makes nonterminal.PARAMETERS [] ([]) ∷
     -- parameters_more = COMMA parameter parameters_more
-    makes nonterminal.PARAMETERS_MORE (Terminal kind.COMMA ∷ Nonterminal nonterminal.PARAMETER ∷ Nonterminal nonterminal.PARAMETERS_MORE ∷ []) (λ _ parameter more. parameter ∷ more) ∷
+    makes nonterminal.PARAMETERS_MORE (Terminal kind.COMMA ∷ Nonterminal nonterminal.PARAMETER ∷ Nonterminal nonterminal.PARAMETERS_MORE ∷ []) (λ _ parametric more. parametric ∷ more) ∷
     -- parameters_more = (nothing)
     makes nonterminal.PARAMETERS_MORE [] ([]) ∷
     -- parameter = any_name COLON type parameter_default

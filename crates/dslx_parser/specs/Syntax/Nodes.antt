@@ -62,8 +62,8 @@ abbrev pub says_signed : List ℕ → Bool
 says_signed bytes = bytes_eq bytes (codes "sN")
 
 -- the place of a number behind its type
-abbrev pub number_place : TypeExpr → Numeral → Span
-number_place ty n = from_to (out-TypeExpr ty).span n.span
+abbrev pub number_span : TypeExpr → Numeral → Span
+number_span ty n = from_to (out-TypeExpr ty).span n.span
 
 -- ---- expressions, each with its place, which takes in the parentheses round it
 
@@ -77,7 +77,7 @@ abbrev pub bare_number : Numeral → Operand
 bare_number n = operand_at n.span (nodes.Number (number_with None n))
 
 abbrev pub typed_number : TypeExpr → Numeral → Operand
-typed_number ty n = operand_at (number_place ty n) (nodes.Number (number_with (Some ty) n))
+typed_number ty n = operand_at (number_span ty n) (nodes.Number (number_with (Some ty) n))
 
 abbrev pub name_alone : Ident → Operand
 name_alone name = operand_at name.span (nodes.Name name.name)
@@ -119,7 +119,7 @@ abbrev pub member_pattern : Ident → Ident → Pattern
 member_pattern owner member = pattern_at (from_to owner.span member.span) (shapes.Member owner member)
 
 abbrev pub number_pattern : TypeExpr → Numeral → Pattern
-number_pattern ty n = pattern_at (number_place ty n) (shapes.Number (number_with (Some ty) n))
+number_pattern ty n = pattern_at (number_span ty n) (shapes.Number (number_with (Some ty) n))
 
 -- ---- loops
 

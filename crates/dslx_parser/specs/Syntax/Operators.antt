@@ -10,9 +10,9 @@ use Rattle.dslx_tree.specs.declared.expr.Node as nodes
 use Rattle.dslx_tree.specs.declared.operator.Binary.TheVariants as binary
 use Rattle.dslx_tree.specs.declared.operator.Prefix.TheVariants as prefix
 use Rattle.dslx_parser.specs.Syntax.Nodes.{from_to, in_turn, operand_at}
-use Rattle.dslx_parser.specs.Syntax.SymbolParts.{MakingRule, makes}
+use Rattle.dslx_parser.specs.Syntax.SymbolParts.{SemanticAction, makes}
 
-unfoldable pub rules : List MakingRule
+unfoldable pub rules : List SemanticAction
 rules =
     -- expr = operand operands
     makes nonterminal.EXPR (Nonterminal nonterminal.OPERAND ∷ Nonterminal nonterminal.OPERANDS ∷ []) (λ first links. tree_of first links) ∷

@@ -6,14 +6,14 @@ use Rattle.dslx_token.specs.declared.rules.generated.nonterminal.TheConstants as
 use Rattle.dslx_tree.specs.declared.block.Block.{out-Block}
 use Rattle.dslx_tree.specs.declared.item.Definition.TheVariants as definitions
 use Rattle.dslx_tree.specs.declared.process.Direction.TheVariants as directions
-use Rattle.dslx_tree.specs.declared.process.Making.TheVariants as makings
+use Rattle.dslx_tree.specs.declared.process.ConfigStatement.TheVariants as config_statements
 use Rattle.dslx_parser.specs.Syntax.Nodes.{from_to, quoted_of}
-use Rattle.dslx_parser.specs.Syntax.SymbolParts.{MakingRule, makes}
+use Rattle.dslx_parser.specs.Syntax.SymbolParts.{SemanticAction, makes}
 
-unfoldable pub rules : List MakingRule
+unfoldable pub rules : List SemanticAction
 rules =
     -- proc = PROC any_name parameters open_brace proc_members parts RBRACE
-    makes nonterminal.PROC (Terminal kind.PROC ∷ Nonterminal nonterminal.ANY_NAME ∷ Nonterminal nonterminal.PARAMETERS ∷ Nonterminal nonterminal.OPEN_BRACE ∷ Nonterminal nonterminal.PROC_MEMBERS ∷ Nonterminal nonterminal.PARTS ∷ Terminal kind.RBRACE ∷ []) (λ keyword name parameters _ members parts closing. definitions.Proc (record { span = from_to keyword.span closing.span; name = name; parameters = parameters; members = members; config = parts.0; init = parts.1; next = parts.2 })) ∷
+    makes nonterminal.PROC (Terminal kind.PROC ∷ Nonterminal nonterminal.ANY_NAME ∷ Nonterminal nonterminal.PARAMETERS ∷ Nonterminal nonterminal.OPEN_BRACE ∷ Nonterminal nonterminal.PROC_MEMBERS ∷ Nonterminal nonterminal.PARTS ∷ Terminal kind.RBRACE ∷ []) (λ keyword name parametrics _ members parts closing. definitions.Proc (record { span = from_to keyword.span closing.span; name = name; parametrics = parametrics; members = members; config = parts.0; init = parts.1; next = parts.2 })) ∷
     -- proc_members = proc_member proc_members
     makes nonterminal.PROC_MEMBERS (Nonterminal nonterminal.PROC_MEMBER ∷ Nonterminal nonterminal.PROC_MEMBERS ∷ []) (λ member more. member ∷ more) ∷
     -- proc_members = (nothing)
@@ -45,7 +45,7 @@ rules =
     -- parts_config_init = init config
     makes nonterminal.PARTS_CONFIG_INIT (Nonterminal nonterminal.INIT ∷ Nonterminal nonterminal.CONFIG ∷ []) (λ init config. (config, init)) ∷
     -- config = CONFIG LPAREN ends RPAREN LBRACE makings config_result RBRACE
-    makes nonterminal.CONFIG (Terminal kind.CONFIG ∷ Terminal kind.LPAREN ∷ Nonterminal nonterminal.ENDS ∷ Terminal kind.RPAREN ∷ Terminal kind.LBRACE ∷ Nonterminal nonterminal.MAKINGS ∷ Nonterminal nonterminal.CONFIG_RESULT ∷ Terminal kind.RBRACE ∷ []) (λ keyword _ ends _ _ makings result closing. record { span = from_to keyword.span closing.span; ends = ends; makings = makings; result = result }) ∷
+    makes nonterminal.CONFIG (Terminal kind.CONFIG ∷ Terminal kind.LPAREN ∷ Nonterminal nonterminal.ENDS ∷ Terminal kind.RPAREN ∷ Terminal kind.LBRACE ∷ Nonterminal nonterminal.MAKINGS ∷ Nonterminal nonterminal.CONFIG_RESULT ∷ Terminal kind.RBRACE ∷ []) (λ keyword _ ends _ _ config_statements result closing. record { span = from_to keyword.span closing.span; ends = ends; config_statements = config_statements; result = result }) ∷
     -- ends = end_declared ends_more
     makes nonterminal.ENDS (Nonterminal nonterminal.END_DECLARED ∷ Nonterminal nonterminal.ENDS_MORE ∷ []) (λ end more. end ∷ more) ∷
     -- ends = (nothing)
@@ -57,13 +57,13 @@ rules =
     -- end_declared = any_name COLON end
     makes nonterminal.END_DECLARED (Nonterminal nonterminal.ANY_NAME ∷ Terminal kind.COLON ∷ Nonterminal nonterminal.END ∷ []) (λ name _ word. record { name = name; word = word.0; direction = word.1 }) ∷
     -- makings = channel makings
-    makes nonterminal.MAKINGS (Nonterminal nonterminal.CHANNEL ∷ Nonterminal nonterminal.MAKINGS ∷ []) (λ making more. making ∷ more) ∷
+    makes nonterminal.MAKINGS (Nonterminal nonterminal.CHANNEL ∷ Nonterminal nonterminal.MAKINGS ∷ []) (λ config_statement more. config_statement ∷ more) ∷
     -- makings = spawn makings
-    makes nonterminal.MAKINGS (Nonterminal nonterminal.SPAWN ∷ Nonterminal nonterminal.MAKINGS ∷ []) (λ making more. making ∷ more) ∷
+    makes nonterminal.MAKINGS (Nonterminal nonterminal.SPAWN ∷ Nonterminal nonterminal.MAKINGS ∷ []) (λ config_statement more. config_statement ∷ more) ∷
     -- makings = (nothing)
     makes nonterminal.MAKINGS [] ([]) ∷
     -- channel = LET LPAREN any_name COMMA any_name RPAREN ASSIGN channel_made
-    makes nonterminal.CHANNEL (Terminal kind.LET ∷ Terminal kind.LPAREN ∷ Nonterminal nonterminal.ANY_NAME ∷ Terminal kind.COMMA ∷ Nonterminal nonterminal.ANY_NAME ∷ Terminal kind.RPAREN ∷ Terminal kind.ASSIGN ∷ Nonterminal nonterminal.CHANNEL_MADE ∷ []) (λ keyword _ sender _ receiver _ _ made. makings.Channel (record { span = from_to keyword.span made.3; sender = sender; receiver = receiver; word = made.0; depth = made.1; name = made.2 })) ∷
+    makes nonterminal.CHANNEL (Terminal kind.LET ∷ Terminal kind.LPAREN ∷ Nonterminal nonterminal.ANY_NAME ∷ Terminal kind.COMMA ∷ Nonterminal nonterminal.ANY_NAME ∷ Terminal kind.RPAREN ∷ Terminal kind.ASSIGN ∷ Nonterminal nonterminal.CHANNEL_MADE ∷ []) (λ keyword _ sender _ receiver _ _ made. config_statements.Channel (record { span = from_to keyword.span made.3; sender = sender; receiver = receiver; word = made.0; depth = made.1; name = made.2 })) ∷
     -- channel_made = CHAN LT type channel_depth GT LPAREN STRING channel_end
     makes nonterminal.CHANNEL_MADE (Terminal kind.CHAN ∷ Terminal kind.LT ∷ Nonterminal nonterminal.TYPE ∷ Nonterminal nonterminal.CHANNEL_DEPTH ∷ Terminal kind.GT ∷ Terminal kind.LPAREN ∷ Terminal kind.STRING ∷ Nonterminal nonterminal.CHANNEL_END ∷ []) (λ _ _ ty depth _ _ name end. (ty, depth, quoted_of name, end)) ∷
     -- channel_end = RPAREN SEMI
@@ -73,7 +73,7 @@ rules =
     -- channel_depth = (nothing)
     makes nonterminal.CHANNEL_DEPTH [] (None) ∷
     -- spawn = SPAWN any_name spawn_args LPAREN names RPAREN SEMI
-    makes nonterminal.SPAWN (Terminal kind.SPAWN ∷ Nonterminal nonterminal.ANY_NAME ∷ Nonterminal nonterminal.SPAWN_ARGS ∷ Terminal kind.LPAREN ∷ Nonterminal nonterminal.NAMES ∷ Terminal kind.RPAREN ∷ Terminal kind.SEMI ∷ []) (λ keyword target arguments _ names _ semi. makings.Spawn (record { span = from_to keyword.span semi.span; target = target; arguments = arguments; ends = names })) ∷
+    makes nonterminal.SPAWN (Terminal kind.SPAWN ∷ Nonterminal nonterminal.ANY_NAME ∷ Nonterminal nonterminal.SPAWN_ARGS ∷ Terminal kind.LPAREN ∷ Nonterminal nonterminal.NAMES ∷ Terminal kind.RPAREN ∷ Terminal kind.SEMI ∷ []) (λ keyword target arguments _ names _ semi. config_statements.Spawn (record { span = from_to keyword.span semi.span; target = target; arguments = arguments; ends = names })) ∷
     -- spawn_args = open_angle arg args_more GT
     makes nonterminal.SPAWN_ARGS (Nonterminal nonterminal.OPEN_ANGLE ∷ Nonterminal nonterminal.ARG ∷ Nonterminal nonterminal.ARGS_MORE ∷ Terminal kind.GT ∷ []) (λ _ arg more _. arg ∷ more) ∷
     -- spawn_args = (nothing)

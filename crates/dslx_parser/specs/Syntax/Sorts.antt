@@ -16,20 +16,20 @@ use Rattle.dslx_tree.specs.declared.item.Field.{Field}
 use Rattle.dslx_tree.specs.declared.item.Item.{Item}
 use Rattle.dslx_tree.specs.declared.item.Member.{Member}
 use Rattle.dslx_tree.specs.declared.item.Module.{Module}
-use Rattle.dslx_tree.specs.declared.item.Parameter.{Parameter}
+use Rattle.dslx_tree.specs.declared.item.Parametric.{Parametric}
 use Rattle.dslx_tree.specs.declared.operator.Binary.{Binary}
 use Rattle.dslx_tree.specs.declared.pattern.Pattern.{Pattern}
 use Rattle.dslx_tree.specs.declared.process.Config.{Config}
 use Rattle.dslx_tree.specs.declared.process.Direction.{Direction}
 use Rattle.dslx_tree.specs.declared.process.End.{End}
-use Rattle.dslx_tree.specs.declared.process.Making.{Making}
+use Rattle.dslx_tree.specs.declared.process.ConfigStatement.{ConfigStatement}
 use Rattle.dslx_tree.specs.declared.process.Next.{Next}
 use Rattle.dslx_tree.specs.declared.type_expr.TypeExpr.{TypeExpr}
 use Rattle.dslx_parser.specs.Syntax.Nodes.{LoopRange, Numeral}
 
 -- the sorts of parts
 pub data Sort : Type 0 where
-  nothing mark whole items item definition ident idents annotation parameter parameters given field fields member members end ends word direction config next proc_parts init_and_next config_and_next config_and_init making makings made depth arg args named_arg number type_expr types size sizes named_size block statement statements statement_end bare bound named_bound colon_bound pattern patterns named_pattern operand operands operator links post posts part index_end parenthesis parenthesis_end typed named_operand named_field field_values elements more_elements arm arms range : Sort
+  nothing mark whole items item definition ident idents annotation parametric parametrics given field fields member members end ends word direction config next proc_parts init_and_next config_and_next config_and_init config_statement config_statements made depth arg args named_arg number type_expr types size sizes named_size block statement statements statement_end bare bound named_bound colon_bound pattern patterns named_pattern operand operands operator links post posts part index_end parenthesis parenthesis_end typed named_operand named_field field_values elements more_elements arm arms range : Sort
 
 -- the parts of a sort
 abbrev pub OfSort : Sort → Type 0
@@ -46,8 +46,8 @@ OfSort ident = Ident
 OfSort idents = List Ident
 -- a type that may be left out
 OfSort annotation = Option TypeExpr
-OfSort parameter = Parameter
-OfSort parameters = List Parameter
+OfSort parametric = Parametric
+OfSort parametrics = List Parametric
 -- an expression that may be left out
 OfSort given = Option Expr
 OfSort field = Field
@@ -66,8 +66,8 @@ OfSort proc_parts = Config × Block × Next
 OfSort init_and_next = Block × Next
 OfSort config_and_next = Config × Next
 OfSort config_and_init = Config × Block
-OfSort making = Making
-OfSort makings = List Making
+OfSort config_statement = ConfigStatement
+OfSort config_statements = List ConfigStatement
 -- the words of a channel, its depth, its name, and the place of its last token
 OfSort made = TypeExpr × Option Arg × Ident × Span
 -- the depth of a channel, which may be left out
@@ -152,9 +152,9 @@ sorts =
     (nonterminal.OPEN_ANGLE, mark) ∷
     (nonterminal.FUNCTION, definition) ∷
     (nonterminal.RESULT_TYPE, annotation) ∷
-    (nonterminal.PARAMETERS, parameters) ∷
-    (nonterminal.PARAMETERS_MORE, parameters) ∷
-    (nonterminal.PARAMETER, parameter) ∷
+    (nonterminal.PARAMETERS, parametrics) ∷
+    (nonterminal.PARAMETERS_MORE, parametrics) ∷
+    (nonterminal.PARAMETER, parametric) ∷
     (nonterminal.PARAMETER_DEFAULT, given) ∷
     (nonterminal.ARGUMENTS_DECLARED, fields) ∷
     (nonterminal.ARGUMENTS_DECLARED_MORE, fields) ∷
@@ -180,12 +180,12 @@ sorts =
     (nonterminal.ENDS, ends) ∷
     (nonterminal.ENDS_MORE, ends) ∷
     (nonterminal.END_DECLARED, end) ∷
-    (nonterminal.MAKINGS, makings) ∷
-    (nonterminal.CHANNEL, making) ∷
+    (nonterminal.MAKINGS, config_statements) ∷
+    (nonterminal.CHANNEL, config_statement) ∷
     (nonterminal.CHANNEL_MADE, made) ∷
     (nonterminal.CHANNEL_END, mark) ∷
     (nonterminal.CHANNEL_DEPTH, depth) ∷
-    (nonterminal.SPAWN, making) ∷
+    (nonterminal.SPAWN, config_statement) ∷
     (nonterminal.SPAWN_ARGS, args) ∷
     (nonterminal.CONFIG_RESULT, idents) ∷
     (nonterminal.NAMES, idents) ∷

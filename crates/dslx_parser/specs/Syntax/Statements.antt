@@ -7,9 +7,9 @@ use Rattle.dslx_tree.specs.declared.block.Let.{roll-Let}
 use Rattle.dslx_tree.specs.declared.block.Stmt as stmts
 use Rattle.dslx_tree.specs.declared.pattern.Shape as shapes
 use Rattle.dslx_parser.specs.Syntax.Nodes.{block_at, from_to, in_turn, member_pattern, name_pattern, named_type, number_pattern, pattern_at}
-use Rattle.dslx_parser.specs.Syntax.SymbolParts.{MakingRule, makes}
+use Rattle.dslx_parser.specs.Syntax.SymbolParts.{SemanticAction, makes}
 
-unfoldable pub rules : List MakingRule
+unfoldable pub rules : List SemanticAction
 rules =
     -- block = LBRACE statements RBRACE
     makes nonterminal.BLOCK (Terminal kind.LBRACE ∷ Nonterminal nonterminal.STATEMENTS ∷ Terminal kind.RBRACE ∷ []) (λ opening statements closing. block_at (from_to opening.span closing.span) statements) ∷

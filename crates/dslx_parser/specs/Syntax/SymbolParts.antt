@@ -26,10 +26,10 @@ made_from [] value parts = value
 made_from (symbol ∷ symbols) f parts = made_from symbols (f parts.0) parts.1
 
 -- A rule of the grammar, and the part of its nonterminal, by those of the symbols of its body.
-pub record MakingRule : Type 0 where
+pub record SemanticAction : Type 0 where
   pub head : ℕ
   pub body : List Symbol
   pub part : MadeFrom body (OfSort (sort_of head))
 
-abbrev pub makes : (head : ℕ) (body : List Symbol) → MadeFrom body (OfSort (sort_of head)) → MakingRule
+abbrev pub makes : (head : ℕ) (body : List Symbol) → MadeFrom body (OfSort (sort_of head)) → SemanticAction
 makes head body part = record { head = head; body = body; part = part }

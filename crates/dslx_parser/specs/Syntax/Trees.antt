@@ -8,7 +8,7 @@ use Rattle.dslx_token.specs.declared.rules.generated.kind.TheConstants.{END}
 use Rattle.dslx_token.specs.declared.rules.generated.nonterminal.TheConstants.{MODULE}
 use Rattle.dslx_token.specs.Lexeme.{Lexeme}
 use Rattle.dslx_tree.specs.declared.item.Module.{Module}
-use Rattle.dslx_parser.specs.Syntax.SymbolParts.{MakingRule, PartsOf, made_from}
+use Rattle.dslx_parser.specs.Syntax.SymbolParts.{SemanticAction, PartsOf, made_from}
 use Rattle.dslx_parser.specs.Syntax.Atoms as atoms
 use Rattle.dslx_parser.specs.Syntax.Blocks as blocks
 use Rattle.dslx_parser.specs.Syntax.Items as items
@@ -18,11 +18,11 @@ use Rattle.dslx_parser.specs.Syntax.Statements as statements
 use Rattle.dslx_parser.specs.Syntax.Types as types
 
 -- the rules of the grammar with what they make, in the order of docs/dslx.grammar
-unfoldable pub making_rules : List MakingRule
-making_rules = items.rules ++ (procs.rules ++ (types.rules ++ (statements.rules ++ (operators.rules ++ (atoms.rules ++ blocks.rules)))))
+unfoldable pub semantic_actions : List SemanticAction
+semantic_actions = items.rules ++ (procs.rules ++ (types.rules ++ (statements.rules ++ (operators.rules ++ (atoms.rules ++ blocks.rules)))))
 
 -- the rule of the grammar alone
-abbrev pub rule_of : MakingRule → Rule
+abbrev pub rule_of : SemanticAction → Rule
 rule_of r = record { head = r.head; body = r.body }
 
 -- The trees of these symbols, with these tokens, make these parts.
@@ -30,8 +30,8 @@ pub data Makes : (symbols : List Symbol) → Forest → List Lexeme → PartsOf 
   empty : Makes [] nothing [] tt
   leaf : {s : List Symbol} {right : Forest} {ls : List Lexeme} {parts : PartsOf s} (l : Lexeme) → Makes s right ls parts
       → Makes (Terminal l.kind ∷ s) (token l.kind right) (l ∷ ls) (l, parts)
-  branch : {p : ℕ} {s : List Symbol} {below right : Forest} {own others : List Lexeme} {parts : PartsOf s} (r : MakingRule) (inner : PartsOf r.body)
-      → slice_get making_rules p ≡ Some r → Makes r.body below own inner → Makes s right others parts
+  branch : {p : ℕ} {s : List Symbol} {below right : Forest} {own others : List Lexeme} {parts : PartsOf s} (r : SemanticAction) (inner : PartsOf r.body)
+      → slice_get semantic_actions p ≡ Some r → Makes r.body below own inner → Makes s right others parts
       → Makes (Nonterminal r.head ∷ s) (node p below right) (own ++ others) (made_from r.body r.part inner, parts)
 
 -- These tokens, of which the last one is the end mark, are a text, and this is its tree.

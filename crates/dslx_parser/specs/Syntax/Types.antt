@@ -6,9 +6,9 @@ use Rattle.dslx_token.specs.declared.rules.generated.nonterminal.TheConstants as
 use Rattle.dslx_token.specs.Lexical.{number_value, width_of}
 use Rattle.dslx_tree.specs.declared.type_expr.TypeNode as types
 use Rattle.dslx_parser.specs.Syntax.Nodes.{arg_at, arg_of, array_type, bare_number, from_to, in_turn, name_alone, named_type, number_of, says_signed, type_at, typed_number}
-use Rattle.dslx_parser.specs.Syntax.SymbolParts.{MakingRule, makes}
+use Rattle.dslx_parser.specs.Syntax.SymbolParts.{SemanticAction, makes}
 
-unfoldable pub rules : List MakingRule
+unfoldable pub rules : List SemanticAction
 rules =
     -- args_more = COMMA arg args_more
     makes nonterminal.ARGS_MORE (Terminal kind.COMMA ∷ Nonterminal nonterminal.ARG ∷ Nonterminal nonterminal.ARGS_MORE ∷ []) (λ _ arg more. arg ∷ more) ∷

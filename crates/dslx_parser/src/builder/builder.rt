@@ -8,7 +8,7 @@ ghost use Rattle.dslx_actions.specs.Empty.{empty};
 
 use crate::builder::rule::reduce;
 use crate::builder::table::rule_of;
-use dslx_actions::{Parts, Stack};
+use dslx_actions::{SemanticStacks, Stack};
 use dslx_token::Token;
 use dslx_tree::Module;
 use grammar::Step;
@@ -19,13 +19,13 @@ use xb_value::Seq;
 pub fn build(alloc: Global, steps: &[Step], tokens: &[Token]) -> Result<Module, AllocError>
     ensures { IfOk result (λ m. m ≡ module_of (built steps.now tokens.now empty)) }
 {
-    let mut parts = Parts::new(alloc);
+    let mut parts = SemanticStacks::new(alloc);
     run(alloc, steps, tokens, &mut parts)?;
     Ok(take_items(alloc, &mut parts))
 }
 
 /// Goes through the steps.
-fn run(alloc: Global, steps: &[Step], tokens: &[Token], parts: &mut Parts) -> Result<(), AllocError>
+fn run(alloc: Global, steps: &[Step], tokens: &[Token], parts: &mut SemanticStacks) -> Result<(), AllocError>
     ensures { OnOk result (parts.new ≡ built steps.now tokens.now parts.old) }
 {
     let mut next = 0usize;
@@ -42,7 +42,7 @@ fn take_step(
     step: Step,
     tokens: &[Token],
     next: usize,
-    parts: &mut Parts,
+    parts: &mut SemanticStacks,
 ) -> Result<usize, AllocError>
     ensures { IfOk result (λ after. (rest : List Step)
         → built (step ∷ rest) (drop next tokens.now) parts.old ≡ built rest (drop after tokens.now) parts.new) }
@@ -57,7 +57,7 @@ fn take_step(
 }
 
 /// Does what is done where a tree of the production is complete.
-fn reduce_one(alloc: Global, production: u16, parts: &mut Parts) -> Result<(), AllocError>
+fn reduce_one(alloc: Global, production: u16, parts: &mut SemanticStacks) -> Result<(), AllocError>
     ensures { OnOk result ((rest : List Step) (ls : List Lexeme)
         → built (Step.Reduce production ∷ rest) ls parts.old ≡ built rest ls parts.new) }
 {
@@ -70,7 +70,7 @@ fn shift_next(
     alloc: Global,
     tokens: &[Token],
     next: usize,
-    parts: &mut Parts,
+    parts: &mut SemanticStacks,
 ) -> Result<usize, AllocError>
     ensures { IfOk result (λ after. (rest : List Step)
         → built (Step.Shift ∷ rest) (drop next tokens.now) parts.old ≡ built rest (drop after tokens.now) parts.new) }
@@ -84,7 +84,7 @@ fn shift_next(
 }
 
 /// Takes the items that have been built, as a tree.
-fn take_items(alloc: Global, parts: &mut Parts) -> Module
+fn take_items(alloc: Global, parts: &mut SemanticStacks) -> Module
     ensures { result ≡ module_of parts.old }
 {
     let items = std::mem::replace(&mut parts.items, Stack::new(alloc));

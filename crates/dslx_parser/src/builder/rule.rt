@@ -4,12 +4,12 @@ ghost use Rattle.std.specs.Prelude.{◌≡◌, OnOk};
 ghost use Rattle.dslx_parser.specs.Builder.Building.{reduced};
 ghost use Rattle.dslx_parser.specs.Builder.Common.{reduced_common};
 
-use dslx_actions::Parts;
-use dslx_actions::types::{PatternRule, TypeRule, reduce_pattern, reduce_type};
-use dslx_expr_actions::atoms::{ArgRule, AtomRule, reduce_arg, reduce_atom};
-use dslx_expr_actions::braces::{BraceRule, reduce_brace};
-use dslx_expr_actions::operators::{OperatorRule, reduce_operator};
-use dslx_item_actions::{ItemRule, ProcRule, reduce_item, reduce_proc};
+use dslx_actions::SemanticStacks;
+use dslx_actions::types::{PatternAction, TypeAction, reduce_pattern, reduce_type};
+use dslx_expr_actions::atoms::{ArgAction, AtomAction, reduce_arg, reduce_atom};
+use dslx_expr_actions::braces::{BraceAction, reduce_brace};
+use dslx_expr_actions::operators::{OperatorAction, reduce_operator};
+use dslx_item_actions::{ItemAction, ProcAction, reduce_item, reduce_proc};
 use std::alloc::{AllocError, Global};
 
 /// What is done where a tree of a rule is complete.
@@ -17,20 +17,20 @@ use std::alloc::{AllocError, Global};
 pub enum Rule {
     /// Nothing: the parts stay.
     Keep,
-    Common(CommonRule),
-    TypeExpr(TypeRule),
-    Pattern(PatternRule),
-    Atom(AtomRule),
-    Arg(ArgRule),
-    Operator(OperatorRule),
-    Brace(BraceRule),
-    Item(ItemRule),
-    Proc(ProcRule),
+    Common(CommonAction),
+    TypeExpr(TypeAction),
+    Pattern(PatternAction),
+    Atom(AtomAction),
+    Arg(ArgAction),
+    Operator(OperatorAction),
+    Brace(BraceAction),
+    Item(ItemAction),
+    Proc(ProcAction),
 }
 
 /// What rules of several sorts do where their symbols are complete.
 #[derive(Clone, Copy)]
-pub enum CommonRule {
+pub enum CommonAction {
     /// So many tokens say nothing.
     Skip(usize),
     /// Of so many tokens only the place of the last one matters.
@@ -54,7 +54,7 @@ pub enum CommonRule {
 }
 
 /// Does what is done where a tree is complete.
-pub fn reduce(parts: &mut Parts, alloc: Global, rule: Rule) -> Result<(), AllocError>
+pub fn reduce(parts: &mut SemanticStacks, alloc: Global, rule: Rule) -> Result<(), AllocError>
     ensures { OnOk result (parts.new ≡ reduced rule parts.old) }
 {
     match rule {
@@ -72,25 +72,25 @@ pub fn reduce(parts: &mut Parts, alloc: Global, rule: Rule) -> Result<(), AllocE
 }
 
 /// Does what is done where a tree of a rule of several sorts is complete.
-fn reduce_common(parts: &mut Parts, rule: CommonRule) -> Result<(), AllocError>
+fn reduce_common(parts: &mut SemanticStacks, rule: CommonAction) -> Result<(), AllocError>
     ensures { OnOk result (parts.new ≡ reduced_common rule parts.old) }
 {
     match rule {
-        CommonRule::Skip(count) => {
+        CommonAction::Skip(count) => {
             parts.skip(count);
             Ok(())
         }
-        CommonRule::LastMark(count) => parts.last_mark(count),
-        CommonRule::Start => parts.start(),
-        CommonRule::More => parts.more(),
-        CommonRule::SkipMore(count) => {
+        CommonAction::LastMark(count) => parts.last_mark(count),
+        CommonAction::Start => parts.start(),
+        CommonAction::More => parts.more(),
+        CommonAction::SkipMore(count) => {
             parts.skip(count);
             parts.more()
         }
-        CommonRule::NothingMore => parts.nothing_more(),
-        CommonRule::Annotation => parts.annotation(),
-        CommonRule::NoAnnotation => parts.no_annotation(),
-        CommonRule::Given(count) => parts.given(count),
-        CommonRule::LeftOut => parts.left_out(),
+        CommonAction::NothingMore => parts.nothing_more(),
+        CommonAction::Annotation => parts.annotation(),
+        CommonAction::NoAnnotation => parts.no_annotation(),
+        CommonAction::Given(count) => parts.given(count),
+        CommonAction::LeftOut => parts.left_out(),
     }
 }

@@ -19,15 +19,15 @@ in_any_order name xs = sym (is_in_reverse name (plain xs))
 
 -- ---- the first so many
 
-drop_front : {T : Type 0} (a b : List T) → drop (length a) (a ++ b) ≡ b
-drop_front [] b = refl
-drop_front (x ∷ xs) b = drop_front xs b
+drop_prefix : {T : Type 0} (a b : List T) → drop (length a) (a ++ b) ≡ b
+drop_prefix [] b = refl
+drop_prefix (x ∷ xs) b = drop_prefix xs b
 
 first_are : (n : ℕ) (xs : List (List ℕ)) → first_names n (reverse xs) ≡ reverse (take n xs)
 first_are n xs =
     let parts : reverse xs ≡ reverse (drop n xs) ++ reverse (take n xs) = ap reverse (sym (take-append-drop n xs)) ∙ reverse-append (take n xs) (drop n xs) in
     let count : length (reverse xs) - n ≡ length (reverse (drop n xs)) = ap (λ (m : ℕ). m - n) (length-reverse xs) ∙ sym (length-drop n xs) ∙ sym (length-reverse (drop n xs)) in
-    ap (λ (m : ℕ). drop m (reverse xs)) count ∙ ap (λ (ys : List (List ℕ)). drop (length (reverse (drop n xs))) ys) parts ∙ drop_front (reverse (drop n xs)) (reverse (take n xs))
+    ap (λ (m : ℕ). drop m (reverse xs)) count ∙ ap (λ (ys : List (List ℕ)). drop (length (reverse (drop n xs))) ys) parts ∙ drop_prefix (reverse (drop n xs)) (reverse (take n xs))
 
 pub cut : (n : ℕ) (xs : List (Bor (List ℕ))) → reverse (plain (take n xs)) ≡ first_names n (reverse (plain xs))
 cut n xs = ap reverse (sym (take-map (λ (name : Bor (List ℕ)). name.now) n xs)) ∙ sym (first_are n (plain xs))
@@ -36,4 +36,4 @@ cut n xs = ap reverse (sym (take-map (λ (name : Bor (List ℕ)). name.now) n xs
 pub back_to : (names bound : List (List ℕ)) → first_names (length bound) (names ++ bound) ≡ bound
 back_to names bound =
     let more : length (names ++ bound) - length bound ≡ length names = omega (arith, length-append names bound) in
-    ap (λ (m : ℕ). drop m (names ++ bound)) more ∙ drop_front names bound
+    ap (λ (m : ℕ). drop m (names ++ bound)) more ∙ drop_prefix names bound

@@ -162,9 +162,9 @@ node_keeps (Node-F.Node::Array None es dots) run = refl
 node_keeps (Node-F.Node::Array (Some t) es dots) run = two_parts (mentioned_in_type t run.bound) (all_mentions (map mentioned es) run.bound) run
 node_keeps (Node-F.Node::Name name) run = meets_keep name run
 node_keeps (Node-F.Node::Member e a) run = refl
-node_keeps (Node-F.Call f numbers es) run =
-    two_parts (all_mentions (map mentioned_in_arg numbers) run.bound) (all_mentions (map mentioned es) run.bound) run
-    ∙ call_keeps (is_text_function (kind_of_call f.name)) f.name (all_mentions (map mentioned_in_arg numbers) run.bound) (all_mentions (map mentioned es) run.bound) run
+node_keeps (Node-F.Call f parametric_args es) run =
+    two_parts (all_mentions (map mentioned_in_arg parametric_args) run.bound) (all_mentions (map mentioned es) run.bound) run
+    ∙ call_keeps (is_text_function (kind_of_call f.name)) f.name (all_mentions (map mentioned_in_arg parametric_args) run.bound) (all_mentions (map mentioned es) run.bound) run
 node_keeps (Node-F.Node::Tuple es) run = refl
 node_keeps (Node-F.Struct x fields None) run = struct_keeps fields None run
 node_keeps (Node-F.Struct x fields (Some rest)) run = struct_keeps fields (Some rest) run

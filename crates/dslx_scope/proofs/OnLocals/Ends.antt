@@ -6,7 +6,7 @@ use Rattle.std.proofs.Math.Seq.{drop-cons}
 use Rattle.std.proofs.lemmas.Bool.{cases_Bool, leb-true, leb-false}
 use Rattle.std.proofs.lemmas.List.{length-drop, length-reverse, reverse-append, take-append-drop, take_all, get_or-reverse}
 use Rattle.dslx_meaning.specs.Lists.{is_in}
-use Rattle.dslx_core.specs.Lowering.CorePlaces.{BoundSlot, local_in, slot_names}
+use Rattle.dslx_core.specs.Lowering.CoreScopes.{BoundSlot, local_in, slot_names}
 
 -- as many as were bound
 pub counted : (xs : List BoundSlot) → length (reverse xs) ≡ length xs
@@ -16,9 +16,9 @@ counted xs = length-reverse xs
 pub joined : (xs ys : List BoundSlot) → reverse (xs ++ ys) ≡ reverse ys ++ reverse xs
 joined xs ys = reverse-append xs ys
 
-drop_front : {T : Type 0} (a b : List T) → drop (length a) (a ++ b) ≡ b
-drop_front [] b = refl
-drop_front (x ∷ xs) b = drop_front xs b
+drop_prefix : {T : Type 0} (a b : List T) → drop (length a) (a ++ b) ≡ b
+drop_prefix [] b = refl
+drop_prefix (x ∷ xs) b = drop_prefix xs b
 
 -- the first names are kept
 pub kept : (k : ℕ) (xs : List BoundSlot) → reverse (take k xs) ≡ drop (length (reverse xs) - k) (reverse xs)
@@ -26,7 +26,7 @@ kept k xs = elim (cases_Bool (leb k (length xs))) [
   | inl fits ↦
       let within : k ≤ length xs = leb-true k (length xs) fits in
       let count : length (reverse (drop k xs)) ≡ length (reverse xs) - k = omega (arith, length-reverse (drop k xs), length-drop k xs, length-reverse xs) in
-      sym (drop_front (reverse (drop k xs)) (reverse (take k xs)))
+      sym (drop_prefix (reverse (drop k xs)) (reverse (take k xs)))
       ∙ ap (λ (t : List BoundSlot). drop (length (reverse (drop k xs))) t) (sym (ap reverse (sym (take-append-drop k xs)) ∙ reverse-append (take k xs) (drop k xs)))
       ∙ ap (λ (m : ℕ). drop m (reverse xs)) count
   | inr past ↦

@@ -3,11 +3,11 @@ use Rattle.std.proofs.Common.{◌≡◌, ◌||◌, ◌++◌, Bool, true, false, 
 use Rattle.std.specs.List.{list_any}
 use Rattle.dslx_meaning.specs.Lists.{all_some, and_then, is_in, with_both}
 use Rattle.dslx_meaning.specs.Rules.Mentions.{Mention, value_names}
-use Rattle.dslx_core.specs.Lowering.CorePlaces.{CorePlace, slot_names, unless_local}
+use Rattle.dslx_core.specs.Lowering.CoreScopes.{CoreScope, slot_names, unless_local}
 use Rattle.dslx_scope.proofs.OnFreeNames.Named.{value_names_append}
 
 -- some name of a value among these is bound at the place
-abbrev pub sees : CorePlace → List Mention → Bool
+abbrev pub sees : CoreScope → List Mention → Bool
 sees place ms = list_any (λ name. is_in name (slot_names place.locals)) (value_names ms)
 
 any_of_both : {A : Type 0} (test : A → Bool) (xs ys : List A) → list_any test (xs ++ ys) ≡ list_any test xs || list_any test ys
@@ -18,7 +18,7 @@ any_of_both test (x ∷ xs) ys = by (test x) (any_of_both test xs ys)
     by true e = refl
     by false e = e
 
-pub sees_both : (place : CorePlace) (ms ns : List Mention) → sees place (ms ++ ns) ≡ sees place ms || sees place ns
+pub sees_both : (place : CoreScope) (ms ns : List Mention) → sees place (ms ++ ns) ≡ sees place ms || sees place ns
 sees_both place ms ns =
     ap (list_any (λ name. is_in name (slot_names place.locals))) (value_names_append ms ns)
     ∙ any_of_both (λ name. is_in name (slot_names place.locals)) (value_names ms) (value_names ns)

@@ -1,4 +1,4 @@
--- The induction on written types: each becomes what it means among the number parameters, unless a size in it sees a local.
+-- The induction on written types: each becomes what it means among the parametrics, unless a size in it sees a local.
 use Rattle.std.proofs.Common.{◌≡◌, Bool, List, [], ◌∷◌, Option, Some, map, refl, sym, ap, subst, ◌∙◌}
 use Rattle.dslx_tree.specs.declared.block.Stmt.TheFolds.{ind-TypeExpr}
 use Rattle.dslx_tree.specs.declared.block.Stmt.TheOpen.{TypeNode-F}
@@ -20,14 +20,14 @@ use Rattle.dslx_tree.proofs.Lemmas.Folds.Levels.{Carriers, Maps, TypeExprLevel, 
 use Rattle.dslx_tree.proofs.Lemmas.Folds.Folds.{Steps, fold_expr, fold_type_expr, fold_type_expr-roll, fold_type_node, fold_type_node-roll, folds}
 use Rattle.dslx_meaning.specs.Lists.{all_some, and_then, with_both}
 use Rattle.dslx_meaning.specs.Meaning as m
-use Rattle.dslx_meaning.specs.Meaning.{ArmMeant, Evaluates, FieldMeant, Going, Meant, PatternMeant, Typing, meant, size_of, written_type}
+use Rattle.dslx_meaning.specs.Meaning.{ArmDen, ValueDen, FieldDen, StmtDen, ExprDen, PatternDen, TypeDen, denotation, size_of, written_type}
 use Rattle.dslx_meaning.specs.declared.ty.DslxType.{DslxType}
 use Rattle.dslx_meaning.specs.declared.ty.DslxType as ty
 use Rattle.dslx_meaning.specs.Rules.Mentions as k
 use Rattle.dslx_meaning.specs.Rules.Mentions.{Mentions, NamesBound, all_mentions, mentioned, mentioned_in_type, mentions_if}
-use Rattle.dslx_core.specs.Lowering.CorePlaces.{CorePlace, known_env, sees_a_local, size_at, unless_local}
-use Rattle.dslx_core.specs.Lowering.Trees.{LowersType, type_lowered, type_of_text_lowered}
-use Rattle.dslx_machines.proofs.Lemmas.Machine.Rebuilt.{become, becoming, each_becomes, rebuilt_expr}
+use Rattle.dslx_core.specs.Lowering.CoreScopes.{CoreScope, globals_env, sees_a_local, size_at, unless_local}
+use Rattle.dslx_core.specs.Lowering.Trees.{TypeLowering, lower_type, lower_type_of_text}
+use Rattle.dslx_machines.proofs.Lemmas.Machine.Rebuilt.{become, becoming, each_lowers_to, rebuilt_expr}
 use Rattle.dslx_scope.specs.WrittenTypes.Seen.{type_sees_a_local}
 use Rattle.dslx_scope.proofs.OnWrittenTypes.Unless.{all_unless, both_unless, sees, sees_both, then_unless}
 
@@ -35,38 +35,38 @@ use Rattle.dslx_scope.proofs.OnWrittenTypes.Unless.{all_unless, both_unless, see
 
 abbrev meanings : Carriers
 meanings = record {
-  stmt = Going;
-  node = Meant;
-  shape = PatternMeant;
-  type_node = Typing;
-  block = Evaluates;
-  bind = Going;
-  arg = Meant;
-  arm = ArmMeant;
-  expr = Meant;
-  field = FieldMeant;
-  loop = Evaluates;
-  number = Meant;
-  pattern = PatternMeant;
-  type_expr = Typing;
+  stmt = StmtDen;
+  node = ExprDen;
+  shape = PatternDen;
+  type_node = TypeDen;
+  block = ValueDen;
+  bind = StmtDen;
+  arg = ExprDen;
+  arm = ArmDen;
+  expr = ExprDen;
+  field = FieldDen;
+  loop = ValueDen;
+  number = ExprDen;
+  pattern = PatternDen;
+  type_expr = TypeDen;
 }
 
 abbrev meaning_steps : Steps meanings
 meaning_steps = record {
-  stmt = m.stmt_meant;
-  node = m.node_meant;
-  shape = m.shape_meant;
-  type_node = m.type_meant;
-  block = m.block_meant;
-  bind = m.let_meant;
-  arg = m.arg_meant;
-  arm = m.arm_meant;
-  expr = m.expr_meant;
-  field = m.field_meant;
-  loop = m.for_meant;
+  stmt = m.stmt_den;
+  node = m.node_den;
+  shape = m.shape_den;
+  type_node = m.type_den;
+  block = m.block_den;
+  bind = m.let_den;
+  arg = m.arg_den;
+  arm = m.arm_den;
+  expr = m.expr_den;
+  field = m.field_den;
+  loop = m.for_den;
   number = m.number_node;
-  pattern = m.pattern_meant;
-  type_expr = m.type_expr_meant;
+  pattern = m.pattern_den;
+  type_expr = m.type_expr_den;
 }
 
 abbrev mentions : Carriers
@@ -108,11 +108,11 @@ mention_steps = record {
 -- ---- the types of which it holds
 
 abbrev IsLowered : TypeExpr → Type 0
-IsLowered t = (place : CorePlace) → type_of_text_lowered t place ≡ unless_local (type_sees_a_local place t) (written_type t (known_env place.known))
+IsLowered t = (place : CoreScope) → lower_type_of_text t place ≡ unless_local (type_sees_a_local place t) (written_type t (globals_env place.known))
 
 abbrev NodeIsLowered : TypeNode → Type 0
-NodeIsLowered n = (place : CorePlace) → (fold_type_node become becoming n).1 place
-    ≡ unless_local (sees place (fold_type_node mentions mention_steps n [])) (fold_type_node meanings meaning_steps n (known_env place.known))
+NodeIsLowered n = (place : CoreScope) → (fold_type_node become becoming n).1 place
+    ≡ unless_local (sees place (fold_type_node mentions mention_steps n [])) (fold_type_node meanings meaning_steps n (globals_env place.known))
 
 -- of other parts nothing has to be known
 abbrev holding : Carriers
@@ -157,50 +157,50 @@ ToBeLowered = (x : TypeExpr) × IsLowered x
 -- ---- one level
 
 -- a size, which is beside itself
-size_is : (place : CorePlace) (e : Expr) → size_at place (fold_expr become becoming e).0 ≡ unless_local (sees_a_local place e) (size_of (meant e) (known_env place.known))
+size_is : (place : CoreScope) (e : Expr) → size_at place (fold_expr become becoming e).0 ≡ unless_local (sees_a_local place e) (size_of (denotation e) (globals_env place.known))
 size_is place e = ap (size_at place) (rebuilt_expr e)
 
 abbrev types_of : List ToBeLowered → List TypeExpr
 types_of ts = map (λ (t : ToBeLowered). t.0) ts
 
-each_is_lowered : (place : CorePlace) (ts : List ToBeLowered) → all_some (map (λ (t : TypeExpr × LowersType). t.1 place) (map (fold_type_expr become becoming) (types_of ts)))
-    ≡ unless_local (sees place (all_mentions (map mentioned_in_type (types_of ts)) [])) (all_some (map (λ (t : Typing). t (known_env place.known)) (map written_type (types_of ts))))
+each_is_lowered : (place : CoreScope) (ts : List ToBeLowered) → all_some (map (λ (t : TypeExpr × TypeLowering). t.1 place) (map (fold_type_expr become becoming) (types_of ts)))
+    ≡ unless_local (sees place (all_mentions (map mentioned_in_type (types_of ts)) [])) (all_some (map (λ (t : TypeDen). t (globals_env place.known)) (map written_type (types_of ts))))
 each_is_lowered place [] = refl
 each_is_lowered place (t ∷ ts) =
-    ap (λ (o : Option DslxType). all_some (o ∷ map (λ (t : TypeExpr × LowersType). t.1 place) (map (fold_type_expr become becoming) (types_of ts)))) (t.1 place)
-    ∙ all_unless (type_sees_a_local place t.0) (sees place (all_mentions (map mentioned_in_type (types_of ts)) [])) (written_type t.0 (known_env place.known))
-    (map (λ (t : TypeExpr × LowersType). t.1 place) (map (fold_type_expr become becoming) (types_of ts))) (map (λ (t : Typing). t (known_env place.known)) (map written_type (types_of ts)))
+    ap (λ (o : Option DslxType). all_some (o ∷ map (λ (t : TypeExpr × TypeLowering). t.1 place) (map (fold_type_expr become becoming) (types_of ts)))) (t.1 place)
+    ∙ all_unless (type_sees_a_local place t.0) (sees place (all_mentions (map mentioned_in_type (types_of ts)) [])) (written_type t.0 (globals_env place.known))
+    (map (λ (t : TypeExpr × TypeLowering). t.1 place) (map (fold_type_expr become becoming) (types_of ts))) (map (λ (t : TypeDen). t (globals_env place.known)) (map written_type (types_of ts)))
     (each_is_lowered place ts)
-    ∙ ap (λ (b : Bool). unless_local b (all_some (map (λ (t : Typing). t (known_env place.known)) (map written_type (types_of (t ∷ ts))))))
+    ∙ ap (λ (b : Bool). unless_local b (all_some (map (λ (t : TypeDen). t (globals_env place.known)) (map written_type (types_of (t ∷ ts))))))
     (sym (sees_both place (mentioned_in_type t.0 []) (all_mentions (map mentioned_in_type (types_of ts)) [])))
 
 abbrev node_tree : TypeNodeLevel holding → TypeNodeLevel trees
 node_tree y = map_type_node holding trees tree_of y
 
-level_is_lowered : (y : TypeNodeLevel holding) (place : CorePlace) → type_lowered (map_type_node trees become each_becomes (node_tree y)) place
+level_is_lowered : (y : TypeNodeLevel holding) (place : CoreScope) → lower_type (map_type_node trees become each_lowers_to (node_tree y)) place
     ≡ unless_local (sees place (k.type_mentions (map_type_node trees mentions (folds mentions mention_steps) (node_tree y)) []))
-    (m.type_meant (map_type_node trees meanings (folds meanings meaning_steps) (node_tree y)) (known_env place.known))
+    (m.type_den (map_type_node trees meanings (folds meanings meaning_steps) (node_tree y)) (globals_env place.known))
 level_is_lowered (TypeNode-F.Bits s w) place = refl
 level_is_lowered (TypeNode-F.Wide s e) place =
     ap (λ o. and_then o (λ w. Some (ty.Bits s w))) (size_is place e.0)
-    ∙ then_unless (sees_a_local place e.0) (size_of (meant e.0) (known_env place.known)) (λ w. Some (ty.Bits s w))
+    ∙ then_unless (sees_a_local place e.0) (size_of (denotation e.0) (globals_env place.known)) (λ w. Some (ty.Bits s w))
 level_is_lowered TypeNode-F.TypeNode::Bool place = refl
 level_is_lowered (TypeNode-F.TypeNode::Name name) place = refl
 level_is_lowered (TypeNode-F.TypeNode::Tuple ts) place =
     ap (λ o. and_then o (λ us. Some (ty.Tuple us))) (each_is_lowered place ts)
-    ∙ then_unless (sees place (all_mentions (map mentioned_in_type (types_of ts)) [])) (all_some (map (λ (t : Typing). t (known_env place.known)) (map written_type (types_of ts)))) (λ us. Some (ty.Tuple us))
+    ∙ then_unless (sees place (all_mentions (map mentioned_in_type (types_of ts)) [])) (all_some (map (λ (t : TypeDen). t (globals_env place.known)) (map written_type (types_of ts)))) (λ us. Some (ty.Tuple us))
 level_is_lowered (TypeNode-F.TypeNode::Array t e) place =
     ap (λ o. with_both o (size_at place (fold_expr become becoming e.0).0) (λ u n. Some (ty.Array u n))) (t.1 place)
-    ∙ ap (λ o. with_both (unless_local (type_sees_a_local place t.0) (written_type t.0 (known_env place.known))) o (λ u n. Some (ty.Array u n))) (size_is place e.0)
-    ∙ both_unless (type_sees_a_local place t.0) (sees_a_local place e.0) (written_type t.0 (known_env place.known)) (size_of (meant e.0) (known_env place.known)) (λ u n. Some (ty.Array u n))
-    ∙ ap (λ (b : Bool). unless_local b (with_both (written_type t.0 (known_env place.known)) (size_of (meant e.0) (known_env place.known)) (λ u n. Some (ty.Array u n))))
+    ∙ ap (λ o. with_both (unless_local (type_sees_a_local place t.0) (written_type t.0 (globals_env place.known))) o (λ u n. Some (ty.Array u n))) (size_is place e.0)
+    ∙ both_unless (type_sees_a_local place t.0) (sees_a_local place e.0) (written_type t.0 (globals_env place.known)) (size_of (denotation e.0) (globals_env place.known)) (λ u n. Some (ty.Array u n))
+    ∙ ap (λ (b : Bool). unless_local b (with_both (written_type t.0 (globals_env place.known)) (size_of (denotation e.0) (globals_env place.known)) (λ u n. Some (ty.Array u n))))
     (sym (sees_both place (mentioned_in_type t.0 []) (mentioned e.0 [])))
 
 step_type_node : (x : TypeNodeLevel trees) (y : TypeNodeLevel holding) → node_tree y ≡ x → NodeIsLowered (roll-TypeNode x)
 step_type_node x y is = subst (λ z. NodeIsLowered (roll-TypeNode z)) is (λ place.
     ap (λ p. p.1 place) (fold_type_node-roll become becoming (node_tree y))
     ∙ level_is_lowered y place
-    ∙ (λ i. unless_local (sees place (sym (fold_type_node-roll mentions mention_steps (node_tree y)) i [])) (sym (fold_type_node-roll meanings meaning_steps (node_tree y)) i (known_env place.known))))
+    ∙ (λ i. unless_local (sees place (sym (fold_type_node-roll mentions mention_steps (node_tree y)) i [])) (sym (fold_type_node-roll meanings meaning_steps (node_tree y)) i (globals_env place.known))))
 
 abbrev type_tree : TypeExprLevel holding → TypeExprLevel trees
 type_tree y = map_type_expr holding trees tree_of y
@@ -209,7 +209,7 @@ step_type_expr : (x : TypeExprLevel trees) (y : TypeExprLevel holding) → type_
 step_type_expr x y is = subst (λ z. IsLowered (roll-TypeExpr z)) is (λ place.
     ap (λ p. p.1 place) (fold_type_expr-roll become becoming (type_tree y))
     ∙ y.node.1 place
-    ∙ (λ i. unless_local (sees place (sym (fold_type_expr-roll mentions mention_steps (type_tree y)) i [])) (sym (fold_type_expr-roll meanings meaning_steps (type_tree y)) i (known_env place.known))))
+    ∙ (λ i. unless_local (sees place (sym (fold_type_expr-roll mentions mention_steps (type_tree y)) i [])) (sym (fold_type_expr-roll meanings meaning_steps (type_tree y)) i (globals_env place.known))))
 
 pub type_is_lowered : (t : TypeExpr) → IsLowered t
 type_is_lowered = ind-TypeExpr (λ x. Unit {0}) (λ x. Unit {0}) (λ x. Unit {0}) NodeIsLowered (λ x. Unit {0}) (λ x. Unit {0}) (λ x. Unit {0}) (λ x. Unit {0}) (λ x. Unit {0}) (λ x. Unit {0}) (λ x. Unit {0}) (λ x. Unit {0}) (λ x. Unit {0}) IsLowered

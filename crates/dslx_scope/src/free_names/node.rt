@@ -23,8 +23,8 @@ pub(crate) fn open_expr<'a>(machine: &mut Machine<'a>, expr: &'a Expr) -> Result
         Node::Array(ty, elements, _) => open_array(machine, ty, elements.as_slice()),
         Node::Name(name) => machine.meet(name),
         Node::Member(_, _) => Ok(()),
-        Node::Call(_, numbers, operands) => machine.both(
-            Task::Args(numbers.as_slice()),
+        Node::Call(_, parametric_args, operands) => machine.both(
+            Task::Args(parametric_args.as_slice()),
             Task::Exprs(operands.as_slice()),
         ),
         Node::Tuple(parts) => machine.first(Task::Exprs(parts.as_slice())),
@@ -115,7 +115,7 @@ pub(crate) fn open_exprs<'a>(machine: &mut Machine<'a>, exprs: &'a [Expr]) -> Re
     }
 }
 
-/// Visits number arguments in order.
+/// Visits parametric arguments in order.
 pub(crate) fn open_args<'a>(machine: &mut Machine<'a>, args: &'a [Arg]) -> Result<(), AllocError>
     ensures { OnOk result (shown machine.new ≡ args_open args.now (shown machine.old)) }
 {

@@ -1,7 +1,7 @@
 ghost use Rattle.std.specs.Prelude.{◌≡◌, ◌∷◌, ◌++◌, ◌-◌, [], drop, length, OnOk};
 ghost use Rattle.std.specs.Option.{option_copied};
 ghost use Rattle.dslx_meaning.specs.Lists.{is_in};
-ghost use Rattle.dslx_core.specs.Lowering.CorePlaces.{local_in, slot_names};
+ghost use Rattle.dslx_core.specs.Lowering.CoreScopes.{local_in, slot_names};
 
 use base::texts::Name;
 use dslx_core::lowering::BoundSlot;
@@ -23,7 +23,7 @@ impl Drop for Locals {
 impl Model for Locals {
     ghost use Rattle.std.specs.Prelude.{List, reverse};
     ghost use Rattle.std.specs.Coded.{codes};
-    ghost use Rattle.dslx_core.specs.Lowering.CorePlaces.{BoundSlot};
+    ghost use Rattle.dslx_core.specs.Lowering.CoreScopes.{BoundSlot};
     ghost use Rattle.dslx_core.specs.contracts.lowering.expr.BoundSlot as entries;
 
     ghost Value = { List BoundSlot };

@@ -6,16 +6,16 @@ use Rattle.dslx_meaning.specs.Operators.{number_value}
 use Rattle.dslx_meaning.specs.declared.ty.DslxType.{DslxType}
 use Rattle.dslx_meaning.specs.declared.value.DslxValue.{DslxValue}
 use Rattle.dslx_const_machine.specs.Layers.{written}
-use Rattle.dslx_core.specs.Lowering.Trees.{type_of_text_lowered}
+use Rattle.dslx_core.specs.Lowering.Trees.{lower_type_of_text}
 use Rattle.dslx_machines.specs.Machine.Callees.{CalleesByName}
 use Rattle.dslx_machines.specs.Machine.Steps.{number_at}
-use Rattle.dslx_scope_names.specs.Values.Seen.{place_with}
-use Rattle.dslx_scope_names.specs.declared.values.sight.PlaceSight.{PlaceSight}
+use Rattle.dslx_scope_names.specs.Values.Seen.{scope_with}
+use Rattle.dslx_scope_names.specs.declared.values.context.ScopeEnv.{ScopeEnv}
 
 -- what a type is found to be, whatever calls come to and however many values are bound
-abbrev pub IsTypeOf : Option DslxType → PlaceSight → Number → Type 0
-IsTypeOf found s n = (callee : CalleesByName) (count : ℕ) → found ≡ and_then (out-Number n).ty (λ t. type_of_text_lowered t (place_with callee count s))
+abbrev pub IsTypeOf : Option DslxType → ScopeEnv → Number → Type 0
+IsTypeOf found s n = (callee : CalleesByName) (count : ℕ) → found ≡ and_then (out-Number n).ty (λ t. lower_type_of_text t (scope_with callee count s))
 
-pub number_is : (n : Number) (s : PlaceSight) (found o : Option DslxType) (v : Option DslxValue) → IsTypeOf found s n → found ≡ o
-    → v ≡ and_then o (λ t. number_value t (written n)) → (callee : CalleesByName) (count : ℕ) → v ≡ number_at (place_with callee count s) n
+pub number_is : (n : Number) (s : ScopeEnv) (found o : Option DslxType) (v : Option DslxValue) → IsTypeOf found s n → found ≡ o
+    → v ≡ and_then o (λ t. number_value t (written n)) → (callee : CalleesByName) (count : ℕ) → v ≡ number_at (scope_with callee count s) n
 number_is n s found o v types e is callee count = is ∙ ap (λ (q : Option DslxType). and_then q (λ t. number_value t (written n))) (sym e ∙ types callee count)

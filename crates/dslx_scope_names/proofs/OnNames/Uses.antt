@@ -12,7 +12,7 @@ use Rattle.dslx_tree.proofs.Lemmas.Folds.Levels.{TypeExprLevel, trees}
 use Rattle.dslx_meaning.specs.Environment.{Env, Given}
 use Rattle.dslx_meaning.specs.Items.{as_struct, item_named, meanings_of, meanings_within, struct_type, type_of_item}
 use Rattle.dslx_meaning.specs.Lists.{and_then}
-use Rattle.dslx_meaning.specs.Meaning.{ArmMeant, Evaluates, FieldMeant, Going, Meant, PatternMeant, Typing, arg_meant, arm_meant, block_meant, expr_meant, field_meant, for_meant, let_meant, node_meant, number_node, pattern_meant, shape_meant, stmt_meant, type_expr_meant, type_meant, written_type}
+use Rattle.dslx_meaning.specs.Meaning.{ArmDen, ValueDen, FieldDen, StmtDen, ExprDen, PatternDen, TypeDen, arg_den, arm_den, block_den, expr_den, field_den, for_den, let_den, node_den, number_node, pattern_den, shape_den, stmt_den, type_expr_den, type_den, written_type}
 use Rattle.dslx_meaning.specs.declared.ty.DslxType.{DslxType}
 use Rattle.dslx_const_machine.specs.Items.{at_struct, at_type_item, uses_struct, uses_type}
 use Rattle.dslx_const_machine.specs.Layers.{TypeLayer, type_of}
@@ -44,10 +44,10 @@ type_top name =
 
 type_name_means : (name : List ℕ) (env : Env) → written_type (type_alone name) env ≡ env.items.type_named name
 type_name_means name env =
-    ap (λ (t : Typing). t env) (fold-roll-TypeExpr Going Meant PatternMeant Typing Evaluates Going Meant ArmMeant Meant FieldMeant Evaluates Meant PatternMeant Typing
-    stmt_meant node_meant shape_meant type_meant block_meant let_meant arg_meant arm_meant expr_meant field_meant for_meant number_node pattern_meant type_expr_meant (record { span = nowhere; node = roll-TypeNode (TypeNode-F.TypeNode::Name name) }))
-    ∙ ap (λ (t : Typing). t env) (fold-roll-TypeNode Going Meant PatternMeant Typing Evaluates Going Meant ArmMeant Meant FieldMeant Evaluates Meant PatternMeant Typing
-    stmt_meant node_meant shape_meant type_meant block_meant let_meant arg_meant arm_meant expr_meant field_meant for_meant number_node pattern_meant type_expr_meant (TypeNode-F.TypeNode::Name name))
+    ap (λ (t : TypeDen). t env) (fold-roll-TypeExpr StmtDen ExprDen PatternDen TypeDen ValueDen StmtDen ExprDen ArmDen ExprDen FieldDen ValueDen ExprDen PatternDen TypeDen
+    stmt_den node_den shape_den type_den block_den let_den arg_den arm_den expr_den field_den for_den number_node pattern_den type_expr_den (record { span = nowhere; node = roll-TypeNode (TypeNode-F.TypeNode::Name name) }))
+    ∙ ap (λ (t : TypeDen). t env) (fold-roll-TypeNode StmtDen ExprDen PatternDen TypeDen ValueDen StmtDen ExprDen ArmDen ExprDen FieldDen ValueDen ExprDen PatternDen TypeDen
+    stmt_den node_den shape_den type_den block_den let_den arg_den arm_den expr_den field_den for_den number_node pattern_den type_expr_den (TypeNode-F.TypeNode::Name name))
 
 type_comes : (name : List ℕ) (m : Module) (n : ℕ) → type_in (comes_to (uses_type name (at_rest m [] n))) ≡ (meanings_within m n).type_named name
 type_comes name m n =

@@ -5,20 +5,20 @@ use Rattle.dslx_meaning.specs.Environment.{Given}
 use Rattle.dslx_meaning.specs.Items.{meanings_of}
 use Rattle.dslx_meaning.specs.Meaning.{written_type}
 use Rattle.dslx_names.specs.Bound.{given}
-use Rattle.dslx_core.specs.Lowering.CorePlaces.{CorePlace, known_env, unless_local}
-use Rattle.dslx_core.specs.Lowering.Trees.{type_of_text_lowered}
+use Rattle.dslx_core.specs.Lowering.CoreScopes.{CoreScope, globals_env, unless_local}
+use Rattle.dslx_core.specs.Lowering.Trees.{lower_type_of_text}
 use Rattle.dslx_scope.specs.WrittenTypes.Seen.{type_sees_a_local}
 use Rattle.dslx_machines.specs.Machine.Callees.{CalleesByName}
-use Rattle.dslx_scope_names.specs.Values.Seen.{place_seen, place_with}
-use Rattle.dslx_scope_names.specs.declared.values.sight.PlaceSight.{PlaceSight}
+use Rattle.dslx_scope_names.specs.Values.Seen.{scope_seen, scope_with}
+use Rattle.dslx_scope_names.specs.declared.values.context.ScopeEnv.{ScopeEnv}
 
 -- what the law of written types says
 abbrev pub AreLowered : Type 0
-AreLowered = (t : TypeExpr) (place : CorePlace) → type_of_text_lowered t place ≡ unless_local (type_sees_a_local place t) (written_type t (known_env place.known))
+AreLowered = (t : TypeExpr) (place : CoreScope) → lower_type_of_text t place ≡ unless_local (type_sees_a_local place t) (written_type t (globals_env place.known))
 
-pub means_the_same : (t : TypeExpr) (s : PlaceSight) (bound : List Given) (sees : Bool) → AreLowered → bound ≡ reverse (map given s.numbers.now) → sees ≡ type_sees_a_local (place_seen s) t → sees ≡ false
-    → (callee : CalleesByName) (count : ℕ) → written_type t (record { items = meanings_of s.text.now; bound = bound }) ≡ type_of_text_lowered t (place_with callee count s)
+pub means_the_same : (t : TypeExpr) (s : ScopeEnv) (bound : List Given) (sees : Bool) → AreLowered → bound ≡ reverse (map given s.parametric_args.now) → sees ≡ type_sees_a_local (scope_seen s) t → sees ≡ false
+    → (callee : CalleesByName) (count : ℕ) → written_type t (record { items = meanings_of s.text.now; bound = bound }) ≡ lower_type_of_text t (scope_with callee count s)
 means_the_same t s bound sees law is_bound is none callee count =
     ap (λ (names : List Given). written_type t (record { items = meanings_of s.text.now; bound = names })) is_bound
-    ∙ sym (ap (λ (b : Bool). unless_local b (written_type t (known_env (place_seen s).known))) (sym is ∙ none))
-    ∙ sym (law t (place_with callee count s))
+    ∙ sym (ap (λ (b : Bool). unless_local b (written_type t (globals_env (scope_seen s).known))) (sym is ∙ none))
+    ∙ sym (law t (scope_with callee count s))

@@ -2,18 +2,18 @@
 use Rattle.std.specs.Prelude.{ℕ, None, map, reverse}
 use Rattle.dslx_meaning.specs.Items.{meanings_of}
 use Rattle.dslx_names.specs.Bound.{given}
-use Rattle.dslx_core.specs.Lowering.CorePlaces.{CorePlace}
+use Rattle.dslx_core.specs.Lowering.CoreScopes.{CoreScope}
 use Rattle.dslx_machines.specs.Machine.Callees.{CalleesByName}
-use Rattle.dslx_scope_names.specs.declared.values.sight.PlaceSight.{PlaceSight}
+use Rattle.dslx_scope_names.specs.declared.values.context.ScopeEnv.{ScopeEnv}
 
 -- where calls come to this, and so many values are bound
-abbrev pub place_with : CalleesByName → ℕ → PlaceSight → CorePlace
-place_with callee count s = record {
-  known = record { items = meanings_of s.text.now; numbers = reverse (map given s.numbers.now); callee = callee };
+abbrev pub scope_with : CalleesByName → ℕ → ScopeEnv → CoreScope
+scope_with callee count s = record {
+  known = record { items = meanings_of s.text.now; parametric_args = reverse (map given s.parametric_args.now); callee = callee };
   locals = s.locals.now;
   count = count;
 }
 
 -- constants see neither of the two
-abbrev pub place_seen : PlaceSight → CorePlace
-place_seen s = place_with (λ name numbers types. None) 0 s
+abbrev pub scope_seen : ScopeEnv → CoreScope
+scope_seen s = scope_with (λ name parametric_args types. None) 0 s

@@ -3,11 +3,11 @@
 ghost use Rattle.std.specs.Prelude.{◌≡◌, ℕ, List, IfOk, map};
 ghost use Rattle.std.specs.List.{list_any};
 ghost use Rattle.dslx_meaning.specs.Lists.{is_in};
-ghost use Rattle.dslx_core.specs.Lowering.CorePlaces.{sees_a_local, slot_names};
-ghost use Rattle.dslx_scope_names.specs.Values.Seen.{place_seen};
+ghost use Rattle.dslx_core.specs.Lowering.CoreScopes.{sees_a_local, slot_names};
+ghost use Rattle.dslx_scope_names.specs.Values.Seen.{scope_seen};
 ghost use Rattle.dslx_scope.specs.WrittenTypes.Seen.{type_sees_a_local};
 
-use crate::values::sight::PlaceSight;
+use crate::values::context::ScopeEnv;
 use base::texts::Name;
 use dslx_scope::free_names::{names_free_in, names_free_in_type};
 use dslx_scope::locals::Locals;
@@ -17,25 +17,25 @@ use std::alloc::{AllocError, Global};
 /// Whether a name that is free in the expression is bound there.
 pub(crate) fn sees_local<'a>(
     alloc: Global,
-    sight: PlaceSight<'a>,
+    context: ScopeEnv<'a>,
     expr: &'a Expr,
 ) -> Result<bool, AllocError>
-    ensures { IfOk result (λ sees. sees ≡ sees_a_local (place_seen sight.entry) expr.now) }
+    ensures { IfOk result (λ sees. sees ≡ sees_a_local (scope_seen context.entry) expr.now) }
 {
     let names = names_free_in(alloc, expr)?;
-    Ok(is_any_local(sight.locals, names.as_slice()))
+    Ok(is_any_local(context.locals, names.as_slice()))
 }
 
 /// Whether a name that is free in the type is bound there.
 pub(crate) fn type_sees_local<'a>(
     alloc: Global,
-    sight: PlaceSight<'a>,
+    context: ScopeEnv<'a>,
     ty: &'a TypeExpr,
 ) -> Result<bool, AllocError>
-    ensures { IfOk result (λ sees. sees ≡ type_sees_a_local (place_seen sight.entry) ty.now) }
+    ensures { IfOk result (λ sees. sees ≡ type_sees_a_local (scope_seen context.entry) ty.now) }
 {
     let names = names_free_in_type(alloc, ty)?;
-    Ok(is_any_local(sight.locals, names.as_slice()))
+    Ok(is_any_local(context.locals, names.as_slice()))
 }
 
 /// Whether one of the names is bound.

@@ -1,2 +1,2 @@
--- number parameters, one after the other
+-- parametrics, one after the other
 pub mod InOrder

@@ -4,14 +4,14 @@ use Rattle.std.specs.Prelude.{◌≢◌}
 use Rattle.dslx_meaning.specs.Lists.{and_then}
 use Rattle.dslx_meaning.specs.declared.ty.DslxType.{DslxType}
 use Rattle.dslx_core.specs.declared.expr.Shape.{Shape}
-use Rattle.dslx_core.specs.Lowering.CorePlaces.{CorePlace}
-use Rattle.dslx_core.specs.Lowering.Patterns.{LoweredShape, LoweredShapes, LowersPattern, parts_shaped}
+use Rattle.dslx_core.specs.Lowering.CoreScopes.{CoreScope}
+use Rattle.dslx_core.specs.Lowering.Patterns.{LoweredShape, LoweredShapes, PatternLowering, parts_shaped}
 
 -- with these shapes before them
 abbrev pub behind_shapes : List Shape → Option LoweredShapes → Option LoweredShapes
 behind_shapes shapes o = and_then o (λ (r : LoweredShapes). Some (record { shapes = shapes ++ r.shapes; place = r.place }))
 
-pub lengths_differ : (ps : List LowersPattern) (ts : List DslxType) (outer place : CorePlace) → length ps ≢ length ts → parts_shaped ps ts outer place ≡ None
+pub lengths_differ : (ps : List PatternLowering) (ts : List DslxType) (outer place : CoreScope) → length ps ≢ length ts → parts_shaped ps ts outer place ≡ None
 lengths_differ [] [] outer place other = absurd (other refl)
 lengths_differ [] (t ∷ ts) outer place other = refl
 lengths_differ (p ∷ ps) [] outer place other = refl

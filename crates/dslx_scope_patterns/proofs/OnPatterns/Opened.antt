@@ -13,71 +13,71 @@ use Rattle.dslx_meaning.specs.Lists.{and_then}
 use Rattle.dslx_meaning.specs.Operators.{number_value}
 use Rattle.dslx_meaning.specs.declared.ty.DslxType.{DslxType, out-DslxType}
 use Rattle.dslx_const_machine.specs.Layers.{PatternLayer, shape_of}
-use Rattle.dslx_core.specs.Lowering.CorePlaces.{CorePlace}
-use Rattle.dslx_core.specs.Lowering.Patterns.{LowersPattern, names_of_all, tuple_shape, value_shape}
-use Rattle.dslx_core.specs.Lowering.Steps.{pattern_of_text_lowered}
-use Rattle.dslx_core.specs.Lowering.Trees.{number_meaning, shape_at, shape_lowered, shape_names_lowered, type_of_text_lowered}
+use Rattle.dslx_core.specs.Lowering.CoreScopes.{CoreScope}
+use Rattle.dslx_core.specs.Lowering.Patterns.{PatternLowering, names_of_all, tuple_shape, value_shape}
+use Rattle.dslx_core.specs.Lowering.Steps.{lower_pattern_of_text}
+use Rattle.dslx_core.specs.Lowering.Trees.{number_meaning, shape_at, lower_shape, lower_shape_names, lower_type_of_text}
 use Rattle.dslx_machines.specs.Machine.Steps.{number_at}
-use Rattle.dslx_machines.proofs.Lemmas.Machine.Rebuilt.{become, becoming, each_becomes}
+use Rattle.dslx_machines.proofs.Lemmas.Machine.Rebuilt.{become, becoming, each_lowers_to}
 use Rattle.dslx_scope_patterns.specs.Patterns.Tops.{top_names, top_shape}
 
 -- ---- what stands at the top
 
-out_number : (x : Number) → fold_number become becoming x ≡ becoming.number (map_number trees become each_becomes (out-Number x))
+out_number : (x : Number) → fold_number become becoming x ≡ becoming.number (map_number trees become each_lowers_to (out-Number x))
 out_number x =
     fold_out-Number become.stmt become.node become.shape become.type_node become.block become.bind become.arg become.arm become.expr become.field become.loop become.number become.pattern become.type_expr
     becoming.stmt becoming.node becoming.shape becoming.type_node becoming.block becoming.bind becoming.arg becoming.arm becoming.expr becoming.field becoming.loop becoming.number becoming.pattern becoming.type_expr x
 
-out_shape : (x : Shape) → fold_shape become becoming x ≡ becoming.shape (map_shape trees become each_becomes (out-Shape x))
+out_shape : (x : Shape) → fold_shape become becoming x ≡ becoming.shape (map_shape trees become each_lowers_to (out-Shape x))
 out_shape x =
     fold_out-Shape become.stmt become.node become.shape become.type_node become.block become.bind become.arg become.arm become.expr become.field become.loop become.number become.pattern become.type_expr
     becoming.stmt becoming.node becoming.shape becoming.type_node becoming.block becoming.bind becoming.arg becoming.arm becoming.expr becoming.field becoming.loop becoming.number becoming.pattern becoming.type_expr x
 
-out_pattern : (x : Pattern) → fold_pattern become becoming x ≡ becoming.pattern (map_pattern trees become each_becomes (out-Pattern x))
+out_pattern : (x : Pattern) → fold_pattern become becoming x ≡ becoming.pattern (map_pattern trees become each_lowers_to (out-Pattern x))
 out_pattern x =
     fold_out-Pattern become.stmt become.node become.shape become.type_node become.block become.bind become.arg become.arm become.expr become.field become.loop become.number become.pattern become.type_expr
     becoming.stmt becoming.node becoming.shape becoming.type_node becoming.block becoming.bind becoming.arg becoming.arm becoming.expr becoming.field becoming.loop becoming.number becoming.pattern becoming.type_expr x
 
-opened : (p : Pattern) → pattern_of_text_lowered p ≡ shape_lowered (map_shape trees become each_becomes (shape_of p))
+opened : (p : Pattern) → lower_pattern_of_text p ≡ lower_shape (map_shape trees become each_lowers_to (shape_of p))
 opened p = ap (λ q. q.1) (out_pattern p) ∙ ap (λ q. q.1) (out_shape (out-Pattern p).shape)
 
 -- ---- shapes
 
-number_layer : (x : NumberLevel trees) (place : CorePlace)
-    → number_meaning (map_number trees become each_becomes x) place ≡ and_then (and_then x.ty (λ t. type_of_text_lowered t place)) (λ t. number_value t (record { is_negative = x.is_negative; value = x.value }))
+number_layer : (x : NumberLevel trees) (place : CoreScope)
+    → number_meaning (map_number trees become each_lowers_to x) place ≡ and_then (and_then x.ty (λ t. lower_type_of_text t place)) (λ t. number_value t (record { is_negative = x.is_negative; value = x.value }))
 number_layer x place = by x.ty
   where
-    by : (o : Option TypeExpr) → number_meaning (map_number trees become each_becomes (record { ty = o; is_negative = x.is_negative; value = x.value })) place
-        ≡ and_then (and_then o (λ t. type_of_text_lowered t place)) (λ t. number_value t (record { is_negative = x.is_negative; value = x.value }))
+    by : (o : Option TypeExpr) → number_meaning (map_number trees become each_lowers_to (record { ty = o; is_negative = x.is_negative; value = x.value })) place
+        ≡ and_then (and_then o (λ t. lower_type_of_text t place)) (λ t. number_value t (record { is_negative = x.is_negative; value = x.value }))
     by None = refl
     by (Some t) = refl
 
-number_opened : (n : Number) (place : CorePlace) → (fold_number become becoming n).1 place ≡ number_at place n
+number_opened : (n : Number) (place : CoreScope) → (fold_number become becoming n).1 place ≡ number_at place n
 number_opened n place = ap (λ p. p.1 place) (out_number n) ∙ number_layer (out-Number n) place
 
-parts_opened : (ps : List Pattern) → map (λ p. p.1) (map (fold_pattern become becoming) ps) ≡ map pattern_of_text_lowered ps
+parts_opened : (ps : List Pattern) → map (λ p. p.1) (map (fold_pattern become becoming) ps) ≡ map lower_pattern_of_text ps
 parts_opened ps = map-map (λ p. p.1) (fold_pattern become becoming) ps
 
-shape_opened : (x : PatternLayer) (outer place : CorePlace) (t : DslxType) → shape_at (map_shape trees become each_becomes x) outer place t ≡ top_shape x outer place t
+shape_opened : (x : PatternLayer) (outer place : CoreScope) (t : DslxType) → shape_at (map_shape trees become each_lowers_to x) outer place t ≡ top_shape x outer place t
 shape_opened Shape-F.Wild outer place t = refl
 shape_opened (Shape-F.Shape::Bool b) outer place t = refl
 shape_opened (Shape-F.Shape::Number n) outer place t = ap (λ v. value_shape v place t) (number_opened n outer)
 shape_opened (Shape-F.Shape::Name name) outer place t = refl
 shape_opened (Shape-F.Shape::Member e a) outer place t = refl
-shape_opened (Shape-F.Shape::Tuple ps) outer place t = ap (λ (ls : List LowersPattern). tuple_shape ls outer place (out-DslxType t)) (parts_opened ps)
+shape_opened (Shape-F.Shape::Tuple ps) outer place t = ap (λ (ls : List PatternLowering). tuple_shape ls outer place (out-DslxType t)) (parts_opened ps)
 
-pub by_top : (p : Pattern) (outer place : CorePlace) (t : DslxType) → (pattern_of_text_lowered p).lower outer place t ≡ top_shape (shape_of p) outer place t
-by_top p outer place t = ap (λ (l : LowersPattern). l.lower outer place t) (opened p) ∙ shape_opened (shape_of p) outer place t
+pub by_top : (p : Pattern) (outer place : CoreScope) (t : DslxType) → (lower_pattern_of_text p).lower outer place t ≡ top_shape (shape_of p) outer place t
+by_top p outer place t = ap (λ (l : PatternLowering). l.lower outer place t) (opened p) ∙ shape_opened (shape_of p) outer place t
 
 -- ---- names
 
-names_opened : (x : PatternLayer) → shape_names_lowered (map_shape trees become each_becomes x) ≡ top_names x
+names_opened : (x : PatternLayer) → lower_shape_names (map_shape trees become each_lowers_to x) ≡ top_names x
 names_opened Shape-F.Wild = refl
 names_opened (Shape-F.Shape::Bool b) = refl
 names_opened (Shape-F.Shape::Number n) = refl
 names_opened (Shape-F.Shape::Name name) = refl
 names_opened (Shape-F.Shape::Member e a) = refl
-names_opened (Shape-F.Shape::Tuple ps) = ap (λ (ls : List LowersPattern). names_of_all ls) (parts_opened ps)
+names_opened (Shape-F.Shape::Tuple ps) = ap (λ (ls : List PatternLowering). names_of_all ls) (parts_opened ps)
 
-pub names_by_top : (p : Pattern) → (pattern_of_text_lowered p).names ≡ top_names (shape_of p)
-names_by_top p = ap (λ (l : LowersPattern). l.names) (opened p) ∙ names_opened (shape_of p)
+pub names_by_top : (p : Pattern) → (lower_pattern_of_text p).names ≡ top_names (shape_of p)
+names_by_top p = ap (λ (l : PatternLowering). l.names) (opened p) ∙ names_opened (shape_of p)

@@ -9,26 +9,26 @@ use Rattle.dslx_meaning.specs.Lists.{and_then}
 use Rattle.dslx_meaning.specs.declared.ty.DslxType.{DslxType}
 use Rattle.dslx_names.specs.Bound.{given}
 use Rattle.dslx_names.specs.declared.scope.Binding.{Binding}
-use Rattle.dslx_core.specs.Lowering.CorePlaces.{BoundSlot, CoreKnown, CorePlace}
-use Rattle.dslx_core.specs.Lowering.Functions.{argument_types, arguments_placed, outer_place}
+use Rattle.dslx_core.specs.Lowering.CoreScopes.{BoundSlot, BodyEnv, CoreScope}
+use Rattle.dslx_core.specs.Lowering.Functions.{argument_types, arguments_in_scope, outer_scope}
 use Rattle.dslx_machines.specs.Machine.Callees.{CalleesByName}
-use Rattle.dslx_scope_patterns.specs.declared.numbers.arguments.Arguments.{Arguments}
+use Rattle.dslx_scope_patterns.specs.declared.parametric_args.arguments.Arguments.{Arguments}
 
--- what is known where these number parameters are bound, the last one last
-abbrev pub known_with : CalleesByName → Module → List Binding → CoreKnown
-known_with callee m numbers = record { items = meanings_of m; numbers = reverse (map given numbers); callee = callee }
+-- what is known where these parametrics are bound, the last one last
+abbrev pub globals_with : CalleesByName → Module → List Binding → BodyEnv
+globals_with callee m parametric_args = record { items = meanings_of m; parametric_args = reverse (map given parametric_args); callee = callee }
 
 -- the types of arguments, and the place where they are bound
-abbrev pub arguments_of : CoreKnown → List Field → Option (List DslxType × CorePlace)
-arguments_of known fields = and_then (argument_types known fields) (λ ts. and_then (arguments_placed fields ts (outer_place known)) (λ place. Some (ts, place)))
+abbrev pub arguments_of : BodyEnv → List Field → Option (List DslxType × CoreScope)
+arguments_of known fields = and_then (argument_types known fields) (λ ts. and_then (arguments_in_scope fields ts (outer_scope known)) (λ place. Some (ts, place)))
 
 -- the same of what code has
-abbrev pub arguments_shown : CalleesByName → Module → List Binding → Option Arguments → Option (List DslxType × CorePlace)
-arguments_shown callee m numbers found = option_map (λ (a : Arguments). (a.types, record { known = known_with callee m numbers; locals = a.locals; count = a.count })) found
+abbrev pub arguments_shown : CalleesByName → Module → List Binding → Option Arguments → Option (List DslxType × CoreScope)
+arguments_shown callee m parametric_args found = option_map (λ (a : Arguments). (a.types, record { known = globals_with callee m parametric_args; locals = a.locals; count = a.count })) found
 
 -- the names of arguments of these types behind those that are bound, none of which is a constant's; so many values are bound before
-abbrev pub locals_placed : Meanings → List Field → List DslxType → List BoundSlot → ℕ → Option (List BoundSlot)
-locals_placed items [] [] locals n = Some locals
-locals_placed items (f ∷ fs) (t ∷ ts) locals n = if items.is_constant f.name.name then None else locals_placed items fs ts (record { name = f.name.name; slot = n; ty = t } ∷ locals) (suc n)
-locals_placed items [] (t ∷ ts) locals n = None
-locals_placed items (f ∷ fs) [] locals n = None
+abbrev pub locals_in_scope : Meanings → List Field → List DslxType → List BoundSlot → ℕ → Option (List BoundSlot)
+locals_in_scope items [] [] locals n = Some locals
+locals_in_scope items (f ∷ fs) (t ∷ ts) locals n = if items.is_constant f.name.name then None else locals_in_scope items fs ts (record { name = f.name.name; slot = n; ty = t } ∷ locals) (suc n)
+locals_in_scope items [] (t ∷ ts) locals n = None
+locals_in_scope items (f ∷ fs) [] locals n = None

@@ -8,23 +8,23 @@ use Rattle.dslx_meaning.specs.declared.value.DslxValue.{DslxValue}
 use Rattle.dslx_const_machine.specs.Layers.{PatternLayer}
 use Rattle.dslx_core.specs.declared.expr.Shape.{Shape}
 use Rattle.dslx_core.specs.declared.expr.Shape as shape
-use Rattle.dslx_core.specs.Lowering.CorePlaces.{CorePlace}
+use Rattle.dslx_core.specs.Lowering.CoreScopes.{CoreScope}
 use Rattle.dslx_core.specs.Lowering.EqualTypes.{equal_type}
 use Rattle.dslx_core.specs.Lowering.Patterns.{LoweredShape, name_shape, names_of_all, shaped, tuple_shape, value_shape}
-use Rattle.dslx_core.specs.Lowering.Steps.{pattern_of_text_lowered}
+use Rattle.dslx_core.specs.Lowering.Steps.{lower_pattern_of_text}
 use Rattle.dslx_machines.specs.Machine.Steps.{number_at}
 
-abbrev pub top_shape : PatternLayer → CorePlace → CorePlace → DslxType → Option LoweredShape
+abbrev pub top_shape : PatternLayer → CoreScope → CoreScope → DslxType → Option LoweredShape
 top_shape Shape-F.Wild outer place t = shaped shape.Wild place
 top_shape (Shape-F.Shape::Bool b) outer place t = value_shape (Some (bool_value b)) place t
 top_shape (Shape-F.Shape::Number n) outer place t = value_shape (number_at outer n) place t
 top_shape (Shape-F.Shape::Name name) outer place t = name_shape name place t
 top_shape (Shape-F.Shape::Member e a) outer place t = value_shape (place.known.items.member e.name a.name) place t
-top_shape (Shape-F.Shape::Tuple ps) outer place t = tuple_shape (map pattern_of_text_lowered ps) outer place (out-DslxType t)
+top_shape (Shape-F.Shape::Tuple ps) outer place t = tuple_shape (map lower_pattern_of_text ps) outer place (out-DslxType t)
 
 abbrev pub top_names : PatternLayer → List (List ℕ)
 top_names (Shape-F.Shape::Name name) = name ∷ []
-top_names (Shape-F.Shape::Tuple ps) = names_of_all (map pattern_of_text_lowered ps)
+top_names (Shape-F.Shape::Tuple ps) = names_of_all (map lower_pattern_of_text ps)
 top_names _ = []
 
 -- one value of the type

@@ -4,22 +4,22 @@ ghost use Rattle.std.specs.Prelude.{◌≡◌, IfOk};
 ghost use Rattle.dslx_machines.specs.Machine.Arms.{shaped_at};
 ghost use Rattle.dslx_machines.specs.Machine.Callees.{CalleesByName};
 ghost use Rattle.dslx_machines.specs.Machine.Steps.{turn_shaped};
-ghost use Rattle.dslx_scope_patterns.specs.Patterns.Behind.{body_place, shown_bound, shown_turn};
+ghost use Rattle.dslx_scope_patterns.specs.Patterns.Behind.{body_scope, shown_bound, shown_turn};
 
 use crate::patterns::there::shape_there;
 use dslx_core::Shape;
 use dslx_meaning::DslxType;
 use dslx_names::Binding;
 use dslx_scope::locals::Locals;
-use dslx_scope_names::names::PlaceSight;
+use dslx_scope_names::names::ScopeEnv;
 use dslx_tree::{For, Module, Pattern};
 use std::alloc::{AllocError, Global};
 
-/// What is known in all of a body: a text, and the number parameters, the last one last.
+/// What is known in all of a body: a text, and the parametrics, the last one last.
 #[derive(Clone, Copy)]
-pub struct BodyKnown<'a> {
+pub struct BodyScope<'a> {
     pub text: &'a Module,
-    pub numbers: &'a [Binding<'a>],
+    pub parametric_args: &'a [Binding<'a>],
 }
 
 /// A shape, and how many values are bound behind it.
@@ -40,20 +40,20 @@ pub struct BoundTurn {
 /// What a pattern becomes where so many values are bound, if anything; its names are bound then.
 pub fn bind_there<'a>(
     alloc: Global,
-    known: BodyKnown<'a>,
+    known: BodyScope<'a>,
     locals: &mut Locals,
     count: u64,
     pattern: &'a Pattern,
     ty: &DslxType,
 ) -> Result<Option<BoundShape>, AllocError>
-    ensures { IfOk result (λ o. (callee : CalleesByName) → shaped_at pattern.now (body_place callee known.entry locals.old count) ty.now ≡ shown_bound o callee known.entry locals.new) }
+    ensures { IfOk result (λ o. (callee : CalleesByName) → shaped_at pattern.now (body_scope callee known.entry locals.old count) ty.now ≡ shown_bound o callee known.entry locals.new) }
 {
-    let sight = PlaceSight {
+    let context = ScopeEnv {
         text: known.text,
-        numbers: known.numbers,
+        parametric_args: known.parametric_args,
         locals,
     };
-    match shape_there(alloc, sight, count, pattern, ty)? {
+    match shape_there(alloc, context, count, pattern, ty)? {
         Some(shaped) => {
             locals.bind_all(shaped.fresh)?;
             Ok(Some(BoundShape {
@@ -68,14 +68,14 @@ pub fn bind_there<'a>(
 /// What the patterns of a turn become against an index and what is accumulated, one behind the other; their names are bound then.
 pub fn turn_there<'a>(
     alloc: Global,
-    known: BodyKnown<'a>,
+    known: BodyScope<'a>,
     locals: &mut Locals,
     count: u64,
     turns: &'a For,
     index: &DslxType,
     accumulator: &DslxType,
 ) -> Result<Option<BoundTurn>, AllocError>
-    ensures { IfOk result (λ o. (callee : CalleesByName) → turn_shaped (body_place callee known.entry locals.old count) turns.now index.now accumulator.now ≡ shown_turn o callee known.entry locals.new) }
+    ensures { IfOk result (λ o. (callee : CalleesByName) → turn_shaped (body_scope callee known.entry locals.old count) turns.now index.now accumulator.now ≡ shown_turn o callee known.entry locals.new) }
 {
     let Some(index) = bind_there(alloc, known, locals, count, &turns.index, index)? else {
         return Ok(None);

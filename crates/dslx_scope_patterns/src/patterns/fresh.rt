@@ -6,13 +6,13 @@ use base::texts::Name;
 use dslx_core::lowering::BoundSlot;
 use dslx_meaning::DslxType;
 use dslx_scope::locals::Locals;
-use dslx_scope_names::names::PlaceSight;
+use dslx_scope_names::names::ScopeEnv;
 use std::alloc::{AllocError, Global};
 
 /// The place of a whole pattern, where its numbers are evaluated: what is in sight, and how many values are bound.
 #[derive(Clone, Copy)]
 pub(crate) struct Outer<'a> {
-    pub sight: PlaceSight<'a>,
+    pub context: ScopeEnv<'a>,
     pub count: u64,
 }
 

@@ -5,7 +5,7 @@ ghost use Rattle.std.specs.List.{list_all};
 ghost use Rattle.dslx_tree.specs.declared.pattern.Shape.{out-Shape};
 ghost use Rattle.dslx_meaning.specs.Items.{meanings_of};
 ghost use Rattle.dslx_core.specs.Lowering.Patterns.{names_of_all};
-ghost use Rattle.dslx_core.specs.Lowering.Steps.{pattern_of_text_lowered};
+ghost use Rattle.dslx_core.specs.Lowering.Steps.{lower_pattern_of_text};
 ghost use Rattle.dslx_scope_patterns.specs.Patterns.Tops.{top_names};
 
 use dslx_scope_names::names::is_constant_named;
@@ -14,7 +14,7 @@ use dslx_tree::{Module, Pattern, Shape};
 /// Whether each name in these patterns is a constant's.
 #[cycle(binds)]
 pub fn binds_nothing_new(text: &Module, patterns: &[Pattern]) -> bool
-    ensures { result ≡ list_all (meanings_of text.now).is_constant (names_of_all (map pattern_of_text_lowered patterns.now)) }
+    ensures { result ≡ list_all (meanings_of text.now).is_constant (names_of_all (map lower_pattern_of_text patterns.now)) }
 {
     'patterns: for pattern in patterns {
         if !binds_nothing(text, pattern) {
@@ -28,7 +28,7 @@ pub fn binds_nothing_new(text: &Module, patterns: &[Pattern]) -> bool
 #[cycle(binds)]
 #[tactic(auto, using(crate::proofs::OnPatterns::Opened::names_by_top))]
 fn binds_nothing(text: &Module, pattern: &Pattern) -> bool
-    ensures { result ≡ list_all (meanings_of text.now).is_constant (pattern_of_text_lowered pattern.now).names }
+    ensures { result ≡ list_all (meanings_of text.now).is_constant (lower_pattern_of_text pattern.now).names }
 {
     form_binds_nothing(text, &pattern.shape)
 }

@@ -4,11 +4,11 @@ ghost use Rattle.std.specs.Prelude.{◌≡◌, Some, map, IfOk};
 ghost use Rattle.dslx_tree.specs.declared.pattern.Shape.{out-Shape};
 ghost use Rattle.dslx_meaning.specs.Values.{bool_value as the_bool};
 ghost use Rattle.dslx_meaning.specs.declared.ty.DslxType.{out-DslxType};
-ghost use Rattle.dslx_core.specs.Lowering.CorePlaces.{CorePlace};
+ghost use Rattle.dslx_core.specs.Lowering.CoreScopes.{CoreScope};
 ghost use Rattle.dslx_core.specs.Lowering.Patterns.{name_shape as the_name_shape, parts_shaped, tuple_shape as the_tuple_shape, value_shape as the_value_shape};
-ghost use Rattle.dslx_core.specs.Lowering.Steps.{pattern_of_text_lowered};
+ghost use Rattle.dslx_core.specs.Lowering.Steps.{lower_pattern_of_text};
 ghost use Rattle.dslx_machines.specs.Machine.Steps.{number_at};
-ghost use Rattle.dslx_scope_patterns.specs.Patterns.Behind.{fresh_place, outer_place, parts_to, shaped_to};
+ghost use Rattle.dslx_scope_patterns.specs.Patterns.Behind.{fresh_scope, outer_scope, parts_to, shaped_to};
 ghost use Rattle.dslx_scope_patterns.specs.Patterns.Tops.{top_shape};
 
 use crate::patterns::fresh::{Fresh, Outer};
@@ -32,7 +32,7 @@ pub(crate) fn pattern_shape<'a>(
     ty: &DslxType,
     fresh: &mut Fresh,
 ) -> Result<Option<Shape>, AllocError>
-    ensures { IfOk result (λ s. (pattern_of_text_lowered pattern.now).lower (outer_place outer.entry) (fresh_place outer.entry fresh.old) ty.now ≡ shaped_to s (fresh_place outer.entry fresh.new)) }
+    ensures { IfOk result (λ s. (lower_pattern_of_text pattern.now).lower (outer_scope outer.entry) (fresh_scope outer.entry fresh.old) ty.now ≡ shaped_to s (fresh_scope outer.entry fresh.new)) }
 {
     form_shape(alloc, outer, &pattern.shape, ty, fresh)
 }
@@ -45,7 +45,7 @@ fn form_shape<'a>(
     ty: &DslxType,
     fresh: &mut Fresh,
 ) -> Result<Option<Shape>, AllocError>
-    ensures { IfOk result (λ s. top_shape (out-Shape form.now) (outer_place outer.entry) (fresh_place outer.entry fresh.old) ty.now ≡ shaped_to s (fresh_place outer.entry fresh.new)) }
+    ensures { IfOk result (λ s. top_shape (out-Shape form.now) (outer_scope outer.entry) (fresh_scope outer.entry fresh.old) ty.now ≡ shaped_to s (fresh_scope outer.entry fresh.new)) }
 {
     match form {
         Form::Wild => Ok(Some(Shape::Wild)),
@@ -60,7 +60,7 @@ fn form_shape<'a>(
 }
 
 fn bool_shape(alloc: Global, holds: bool, ty: &DslxType) -> Result<Option<Shape>, AllocError>
-    ensures { IfOk result (λ s. (place : CorePlace) → the_value_shape (Some (the_bool holds)) place ty.now ≡ shaped_to s place) }
+    ensures { IfOk result (λ s. (place : CoreScope) → the_value_shape (Some (the_bool holds)) place ty.now ≡ shaped_to s place) }
 {
     value_shape(alloc, Some(bool_value(holds)), ty)
 }
@@ -72,9 +72,9 @@ fn number_shape<'a>(
     number: &'a Number,
     ty: &DslxType,
 ) -> Result<Option<Shape>, AllocError>
-    ensures { IfOk result (λ s. (place : CorePlace) → the_value_shape (number_at (outer_place outer.entry) number.now) place ty.now ≡ shaped_to s place) }
+    ensures { IfOk result (λ s. (place : CoreScope) → the_value_shape (number_at (outer_scope outer.entry) number.now) place ty.now ≡ shaped_to s place) }
 {
-    let value = number_there(alloc, outer.sight, number)?;
+    let value = number_there(alloc, outer.context, number)?;
     value_shape(alloc, value, ty)
 }
 
@@ -85,9 +85,9 @@ fn member_shape<'a>(
     member: &Name,
     ty: &DslxType,
 ) -> Result<Option<Shape>, AllocError>
-    ensures { IfOk result (λ s. (place : CorePlace) → the_value_shape ((outer_place outer.entry).known.items.member of.now member.now) place ty.now ≡ shaped_to s place) }
+    ensures { IfOk result (λ s. (place : CoreScope) → the_value_shape ((outer_scope outer.entry).known.items.member of.now member.now) place ty.now ≡ shaped_to s place) }
 {
-    let value = member_named(alloc, outer.sight.text, of, member)?;
+    let value = member_named(alloc, outer.context.text, of, member)?;
     value_shape(alloc, value, ty)
 }
 
@@ -99,10 +99,10 @@ fn name_shape<'a>(
     ty: &DslxType,
     fresh: &mut Fresh,
 ) -> Result<Option<Shape>, AllocError>
-    ensures { IfOk result (λ s. the_name_shape name.now (fresh_place outer.entry fresh.old) ty.now ≡ shaped_to s (fresh_place outer.entry fresh.new)) }
+    ensures { IfOk result (λ s. the_name_shape name.now (fresh_scope outer.entry fresh.old) ty.now ≡ shaped_to s (fresh_scope outer.entry fresh.new)) }
 {
-    if is_constant_named(outer.sight.text, name) {
-        let value = constant_named(alloc, outer.sight.text, name)?;
+    if is_constant_named(outer.context.text, name) {
+        let value = constant_named(alloc, outer.context.text, name)?;
         return value_shape(alloc, value, ty);
     }
     fresh.bind(copy_name(alloc, name)?, copy_type(alloc, ty)?)?;
@@ -117,7 +117,7 @@ fn tuple_shape<'a>(
     ty: &DslxType,
     fresh: &mut Fresh,
 ) -> Result<Option<Shape>, AllocError>
-    ensures { IfOk result (λ s. the_tuple_shape (map pattern_of_text_lowered parts.now) (outer_place outer.entry) (fresh_place outer.entry fresh.old) (out-DslxType ty.now) ≡ shaped_to s (fresh_place outer.entry fresh.new)) }
+    ensures { IfOk result (λ s. the_tuple_shape (map lower_pattern_of_text parts.now) (outer_scope outer.entry) (fresh_scope outer.entry fresh.old) (out-DslxType ty.now) ≡ shaped_to s (fresh_scope outer.entry fresh.new)) }
 {
     match ty {
         DslxType::Tuple(types) => match part_shapes(alloc, outer, parts, types.as_slice(), fresh)? {
@@ -137,7 +137,7 @@ fn part_shapes<'a>(
     types: &[DslxType],
     fresh: &mut Fresh,
 ) -> Result<Option<Seq<Shape>>, AllocError>
-    ensures { IfOk result (λ s. parts_shaped (map pattern_of_text_lowered parts.now) types.now (outer_place outer.entry) (fresh_place outer.entry fresh.old) ≡ parts_to s (fresh_place outer.entry fresh.new)) }
+    ensures { IfOk result (λ s. parts_shaped (map lower_pattern_of_text parts.now) types.now (outer_scope outer.entry) (fresh_scope outer.entry fresh.old) ≡ parts_to s (fresh_scope outer.entry fresh.new)) }
 {
     if parts.len() != types.len() {
         return Ok(None);

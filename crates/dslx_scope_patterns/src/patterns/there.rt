@@ -3,7 +3,7 @@
 ghost use Rattle.std.specs.Prelude.{◌≡◌, IfOk};
 ghost use Rattle.dslx_machines.specs.Machine.Arms.{shaped_at};
 ghost use Rattle.dslx_machines.specs.Machine.Callees.{CalleesByName};
-ghost use Rattle.dslx_scope_names.specs.Names.Seen.{place_with};
+ghost use Rattle.dslx_scope_names.specs.Names.Seen.{scope_with};
 ghost use Rattle.dslx_scope_patterns.specs.Patterns.Behind.{shown_behind};
 
 use crate::patterns::fresh::{Fresh, Outer};
@@ -11,7 +11,7 @@ use crate::patterns::shape::pattern_shape;
 use dslx_core::Shape;
 use dslx_meaning::DslxType;
 use dslx_scope::locals::Locals;
-use dslx_scope_names::names::PlaceSight;
+use dslx_scope_names::names::ScopeEnv;
 use dslx_tree::Pattern;
 use std::alloc::{AllocError, Global};
 
@@ -28,16 +28,16 @@ pub struct Shaped {
 /// A constant is evaluated where its name stands, a number at the place of the whole pattern.
 pub fn shape_there<'a>(
     alloc: Global,
-    sight: PlaceSight<'a>,
+    context: ScopeEnv<'a>,
     count: u64,
     pattern: &'a Pattern,
     ty: &DslxType,
 ) -> Result<Option<Shaped>, AllocError>
-    ensures { IfOk result (λ o. (callee : CalleesByName) → shaped_at pattern.now (place_with callee count sight.entry) ty.now ≡ shown_behind o (place_with callee count sight.entry)) }
+    ensures { IfOk result (λ o. (callee : CalleesByName) → shaped_at pattern.now (scope_with callee count context.entry) ty.now ≡ shown_behind o (scope_with callee count context.entry)) }
 {
     dslx_machines::machine::types_and_patterns_know_no_calls();
     let mut fresh = Fresh::new(alloc, count);
-    match pattern_shape(alloc, Outer { sight, count }, pattern, ty, &mut fresh)? {
+    match pattern_shape(alloc, Outer { context, count }, pattern, ty, &mut fresh)? {
         Some(shape) => Ok(Some(Shaped {
             shape,
             fresh: fresh.names,

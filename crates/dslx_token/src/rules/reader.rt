@@ -2,7 +2,7 @@
 
 ghost use Rattle.std.specs.Prelude.{◌≡◌, ℕ, ◌<◌, ◌++◌, List, length, take, IfOk, MatchResult};
 ghost use Rattle.grammar.specs.Answer.{EndsWith, IfFault};
-ghost use Rattle.grammar.specs.Derivation.{BeginsWith, IsBeginning, IsDerivation, IsSentence};
+ghost use Rattle.grammar.specs.Derivation.{StartsWith, IsBeginning, IsDerivation, IsSentence};
 ghost use Rattle.grammar.specs.Ll1.{IsLl1};
 ghost use Rattle.grammar.specs.Syntax.{syntax_of};
 ghost use Rattle.grammar.specs.Steps.{steps_of};
@@ -43,7 +43,7 @@ pub fn parse(alloc: Global, kinds: &[u8]) -> Result<Vec<u16>, ParseError>
         (λ fault. IsBeginning dslx fault.productions.items (take fault.place kinds.now)) }
     ensures forced { IfFault result (λ fault. (more ps : List ℕ)
         → IsDerivation dslx ps (take fault.place kinds.now ++ more)
-        → BeginsWith ps fault.productions.items) }
+        → StartsWith ps fault.productions.items) }
 {
     grammar::parse(alloc, &grammar(), kinds)
 }

@@ -5,12 +5,12 @@ use Rattle.std.specs.Str.{bytes_eq}
 use Rattle.std.proofs.lemmas.List.{map-append}
 use Rattle.dslx_tree.specs.declared.ident.Ident.{Ident}
 use Rattle.dslx_tree.specs.declared.process.End.{End}
-use Rattle.dslx_tree.specs.declared.process.Making.{Making}
-use Rattle.dslx_tree.specs.declared.process.Making.TheVariants as making
+use Rattle.dslx_tree.specs.declared.process.ConfigStatement.{ConfigStatement}
+use Rattle.dslx_tree.specs.declared.process.ConfigStatement.TheVariants as config_statement
 use Rattle.dslx_tree.specs.declared.process.Proc.{Proc}
 use Rattle.dslx_meaning.specs.Lists.{is_in}
 use Rattle.dslx_meaning.specs.Network.{Held, made_ends, outer_ends}
-use Rattle.dslx_meaning.specs.Rules.Judging.{Sight, breaks_if}
+use Rattle.dslx_meaning.specs.Rules.TypeEnvs.{TypeEnv, breaks_if}
 use Rattle.dslx_meaning.specs.Rules.ProcRules.{Made, end_names, made_at_end, made_at_start, made_with, unknown_ends}
 use Rattle.dslx_typing.proofs.Lemmas.Sound.{none_in, passed}
 use Rattle.dslx_typing.proofs.Lemmas.Typed.{all_are}
@@ -60,42 +60,42 @@ or_none true e = refl
 or_none false e = e
 
 -- what is declared in the end is declared before these, or by them
-declared_or_made : (name : List ℕ) (sight : Sight) (made : Made) (number : ℕ) (ms : List Making) → is_in name (made_at_end sight made ms).names ≡ true → (is_in name made.names || is_in name (names_held (made_ends number ms))) ≡ true
-declared_or_made name sight made number [] e = or_none (is_in name made.names) e
-declared_or_made name sight made number (making.Spawn s ∷ ms) e = declared_or_made name sight made number ms e
-declared_or_made name sight made number (making.Channel c ∷ ms) e =
-    moved (bytes_eq name c.receiver.name) (bytes_eq name c.sender.name) (is_in name made.names) (is_in name (names_held (made_ends (suc number) ms))) (declared_or_made name sight (made_with sight made c) (suc number) ms e)
+declared_or_made : (name : List ℕ) (context : TypeEnv) (made : Made) (number : ℕ) (ms : List ConfigStatement) → is_in name (made_at_end context made ms).names ≡ true → (is_in name made.names || is_in name (names_held (made_ends number ms))) ≡ true
+declared_or_made name context made number [] e = or_none (is_in name made.names) e
+declared_or_made name context made number (config_statement.Spawn s ∷ ms) e = declared_or_made name context made number ms e
+declared_or_made name context made number (config_statement.Channel c ∷ ms) e =
+    moved (bytes_eq name c.receiver.name) (bytes_eq name c.sender.name) (is_in name made.names) (is_in name (names_held (made_ends (suc number) ms))) (declared_or_made name context (made_with context made c) (suc number) ms e)
 
 -- what is declared stays
-pub stays : (name : List ℕ) (sight : Sight) (made : Made) (ms : List Making) → is_in name made.names ≡ true → is_in name (made_at_end sight made ms).names ≡ true
-stays name sight made [] e = e
-stays name sight made (making.Spawn s ∷ ms) e = stays name sight made ms e
-stays name sight made (making.Channel c ∷ ms) e = stays name sight (made_with sight made c) ms (behind (bytes_eq name c.receiver.name) (bytes_eq name c.sender.name) e)
+pub stays : (name : List ℕ) (context : TypeEnv) (made : Made) (ms : List ConfigStatement) → is_in name made.names ≡ true → is_in name (made_at_end context made ms).names ≡ true
+stays name context made [] e = e
+stays name context made (config_statement.Spawn s ∷ ms) e = stays name context made ms e
+stays name context made (config_statement.Channel c ∷ ms) e = stays name context (made_with context made c) ms (behind (bytes_eq name c.receiver.name) (bytes_eq name c.sender.name) e)
   where
     behind : (a b : Bool) → is_in name made.names ≡ true → (if a then true else (if b then true else is_in name made.names)) ≡ true
     behind true b q = refl
     behind false true q = refl
     behind false false q = q
 
-pub declared_numbered : (sight : Sight) (p : Proc) → AreNumbered (numbered_ends p) (made_at_end sight (made_at_start sight p.config.ends) p.config.makings).names
-declared_numbered sight p name e =
+pub declared_numbered : (context : TypeEnv) (p : Proc) → AreNumbered (numbered_ends p) (made_at_end context (made_at_start context p.config.ends) p.config.config_statements).names
+declared_numbered context p name e =
     let outer = outer_ends 0 p.config.ends in
-    let made = made_ends (length p.config.ends) p.config.makings in
-    let both = declared_or_made name sight (made_at_start sight p.config.ends) (length p.config.ends) p.config.makings e in
+    let made = made_ends (length p.config.ends) p.config.config_statements in
+    let both = declared_or_made name context (made_at_start context p.config.ends) (length p.config.ends) p.config.config_statements e in
     numbered (numbered_ends p) name
     (ap (is_in name) (map-append (λ (h : Held). h.name) outer made)
     ∙ in_both name (names_held outer) (names_held made) ((λ i. is_in name (outer_named 0 p.config.ends i) || is_in name (names_held made)) ∙ both))
 
 -- ---- ends that are named
 
-pub record NumbersThere (held : List Held) (is : List Ident) : Type 0 where
-  pub numbers : List ℕ
-  pub are : end_numbers held is ≡ Some numbers
-  pub many : length numbers ≡ length is
+pub record ParametricArgsThere (held : List Held) (is : List Ident) : Type 0 where
+  pub parametric_args : List ℕ
+  pub are : end_numbers held is ≡ Some parametric_args
+  pub many : length parametric_args ≡ length is
 
 -- declared ends have numbers
-pub numbers_there : (held : List Held) (names : List (List ℕ)) → AreNumbered held names → (is : List Ident) → unknown_ends names is ≡ [] → NumbersThere held is
-numbers_there held names known is f = let k = each is f in record { numbers = k.0; are = ap all_some k.1 ∙ all_are k.0; many = k.2 }
+pub parametric_args_there : (held : List Held) (names : List (List ℕ)) → AreNumbered held names → (is : List Ident) → unknown_ends names is ≡ [] → ParametricArgsThere held is
+parametric_args_there held names known is f = let k = each is f in record { parametric_args = k.0; are = ap all_some k.1 ∙ all_are k.0; many = k.2 }
   where
     each : (is : List Ident) → unknown_ends names is ≡ [] → (ks : List ℕ) × (map (λ (i : Ident). end_number i.name held) is ≡ map Some ks) × (length ks ≡ length is)
     each [] g = ([], refl, refl)

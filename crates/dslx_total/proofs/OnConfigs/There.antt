@@ -4,10 +4,10 @@ use Rattle.dslx_tree.specs.declared.item.Module.{Module}
 use Rattle.dslx_tree.specs.declared.process.Proc.{Proc}
 use Rattle.dslx_meaning.specs.Environment.{Meanings}
 use Rattle.dslx_meaning.specs.declared.value.DslxValue.{DslxValue}
-use Rattle.dslx_meaning.specs.Rules.Judging.{Instance}
-use Rattle.dslx_meaning.specs.Rules.ModuleRules.{faults_of, instances_of, is_reached, known_of, outside_instances}
+use Rattle.dslx_meaning.specs.Rules.TypeEnvs.{Instance}
+use Rattle.dslx_meaning.specs.Rules.ModuleRules.{faults_of, instances_of, is_reached, globals_of, outside_instances}
 use Rattle.dslx_typing.specs.Laws.Recursion.{HasNoCycle}
-use Rattle.dslx_typing.specs.Judged.Closed.{IsOneOf, ReachOneAnother}
+use Rattle.dslx_typing.specs.TypingRelations.Closed.{IsOneOf, ReachOneAnother}
 use Rattle.dslx_typing.specs.Depends.Settled.{BindsNoConstant}
 use Rattle.dslx_typing.specs.Typed.Numbers.{AllOwn}
 use Rattle.dslx_typing.proofs.Lemmas.Accepted.{IsAccepted, one_of_these}
@@ -16,12 +16,12 @@ use Rattle.dslx_total.proofs.OnFamilies.There.{IsThere}
 use Rattle.dslx_total.specs.Configs.ReachedProcs.{IsReachedProc}
 
 -- a text without faults, by what is known of all texts
-pub accepted : (m : Module) (top : Option (List ℕ)) → HasNoCycle m → BindsNoConstant m → faults_of m top ≡ [] → ReachOneAnother (known_of m) (instances_of m top)
+pub accepted : (m : Module) (top : Option (List ℕ)) → HasNoCycle m → BindsNoConstant m → faults_of m top ≡ [] → ReachOneAnother (globals_of m) (instances_of m top)
     → ((i : Instance) → IsOneOf i (outside_instances m top).reached → is_reached i (instances_of m top) ≡ true) → IsAccepted m top
 accepted m top free plain faults among outside = record { free = free; plain = plain; faults = faults; among = among; outside = outside }
 
-pub is_there : (m : Module) (top : Option (List ℕ)) (s : IsAccepted m top) (items : Meanings) → (K m top s).items ≡ items → (p : Proc) (numbers : List DslxValue) → IsReachedProc m items top p numbers → IsThere m top s p numbers
-is_there m top s items meant p numbers h = record {
-  checked = record { named = h.named; among = one_of_these (record { name = p.name.name; numbers = numbers }) (all m top s) h.checked };
-  own = subst (λ (x : Meanings). AllOwn x.type_named numbers) (sym meant) h.own;
+pub is_there : (m : Module) (top : Option (List ℕ)) (s : IsAccepted m top) (items : Meanings) → (K m top s).items ≡ items → (p : Proc) (parametric_args : List DslxValue) → IsReachedProc m items top p parametric_args → IsThere m top s p parametric_args
+is_there m top s items denotation p parametric_args h = record {
+  checked = record { named = h.named; among = one_of_these (record { name = p.name.name; parametric_args = parametric_args }) (all m top s) h.checked };
+  own = subst (λ (x : Meanings). AllOwn x.type_named parametric_args) (sym denotation) h.own;
 }

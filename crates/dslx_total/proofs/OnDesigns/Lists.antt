@@ -1,9 +1,9 @@
 -- Instances among others, and those that pass a test: how many they are.
 use Rattle.std.proofs.Common.{◌≡◌, ◌≤◌, ◌||◌, suc, inl, inr, length, Bool, true, false, if◌then◌else◌, List, [], ◌∷◌, arith, refl, sym, ap, subst, ◌∙◌}
 use mathlib.Core.Bool.{true≢false}
-use Rattle.dslx_meaning.specs.Rules.Judging.{Instance, same_instance}
+use Rattle.dslx_meaning.specs.Rules.TypeEnvs.{Instance, same_instance}
 use Rattle.dslx_meaning.specs.Rules.ModuleRules.{is_reached}
-use Rattle.dslx_typing.specs.Judged.Closed.{IsOneOf}
+use Rattle.dslx_typing.specs.TypingRelations.Closed.{IsOneOf}
 use Rattle.dslx_total.proofs.OnTables.Lists.{as_named, chosen, equal_itself, no_more, or_second}
 
 pub or_first : (p q : Bool) → p ≡ true → (p || q) ≡ true

@@ -8,36 +8,36 @@ use Rattle.dslx_tree.specs.declared.expr.Arg.{Arg}
 use Rattle.dslx_tree.specs.declared.item.Definition.{Definition}
 use Rattle.dslx_tree.specs.declared.item.Definition.TheVariants as d
 use Rattle.dslx_tree.specs.declared.item.Module.{Module}
-use Rattle.dslx_tree.specs.declared.process.Making.{Making}
-use Rattle.dslx_tree.specs.declared.process.Making.TheVariants as making
+use Rattle.dslx_tree.specs.declared.process.ConfigStatement.{ConfigStatement}
+use Rattle.dslx_tree.specs.declared.process.ConfigStatement.TheVariants as config_statement
 use Rattle.dslx_tree.specs.declared.process.Proc.{Proc}
 use Rattle.dslx_tree.specs.declared.process.Spawn.{Spawn}
 use Rattle.dslx_meaning.specs.Environment.{Meanings}
 use Rattle.dslx_meaning.specs.Items.{item_named, meanings_of}
 use Rattle.dslx_meaning.specs.Network.{as_proc}
 use Rattle.dslx_meaning.specs.declared.value.DslxValue.{DslxValue}
-use Rattle.dslx_meaning.specs.Rules.Judging.{Instance}
-use Rattle.dslx_meaning.specs.Rules.Mentions.{AsProc, is_of_use, making_mentions, mention, mentioned_in_arg, mentions_of, parameter_names}
+use Rattle.dslx_meaning.specs.Rules.TypeEnvs.{Instance}
+use Rattle.dslx_meaning.specs.Rules.Mentions.{AsProc, is_of_use, config_statement_mentions, mention, mentioned_in_arg, mentions_of, parametric_names}
 use Rattle.dslx_meaning.specs.Rules.ModuleRules.{instances_of, is_reached}
 use Rattle.dslx_typing.proofs.Lemmas.Laws.{and_true}
-use Rattle.dslx_typing.specs.Judged.Closed.{IsOneOf, ends_within}
-use Rattle.dslx_typing.proofs.Lemmas.Judged.{item_so_named, longer}
-use Rattle.dslx_typing.proofs.Lemmas.Depends.{meant_parts}
+use Rattle.dslx_typing.specs.TypingRelations.Closed.{IsOneOf, ends_within}
+use Rattle.dslx_typing.proofs.Lemmas.TypingRelations.{item_so_named, longer}
+use Rattle.dslx_typing.proofs.Lemmas.Depends.{den_parts}
 use Rattle.dslx_typing.proofs.Lemmas.Typed.{same_some}
 use Rattle.dslx_typing.proofs.Lemmas.Accepted.{one_of_these}
-use Rattle.dslx_core.specs.Lowering.CorePlaces.{CorePlace}
+use Rattle.dslx_core.specs.Lowering.CoreScopes.{CoreScope}
 use Rattle.dslx_core.specs.Lowering.Functions.{CoreInstance, Instantiated}
-use Rattle.dslx_core.specs.Networks.Configs.{ProcInstance, config_place, spawn_numbers_lowered}
+use Rattle.dslx_core.specs.Networks.Configs.{ProcInstance, config_scope, lower_spawn_parametrics}
 use Rattle.dslx_core.specs.Networks.Procs.{procs_from}
 use Rattle.dslx_total.proofs.OnTables.Lists.{AreApart, as_named, both_chosen, chosen}
 use Rattle.dslx_total.proofs.OnTables.Own.{all_own_pass, all_own_there, are_own}
-use Rattle.dslx_total.specs.Families.EachPlaced.{NextBecomes}
+use Rattle.dslx_total.specs.Families.EachElaborated.{NextLowers}
 use Rattle.dslx_total.proofs.OnFamilies.Reached.{Within, proc_within}
 use Rattle.dslx_total.proofs.OnFamilies.Spawns.{proc_is}
-use Rattle.dslx_total.specs.Configs.Becoming.{ConfigBecomes}
+use Rattle.dslx_total.specs.Configs.LowersTotally.{ConfigLowers}
 use Rattle.dslx_total.specs.Configs.ReachedProcs.{IsReachedProc}
 use Rattle.dslx_total.specs.Configs.Spawned.{EachSpawn, HasItsInstance, SpawnsReached}
-use Rattle.dslx_total.proofs.OnDesigns.Growing.{Grown, IsNext, all_grown, appended, becomes_next, found_in, stands}
+use Rattle.dslx_total.proofs.OnDesigns.Growing.{Grown, IsNext, all_grown, appended, lowers_to_next, found_in, stands}
 use Rattle.dslx_total.proofs.OnDesigns.Lists.{reached_there}
 
 -- the proc of an instance
@@ -55,17 +55,17 @@ mentioned_proc : (m : Module) (k : ℕ) (name : List ℕ) (p : Proc) → item_na
 mentioned_proc m k name p e h =
     (and_true (ends_within m k name) true ((λ t. list_all (ends_within m k) (if is_of_use AsProc (sym e t) then name ∷ [] else [])) ∙ h)).0
 
-module _ (m : Module) (top : Option (List ℕ)) (functions : List CoreInstance) (nexts : (p : Proc) (numbers : List DslxValue) → IsReachedProc m (meanings_of m) top p numbers → NextBecomes m functions p numbers)
-    (configs : (p : Proc) (numbers : List DslxValue) → IsReachedProc m (meanings_of m) top p numbers → ConfigBecomes m (meanings_of m) top p numbers) where
+module _ (m : Module) (top : Option (List ℕ)) (functions : List CoreInstance) (nexts : (p : Proc) (parametric_args : List DslxValue) → IsReachedProc m (meanings_of m) top p parametric_args → NextLowers m functions p parametric_args)
+    (configs : (p : Proc) (parametric_args : List DslxValue) → IsReachedProc m (meanings_of m) top p parametric_args → ConfigLowers m (meanings_of m) top p parametric_args) where
   abbrev items : Meanings
   items = meanings_of m
 
   abbrev pub all : List Instance
   all = instances_of m top
 
-  -- an instance of a proc whose number arguments are of their own types
+  -- an instance of a proc whose parametric arguments are of their own types
   abbrev is_proc : Instance → Bool
-  is_proc i = is_of_use AsProc (item_named i.name m.items) && are_own items.type_named i.numbers
+  is_proc i = is_of_use AsProc (item_named i.name m.items) && are_own items.type_named i.parametric_args
 
   -- chains from it have one item more, and no fewer
   abbrev is_next : ℕ → Instance → Bool
@@ -81,54 +81,54 @@ module _ (m : Module) (top : Option (List ℕ)) (functions : List CoreInstance) 
 
   -- all with shorter chains stand in a table
   abbrev pub HoldsShorter : ℕ → List ProcInstance → Type 0
-  HoldsShorter k table = (i : Instance) → IsOneOf i all → is_proc i ≡ true → ends_within m k i.name ≡ true → stands table i.name i.numbers ≡ true
+  HoldsShorter k table = (i : Instance) → IsOneOf i all → is_proc i ≡ true → ends_within m k i.name ≡ true → stands table i.name i.parametric_args ≡ true
 
   -- ---- one instance
 
   -- the instance that a spawn comes to
-  spawned_there : (k : ℕ) (table : List ProcInstance) → HoldsShorter k table → (place : CorePlace) (s : Spawn) → Within m k (mention AsProc s.target.name) → SpawnsReached m items top place s → HasItsInstance m items place table s
-  spawned_there k table holds place s w h target numbers is given own =
+  spawned_there : (k : ℕ) (table : List ProcInstance) → HoldsShorter k table → (place : CoreScope) (s : Spawn) → Within m k (mention AsProc s.target.name) → SpawnsReached m items top place s → HasItsInstance m items place table s
+  spawned_there k table holds place s w h target parametric_args is given own =
       let named : item_named s.target.name m.items ≡ Some (d.Proc h.target) = proc_is (item_named s.target.name m.items) h.target h.is in
       let name : h.target.name.name ≡ s.target.name = item_so_named m.items s.target.name (d.Proc h.target) named in
       let one = same_some h.target target (sym h.is ∙ is) in
-      let same = same_some h.numbers numbers (sym h.given ∙ ((λ t. spawn_numbers_lowered place (one t) s.arguments) ∙ given)) in
-      let i : Instance = record { name = s.target.name; numbers = h.numbers } in
-      let among = one_of_these i all (subst (λ n. is_reached (record { name = n; numbers = h.numbers }) all ≡ true) name h.checked.checked) in
-      let there = holds i among (λ t. is_of_use AsProc (named t) && all_own_pass items.type_named h.numbers h.checked.own t) (mentioned_proc m k s.target.name h.target named w) in
-      found_in s.target.name numbers 0 table (subst (λ (vs : List DslxValue). stands table s.target.name vs ≡ true) same there)
+      let same = same_some h.parametric_args parametric_args (sym h.given ∙ ((λ t. lower_spawn_parametrics place (one t) s.arguments) ∙ given)) in
+      let i : Instance = record { name = s.target.name; parametric_args = h.parametric_args } in
+      let among = one_of_these i all (subst (λ n. is_reached (record { name = n; parametric_args = h.parametric_args }) all ≡ true) name h.checked.checked) in
+      let there = holds i among (λ t. is_of_use AsProc (named t) && all_own_pass items.type_named h.parametric_args h.checked.own t) (mentioned_proc m k s.target.name h.target named w) in
+      found_in s.target.name parametric_args 0 table (subst (λ (vs : List DslxValue). stands table s.target.name vs ≡ true) same there)
 
-  each_there : (k : ℕ) (table : List ProcInstance) → HoldsShorter k table → (place : CorePlace) (bound : List (List ℕ)) (ms : List Making) → Within m k (flat_map (λ (x : Making). making_mentions x bound) ms) → EachSpawn (SpawnsReached m items top place) ms
+  each_there : (k : ℕ) (table : List ProcInstance) → HoldsShorter k table → (place : CoreScope) (bound : List (List ℕ)) (ms : List ConfigStatement) → Within m k (flat_map (λ (x : ConfigStatement). config_statement_mentions x bound) ms) → EachSpawn (SpawnsReached m items top place) ms
       → EachSpawn (HasItsInstance m items place table) ms
   each_there k table holds place bound [] w h = tt
-  each_there k table holds place bound (making.Channel c ∷ ms) w h =
-      let v = meant_parts (ends_within m k) m (making_mentions (making.Channel c) bound) (flat_map (λ (x : Making). making_mentions x bound) ms) w in
+  each_there k table holds place bound (config_statement.Channel c ∷ ms) w h =
+      let v = den_parts (ends_within m k) m (config_statement_mentions (config_statement.Channel c) bound) (flat_map (λ (x : ConfigStatement). config_statement_mentions x bound) ms) w in
       each_there k table holds place bound ms v.1 h
-  each_there k table holds place bound (making.Spawn s ∷ ms) w h =
-      let v = meant_parts (ends_within m k) m (making_mentions (making.Spawn s) bound) (flat_map (λ (x : Making). making_mentions x bound) ms) w in
-      let u = meant_parts (ends_within m k) m (mention AsProc s.target.name) (flat_map (λ (a : Arg). mentioned_in_arg a bound) s.arguments) v.0 in
+  each_there k table holds place bound (config_statement.Spawn s ∷ ms) w h =
+      let v = den_parts (ends_within m k) m (config_statement_mentions (config_statement.Spawn s) bound) (flat_map (λ (x : ConfigStatement). config_statement_mentions x bound) ms) w in
+      let u = den_parts (ends_within m k) m (mention AsProc s.target.name) (flat_map (λ (a : Arg). mentioned_in_arg a bound) s.arguments) v.0 in
       (spawned_there k table holds place s u.0 h.0, each_there k table holds place bound ms v.1 h.1)
 
   -- where all with shorter chains stand, it becomes something
-  pub checked_next : (k : ℕ) (table : List ProcInstance) → HoldsShorter k table → (p : Proc) (numbers : List DslxValue) → IsReachedProc m items top p numbers → ends_within m (suc k) p.name.name ≡ true
-      → IsNext m functions table (record { name = p.name.name; numbers = numbers })
-  checked_next k table holds p numbers checked e =
+  pub checked_next : (k : ℕ) (table : List ProcInstance) → HoldsShorter k table → (p : Proc) (parametric_args : List DslxValue) → IsReachedProc m items top p parametric_args → ends_within m (suc k) p.name.name ≡ true
+      → IsNext m functions table (record { name = p.name.name; parametric_args = parametric_args })
+  checked_next k table holds p parametric_args checked e =
       let within = proc_within m k p ((λ t. list_all (ends_within m k) (mentions_of m (sym checked.named t))) ∙ e) in
-      let c = configs p numbers checked in
-      let config = c.becomes table (each_there k table holds (config_place items p numbers) (parameter_names p.parameters) p.config.makings within.makings c.spawns) in
-      becomes_next m functions table (record { name = p.name.name; numbers = numbers }) p (ap as_proc checked.named) (nexts p numbers checked) config.0 config.1
+      let c = configs p parametric_args checked in
+      let config = c.becomes table (each_there k table holds (config_scope items p parametric_args) (parametric_names p.parametrics) p.config.config_statements within.config_statements c.spawns) in
+      lowers_to_next m functions table (record { name = p.name.name; parametric_args = parametric_args }) p (ap as_proc checked.named) (nexts p parametric_args checked) config.0 config.1
 
   due_next : (k : ℕ) (table : List ProcInstance) → HoldsShorter k table → (i : Instance) → IsOneOf i all → due k i ≡ true → IsNext m functions table (as_named i)
   due_next k table holds i one e =
       let q = and_true (is_next k i) (is_proc i) e in
-      let r = and_true (is_of_use AsProc (item_named i.name m.items)) (are_own items.type_named i.numbers) q.1 in
+      let r = and_true (is_of_use AsProc (item_named i.name m.items)) (are_own items.type_named i.parametric_args) q.1 in
       let p = proc_there (item_named i.name m.items) r.0 in
       let name : p.0.name.name ≡ i.name = item_so_named m.items i.name (d.Proc p.0) p.1 in
-      subst (λ n. IsNext m functions table (record { name = n; numbers = i.numbers })) name
-      (checked_next k table holds p.0 i.numbers
+      subst (λ n. IsNext m functions table (record { name = n; parametric_args = i.parametric_args })) name
+      (checked_next k table holds p.0 i.parametric_args
       (record {
         named = (λ t. item_named (name t) m.items) ∙ p.1;
-        checked = (λ t. is_reached (record { name = name t; numbers = i.numbers }) all) ∙ reached_there i all one;
-        own = all_own_there items.type_named i.numbers r.1;
+        checked = (λ t. is_reached (record { name = name t; parametric_args = i.parametric_args }) all) ∙ reached_there i all one;
+        own = all_own_there items.type_named i.parametric_args r.1;
       })
       ((λ t. ends_within m (suc k) (name t)) ∙ (and_true (ends_within m (suc k) i.name) (not (ends_within m k i.name)) q.0).0))
 
@@ -144,7 +144,7 @@ module _ (m : Module) (top : Option (List ℕ)) (functions : List CoreInstance) 
   table_of zero = record { table = []; lowered = refl; holds = λ i one p e. absurd (true≢false (sym e)); many = refl }
   table_of (suc k) =
       let t = table_of k in
-      let more = all_grown m functions t.table (due k) all (λ i one e after keeps. due_next k after (λ j other p q. keeps j.name j.numbers (t.holds j other p q)) i one e) in
+      let more = all_grown m functions t.table (due k) all (λ i one e after keeps. due_next k after (λ j other p q. keeps j.name j.parametric_args (t.holds j other p q)) i one e) in
       let shorter = t.many in
       let longer = more.many in
       let both = length-append (in_order k) (chosen (due k) all) in
@@ -156,8 +156,8 @@ module _ (m : Module) (top : Option (List ℕ)) (functions : List CoreInstance) 
       }
     where
       by_shorter : (k : ℕ) (t : TableOf k) (more : Grown m functions t.table (due k) all (chosen (due k) all)) (i : Instance) → IsOneOf i all → is_proc i ≡ true → ends_within m (suc k) i.name ≡ true → (b : Bool) → ends_within m k i.name ≡ b
-          → stands more.table i.name i.numbers ≡ true
-      by_shorter k t more i one p e true q = more.keeps i.name i.numbers (t.holds i one p q)
+          → stands more.table i.name i.parametric_args ≡ true
+      by_shorter k t more i one p e true q = more.keeps i.name i.parametric_args (t.holds i one p q)
       by_shorter k t more i one p e false q = more.each i one (λ u. (e u && not (q u)) && p u)
 
   -- ---- how many they are

@@ -8,19 +8,19 @@ use Rattle.dslx_tree.specs.declared.item.Module.{Module}
 use Rattle.dslx_tree.specs.declared.process.Proc.{Proc}
 use Rattle.dslx_meaning.specs.Items.{item_named, meanings_of}
 use Rattle.dslx_meaning.specs.Lists.{and_then}
-use Rattle.dslx_meaning.specs.Network.{top_numbers, top_proc}
+use Rattle.dslx_meaning.specs.Network.{top_parametric_args, top_proc}
 use Rattle.dslx_meaning.specs.declared.value.DslxValue.{DslxValue}
-use Rattle.dslx_meaning.specs.Rules.Judging.{Instance, breaks}
-use Rattle.dslx_meaning.specs.Rules.ModuleRules.{faults_of, ident_of, instance_limit, instances_faults, instances_of, items_found, known_of, not_a_proc, nowhere, outside_instances, top_faults, top_found}
+use Rattle.dslx_meaning.specs.Rules.TypeEnvs.{Instance, breaks}
+use Rattle.dslx_meaning.specs.Rules.ModuleRules.{faults_of, ident_of, instance_limit, instances_faults, instances_of, items_found, globals_of, not_a_proc, nowhere, outside_instances, top_faults, top_found}
 use Rattle.dslx_typing.specs.Laws.Recursion.{HasNoCycle}
-use Rattle.dslx_typing.specs.Judged.Closed.{ends_within}
-use Rattle.dslx_typing.proofs.Lemmas.Judged.{every_item}
+use Rattle.dslx_typing.specs.TypingRelations.Closed.{ends_within}
+use Rattle.dslx_typing.proofs.Lemmas.TypingRelations.{every_item}
 use Rattle.dslx_typing.proofs.Lemmas.Sound.{none_in, some_fault}
 use Rattle.dslx_typing.proofs.Lemmas.Accepted.{one_of_these, own_faults}
 use Rattle.dslx_core.specs.Lowering.Functions.{CoreInstance}
 use Rattle.dslx_core.specs.Networks.Procs.{procs_from}
-use Rattle.dslx_total.specs.Families.EachPlaced.{NextBecomes}
-use Rattle.dslx_total.specs.Configs.Becoming.{ConfigBecomes}
+use Rattle.dslx_total.specs.Families.EachElaborated.{NextLowers}
+use Rattle.dslx_total.specs.Configs.LowersTotally.{ConfigLowers}
 use Rattle.dslx_total.specs.Configs.ReachedProcs.{IsReachedProc}
 use Rattle.dslx_total.specs.Designs.Designs.{ProcsHaveTable}
 use Rattle.dslx_total.proofs.OnDesigns.Growing.{appended, last_there}
@@ -41,29 +41,29 @@ longest_chain m name (suc n) e = by_less (ends_within m n name) refl (longest_ch
     by_less true q less = less q
     by_less false q less = record { number = n; most = e; least = q }
 
-pub procs_have_table : (m : Module) (top : Option (List ℕ)) (functions : List CoreInstance) → ((p : Proc) (numbers : List DslxValue) → IsReachedProc m (meanings_of m) top p numbers → NextBecomes m functions p numbers)
-    → ((p : Proc) (numbers : List DslxValue) → IsReachedProc m (meanings_of m) top p numbers → ConfigBecomes m (meanings_of m) top p numbers) → HasNoCycle m → (p : Proc) → IsReachedProc m (meanings_of m) top p (top_numbers (meanings_of m) p)
+pub procs_have_table : (m : Module) (top : Option (List ℕ)) (functions : List CoreInstance) → ((p : Proc) (parametric_args : List DslxValue) → IsReachedProc m (meanings_of m) top p parametric_args → NextLowers m functions p parametric_args)
+    → ((p : Proc) (parametric_args : List DslxValue) → IsReachedProc m (meanings_of m) top p parametric_args → ConfigLowers m (meanings_of m) top p parametric_args) → HasNoCycle m → (p : Proc) → IsReachedProc m (meanings_of m) top p (top_parametric_args (meanings_of m) p)
     → ProcsHaveTable m top functions p
 procs_have_table m top functions nexts configs free p checked =
-    let numbers = top_numbers (meanings_of m) p in
+    let parametric_args = top_parametric_args (meanings_of m) p in
     let k = longest_chain m p.name.name (length m.items) (every_item m free p.name.name (d.Proc p) checked.named) in
     let t = table_of m top functions nexts configs k.number in
-    let own = checked_next m top functions nexts configs k.number t.table t.holds p numbers checked k.most in
+    let own = checked_next m top functions nexts configs k.number t.table t.holds p parametric_args checked k.most in
     let order = in_order m top functions nexts configs k.number in
-    let i : Instance = record { name = p.name.name; numbers = numbers } in
+    let i : Instance = record { name = p.name.name; parametric_args = parametric_args } in
     let shorter = t.many in
     let passing = no_more_than m top functions nexts configs k.number in
     let other = fewer (λ (j : Instance). ends_within m k.number j.name) i (instances_of m top) (one_of_these i (instances_of m top) checked.checked) k.least in
     let both = length-append t.table (own.instance ∷ []) in
     record {
-      instances = order ++ record { name = p.name.name; numbers = numbers } ∷ [];
+      instances = order ++ record { name = p.name.name; parametric_args = parametric_args } ∷ [];
       table = t.table ++ own.instance ∷ [];
-      lowered = appended m functions [] order (record { name = p.name.name; numbers = numbers } ∷ []) t.table t.lowered
+      lowered = appended m functions [] order (record { name = p.name.name; parametric_args = parametric_args } ∷ []) t.table t.lowered
           ∙ ap (λ o. and_then o (λ c. procs_from m (meanings_of m) functions (t.table ++ c ∷ []) [])) own.is;
       last = own.instance;
       is_last = last_there t.table own.instance;
       of_name = own.name;
-      of_numbers = own.numbers;
+      of_parametric_args = own.parametric_args;
       few = omega (arith, shorter, passing, other, both);
     }
 
@@ -75,7 +75,7 @@ no_proc_faulty (Some x) e = some_fault (breaks 32 (ident_of x).span) [] e
 
 pub top_there : (m : Module) (top : Option (List ℕ)) → faults_of m top ≡ [] → (p : Proc) × (top_proc m top ≡ Some p)
 top_there m top e =
-    let known = known_of m in
+    let known = globals_of m in
     let tops = top_faults m top (top_proc m top) in
     let others = (items_found known m.items).faults ++ (top_found known (top_proc m top)).faults in
     let outside = (none_in (instance_limit (instances_of m top)) (outside_instances m top).faults (none_in (instance_limit (instances_of m top) ++ (outside_instances m top).faults) (instances_faults known (instances_of m top)) (own_faults m top e)).0).1 in

@@ -6,8 +6,8 @@ use Rattle.dslx_tree.proofs.Lemmas.Folds.Levels.{Carriers, NodeLevel, NumberLeve
 use Rattle.dslx_tree.proofs.Lemmas.Folds.Folds.{Steps}
 use Rattle.dslx_tree.proofs.Lemmas.Folds.Related.{KeepRelated, Relations, both, firsts, related_expr, seconds}
 use Rattle.dslx_meaning.specs.Meaning as m
-use Rattle.dslx_meaning.specs.Meaning.{ArmMeant, Evaluates, FieldMeant, Going, Meant, PatternMeant, Typing, meant}
-use Rattle.dslx_meaning.specs.declared.value.Bare.{Bare}
+use Rattle.dslx_meaning.specs.Meaning.{ArmDen, ValueDen, FieldDen, StmtDen, ExprDen, PatternDen, TypeDen, denotation}
+use Rattle.dslx_meaning.specs.declared.value.UntypedLiteral.{UntypedLiteral}
 use Rattle.dslx_meaning.specs.Rules.Mentions as n
 use Rattle.dslx_meaning.specs.Rules.Mentions.{Mentions, NamesBound, free_names, mentioned, mentions_if, value_names}
 use Rattle.dslx_typing.proofs.Lemmas.Typed.{none_some}
@@ -16,38 +16,38 @@ use Rattle.dslx_typing.proofs.Lemmas.Typed.{none_some}
 
 abbrev meanings : Carriers
 meanings = record {
-  stmt = Going;
-  node = Meant;
-  shape = PatternMeant;
-  type_node = Typing;
-  block = Evaluates;
-  bind = Going;
-  arg = Meant;
-  arm = ArmMeant;
-  expr = Meant;
-  field = FieldMeant;
-  loop = Evaluates;
-  number = Meant;
-  pattern = PatternMeant;
-  type_expr = Typing;
+  stmt = StmtDen;
+  node = ExprDen;
+  shape = PatternDen;
+  type_node = TypeDen;
+  block = ValueDen;
+  bind = StmtDen;
+  arg = ExprDen;
+  arm = ArmDen;
+  expr = ExprDen;
+  field = FieldDen;
+  loop = ValueDen;
+  number = ExprDen;
+  pattern = PatternDen;
+  type_expr = TypeDen;
 }
 
 abbrev meaning : Steps meanings
 meaning = record {
-  stmt = m.stmt_meant;
-  node = m.node_meant;
-  shape = m.shape_meant;
-  type_node = m.type_meant;
-  block = m.block_meant;
-  bind = m.let_meant;
-  arg = m.arg_meant;
-  arm = m.arm_meant;
-  expr = m.expr_meant;
-  field = m.field_meant;
-  loop = m.for_meant;
+  stmt = m.stmt_den;
+  node = m.node_den;
+  shape = m.shape_den;
+  type_node = m.type_den;
+  block = m.block_den;
+  bind = m.let_den;
+  arg = m.arg_den;
+  arm = m.arm_den;
+  expr = m.expr_den;
+  field = m.field_den;
+  loop = m.for_den;
   number = m.number_node;
-  pattern = m.pattern_meant;
-  type_expr = m.type_expr_meant;
+  pattern = m.pattern_den;
+  type_expr = m.type_expr_den;
 }
 
 abbrev mentions : Carriers
@@ -88,8 +88,8 @@ mentioning = record {
 
 -- ---- numbers
 
-abbrev NamesNothing : Meant → Mentions → Type 0
-NamesNothing x ms = (number : Bare) → x.bare ≡ Some number → (bound : List (List ℕ)) → ms bound ≡ []
+abbrev NamesNothing : ExprDen → Mentions → Type 0
+NamesNothing x ms = (number : UntypedLiteral) → x.bare ≡ Some number → (bound : List (List ℕ)) → ms bound ≡ []
 
 abbrev nothing_named : Relations meanings mentions
 nothing_named = record {
@@ -118,7 +118,7 @@ node_names (Node-F.Node::Bool bit) number e bound = none_some number e
 node_names (Node-F.Node::Array t es dots) number e bound = none_some number e
 node_names (Node-F.Node::Name name) number e bound = none_some number e
 node_names (Node-F.Node::Member enum a) number e bound = none_some number e
-node_names (Node-F.Call f numbers es) number e bound = none_some number e
+node_names (Node-F.Call f parametric_args es) number e bound = none_some number e
 node_names (Node-F.Node::Tuple es) number e bound = none_some number e
 node_names (Node-F.Struct name fields rest) number e bound = none_some number e
 node_names (Node-F.Block block) number e bound = none_some number e
@@ -161,5 +161,5 @@ all_name_nothing = record {
   type_expr = λ x. tt;
 }
 
-pub bare_names_nothing : (e : Expr) (number : Bare) → (meant e).bare ≡ Some number → free_names e ≡ []
+pub bare_names_nothing : (e : Expr) (number : UntypedLiteral) → (denotation e).bare ≡ Some number → free_names e ≡ []
 bare_names_nothing e number q = ap value_names (related_expr meanings mentions nothing_named meaning mentioning all_name_nothing e number q [])

@@ -13,10 +13,10 @@ use Rattle.dslx_meaning.specs.declared.ty.DslxType as ty
 use Rattle.dslx_meaning.specs.declared.ty.DslxType.TheOpen.{DslxType-F}
 use Rattle.dslx_meaning.specs.declared.ty.DslxType.TheViews as views
 use Rattle.dslx_meaning.specs.declared.ty.DslxType.TheFolds.{fold-roll-DslxType, map-DslxType}
-use Rattle.dslx_meaning.specs.Rules.Judging.{Instance, Judgement, found_number, leaf_widths, passes, passes_widths, settled, type_limits, unless_broken, unlimited, widths_in}
+use Rattle.dslx_meaning.specs.Rules.TypeEnvs.{Instance, Judgement, found_number, leaf_widths, passes, passes_widths, settled, type_limits, unless_broken, unlimited, widths_in}
 use Rattle.dslx_meaning.specs.Rules.OperatorRules.{width_of_type}
 use Rattle.dslx_typing.proofs.Lemmas.Sound.{none_in, none_in_three, some_fault}
-use Rattle.dslx_total.specs.Expressions.Lowers.{KeepsLimits}
+use Rattle.dslx_total.specs.Expressions.ExprLowering.{KeepsLimits}
 
 leaves_at : (t : DslxType) (l : DslxType-F DslxType) → out-DslxType t ≡ l → leaf_widths t ≡ widths_in (map-DslxType DslxType (List ℕ) leaf_widths l)
 leaves_at t l e = ap leaf_widths (sym (views.roll-out-DslxType t) ∙ ap views.roll-DslxType e) ∙ fold-roll-DslxType (List ℕ) widths_in l
@@ -54,14 +54,14 @@ narrow at t e = by_level (out-DslxType t) refl
 
 -- so has the type of what is settled without a fault
 pub settled_limits : (span : Span) (own : Option DslxType) (named : List Fault) (found : List Instance) (size : Option ℕ) → (settled span own named found size).faults ≡ [] → type_limits span.to own ≡ []
-settled_limits span own named found size fine =
-    let q = none_in named (type_limits span.to (unless_broken named own)) fine in
+settled_limits span own named found size well_typed =
+    let q = none_in named (type_limits span.to (unless_broken named own)) well_typed in
     sym (λ i. type_limits span.to (unless_broken (q.0 i) own)) ∙ q.1
 
 -- what is judged with the limits on its type keeps them
 pub limited_keeps : (span : Span) (j : Judgement) → KeepsLimits (j.faults ++ type_limits span.to j.ty) j.ty
-limited_keeps span j fine t e =
-    let q = none_in j.faults (type_limits span.to j.ty) fine in
+limited_keeps span j well_typed t e =
+    let q = none_in j.faults (type_limits span.to j.ty) well_typed in
     narrow span.to t (sym (ap (type_limits span.to) e) ∙ q.1)
 
 pub settled_keeps : (span : Span) (own : Option DslxType) (named : List Fault) → KeepsLimits (named ++ type_limits span.to (unless_broken named own)) (unless_broken named own)

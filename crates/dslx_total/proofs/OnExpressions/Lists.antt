@@ -5,18 +5,18 @@ use Rattle.dslx_meaning.specs.Lists.{all_some}
 use Rattle.dslx_meaning.specs.Environment.{Env}
 use Rattle.dslx_meaning.specs.declared.ty.DslxType.{DslxType}
 use Rattle.dslx_meaning.specs.Rules.AggregateRules.{element_alone}
-use Rattle.dslx_meaning.specs.Rules.Judging.{ExprPair, Instance, Judgement, Sight, alone, all_alone, faults_of_all, reached_of_all, span_of, types_of}
+use Rattle.dslx_meaning.specs.Rules.TypeEnvs.{ExprPair, Instance, Judgement, TypeEnv, alone, all_alone, faults_of_all, reached_of_all, span_of, types_of}
 use Rattle.dslx_meaning.specs.Rules.TypeRules.{unit_faults}
 use Rattle.dslx_typing.specs.Typed.Declared.{AllDeclared, Declarations}
-use Rattle.dslx_typing.specs.Typed.WellTyped.{IsWellTyped, types_at}
+use Rattle.dslx_typing.specs.Typed.WellTyped.{IsWellTypedEnv, types_at}
 use Rattle.dslx_typing.proofs.Lemmas.Typed.{all_are}
 use Rattle.dslx_typing.proofs.Lemmas.Sound.{all_in, none_in}
-use Rattle.dslx_core.specs.Lowering.CorePlaces.{CorePlace}
+use Rattle.dslx_core.specs.Lowering.CoreScopes.{CoreScope}
 use Rattle.dslx_core.specs.Lowering.Lowering.{LoweredExpr, types_of_lowered}
-use Rattle.dslx_core.specs.Lowering.Trees.{LoweredPair, all_lowered}
-use Rattle.dslx_total.specs.Expressions.Beside.{StandsBeside}
-use Rattle.dslx_total.specs.Expressions.Lowers.{ExprLowers}
-use Rattle.dslx_total.proofs.OnExpressions.Parts.{Becomes, alone_becomes}
+use Rattle.dslx_core.specs.Lowering.Trees.{LoweredPair, lower_all}
+use Rattle.dslx_total.specs.Expressions.Beside.{ScopeMatchesEnv}
+use Rattle.dslx_total.specs.Expressions.ExprLowering.{ExprLowers}
+use Rattle.dslx_total.proofs.OnExpressions.Parts.{LowersTo, alone_lowers_to}
 
 -- expressions beside what they become, each of one tree
 abbrev pub EachExprLowers : List ExprPair → List LoweredPair → Type 0
@@ -35,9 +35,9 @@ pub record AllBecome (types : Declarations) (ts : List (Option DslxType)) (os : 
 pub none_become : (types : Declarations) → AllBecome types [] []
 none_become types = record { exprs = []; are = refl; typed = refl; declared = tt }
 
-pub one_more_becomes : (types : Declarations) (j : Judgement) (ts : List (Option DslxType)) (o : Option LoweredExpr) (os : List (Option LoweredExpr)) → Becomes types j o → AllBecome types ts os
+pub one_more_lowers_to : (types : Declarations) (j : Judgement) (ts : List (Option DslxType)) (o : Option LoweredExpr) (os : List (Option LoweredExpr)) → LowersTo types j o → AllBecome types ts os
     → AllBecome types (j.ty ∷ ts) (o ∷ os)
-one_more_becomes types j ts o os b rest = record {
+one_more_lowers_to types j ts o os b rest = record {
   exprs = b.expr ∷ rest.exprs;
   are = λ i. b.is i ∷ rest.are i;
   typed = λ i. b.typed i ∷ rest.typed i;
@@ -51,28 +51,28 @@ all_there types ts os all = ap all_some all.are ∙ all_are all.exprs
 pub all_typed : (types : Declarations) (ts : List (Option DslxType)) (os : List (Option LoweredExpr)) (all : AllBecome types ts os) → all_some ts ≡ Some (types_of_lowered all.exprs)
 all_typed types ts os all = ap all_some all.typed ∙ all_are (types_of_lowered all.exprs)
 
-module _ (here : Instance → Bool) (sight : Sight) (env : Env) (place : CorePlace) (h : IsWellTyped sight env) (at : StandsBeside here sight place) where
+module _ (here : Instance → Bool) (context : TypeEnv) (env : Env) (place : CoreScope) (h : IsWellTypedEnv context env) (at : ScopeMatchesEnv here context place) where
   -- operands
-  pub all_alone_become : (es : List ExprPair) (xs : List LoweredPair) → EachExprLowers es xs → faults_of_all (all_alone sight es) ≡ [] → list_all here (reached_of_all (all_alone sight es)) ≡ true
-      → AllBecome (types_at sight) (types_of (all_alone sight es)) (all_lowered place xs)
-  all_alone_become [] [] k f r = none_become (types_at sight)
+  pub all_alone_become : (es : List ExprPair) (xs : List LoweredPair) → EachExprLowers es xs → faults_of_all (all_alone context es) ≡ [] → list_all here (reached_of_all (all_alone context es)) ≡ true
+      → AllBecome (types_at context) (types_of (all_alone context es)) (lower_all place xs)
+  all_alone_become [] [] k f r = none_become (types_at context)
   all_alone_become [] (x ∷ xs) k f r = absurd k
   all_alone_become (e ∷ es) [] k f r = absurd k
   all_alone_become (e ∷ es) (x ∷ xs) k f r =
-      let p = none_in (alone sight e).faults (faults_of_all (all_alone sight es)) f in
-      let q = all_in here (alone sight e).reached (reached_of_all (all_alone sight es)) r in
-      one_more_becomes (types_at sight) (alone sight e) (types_of (all_alone sight es)) (x.1 place) (all_lowered place xs) (alone_becomes here sight env place e x.1 k.1 h at p.0 q.0)
+      let p = none_in (alone context e).faults (faults_of_all (all_alone context es)) f in
+      let q = all_in here (alone context e).reached (reached_of_all (all_alone context es)) r in
+      one_more_lowers_to (types_at context) (alone context e) (types_of (all_alone context es)) (x.1 place) (lower_all place xs) (alone_lowers_to here context env place e x.1 k.1 h at p.0 q.0)
       (all_alone_become es xs k.2 p.1 q.1)
 
   -- elements
-  pub elements_become : (es : List ExprPair) (xs : List LoweredPair) → EachExprLowers es xs → faults_of_all (map (element_alone sight) es) ≡ [] → list_all here (reached_of_all (map (element_alone sight) es)) ≡ true
-      → AllBecome (types_at sight) (types_of (map (element_alone sight) es)) (all_lowered place xs)
-  elements_become [] [] k f r = none_become (types_at sight)
+  pub elements_become : (es : List ExprPair) (xs : List LoweredPair) → EachExprLowers es xs → faults_of_all (map (element_alone context) es) ≡ [] → list_all here (reached_of_all (map (element_alone context) es)) ≡ true
+      → AllBecome (types_at context) (types_of (map (element_alone context) es)) (lower_all place xs)
+  elements_become [] [] k f r = none_become (types_at context)
   elements_become [] (x ∷ xs) k f r = absurd k
   elements_become (e ∷ es) [] k f r = absurd k
   elements_become (e ∷ es) (x ∷ xs) k f r =
-      let a = alone sight e in
-      let p = none_in (a.faults ++ unit_faults (span_of e) a.ty) (faults_of_all (map (element_alone sight) es)) f in
-      let q = all_in here a.reached (reached_of_all (map (element_alone sight) es)) r in
-      one_more_becomes (types_at sight) a (types_of (map (element_alone sight) es)) (x.1 place) (all_lowered place xs)
-      (alone_becomes here sight env place e x.1 k.1 h at (none_in a.faults (unit_faults (span_of e) a.ty) p.0).0 q.0) (elements_become es xs k.2 p.1 q.1)
+      let a = alone context e in
+      let p = none_in (a.faults ++ unit_faults (span_of e) a.ty) (faults_of_all (map (element_alone context) es)) f in
+      let q = all_in here a.reached (reached_of_all (map (element_alone context) es)) r in
+      one_more_lowers_to (types_at context) a (types_of (map (element_alone context) es)) (x.1 place) (lower_all place xs)
+      (alone_lowers_to here context env place e x.1 k.1 h at (none_in a.faults (unit_faults (span_of e) a.ty) p.0).0 q.0) (elements_become es xs k.2 p.1 q.1)

@@ -9,72 +9,72 @@ use Rattle.dslx_meaning.specs.Lists.{all_some, and_then, where_true}
 use Rattle.dslx_meaning.specs.Types.{same_type}
 use Rattle.dslx_meaning.specs.Values.{plain_value, type_of_value}
 use Rattle.dslx_meaning.specs.Environment.{Env}
-use Rattle.dslx_meaning.specs.Meaning.{meant}
+use Rattle.dslx_meaning.specs.Meaning.{denotation}
 use Rattle.dslx_meaning.specs.Operators.{number_value}
 use Rattle.dslx_meaning.specs.declared.ty.DslxType.{DslxType, out-DslxType}
 use Rattle.dslx_meaning.specs.declared.ty.DslxType as ty
 use Rattle.dslx_meaning.specs.declared.ty.DslxType.TheOpen.{DslxType-F}
 use Rattle.dslx_meaning.specs.declared.ty.DslxType.TheVariants as rolls
 use Rattle.dslx_meaning.specs.declared.ty.DslxType.TheViews as views
-use Rattle.dslx_meaning.specs.declared.value.Bare.{Bare}
-use Rattle.dslx_meaning.specs.Rules.AggregateRules.{array_faults, array_in, array_parts, count_wrong, element_alone, element_in, element_type, first_type_of, is_some_tuple, like_first, pair_alone, part_type, range_faults, tuple_element_judged, tuple_judged, typed_array, untyped_array, wanted_faults, when_all}
-use Rattle.dslx_meaning.specs.Rules.ConstantRules.{bare_judged, is_empty, is_zero}
-use Rattle.dslx_meaning.specs.Rules.Judging.{ExprPair, Instance, Judgement, Sight, alone, bare_of, breaks, breaks_if, faults_of_all, no_token, one_and, reached_of_all, settled, size_of_all, span_of, types_of, within}
-use Rattle.dslx_meaning.specs.Rules.Judgings.{SightJudging}
+use Rattle.dslx_meaning.specs.declared.value.UntypedLiteral.{UntypedLiteral}
+use Rattle.dslx_meaning.specs.Rules.AggregateRules.{array_faults, array_in, array_parts, count_wrong, element_alone, element_in, element_type, first_type_of, is_some_tuple, like_first, pair_alone, part_type, range_faults, tuple_element_typing, tuple_typing, typed_array, untyped_array, wanted_faults, when_all}
+use Rattle.dslx_meaning.specs.Rules.ConstantRules.{untyped_typing, is_empty, is_zero}
+use Rattle.dslx_meaning.specs.Rules.TypeEnvs.{ExprPair, Instance, Judgement, TypeEnv, alone, untyped_of, breaks, breaks_if, faults_of_all, no_token, one_and, reached_of_all, settled, size_of_all, span_of, types_of, within}
+use Rattle.dslx_meaning.specs.Rules.Typings.{TypeExprTyping}
 use Rattle.dslx_meaning.specs.Rules.OperatorRules.{unless_type}
 use Rattle.dslx_meaning.specs.Rules.PatternRules.{is_there}
-use Rattle.dslx_typing.specs.Typed.Complete.{IsFine}
+use Rattle.dslx_typing.specs.Typed.Complete.{IsWellTypedPart}
 use Rattle.dslx_typing.specs.Typed.Declared.{AllDeclared, Declarations, IsDeclared}
-use Rattle.dslx_typing.specs.Typed.WellTyped.{IsWellTyped, types_at}
+use Rattle.dslx_typing.specs.Typed.WellTyped.{IsWellTypedEnv, types_at}
 use Rattle.dslx_typing.proofs.Lemmas.Typed.{all_are, element_declared, list_parts, none_some, not_false, number_given, one_type, or_false, same_some}
-use Rattle.dslx_typing.proofs.Lemmas.Sound.{all_in, none_in, none_in_three, not_broken, passed, settled_fine, some_fault}
+use Rattle.dslx_typing.proofs.Lemmas.Sound.{all_in, none_in, none_in_three, not_broken, passed, settled_well_typed, some_fault}
 use Rattle.dslx_core.specs.declared.expr.CoreExpr as core
-use Rattle.dslx_core.specs.Lowering.CorePlaces.{CorePlace}
+use Rattle.dslx_core.specs.Lowering.CoreScopes.{CoreScope}
 use Rattle.dslx_core.specs.Lowering.EqualTypes.{equal_type}
-use Rattle.dslx_core.specs.Lowering.Lowering.{LoweredExpr, cores_of, element_lowered, literal, lowered, number_lowered, tuple_lowered, types_of_lowered}
-use Rattle.dslx_core.specs.Lowering.Patterns.{Lowers}
-use Rattle.dslx_core.specs.Lowering.Trees.{LoweredPair, element_or_number, filled_array, filled_lowered, of_type, LowersType, all_lowered, array_lowered, elements_lowered}
-use Rattle.dslx_total.specs.Expressions.Beside.{StandsBeside}
-use Rattle.dslx_total.specs.Expressions.Lowers.{ExprLowers, PartLowers, WrittenLowers, reaching, type_of_lowered}
+use Rattle.dslx_core.specs.Lowering.Lowering.{LoweredExpr, cores_of, lower_element, literal, lowered, lower_number, lower_tuple, types_of_lowered}
+use Rattle.dslx_core.specs.Lowering.Patterns.{ExprLowering}
+use Rattle.dslx_core.specs.Lowering.Trees.{LoweredPair, element_or_number, filled_array, lower_filled, of_type, TypeLowering, lower_all, lower_array, lower_array_elements}
+use Rattle.dslx_total.specs.Expressions.Beside.{ScopeMatchesEnv}
+use Rattle.dslx_total.specs.Expressions.ExprLowering.{ExprLowers, PartLowers, WrittenLowers, reaching, type_of_lowered}
 use Rattle.dslx_total.proofs.OnExpressions.Equal.{equal_itself, equal_of_text}
 use Rattle.dslx_total.proofs.OnExpressions.Lists.{EachExprLowers, all_there, all_typed, elements_become}
-use Rattle.dslx_total.proofs.OnExpressions.Parts.{Becomes, alone_becomes, type_becomes, within_becomes}
+use Rattle.dslx_total.proofs.OnExpressions.Parts.{LowersTo, alone_lowers_to, type_lowers_to, within_lowers_to}
 
 -- ---- tuples
 
-pub tuple_lowers : (span : Span) (es : List ExprPair) (xs : List LoweredPair) → EachExprLowers es xs → PartLowers (λ sight. tuple_judged span sight es) (λ place. tuple_lowered (all_lowered place xs))
-tuple_lowers span es xs k here sight env place h at fine =
-    let js = map (element_alone sight) es in
+pub lower_total_tuple : (span : Span) (es : List ExprPair) (xs : List LoweredPair) → EachExprLowers es xs → PartLowers (λ context. tuple_typing span context es) (λ place. lower_tuple (lower_all place xs))
+lower_total_tuple span es xs k here context env place h at well_typed =
+    let js = map (element_alone context) es in
     let own = and_then (all_some (types_of js)) (λ ts. Some (ty.Tuple ts)) in
-    let s = settled_fine (reaching sight.known here) span own (faults_of_all js) (reached_of_all js) (one_and (size_of_all js)) fine in
-    let all = elements_become here sight env place h at es xs k s.faults s.reached in
-    ap (λ o. type_of_lowered (and_then o (λ es. lowered (core.Tuple (cores_of es)) (ty.Tuple (types_of_lowered es))))) (all_there (types_at sight) (types_of js) (all_lowered place xs) all)
-    ∙ sym (ap (λ o. and_then o (λ ts. Some (ty.Tuple ts))) (all_typed (types_at sight) (types_of js) (all_lowered place xs) all)) ∙ sym s.ty
+    let s = settled_well_typed (reaching context.known here) span own (faults_of_all js) (reached_of_all js) (one_and (size_of_all js)) well_typed in
+    let all = elements_become here context env place h at es xs k s.faults s.reached in
+    ap (λ o. type_of_lowered (and_then o (λ es. lowered (core.Tuple (cores_of es)) (ty.Tuple (types_of_lowered es))))) (all_there (types_at context) (types_of js) (lower_all place xs) all)
+    ∙ sym (ap (λ o. and_then o (λ ts. Some (ty.Tuple ts))) (all_typed (types_at context) (types_of js) (lower_all place xs) all)) ∙ sym s.ty
 
 -- a receive's pair stands as it is
-abbrev pair_by : Sight → ExprPair → Option DslxType → Judgement
-pair_by sight e None = within sight e
-pair_by sight e (Some t) = if is_some_tuple (out-DslxType t) then within sight e else no_token (span_of e) (within sight e)
+abbrev pair_by : TypeEnv → ExprPair → Option DslxType → Judgement
+pair_by context e None = within context e
+pair_by context e (Some t) = if is_some_tuple (out-DslxType t) then within context e else no_token (span_of e) (within context e)
 
-pair_becomes : (here : Instance → Bool) (sight : Sight) (env : Env) (place : CorePlace) (e : ExprPair) (l : Lowers) → ExprLowers e l → IsWellTyped sight env → StandsBeside here sight place
-    → IsFine (reaching sight.known here) (pair_alone sight e) → Becomes (types_at sight) (pair_alone sight e) (l place)
-pair_becomes here sight env place e l s h at fine = by_type (within sight e).ty fine
+pair_lowers_to : (here : Instance → Bool) (context : TypeEnv) (env : Env) (place : CoreScope) (e : ExprPair) (l : ExprLowering) → ExprLowers e l → IsWellTypedEnv context env → ScopeMatchesEnv here context place
+    → IsWellTypedPart (reaching context.known here) (pair_alone context e) → LowersTo (types_at context) (pair_alone context e) (l place)
+pair_lowers_to here context env place e l s h at well_typed = by_type (within context e).ty well_typed
   where
-    by_test : (b : Bool) → IsFine (reaching sight.known here) (if b then within sight e else no_token (span_of e) (within sight e)) → Becomes (types_at sight) (if b then within sight e else no_token (span_of e) (within sight e)) (l place)
-    by_test true f = within_becomes here sight env place e l s h at f
-    by_test false f = alone_becomes here sight env place e l s h at f.faults f.reached
+    by_test : (b : Bool) → IsWellTypedPart (reaching context.known here) (if b then within context e else no_token (span_of e) (within context e)) → LowersTo (types_at context) (if b then within context e else no_token (span_of e) (within context e)) (l place)
+    by_test true f = within_lowers_to here context env place e l s h at f
+    by_test false f = alone_lowers_to here context env place e l s h at f.faults f.reached
 
-    by_type : (o : Option DslxType) → IsFine (reaching sight.known here) (pair_by sight e o) → Becomes (types_at sight) (pair_by sight e o) (l place)
-    by_type None f = within_becomes here sight env place e l s h at f
+    by_type : (o : Option DslxType) → IsWellTypedPart (reaching context.known here) (pair_by context e o) → LowersTo (types_at context) (pair_by context e o) (l place)
+    by_type None f = within_lowers_to here context env place e l s h at f
     by_type (Some t) f = by_test (is_some_tuple (out-DslxType t)) f
 
-pub element_lowers : (span : Span) (e : ExprPair) (k : ℕ) (x : Lowers) → ExprLowers e x → PartLowers (λ sight. tuple_element_judged span sight e k) (λ place. element_lowered (x place) k)
-element_lowers span e k x se here sight env place h at fine =
-    let a = pair_alone sight e in
+pub lower_total_element : (span : Span) (e : ExprPair) (k : ℕ) (x : ExprLowering) → ExprLowers e x → PartLowers (λ context. tuple_element_typing span context e k) (λ place. lower_element (x place) k)
+lower_total_element span e k x se here context env place h at well_typed =
+    let a = pair_alone context e in
     let wrong = unless_type (λ t. is_there (part_type t k)) 19 span a.ty in
-    let s = settled_fine (reaching sight.known here) span (and_then a.ty (λ t. part_type t k)) (a.faults ++ wrong) a.reached (one_and a.size) fine in
-    let g = pair_becomes here sight env place e x se h at (record { faults = (none_in a.faults wrong s.faults).0; reached = s.reached }) in
-    ap (λ o. type_of_lowered (element_lowered o k)) g.is ∙ typed g.expr (part_type g.expr.ty k) ∙ sym (ap (λ o. and_then o (λ t. part_type t k)) g.typed) ∙ sym s.ty
+    let s = settled_well_typed (reaching context.known here) span (and_then a.ty (λ t. part_type t k)) (a.faults ++ wrong) a.reached (one_and a.size) well_typed in
+    let g = pair_lowers_to here context env place e x se h at (record { faults = (none_in a.faults wrong s.faults).0; reached = s.reached }) in
+    ap (λ o. type_of_lowered (lower_element o k)) g.is ∙ typed g.expr (part_type g.expr.ty k) ∙ sym (ap (λ o. and_then o (λ t. part_type t k)) g.typed) ∙ sym s.ty
   where
     typed : (e : LoweredExpr) (o : Option DslxType) → type_of_lowered (and_then o (λ t. lowered (core.Element e.core k) t)) ≡ o
     typed e None = refl
@@ -98,58 +98,58 @@ like_equal types t f (x ∷ xs) (u ∷ us) is d ds e =
     let q = none_in (wanted_faults (span_of x) (Some t) (f x).ty) (like_first (Some t) xs (types_of (map f xs))) e in
     λ i. equal_of_text types t u.ty (passed (same_type t u.ty) 9 (span_of x) (ap (wanted_faults (span_of x) (Some t)) (sym p.0) ∙ q.0)) d ds.0 i && like_equal types t f xs us p.1 d ds.1 q.1 i
 
-abbrev elements_of : CorePlace → List LoweredPair → List (Option Bare × Option LoweredExpr)
-elements_of place xs = map (λ (e : LoweredPair). ((meant e.0).bare, e.1 place)) xs
+abbrev elements_of : CoreScope → List LoweredPair → List (Option UntypedLiteral × Option LoweredExpr)
+elements_of place xs = map (λ (e : LoweredPair). ((denotation e.0).bare, e.1 place)) xs
 
-values_alone : (place : CorePlace) (xs : List LoweredPair) → map (λ (e : Option Bare × Option LoweredExpr). e.1) (elements_of place xs) ≡ all_lowered place xs
+values_alone : (place : CoreScope) (xs : List LoweredPair) → map (λ (e : Option UntypedLiteral × Option LoweredExpr). e.1) (elements_of place xs) ≡ lower_all place xs
 values_alone place [] = refl
 values_alone place (x ∷ xs) = ap (λ os. x.1 place ∷ os) (values_alone place xs)
 
-pub untyped_lowers : (span : Span) (es : List ExprPair) (dots : Bool) (xs : List LoweredPair) → EachExprLowers es xs
-    → PartLowers (λ sight. untyped_array span sight es dots) (λ place. array_lowered place.count None (elements_of place xs) dots)
-untyped_lowers span es dots xs k here sight env place h at fine =
-    let js = map (element_alone sight) es in
+pub lower_total_untyped : (span : Span) (es : List ExprPair) (dots : Bool) (xs : List LoweredPair) → EachExprLowers es xs
+    → PartLowers (λ context. untyped_array span context es dots) (λ place. lower_array place.count None (elements_of place xs) dots)
+lower_total_untyped span es dots xs k here context env place h at well_typed =
+    let js = map (element_alone context) es in
     let own = when_all (types_of js) (and_then (first_type_of (types_of js)) (λ t. Some (ty.Array t (length es)))) in
     let like = like_first (first_type_of (types_of js)) es (types_of js) in
     let wrong = breaks_if (dots || is_empty es) 21 span in
-    let s = settled_fine (reaching sight.known here) span own ((faults_of_all js ++ like) ++ wrong) (reached_of_all js) (one_and (size_of_all js)) fine in
+    let s = settled_well_typed (reaching context.known here) span own ((faults_of_all js ++ like) ++ wrong) (reached_of_all js) (one_and (size_of_all js)) well_typed in
     let f = none_in_three (faults_of_all js) like wrong s.faults in
-    let all = elements_become here sight env place h at es xs k f.0 s.reached in
+    let all = elements_become here context env place h at es xs k f.0 s.reached in
     let none = or_false dots (is_empty es) (not_broken (dots || is_empty es) 21 span f.2) in
-    (λ i. type_of_lowered (if none.0 i then None else and_then (all_some (values_alone place xs i)) elements_lowered))
-    ∙ ap (λ o. type_of_lowered (and_then o elements_lowered)) (all_there (types_at sight) (types_of js) (all_lowered place xs) all)
-    ∙ by_first sight es all.exprs none.1 all.typed all.declared f.1
-    ∙ sym (ap (λ o. and_then o (λ ts. and_then (first_type_of (types_of js)) (λ t. Some (ty.Array t (length es))))) (all_typed (types_at sight) (types_of js) (all_lowered place xs) all)) ∙ sym s.ty
+    (λ i. type_of_lowered (if none.0 i then None else and_then (all_some (values_alone place xs i)) lower_array_elements))
+    ∙ ap (λ o. type_of_lowered (and_then o lower_array_elements)) (all_there (types_at context) (types_of js) (lower_all place xs) all)
+    ∙ by_first context es all.exprs none.1 all.typed all.declared f.1
+    ∙ sym (ap (λ o. and_then o (λ ts. and_then (first_type_of (types_of js)) (λ t. Some (ty.Array t (length es))))) (all_typed (types_at context) (types_of js) (lower_all place xs) all)) ∙ sym s.ty
   where
-    by_first : (sight : Sight) (es : List ExprPair) (us : List LoweredExpr) → is_empty es ≡ false → types_of (map (element_alone sight) es) ≡ map Some (types_of_lowered us) → AllDeclared (types_at sight) (types_of_lowered us)
-        → like_first (first_type_of (types_of (map (element_alone sight) es))) es (types_of (map (element_alone sight) es)) ≡ []
-        → type_of_lowered (elements_lowered us) ≡ and_then (first_type_of (types_of (map (element_alone sight) es))) (λ t. Some (ty.Array t (length es)))
-    by_first sight [] us some is ds e = absurd (true≢false some)
-    by_first sight (x ∷ xs) [] some is ds e = some_fault (alone sight x).ty (types_of (map (element_alone sight) xs)) is
-    by_first sight (x ∷ xs) (u ∷ us) some is ds e =
-        let f = element_alone sight in
+    by_first : (context : TypeEnv) (es : List ExprPair) (us : List LoweredExpr) → is_empty es ≡ false → types_of (map (element_alone context) es) ≡ map Some (types_of_lowered us) → AllDeclared (types_at context) (types_of_lowered us)
+        → like_first (first_type_of (types_of (map (element_alone context) es))) es (types_of (map (element_alone context) es)) ≡ []
+        → type_of_lowered (lower_array_elements us) ≡ and_then (first_type_of (types_of (map (element_alone context) es))) (λ t. Some (ty.Array t (length es)))
+    by_first context [] us some is ds e = absurd (true≢false some)
+    by_first context (x ∷ xs) [] some is ds e = some_fault (alone context x).ty (types_of (map (element_alone context) xs)) is
+    by_first context (x ∷ xs) (u ∷ us) some is ds e =
+        let f = element_alone context in
         let p = list_parts (f x).ty (Some u.ty) (types_of (map f xs)) (map Some (types_of_lowered us)) is in
         let first : like_first (Some u.ty) (x ∷ xs) (types_of (map f (x ∷ xs))) ≡ [] = ap (λ o. like_first o (x ∷ xs) (types_of (map f (x ∷ xs)))) (sym p.0) ∙ e in
         let rest = (none_in (wanted_faults (span_of x) (Some u.ty) (f x).ty) (like_first (Some u.ty) xs (types_of (map f xs))) first).1 in
-        ap (λ b. type_of_lowered (where_true b (lowered (core.Array (cores_of (u ∷ us))) (ty.Array u.ty (suc (length us)))))) (like_equal (types_at sight) u.ty f xs us p.1 ds.0 ds.1 rest)
+        ap (λ b. type_of_lowered (where_true b (lowered (core.Array (cores_of (u ∷ us))) (ty.Array u.ty (suc (length us)))))) (like_equal (types_at context) u.ty f xs us p.1 ds.0 ds.1 rest)
         ∙ ap (λ n. Some (ty.Array u.ty (suc n))) (sym (as_many f xs us p.1))
         ∙ ap (λ o. and_then o (λ t. Some (ty.Array t (length (x ∷ xs))))) (sym p.0)
 
 -- ---- arrays with a type
 
 -- an element that may be a number without a type
-abbrev element_by : Sight → DslxType → ExprPair → Option Bare → Judgement
-element_by sight w e None = record (alone sight e) { faults = (alone sight e).faults ++ wanted_faults (span_of e) (Some w) (alone sight e).ty }
-element_by sight w e (Some number) = record bare_judged { ty = Some w; faults = range_faults (span_of e) (Some w) number }
+abbrev element_by : TypeEnv → DslxType → ExprPair → Option UntypedLiteral → Judgement
+element_by context w e None = record (alone context e) { faults = (alone context e).faults ++ wanted_faults (span_of e) (Some w) (alone context e).ty }
+element_by context w e (Some number) = record untyped_typing { ty = Some w; faults = range_faults (span_of e) (Some w) number }
 
 -- such an element: its type, and what it becomes
-record ElementBecomes (sight : Sight) (w : DslxType) (e : ExprPair) (bare : Option Bare) (o : Option LoweredExpr) : Type 0 where
+record ElementLowersTo (context : TypeEnv) (w : DslxType) (e : ExprPair) (bare : Option UntypedLiteral) (o : Option LoweredExpr) : Type 0 where
   own : DslxType
-  typed : (element_by sight w e bare).ty ≡ Some own
+  typed : (element_by context w e bare).ty ≡ Some own
   expr : LoweredExpr
   is : element_or_number w bare o ≡ Some expr
 
-number_typed : (types : Declarations) (w : DslxType) (number : Bare) → IsDeclared types w → is_there (number_value w number) ≡ true → (u : LoweredExpr) × (of_type w (number_lowered (Some w) number) ≡ Some u)
+number_typed : (types : Declarations) (w : DslxType) (number : UntypedLiteral) → IsDeclared types w → is_there (number_value w number) ≡ true → (u : LoweredExpr) × (of_type w (lower_number (Some w) number) ≡ Some u)
 number_typed types w number d e =
     let g = number_given types w number e d in
     let u : LoweredExpr = record { core = core.Literal (plain_value g.value); ty = type_of_value g.value } in (
@@ -157,47 +157,47 @@ number_typed types w number d e =
       ap (λ o. of_type w (and_then o literal)) g.is ∙ ap (λ b. where_true b (Some u)) (ap (equal_type w) (one_type w g.value g.of) ∙ equal_itself w),
     )
 
-one_element : (here : Instance → Bool) (sight : Sight) (env : Env) (place : CorePlace) → IsWellTyped sight env → StandsBeside here sight place → (w : DslxType) → IsDeclared (types_at sight) w → (e : ExprPair) (l : Lowers)
-    → ExprLowers e l → (o : Option Bare) → IsFine (reaching sight.known here) (element_by sight w e o) → ElementBecomes sight w e o (l place)
-one_element here sight env place h at w d e l s None fine =
-    let a = alone sight e in
-    let p = none_in a.faults (wanted_faults (span_of e) (Some w) a.ty) fine.faults in
-    let g = alone_becomes here sight env place e l s h at p.0 fine.reached in
+one_element : (here : Instance → Bool) (context : TypeEnv) (env : Env) (place : CoreScope) → IsWellTypedEnv context env → ScopeMatchesEnv here context place → (w : DslxType) → IsDeclared (types_at context) w → (e : ExprPair) (l : ExprLowering)
+    → ExprLowers e l → (o : Option UntypedLiteral) → IsWellTypedPart (reaching context.known here) (element_by context w e o) → ElementLowersTo context w e o (l place)
+one_element here context env place h at w d e l s None well_typed =
+    let a = alone context e in
+    let p = none_in a.faults (wanted_faults (span_of e) (Some w) a.ty) well_typed.faults in
+    let g = alone_lowers_to here context env place e l s h at p.0 well_typed.reached in
     let same = passed (same_type w g.expr.ty) 9 (span_of e) (ap (wanted_faults (span_of e) (Some w)) (sym g.typed) ∙ p.1) in
     record {
       own = g.expr.ty;
       typed = g.typed;
       expr = g.expr;
-      is = ap (of_type w) g.is ∙ ap (λ b. where_true b (Some g.expr)) (equal_of_text (types_at sight) w g.expr.ty same d g.declared);
+      is = ap (of_type w) g.is ∙ ap (λ b. where_true b (Some g.expr)) (equal_of_text (types_at context) w g.expr.ty same d g.declared);
     }
-one_element here sight env place h at w d e l s (Some number) fine =
-    let n = number_typed (types_at sight) w number d (passed (is_there (number_value w number)) 6 (span_of e) fine.faults) in
+one_element here context env place h at w d e l s (Some number) well_typed =
+    let n = number_typed (types_at context) w number d (passed (is_there (number_value w number)) 6 (span_of e) well_typed.faults) in
     record { own = w; typed = refl; expr = n.0; is = n.1 }
 
 -- all of them
-record AreElements (sight : Sight) (w : DslxType) (es : List ExprPair) (os : List (Option LoweredExpr)) : Type 0 where
+record AreElements (context : TypeEnv) (w : DslxType) (es : List ExprPair) (os : List (Option LoweredExpr)) : Type 0 where
   types : List DslxType
-  typed : types_of (map (element_in sight (Some w)) es) ≡ map Some types
+  typed : types_of (map (element_in context (Some w)) es) ≡ map Some types
   exprs : List LoweredExpr
   are : os ≡ map Some exprs
   many : length exprs ≡ length es
 
-abbrev typed_elements : DslxType → List (Option Bare × Option LoweredExpr) → List (Option LoweredExpr)
-typed_elements w es = map (λ (e : Option Bare × Option LoweredExpr). element_or_number w e.0 e.1) es
+abbrev typed_elements : DslxType → List (Option UntypedLiteral × Option LoweredExpr) → List (Option LoweredExpr)
+typed_elements w es = map (λ (e : Option UntypedLiteral × Option LoweredExpr). element_or_number w e.0 e.1) es
 
-all_elements : (here : Instance → Bool) (sight : Sight) (env : Env) (place : CorePlace) → IsWellTyped sight env → StandsBeside here sight place → (w : DslxType) → IsDeclared (types_at sight) w
-    → (es : List ExprPair) (xs : List LoweredPair) → EachExprLowers es xs → faults_of_all (map (element_in sight (Some w)) es) ≡ [] → list_all here (reached_of_all (map (element_in sight (Some w)) es)) ≡ true
-    → AreElements sight w es (typed_elements w (elements_of place xs))
-all_elements here sight env place h at w d [] [] k f r = record { types = []; typed = refl; exprs = []; are = refl; many = refl }
-all_elements here sight env place h at w d [] (x ∷ xs) k f r = absurd k
-all_elements here sight env place h at w d (e ∷ es) [] k f r = absurd k
-all_elements here sight env place h at w d (e ∷ es) (x ∷ xs) k f r =
-    let j = element_in sight (Some w) e in
-    let p = none_in j.faults (faults_of_all (map (element_in sight (Some w)) es)) f in
-    let q = all_in here j.reached (reached_of_all (map (element_in sight (Some w)) es)) r in
-    let one = one_element here sight env place h at w d e x.1 k.1 (bare_of e) (record { faults = p.0; reached = q.0 }) in
-    let more = all_elements here sight env place h at w d es xs k.2 p.1 q.1 in
-    let first : element_or_number w (meant x.0).bare (x.1 place) ≡ Some one.expr = ap (λ t. element_or_number w (meant t).bare (x.1 place)) (sym k.0) ∙ one.is in
+all_elements : (here : Instance → Bool) (context : TypeEnv) (env : Env) (place : CoreScope) → IsWellTypedEnv context env → ScopeMatchesEnv here context place → (w : DslxType) → IsDeclared (types_at context) w
+    → (es : List ExprPair) (xs : List LoweredPair) → EachExprLowers es xs → faults_of_all (map (element_in context (Some w)) es) ≡ [] → list_all here (reached_of_all (map (element_in context (Some w)) es)) ≡ true
+    → AreElements context w es (typed_elements w (elements_of place xs))
+all_elements here context env place h at w d [] [] k f r = record { types = []; typed = refl; exprs = []; are = refl; many = refl }
+all_elements here context env place h at w d [] (x ∷ xs) k f r = absurd k
+all_elements here context env place h at w d (e ∷ es) [] k f r = absurd k
+all_elements here context env place h at w d (e ∷ es) (x ∷ xs) k f r =
+    let j = element_in context (Some w) e in
+    let p = none_in j.faults (faults_of_all (map (element_in context (Some w)) es)) f in
+    let q = all_in here j.reached (reached_of_all (map (element_in context (Some w)) es)) r in
+    let one = one_element here context env place h at w d e x.1 k.1 (untyped_of e) (record { faults = p.0; reached = q.0 }) in
+    let more = all_elements here context env place h at w d es xs k.2 p.1 q.1 in
+    let first : element_or_number w (denotation x.0).bare (x.1 place) ≡ Some one.expr = ap (λ t. element_or_number w (denotation t).bare (x.1 place)) (sym k.0) ∙ one.is in
     record {
       types = one.own ∷ more.types;
       typed = λ i. one.typed i ∷ more.typed i;
@@ -221,7 +221,7 @@ array_is t parts e = by_level (out-DslxType t) refl e
 
 -- as many elements as are wanted
 filled_typed : (count : ℕ) (types : Declarations) (t : DslxType) (n : ℕ) (dots : Bool) (us : List LoweredExpr) → IsDeclared types (ty.Array t n) → count_wrong dots n (length us) ≡ false
-    → type_of_lowered (filled_lowered count t dots n us) ≡ Some (ty.Array t n)
+    → type_of_lowered (lower_filled count t dots n us) ≡ Some (ty.Array t n)
 filled_typed count types t n true [] d e = absurd (true≢false e)
 filled_typed count types t n false [] d e = absurd (true≢false (sym (element_declared types t n d).1 ∙ ap (λ n. not (is_zero n)) ((Decides-eqb n 0).0 (not_false (n == 0) e))))
 filled_typed count types t n false (u ∷ us) d e =
@@ -230,44 +230,44 @@ filled_typed count types t n false (u ∷ us) d e =
 filled_typed count types t n true (u ∷ us) d e =
     ap (λ b. type_of_lowered (where_true b (lowered (filled_array count n u us) (ty.Array t n)))) (le-leb (suc (length us)) n (ltb-false n (suc (length us)) e))
 
-pub typed_lowers : (span : Span) (j : SightJudging) (l : LowersType) (es : List ExprPair) (dots : Bool) (xs : List LoweredPair) → WrittenLowers j l → EachExprLowers es xs
-    → PartLowers (λ sight. typed_array span sight (j sight) es dots) (λ place. array_lowered place.count (Some (l place)) (elements_of place xs) dots)
-typed_lowers span j l es dots xs st k here sight env place h at fine = by_parts (and_then (j sight).ty array_in) refl fine
+pub lower_total_typed : (span : Span) (j : TypeExprTyping) (l : TypeLowering) (es : List ExprPair) (dots : Bool) (xs : List LoweredPair) → WrittenLowers j l → EachExprLowers es xs
+    → PartLowers (λ context. typed_array span context (j context) es dots) (λ place. lower_array place.count (Some (l place)) (elements_of place xs) dots)
+lower_total_typed span j l es dots xs st k here context env place h at well_typed = by_parts (and_then (j context).ty array_in) refl well_typed
   where
-    judged_by : Option (DslxType × ℕ) → Judgement
-    judged_by parts =
-        let js = map (element_in sight (element_type parts)) es in
-        settled span (when_all (types_of js) (j sight).ty) (((j sight).faults ++ faults_of_all js) ++ array_faults span (j sight).ty parts (length es) dots) ((j sight).reached ++ reached_of_all js) (one_and (size_of_all js))
+    typing_by : Option (DslxType × ℕ) → Judgement
+    typing_by parts =
+        let js = map (element_in context (element_type parts)) es in
+        settled span (when_all (types_of js) (j context).ty) (((j context).faults ++ faults_of_all js) ++ array_faults span (j context).ty parts (length es) dots) ((j context).reached ++ reached_of_all js) (one_and (size_of_all js))
 
     no_array : {X : Type 0} (o : Option DslxType) (t : DslxType) → o ≡ Some t → array_faults span o None (length es) dots ≡ [] → X
     no_array None t e q = none_some t e
     no_array (Some u) t e q = some_fault (breaks 9 span) [] q
 
-    by_parts : (o : Option (DslxType × ℕ)) → and_then (j sight).ty array_in ≡ o → IsFine (reaching sight.known here) (judged_by o)
-        → type_of_lowered (array_lowered place.count (Some (l place)) (elements_of place xs) dots) ≡ (typed_array span sight (j sight) es dots).ty
+    by_parts : (o : Option (DslxType × ℕ)) → and_then (j context).ty array_in ≡ o → IsWellTypedPart (reaching context.known here) (typing_by o)
+        → type_of_lowered (lower_array place.count (Some (l place)) (elements_of place xs) dots) ≡ (typed_array span context (j context) es dots).ty
     by_parts None q g =
-        let js = map (element_in sight None) es in
-        let wrong = array_faults span (j sight).ty None (length es) dots in
-        let s = settled_fine (reaching sight.known here) span (when_all (types_of js) (j sight).ty) (((j sight).faults ++ faults_of_all js) ++ wrong) ((j sight).reached ++ reached_of_all js) (one_and (size_of_all js)) g in
-        let p = none_in_three (j sight).faults (faults_of_all js) wrong s.faults in
-        let r = all_in here (j sight).reached (reached_of_all js) s.reached in
-        let t = type_becomes here sight env place j l st h at (record { faults = p.0; reached = r.0 }) in
-        no_array (j sight).ty t.ty t.typed p.2
+        let js = map (element_in context None) es in
+        let wrong = array_faults span (j context).ty None (length es) dots in
+        let s = settled_well_typed (reaching context.known here) span (when_all (types_of js) (j context).ty) (((j context).faults ++ faults_of_all js) ++ wrong) ((j context).reached ++ reached_of_all js) (one_and (size_of_all js)) g in
+        let p = none_in_three (j context).faults (faults_of_all js) wrong s.faults in
+        let r = all_in here (j context).reached (reached_of_all js) s.reached in
+        let t = type_lowers_to here context env place j l st h at (record { faults = p.0; reached = r.0 }) in
+        no_array (j context).ty t.ty t.typed p.2
     by_parts (Some parts) q g =
-        let js = map (element_in sight (Some parts.0)) es in
-        let wrong = array_faults span (j sight).ty (Some parts) (length es) dots in
-        let s = settled_fine (reaching sight.known here) span (when_all (types_of js) (j sight).ty) (((j sight).faults ++ faults_of_all js) ++ wrong) ((j sight).reached ++ reached_of_all js) (one_and (size_of_all js)) g in
-        let p = none_in_three (j sight).faults (faults_of_all js) wrong s.faults in
-        let r = all_in here (j sight).reached (reached_of_all js) s.reached in
-        let t = type_becomes here sight env place j l st h at (record { faults = p.0; reached = r.0 }) in
+        let js = map (element_in context (Some parts.0)) es in
+        let wrong = array_faults span (j context).ty (Some parts) (length es) dots in
+        let s = settled_well_typed (reaching context.known here) span (when_all (types_of js) (j context).ty) (((j context).faults ++ faults_of_all js) ++ wrong) ((j context).reached ++ reached_of_all js) (one_and (size_of_all js)) g in
+        let p = none_in_three (j context).faults (faults_of_all js) wrong s.faults in
+        let r = all_in here (j context).reached (reached_of_all js) s.reached in
+        let t = type_lowers_to here context env place j l st h at (record { faults = p.0; reached = r.0 }) in
         let array = sym (ap (λ o. and_then o array_in) t.typed) ∙ q in
         let is = array_is t.ty parts array in
-        let d = subst (IsDeclared (types_at sight)) (sym is) t.declared in
-        let all = all_elements here sight env place h at parts.0 (element_declared (types_at sight) parts.0 parts.1 d).0 es xs k p.1 r.1 in
+        let d = subst (IsDeclared (types_at context)) (sym is) t.declared in
+        let all = all_elements here context env place h at parts.0 (element_declared (types_at context) parts.0 parts.1 d).0 es xs k p.1 r.1 in
         let count = not_broken (count_wrong dots parts.1 (length es)) 21 span (ap (λ o. array_faults span o (Some parts) (length es) dots) (sym t.typed) ∙ p.2) in
-        ap (λ o. type_of_lowered (array_lowered place.count (Some o) (elements_of place xs) dots)) t.is
-        ∙ ap (λ o. type_of_lowered (and_then o (λ parts. and_then (all_some (typed_elements parts.0 (elements_of place xs))) (filled_lowered place.count parts.0 dots parts.1)))) array
-        ∙ ap (λ o. type_of_lowered (and_then o (filled_lowered place.count parts.0 dots parts.1))) (ap all_some all.are ∙ all_are all.exprs)
-        ∙ filled_typed place.count (types_at sight) parts.0 parts.1 dots all.exprs d (ap (count_wrong dots parts.1) all.many ∙ count)
+        ap (λ o. type_of_lowered (lower_array place.count (Some o) (elements_of place xs) dots)) t.is
+        ∙ ap (λ o. type_of_lowered (and_then o (λ parts. and_then (all_some (typed_elements parts.0 (elements_of place xs))) (lower_filled place.count parts.0 dots parts.1)))) array
+        ∙ ap (λ o. type_of_lowered (and_then o (lower_filled place.count parts.0 dots parts.1))) (ap all_some all.are ∙ all_are all.exprs)
+        ∙ filled_typed place.count (types_at context) parts.0 parts.1 dots all.exprs d (ap (count_wrong dots parts.1) all.many ∙ count)
         ∙ ap Some is
-        ∙ sym (ap (λ o. (judged_by o).ty) q ∙ s.ty ∙ (λ i. when_all (all.typed i) (t.typed i)) ∙ ap (λ o. and_then o (λ ts. Some t.ty)) (all_are all.types))
+        ∙ sym (ap (λ o. (typing_by o).ty) q ∙ s.ty ∙ (λ i. when_all (all.typed i) (t.typed i)) ∙ ap (λ o. and_then o (λ ts. Some t.ty)) (all_are all.types))

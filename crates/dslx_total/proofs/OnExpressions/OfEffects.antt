@@ -10,20 +10,20 @@ use Rattle.dslx_core.specs.declared.step.Step.TheVariants as step
 use Rattle.xb_span.specs.declared.span.Span.{Span}
 use Rattle.std.specs.List.{list_all}
 use Rattle.std.proofs.Common.{Bool, List, None, Option, Some, [], ap, false, not, refl, sym, true, ℕ, ◌||◌, ◌∙◌, ◌∷◌, ◌≡◌, subst, ◌++◌}
-use Rattle.dslx_typing.specs.Typed.WellTyped.{IsWellTyped, types_at}
+use Rattle.dslx_typing.specs.Typed.WellTyped.{IsWellTypedEnv, types_at}
 use Rattle.dslx_typing.specs.Typed.Declared.{Declarations, IsDeclared, as_declared, declared_step}
-use Rattle.dslx_typing.specs.Typed.Complete.{IsFine}
+use Rattle.dslx_typing.specs.Typed.Complete.{IsWellTypedPart}
 use Rattle.dslx_typing.proofs.Lemmas.Typed.{or_false, tuple_declared}
 use Rattle.dslx_tree.proofs.Lemmas.Folds.Levels.{NodeLevel, map_node, trees}
 use Rattle.dslx_tree.proofs.Lemmas.Folds.Folds.{folds}
 use Rattle.dslx_tree.specs.declared.process.End.{End}
 use Rattle.dslx_tree.specs.declared.process.Direction.{Direction}
 use Rattle.dslx_tree.specs.declared.expr.Expr.{Expr, out-Expr}
-use Rattle.dslx_typing.proofs.Lemmas.Sound.{none_in, not_broken, passed, all_in, all_in_three, none_in_three, settled_fine, own_expr}
-use Rattle.dslx_meaning.specs.Rules.NodeRules.{expr_pair, judged_steps, node_judged}
-use Rattle.dslx_meaning.specs.Rules.Judgings.{judged_sorts}
-use Rattle.dslx_meaning.specs.Rules.Judging.{ExprPair, Instance, Judgement, Outlet, Sight, alone, span_of, typed_in, within, Known, faults_of_all, name_of_expr, one_and, plus_size, reached_of_all, size_of_all, types_of}
-use Rattle.dslx_meaning.specs.Rules.CallRules.{channel_named, outlet_at, outlet_in, receiving, token_faults, token_judged, channel_seen, receiving_if, sending, sending_if, word_of, site_faults, effect_with, ChannelSeen, goes_there, has_site, outlet_if}
+use Rattle.dslx_typing.proofs.Lemmas.Sound.{none_in, not_broken, passed, all_in, all_in_three, none_in_three, settled_well_typed, own_expr}
+use Rattle.dslx_meaning.specs.Rules.NodeRules.{expr_pair, typing_steps, node_typing}
+use Rattle.dslx_meaning.specs.Rules.Typings.{typing_sorts}
+use Rattle.dslx_meaning.specs.Rules.TypeEnvs.{ExprPair, Instance, Judgement, ChannelEnd, TypeEnv, alone, span_of, typed_in, within, GlobalEnv, faults_of_all, name_of_expr, one_and, plus_size, reached_of_all, size_of_all, types_of}
+use Rattle.dslx_meaning.specs.Rules.CallRules.{channel_named, channel_end_at, channel_end_in, receiving, token_faults, token_typing, channel_seen, receiving_if, sending, sending_if, word_of, site_faults, effect_with, ChannelSeen, goes_there, has_site, channel_end_if}
 use Rattle.dslx_meaning.specs.Rules.AggregateRules.{wanted_faults, when_all}
 use Rattle.dslx_meaning.specs.declared.ty.DslxType.TheOpen.{DslxType-F}
 use Rattle.dslx_meaning.specs.declared.ty.DslxType.TheFolds.{fold-roll-DslxType}
@@ -31,16 +31,16 @@ use Rattle.dslx_meaning.specs.Types.{received, same_type, plain_type}
 use Rattle.dslx_meaning.specs.Lists.{and_then, where_true, with_both}
 use Rattle.dslx_meaning.specs.Environment.{Env}
 use Rattle.dslx_meaning.specs.Activation.{Computes, SiteAct, TakesWord, node_of, SendsWord, SendsWordIf, TakesWordIf, name_in_node, at_channel}
-use Rattle.dslx_total.specs.Expressions.NextSteps.{MembersStand}
-use Rattle.dslx_total.specs.Expressions.Lowers.{reaching}
-use Rattle.dslx_total.specs.Expressions.Beside.{StandsBeside}
-use Rattle.dslx_total.proofs.OnExpressions.Parts.{Becomes, alone_becomes, within_becomes}
+use Rattle.dslx_total.specs.Expressions.NextSteps.{MembersExist}
+use Rattle.dslx_total.specs.Expressions.ExprLowering.{reaching}
+use Rattle.dslx_total.specs.Expressions.Beside.{ScopeMatchesEnv}
+use Rattle.dslx_total.proofs.OnExpressions.Parts.{LowersTo, alone_lowers_to, within_lowers_to}
 use Rattle.dslx_total.proofs.OnExpressions.Joined.{seen, seeing, expression_part}
 use Rattle.dslx_total.proofs.OnExpressions.Equal.{equal_of_text}
-use Rattle.dslx_core.specs.Lowering.Trees.{expression_lowered, of_type}
-use Rattle.dslx_core.specs.Lowering.Steps.{BindsAtPlace, CoreMember, LoweredSteps, LowersSteps, act_lowered, compute_lowered, step_then, receive_lowered, send_lowered}
+use Rattle.dslx_core.specs.Lowering.Trees.{lower_expression, of_type}
+use Rattle.dslx_core.specs.Lowering.Steps.{BindsInScope, CoreMember, LoweredSteps, StepsLowering, lower_act, lower_compute, step_then, lower_receive, lower_send}
 use Rattle.dslx_core.specs.Lowering.Patterns.{LoweredShape}
-use Rattle.dslx_core.specs.Lowering.CorePlaces.{CorePlace}
+use Rattle.dslx_core.specs.Lowering.CoreScopes.{CoreScope}
 use Rattle.dslx_core.specs.declared.step.Step.{Step}
 use Rattle.xb_span.specs.declared.fault.Fault.{Fault}
 use Rattle.dslx_tree.specs.declared.process.Direction.TheVariants.{In, Out}
@@ -51,12 +51,12 @@ use Rattle.dslx_meaning.specs.Rules.OperatorRules.{is_bool, unless_type}
 abbrev pub node_seen : Expr → NodeLevel seen
 node_seen e = map_node trees seen (folds seen seeing) (node_of e)
 
-pub judged_at : (e : Expr) (on_top : Bool) (sight : Sight) → (expr_pair e).1 on_top sight ≡ node_judged (node_seen e) (out-Expr e).span on_top sight
-judged_at e on_top sight =
+pub typing_at : (e : Expr) (on_top : Bool) (context : TypeEnv) → (expr_pair e).1 on_top context ≡ node_typing (node_seen e) (out-Expr e).span on_top context
+typing_at e on_top context =
     (λ i. (fold_out-Expr seen.stmt seen.node seen.shape seen.type_node seen.block seen.bind seen.arg seen.arm seen.expr seen.field seen.loop seen.number seen.pattern seen.type_expr
-    seeing.stmt seeing.node seeing.shape seeing.type_node seeing.block seeing.bind seeing.arg seeing.arm seeing.expr seeing.field seeing.loop seeing.number seeing.pattern seeing.type_expr e i).1 on_top sight)
+    seeing.stmt seeing.node seeing.shape seeing.type_node seeing.block seeing.bind seeing.arg seeing.arm seeing.expr seeing.field seeing.loop seeing.number seeing.pattern seeing.type_expr e i).1 on_top context)
     ∙ (λ i. (fold_out-Node seen.stmt seen.node seen.shape seen.type_node seen.block seen.bind seen.arg seen.arm seen.expr seen.field seen.loop seen.number seen.pattern seen.type_expr
-    seeing.stmt seeing.node seeing.shape seeing.type_node seeing.block seeing.bind seeing.arg seeing.arm seeing.expr seeing.field seeing.loop seeing.number seeing.pattern seeing.type_expr (out-Expr e).node i).1 (out-Expr e).span on_top sight)
+    seeing.stmt seeing.node seeing.shape seeing.type_node seeing.block seeing.bind seeing.arg seeing.arm seeing.expr seeing.field seeing.loop seeing.number seeing.pattern seeing.type_expr (out-Expr e).node i).1 (out-Expr e).span on_top context)
 
 -- ---- steps
 
@@ -69,45 +69,45 @@ one_step s None = refl
 one_step s (Some l) = refl
 
 -- the channel of a site
-record ChannelThere (sight : Sight) (e : ExprPair) (named : Option (List ℕ)) : Type 0 where
+record ChannelThere (context : TypeEnv) (e : ExprPair) (named : Option (List ℕ)) : Type 0 where
   name : List ℕ
   is : named ≡ Some name
-  outlet : Outlet
-  found : outlet_in name sight.members ≡ Some outlet
-  word : word_of (channel_named sight e named) ≡ outlet.word
+  channel_end : ChannelEnd
+  found : channel_end_in name context.members ≡ Some channel_end
+  word : word_of (channel_named context e named) ≡ channel_end.word
 
-channel_there : (sight : Sight) (e : ExprPair) (named : Option (List ℕ)) (span : Span) (direction : Direction) → site_faults span sight direction (channel_named sight e named) ≡ [] → ChannelThere sight e named
-channel_there sight e None span direction f = absurd (true≢false (or_false true (has_site sight None) (not_broken (true || has_site sight None) 29 span f)).0)
-channel_there sight e (Some name) span direction f = by_local (typed_in name sight.locals) refl
+channel_there : (context : TypeEnv) (e : ExprPair) (named : Option (List ℕ)) (span : Span) (direction : Direction) → site_faults span context direction (channel_named context e named) ≡ [] → ChannelThere context e named
+channel_there context e None span direction f = absurd (true≢false (or_false true (has_site context None) (not_broken (true || has_site context None) 29 span f)).0)
+channel_there context e (Some name) span direction f = by_local (typed_in name context.locals) refl
   where
-    goes : not (goes_there direction (outlet_at sight name)) ≡ false
-    goes = (or_false (not (goes_there direction (outlet_at sight name))) (has_site sight (Some name)) (not_broken (not (goes_there direction (outlet_at sight name)) || has_site sight (Some name)) 29 span f)).0
+    goes : not (goes_there direction (channel_end_at context name)) ≡ false
+    goes = (or_false (not (goes_there direction (channel_end_at context name))) (has_site context (Some name)) (not_broken (not (goes_there direction (channel_end_at context name)) || has_site context (Some name)) 29 span f)).0
 
-    by_outlet : (o : Option Outlet) → outlet_in name sight.members ≡ o → outlet_at sight name ≡ o → ChannelThere sight e (Some name)
-    by_outlet None q r = absurd (true≢false (ap (λ o. not (goes_there direction o)) (sym r) ∙ goes))
-    by_outlet (Some o) q r = record { name = name; is = refl; outlet = o; found = q; word = ap (λ (x : Option Outlet). and_then x (λ (o : Outlet). o.word)) r }
+    by_channel_end : (o : Option ChannelEnd) → channel_end_in name context.members ≡ o → channel_end_at context name ≡ o → ChannelThere context e (Some name)
+    by_channel_end None q r = absurd (true≢false (ap (λ o. not (goes_there direction o)) (sym r) ∙ goes))
+    by_channel_end (Some o) q r = record { name = name; is = refl; channel_end = o; found = q; word = ap (λ (x : Option ChannelEnd). and_then x (λ (o : ChannelEnd). o.word)) r }
 
-    by_local : (t : Option (Option DslxType)) → typed_in name sight.locals ≡ t → ChannelThere sight e (Some name)
-    by_local (Some t) q = absurd (true≢false (ap (λ t. not (goes_there direction (outlet_if t (outlet_in name sight.members)))) (sym q) ∙ goes))
-    by_local None q = by_outlet (outlet_in name sight.members) refl (ap (λ t. outlet_if t (outlet_in name sight.members)) q)
+    by_local : (t : Option (Option DslxType)) → typed_in name context.locals ≡ t → ChannelThere context e (Some name)
+    by_local (Some t) q = absurd (true≢false (ap (λ t. not (goes_there direction (channel_end_if t (channel_end_in name context.members)))) (sym q) ∙ goes))
+    by_local None q = by_channel_end (channel_end_in name context.members) refl (ap (λ t. channel_end_if t (channel_end_in name context.members)) q)
 
 -- an effect with which nothing is wrong
-record EffectFine (known : Known) (span : Span) (sight : Sight) (direction : Direction) (t : Judgement) (c : ChannelSeen) (js : List Judgement) (wrong : List Fault) (given : Option DslxType) : Type 0 where
+record EffectWellTyped (known : GlobalEnv) (span : Span) (context : TypeEnv) (direction : Direction) (t : Judgement) (c : ChannelSeen) (js : List Judgement) (wrong : List Fault) (given : Option DslxType) : Type 0 where
   token : t.faults ≡ []
   token_reached : list_all known.is_sound t.reached ≡ true
   others : faults_of_all js ≡ []
   others_reached : list_all known.is_sound (reached_of_all js) ≡ true
   more : wrong ≡ []
-  site : site_faults span sight direction c ≡ []
-  ty : (effect_with span sight direction t c js wrong given).ty ≡ and_then t.ty (λ u. when_all (types_of js) given)
+  site : site_faults span context direction c ≡ []
+  ty : (effect_with span context direction t c js wrong given).ty ≡ and_then t.ty (λ u. when_all (types_of js) given)
 
-effect_fine : (known : Known) (span : Span) (sight : Sight) (direction : Direction) (t : Judgement) (c : ChannelSeen) (js : List Judgement) (wrong : List Fault) (given : Option DslxType)
-    → IsFine known (effect_with span sight direction t c js wrong given) → EffectFine known span sight direction t c js wrong given
-effect_fine known span sight direction t c js wrong given fine =
-    let sites = site_faults span sight direction c in
+effect_well_typed : (known : GlobalEnv) (span : Span) (context : TypeEnv) (direction : Direction) (t : Judgement) (c : ChannelSeen) (js : List Judgement) (wrong : List Fault) (given : Option DslxType)
+    → IsWellTypedPart known (effect_with span context direction t c js wrong given) → EffectWellTyped known span context direction t c js wrong given
+effect_well_typed known span context direction t c js wrong given well_typed =
+    let sites = site_faults span context direction c in
     let parts = (t.faults ++ c.judgement.faults) ++ faults_of_all js in
-    let s = settled_fine known span (and_then t.ty (λ u. when_all (types_of js) given)) ((parts ++ wrong) ++ sites) ((t.reached ++ c.judgement.reached) ++ reached_of_all js)
-    (one_and (plus_size t.size (plus_size c.judgement.size (size_of_all js)))) fine in
+    let s = settled_well_typed known span (and_then t.ty (λ u. when_all (types_of js) given)) ((parts ++ wrong) ++ sites) ((t.reached ++ c.judgement.reached) ++ reached_of_all js)
+    (one_and (plus_size t.size (plus_size c.judgement.size (size_of_all js)))) well_typed in
     let p = none_in_three parts wrong sites s.faults in
     let q = none_in_three t.faults c.judgement.faults (faults_of_all js) p.0 in
     let r = all_in_three known.is_sound t.reached c.judgement.reached (reached_of_all js) s.reached in
@@ -120,11 +120,11 @@ act_named act (Some name) = act name
 -- ---- what stands at the top
 
 -- it has a type, and becomes steps: whatever they bind, the rest goes on behind it
-pub record ActThere (types : Declarations) (outer : CorePlace) (ends : List End) (place : CorePlace) (e : Expr) (act : SiteAct) (j : Judgement) : Type 0 where
+pub record ActThere (types : Declarations) (outer : CoreScope) (ends : List End) (place : CoreScope) (e : Expr) (act : SiteAct) (j : Judgement) : Type 0 where
   pub own : DslxType
   pub typed : j.ty ≡ Some own
   pub declared : IsDeclared types own
-  pub steps : (binds : BindsAtPlace) (rest : LowersSteps) (s : LoweredShape) → binds place own ≡ Some s → type_of_steps (act_lowered outer ends act e binds rest place) ≡ type_of_steps (rest s.place)
+  pub steps : (binds : BindsInScope) (rest : StepsLowering) (s : LoweredShape) → binds place own ≡ Some s → type_of_steps (lower_act outer ends act e binds rest place) ≡ type_of_steps (rest s.place)
 
 token_declared : (types : Declarations) → IsDeclared types ty.Token
 token_declared types = ap (as_declared types) (sym rolls.rolls-Token) ∙ fold-roll-DslxType DslxType (declared_step types) DslxType-F.Token
@@ -132,144 +132,144 @@ token_declared types = ap (as_declared types) (sym rolls.rolls-Token) ∙ fold-r
 received_declared : (types : Declarations) (w : DslxType) → IsDeclared types w → IsDeclared types (received w)
 received_declared types w d = tuple_declared types (ty.Token ∷ w ∷ []) (token_declared types, (d, tt))
 
-module _ (here : Instance → Bool) (sight : Sight) (env : Env) (outer place : CorePlace) (ends : List End) (h : IsWellTyped sight env) (at : StandsBeside here sight place) (members : MembersStand sight outer ends) where
-  pub computes_there : (e : Expr) → IsFine (reaching sight.known here) ((expr_pair e).1 false sight) → ActThere (types_at sight) outer ends place e Computes ((expr_pair e).1 false sight)
-  computes_there e fine =
-      let b = within_becomes here sight env place (expr_pair e) (expression_lowered e) (expression_part e) h at fine in
+module _ (here : Instance → Bool) (context : TypeEnv) (env : Env) (outer place : CoreScope) (ends : List End) (h : IsWellTypedEnv context env) (at : ScopeMatchesEnv here context place) (members : MembersExist context outer ends) where
+  pub computes_there : (e : Expr) → IsWellTypedPart (reaching context.known here) ((expr_pair e).1 false context) → ActThere (types_at context) outer ends place e Computes ((expr_pair e).1 false context)
+  computes_there e well_typed =
+      let b = within_lowers_to here context env place (expr_pair e) (lower_expression e) (expression_part e) h at well_typed in
       record {
         own = b.expr.ty;
         typed = b.typed;
         declared = b.declared;
         steps = λ binds rest s q.
-            ap (λ o. type_of_steps (and_then o (λ e. compute_lowered e binds rest place))) b.is
+            ap (λ o. type_of_steps (and_then o (λ e. lower_compute e binds rest place))) b.is
             ∙ ap (λ o. type_of_steps (and_then o (λ s. step_then (step.Bind b.expr.core s.shape) (rest s.place)))) q
             ∙ one_step (step.Bind b.expr.core s.shape) (rest s.place);
       }
 
   -- the token that an effect takes
-  token_there : (t : Expr) → (token_judged sight (expr_pair t)).faults ≡ [] → list_all here (token_judged sight (expr_pair t)).reached ≡ true
-      → (u : DslxType) × ((token_judged sight (expr_pair t)).ty ≡ Some u)
+  token_there : (t : Expr) → (token_typing context (expr_pair t)).faults ≡ [] → list_all here (token_typing context (expr_pair t)).reached ≡ true
+      → (u : DslxType) × ((token_typing context (expr_pair t)).ty ≡ Some u)
   token_there t f r =
-      let a = within sight (expr_pair t) in
-      let b = within_becomes here sight env place (expr_pair t) (expression_lowered t) (expression_part t) h at (record { faults = (none_in a.faults (token_faults (span_of (expr_pair t)) a.ty) f).0; reached = r }) in
+      let a = within context (expr_pair t) in
+      let b = within_lowers_to here context env place (expr_pair t) (lower_expression t) (expression_part t) h at (record { faults = (none_in a.faults (token_faults (span_of (expr_pair t)) a.ty) f).0; reached = r }) in
       (b.expr.ty, b.typed)
 
-  value_there : (e : Expr) → (alone sight (expr_pair e)).faults ≡ [] → list_all here (alone sight (expr_pair e)).reached ≡ true → Becomes (types_at sight) (alone sight (expr_pair e)) (expression_lowered e place)
-  value_there e f r = alone_becomes here sight env place (expr_pair e) (expression_lowered e) (expression_part e) h at f r
+  value_there : (e : Expr) → (alone context (expr_pair e)).faults ≡ [] → list_all here (alone context (expr_pair e)).reached ≡ true → LowersTo (types_at context) (alone context (expr_pair e)) (lower_expression e place)
+  value_there e f r = alone_lowers_to here context env place (expr_pair e) (lower_expression e) (expression_part e) h at f r
 
   -- a word of the member's type
-  word_there : (e : Expr) (m : CoreMember) → IsDeclared (types_at sight) m.word → (b : Becomes (types_at sight) (alone sight (expr_pair e)) (expression_lowered e place)) (o : Option DslxType) → o ≡ Some m.word
-      → wanted_faults (span_of (expr_pair e)) o (alone sight (expr_pair e)).ty ≡ [] → of_type m.word (expression_lowered e place) ≡ Some b.expr
+  word_there : (e : Expr) (m : CoreMember) → IsDeclared (types_at context) m.word → (b : LowersTo (types_at context) (alone context (expr_pair e)) (lower_expression e place)) (o : Option DslxType) → o ≡ Some m.word
+      → wanted_faults (span_of (expr_pair e)) o (alone context (expr_pair e)).ty ≡ [] → of_type m.word (lower_expression e place) ≡ Some b.expr
   word_there e m d b o q f =
       let same = passed (same_type m.word b.expr.ty) 9 (span_of (expr_pair e)) ((λ i. wanted_faults (span_of (expr_pair e)) (sym q i) (sym b.typed i)) ∙ f) in
-      ap (of_type m.word) b.is ∙ ap (λ c. where_true c (Some b.expr)) (equal_of_text (types_at sight) m.word b.expr.ty same d b.declared)
+      ap (of_type m.word) b.is ∙ ap (λ c. where_true c (Some b.expr)) (equal_of_text (types_at context) m.word b.expr.ty same d b.declared)
 
   -- the member and its words
-  member_there : (c : Expr) (ch : ChannelThere sight (expr_pair c) (name_of_expr (expr_pair c))) (act : List ℕ → SiteAct) → at_channel c act ≡ act ch.name
-  member_there c ch act = ap (act_named act) (ap (λ x. name_in_node (node_of x)) (sym (own_expr judged_sorts judged_steps c)) ∙ ch.is)
+  member_there : (c : Expr) (ch : ChannelThere context (expr_pair c) (name_of_expr (expr_pair c))) (act : List ℕ → SiteAct) → at_channel c act ≡ act ch.name
+  member_there c ch act = ap (act_named act) (ap (λ x. name_in_node (node_of x)) (sym (own_expr typing_sorts typing_steps c)) ∙ ch.is)
 
-  pub receiving_there : (span : Span) (e t c : Expr) → IsFine (reaching sight.known here) (receiving span sight (expr_pair t ∷ expr_pair c ∷ []))
-      → ActThere (types_at sight) outer ends place e (at_channel c TakesWord) (receiving span sight (expr_pair t ∷ expr_pair c ∷ []))
-  receiving_there span e t c fine =
-      let channel = channel_seen sight (expr_pair c) in
-      let q = effect_fine (reaching sight.known here) span sight In (token_judged sight (expr_pair t)) channel [] [] (and_then (word_of channel) (λ w. Some (received w))) fine in
+  pub receiving_there : (span : Span) (e t c : Expr) → IsWellTypedPart (reaching context.known here) (receiving span context (expr_pair t ∷ expr_pair c ∷ []))
+      → ActThere (types_at context) outer ends place e (at_channel c TakesWord) (receiving span context (expr_pair t ∷ expr_pair c ∷ []))
+  receiving_there span e t c well_typed =
+      let channel = channel_seen context (expr_pair c) in
+      let q = effect_well_typed (reaching context.known here) span context In (token_typing context (expr_pair t)) channel [] [] (and_then (word_of channel) (λ w. Some (received w))) well_typed in
       let tok = token_there t q.token q.token_reached in
-      let ch = channel_there sight (expr_pair c) (name_of_expr (expr_pair c)) span In q.site in
-      let m = members ch.name ch.outlet ch.found in
+      let ch = channel_there context (expr_pair c) (name_of_expr (expr_pair c)) span In q.site in
+      let m = members ch.name ch.channel_end ch.found in
       let word : word_of channel ≡ Some m.member.word = ch.word ∙ m.word in
-      subst (λ a. ActThere (types_at sight) outer ends place e a (receiving span sight (expr_pair t ∷ expr_pair c ∷ []))) (sym (member_there c ch TakesWord))
+      subst (λ a. ActThere (types_at context) outer ends place e a (receiving span context (expr_pair t ∷ expr_pair c ∷ []))) (sym (member_there c ch TakesWord))
       (record {
         own = received m.member.word;
         typed = q.ty ∙ (λ i. and_then (tok.1 i) (λ u. and_then (word i) (λ w. Some (received w))));
-        declared = received_declared (types_at sight) m.member.word m.declared;
+        declared = received_declared (types_at context) m.member.word m.declared;
         steps = λ binds rest s k.
-            ap (λ o. type_of_steps (and_then o (λ m. receive_lowered m None binds rest place))) m.is
+            ap (λ o. type_of_steps (and_then o (λ m. lower_receive m None binds rest place))) m.is
             ∙ ap (λ o. type_of_steps (and_then o (λ s. step_then (step.Receive (record { member = m.member.number; word = plain_type m.member.word; condition = None; shape = s.shape })) (rest s.place)))) k
             ∙ one_step (step.Receive (record { member = m.member.number; word = plain_type m.member.word; condition = None; shape = s.shape })) (rest s.place);
       })
 
-  pub sending_there : (span : Span) (e t c x : Expr) → IsFine (reaching sight.known here) (sending span sight (expr_pair t ∷ expr_pair c ∷ expr_pair x ∷ []))
-      → ActThere (types_at sight) outer ends place e (at_channel c (λ name. SendsWord name x)) (sending span sight (expr_pair t ∷ expr_pair c ∷ expr_pair x ∷ []))
-  sending_there span e t c x fine =
-      let channel = channel_seen sight (expr_pair c) in
-      let value = alone sight (expr_pair x) in
-      let q = effect_fine (reaching sight.known here) span sight Out (token_judged sight (expr_pair t)) channel (value ∷ []) (wanted_faults (span_of (expr_pair x)) (word_of channel) value.ty) (and_then (word_of channel) (λ w. Some ty.Token)) fine in
+  pub sending_there : (span : Span) (e t c x : Expr) → IsWellTypedPart (reaching context.known here) (sending span context (expr_pair t ∷ expr_pair c ∷ expr_pair x ∷ []))
+      → ActThere (types_at context) outer ends place e (at_channel c (λ name. SendsWord name x)) (sending span context (expr_pair t ∷ expr_pair c ∷ expr_pair x ∷ []))
+  sending_there span e t c x well_typed =
+      let channel = channel_seen context (expr_pair c) in
+      let value = alone context (expr_pair x) in
+      let q = effect_well_typed (reaching context.known here) span context Out (token_typing context (expr_pair t)) channel (value ∷ []) (wanted_faults (span_of (expr_pair x)) (word_of channel) value.ty) (and_then (word_of channel) (λ w. Some ty.Token)) well_typed in
       let tok = token_there t q.token q.token_reached in
-      let ch = channel_there sight (expr_pair c) (name_of_expr (expr_pair c)) span Out q.site in
-      let m = members ch.name ch.outlet ch.found in
+      let ch = channel_there context (expr_pair c) (name_of_expr (expr_pair c)) span Out q.site in
+      let m = members ch.name ch.channel_end ch.found in
       let word : word_of channel ≡ Some m.member.word = ch.word ∙ m.word in
       let b = value_there x (none_in value.faults [] q.others).0 (all_in here value.reached [] q.others_reached).0 in
       let of = word_there x m.member m.declared b (word_of channel) word q.more in
-      subst (λ a. ActThere (types_at sight) outer ends place e a (sending span sight (expr_pair t ∷ expr_pair c ∷ expr_pair x ∷ []))) (sym (member_there c ch (λ name. SendsWord name x)))
+      subst (λ a. ActThere (types_at context) outer ends place e a (sending span context (expr_pair t ∷ expr_pair c ∷ expr_pair x ∷ []))) (sym (member_there c ch (λ name. SendsWord name x)))
       (record {
         own = ty.Token;
         typed = q.ty ∙ (λ i. and_then (tok.1 i) (λ u. when_all (b.typed i ∷ []) (and_then (word i) (λ w. Some ty.Token))));
-        declared = token_declared (types_at sight);
+        declared = token_declared (types_at context);
         steps = λ binds rest s k.
-            ap (λ o. type_of_steps (and_then o (λ m. and_then (of_type m.word (expression_lowered x place)) (λ word. send_lowered m None word binds rest place)))) m.is
-            ∙ ap (λ o. type_of_steps (and_then o (λ word. send_lowered m.member None word binds rest place))) of
+            ap (λ o. type_of_steps (and_then o (λ m. and_then (of_type m.word (lower_expression x place)) (λ word. lower_send m None word binds rest place)))) m.is
+            ∙ ap (λ o. type_of_steps (and_then o (λ word. lower_send m.member None word binds rest place))) of
             ∙ ap (λ o. type_of_steps (and_then o (λ s. step_then (step.Send (record { member = m.member.number; condition = None; word = b.expr.core; shape = s.shape })) (rest s.place)))) k
             ∙ one_step (step.Send (record { member = m.member.number; condition = None; word = b.expr.core; shape = s.shape })) (rest s.place);
       })
 
   pub receiving_if_there : (span : Span) (e t c p x : Expr)
-      → IsFine (reaching sight.known here) (receiving_if span sight (expr_pair t ∷ expr_pair c ∷ expr_pair p ∷ expr_pair x ∷ []))
-      → ActThere (types_at sight) outer ends place e (at_channel c (λ name. TakesWordIf name p x)) (receiving_if span sight (expr_pair t ∷ expr_pair c ∷ expr_pair p ∷ expr_pair x ∷ []))
-  receiving_if_there span e t c p x fine =
-      let channel = channel_seen sight (expr_pair c) in
-      let test = alone sight (expr_pair p) in
-      let value = alone sight (expr_pair x) in
+      → IsWellTypedPart (reaching context.known here) (receiving_if span context (expr_pair t ∷ expr_pair c ∷ expr_pair p ∷ expr_pair x ∷ []))
+      → ActThere (types_at context) outer ends place e (at_channel c (λ name. TakesWordIf name p x)) (receiving_if span context (expr_pair t ∷ expr_pair c ∷ expr_pair p ∷ expr_pair x ∷ []))
+  receiving_if_there span e t c p x well_typed =
+      let channel = channel_seen context (expr_pair c) in
+      let test = alone context (expr_pair p) in
+      let value = alone context (expr_pair x) in
       let bool = unless_type is_bool 15 (span_of (expr_pair p)) test.ty in
       let wrong = wanted_faults (span_of (expr_pair x)) (word_of channel) value.ty in
-      let q = effect_fine (reaching sight.known here) span sight In (token_judged sight (expr_pair t)) channel (test ∷ value ∷ []) (bool ++ wrong) (and_then (word_of channel) (λ w. Some (received w))) fine in
+      let q = effect_well_typed (reaching context.known here) span context In (token_typing context (expr_pair t)) channel (test ∷ value ∷ []) (bool ++ wrong) (and_then (word_of channel) (λ w. Some (received w))) well_typed in
       let tok = token_there t q.token q.token_reached in
-      let ch = channel_there sight (expr_pair c) (name_of_expr (expr_pair c)) span In q.site in
-      let m = members ch.name ch.outlet ch.found in
+      let ch = channel_there context (expr_pair c) (name_of_expr (expr_pair c)) span In q.site in
+      let m = members ch.name ch.channel_end ch.found in
       let word : word_of channel ≡ Some m.member.word = ch.word ∙ m.word in
       let f = none_in test.faults (value.faults ++ []) q.others in
       let r = all_in here test.reached (value.reached ++ []) q.others_reached in
       let a = value_there p f.0 r.0 in
       let b = value_there x (none_in value.faults [] f.1).0 (all_in here value.reached [] r.1).0 in
       let of = word_there x m.member m.declared b (word_of channel) word (none_in bool wrong q.more).1 in
-      subst (λ a. ActThere (types_at sight) outer ends place e a (receiving_if span sight (expr_pair t ∷ expr_pair c ∷ expr_pair p ∷ expr_pair x ∷ []))) (sym (member_there c ch (λ name. TakesWordIf name p x)))
+      subst (λ a. ActThere (types_at context) outer ends place e a (receiving_if span context (expr_pair t ∷ expr_pair c ∷ expr_pair p ∷ expr_pair x ∷ []))) (sym (member_there c ch (λ name. TakesWordIf name p x)))
       (record {
         own = received m.member.word;
         typed = q.ty ∙ (λ i. and_then (tok.1 i) (λ u. when_all (a.typed i ∷ b.typed i ∷ []) (and_then (word i) (λ w. Some (received w)))));
-        declared = received_declared (types_at sight) m.member.word m.declared;
+        declared = received_declared (types_at context) m.member.word m.declared;
         steps = λ binds rest s k.
-            ap (λ o. type_of_steps (and_then o (λ m. with_both (expression_lowered p place) (of_type m.word (expression_lowered x place)) (λ p other. receive_lowered m (Some (p, other)) binds rest place)))) m.is
-            ∙ (λ i. type_of_steps (with_both (a.is i) (of i) (λ p other. receive_lowered m.member (Some (p, other)) binds rest place)))
+            ap (λ o. type_of_steps (and_then o (λ m. with_both (lower_expression p place) (of_type m.word (lower_expression x place)) (λ p other. lower_receive m (Some (p, other)) binds rest place)))) m.is
+            ∙ (λ i. type_of_steps (with_both (a.is i) (of i) (λ p other. lower_receive m.member (Some (p, other)) binds rest place)))
             ∙ ap (λ o. type_of_steps (and_then o (λ s. step_then (step.Receive (record { member = m.member.number; word = plain_type m.member.word; condition = Some (a.expr.core, b.expr.core); shape = s.shape })) (rest s.place)))) k
             ∙ one_step (step.Receive (record { member = m.member.number; word = plain_type m.member.word; condition = Some (a.expr.core, b.expr.core); shape = s.shape })) (rest s.place);
       })
 
   pub sending_if_there : (span : Span) (e t c p x : Expr)
-      → IsFine (reaching sight.known here) (sending_if span sight (expr_pair t ∷ expr_pair c ∷ expr_pair p ∷ expr_pair x ∷ []))
-      → ActThere (types_at sight) outer ends place e (at_channel c (λ name. SendsWordIf name p x)) (sending_if span sight (expr_pair t ∷ expr_pair c ∷ expr_pair p ∷ expr_pair x ∷ []))
-  sending_if_there span e t c p x fine =
-      let channel = channel_seen sight (expr_pair c) in
-      let test = alone sight (expr_pair p) in
-      let value = alone sight (expr_pair x) in
+      → IsWellTypedPart (reaching context.known here) (sending_if span context (expr_pair t ∷ expr_pair c ∷ expr_pair p ∷ expr_pair x ∷ []))
+      → ActThere (types_at context) outer ends place e (at_channel c (λ name. SendsWordIf name p x)) (sending_if span context (expr_pair t ∷ expr_pair c ∷ expr_pair p ∷ expr_pair x ∷ []))
+  sending_if_there span e t c p x well_typed =
+      let channel = channel_seen context (expr_pair c) in
+      let test = alone context (expr_pair p) in
+      let value = alone context (expr_pair x) in
       let bool = unless_type is_bool 15 (span_of (expr_pair p)) test.ty in
       let wrong = wanted_faults (span_of (expr_pair x)) (word_of channel) value.ty in
-      let q = effect_fine (reaching sight.known here) span sight Out (token_judged sight (expr_pair t)) channel (test ∷ value ∷ []) (bool ++ wrong) (and_then (word_of channel) (λ w. Some ty.Token)) fine in
+      let q = effect_well_typed (reaching context.known here) span context Out (token_typing context (expr_pair t)) channel (test ∷ value ∷ []) (bool ++ wrong) (and_then (word_of channel) (λ w. Some ty.Token)) well_typed in
       let tok = token_there t q.token q.token_reached in
-      let ch = channel_there sight (expr_pair c) (name_of_expr (expr_pair c)) span Out q.site in
-      let m = members ch.name ch.outlet ch.found in
+      let ch = channel_there context (expr_pair c) (name_of_expr (expr_pair c)) span Out q.site in
+      let m = members ch.name ch.channel_end ch.found in
       let word : word_of channel ≡ Some m.member.word = ch.word ∙ m.word in
       let f = none_in test.faults (value.faults ++ []) q.others in
       let r = all_in here test.reached (value.reached ++ []) q.others_reached in
       let a = value_there p f.0 r.0 in
       let b = value_there x (none_in value.faults [] f.1).0 (all_in here value.reached [] r.1).0 in
       let of = word_there x m.member m.declared b (word_of channel) word (none_in bool wrong q.more).1 in
-      subst (λ a. ActThere (types_at sight) outer ends place e a (sending_if span sight (expr_pair t ∷ expr_pair c ∷ expr_pair p ∷ expr_pair x ∷ []))) (sym (member_there c ch (λ name. SendsWordIf name p x)))
+      subst (λ a. ActThere (types_at context) outer ends place e a (sending_if span context (expr_pair t ∷ expr_pair c ∷ expr_pair p ∷ expr_pair x ∷ []))) (sym (member_there c ch (λ name. SendsWordIf name p x)))
       (record {
         own = ty.Token;
         typed = q.ty ∙ (λ i. and_then (tok.1 i) (λ u. when_all (a.typed i ∷ b.typed i ∷ []) (and_then (word i) (λ w. Some ty.Token))));
-        declared = token_declared (types_at sight);
+        declared = token_declared (types_at context);
         steps = λ binds rest s k.
-            ap (λ o. type_of_steps (and_then o (λ m. with_both (expression_lowered p place) (of_type m.word (expression_lowered x place)) (λ p word. send_lowered m (Some p) word binds rest place)))) m.is
-            ∙ (λ i. type_of_steps (with_both (a.is i) (of i) (λ p word. send_lowered m.member (Some p) word binds rest place)))
+            ap (λ o. type_of_steps (and_then o (λ m. with_both (lower_expression p place) (of_type m.word (lower_expression x place)) (λ p word. lower_send m (Some p) word binds rest place)))) m.is
+            ∙ (λ i. type_of_steps (with_both (a.is i) (of i) (λ p word. lower_send m.member (Some p) word binds rest place)))
             ∙ ap (λ o. type_of_steps (and_then o (λ s. step_then (step.Send (record { member = m.member.number; condition = Some a.expr.core; word = b.expr.core; shape = s.shape })) (rest s.place)))) k
             ∙ one_step (step.Send (record { member = m.member.number; condition = Some a.expr.core; word = b.expr.core; shape = s.shape })) (rest s.place);
       })

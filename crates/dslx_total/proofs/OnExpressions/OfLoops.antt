@@ -12,7 +12,7 @@ use Rattle.dslx_meaning.specs.Lists.{and_then, where_true, with_both}
 use Rattle.dslx_meaning.specs.Types.{bits_in, bits_step, same_bool, same_type}
 use Rattle.dslx_meaning.specs.Values.{bits_of}
 use Rattle.dslx_meaning.specs.Environment.{Env}
-use Rattle.dslx_meaning.specs.Meaning.{PatternMeant, Typing, turn_count}
+use Rattle.dslx_meaning.specs.Meaning.{PatternDen, TypeDen, turn_count}
 use Rattle.dslx_meaning.specs.Operators.{of_one_type}
 use Rattle.dslx_meaning.specs.declared.ty.BitKind.{BitKind}
 use Rattle.dslx_meaning.specs.declared.ty.DslxType as ty
@@ -22,29 +22,29 @@ use Rattle.dslx_meaning.specs.declared.value.DslxValue.{DslxValue}
 use Rattle.dslx_meaning.specs.declared.value.SignedWord.{SignedWord}
 use Rattle.dslx_meaning.specs.Rules.AggregateRules.{wanted_faults}
 use Rattle.dslx_meaning.specs.Rules.ConstantRules.{constant_of, names_a_local, size_faults}
-use Rattle.dslx_meaning.specs.Rules.ControlRules.{annotated_type, annotation_reached, loop_annotation, loop_faults, loop_parts_faults, loop_reached, loop_size, loop_type, loop_with, same_ends, turn_limit, turns_of, written_judged}
-use Rattle.dslx_meaning.specs.Rules.Judging.{ExprPair, Instance, Judgement, Sight, alone, breaks_if, found_number, has_broken, passes, span_of, with_typed}
-use Rattle.dslx_meaning.specs.Rules.Judgings.{BlockPair, PatternPair, PatternSeen, TypePair}
+use Rattle.dslx_meaning.specs.Rules.ControlRules.{annotated_type, annotation_reached, loop_annotation, loop_faults, loop_parts_faults, loop_reached, loop_size, loop_type, loop_with, same_ends, turn_limit, turns_of, written_typing}
+use Rattle.dslx_meaning.specs.Rules.TypeEnvs.{ExprPair, Instance, Judgement, TypeEnv, alone, breaks_if, found_number, has_broken, passes, span_of, with_typed}
+use Rattle.dslx_meaning.specs.Rules.Typings.{BlockPair, PatternPair, PatternSeen, TypePair}
 use Rattle.dslx_meaning.specs.Rules.OperatorRules.{is_bits, one_bit_type, unless_types}
 use Rattle.dslx_typing.proofs.Lemmas.Laws.{and_true}
-use Rattle.dslx_typing.specs.Typed.Complete.{IsFine}
+use Rattle.dslx_typing.specs.Typed.Complete.{IsWellTypedPart}
 use Rattle.dslx_typing.specs.Typed.Declared.{Declarations, IsDeclared}
 use Rattle.dslx_typing.specs.Typed.Given.{GivesOf}
-use Rattle.dslx_typing.specs.Typed.WellTyped.{IsWellTyped, types_at}
+use Rattle.dslx_typing.specs.Typed.WellTyped.{IsWellTypedEnv, types_at}
 use Rattle.dslx_typing.proofs.Lemmas.Typed.{bits_given, one_of_text, same_some}
-use Rattle.dslx_typing.specs.Sound.Sound.{PatternGives, TypeStandsIf, acc_seen, body_seen, index_seen, loop_at}
-use Rattle.dslx_typing.proofs.Lemmas.Sound.{all_in, all_in_three, constant_has, none_in, none_in_three, passed, settled_fine, some_fault}
+use Rattle.dslx_typing.specs.Sound.Sound.{PatternGives, TypeHasDenIf, acc_seen, body_seen, index_seen, loop_at}
+use Rattle.dslx_typing.proofs.Lemmas.Sound.{all_in, all_in_three, constant_has, none_in, none_in_three, passed, settled_well_typed, some_fault}
 use Rattle.dslx_core.specs.declared.expr.CoreExpr as core
-use Rattle.dslx_core.specs.Lowering.CorePlaces.{CorePlace, constant_at}
+use Rattle.dslx_core.specs.Lowering.CoreScopes.{CoreScope, constant_at}
 use Rattle.dslx_core.specs.Lowering.EqualTypes.{equal_type}
 use Rattle.dslx_core.specs.Lowering.Lowering.{LoweredExpr, lowered}
-use Rattle.dslx_core.specs.Lowering.Patterns.{LoweredShape, Lowers, LowersPattern, loop_lowered, lowered_at_place}
-use Rattle.dslx_total.specs.Expressions.Beside.{StandsBeside}
-use Rattle.dslx_total.specs.Expressions.Lowers.{ExprLowers, IsClean, PartLowers, PatternLowers, reaching, type_of_lowered}
+use Rattle.dslx_core.specs.Lowering.Patterns.{LoweredShape, ExprLowering, PatternLowering, lower_loop, lower_in_scope}
+use Rattle.dslx_total.specs.Expressions.Beside.{ScopeMatchesEnv}
+use Rattle.dslx_total.specs.Expressions.ExprLowering.{ExprLowers, IsClean, PartLowers, PatternLowers, reaching, type_of_lowered}
 use Rattle.dslx_total.proofs.OnExpressions.Constants.{constant_there}
 use Rattle.dslx_total.proofs.OnExpressions.Equal.{equal_of_text}
-use Rattle.dslx_total.proofs.OnExpressions.OfControl.{BlockLowers, block_becomes}
-use Rattle.dslx_total.proofs.OnExpressions.Parts.{alone_becomes, fine_there}
+use Rattle.dslx_total.proofs.OnExpressions.OfControl.{BlockLowers, block_lowers_to}
+use Rattle.dslx_total.proofs.OnExpressions.Parts.{alone_lowers_to, well_typed_there}
 
 -- ---- ends
 
@@ -86,31 +86,31 @@ few_turns at n e = by_test (nat_lt 1024 n) refl e
 -- ---- turns
 
 -- what the patterns of a loop become, and its body behind them
-record TurnBecomes (sight : Sight) (index acc : PatternPair) (block : BlockPair) (k t : DslxType) (il al : LowersPattern) (bl : Lowers) (place : CorePlace) : Type 0 where
+record TurnLowersTo (context : TypeEnv) (index acc : PatternPair) (block : BlockPair) (k t : DslxType) (il al : PatternLowering) (bl : ExprLowering) (place : CoreScope) : Type 0 where
   first : LoweredShape
-  first_is : lowered_at_place il place k ≡ Some first
+  first_is : lower_in_scope il place k ≡ Some first
   second : LoweredShape
-  second_is : lowered_at_place al first.place t ≡ Some second
+  second_is : lower_in_scope al first.place t ≡ Some second
   body : LoweredExpr
   body_is : bl second.place ≡ Some body
-  typed : (body_seen sight index acc block (Some k) (Some t)).ty ≡ Some body.ty
-  declared : IsDeclared (types_at sight) body.ty
+  typed : (body_seen context index acc block (Some k) (Some t)).ty ≡ Some body.ty
+  declared : IsDeclared (types_at context) body.ty
 
-turn_becomes : (here : Instance → Bool) (sight : Sight) (env : Env) (place : CorePlace) → IsWellTyped sight env → StandsBeside here sight place
-    → (index acc : PatternPair) (il al : LowersPattern) (im am : PatternMeant) (body : BlockPair) (bl : Lowers) → PatternLowers index.1 il → PatternLowers acc.1 al → PatternGives index.1 im → PatternGives acc.1 am → BlockLowers body.1 bl
-    → (k t : DslxType) (v a : DslxValue) → GivesOf (types_at sight) k (Some v) → GivesOf (types_at sight) t (Some a)
-    → IsClean here (index_seen sight index (Some k)).faults (index_seen sight index (Some k)).reached
-    → IsClean here (acc_seen sight index acc (Some k) (Some t)).faults (acc_seen sight index acc (Some k) (Some t)).reached
-    → IsClean here (body_seen sight index acc body (Some k) (Some t)).faults (body_seen sight index acc body (Some k) (Some t)).reached
-    → TurnBecomes sight index acc body k t il al bl place
-turn_becomes here sight env place h at index acc il al im am body bl pi pa gi ga sb k t v a gk gt ci cp cb =
-    let i = index_seen sight index (Some k) in
-    let inner = with_typed sight i.locals in
-    let first = pi.lowers here false sight k [] sight.locals env place place h at at gk.declared ci in
-    let behind_index = gi.behind false sight k [] sight.locals env v h gk (ap has_broken ci.faults) in
+turn_lowers_to : (here : Instance → Bool) (context : TypeEnv) (env : Env) (place : CoreScope) → IsWellTypedEnv context env → ScopeMatchesEnv here context place
+    → (index acc : PatternPair) (il al : PatternLowering) (im am : PatternDen) (body : BlockPair) (bl : ExprLowering) → PatternLowers index.1 il → PatternLowers acc.1 al → PatternGives index.1 im → PatternGives acc.1 am → BlockLowers body.1 bl
+    → (k t : DslxType) (v a : DslxValue) → GivesOf (types_at context) k (Some v) → GivesOf (types_at context) t (Some a)
+    → IsClean here (index_seen context index (Some k)).faults (index_seen context index (Some k)).reached
+    → IsClean here (acc_seen context index acc (Some k) (Some t)).faults (acc_seen context index acc (Some k) (Some t)).reached
+    → IsClean here (body_seen context index acc body (Some k) (Some t)).faults (body_seen context index acc body (Some k) (Some t)).reached
+    → TurnLowersTo context index acc body k t il al bl place
+turn_lowers_to here context env place h at index acc il al im am body bl pi pa gi ga sb k t v a gk gt ci cp cb =
+    let i = index_seen context index (Some k) in
+    let inner = with_typed context i.locals in
+    let first = pi.lowers here false context k [] context.locals env place place h at at gk.declared ci in
+    let behind_index = gi.behind false context k [] context.locals env v h gk (ap has_broken ci.faults) in
     let second = pa.lowers here false inner t [] inner.locals behind_index.0 first.shape.place first.shape.place behind_index.1 first.behind first.behind gt.declared cp in
     let behind_acc = ga.behind false inner t [] inner.locals behind_index.0 a behind_index.1 gt (ap has_broken cp.faults) in
-    let b = block_becomes here (with_typed sight (acc_seen sight index acc (Some k) (Some t)).locals) behind_acc.0 second.shape.place body.1 bl sb behind_acc.1 second.behind (record { faults = cb.faults; reached = cb.reached }) in
+    let b = block_lowers_to here (with_typed context (acc_seen context index acc (Some k) (Some t)).locals) behind_acc.0 second.shape.place body.1 bl sb behind_acc.1 second.behind (record { faults = cb.faults; reached = cb.reached }) in
     record {
       first = first.shape;
       first_is = first.is;
@@ -124,11 +124,11 @@ turn_becomes here sight env place h at index acc il al im am body bl pi pa gi ga
 
 -- ---- loops
 
-loop_typed : (start index : LoweredExpr) (a b : SignedWord) (il al : LowersPattern) (bl : Lowers) (place : CorePlace) (first second : LoweredShape) (body : LoweredExpr) → lowered_at_place il place index.ty ≡ Some first
-    → lowered_at_place al first.place start.ty ≡ Some second → bl second.place ≡ Some body → (equal_type start.ty body.ty && nat_lt (turn_count a b) (2 ^ 64)) ≡ true
-    → type_of_lowered (loop_lowered (Some start) (Some index) (Some a) (Some b) il al bl place) ≡ Some start.ty
+loop_typed : (start index : LoweredExpr) (a b : SignedWord) (il al : PatternLowering) (bl : ExprLowering) (place : CoreScope) (first second : LoweredShape) (body : LoweredExpr) → lower_in_scope il place index.ty ≡ Some first
+    → lower_in_scope al first.place start.ty ≡ Some second → bl second.place ≡ Some body → (equal_type start.ty body.ty && nat_lt (turn_count a b) (2 ^ 64)) ≡ true
+    → type_of_lowered (lower_loop (Some start) (Some index) (Some a) (Some b) il al bl place) ≡ Some start.ty
 loop_typed start index a b il al bl place first second body f g k e =
-    ap (λ o. type_of_lowered (and_then o (λ i. and_then (lowered_at_place al i.place start.ty) (λ acc. and_then (bl acc.place) (λ body. where_true (equal_type start.ty body.ty && nat_lt (turn_count a b) (2 ^ 64))
+    ap (λ o. type_of_lowered (and_then o (λ i. and_then (lower_in_scope al i.place start.ty) (λ acc. and_then (bl acc.place) (λ body. where_true (equal_type start.ty body.ty && nat_lt (turn_count a b) (2 ^ 64))
     (lowered (core.Loop (turn_count a b) a.word i.shape acc.shape body.core start.core) start.ty)))))) f
     ∙ ap (λ o. type_of_lowered (and_then o (λ acc. and_then (bl acc.place) (λ body. where_true (equal_type start.ty body.ty && nat_lt (turn_count a b) (2 ^ 64))
     (lowered (core.Loop (turn_count a b) a.word first.shape acc.shape body.core start.core) start.ty))))) g
@@ -137,32 +137,32 @@ loop_typed start index a b il al bl place first second body f g k e =
     ∙ ap (λ t. type_of_lowered (where_true t (lowered (core.Loop (turn_count a b) a.word first.shape second.shape body.core start.core) start.ty))) e
 
 -- an annotation, if there is one, has a type
-annotation_there : (here : Instance → Bool) (sight : Sight) (env : Env) (place : CorePlace) → IsWellTyped sight env → StandsBeside here sight place → (span : Span) (written : Option TypePair) (g : Option Typing) → TypeStandsIf written g
-    → (index acc : Option DslxType) (t : DslxType) → acc ≡ Some t → loop_annotation span (written_judged sight written) index acc ≡ [] → list_all here (annotation_reached (written_judged sight written)) ≡ true
-    → (u : DslxType) × (annotated_type (written_judged sight written) acc ≡ Some u)
-annotation_there here sight env place h at span None None k index acc t own e r = (t, own)
-annotation_there here sight env place h at span None (Some g) k index acc t own e r = absurd k
-annotation_there here sight env place h at span (Some p) None k index acc t own e r = absurd k
-annotation_there here sight env place h at span (Some p) (Some g) k index acc t own e r =
-    let j = p.1 sight in
+annotation_there : (here : Instance → Bool) (context : TypeEnv) (env : Env) (place : CoreScope) → IsWellTypedEnv context env → ScopeMatchesEnv here context place → (span : Span) (written : Option TypePair) (g : Option TypeDen) → TypeHasDenIf written g
+    → (index acc : Option DslxType) (t : DslxType) → acc ≡ Some t → loop_annotation span (written_typing context written) index acc ≡ [] → list_all here (annotation_reached (written_typing context written)) ≡ true
+    → (u : DslxType) × (annotated_type (written_typing context written) acc ≡ Some u)
+annotation_there here context env place h at span None None k index acc t own e r = (t, own)
+annotation_there here context env place h at span None (Some g) k index acc t own e r = absurd k
+annotation_there here context env place h at span (Some p) None k index acc t own e r = absurd k
+annotation_there here context env place h at span (Some p) (Some g) k index acc t own e r =
+    let j = p.1 context in
     let faults = (none_in j.faults (wanted_faults span j.ty (with_both index acc (λ i a. Some (ty.Tuple (i ∷ a ∷ []))))) e).0 in
-    k.known sight env h (fine_there here sight place j at (record { faults = faults; reached = r }))
+    k.known context env h (well_typed_there here context place j at (record { faults = faults; reached = r }))
 
-pub loop_lowers : (span body_span : Span) (from to start : ExprPair) (x y z : Lowers) (written : Option TypePair) (g : Option Typing) (index acc : PatternPair) (il al : LowersPattern) (im am : PatternMeant) (body : BlockPair) (bl : Lowers)
-    → ExprLowers from x → ExprLowers to y → ExprLowers start z → TypeStandsIf written g → PatternLowers index.1 il → PatternLowers acc.1 al → PatternGives index.1 im → PatternGives acc.1 am → BlockLowers body.1 bl
+pub lower_total_loop : (span body_span : Span) (from to start : ExprPair) (x y z : ExprLowering) (written : Option TypePair) (g : Option TypeDen) (index acc : PatternPair) (il al : PatternLowering) (im am : PatternDen) (body : BlockPair) (bl : ExprLowering)
+    → ExprLowers from x → ExprLowers to y → ExprLowers start z → TypeHasDenIf written g → PatternLowers index.1 il → PatternLowers acc.1 al → PatternGives index.1 im → PatternGives acc.1 am → BlockLowers body.1 bl
     → PartLowers
-    (λ sight. loop_with span body_span (loop_at sight from to start written index acc body (same_ends (constant_of sight from).judgement.ty (constant_of sight to).judgement.ty)))
-    (λ place. loop_lowered (z place) (x place) (and_then (constant_at place from.0) bits_of) (and_then (constant_at place to.0) bits_of) il al bl place)
-loop_lowers span body_span from to start x y z written g index acc il al im am body bl sx sy sz st pi pa gi ga' sb here sight env place h at fine =
-    let c = constant_of sight from in
-    let d = constant_of sight to in
-    let a = alone sight start in
-    let w = written_judged sight written in
+    (λ context. loop_with span body_span (loop_at context from to start written index acc body (same_ends (constant_of context from).judgement.ty (constant_of context to).judgement.ty)))
+    (λ place. lower_loop (z place) (x place) (and_then (constant_at place from.0) bits_of) (and_then (constant_at place to.0) bits_of) il al bl place)
+lower_total_loop span body_span from to start x y z written g index acc il al im am body bl sx sy sz st pi pa gi ga' sb here context env place h at well_typed =
+    let c = constant_of context from in
+    let d = constant_of context to in
+    let a = alone context start in
+    let w = written_typing context written in
     let ends = same_ends c.judgement.ty d.judgement.ty in
-    let seen = loop_at sight from to start written index acc body ends in
-    let i = index_seen sight index ends in
-    let p = acc_seen sight index acc ends a.ty in
-    let b = body_seen sight index acc body ends a.ty in
+    let seen = loop_at context from to start written index acc body ends in
+    let i = index_seen context index ends in
+    let p = acc_seen context index acc ends a.ty in
+    let b = body_seen context index acc body ends a.ty in
     let three = (c.judgement.faults ++ d.judgement.faults) ++ a.faults in
     let six = ((three ++ i.faults) ++ p.faults) ++ b.faults in
     let range = unless_types one_bit_type 26 span c.judgement.ty d.judgement.ty in
@@ -170,7 +170,7 @@ loop_lowers span body_span from to start x y z written g index acc il al im am b
     let wanted = wanted_faults body_span a.ty b.ty in
     let limit = turn_limit span.to (turns_of c.value d.value) in
     let ends_reached = (c.judgement.reached ++ d.judgement.reached) ++ a.reached in
-    let s = settled_fine (reaching sight.known here) span (loop_type seen) (loop_parts_faults seen ++ loop_faults span body_span seen) (loop_reached seen) (loop_size seen) fine in
+    let s = settled_well_typed (reaching context.known here) span (loop_type seen) (loop_parts_faults seen ++ loop_faults span body_span seen) (loop_reached seen) (loop_size seen) well_typed in
     let both = none_in six (loop_faults span body_span seen) s.faults in
     let q = none_in_three (range ++ annotation) wanted limit both.1 in
     let r = none_in range annotation q.0 in
@@ -181,45 +181,45 @@ loop_lowers span body_span from to start x y z written g index acc il al im am b
     let l = all_in_three here (ends_reached ++ annotation_reached w) i.reached p.reached k.0 in
     let m = all_in here ends_reached (annotation_reached w) l.0 in
     let n = all_in_three here c.judgement.reached d.judgement.reached a.reached m.0 in
-    let fc : IsFine (reaching sight.known here) c.judgement = record { faults = f.0; reached = n.0 } in
-    let fd : IsFine (reaching sight.known here) d.judgement = record { faults = f.1; reached = n.1 } in
-    let gc = constant_has sight env from sx.meaning sx.gives h (fine_there here sight place c.judgement at fc) in
-    let gd = constant_has sight env to sy.meaning sy.gives h (fine_there here sight place d.judgement at fd) in
-    let local = breaks_if (names_a_local sight from) 5 (span_of from) in
-    let first = alone sight from in
-    let alone_faults = (none_in_three first.faults local (size_faults sight.known (span_of from).to (record first { faults = first.faults ++ local })) f.0).0 in
-    let gx = alone_becomes here sight env place from x sx h at alone_faults n.0 in
-    let gz = alone_becomes here sight env place start z sz h at f.2 n.2 in
-    let annotated = annotation_there here sight env place h at span written g st ends a.ty gz.expr.ty gz.typed r.1 m.1 in
+    let fc : IsWellTypedPart (reaching context.known here) c.judgement = record { faults = f.0; reached = n.0 } in
+    let fd : IsWellTypedPart (reaching context.known here) d.judgement = record { faults = f.1; reached = n.1 } in
+    let gc = constant_has context env from sx.meaning sx.gives h (well_typed_there here context place c.judgement at fc) in
+    let gd = constant_has context env to sy.meaning sy.gives h (well_typed_there here context place d.judgement at fd) in
+    let local = breaks_if (names_a_local context from) 5 (span_of from) in
+    let first = alone context from in
+    let alone_faults = (none_in_three first.faults local (size_faults context.known (span_of from).to (record first { faults = first.faults ++ local })) f.0).0 in
+    let gx = alone_lowers_to here context env place from x sx h at alone_faults n.0 in
+    let gz = alone_lowers_to here context env place start z sz h at f.2 n.2 in
+    let annotated = annotation_there here context env place h at span written g st ends a.ty gz.expr.ty gz.typed r.1 m.1 in
     let index_type = gx.expr.ty in
     let from_typed : c.judgement.ty ≡ Some index_type = ap (λ o. and_then o (λ v. first.ty)) gc.known ∙ gx.typed in
     let acc_type = gz.expr.ty in
     let one = and_true (is_bits index_type) (same_type index_type gd.ty) (passed (one_bit_type index_type gd.ty) 26 span ((λ e. unless_types one_bit_type 26 span (sym from_typed e) (sym gd.typed e)) ∙ r.0)) in
     let alike : ends ≡ Some index_type = (λ e. same_ends (from_typed e) (gd.typed e)) ∙ (λ e. if (one.0 e && one.1 e) then Some index_type else None) in
-    let first_value : GivesOf (types_at sight) index_type (Some gc.gives.value) =
-    subst (λ t. GivesOf (types_at sight) t (Some gc.gives.value)) (same_some gc.ty index_type (sym gc.typed ∙ from_typed)) (record { value = gc.gives.value; is = refl; of = gc.gives.of; declared = gc.gives.declared }) in
-    let last_value : GivesOf (types_at sight) index_type (Some gd.gives.value) =
-    subst (λ t. GivesOf (types_at sight) t (Some gd.gives.value)) (sym (one_of_text (types_at sight) index_type gd.ty one.1 gx.declared gd.gives.declared)) (record { value = gd.gives.value; is = refl; of = gd.gives.of; declared = gd.gives.declared }) in
-    let low = bits_there (types_at sight) index_type gc.gives.value first_value one.0 in
-    let high = bits_there (types_at sight) index_type gd.gives.value last_value one.0 in
+    let first_value : GivesOf (types_at context) index_type (Some gc.gives.value) =
+    subst (λ t. GivesOf (types_at context) t (Some gc.gives.value)) (same_some gc.ty index_type (sym gc.typed ∙ from_typed)) (record { value = gc.gives.value; is = refl; of = gc.gives.of; declared = gc.gives.declared }) in
+    let last_value : GivesOf (types_at context) index_type (Some gd.gives.value) =
+    subst (λ t. GivesOf (types_at context) t (Some gd.gives.value)) (sym (one_of_text (types_at context) index_type gd.ty one.1 gx.declared gd.gives.declared)) (record { value = gd.gives.value; is = refl; of = gd.gives.of; declared = gd.gives.declared }) in
+    let low = bits_there (types_at context) index_type gc.gives.value first_value one.0 in
+    let high = bits_there (types_at context) index_type gd.gives.value last_value one.0 in
     let from_word : SignedWord = record { signed = low.kind.signed; word = low.word } in
     let to_word : SignedWord = record { signed = high.kind.signed; word = high.word } in
     let count = turn_count from_word to_word in
     let few = few_turns span.to count
     (sym (ap (turn_limit span.to) ((λ e. turns_of (gc.known e) (gd.known e)) ∙ (λ e. with_both (low.is e) (high.is e) (λ x y. if of_one_type x y then Some (turn_count x y) else None))
     ∙ ap (λ b. if b then Some count else None) (one_type_of index_type gc.gives.value gd.gives.value low high))) ∙ q.2) in
-    let seen_index = ap (index_seen sight index) alike in
-    let seen_acc : p ≡ acc_seen sight index acc (Some index_type) (Some acc_type) = λ e. acc_seen sight index acc (alike e) (gz.typed e) in
-    let seen_body : b ≡ body_seen sight index acc body (Some index_type) (Some acc_type) = λ e. body_seen sight index acc body (alike e) (gz.typed e) in
-    let turn = turn_becomes here sight env place h at index acc il al im am body bl pi pa gi ga' sb index_type acc_type gc.gives.value gz.value first_value gz.given
+    let seen_index = ap (index_seen context index) alike in
+    let seen_acc : p ≡ acc_seen context index acc (Some index_type) (Some acc_type) = λ e. acc_seen context index acc (alike e) (gz.typed e) in
+    let seen_body : b ≡ body_seen context index acc body (Some index_type) (Some acc_type) = λ e. body_seen context index acc body (alike e) (gz.typed e) in
+    let turn = turn_lowers_to here context env place h at index acc il al im am body bl pi pa gi ga' sb index_type acc_type gc.gives.value gz.value first_value gz.given
     (record { faults = ap (λ (s : PatternSeen). s.faults) (sym seen_index) ∙ v.1; reached = ap (λ (s : PatternSeen). list_all here s.reached) (sym seen_index) ∙ l.1 })
     (record { faults = ap (λ (s : PatternSeen). s.faults) (sym seen_acc) ∙ v.2; reached = ap (λ (s : PatternSeen). list_all here s.reached) (sym seen_acc) ∙ l.2 })
     (record { faults = ap (λ (j : Judgement). j.faults) (sym seen_body) ∙ u.1; reached = ap (λ (j : Judgement). list_all here j.reached) (sym seen_body) ∙ k.1 }) in
     let body_typed : b.ty ≡ Some turn.body.ty = ap (λ (j : Judgement). j.ty) seen_body ∙ turn.typed in
     let like = passed (same_type acc_type turn.body.ty) 9 body_span ((λ e. wanted_faults body_span (sym gz.typed e) (sym body_typed e)) ∙ q.1) in
-    let same = equal_of_text (types_at sight) acc_type turn.body.ty like gz.declared turn.declared in
-    let from_there = ap (λ o. and_then o bits_of) (constant_there here sight env place from sx.meaning sx.gives h at fc gc.gives.value gc.known) ∙ low.is in
-    let to_there = ap (λ o. and_then o bits_of) (constant_there here sight env place to sy.meaning sy.gives h at fd gd.gives.value gd.known) ∙ high.is in
-    (λ e. type_of_lowered (loop_lowered (gz.is e) (gx.is e) (from_there e) (to_there e) il al bl place))
+    let same = equal_of_text (types_at context) acc_type turn.body.ty like gz.declared turn.declared in
+    let from_there = ap (λ o. and_then o bits_of) (constant_there here context env place from sx.meaning sx.gives h at fc gc.gives.value gc.known) ∙ low.is in
+    let to_there = ap (λ o. and_then o bits_of) (constant_there here context env place to sy.meaning sy.gives h at fd gd.gives.value gd.known) ∙ high.is in
+    (λ e. type_of_lowered (lower_loop (gz.is e) (gx.is e) (from_there e) (to_there e) il al bl place))
     ∙ loop_typed gz.expr gx.expr from_word to_word il al bl place turn.first turn.second turn.body turn.first_is turn.second_is turn.body_is (λ e. same e && few e)
     ∙ sym (λ e. and_then (alike e) (λ i. and_then (body_typed e) (λ t. and_then (annotated.1 e) (λ u. gz.typed e)))) ∙ sym s.ty

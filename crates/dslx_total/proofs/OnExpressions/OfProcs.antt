@@ -14,30 +14,30 @@ use Rattle.dslx_meaning.specs.Lists.{and_then, where_true}
 use Rattle.dslx_meaning.specs.Environment.{Env, Meanings, bind}
 use Rattle.dslx_meaning.specs.Rules.AggregateRules.{wanted_faults}
 use Rattle.dslx_meaning.specs.Rules.ConstantRules.{size_faults}
-use Rattle.dslx_meaning.specs.Rules.ItemRules.{and_found, body_judged, found_in, judged_type, only_faults, parameters_found}
-use Rattle.dslx_meaning.specs.Rules.Judging.{Instance, Known, Outlet, Sight, Typed, passes_count, with_typed}
+use Rattle.dslx_meaning.specs.Rules.ItemRules.{and_found, body_typing, found_in, typing_of_type, only_faults, parametrics_found}
+use Rattle.dslx_meaning.specs.Rules.TypeEnvs.{Instance, GlobalEnv, ChannelEnd, TypeEnv, Typed, passes_count, with_typed}
 use Rattle.dslx_meaning.specs.Rules.NameRules.{local_name}
 use Rattle.dslx_meaning.specs.Rules.NodeRules.{block_pair}
-use Rattle.dslx_meaning.specs.Rules.ProcRules.{count_sites, ends_found, proc_sight}
-use Rattle.dslx_typing.specs.Typed.WellTyped.{IsWellTyped, types_at}
+use Rattle.dslx_meaning.specs.Rules.ProcRules.{count_sites, ends_found, proc_type_env}
+use Rattle.dslx_typing.specs.Typed.WellTyped.{IsWellTypedEnv, types_at}
 use Rattle.dslx_typing.specs.Typed.Numbers.{AllOwn}
 use Rattle.dslx_typing.specs.Typed.Declared.{AllDeclared, Declarations, DeclaresParts, IsDeclared}
 use Rattle.dslx_typing.proofs.Lemmas.Typed.{bound_keeps, element_declared, parts_declared, struct_declared, type_induction}
 use Rattle.dslx_typing.specs.Complete.Acts.{acts_found}
 use Rattle.dslx_typing.proofs.Lemmas.Sound.{all_in, none_in, passed}
-use Rattle.dslx_core.specs.Lowering.CorePlaces.{CoreKnown, CorePlace, with_local}
+use Rattle.dslx_core.specs.Lowering.CoreScopes.{BodyEnv, CoreScope, with_local}
 use Rattle.dslx_core.specs.Lowering.EqualTypes.{equal_type}
-use Rattle.dslx_core.specs.Lowering.Functions.{numbers_stand, outer_place}
-use Rattle.dslx_core.specs.Lowering.Steps.{LoweredNext, is_sized, next_lowered, sized_step, steps_from}
-use Rattle.dslx_core.specs.Lowering.Trees.{type_of_text_lowered}
-use Rattle.dslx_total.specs.Expressions.Beside.{StandsBeside}
-use Rattle.dslx_total.specs.Expressions.Lowers.{IsClean}
-use Rattle.dslx_total.specs.Expressions.NextSteps.{MembersStand}
-use Rattle.dslx_total.specs.Expressions.Nexts.{NextIsLowered, members_sight}
+use Rattle.dslx_core.specs.Lowering.Functions.{parametric_args_are_well_typed, outer_scope}
+use Rattle.dslx_core.specs.Lowering.Steps.{LoweredNext, is_sized, lower_next, sized_step, steps_from}
+use Rattle.dslx_core.specs.Lowering.Trees.{lower_type_of_text}
+use Rattle.dslx_total.specs.Expressions.Beside.{ScopeMatchesEnv}
+use Rattle.dslx_total.specs.Expressions.ExprLowering.{IsClean}
+use Rattle.dslx_total.specs.Expressions.NextSteps.{MembersExist}
+use Rattle.dslx_total.specs.Expressions.Nexts.{NextLowersAsTyped, members_type_env}
 use Rattle.dslx_total.proofs.OnExpressions.Equal.{equal_of_text}
 use Rattle.dslx_total.proofs.OnExpressions.Inhabited.{some_value}
-use Rattle.dslx_total.proofs.OnExpressions.Joined.{type_part_becomes}
-use Rattle.dslx_total.proofs.OnExpressions.OfInstances.{numbers_stand_there, plain_name}
+use Rattle.dslx_total.proofs.OnExpressions.Joined.{type_part_lowers_to}
+use Rattle.dslx_total.proofs.OnExpressions.OfInstances.{parametric_args_are_well_typed_there, plain_name}
 use Rattle.dslx_total.proofs.OnExpressions.OfNext.{block_of_next}
 use Rattle.dslx_total.proofs.OnExpressions.OfPatterns.{local_beside}
 use Rattle.xb_value.proofs.Lemmas.Types.{EachHas}
@@ -67,10 +67,10 @@ sized_there types parts = type_induction (IsSized types)
 -- ---- members in sight
 
 -- types don't see the members of the proc
-typed_with : (sight : Sight) (members : List Outlet) (env : Env) → IsWellTyped sight env → IsWellTyped (record sight { members = members }) env
-typed_with sight members env h = record {
+typed_with : (context : TypeEnv) (members : List ChannelEnd) (env : Env) → IsWellTypedEnv context env → IsWellTypedEnv (record context { members = members }) env
+typed_with context members env h = record {
   locals = h.locals;
-  numbers = h.numbers;
+  parametric_args = h.parametric_args;
   constants = h.constants;
   members = h.members;
   kinds = h.kinds;
@@ -81,68 +81,68 @@ typed_with sight members env h = record {
   known = h.known;
 }
 
-stands_with : (here : Instance → Bool) (sight : Sight) (members : List Outlet) (place : CorePlace) → StandsBeside here sight place → StandsBeside here (record sight { members = members }) place
-stands_with here sight members place at =
-    record { items = at.items; numbers = at.numbers; locals = at.locals; sound = at.sound; calls = at.calls; widths = at.widths; constants = at.constants }
+stands_with : (here : Instance → Bool) (context : TypeEnv) (members : List ChannelEnd) (place : CoreScope) → ScopeMatchesEnv here context place → ScopeMatchesEnv here (record context { members = members }) place
+stands_with here context members place at =
+    record { items = at.items; parametric_args = at.parametric_args; locals = at.locals; sound = at.sound; calls = at.calls; widths = at.widths; constants = at.constants }
 
 -- ---- next
 
-pub next_is_lowered : (here : Instance → Bool) (known : Known) (p : Proc) (numbers : List DslxValue) (env : Env) (core : CoreKnown) → AllOwn known.items.type_named numbers
-    → IsWellTyped (proc_sight known p numbers) env → StandsBeside here (proc_sight known p numbers) (outer_place core) → MembersStand (members_sight known p numbers) (outer_place core) p.members
-    → IsClean here (acts_found known p numbers).faults (acts_found known p numbers).reached → NextIsLowered known p numbers (next_lowered core p)
-next_is_lowered here known p numbers env core own h at members clean =
-    let sight = proc_sight known p numbers in
-    let outer = outer_place core in
+pub lower_total_next : (here : Instance → Bool) (known : GlobalEnv) (p : Proc) (parametric_args : List DslxValue) (env : Env) (core : BodyEnv) → AllOwn known.items.type_named parametric_args
+    → IsWellTypedEnv (proc_type_env known p parametric_args) env → ScopeMatchesEnv here (proc_type_env known p parametric_args) (outer_scope core) → MembersExist (members_type_env known p parametric_args) (outer_scope core) p.members
+    → IsClean here (acts_found known p parametric_args).faults (acts_found known p parametric_args).reached → NextLowersAsTyped known p parametric_args (lower_next core p)
+lower_total_next here known p parametric_args env core own h at members clean =
+    let context = proc_type_env known p parametric_args in
+    let outer = outer_scope core in
     let name = p.next.state.name in
     let body = p.next.body in
     let span = (out-Block body).span in
-    let state = judged_type sight p.next.ty in
-    let inside = members_sight known p numbers in
+    let state = typing_of_type context p.next.ty in
+    let inside = members_type_env known p parametric_args in
     let local : Typed = record { name = name; ty = state.ty } in
-    let inner : Sight = record inside { locals = local ∷ [] } in
-    let judged = body_judged true inner state.ty body in
-    let parameters = parameters_found known p.name.name [] [] p.parameters numbers in
-    let ends = ends_found sight [] p.members in
-    let init = body_judged false inside state.ty p.init in
-    let names = local_name sight [] p.next.state in
+    let inner : TypeEnv = record inside { locals = local ∷ [] } in
+    let typing = body_typing true inner state.ty body in
+    let parametrics = parametrics_found known p.name.name [] [] p.parametrics parametric_args in
+    let ends = ends_found context [] p.members in
+    let init = body_typing false inside state.ty p.init in
+    let names = local_name context [] p.next.state in
     let sites = only_faults (passes_count what.Sites 32 p.span.to (count_sites (out-Block body).statements)) in
-    let f7 = and_found (found_in judged) sites in
+    let f7 = and_found (found_in typing) sites in
     let f6 = and_found (found_in state) f7 in
     let f5 = and_found (only_faults names) f6 in
     let f4 = and_found (found_in init) f5 in
     let f2 = and_found ends f4 in
-    let a1 = none_in parameters.faults f2.faults clean.faults in
+    let a1 = none_in parametrics.faults f2.faults clean.faults in
     let a2 = none_in ends.faults f4.faults a1.1 in
     let a4 = none_in init.faults f5.faults a2.1 in
     let a5 = none_in names f6.faults a4.1 in
     let a6 = none_in state.faults f7.faults a5.1 in
-    let a7 = none_in judged.faults sites.faults a6.1 in
-    let r1 = all_in here parameters.reached f2.reached clean.reached in
+    let a7 = none_in typing.faults sites.faults a6.1 in
+    let r1 = all_in here parametrics.reached f2.reached clean.reached in
     let r2 = all_in here ends.reached f4.reached r1.1 in
     let r4 = all_in here init.reached f5.reached r2.1 in
     let r6 = all_in here state.reached f7.reached r4.1 in
-    let r7 = all_in here judged.reached sites.reached r6.1 in
-    let t = type_part_becomes here sight env outer p.next.ty h at (record { faults = a6.0; reached = r6.0 }) in
-    let plain = plain_name sight h.known [] p.next.state a5.0 in
-    let v = some_value (types_at sight) h.known.parts t.ty t.declared in
-    let h' = subst (λ o. IsWellTyped (with_typed sight (record { name = name; ty = o } ∷ [])) (bind name v.0 env)) (sym t.typed) (bound_keeps sight [] env name t.ty v.0 h v.1 plain) in
-    let at' = subst (λ o. StandsBeside here (with_typed sight (record { name = name; ty = o } ∷ [])) (with_local name t.ty outer)) (sym t.typed) (local_beside here sight [] outer name t.ty at) in
+    let r7 = all_in here typing.reached sites.reached r6.1 in
+    let t = type_part_lowers_to here context env outer p.next.ty h at (record { faults = a6.0; reached = r6.0 }) in
+    let plain = plain_name context h.known [] p.next.state a5.0 in
+    let v = some_value (types_at context) h.known.parts t.ty t.declared in
+    let h' = subst (λ o. IsWellTypedEnv (with_typed context (record { name = name; ty = o } ∷ [])) (bind name v.0 env)) (sym t.typed) (bound_keeps context [] env name t.ty v.0 h v.1 plain) in
+    let at' = subst (λ o. ScopeMatchesEnv here (with_typed context (record { name = name; ty = o } ∷ [])) (with_local name t.ty outer)) (sym t.typed) (local_beside here context [] outer name t.ty at) in
     let j = (block_pair body).1 true inner in
     let wrong = wanted_faults span state.ty j.ty in
     let size = size_faults known span.to (record j { faults = j.faults ++ wrong }) in
-    let fine = none_in j.faults wrong (none_in (j.faults ++ wrong) size a7.0).0 in
-    let e = block_of_next body here inner (bind name v.0 env) outer (with_local name t.ty outer) p.members (typed_with (with_typed sight (local ∷ [])) inside.members (bind name v.0 env) h')
-    (stands_with here (with_typed sight (local ∷ [])) inside.members (with_local name t.ty outer) at') members (record { faults = fine.0; reached = r7.0 }) in
-    let same = passed (same_type t.ty e.steps.next.ty) 9 span ((λ i. wanted_faults span (sym t.typed i) (sym e.typed i)) ∙ fine.1) in
-    let equal = equal_of_text (types_at sight) t.ty e.steps.next.ty same t.declared e.declared in
-    let stand = (λ i. numbers_stand (at.items i) (at.numbers i)) ∙ numbers_stand_there known h.known p.name.name [] [] p.parameters numbers a1.0 own refl in
+    let well_typed = none_in j.faults wrong (none_in (j.faults ++ wrong) size a7.0).0 in
+    let e = block_of_next body here inner (bind name v.0 env) outer (with_local name t.ty outer) p.members (typed_with (with_typed context (local ∷ [])) inside.members (bind name v.0 env) h')
+    (stands_with here (with_typed context (local ∷ [])) inside.members (with_local name t.ty outer) at') members (record { faults = well_typed.0; reached = r7.0 }) in
+    let same = passed (same_type t.ty e.steps.next.ty) 9 span ((λ i. wanted_faults span (sym t.typed i) (sym e.typed i)) ∙ well_typed.1) in
+    let equal = equal_of_text (types_at context) t.ty e.steps.next.ty same t.declared e.declared in
+    let stand = (λ i. parametric_args_are_well_typed (at.items i) (at.parametric_args i)) ∙ parametric_args_are_well_typed_there known h.known p.name.name [] [] p.parametrics parametric_args a1.0 own refl in
     let free = ap (λ (items : Meanings). not (items.is_constant name)) at.items ∙ ap not plain in
     let next : LoweredNext = record { state = t.ty; steps = e.steps.steps; next = e.steps.next.core } in
     record {
       next = next;
-      is = ap (λ b. where_true b (and_then (type_of_text_lowered p.next.ty outer) (λ t. where_true (is_sized t) (steps_from outer p t)))) (λ i. stand i && free i)
+      is = ap (λ b. where_true b (and_then (lower_type_of_text p.next.ty outer) (λ t. where_true (is_sized t) (steps_from outer p t)))) (λ i. stand i && free i)
           ∙ ap (λ o. and_then o (λ t. where_true (is_sized t) (steps_from outer p t))) t.is
-          ∙ ap (λ b. where_true b (steps_from outer p t.ty)) (sized_there (types_at sight) h.known.parts t.ty t.declared)
+          ∙ ap (λ b. where_true b (steps_from outer p t.ty)) (sized_there (types_at context) h.known.parts t.ty t.declared)
           ∙ ap (λ o. and_then o (λ s. where_true (equal_type t.ty s.next.ty) (Some (record { state = t.ty; steps = s.steps; next = s.next.core })))) e.is
           ∙ ap (λ b. where_true b (Some next)) equal;
       state = t.typed;

@@ -15,111 +15,111 @@ use Rattle.dslx_meaning.specs.Items.{as_struct, item_named, name_of_field}
 use Rattle.dslx_meaning.specs.declared.ty.DslxType.{DslxType, out-DslxType}
 use Rattle.dslx_meaning.specs.declared.ty.DslxType as ty
 use Rattle.dslx_meaning.specs.declared.ty.DslxType.TheViews as views
-use Rattle.dslx_meaning.specs.Rules.AggregateRules.{field_judged, field_type, has_twice, lacks_one, others_judged, struct_field_type, struct_if, struct_judged, struct_with, unknown_fields, wanted_faults, when_all, written_fields}
-use Rattle.dslx_meaning.specs.Rules.Judging.{ExprPair, Instance, Judgement, Sight, alone, breaks, breaks_if, faults_of_all, no_token, one_and, plus_size, reached_of_all, size_of_all, span_of, types_of}
-use Rattle.dslx_meaning.specs.Rules.Judgings.{FieldSeen}
+use Rattle.dslx_meaning.specs.Rules.AggregateRules.{field_typing, field_type, has_twice, lacks_one, others_typing, struct_field_type, struct_if, struct_typing, struct_with, unknown_fields, wanted_faults, when_all, written_fields}
+use Rattle.dslx_meaning.specs.Rules.TypeEnvs.{ExprPair, Instance, Judgement, TypeEnv, alone, breaks, breaks_if, faults_of_all, no_token, one_and, plus_size, reached_of_all, size_of_all, span_of, types_of}
+use Rattle.dslx_meaning.specs.Rules.Typings.{FieldSeen}
 use Rattle.dslx_meaning.specs.Rules.Mentions.{is_cyclic}
-use Rattle.dslx_meaning.specs.Rules.NameRules.{name_judged}
+use Rattle.dslx_meaning.specs.Rules.NameRules.{name_typing}
 use Rattle.dslx_meaning.specs.Rules.PatternRules.{is_there}
 use Rattle.dslx_typing.proofs.Lemmas.Laws.{and_true}
-use Rattle.dslx_typing.specs.Typed.Complete.{IsFine, IsStructKnown}
+use Rattle.dslx_typing.specs.Typed.Complete.{IsWellTypedPart, IsStructKnown}
 use Rattle.dslx_typing.specs.Typed.Declared.{AllDeclared, IsDeclared}
 use Rattle.dslx_typing.specs.Typed.Given.{OwnTypes}
-use Rattle.dslx_typing.specs.Typed.WellTyped.{IsWellTyped, types_at}
+use Rattle.dslx_typing.specs.Typed.WellTyped.{IsWellTypedEnv, types_at}
 use Rattle.dslx_typing.proofs.Lemmas.Typed.{all_are, not_false, one_of_text, or_false, struct_declared}
-use Rattle.dslx_typing.proofs.Lemmas.Sound.{all_in, none_in, none_in_three, not_broken, passed, settled_fine, some_fault}
+use Rattle.dslx_typing.proofs.Lemmas.Sound.{all_in, none_in, none_in_three, not_broken, passed, settled_well_typed, some_fault}
 use Rattle.dslx_core.specs.declared.expr.CoreExpr as core
 use Rattle.dslx_core.specs.declared.expr.Shape as shape
-use Rattle.dslx_core.specs.Lowering.CorePlaces.{CorePlace, with_unnamed}
+use Rattle.dslx_core.specs.Lowering.CoreScopes.{CoreScope, with_unnamed}
 use Rattle.dslx_core.specs.Lowering.EqualTypes.{equal_type}
-use Rattle.dslx_core.specs.Lowering.Lowering.{LoweredExpr, cores_of, field_lowered, lowered}
-use Rattle.dslx_core.specs.Lowering.Patterns.{Lowers}
-use Rattle.dslx_core.specs.Lowering.Trees.{LoweredPair, LowersField, field_or_other, fields_lowered, names_written, of_type, others_of, struct_fields, struct_lowered_in, value_written, with_others, without_others}
-use Rattle.dslx_total.specs.Expressions.Beside.{StandsBeside}
-use Rattle.dslx_total.specs.Expressions.Lowers.{ExprLowers, IsClean, PartLowers, reaching, type_of_lowered}
+use Rattle.dslx_core.specs.Lowering.Lowering.{LoweredExpr, cores_of, lower_field, lowered}
+use Rattle.dslx_core.specs.Lowering.Patterns.{ExprLowering}
+use Rattle.dslx_core.specs.Lowering.Trees.{LoweredPair, FieldLowering, field_or_other, lower_fields, names_written, of_type, others_of, struct_fields, lower_struct_in, value_written, with_others, without_others}
+use Rattle.dslx_total.specs.Expressions.Beside.{ScopeMatchesEnv}
+use Rattle.dslx_total.specs.Expressions.ExprLowering.{ExprLowers, IsClean, PartLowers, reaching, type_of_lowered}
 use Rattle.dslx_total.proofs.OnExpressions.Equal.{equal_itself, equal_of_text}
 use Rattle.dslx_total.proofs.OnExpressions.OfOperations.{field_typed}
-use Rattle.dslx_total.proofs.OnExpressions.Parts.{Becomes, alone_becomes, typed_there}
+use Rattle.dslx_total.proofs.OnExpressions.Parts.{LowersTo, alone_lowers_to, typed_there}
 
 -- ---- fields that are written
 
-pub record FieldLowers (f : FieldSeen) (w : LowersField) : Type 0 where
+pub record FieldLowers (f : FieldSeen) (w : FieldLowering) : Type 0 where
   pub name : f.name.name ≡ w.name
-  pub lowers : (here : Instance → Bool) (sight : Sight) (struct : Option DslxType) (env : Env) (place : CorePlace) → IsWellTyped sight env → StandsBeside here sight place
-      → IsFine (reaching sight.known here) (field_judged sight struct f) → Becomes (types_at sight) (field_judged sight struct f) (w.value place)
+  pub lowers : (here : Instance → Bool) (context : TypeEnv) (struct : Option DslxType) (env : Env) (place : CoreScope) → IsWellTypedEnv context env → ScopeMatchesEnv here context place
+      → IsWellTypedPart (reaching context.known here) (field_typing context struct f) → LowersTo (types_at context) (field_typing context struct f) (w.value place)
 
-abbrev pub EachFieldLowers : List FieldSeen → List LowersField → Type 0
+abbrev pub EachFieldLowers : List FieldSeen → List FieldLowering → Type 0
 EachFieldLowers [] [] = Unit {0}
 EachFieldLowers (f ∷ fs) (w ∷ ws) = FieldLowers f w × EachFieldLowers fs ws
 EachFieldLowers [] (w ∷ ws) = ⊥
 EachFieldLowers (f ∷ fs) [] = ⊥
 
 -- a field, by whether an expression is written
-abbrev field_by : Sight → Option DslxType → FieldSeen → Option ExprPair → Judgement
-field_by sight struct f None = let j = no_token f.name.span (name_judged f.name.span sight f.name.name) in record j { faults = j.faults ++ wanted_faults f.name.span (field_type struct f.name.name) j.ty }
-field_by sight struct f (Some e) = let j = alone sight e in record j { faults = j.faults ++ wanted_faults (span_of e) (field_type struct f.name.name) j.ty }
+abbrev field_by : TypeEnv → Option DslxType → FieldSeen → Option ExprPair → Judgement
+field_by context struct f None = let j = no_token f.name.span (name_typing f.name.span context f.name.name) in record j { faults = j.faults ++ wanted_faults f.name.span (field_type struct f.name.name) j.ty }
+field_by context struct f (Some e) = let j = alone context e in record j { faults = j.faults ++ wanted_faults (span_of e) (field_type struct f.name.name) j.ty }
 
 -- the faults of a field have that of another type than the struct's
-wanted_in : (sight : Sight) (struct : Option DslxType) (f : FieldSeen) → (field_judged sight struct f).faults ≡ [] → (span : Span) × (wanted_faults span (field_type struct f.name.name) (field_judged sight struct f).ty ≡ [])
-wanted_in sight struct f e = by_value f.value e
+wanted_in : (context : TypeEnv) (struct : Option DslxType) (f : FieldSeen) → (field_typing context struct f).faults ≡ [] → (span : Span) × (wanted_faults span (field_type struct f.name.name) (field_typing context struct f).ty ≡ [])
+wanted_in context struct f e = by_value f.value e
   where
-    by_value : (o : Option ExprPair) → (field_by sight struct f o).faults ≡ [] → (span : Span) × (wanted_faults span (field_type struct f.name.name) (field_by sight struct f o).ty ≡ [])
+    by_value : (o : Option ExprPair) → (field_by context struct f o).faults ≡ [] → (span : Span) × (wanted_faults span (field_type struct f.name.name) (field_by context struct f o).ty ≡ [])
     by_value None q =
-        let j = no_token f.name.span (name_judged f.name.span sight f.name.name) in
+        let j = no_token f.name.span (name_typing f.name.span context f.name.name) in
         (f.name.span, (none_in j.faults (wanted_faults f.name.span (field_type struct f.name.name) j.ty) q).1)
-    by_value (Some x) q = (span_of x, (none_in (alone sight x).faults (wanted_faults (span_of x) (field_type struct f.name.name) (alone sight x).ty) q).1)
+    by_value (Some x) q = (span_of x, (none_in (alone context x).faults (wanted_faults (span_of x) (field_type struct f.name.name) (alone context x).ty) q).1)
 
-names_same : (fs : List FieldSeen) (ws : List LowersField) → EachFieldLowers fs ws → names_written ws ≡ written_fields fs
+names_same : (fs : List FieldSeen) (ws : List FieldLowering) → EachFieldLowers fs ws → names_written ws ≡ written_fields fs
 names_same [] [] k = refl
 names_same [] (w ∷ ws) k = absurd k
 names_same (f ∷ fs) [] k = absurd k
 names_same (f ∷ fs) (w ∷ ws) k = λ i. sym k.0.name i ∷ names_same fs ws k.1 i
 
 -- a field is written, with a value of its type, or it isn't
-data FieldFound (place : CorePlace) (name : List ℕ) (t : DslxType) (fs : List FieldSeen) (ws : List LowersField) : Type 0 where
-  IsWritten : (v : Lowers) (e : LoweredExpr) → value_written name ws ≡ Some v → v place ≡ Some e → equal_type t e.ty ≡ true → FieldFound place name t fs ws
+data FieldFound (place : CoreScope) (name : List ℕ) (t : DslxType) (fs : List FieldSeen) (ws : List FieldLowering) : Type 0 where
+  IsWritten : (v : ExprLowering) (e : LoweredExpr) → value_written name ws ≡ Some v → v place ≡ Some e → equal_type t e.ty ≡ true → FieldFound place name t fs ws
   IsUnwritten : value_written name ws ≡ None → is_in name (written_fields fs) ≡ false → FieldFound place name t fs ws
 
-module _ (here : Instance → Bool) (sight : Sight) (env : Env) (place : CorePlace) (h : IsWellTyped sight env) (at : StandsBeside here sight place) (S : DslxType) where
-  field_found : (name : List ℕ) (t : DslxType) → field_type (Some S) name ≡ Some t → IsDeclared (types_at sight) t → (fs : List FieldSeen) (ws : List LowersField) → EachFieldLowers fs ws
-      → faults_of_all (map (field_judged sight (Some S)) fs) ≡ [] → list_all here (reached_of_all (map (field_judged sight (Some S)) fs)) ≡ true → FieldFound place name t fs ws
+module _ (here : Instance → Bool) (context : TypeEnv) (env : Env) (place : CoreScope) (h : IsWellTypedEnv context env) (at : ScopeMatchesEnv here context place) (S : DslxType) where
+  field_found : (name : List ℕ) (t : DslxType) → field_type (Some S) name ≡ Some t → IsDeclared (types_at context) t → (fs : List FieldSeen) (ws : List FieldLowering) → EachFieldLowers fs ws
+      → faults_of_all (map (field_typing context (Some S)) fs) ≡ [] → list_all here (reached_of_all (map (field_typing context (Some S)) fs)) ≡ true → FieldFound place name t fs ws
   field_found name t e d [] [] k f r = IsUnwritten refl refl
   field_found name t e d [] (w ∷ ws) k f r = absurd k
   field_found name t e d (g ∷ gs) [] k f r = absurd k
   field_found name t e d (g ∷ gs) (w ∷ ws) k f r = by_name (bytes_eq name w.name) refl (field_found name t e d gs ws k.1 p.1 q.1)
     where
       j : Judgement
-      j = field_judged sight (Some S) g
+      j = field_typing context (Some S) g
 
-      p : (j.faults ≡ []) × (faults_of_all (map (field_judged sight (Some S)) gs) ≡ [])
-      p = none_in j.faults (faults_of_all (map (field_judged sight (Some S)) gs)) f
+      p : (j.faults ≡ []) × (faults_of_all (map (field_typing context (Some S)) gs) ≡ [])
+      p = none_in j.faults (faults_of_all (map (field_typing context (Some S)) gs)) f
 
-      q : (list_all here j.reached ≡ true) × (list_all here (reached_of_all (map (field_judged sight (Some S)) gs)) ≡ true)
-      q = all_in here j.reached (reached_of_all (map (field_judged sight (Some S)) gs)) r
+      q : (list_all here j.reached ≡ true) × (list_all here (reached_of_all (map (field_typing context (Some S)) gs)) ≡ true)
+      q = all_in here j.reached (reached_of_all (map (field_typing context (Some S)) gs)) r
 
       by_name : (b : Bool) → bytes_eq name w.name ≡ b → FieldFound place name t gs ws → FieldFound place name t (g ∷ gs) (w ∷ ws)
       by_name true is rest =
-          let v = k.0.lowers here sight (Some S) env place h at (record { faults = p.0; reached = q.0 }) in
-          let same = wanted_in sight (Some S) g p.0 in
+          let v = k.0.lowers here context (Some S) env place h at (record { faults = p.0; reached = q.0 }) in
+          let same = wanted_in context (Some S) g p.0 in
           let own : field_type (Some S) g.name.name ≡ Some t = ap (field_type (Some S)) (k.0.name ∙ sym ((bytes_eq-Decides name w.name).0 is)) ∙ e in
           let like = passed (same_type t v.expr.ty) 9 same.0 ((λ i. wanted_faults same.0 (sym own i) (sym v.typed i)) ∙ same.1) in
-          IsWritten w.value v.expr (ap (λ b. if (if b then true else false) then Some w.value else value_written name ws) is) v.is (equal_of_text (types_at sight) t v.expr.ty like d v.declared)
+          IsWritten w.value v.expr (ap (λ b. if (if b then true else false) then Some w.value else value_written name ws) is) v.is (equal_of_text (types_at context) t v.expr.ty like d v.declared)
       by_name false is (IsWritten v e' s u eq) = IsWritten v e' (ap (λ b. if (if b then true else false) then Some w.value else value_written name ws) is ∙ s) u eq
       by_name false is (IsUnwritten s u) =
           IsUnwritten (ap (λ b. if (if b then true else false) then Some w.value else value_written name ws) is ∙ s)
           (ap (λ n. is_in name (n ∷ written_fields gs)) k.0.name ∙ ap (λ b. if b then true else is_in name (written_fields gs)) is ∙ u)
 
   -- all that are written have types
-  fields_typed : (fs : List FieldSeen) (ws : List LowersField) → EachFieldLowers fs ws → faults_of_all (map (field_judged sight (Some S)) fs) ≡ []
-      → list_all here (reached_of_all (map (field_judged sight (Some S)) fs)) ≡ true → (ts : List DslxType) × (types_of (map (field_judged sight (Some S)) fs) ≡ map Some ts)
+  fields_typed : (fs : List FieldSeen) (ws : List FieldLowering) → EachFieldLowers fs ws → faults_of_all (map (field_typing context (Some S)) fs) ≡ []
+      → list_all here (reached_of_all (map (field_typing context (Some S)) fs)) ≡ true → (ts : List DslxType) × (types_of (map (field_typing context (Some S)) fs) ≡ map Some ts)
   fields_typed [] [] k f r = ([], refl)
   fields_typed [] (w ∷ ws) k f r = absurd k
   fields_typed (g ∷ gs) [] k f r = absurd k
   fields_typed (g ∷ gs) (w ∷ ws) k f r =
-      let j = field_judged sight (Some S) g in
-      let p = none_in j.faults (faults_of_all (map (field_judged sight (Some S)) gs)) f in
-      let q = all_in here j.reached (reached_of_all (map (field_judged sight (Some S)) gs)) r in
-      let v = k.0.lowers here sight (Some S) env place h at (record { faults = p.0; reached = q.0 }) in
+      let j = field_typing context (Some S) g in
+      let p = none_in j.faults (faults_of_all (map (field_typing context (Some S)) gs)) f in
+      let q = all_in here j.reached (reached_of_all (map (field_typing context (Some S)) gs)) r in
+      let v = k.0.lowers here context (Some S) env place h at (record { faults = p.0; reached = q.0 }) in
       let more = fields_typed gs ws k.1 p.1 q.1 in
       (v.expr.ty ∷ more.0, λ i. v.typed i ∷ more.1 i)
 
@@ -127,7 +127,7 @@ module _ (here : Instance → Bool) (sight : Sight) (env : Env) (place : CorePla
 
 -- a field of what gives the others is of its type
 abbrev OtherGives : Option LoweredExpr → List ℕ → DslxType → Type 0
-OtherGives others name t = (e : LoweredExpr) × (field_lowered others name ≡ Some e) × (equal_type t e.ty ≡ true)
+OtherGives others name t = (e : LoweredExpr) × (lower_field others name ≡ Some e) × (equal_type t e.ty ≡ true)
 
 -- each field that isn't written has its value from there
 abbrev EachOther : Option LoweredExpr → List FieldSeen → List (List ℕ) → List DslxType → Type 0
@@ -137,14 +137,14 @@ EachOther others fs [] (t ∷ ts) = ⊥
 EachOther others fs (n ∷ ns) [] = ⊥
 
 -- each field is found among those that are written, or not
-abbrev EachFound : CorePlace → List FieldSeen → List LowersField → List (List ℕ) → List DslxType → Type 0
+abbrev EachFound : CoreScope → List FieldSeen → List FieldLowering → List (List ℕ) → List DslxType → Type 0
 EachFound place fs ws [] [] = Unit {0}
 EachFound place fs ws (n ∷ ns) (t ∷ ts) = FieldFound place n t fs ws × EachFound place fs ws ns ts
 EachFound place fs ws [] (t ∷ ts) = ⊥
 EachFound place fs ws (n ∷ ns) [] = ⊥
 
-fields_there : (place : CorePlace) (fs : List FieldSeen) (ws : List LowersField) (others : Option LoweredExpr) (ns : List (List ℕ)) (ts : List DslxType)
-    → EachFound place fs ws ns ts → EachOther others fs ns ts → (es : List LoweredExpr) × (fields_lowered place ws others ns ts ≡ Some es)
+fields_there : (place : CoreScope) (fs : List FieldSeen) (ws : List FieldLowering) (others : Option LoweredExpr) (ns : List (List ℕ)) (ts : List DslxType)
+    → EachFound place fs ws ns ts → EachOther others fs ns ts → (es : List LoweredExpr) × (lower_fields place ws others ns ts ≡ Some es)
 fields_there place fs ws others [] [] k o = ([], refl)
 fields_there place fs ws others [] (t ∷ ts) k o = absurd k
 fields_there place fs ws others (n ∷ ns) [] k o = absurd k
@@ -180,19 +180,19 @@ others_give fs o e own names types is typed [] (t ∷ ts) k = absurd k
 others_give fs o e own names types is typed (n ∷ ns) [] k = absurd k
 others_give fs o e own names types is typed (n ∷ ns) (t ∷ ts) k =
     let field = ap (λ u. field_type (Some u) n) typed ∙ ap (λ l. struct_field_type l n) (views.outs-Struct own names types) ∙ k.0 in
-    let g = typed_there (field_lowered o n) t (field_typed o e t n is field) in
+    let g = typed_there (lower_field o n) t (field_typed o e t n is field) in
     ((λ u. (g.0, g.1, ap (equal_type t) g.2 ∙ equal_itself t)), others_give fs o e own names types is typed ns ts k.1)
 
-each_found : (here : Instance → Bool) (sight : Sight) (env : Env) (place : CorePlace) → IsWellTyped sight env → StandsBeside here sight place → (own : List ℕ) (names : List (List ℕ)) (types : List DslxType)
-    → (fs : List FieldSeen) (ws : List LowersField) → EachFieldLowers fs ws → faults_of_all (map (field_judged sight (Some (ty.Struct own names types))) fs) ≡ []
-    → list_all here (reached_of_all (map (field_judged sight (Some (ty.Struct own names types))) fs)) ≡ true
-    → (ns : List (List ℕ)) (ts : List DslxType) → OwnTypes names types ns ts → AllDeclared (types_at sight) ts → EachFound place fs ws ns ts
-each_found here sight env place h at own names types fs ws k f r [] [] o d = tt
-each_found here sight env place h at own names types fs ws k f r [] (t ∷ ts) o d = absurd o
-each_found here sight env place h at own names types fs ws k f r (n ∷ ns) [] o d = absurd o
-each_found here sight env place h at own names types fs ws k f r (n ∷ ns) (t ∷ ts) o d = (
-  field_found here sight env place h at (ty.Struct own names types) n t (ap (λ l. struct_field_type l n) (views.outs-Struct own names types) ∙ o.0) d.0 fs ws k f r,
-  each_found here sight env place h at own names types fs ws k f r ns ts o.1 d.1,
+each_found : (here : Instance → Bool) (context : TypeEnv) (env : Env) (place : CoreScope) → IsWellTypedEnv context env → ScopeMatchesEnv here context place → (own : List ℕ) (names : List (List ℕ)) (types : List DslxType)
+    → (fs : List FieldSeen) (ws : List FieldLowering) → EachFieldLowers fs ws → faults_of_all (map (field_typing context (Some (ty.Struct own names types))) fs) ≡ []
+    → list_all here (reached_of_all (map (field_typing context (Some (ty.Struct own names types))) fs)) ≡ true
+    → (ns : List (List ℕ)) (ts : List DslxType) → OwnTypes names types ns ts → AllDeclared (types_at context) ts → EachFound place fs ws ns ts
+each_found here context env place h at own names types fs ws k f r [] [] o d = tt
+each_found here context env place h at own names types fs ws k f r [] (t ∷ ts) o d = absurd o
+each_found here context env place h at own names types fs ws k f r (n ∷ ns) [] o d = absurd o
+each_found here context env place h at own names types fs ws k f r (n ∷ ns) (t ∷ ts) o d = (
+  field_found here context env place h at (ty.Struct own names types) n t (ap (λ l. struct_field_type l n) (views.outs-Struct own names types) ∙ o.0) d.0 fs ws k f r,
+  each_found here context env place h at own names types fs ws k f r ns ts o.1 d.1,
 )
 
 -- ---- struct values
@@ -204,87 +204,87 @@ ExprLowersIf None (Some x) = ⊥
 ExprLowersIf (Some e) None = ⊥
 
 -- the place where the value that gives the others is bound
-unnamed_beside : (here : Instance → Bool) (sight : Sight) (place : CorePlace) → StandsBeside here sight place → StandsBeside here sight (with_unnamed place)
-unnamed_beside here sight place at = record { items = at.items; numbers = at.numbers; locals = at.locals; sound = at.sound; calls = at.calls; widths = at.widths; constants = at.constants }
+unnamed_beside : (here : Instance → Bool) (context : TypeEnv) (place : CoreScope) → ScopeMatchesEnv here context place → ScopeMatchesEnv here context (with_unnamed place)
+unnamed_beside here context place at = record { items = at.items; parametric_args = at.parametric_args; locals = at.locals; sound = at.sound; calls = at.calls; widths = at.widths; constants = at.constants }
 
 -- the fields give a value of the struct
-record FieldsStand (sight : Sight) (place : CorePlace) (ws : List LowersField) (struct : DslxType) (names : List (List ℕ)) (types : List DslxType) (others : Option ExprPair) (rest : Option LoweredPair) : Type 0 where
+record FieldsHaveValues (context : TypeEnv) (place : CoreScope) (ws : List FieldLowering) (struct : DslxType) (names : List (List ℕ)) (types : List DslxType) (others : Option ExprPair) (rest : Option LoweredPair) : Type 0 where
   is : type_of_lowered (struct_fields place ws (others_of rest) struct names types) ≡ Some struct
   own : DslxType
-  typed : (others_judged sight (Some struct) others).ty ≡ Some own
+  typed : (others_typing context (Some struct) others).ty ≡ Some own
 
-fields_stand : (here : Instance → Bool) (sight : Sight) (env : Env) (place : CorePlace) → IsWellTyped sight env → StandsBeside here sight place
-    → (own : List ℕ) (names : List (List ℕ)) (types : List DslxType) → OwnTypes names types names types → IsDeclared (types_at sight) (ty.Struct own names types)
-    → (fs : List FieldSeen) (ws : List LowersField) → EachFieldLowers fs ws → faults_of_all (map (field_judged sight (Some (ty.Struct own names types))) fs) ≡ []
-    → list_all here (reached_of_all (map (field_judged sight (Some (ty.Struct own names types))) fs)) ≡ true
+fields_have_values : (here : Instance → Bool) (context : TypeEnv) (env : Env) (place : CoreScope) → IsWellTypedEnv context env → ScopeMatchesEnv here context place
+    → (own : List ℕ) (names : List (List ℕ)) (types : List DslxType) → OwnTypes names types names types → IsDeclared (types_at context) (ty.Struct own names types)
+    → (fs : List FieldSeen) (ws : List FieldLowering) → EachFieldLowers fs ws → faults_of_all (map (field_typing context (Some (ty.Struct own names types))) fs) ≡ []
+    → list_all here (reached_of_all (map (field_typing context (Some (ty.Struct own names types))) fs)) ≡ true
     → (others : Option ExprPair) (rest : Option LoweredPair) → ExprLowersIf others rest → lacks_one names (written_fields fs) (is_there others) ≡ false
-    → IsClean here (others_judged sight (Some (ty.Struct own names types)) others).faults (others_judged sight (Some (ty.Struct own names types)) others).reached
-    → FieldsStand sight place ws (ty.Struct own names types) names types others rest
-fields_stand here sight env place h at own names types each d fs ws kf f r others rest ko lacks clean = by_others others rest ko lacks clean
+    → IsClean here (others_typing context (Some (ty.Struct own names types)) others).faults (others_typing context (Some (ty.Struct own names types)) others).reached
+    → FieldsHaveValues context place ws (ty.Struct own names types) names types others rest
+fields_have_values here context env place h at own names types each d fs ws kf f r others rest ko lacks clean = by_others others rest ko lacks clean
   where
     S : DslxType
     S = ty.Struct own names types
 
-    parts : AllDeclared (types_at sight) types
-    parts = h.known.parts.fields own own names types (struct_declared (types_at sight) own names types d)
+    parts : AllDeclared (types_at context) types
+    parts = h.known.parts.fields own own names types (struct_declared (types_at context) own names types d)
 
     without : list_all (λ n. is_in n (written_fields fs)) names ≡ true → type_of_lowered (without_others place ws S names types) ≡ Some S
     without all =
-        let es = fields_there place fs ws None names types (each_found here sight env place h at own names types fs ws kf f r names types each parts) (all_written fs None names types names types each all) in
+        let es = fields_there place fs ws None names types (each_found here context env place h at own names types fs ws kf f r names types each parts) (all_written fs None names types names types each all) in
         ap (λ o. type_of_lowered (and_then o (λ es. lowered (core.Tuple (cores_of es)) S))) es.1
 
     within_others : (e : LoweredExpr) → e.ty ≡ S → type_of_lowered (with_others place e ws S names types) ≡ Some S
     within_others e same =
         let o = lowered (core.Slot place.count) e.ty in
-        let es = fields_there (with_unnamed place) fs ws o names types (each_found here sight env (with_unnamed place) h (unnamed_beside here sight place at) own names types fs ws kf f r names types each parts)
+        let es = fields_there (with_unnamed place) fs ws o names types (each_found here context env (with_unnamed place) h (unnamed_beside here context place at) own names types fs ws kf f r names types each parts)
         (others_give fs o (record { core = core.Slot place.count; ty = e.ty }) own names types refl same names types each) in
         ap (λ o. type_of_lowered (and_then o (λ es. lowered (core.Bind e.core shape.Bound (core.Tuple (cores_of es))) S))) es.1
 
-    by_all : (l : Lowers) (e : LoweredExpr) → l place ≡ Some e → e.ty ≡ S → (b : Bool) → list_all (λ n. is_in n (written_fields fs)) names ≡ b
+    by_all : (l : ExprLowering) (e : LoweredExpr) → l place ≡ Some e → e.ty ≡ S → (b : Bool) → list_all (λ n. is_in n (written_fields fs)) names ≡ b
         → type_of_lowered (if b then without_others place ws S names types else and_then (l place) (λ e. with_others place e ws S names types)) ≡ Some S
     by_all l e is same true q = without q
     by_all l e is same false q = ap (λ o. type_of_lowered (and_then o (λ e. with_others place e ws S names types))) is ∙ within_others e same
 
     by_others : (others : Option ExprPair) (rest : Option LoweredPair) → ExprLowersIf others rest → lacks_one names (written_fields fs) (is_there others) ≡ false
-        → IsClean here (others_judged sight (Some S) others).faults (others_judged sight (Some S) others).reached → FieldsStand sight place ws S names types others rest
+        → IsClean here (others_typing context (Some S) others).faults (others_typing context (Some S) others).reached → FieldsHaveValues context place ws S names types others rest
     by_others None None k lacks clean = record { is = without (none_lacks (written_fields fs) names lacks); own = S; typed = refl }
     by_others None (Some x) k lacks clean = absurd k
     by_others (Some e) None k lacks clean = absurd k
     by_others (Some e) (Some x) k lacks clean =
-        let a = alone sight e in
+        let a = alone context e in
         let p = none_in a.faults (wanted_faults (span_of e) (Some S) a.ty) clean.faults in
-        let g = alone_becomes here sight env place e x.1 k h at p.0 clean.reached in
+        let g = alone_lowers_to here context env place e x.1 k h at p.0 clean.reached in
         let same = passed (same_type S g.expr.ty) 9 (span_of e) (ap (wanted_faults (span_of e) (Some S)) (sym g.typed) ∙ p.1) in
         record {
           is = ap (λ written. type_of_lowered (if list_all (λ n. is_in n written) names then without_others place ws S names types else and_then (x.1 place) (λ e. with_others place e ws S names types))) (names_same fs ws kf)
-              ∙ by_all x.1 g.expr g.is (sym (one_of_text (types_at sight) S g.expr.ty same d g.declared)) (list_all (λ n. is_in n (written_fields fs)) names) refl;
+              ∙ by_all x.1 g.expr g.is (sym (one_of_text (types_at context) S g.expr.ty same d g.declared)) (list_all (λ n. is_in n (written_fields fs)) names) refl;
           own = g.expr.ty;
           typed = g.typed;
         }
 
-pub struct_lowers : (span : Span) (name : Ident) (fields : List FieldSeen) (ws : List LowersField) (others : Option ExprPair) (rest : Option LoweredPair) → EachFieldLowers fields ws → ExprLowersIf others rest
-    → PartLowers (λ sight. struct_judged span sight name fields others)
-    (λ place. and_then (place.known.items.struct_named name.name) (λ t. struct_lowered_in place ws (others_of rest) (out-DslxType t)))
-struct_lowers span name fields ws others rest kf ko here sight env place h at fine = by_struct (as_struct (item_named name.name sight.known.whole.items)) refl fine
+pub lower_total_struct : (span : Span) (name : Ident) (fields : List FieldSeen) (ws : List FieldLowering) (others : Option ExprPair) (rest : Option LoweredPair) → EachFieldLowers fields ws → ExprLowersIf others rest
+    → PartLowers (λ context. struct_typing span context name fields others)
+    (λ place. and_then (place.known.items.struct_named name.name) (λ t. lower_struct_in place ws (others_of rest) (out-DslxType t)))
+lower_total_struct span name fields ws others rest kf ko here context env place h at well_typed = by_struct (as_struct (item_named name.name context.known.whole.items)) refl well_typed
   where
     By : Judgement → Type 0
-    By j = type_of_lowered (and_then (place.known.items.struct_named name.name) (λ t. struct_lowered_in place ws (others_of rest) (out-DslxType t))) ≡ j.ty
+    By j = type_of_lowered (and_then (place.known.items.struct_named name.name) (λ t. lower_struct_in place ws (others_of rest) (out-DslxType t))) ≡ j.ty
 
-    of_struct : (declared : Struct) → IsStructKnown (types_at sight) declared (sight.known.items.struct_named name.name) → (own : Option DslxType) → sight.known.items.struct_named name.name ≡ own
-        → IsFine (reaching sight.known here) (struct_with span sight name fields others own declared) → By (struct_with span sight name fields others own declared)
-    of_struct declared k own q f = subst (λ o. IsFine (reaching sight.known here) (struct_with span sight name fields others o declared) → By (struct_with span sight name fields others o declared)) (sym k.is ∙ q) known f
+    of_struct : (declared : Struct) → IsStructKnown (types_at context) declared (context.known.items.struct_named name.name) → (own : Option DslxType) → context.known.items.struct_named name.name ≡ own
+        → IsWellTypedPart (reaching context.known here) (struct_with span context name fields others own declared) → By (struct_with span context name fields others own declared)
+    of_struct declared k own q f = subst (λ o. IsWellTypedPart (reaching context.known here) (struct_with span context name fields others o declared) → By (struct_with span context name fields others o declared)) (sym k.is ∙ q) known f
       where
         S : DslxType
         S = ty.Struct k.own k.names k.fields
 
         js : List Judgement
-        js = map (field_judged sight (Some S)) fields
+        js = map (field_typing context (Some S)) fields
 
         other : Judgement
-        other = others_judged sight (Some S) others
+        other = others_typing context (Some S) others
 
         cyclic : List Fault
-        cyclic = breaks_if (is_cyclic sight.known.whole sight.home name.name) 3 name.span
+        cyclic = breaks_if (is_cyclic context.known.whole context.owner name.name) 3 name.span
 
         names : List (List ℕ)
         names = map name_of_field declared.fields
@@ -292,23 +292,23 @@ struct_lowers span name fields ws others rest kf ko here sight env place h at fi
         wrong : List Fault
         wrong = breaks_if (has_twice (written_fields fields) || lacks_one names (written_fields fields) (is_there others)) 22 span
 
-        known : IsFine (reaching sight.known here) (struct_with span sight name fields others (Some S) declared) → By (struct_with span sight name fields others (Some S) declared)
+        known : IsWellTypedPart (reaching context.known here) (struct_with span context name fields others (Some S) declared) → By (struct_with span context name fields others (Some S) declared)
         known g =
             let whole_type = when_all (other.ty ∷ types_of js) (Some S) in
             let faults = (((cyclic ++ faults_of_all js) ++ other.faults) ++ unknown_fields names fields) ++ wrong in
-            let s = settled_fine (reaching sight.known here) span whole_type faults (reached_of_all js ++ other.reached) (one_and (plus_size (size_of_all js) other.size)) g in
+            let s = settled_well_typed (reaching context.known here) span whole_type faults (reached_of_all js ++ other.reached) (one_and (plus_size (size_of_all js) other.size)) g in
             let p = none_in_three ((cyclic ++ faults_of_all js) ++ other.faults) (unknown_fields names fields) wrong s.faults in
             let q = none_in_three cyclic (faults_of_all js) other.faults p.0 in
             let r = all_in here (reached_of_all js) other.reached s.reached in
             let lacks = (or_false (has_twice (written_fields fields)) (lacks_one names (written_fields fields) (is_there others)) (not_broken (has_twice (written_fields fields) || lacks_one names (written_fields fields) (is_there others)) 22 span p.2)).1 in
-            let ts = fields_typed here sight env place h at S fields ws kf q.1 r.0 in
-            let o = fields_stand here sight env place h at k.own k.names k.fields k.each k.declared fields ws kf q.1 r.0 others rest ko (ap (λ ns. lacks_one ns (written_fields fields) (is_there others)) (sym k.written) ∙ lacks)
+            let ts = fields_typed here context env place h at S fields ws kf q.1 r.0 in
+            let o = fields_have_values here context env place h at k.own k.names k.fields k.each k.declared fields ws kf q.1 r.0 others rest ko (ap (λ ns. lacks_one ns (written_fields fields) (is_there others)) (sym k.written) ∙ lacks)
             (record { faults = q.2; reached = r.1 }) in
-            ap (λ o. type_of_lowered (and_then o (λ t. struct_lowered_in place ws (others_of rest) (out-DslxType t)))) (ap (λ (items : Meanings). items.struct_named name.name) at.items ∙ k.is)
-            ∙ ap (λ l. type_of_lowered (struct_lowered_in place ws (others_of rest) l)) (views.outs-Struct k.own k.names k.fields)
+            ap (λ o. type_of_lowered (and_then o (λ t. lower_struct_in place ws (others_of rest) (out-DslxType t)))) (ap (λ (items : Meanings). items.struct_named name.name) at.items ∙ k.is)
+            ∙ ap (λ l. type_of_lowered (lower_struct_in place ws (others_of rest) l)) (views.outs-Struct k.own k.names k.fields)
             ∙ o.is
             ∙ sym (s.ty ∙ (λ i. when_all (o.typed i ∷ ts.1 i) (Some S)) ∙ ap (λ o. and_then o (λ ts. Some S)) (all_are (o.own ∷ ts.0)))
 
-    by_struct : (o : Option Struct) → as_struct (item_named name.name sight.known.whole.items) ≡ o → IsFine (reaching sight.known here) (struct_if span sight name fields others o) → By (struct_if span sight name fields others o)
+    by_struct : (o : Option Struct) → as_struct (item_named name.name context.known.whole.items) ≡ o → IsWellTypedPart (reaching context.known here) (struct_if span context name fields others o) → By (struct_if span context name fields others o)
     by_struct None q f = some_fault (breaks 1 name.span) _ f.faults
-    by_struct (Some declared) q f = of_struct declared (h.known.structs name.name declared q) (sight.known.items.struct_named name.name) refl f
+    by_struct (Some declared) q f = of_struct declared (h.known.structs name.name declared q) (context.known.items.struct_named name.name) refl f

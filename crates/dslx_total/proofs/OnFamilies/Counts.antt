@@ -5,30 +5,30 @@ use Rattle.std.specs.Prelude.{flat_map}
 use Rattle.std.proofs.lemmas.List.{length-append}
 use Rattle.dslx_tree.specs.declared.item.Definition.TheVariants as d
 use Rattle.dslx_tree.specs.declared.item.Module.{Module}
-use Rattle.dslx_tree.specs.declared.process.Making.{Making}
-use Rattle.dslx_tree.specs.declared.process.Making.TheVariants as making
+use Rattle.dslx_tree.specs.declared.process.ConfigStatement.{ConfigStatement}
+use Rattle.dslx_tree.specs.declared.process.ConfigStatement.TheVariants as config_statement
 use Rattle.dslx_tree.specs.declared.process.Proc.{Proc}
 use Rattle.dslx_tree.specs.declared.process.Spawn.{Spawn}
 use Rattle.dslx_meaning.specs.Environment.{Env}
-use Rattle.dslx_meaning.specs.Items.{item_named, numbers_bound}
+use Rattle.dslx_meaning.specs.Items.{item_named, parametric_args_bound}
 use Rattle.dslx_meaning.specs.Lists.{and_then}
-use Rattle.dslx_meaning.specs.Network.{Family, Held, Placing, as_proc, channels_of_ends, child_path, children, handed_over, made_chans, made_ends, place_within, spawn_numbers, spawned, spawned_at}
+use Rattle.dslx_meaning.specs.Network.{Family, Held, Elaboration, as_proc, channels_of_ends, child_path, children, handed_over, made_chans, made_ends, elaborate_within, spawn_parametric_args, spawned, spawned_at}
 use Rattle.dslx_meaning.specs.declared.value.DslxValue.{DslxValue}
-use Rattle.dslx_meaning.specs.Rules.Judging.{Instance, Known, Sight, same_instance}
-use Rattle.dslx_meaning.specs.Rules.Mentions.{making_mentions, parameter_names}
+use Rattle.dslx_meaning.specs.Rules.TypeEnvs.{Instance, GlobalEnv, TypeEnv, same_instance}
+use Rattle.dslx_meaning.specs.Rules.Mentions.{config_statement_mentions, parametric_names}
 use Rattle.dslx_meaning.specs.Rules.ModuleRules.{is_reached}
-use Rattle.dslx_meaning.specs.Rules.NetworkLimits.{Count, Counted, and_count, count_in, count_of_numbers, count_of_proc, counted_within, instance_count, makings_count, proc_count, spawn_count}
-use Rattle.dslx_meaning.specs.Rules.ProcRules.{Made, channel_found, ends_found, made_at_start, made_with, makings_found, proc_sight, spawn_found}
-use Rattle.dslx_typing.specs.Judged.Closed.{IsOneOf, ends_within}
-use Rattle.dslx_typing.proofs.Lemmas.Judged.{itself}
+use Rattle.dslx_meaning.specs.Rules.NetworkLimits.{Count, Counted, and_count, count_in, count_of_parametric_args, count_of_proc, counted_within, instance_count, config_statements_count, proc_count, spawn_count}
+use Rattle.dslx_meaning.specs.Rules.ProcRules.{Made, channel_found, ends_found, made_at_start, made_with, config_statements_found, proc_type_env, spawn_found}
+use Rattle.dslx_typing.specs.TypingRelations.Closed.{IsOneOf, ends_within}
+use Rattle.dslx_typing.proofs.Lemmas.TypingRelations.{itself}
 use Rattle.dslx_typing.proofs.Lemmas.Sound.{all_in, none_in}
-use Rattle.dslx_typing.proofs.Lemmas.Depends.{meant_parts}
+use Rattle.dslx_typing.proofs.Lemmas.Depends.{den_parts}
 use Rattle.dslx_typing.specs.Typed.Complete.{IsComplete}
-use Rattle.dslx_typing.specs.Complete.Standing.{AreTyped}
+use Rattle.dslx_typing.specs.Complete.HasValue.{AreTyped}
 use Rattle.dslx_typing.proofs.Lemmas.Complete.{item_env}
 use Rattle.dslx_typing.proofs.Lemmas.Accepted.{IsAccepted, one_instance, one_of_these}
 use Rattle.dslx_total.specs.Families.Plain.{ProcsBindNoConstant}
-use Rattle.dslx_total.proofs.OnFamilies.Acts.{parts_fine}
+use Rattle.dslx_total.proofs.OnFamilies.Acts.{parts_well_typed}
 use Rattle.dslx_total.proofs.OnFamilies.Reached.{K, Listed, Within, all, most, proc_there}
 use Rattle.dslx_total.proofs.OnFamilies.Spawns.{proc_named, spawn_there}
 use Rattle.dslx_total.proofs.OnFamilies.There.{IsThere, well}
@@ -59,57 +59,57 @@ counted_there f i (x ∷ xs) h = by_same (same_instance x i) refl h (counted_the
     by_same false q (inr k) rest = rest k
 
 module _ (m : Module) (top : Option (List ℕ)) (s : IsAccepted m top) (procs : ProcsBindNoConstant m) (complete : IsComplete (K m top s)) (typed : AreTyped (K m top s)) where
-  abbrev known : Known
+  abbrev known : GlobalEnv
   known = K m top s
 
   -- whatever such an instance places is as much as is counted of it
-  abbrev PlacesCounted : Placing → List Counted → Type 0
-  PlacesCounted place counted = (path : List ℕ) (p : Proc) (numbers : List DslxValue) (ends : List Held) (number : ℕ) → IsThere m top s p numbers
-      → size_of_family (place path p numbers ends number) ≡ count_in counted (record { name = p.name.name; numbers = numbers })
+  abbrev ScopesCounted : Elaboration → List Counted → Type 0
+  ScopesCounted place counted = (path : List ℕ) (p : Proc) (parametric_args : List DslxValue) (ends : List Held) (number : ℕ) → IsThere m top s p parametric_args
+      → size_of_family (place path p parametric_args ends number) ≡ count_in counted (record { name = p.name.name; parametric_args = parametric_args })
 
-  module _ (place : Placing) (counted : List Counted) (so : PlacesCounted place counted) (p : Proc) (numbers : List DslxValue) (here : IsThere m top s p numbers) (path : List ℕ) (held : List Held) where
-    abbrev sight : Sight
-    sight = proc_sight known p numbers
+  module _ (place : Elaboration) (counted : List Counted) (so : ScopesCounted place counted) (p : Proc) (parametric_args : List DslxValue) (here : IsThere m top s p parametric_args) (path : List ℕ) (held : List Held) where
+    abbrev context : TypeEnv
+    context = proc_type_env known p parametric_args
 
     abbrev env : Env
-    env = item_env known (numbers_bound [] p.parameters numbers)
+    env = item_env known (parametric_args_bound [] p.parametrics parametric_args)
 
     abbrev bound : List (List ℕ)
-    bound = parameter_names p.parameters
+    bound = parametric_names p.parametrics
 
-    one_counted : (own : List ℕ) (made : Made) (sp : Spawn) (number : ℕ) → Within m (most m top s) (making_mentions (making.Spawn sp) bound) → (spawn_found sight made sp).faults ≡ [] → Listed m top s (spawn_found sight made sp).reached
+    one_counted : (own : List ℕ) (made : Made) (sp : Spawn) (number : ℕ) → Within m (most m top s) (config_statement_mentions (config_statement.Spawn sp) bound) → (spawn_found context made sp).faults ≡ [] → Listed m top s (spawn_found context made sp).reached
         → size_of_family (spawned m known.items place own env held sp number) ≡ spawn_count known.items counted env sp (as_proc (item_named sp.target.name m.items))
     one_counted own made sp number within f r =
-        let t = spawn_there m top s procs complete typed p numbers (well m top s complete typed p numbers here) made sp bound within f r in
+        let t = spawn_there m top s procs complete typed p parametric_args (well m top s complete typed p parametric_args here) made sp bound within f r in
         let named = proc_named m sp.target.name t.target t.is in
         let ends = handed_over t.target.config.ends (channels_of_ends held sp.ends) in
-        let placed : spawned m known.items place own env held sp number ≡ place own t.target t.numbers ends number =
-        (λ i. spawned_at place own held sp number (t.is i) (and_then (t.is i) (λ q. spawn_numbers known.items env q sp.arguments))) ∙ ap (spawned_at place own held sp number (Some t.target)) t.given in
-        ap size_of_family placed
-        ∙ so own t.target t.numbers ends number (record { checked = record { named = named; among = one_of_these (record { name = t.target.name.name; numbers = t.numbers }) (all m top s) t.among }; own = t.own })
-        ∙ sym (ap (count_of_numbers counted t.target) t.given) ∙ sym (ap (spawn_count known.items counted env sp) t.is)
+        let elaborated : spawned m known.items place own env held sp number ≡ place own t.target t.parametric_args ends number =
+        (λ i. spawned_at place own held sp number (t.is i) (and_then (t.is i) (λ q. spawn_parametric_args known.items env q sp.arguments))) ∙ ap (spawned_at place own held sp number (Some t.target)) t.given in
+        ap size_of_family elaborated
+        ∙ so own t.target t.parametric_args ends number (record { checked = record { named = named; among = one_of_these (record { name = t.target.name.name; parametric_args = t.parametric_args }) (all m top s) t.among }; own = t.own })
+        ∙ sym (ap (count_of_parametric_args counted t.target) t.given) ∙ sym (ap (spawn_count known.items counted env sp) t.is)
 
     -- children with the channels that are made beside them
-    children_counted : (made : Made) (ms : List Making) (k number : ℕ) → Within m (most m top s) (flat_map (λ (x : Making). making_mentions x bound) ms) → (makings_found sight made ms).faults ≡ [] → Listed m top s (makings_found sight made ms).reached
-        → beside_channels (length (made_chans path env ms)) (size_of_family (children m known.items place path env held ms k number)) ≡ makings_count m known.items counted env ms
+    children_counted : (made : Made) (ms : List ConfigStatement) (k number : ℕ) → Within m (most m top s) (flat_map (λ (x : ConfigStatement). config_statement_mentions x bound) ms) → (config_statements_found context made ms).faults ≡ [] → Listed m top s (config_statements_found context made ms).reached
+        → beside_channels (length (made_chans path env ms)) (size_of_family (children m known.items place path env held ms k number)) ≡ config_statements_count m known.items counted env ms
     children_counted made [] k number within f r = refl
-    children_counted made (making.Channel c ∷ ms) k number within f r =
-        let next = made_with sight made c in
-        let w = meant_parts (ends_within m (most m top s)) m (making_mentions (making.Channel c) bound) (flat_map (λ (x : Making). making_mentions x bound) ms) within in
-        let a = none_in (channel_found sight made c).faults (makings_found sight next ms).faults f in
-        let b = all_in (λ i. is_reached i (all m top s)) (channel_found sight made c).reached (makings_found sight next ms).reached r in
+    children_counted made (config_statement.Channel c ∷ ms) k number within f r =
+        let next = made_with context made c in
+        let w = den_parts (ends_within m (most m top s)) m (config_statement_mentions (config_statement.Channel c) bound) (flat_map (λ (x : ConfigStatement). config_statement_mentions x bound) ms) within in
+        let a = none_in (channel_found context made c).faults (config_statements_found context next ms).faults f in
+        let b = all_in (λ i. is_reached i (all m top s)) (channel_found context made c).reached (config_statements_found context next ms).reached r in
         let rest = children_counted next ms k number w.1 a.1 b.1 in
-        let few : 0 + length (children m known.items place path env held ms k number).procs ≡ (makings_count m known.items counted env ms).procs = ap (λ (n : Count). n.procs) rest in
-        let many : length (made_chans path env ms) + length (children m known.items place path env held ms k number).chans ≡ (makings_count m known.items counted env ms).channels = ap (λ (n : Count). n.channels) rest in
+        let few : 0 + length (children m known.items place path env held ms k number).procs ≡ (config_statements_count m known.items counted env ms).procs = ap (λ (n : Count). n.procs) rest in
+        let many : length (made_chans path env ms) + length (children m known.items place path env held ms k number).chans ≡ (config_statements_count m known.items counted env ms).channels = ap (λ (n : Count). n.channels) rest in
         one_count (beside_channels (suc (length (made_chans path env ms))) (size_of_family (children m known.items place path env held ms k number)))
-        (and_count (record { procs = 0; channels = 1 }) (makings_count m known.items counted env ms)) (omega arith) (omega arith)
-    children_counted made (making.Spawn sp ∷ ms) k number within f r =
-        let w = meant_parts (ends_within m (most m top s)) m (making_mentions (making.Spawn sp) bound) (flat_map (λ (x : Making). making_mentions x bound) ms) within in
-        let a = none_in (spawn_found sight made sp).faults (makings_found sight made ms).faults f in
-        let b = all_in (λ i. is_reached i (all m top s)) (spawn_found sight made sp).reached (makings_found sight made ms).reached r in
+        (and_count (record { procs = 0; channels = 1 }) (config_statements_count m known.items counted env ms)) (omega arith) (omega arith)
+    children_counted made (config_statement.Spawn sp ∷ ms) k number within f r =
+        let w = den_parts (ends_within m (most m top s)) m (config_statement_mentions (config_statement.Spawn sp) bound) (flat_map (λ (x : ConfigStatement). config_statement_mentions x bound) ms) within in
+        let a = none_in (spawn_found context made sp).faults (config_statements_found context made ms).faults f in
+        let b = all_in (λ i. is_reached i (all m top s)) (spawn_found context made sp).reached (config_statements_found context made ms).reached r in
         let first = spawned m known.items place (child_path path k) env held sp number in
         let others = children m known.items place path env held ms (suc k) (number + length first.chans) in
-        both_counted first others (length (made_chans path env ms)) (spawn_count known.items counted env sp (as_proc (item_named sp.target.name m.items))) (makings_count m known.items counted env ms)
+        both_counted first others (length (made_chans path env ms)) (spawn_count known.items counted env sp (as_proc (item_named sp.target.name m.items))) (config_statements_count m known.items counted env ms)
         (one_counted (child_path path k) made sp number w.0 a.0 b.0) (children_counted made ms (suc k) (number + length first.chans) w.1 a.1 b.1)
       where
         both_counted : (first others : Family) (own : ℕ) (c e : Count) → size_of_family first ≡ c → beside_channels own (size_of_family others) ≡ e
@@ -125,30 +125,30 @@ module _ (m : Module) (top : Option (List ℕ)) (s : IsAccepted m top) (procs : 
 
     -- and the proc itself
     pub proc_counted : (number : ℕ) → size_of_family (record {
-      procs = record { path = path; proc = p; numbers = numbers; channels = channels_of_ends held p.config.result } ∷ (children m known.items place path env held p.config.makings 0 number).procs;
-      chans = made_chans path env p.config.makings ++ (children m known.items place path env held p.config.makings 0 number).chans;
-    }) ≡ proc_count m known.items counted p numbers
+      procs = record { path = path; proc = p; parametric_args = parametric_args; channels = channels_of_ends held p.config.result } ∷ (children m known.items place path env held p.config.config_statements 0 number).procs;
+      chans = made_chans path env p.config.config_statements ++ (children m known.items place path env held p.config.config_statements 0 number).chans;
+    }) ≡ proc_count m known.items counted p parametric_args
     proc_counted number =
-        let parts = parts_fine m top s p numbers here.checked in
-        let start = made_at_start sight p.config.ends in
-        let made = makings_found sight start p.config.makings in
-        let outer = ends_found sight [] p.config.ends in
+        let parts = parts_well_typed m top s p parametric_args here.checked in
+        let start = made_at_start context p.config.ends in
+        let made = config_statements_found context start p.config.config_statements in
+        let outer = ends_found context [] p.config.ends in
         let a = none_in outer.faults (made.faults ++ _) parts.config in
         let b = all_in (λ i. is_reached i (all m top s)) outer.reached (made.reached ++ []) parts.listed in
-        let own = made_chans path env p.config.makings in
-        let others = children m known.items place path env held p.config.makings 0 number in
-        let rest = children_counted start p.config.makings 0 number (proc_there m top s p here.checked.named).makings (none_in made.faults _ a.1).0 (all_in (λ i. is_reached i (all m top s)) made.reached [] b.1).0 in
-        let few : 0 + length others.procs ≡ (makings_count m known.items counted env p.config.makings).procs = ap (λ (n : Count). n.procs) rest in
-        let many : length own + length others.chans ≡ (makings_count m known.items counted env p.config.makings).channels = ap (λ (n : Count). n.channels) rest in
+        let own = made_chans path env p.config.config_statements in
+        let others = children m known.items place path env held p.config.config_statements 0 number in
+        let rest = children_counted start p.config.config_statements 0 number (proc_there m top s p here.checked.named).config_statements (none_in made.faults _ a.1).0 (all_in (λ i. is_reached i (all m top s)) made.reached [] b.1).0 in
+        let few : 0 + length others.procs ≡ (config_statements_count m known.items counted env p.config.config_statements).procs = ap (λ (n : Count). n.procs) rest in
+        let many : length own + length others.chans ≡ (config_statements_count m known.items counted env p.config.config_statements).channels = ap (λ (n : Count). n.channels) rest in
         let both = length-append own others.chans in
-        one_count (record { procs = suc (length others.procs); channels = length (own ++ others.chans) }) (and_count (record { procs = 1; channels = 0 }) (makings_count m known.items counted env p.config.makings)) (omega arith) (omega arith)
+        one_count (record { procs = suc (length others.procs); channels = length (own ++ others.chans) }) (and_count (record { procs = 1; channels = 0 }) (config_statements_count m known.items counted env p.config.config_statements)) (omega arith) (omega arith)
 
   -- by spawns of any number
-  pub all_counted : (n : ℕ) → PlacesCounted (place_within m known.items n) (counted_within m known.items (all m top s) n)
-  all_counted zero path p numbers ends number here = refl
-  all_counted (suc n) path p numbers ends number here =
+  pub all_counted : (n : ℕ) → ScopesCounted (elaborate_within m known.items n) (counted_within m known.items (all m top s) n)
+  all_counted zero path p parametric_args ends number here = refl
+  all_counted (suc n) path p parametric_args ends number here =
       let before = counted_within m known.items (all m top s) n in
-      let env = item_env known (numbers_bound [] p.parameters numbers) in
-      proc_counted (place_within m known.items n) before (all_counted n) p numbers here path (ends ++ made_ends number p.config.makings) (number + length (made_chans path env p.config.makings))
-      ∙ sym (ap (count_of_proc m known.items before numbers) (ap as_proc here.checked.named))
-      ∙ sym (counted_there (instance_count m known.items before) (record { name = p.name.name; numbers = numbers }) (all m top s) here.checked.among)
+      let env = item_env known (parametric_args_bound [] p.parametrics parametric_args) in
+      proc_counted (elaborate_within m known.items n) before (all_counted n) p parametric_args here path (ends ++ made_ends number p.config.config_statements) (number + length (made_chans path env p.config.config_statements))
+      ∙ sym (ap (count_of_proc m known.items before parametric_args) (ap as_proc here.checked.named))
+      ∙ sym (counted_there (instance_count m known.items before) (record { name = p.name.name; parametric_args = parametric_args }) (all m top s) here.checked.among)

@@ -7,63 +7,63 @@ use Rattle.dslx_tree.specs.declared.item.Module.{Module}
 use Rattle.dslx_tree.specs.declared.process.End.{End}
 use Rattle.dslx_tree.specs.declared.process.Proc.{Proc}
 use Rattle.dslx_meaning.specs.Environment.{Env}
-use Rattle.dslx_meaning.specs.Items.{meanings_of, numbers_bound}
+use Rattle.dslx_meaning.specs.Items.{meanings_of, parametric_args_bound}
 use Rattle.dslx_meaning.specs.Meaning.{value_of_block}
 use Rattle.dslx_meaning.specs.Types.{same_type}
 use Rattle.dslx_meaning.specs.declared.ty.DslxType.{DslxType}
 use Rattle.dslx_meaning.specs.declared.value.DslxValue.{DslxValue}
 use Rattle.dslx_meaning.specs.Rules.AggregateRules.{wanted_faults}
 use Rattle.dslx_meaning.specs.Rules.ConstantRules.{size_faults}
-use Rattle.dslx_meaning.specs.Rules.ItemRules.{body_judged, judged_type, parameters_found}
-use Rattle.dslx_meaning.specs.Rules.Judging.{Instance, Known, Sight}
+use Rattle.dslx_meaning.specs.Rules.ItemRules.{body_typing, typing_of_type, parametrics_found}
+use Rattle.dslx_meaning.specs.Rules.TypeEnvs.{Instance, GlobalEnv, TypeEnv}
 use Rattle.dslx_meaning.specs.Rules.ModuleRules.{is_reached}
 use Rattle.dslx_meaning.specs.Rules.NodeRules.{block_pair}
-use Rattle.dslx_meaning.specs.Rules.ProcRules.{ends_found, outlet_of, proc_sight}
+use Rattle.dslx_meaning.specs.Rules.ProcRules.{ends_found, channel_end_of, proc_type_env}
 use Rattle.dslx_typing.proofs.Lemmas.Laws.{and_true}
-use Rattle.dslx_typing.specs.Judged.Reached.{AllNamed}
-use Rattle.dslx_typing.proofs.Lemmas.Judged.{whole_is}
-use Rattle.dslx_typing.proofs.Lemmas.Sound.{all_in, block_of_text_has, none_in, passed, type_stands}
+use Rattle.dslx_typing.specs.TypingRelations.Reached.{AllNamed}
+use Rattle.dslx_typing.proofs.Lemmas.TypingRelations.{whole_is}
+use Rattle.dslx_typing.proofs.Lemmas.Sound.{all_in, block_of_text_has, none_in, passed, type_has_den}
 use Rattle.dslx_typing.specs.Typed.Complete.{IsComplete}
 use Rattle.dslx_typing.specs.Typed.Numbers.{AllOwn}
 use Rattle.dslx_typing.specs.Typed.Kinds.{is_of}
-use Rattle.dslx_typing.specs.Typed.WellTyped.{IsWellTyped, types_at}
+use Rattle.dslx_typing.specs.Typed.WellTyped.{IsWellTypedEnv, types_at}
 use Rattle.dslx_typing.proofs.Lemmas.Typed.{one_of_text}
 use Rattle.dslx_typing.specs.Complete.Acts.{acts_found}
-use Rattle.dslx_typing.specs.Complete.Standing.{AreTyped, IsFineFound}
+use Rattle.dslx_typing.specs.Complete.HasValue.{AreTyped, IsWellTypedFound}
 use Rattle.dslx_typing.proofs.Lemmas.Complete.{item_env}
-use Rattle.dslx_core.specs.Lowering.CorePlaces.{CoreKnown, CorePlace}
-use Rattle.dslx_core.specs.Lowering.Functions.{callee_in, outer_place}
-use Rattle.dslx_core.specs.Lowering.Steps.{next_lowered}
-use Rattle.dslx_total.specs.Expressions.Beside.{NamesHaveWidths, StandsBeside}
+use Rattle.dslx_core.specs.Lowering.CoreScopes.{BodyEnv, CoreScope}
+use Rattle.dslx_core.specs.Lowering.Functions.{callee_in, outer_scope}
+use Rattle.dslx_core.specs.Lowering.Steps.{lower_next}
+use Rattle.dslx_total.specs.Expressions.Beside.{NamesHaveWidths, ScopeMatchesEnv}
 use Rattle.dslx_total.specs.Expressions.InstanceLists.{AreThere}
-use Rattle.dslx_total.specs.Expressions.Lowers.{IsClean}
+use Rattle.dslx_total.specs.Expressions.ExprLowering.{IsClean}
 use Rattle.dslx_total.specs.Expressions.Members.{EachHasWords}
-use Rattle.dslx_total.specs.Expressions.NextSteps.{MembersStand}
-use Rattle.dslx_total.specs.Expressions.Nexts.{NextIsLowered, members_sight}
+use Rattle.dslx_total.specs.Expressions.NextSteps.{MembersExist}
+use Rattle.dslx_total.specs.Expressions.Nexts.{NextLowersAsTyped, members_type_env}
 use Rattle.dslx_typing.proofs.Lemmas.Accepted.{IsAccepted, one_of_these, sound}
 use Rattle.dslx_total.specs.Tables.Tables.{FunctionsHaveTable}
-use Rattle.dslx_total.specs.Families.EachPlaced.{NextBecomes}
-use Rattle.dslx_total.proofs.OnFamilies.Acts.{parts_fine}
+use Rattle.dslx_total.specs.Families.EachElaborated.{NextLowers}
+use Rattle.dslx_total.proofs.OnFamilies.Acts.{parts_well_typed}
 use Rattle.dslx_total.proofs.OnFamilies.Reached.{K, Listed, Passing, all, most}
 use Rattle.dslx_total.proofs.OnFamilies.There.{IsThere, well}
 
 -- the laws of parts of `next`
 abbrev pub WordsHaveWidths : Type 0
-WordsHaveWidths = (sight : Sight) (env : Env) → IsWellTyped sight env → NamesHaveWidths sight.known → (before : List (List ℕ)) (ends : List End) → (ends_found sight before ends).faults ≡ []
-    → EachHasWords sight ends
+WordsHaveWidths = (context : TypeEnv) (env : Env) → IsWellTypedEnv context env → NamesHaveWidths context.known → (before : List (List ℕ)) (ends : List End) → (ends_found context before ends).faults ≡ []
+    → EachHasWords context ends
 
 abbrev pub MembersThere : Type 0
-MembersThere = (here : Instance → Bool) (sight : Sight) (env : Env) (outer : CorePlace) (ends : List End) → IsWellTyped sight env → StandsBeside here sight outer → EachHasWords sight ends
-    → IsClean here (ends_found sight [] ends).faults (ends_found sight [] ends).reached → MembersStand (record sight { members = map (outlet_of sight) ends }) outer ends
+MembersThere = (here : Instance → Bool) (context : TypeEnv) (env : Env) (outer : CoreScope) (ends : List End) → IsWellTypedEnv context env → ScopeMatchesEnv here context outer → EachHasWords context ends
+    → IsClean here (ends_found context [] ends).faults (ends_found context [] ends).reached → MembersExist (record context { members = map (channel_end_of context) ends }) outer ends
 
-abbrev pub NextsLowered : Type 0
-NextsLowered = (here : Instance → Bool) (known : Known) (p : Proc) (numbers : List DslxValue) (env : Env) (core : CoreKnown) → AllOwn known.items.type_named numbers
-    → IsWellTyped (proc_sight known p numbers) env → StandsBeside here (proc_sight known p numbers) (outer_place core) → MembersStand (members_sight known p numbers) (outer_place core) p.members
-    → IsClean here (acts_found known p numbers).faults (acts_found known p numbers).reached → NextIsLowered known p numbers (next_lowered core p)
+abbrev pub NextsLower : Type 0
+NextsLower = (here : Instance → Bool) (known : GlobalEnv) (p : Proc) (parametric_args : List DslxValue) (env : Env) (core : BodyEnv) → AllOwn known.items.type_named parametric_args
+    → IsWellTypedEnv (proc_type_env known p parametric_args) env → ScopeMatchesEnv here (proc_type_env known p parametric_args) (outer_scope core) → MembersExist (members_type_env known p parametric_args) (outer_scope core) p.members
+    → IsClean here (acts_found known p parametric_args).faults (acts_found known p parametric_args).reached → NextLowersAsTyped known p parametric_args (lower_next core p)
 
 module _ (m : Module) (top : Option (List ℕ)) (s : IsAccepted m top) (complete : IsComplete (K m top s)) (typed : AreTyped (K m top s)) (names : NamesHaveWidths (K m top s))
-    (widths : WordsHaveWidths) (members : MembersThere) (nexts : NextsLowered) (same : (K m top s).items ≡ meanings_of m) (f : FunctionsHaveTable m top) where
-  abbrev known : Known
+    (widths : WordsHaveWidths) (members : MembersThere) (nexts : NextsLower) (same : (K m top s).items ≡ meanings_of m) (f : FunctionsHaveTable m top) where
+  abbrev known : GlobalEnv
   known = K m top s
 
   -- instances that are checked, and are of no proc
@@ -86,31 +86,31 @@ module _ (m : Module) (top : Option (List ℕ)) (s : IsAccepted m top) (complete
   here_there i g n own h = f.reached i g n own (and_true (is_reached i (all m top s)) (Passing m top s i.name) h).0
 
   -- the value of `init`
-  record Opens (p : Proc) (numbers : List DslxValue) (t : DslxType) : Type 0 where
+  record Opens (p : Proc) (parametric_args : List DslxValue) (t : DslxType) : Type 0 where
     value : DslxValue
-    is : value_of_block p.init (item_env known (numbers_bound [] p.parameters numbers)) ≡ Some value
+    is : value_of_block p.init (item_env known (parametric_args_bound [] p.parametrics parametric_args)) ≡ Some value
     of : is_of t value ≡ true
 
-  opening_there : (p : Proc) (numbers : List DslxValue) → AllOwn known.items.type_named numbers → IsWellTyped (proc_sight known p numbers) (item_env known (numbers_bound [] p.parameters numbers)) → IsFineFound known (acts_found known p numbers)
-      → (t : DslxType) → (judged_type (proc_sight known p numbers) p.next.ty).ty ≡ Some t → Opens p numbers t
-  opening_there p numbers own place acts t is =
-      let sight = proc_sight known p numbers in
-      let env = item_env known (numbers_bound [] p.parameters numbers) in
-      let inside = members_sight known p numbers in
-      let state = judged_type sight p.next.ty in
+  opening_there : (p : Proc) (parametric_args : List DslxValue) → AllOwn known.items.type_named parametric_args → IsWellTypedEnv (proc_type_env known p parametric_args) (item_env known (parametric_args_bound [] p.parametrics parametric_args)) → IsWellTypedFound known (acts_found known p parametric_args)
+      → (t : DslxType) → (typing_of_type (proc_type_env known p parametric_args) p.next.ty).ty ≡ Some t → Opens p parametric_args t
+  opening_there p parametric_args own place acts t is =
+      let context = proc_type_env known p parametric_args in
+      let env = item_env known (parametric_args_bound [] p.parametrics parametric_args) in
+      let inside = members_type_env known p parametric_args in
+      let state = typing_of_type context p.next.ty in
       let span = (out-Block p.init).span in
       let j = (block_pair p.init).1 false inside in
       let wrong = wanted_faults span state.ty j.ty in
       let size = size_faults known span.to (record j { faults = j.faults ++ wrong }) in
-      let init = body_judged false inside state.ty p.init in
-      let parameters = parameters_found known p.name.name [] [] p.parameters numbers in
-      let ends = ends_found sight [] p.members in
-      let a = none_in init.faults _ (none_in ends.faults (init.faults ++ _) (none_in parameters.faults (ends.faults ++ (init.faults ++ _)) acts.faults).1).1 in
-      let b = all_in known.is_sound init.reached _ (all_in known.is_sound ends.reached (init.reached ++ _) (all_in known.is_sound parameters.reached (ends.reached ++ (init.reached ++ _)) acts.reached).1).1 in
+      let init = body_typing false inside state.ty p.init in
+      let parametrics = parametrics_found known p.name.name [] [] p.parametrics parametric_args in
+      let ends = ends_found context [] p.members in
+      let a = none_in init.faults _ (none_in ends.faults (init.faults ++ _) (none_in parametrics.faults (ends.faults ++ (init.faults ++ _)) acts.faults).1).1 in
+      let b = all_in known.is_sound init.reached _ (all_in known.is_sound ends.reached (init.reached ++ _) (all_in known.is_sound parametrics.reached (ends.reached ++ (init.reached ++ _)) acts.reached).1).1 in
       let c = none_in j.faults wrong (none_in (j.faults ++ wrong) size a.0).0 in
-      let within : IsWellTyped inside env = record {
+      let within : IsWellTypedEnv inside env = record {
         locals = place.locals;
-        numbers = place.numbers;
+        parametric_args = place.parametric_args;
         constants = place.constants;
         members = place.members;
         kinds = place.kinds;
@@ -122,36 +122,36 @@ module _ (m : Module) (top : Option (List ℕ)) (s : IsAccepted m top) (complete
       } in
       let g = block_of_text_has p.init inside env within (record { faults = c.0; reached = b.0 }) in
       let alike = passed (same_type t g.0) 9 span ((λ i. wanted_faults span (sym is i) (sym g.1 i)) ∙ c.1) in
-      let one = one_of_text (types_at sight) t g.0 alike ((type_stands p.next.ty).means sight env place t is).1 g.2.declared in
+      let one = one_of_text (types_at context) t g.0 alike ((type_has_den p.next.ty).means context env place t is).1 g.2.declared in
       record { value = g.2.value; is = g.2.is; of = subst (λ u. is_of u g.2.value ≡ true) (sym one) g.2.of }
 
-  pub next_becomes : (p : Proc) (numbers : List DslxValue) → IsThere m top s p numbers → NextBecomes m f.known.table p numbers
-  next_becomes p numbers there =
-      let sight = proc_sight known p numbers in
-      let bound = numbers_bound [] p.parameters numbers in
+  pub next_lowers_to : (p : Proc) (parametric_args : List DslxValue) → IsThere m top s p parametric_args → NextLowers m f.known.table p parametric_args
+  next_lowers_to p parametric_args there =
+      let context = proc_type_env known p parametric_args in
+      let bound = parametric_args_bound [] p.parametrics parametric_args in
       let env = item_env known bound in
-      let core : CoreKnown = record { items = known.items; numbers = bound; callee = callee_in known.whole known.items f.known.table } in
-      let parts = parts_fine m top s p numbers there.checked in
-      let placed = well m top s complete typed p numbers there in
-      let at : StandsBeside here sight (outer_place core) = record {
+      let core : BodyEnv = record { items = known.items; parametric_args = bound; callee = callee_in known.whole known.items f.known.table } in
+      let parts = parts_well_typed m top s p parametric_args there.checked in
+      let elaborated = well m top s complete typed p parametric_args there in
+      let at : ScopeMatchesEnv here context (outer_scope core) = record {
         items = refl;
-        numbers = refl;
+        parametric_args = refl;
         locals = refl;
         sound = here_sound;
         calls = f.known.calls here here_there bound;
         widths = names;
         constants = λ name v q. (typed.constants name v q).declared;
       } in
-      let whole = all_here (acts_found known p numbers).reached parts.passing parts.checked in
-      let parameters = parameters_found known p.name.name [] [] p.parameters numbers in
-      let ends = ends_found sight [] p.members in
-      let listed = (all_in here ends.reached _ (all_in here parameters.reached (ends.reached ++ _) whole).1).0 in
-      let stand = members here sight env (outer_place core) p.members placed at (widths sight env placed names [] p.members parts.members) (record { faults = parts.members; reached = listed }) in
-      let next = nexts here known p numbers env core there.own placed at stand (record { faults = parts.acts.faults; reached = whole }) in
-      let first = opening_there p numbers there.own placed parts.acts next.next.state next.state in
+      let whole = all_here (acts_found known p parametric_args).reached parts.passing parts.checked in
+      let parametrics = parametrics_found known p.name.name [] [] p.parametrics parametric_args in
+      let ends = ends_found context [] p.members in
+      let listed = (all_in here ends.reached _ (all_in here parametrics.reached (ends.reached ++ _) whole).1).0 in
+      let stand = members here context env (outer_scope core) p.members elaborated at (widths context env elaborated names [] p.members parts.members) (record { faults = parts.members; reached = listed }) in
+      let next = nexts here known p parametric_args env core there.own elaborated at stand (record { faults = parts.acts.faults; reached = whole }) in
+      let first = opening_there p parametric_args there.own elaborated parts.acts next.next.state next.state in
       record {
         next = next.next;
-        is = (λ t. next_lowered (record { items = sym same t; numbers = bound; callee = callee_in (sym (whole_is m (length m.items)) t) (sym same t) f.known.table }) p) ∙ next.is;
+        is = (λ t. lower_next (record { items = sym same t; parametric_args = bound; callee = callee_in (sym (whole_is m (length m.items)) t) (sym same t) f.known.table }) p) ∙ next.is;
         opening = first.value;
         opens = (λ t. value_of_block p.init (record { items = sym same t; bound = bound })) ∙ first.is;
         of = first.of;

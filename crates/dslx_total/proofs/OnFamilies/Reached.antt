@@ -4,19 +4,19 @@ use Rattle.std.specs.List.{list_all}
 use Rattle.dslx_tree.specs.declared.item.Definition.TheVariants as d
 use Rattle.dslx_tree.specs.declared.item.Module.{Module}
 use Rattle.dslx_tree.specs.declared.process.End.{End}
-use Rattle.dslx_tree.specs.declared.process.Making.{Making}
+use Rattle.dslx_tree.specs.declared.process.ConfigStatement.{ConfigStatement}
 use Rattle.dslx_tree.specs.declared.process.Proc.{Proc}
 use Rattle.dslx_tree.specs.declared.expr.Arg.{Arg}
 use Rattle.std.specs.Prelude.{flat_map}
 use Rattle.dslx_meaning.specs.Items.{item_named}
-use Rattle.dslx_meaning.specs.Rules.Judging.{Instance, Known}
-use Rattle.dslx_meaning.specs.Rules.Mentions.{Mention, ends_mentions, making_mentions, mentioned_in_arg, mentioned_in_block, mentioned_in_type, mentions_of, names_meant, parameter_names, parameters_mentions, proc_mentions}
-use Rattle.dslx_meaning.specs.Rules.ModuleRules.{instances_of, is_reached, known_of}
+use Rattle.dslx_meaning.specs.Rules.TypeEnvs.{Instance, GlobalEnv}
+use Rattle.dslx_meaning.specs.Rules.Mentions.{Mention, ends_mentions, config_statement_mentions, mentioned_in_arg, mentioned_in_block, mentioned_in_type, mentions_of, names_mentioned, parametric_names, parametrics_mentions, proc_mentions}
+use Rattle.dslx_meaning.specs.Rules.ModuleRules.{instances_of, is_reached, globals_of}
 use Rattle.dslx_typing.proofs.Lemmas.Laws.{and_true}
-use Rattle.dslx_typing.specs.Judged.Closed.{IsOneOf, ends_within}
-use Rattle.dslx_typing.specs.Judged.Reached.{AllNamed, MentionsReach}
-use Rattle.dslx_typing.proofs.Lemmas.Judged.{closed, every_item, meant_reach}
-use Rattle.dslx_typing.proofs.Lemmas.Depends.{NoProcs, meant_parts, names_no_procs, no_proc_in_arg, no_proc_in_type, no_procs_join, passes, passes_closed}
+use Rattle.dslx_typing.specs.TypingRelations.Closed.{IsOneOf, ends_within}
+use Rattle.dslx_typing.specs.TypingRelations.Reached.{AllNamed, MentionsReach}
+use Rattle.dslx_typing.proofs.Lemmas.TypingRelations.{closed, every_item, den_reach}
+use Rattle.dslx_typing.proofs.Lemmas.Depends.{NoProcs, den_parts, names_no_procs, no_proc_in_arg, no_proc_in_type, no_procs_join, passes, passes_closed}
 use Rattle.dslx_typing.proofs.Lemmas.Accepted.{IsAccepted, one_of_these, sound}
 
 -- a proc of the text, by its name
@@ -34,40 +34,40 @@ arguments_none (a ∷ as') bound = no_procs_join (mentioned_in_arg a bound) (fla
 
 -- chains from what is mentioned have at most so many items
 abbrev pub Within : Module → ℕ → List Mention → Type 0
-Within m k ms = list_all (ends_within m k) (names_meant m ms) ≡ true
+Within m k ms = list_all (ends_within m k) (names_mentioned m ms) ≡ true
 
 -- what a proc mentions, by its parts
 pub record ProcWithin (m : Module) (k : ℕ) (p : Proc) : Type 0 where
-  pub parameters : Within m k (parameters_mentions p.parameters [])
-  pub members : Within m k (ends_mentions p.members (parameter_names p.parameters))
-  pub ends : Within m k (ends_mentions p.config.ends (parameter_names p.parameters))
-  pub makings : Within m k (flat_map (λ (x : Making). making_mentions x (parameter_names p.parameters)) p.config.makings)
-  pub init : Within m k (mentioned_in_block p.init (parameter_names p.parameters))
-  pub state : Within m k (mentioned_in_type p.next.ty (parameter_names p.parameters))
-  pub next : Within m k (mentioned_in_block p.next.body (p.next.state.name ∷ parameter_names p.parameters))
+  pub parametrics : Within m k (parametrics_mentions p.parametrics [])
+  pub members : Within m k (ends_mentions p.members (parametric_names p.parametrics))
+  pub ends : Within m k (ends_mentions p.config.ends (parametric_names p.parametrics))
+  pub config_statements : Within m k (flat_map (λ (x : ConfigStatement). config_statement_mentions x (parametric_names p.parametrics)) p.config.config_statements)
+  pub init : Within m k (mentioned_in_block p.init (parametric_names p.parametrics))
+  pub state : Within m k (mentioned_in_type p.next.ty (parametric_names p.parametrics))
+  pub next : Within m k (mentioned_in_block p.next.body (p.next.state.name ∷ parametric_names p.parametrics))
 
 pub proc_within : (m : Module) (k : ℕ) (p : Proc) → Within m k (proc_mentions p) → ProcWithin m k p
 proc_within m k p h =
     let P = ends_within m k in
-    let numbers = parameter_names p.parameters in
-    let one = parameters_mentions p.parameters [] in
-    let two = ends_mentions p.members numbers in
-    let three = ends_mentions p.config.ends numbers in
-    let four = flat_map (λ (x : Making). making_mentions x numbers) p.config.makings in
-    let five = mentioned_in_block p.init numbers in
-    let six = mentioned_in_type p.next.ty numbers in
-    let seven = mentioned_in_block p.next.body (p.next.state.name ∷ numbers) in
-    let a = meant_parts P m (((((one ++ two) ++ three) ++ four) ++ five) ++ six) seven h in
-    let b = meant_parts P m ((((one ++ two) ++ three) ++ four) ++ five) six a.0 in
-    let c = meant_parts P m (((one ++ two) ++ three) ++ four) five b.0 in
-    let e = meant_parts P m ((one ++ two) ++ three) four c.0 in
-    let f = meant_parts P m (one ++ two) three e.0 in
-    let g = meant_parts P m one two f.0 in
-    record { parameters = g.0; members = g.1; ends = f.1; makings = e.1; init = c.1; state = b.1; next = a.1 }
+    let parametric_args = parametric_names p.parametrics in
+    let one = parametrics_mentions p.parametrics [] in
+    let two = ends_mentions p.members parametric_args in
+    let three = ends_mentions p.config.ends parametric_args in
+    let four = flat_map (λ (x : ConfigStatement). config_statement_mentions x parametric_args) p.config.config_statements in
+    let five = mentioned_in_block p.init parametric_args in
+    let six = mentioned_in_type p.next.ty parametric_args in
+    let seven = mentioned_in_block p.next.body (p.next.state.name ∷ parametric_args) in
+    let a = den_parts P m (((((one ++ two) ++ three) ++ four) ++ five) ++ six) seven h in
+    let b = den_parts P m ((((one ++ two) ++ three) ++ four) ++ five) six a.0 in
+    let c = den_parts P m (((one ++ two) ++ three) ++ four) five b.0 in
+    let e = den_parts P m ((one ++ two) ++ three) four c.0 in
+    let f = den_parts P m (one ++ two) three e.0 in
+    let g = den_parts P m one two f.0 in
+    record { parametrics = g.0; members = g.1; ends = f.1; config_statements = e.1; init = c.1; state = b.1; next = a.1 }
 
 module _ (m : Module) (top : Option (List ℕ)) (s : IsAccepted m top) where
-  abbrev pub K : Known
-  K = known_of m
+  abbrev pub K : GlobalEnv
+  K = globals_of m
 
   abbrev pub all : List Instance
   all = instances_of m top
@@ -99,4 +99,4 @@ module _ (m : Module) (top : Option (List ℕ)) (s : IsAccepted m top) where
 
   -- where no proc is mentioned, what is reached passes
   pub reaching : (ms : List Mention) → NoProcs ms → Within m most ms → MentionsReach Passing K ms
-  reaching ms none h = meant_reach Passing m (passes_closed m most) most ms (names_no_procs m most ms none h)
+  reaching ms none h = den_reach Passing m (passes_closed m most) most ms (names_no_procs m most ms none h)

@@ -1,4 +1,4 @@
--- Spawns with which nothing is wrong: their number arguments are known and of the types of their parameters, and the instance that
+-- Spawns with which nothing is wrong: their parametric arguments are known and of the types of their parameters, and the instance that
 -- they spawn is checked.
 use Rattle.std.proofs.Common.{◌≡◌, ◌&&◌, ◌||◌, ◌++◌, ◌==◌, ℕ, length, Bool, true, false, not, if◌then◌else◌, List, [], ◌∷◌, map, Option, Some, None, refl, sym, ap, subst, ◌∙◌}
 use mathlib.Core.Bool.{true≢false}
@@ -9,38 +9,38 @@ use Rattle.dslx_tree.specs.declared.expr.Arg.{Arg}
 use Rattle.dslx_tree.specs.declared.item.Definition.{Definition}
 use Rattle.dslx_tree.specs.declared.item.Definition.TheVariants as d
 use Rattle.dslx_tree.specs.declared.item.Module.{Module}
-use Rattle.dslx_tree.specs.declared.process.Making.TheVariants as making
+use Rattle.dslx_tree.specs.declared.process.ConfigStatement.TheVariants as config_statement
 use Rattle.dslx_tree.specs.declared.process.Proc.{Proc}
 use Rattle.dslx_tree.specs.declared.process.Spawn.{Spawn}
 use Rattle.dslx_meaning.specs.Environment.{Env}
-use Rattle.dslx_meaning.specs.Items.{all_numbers, item_named, numbers_bound}
+use Rattle.dslx_meaning.specs.Items.{all_parametric_args, item_named, parametric_args_bound}
 use Rattle.dslx_meaning.specs.Lists.{all_some, and_then}
-use Rattle.dslx_meaning.specs.Meaning.{meant_arg}
-use Rattle.dslx_meaning.specs.Network.{as_proc, spawn_numbers}
+use Rattle.dslx_meaning.specs.Meaning.{arg_denotation}
+use Rattle.dslx_meaning.specs.Network.{as_proc, spawn_parametric_args}
 use Rattle.dslx_meaning.specs.declared.value.DslxValue.{DslxValue}
-use Rattle.dslx_meaning.specs.Rules.CallRules.{GivenNumber, JudgedThere, NumbersSeen, given_judgements, given_numbers, is_refused, judged_there, known_before, reached_by}
+use Rattle.dslx_meaning.specs.Rules.CallRules.{ParametricArgument, JudgedThere, ParametricArgsSeen, given_judgements, given_parametric_args, is_refused, typing_there, known_before, reached_by}
 use Rattle.dslx_meaning.specs.Rules.ItemRules.{only_faults}
-use Rattle.dslx_meaning.specs.Rules.Judging.{Instance, Known, Sight, breaks, breaks_if, faults_of_all, has_broken, reached_of_all}
-use Rattle.dslx_meaning.specs.Rules.Judgings.{ArgPair}
-use Rattle.dslx_meaning.specs.Rules.Mentions.{AsProc, is_cyclic, making_mentions, mention, mentioned_in_arg}
+use Rattle.dslx_meaning.specs.Rules.TypeEnvs.{Instance, GlobalEnv, TypeEnv, breaks, breaks_if, faults_of_all, has_broken, reached_of_all}
+use Rattle.dslx_meaning.specs.Rules.Typings.{ArgPair}
+use Rattle.dslx_meaning.specs.Rules.Mentions.{AsProc, is_cyclic, config_statement_mentions, mention, mentioned_in_arg}
 use Rattle.dslx_meaning.specs.Rules.ModuleRules.{is_reached}
 use Rattle.dslx_meaning.specs.Rules.NodeRules.{arg_pair}
-use Rattle.dslx_meaning.specs.Rules.ProcRules.{Made, behind_ends, handed_faults, proc_numbers, proc_sight, right_spawn, spawn_found, spawn_of, unknown_ends}
+use Rattle.dslx_meaning.specs.Rules.ProcRules.{Made, behind_ends, handed_faults, proc_parametric_args, proc_type_env, right_spawn, spawn_found, spawn_of, unknown_ends}
 use Rattle.dslx_typing.proofs.Lemmas.Laws.{and_true}
-use Rattle.dslx_typing.specs.Judged.Closed.{ends_within}
-use Rattle.dslx_typing.proofs.Lemmas.Judged.{arguments_reach, every_item, given_reach, item_so_named, numbers_reach, whole_is}
+use Rattle.dslx_typing.specs.TypingRelations.Closed.{ends_within}
+use Rattle.dslx_typing.proofs.Lemmas.TypingRelations.{arguments_reach, every_item, given_reach, item_so_named, parametric_args_reach, whole_is}
 use Rattle.dslx_typing.specs.Sound.Sound.{EachExprGives}
-use Rattle.dslx_typing.proofs.Lemmas.Sound.{AreGiven, EachGiven, all_in, argument_gives, judged_right, none_in, not_broken, numbers_given, numbers_known, some_fault}
-use Rattle.dslx_typing.proofs.Lemmas.Depends.{meant_parts}
+use Rattle.dslx_typing.proofs.Lemmas.Sound.{AreGiven, EachGiven, all_in, argument_gives, typing_right, none_in, not_broken, parametric_args_given, parametric_args_known, some_fault}
+use Rattle.dslx_typing.proofs.Lemmas.Depends.{den_parts}
 use Rattle.dslx_typing.specs.Typed.Complete.{IsComplete}
 use Rattle.dslx_typing.specs.Typed.Numbers.{AllOwn, GivenMean}
-use Rattle.dslx_typing.specs.Typed.WellTyped.{IsWellTyped}
-use Rattle.dslx_typing.proofs.Lemmas.Typed.{all_are, numbers_found}
-use Rattle.dslx_typing.specs.Complete.Standing.{AreTyped}
-use Rattle.dslx_typing.proofs.Lemmas.Complete.{item_env, none_own, own_numbers}
+use Rattle.dslx_typing.specs.Typed.WellTyped.{IsWellTypedEnv}
+use Rattle.dslx_typing.proofs.Lemmas.Typed.{all_are, parametric_args_found}
+use Rattle.dslx_typing.specs.Complete.HasValue.{AreTyped}
+use Rattle.dslx_typing.proofs.Lemmas.Complete.{item_env, none_own, own_parametric_args}
 use Rattle.dslx_typing.proofs.Lemmas.Accepted.{IsAccepted}
 use Rattle.dslx_total.specs.Families.Plain.{ProcsBindNoConstant}
-use Rattle.dslx_total.proofs.OnFamilies.Parameters.{known_alike, parameters_known, parameters_mean, parameters_pass}
+use Rattle.dslx_total.proofs.OnFamilies.Parametrics.{globals_alike, parametrics_known, parametrics_mean, parametrics_pass}
 use Rattle.dslx_total.proofs.OnFamilies.Reached.{IsProcOf, K, Listed, Passing, Within, all, all_sound, arguments_none, most, reaching}
 
 abbrev is_there : {A : Type 0} → Option A → Bool
@@ -67,10 +67,10 @@ proc_named m name p e =
     subst (λ n. item_named n m.items ≡ Some (d.Proc p)) (sym (item_so_named m.items name (d.Proc p) named)) named
 
 -- behind these ends, which hide nothing that has a value
-pub well_behind : (sight : Sight) (env : Env) (made : Made) → IsWellTyped sight env → IsWellTyped (behind_ends sight made) env
-well_behind sight env made h = record {
+pub well_behind : (context : TypeEnv) (env : Env) (made : Made) → IsWellTypedEnv context env → IsWellTypedEnv (behind_ends context made) env
+well_behind context env made h = record {
   locals = h.locals;
-  numbers = h.numbers;
+  parametric_args = h.parametric_args;
   constants = h.constants;
   members = h.members;
   kinds = h.kinds;
@@ -81,67 +81,67 @@ well_behind sight env made h = record {
   known = h.known;
 }
 
-each_argument : (as' : List Arg) → EachExprGives (map (λ (a : ArgPair). a.1) (map arg_pair as')) (map meant_arg as')
+each_argument : (as' : List Arg) → EachExprGives (map (λ (a : ArgPair). a.1) (map arg_pair as')) (map arg_denotation as')
 each_argument [] = tt
 each_argument (a ∷ as') = (argument_gives a, each_argument as')
 
 module _ (m : Module) (top : Option (List ℕ)) (s : IsAccepted m top) (procs : ProcsBindNoConstant m) (complete : IsComplete (K m top s)) (typed : AreTyped (K m top s)) where
-  abbrev known : Known
+  abbrev known : GlobalEnv
   known = K m top s
 
   abbrev test : Instance → Bool
   test i = is_reached i (all m top s)
 
   -- numbers that are known, of the types of their parameters
-  pub record NumbersThere (target : Proc) (gs : List GivenNumber) (given : List DslxValue) : Type 0 where
-    pub numbers : List DslxValue
-    pub is : (proc_numbers known target gs).values ≡ Some numbers
-    pub own : AllOwn known.items.type_named numbers
-    pub found : all_numbers known.items [] [] target.parameters given ≡ Some numbers
+  pub record ParametricArgsThere (target : Proc) (gs : List ParametricArgument) (given : List DslxValue) : Type 0 where
+    pub parametric_args : List DslxValue
+    pub is : (proc_parametric_args known target gs).values ≡ Some parametric_args
+    pub own : AllOwn known.items.type_named parametric_args
+    pub found : all_parametric_args known.items [] [] target.parametrics given ≡ Some parametric_args
 
   pub target_ends : (target : Proc) → IsProcOf m target → ends_within m (length m.items) target.name.name ≡ true
   target_ends target named = every_item m s.free target.name.name (d.Proc target) named
 
-  pub numbers_there : (name : List ℕ) (target : Proc) → as_proc (item_named name m.items) ≡ Some target → IsProcOf m target → (gs : List GivenNumber) (vs : List DslxValue) → EachGiven known.items.type_named gs → GivenMean gs vs
-      → (proc_numbers known target gs).faults ≡ [] → (proc_numbers known target gs).declared.faults ≡ [] → Listed m top s (proc_numbers known target gs).declared.reached → (proc_numbers known target gs).is_wrong ≡ false
-      → NumbersThere target gs vs
-  numbers_there name target is named gs vs each mean f j r w =
-      let home = target.name.name in
+  pub parametric_args_there : (name : List ℕ) (target : Proc) → as_proc (item_named name m.items) ≡ Some target → IsProcOf m target → (gs : List ParametricArgument) (vs : List DslxValue) → EachGiven known.items.type_named gs → GivenMean gs vs
+      → (proc_parametric_args known target gs).faults ≡ [] → (proc_parametric_args known target gs).declared.faults ≡ [] → Listed m top s (proc_parametric_args known target gs).declared.reached → (proc_parametric_args known target gs).is_wrong ≡ false
+      → ParametricArgsThere target gs vs
+  parametric_args_there name target is named gs vs each mean f j r w =
+      let owner = target.name.name in
       let ends = target_ends target named in
-      let alike = known_alike m s.plain target named ends (procs name target is) in
-      let seen = proc_numbers known target gs in
-      let passing = numbers_reach (Passing m top s) known home [] [] (known_before []) target.parameters gs (parameters_pass m s.plain target named ends) in
-      let k = numbers_known known home [] [] target.parameters gs (parameters_known known complete typed home [] (none_own known) target.parameters alike) each
+      let alike = globals_alike m s.plain target named ends (procs name target is) in
+      let seen = proc_parametric_args known target gs in
+      let passing = parametric_args_reach (Passing m top s) known owner [] [] (known_before []) target.parametrics gs (parametrics_pass m s.plain target named ends) in
+      let k = parametric_args_known known owner [] [] target.parametrics gs (parametrics_known known complete typed owner [] (none_own known) target.parametrics alike) each
       (record { given = f; declared = j; reached = all_sound m top s seen.declared.reached passing r; right = w }) in
       record {
-        numbers = k.numbers;
+        parametric_args = k.parametric_args;
         is = k.all;
-        own = own_numbers known home [] target.parameters k.numbers k.fit;
-        found = numbers_found known known.items home [] [] [] target.parameters gs vs k.numbers (parameters_mean known complete typed home [] (none_own known) target.parameters alike) k.fit mean k.all;
+        own = own_parametric_args known owner [] target.parametrics k.parametric_args k.fit;
+        found = parametric_args_found known known.items owner [] [] [] target.parametrics gs vs k.parametric_args (parametrics_mean known complete typed owner [] (none_own known) target.parametrics alike) k.fit mean k.all;
       }
 
   -- what a spawn comes to
   pub record SpawnThere (env : Env) (sp : Spawn) : Type 0 where
     pub target : Proc
     pub is : as_proc (item_named sp.target.name m.items) ≡ Some target
-    pub numbers : List DslxValue
-    pub given : spawn_numbers known.items env target sp.arguments ≡ Some numbers
-    pub own : AllOwn known.items.type_named numbers
-    pub among : test (record { name = target.name.name; numbers = numbers }) ≡ true
+    pub parametric_args : List DslxValue
+    pub given : spawn_parametric_args known.items env target sp.arguments ≡ Some parametric_args
+    pub own : AllOwn known.items.type_named parametric_args
+    pub among : test (record { name = target.name.name; parametric_args = parametric_args }) ≡ true
     pub many : (length sp.ends == length target.config.ends) ≡ true
 
-  module _ (p : Proc) (own : List DslxValue) (well : IsWellTyped (proc_sight known p own) (item_env known (numbers_bound [] p.parameters own))) where
-    abbrev sight : Sight
-    sight = proc_sight known p own
+  module _ (p : Proc) (own : List DslxValue) (well : IsWellTypedEnv (proc_type_env known p own) (item_env known (parametric_args_bound [] p.parametrics own))) where
+    abbrev context : TypeEnv
+    context = proc_type_env known p own
 
     abbrev env : Env
-    env = item_env known (numbers_bound [] p.parameters own)
+    env = item_env known (parametric_args_bound [] p.parametrics own)
 
-    abbrev gs : Made → Spawn → List GivenNumber
-    gs made sp = given_numbers (behind_ends sight made) (map arg_pair sp.arguments)
+    abbrev gs : Made → Spawn → List ParametricArgument
+    gs made sp = given_parametric_args (behind_ends context made) (map arg_pair sp.arguments)
 
-    abbrev seen : Made → Spawn → Proc → NumbersSeen
-    seen made sp target = proc_numbers known target (gs made sp)
+    abbrev seen : Made → Spawn → Proc → ParametricArgsSeen
+    seen made sp target = proc_parametric_args known target (gs made sp)
 
     abbrev cyclic : Spawn → Proc → List Fault
     cyclic sp target = breaks_if (is_cyclic known.whole p.name.name target.name.name) 3 sp.span
@@ -149,59 +149,59 @@ module _ (m : Module) (top : Option (List ℕ)) (s : IsAccepted m top) (procs : 
     abbrev handed : Made → Spawn → Proc → List Fault
     handed made sp target = if (seen made sp target).is_wrong then [] else handed_faults known target.name.name (seen made sp target).bound made target.config.ends sp.ends
 
-    right : (made : Made) (sp : Spawn) (bound : List (List ℕ)) (target : Proc) → as_proc (item_named sp.target.name m.items) ≡ Some target → (length sp.ends == length target.config.ends) ≡ true → AreGiven (behind_ends sight made) env (map arg_pair sp.arguments) (map meant_arg sp.arguments)
-        → (right_spawn sight made sp target (cyclic sp target) (seen made sp target)).faults ≡ [] → Listed m top s (right_spawn sight made sp target (cyclic sp target) (seen made sp target)).reached → SpawnThere env sp
+    right : (made : Made) (sp : Spawn) (bound : List (List ℕ)) (target : Proc) → as_proc (item_named sp.target.name m.items) ≡ Some target → (length sp.ends == length target.config.ends) ≡ true → AreGiven (behind_ends context made) env (map arg_pair sp.arguments) (map arg_denotation sp.arguments)
+        → (right_spawn context made sp target (cyclic sp target) (seen made sp target)).faults ≡ [] → Listed m top s (right_spawn context made sp target (cyclic sp target) (seen made sp target)).reached → SpawnThere env sp
     right made sp bound target is many g f r =
         let n = seen made sp target in
         let wrong = breaks_if n.is_wrong 10 sp.span in
-        let declared = judged_there (cyclic sp target) n in
+        let declared = typing_there (cyclic sp target) n in
         let a = none_in (((cyclic sp target ++ n.faults) ++ declared.faults) ++ wrong) (handed made sp target) f in
         let b = none_in ((cyclic sp target ++ n.faults) ++ declared.faults) wrong a.0 in
         let d = none_in (cyclic sp target ++ n.faults) declared.faults b.0 in
         let c = none_in (cyclic sp target) n.faults d.0 in
         let no_wrong = not_broken n.is_wrong 10 sp.span b.1 in
-        let there = judged_right (cyclic sp target) n c.0 no_wrong in
+        let there = typing_right (cyclic sp target) n c.0 no_wrong in
         let listed = all_in test declared.reached (reached_by (is_refused (cyclic sp target) n) target.name.name n.values) r in
         let named = proc_named m sp.target.name target is in
-        let k = numbers_there sp.target.name target is named (gs made sp) g.values g.each g.mean c.1 (ap (λ (j : JudgedThere). j.faults) (sym there) ∙ d.1) (ap (λ (j : JudgedThere). list_all test j.reached) (sym there) ∙ listed.0) no_wrong in
-        let i : Instance = record { name = target.name.name; numbers = k.numbers } in
+        let k = parametric_args_there sp.target.name target is named (gs made sp) g.values g.each g.mean c.1 (ap (λ (j : JudgedThere). j.faults) (sym there) ∙ d.1) (ap (λ (j : JudgedThere). list_all test j.reached) (sym there) ∙ listed.0) no_wrong in
+        let i : Instance = record { name = target.name.name; parametric_args = k.parametric_args } in
         let one = and_true (test i) true ((λ t. list_all test (reached_by (has_broken (sym c.0 t) || sym no_wrong t) target.name.name (sym k.is t))) ∙ listed.1) in
         record {
           target = target;
           is = is;
-          numbers = k.numbers;
-          given = ap (λ os. and_then (all_some os) (all_numbers known.items [] [] target.parameters)) g.are ∙ ap (λ o. and_then o (all_numbers known.items [] [] target.parameters)) (all_are g.values) ∙ k.found;
+          parametric_args = k.parametric_args;
+          given = ap (λ os. and_then (all_some os) (all_parametric_args known.items [] [] target.parametrics)) g.are ∙ ap (λ o. and_then o (all_parametric_args known.items [] [] target.parametrics)) (all_are g.values) ∙ k.found;
           own = k.own;
           among = one.0;
           many = many;
         }
 
-    pub spawn_there : (made : Made) (sp : Spawn) (bound : List (List ℕ)) → Within m (most m top s) (making_mentions (making.Spawn sp) bound) → (spawn_found sight made sp).faults ≡ [] → Listed m top s (spawn_found sight made sp).reached
+    pub spawn_there : (made : Made) (sp : Spawn) (bound : List (List ℕ)) → Within m (most m top s) (config_statement_mentions (config_statement.Spawn sp) bound) → (spawn_found context made sp).faults ≡ [] → Listed m top s (spawn_found context made sp).reached
         → SpawnThere env sp
     spawn_there made sp bound within f r =
         let given = given_judgements (gs made sp) in
         let unknown = unknown_ends made.names sp.ends in
-        let spawned = spawn_of sight made sp (gs made sp) (as_proc (item_named sp.target.name known.whole.items)) in
+        let spawned = spawn_of context made sp (gs made sp) (as_proc (item_named sp.target.name known.whole.items)) in
         let a = none_in (faults_of_all given) (unknown ++ spawned.faults) f in
         let b = none_in unknown spawned.faults a.1 in
         let c = all_in test (reached_of_all given) spawned.reached r in
         let arguments = flat_map (λ (x : Arg). mentioned_in_arg x bound) sp.arguments in
-        let meant = (meant_parts (ends_within m (most m top s)) m (mention AsProc sp.target.name) arguments within).1 in
-        let passing = given_reach (Passing m top s) (behind_ends sight made) (map arg_pair sp.arguments) (arguments_reach (Passing m top s) (behind_ends sight made) sp.arguments bound (reaching m top s arguments (arguments_none sp.arguments bound) meant)) in
-        let g = numbers_given (behind_ends sight made) env (well_behind sight env made well) (map arg_pair sp.arguments) (map meant_arg sp.arguments) (each_argument sp.arguments) a.0 (all_sound m top s (reached_of_all given) passing c.0) in
+        let denotation = (den_parts (ends_within m (most m top s)) m (mention AsProc sp.target.name) arguments within).1 in
+        let passing = given_reach (Passing m top s) (behind_ends context made) (map arg_pair sp.arguments) (arguments_reach (Passing m top s) (behind_ends context made) sp.arguments bound (reaching m top s arguments (arguments_none sp.arguments bound) denotation)) in
+        let g = parametric_args_given (behind_ends context made) env (well_behind context env made well) (map arg_pair sp.arguments) (map arg_denotation sp.arguments) (each_argument sp.arguments) a.0 (all_sound m top s (reached_of_all given) passing c.0) in
         by_proc (as_proc (item_named sp.target.name known.whole.items)) refl g b.1 c.1
       where
         enough : Proc → Bool
-        enough target = length sp.ends == length target.config.ends && not (nat_lt (length target.parameters) (length (gs made sp)))
+        enough target = length sp.ends == length target.config.ends && not (nat_lt (length target.parametrics) (length (gs made sp)))
 
-        by_count : (target : Proc) → as_proc (item_named sp.target.name m.items) ≡ Some target → (t : Bool) → enough target ≡ t → AreGiven (behind_ends sight made) env (map arg_pair sp.arguments) (map meant_arg sp.arguments)
-            → (if t then right_spawn sight made sp target (cyclic sp target) (seen made sp target) else only_faults (cyclic sp target ++ breaks 10 sp.span ∷ [])).faults ≡ []
-            → Listed m top s (if t then right_spawn sight made sp target (cyclic sp target) (seen made sp target) else only_faults (cyclic sp target ++ breaks 10 sp.span ∷ [])).reached → SpawnThere env sp
+        by_count : (target : Proc) → as_proc (item_named sp.target.name m.items) ≡ Some target → (t : Bool) → enough target ≡ t → AreGiven (behind_ends context made) env (map arg_pair sp.arguments) (map arg_denotation sp.arguments)
+            → (if t then right_spawn context made sp target (cyclic sp target) (seen made sp target) else only_faults (cyclic sp target ++ breaks 10 sp.span ∷ [])).faults ≡ []
+            → Listed m top s (if t then right_spawn context made sp target (cyclic sp target) (seen made sp target) else only_faults (cyclic sp target ++ breaks 10 sp.span ∷ [])).reached → SpawnThere env sp
         by_count target is false q g f r = some_fault (breaks 10 sp.span) [] (none_in (cyclic sp target) (breaks 10 sp.span ∷ []) f).1
-        by_count target is true q g f r = right made sp bound target is (and_true (length sp.ends == length target.config.ends) (not (nat_lt (length target.parameters) (length (gs made sp)))) q).0 g f r
+        by_count target is true q g f r = right made sp bound target is (and_true (length sp.ends == length target.config.ends) (not (nat_lt (length target.parametrics) (length (gs made sp)))) q).0 g f r
 
-        by_proc : (o : Option Proc) → as_proc (item_named sp.target.name known.whole.items) ≡ o → AreGiven (behind_ends sight made) env (map arg_pair sp.arguments) (map meant_arg sp.arguments) → (spawn_of sight made sp (gs made sp) o).faults ≡ []
-            → Listed m top s (spawn_of sight made sp (gs made sp) o).reached → SpawnThere env sp
+        by_proc : (o : Option Proc) → as_proc (item_named sp.target.name known.whole.items) ≡ o → AreGiven (behind_ends context made) env (map arg_pair sp.arguments) (map arg_denotation sp.arguments) → (spawn_of context made sp (gs made sp) o).faults ≡ []
+            → Listed m top s (spawn_of context made sp (gs made sp) o).reached → SpawnThere env sp
         by_proc None q g f r = some_fault (breaks 1 sp.target.span) [] f
         by_proc (Some target) q g f r =
             by_count target ((λ t. as_proc (item_named sp.target.name (sym (whole_is m (length m.items)) t).items)) ∙ q) (enough target) refl g f r

@@ -5,58 +5,58 @@ use Rattle.std.specs.Prelude.{unwrap_or}
 use Rattle.std.specs.List.{list_all, list_any}
 use Rattle.dslx_tree.specs.declared.expr.Expr.{Expr}
 use Rattle.dslx_tree.specs.declared.item.Module.{Module}
-use Rattle.dslx_tree.specs.declared.item.Parameter.{Parameter}
+use Rattle.dslx_tree.specs.declared.item.Parametric.{Parametric}
 use Rattle.dslx_tree.specs.declared.process.Proc.{Proc}
-use Rattle.dslx_meaning.specs.Network.{as_proc, top_numbers, top_proc}
+use Rattle.dslx_meaning.specs.Network.{as_proc, top_parametric_args, top_proc}
 use Rattle.dslx_meaning.specs.Items.{item_named}
 use Rattle.dslx_meaning.specs.declared.ty.DslxType.{DslxType}
 use Rattle.dslx_meaning.specs.declared.value.DslxValue.{DslxValue}
-use Rattle.dslx_meaning.specs.Rules.CallRules.{Before, JudgedThere, Unknown, and_parameter, declared_type, default_there, default_value, is_wrong_number, judged_there, known_before, numbers_seen, of_type, resolved_value, without_default}
+use Rattle.dslx_meaning.specs.Rules.CallRules.{Before, JudgedThere, Unknown, and_parametric, declared_type, default_there, default_value, is_wrong_parametric, typing_there, known_before, parametric_args_seen, of_type, resolved_value, without_default}
 use Rattle.dslx_meaning.specs.Rules.ConstantRules.{is_empty}
-use Rattle.dslx_meaning.specs.Rules.Judging.{Instance, Known, breaks}
+use Rattle.dslx_meaning.specs.Rules.TypeEnvs.{Instance, GlobalEnv, breaks}
 use Rattle.dslx_meaning.specs.Rules.PatternRules.{is_there}
 use Rattle.dslx_meaning.specs.Rules.ModuleRules.{is_reached, items_found, lacks_default, outside_instances, top_faults, top_found}
-use Rattle.dslx_meaning.specs.Rules.ProcRules.{proc_numbers}
+use Rattle.dslx_meaning.specs.Rules.ProcRules.{proc_parametric_args}
 use Rattle.dslx_typing.proofs.Lemmas.Laws.{and_true}
-use Rattle.dslx_typing.proofs.Lemmas.Sound.{all_in, judged_right, none_in, some_fault}
+use Rattle.dslx_typing.proofs.Lemmas.Sound.{all_in, typing_right, none_in, some_fault}
 use Rattle.dslx_typing.specs.Typed.Complete.{IsComplete}
 use Rattle.dslx_typing.specs.Typed.Numbers.{AllOwn}
 use Rattle.dslx_typing.proofs.Lemmas.Typed.{none_some, or_false}
-use Rattle.dslx_typing.specs.Complete.Standing.{AreTyped}
+use Rattle.dslx_typing.specs.Complete.HasValue.{AreTyped}
 use Rattle.dslx_typing.proofs.Lemmas.Accepted.{IsAccepted, all_empty, names_apart}
 use Rattle.dslx_total.specs.Families.Plain.{ProcsBindNoConstant}
 use Rattle.dslx_total.proofs.OnFamilies.LastProc.{last_named}
 use Rattle.dslx_total.proofs.OnFamilies.Reached.{IsProcOf, K, Listed, all, all_listed}
-use Rattle.dslx_total.proofs.OnFamilies.Spawns.{numbers_there, proc_named}
+use Rattle.dslx_total.proofs.OnFamilies.Spawns.{parametric_args_there, proc_named}
 
 -- no default is a wrong number
-default_right : (known : Known) (home : List ℕ) (before : Before) (t : Option DslxType) (o : Option Expr) → not (is_there o) ≡ false → is_wrong_number (default_value known home before t o).value ≡ false
-default_right known home before t None e = absurd (true≢false e)
-default_right known home before t (Some x) e = by_unknown (is_empty before.unknown)
+default_right : (known : GlobalEnv) (owner : List ℕ) (before : Before) (t : Option DslxType) (o : Option Expr) → not (is_there o) ≡ false → is_wrong_parametric (default_value known owner before t o).value ≡ false
+default_right known owner before t None e = absurd (true≢false e)
+default_right known owner before t (Some x) e = by_unknown (is_empty before.unknown)
   where
-    by_value : (v : Option DslxValue) → is_wrong_number (resolved_value v) ≡ false
+    by_value : (v : Option DslxValue) → is_wrong_parametric (resolved_value v) ≡ false
     by_value None = refl
     by_value (Some v) = refl
 
-    by_unknown : (b : Bool) → is_wrong_number (if b then default_there known home before.values t x else without_default Unknown).value ≡ false
-    by_unknown true = by_value (of_type t (known.default_in home before.values x).value)
+    by_unknown : (b : Bool) → is_wrong_parametric (if b then default_there known owner before.values t x else without_default Unknown).value ≡ false
+    by_unknown true = by_value (of_type t (known.default_in owner before.values x).value)
     by_unknown false = refl
 
-none_wrong : (known : Known) (home : List ℕ) (before : Before) (ps : List Parameter) → list_any lacks_default ps ≡ false → (numbers_seen known home [] [] before ps []).is_wrong ≡ false
-none_wrong known home before [] e = refl
-none_wrong known home before (p ∷ ps) e =
+none_wrong : (known : GlobalEnv) (owner : List ℕ) (before : Before) (ps : List Parametric) → list_any lacks_default ps ≡ false → (parametric_args_seen known owner [] [] before ps []).is_wrong ≡ false
+none_wrong known owner before [] e = refl
+none_wrong known owner before (p ∷ ps) e =
     let q = or_false (lacks_default p) (list_any lacks_default ps) e in
-    let t = declared_type known home before p.ty in
-    let v = (default_value known home before t p.default).value in
-    λ i. default_right known home before t p.default q.0 i || none_wrong known home (and_parameter before p v) ps q.1 i
+    let t = declared_type known owner before p.ty in
+    let v = (default_value known owner before t p.default).value in
+    λ i. default_right known owner before t p.default q.0 i || none_wrong known owner (and_parametric before p v) ps q.1 i
 
 -- the instance of the top
 abbrev top_instance : Proc → Option (List DslxValue) → List Instance
 top_instance p None = []
-top_instance p (Some vs) = record { name = p.name.name; numbers = vs } ∷ []
+top_instance p (Some vs) = record { name = p.name.name; parametric_args = vs } ∷ []
 
 module _ (m : Module) (top : Option (List ℕ)) (s : IsAccepted m top) (procs : ProcsBindNoConstant m) (complete : IsComplete (K m top s)) (typed : AreTyped (K m top s)) where
-  abbrev known : Known
+  abbrev known : GlobalEnv
   known = K m top s
 
   abbrev test : Instance → Bool
@@ -83,33 +83,33 @@ module _ (m : Module) (top : Option (List ℕ)) (s : IsAccepted m top) (procs : 
 
   pub record TopThere (p : Proc) : Type 0 where
     pub named : IsProcOf m p
-    pub own : AllOwn known.items.type_named (top_numbers known.items p)
-    pub among : test (record { name = p.name.name; numbers = top_numbers known.items p }) ≡ true
+    pub own : AllOwn known.items.type_named (top_parametric_args known.items p)
+    pub among : test (record { name = p.name.name; parametric_args = top_parametric_args known.items p }) ≡ true
 
   pub top_there : (p : Proc) → top_proc m top ≡ Some p → TopThere p
   top_there p e =
-      let seen = proc_numbers known p [] in
-      let declared = judged_there [] seen in
+      let seen = proc_parametric_args known p [] in
+      let declared = typing_there [] seen in
       let by = named_by top p e in
       let named = proc_named m by.0 p by.1 in
       let lacking = defaults_there p ((λ t. top_faults m top (sym e t)) ∙ top_right) in
-      let right = none_wrong known p.name.name (known_before []) p.parameters lacking in
-      let there = judged_right [] seen refl right in
+      let right = none_wrong known p.name.name (known_before []) p.parametrics lacking in
+      let there = typing_right [] seen refl right in
       let empty = none_in seen.faults declared.faults ((λ t. (top_found known (sym e t)).faults) ∙ top_empty) in
       let listed = all_in test declared.reached (top_instance p seen.values) ((λ t. list_all test (top_found known (sym e t)).reached) ∙ top_listed) in
-      let k = numbers_there m top s procs complete typed by.0 p by.1 named [] [] tt tt empty.0
+      let k = parametric_args_there m top s procs complete typed by.0 p by.1 named [] [] tt tt empty.0
       (ap (λ (j : JudgedThere). j.faults) (sym there) ∙ empty.1) (ap (λ (j : JudgedThere). list_all test j.reached) (sym there) ∙ listed.0) right in
-      let same : top_numbers known.items p ≡ k.numbers = ap (λ o. unwrap_or o []) k.found in
-      let i : Instance = record { name = p.name.name; numbers = k.numbers } in
+      let same : top_parametric_args known.items p ≡ k.parametric_args = ap (λ o. unwrap_or o []) k.found in
+      let i : Instance = record { name = p.name.name; parametric_args = k.parametric_args } in
       let one = and_true (test i) true ((λ t. list_all test (top_instance p (sym k.is t))) ∙ listed.1) in
       record {
         named = named;
         own = subst (AllOwn known.items.type_named) (sym same) k.own;
-        among = (λ t. test (record { name = p.name.name; numbers = same t })) ∙ one.0;
+        among = (λ t. test (record { name = p.name.name; parametric_args = same t })) ∙ one.0;
       }
     where
-      defaults_there : (p : Proc) → top_faults m top (Some p) ≡ [] → list_any lacks_default p.parameters ≡ false
-      defaults_there p f = by_test (list_any lacks_default p.parameters) f
+      defaults_there : (p : Proc) → top_faults m top (Some p) ≡ [] → list_any lacks_default p.parametrics ≡ false
+      defaults_there p f = by_test (list_any lacks_default p.parametrics) f
         where
           by_test : (b : Bool) → (if b then breaks 32 p.name.span ∷ [] else []) ≡ [] → b ≡ false
           by_test true q = some_fault (breaks 32 p.name.span) [] q

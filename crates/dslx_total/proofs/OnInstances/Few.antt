@@ -5,7 +5,7 @@ use mathlib.Core.Bool.{true≢false}
 use Rattle.xb_span.specs.declared.fault.Fault.TheVariants.{Whole}
 use Rattle.xb_span.specs.declared.limit.What.TheVariants as what
 use Rattle.dslx_tree.specs.declared.item.Module.{Module}
-use Rattle.dslx_meaning.specs.Rules.ModuleRules.{faults_of, instances_faults, instances_of, known_of, outside_instances}
+use Rattle.dslx_meaning.specs.Rules.ModuleRules.{faults_of, instances_faults, instances_of, globals_of, outside_instances}
 use Rattle.dslx_typing.proofs.Lemmas.Accepted.{own_faults}
 
 abbrev is_empty : {A : Type 0} → List A → Bool
@@ -26,4 +26,4 @@ few_by n k a one other e = by (nat_lt k n) refl e
 pub few_checked : (m : Module) (top : Option (List ℕ)) → faults_of m top ≡ [] → length (instances_of m top) ≤ 4096
 few_checked m top e =
     let is = instances_of m top in
-    few_by (length is) 4096 (Whole (record { what = what.Instances; found = 4097; most = 4096 })) (outside_instances m top).faults (instances_faults (known_of m) is) (own_faults m top e)
+    few_by (length is) 4096 (Whole (record { what = what.Instances; found = 4097; most = 4096 })) (outside_instances m top).faults (instances_faults (globals_of m) is) (own_faults m top e)

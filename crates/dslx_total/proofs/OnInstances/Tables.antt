@@ -3,23 +3,23 @@ use Rattle.std.proofs.Common.{◌≡◌, ◌≤◌, ℕ, List, [], Option, Some,
 use Rattle.dslx_tree.specs.declared.item.Module.{Module}
 use Rattle.dslx_meaning.specs.Environment.{Meanings}
 use Rattle.dslx_meaning.specs.Items.{as_function, item_named, meanings_of}
-use Rattle.dslx_meaning.specs.Rules.Judging.{Instance}
-use Rattle.dslx_meaning.specs.Rules.ModuleRules.{instances_of, known_of}
-use Rattle.dslx_typing.proofs.Lemmas.Judged.{whole_is}
+use Rattle.dslx_meaning.specs.Rules.TypeEnvs.{Instance}
+use Rattle.dslx_meaning.specs.Rules.ModuleRules.{instances_of, globals_of}
+use Rattle.dslx_typing.proofs.Lemmas.TypingRelations.{whole_is}
 use Rattle.dslx_typing.specs.Typed.Numbers.{AllOwn}
 use Rattle.dslx_typing.proofs.Lemmas.Typed.{none_some}
 use Rattle.dslx_core.specs.Lowering.Functions.{CoreInstance, Instantiated}
 use Rattle.dslx_total.specs.Tables.Tables.{FunctionsHaveTable}
 use Rattle.dslx_machines.specs.Progress.Missing.{InNoTable}
-use Rattle.dslx_total.specs.Instances.Reached.{IsReachedInstance, StandsInTable}
+use Rattle.dslx_total.specs.Instances.Reached.{IsReachedInstance, ExistsInTable}
 use Rattle.dslx_total.proofs.OnInstances.Found.{found_among}
 
-pub stands_there : (m : Module) (top : Option (List ℕ)) → (known_of m).items ≡ meanings_of m → FunctionsHaveTable m top → (i : Instantiated) → IsReachedInstance m top i
-    → (limit : ℕ) → length (instances_of m top) ≤ limit → StandsInTable m limit i
-stands_there m top meant have i is limit enough =
-    let j : Instance = record { name = i.name; numbers = i.numbers } in
-    let of : as_function (item_named i.name (known_of m).whole.items) ≡ Some is.function = ap (λ (x : Module). as_function (item_named i.name x.items)) (whole_is m (length m.items)) ∙ is.is in
-    let own = subst (λ (x : Meanings). AllOwn x.type_named i.numbers) (sym meant) is.own in
+pub stands_there : (m : Module) (top : Option (List ℕ)) → (globals_of m).items ≡ meanings_of m → FunctionsHaveTable m top → (i : Instantiated) → IsReachedInstance m top i
+    → (limit : ℕ) → length (instances_of m top) ≤ limit → ExistsInTable m limit i
+stands_there m top denotation have i is limit enough =
+    let j : Instance = record { name = i.name; parametric_args = i.parametric_args } in
+    let of : as_function (item_named i.name (globals_of m).whole.items) ≡ Some is.function = ap (λ (x : Module). as_function (item_named i.name x.items)) (whole_is m (length m.items)) ∙ is.is in
+    let own = subst (λ (x : Meanings). AllOwn x.type_named i.parametric_args) (sym denotation) is.own in
     let found = found_among m (meanings_of m) j [] have.instances have.known.table have.lowered (have.reached j is.function of own is.reached) in
     let few = have.few in
     record {
@@ -30,5 +30,5 @@ stands_there m top meant have i is limit enough =
       has = found.1;
     }
 
-pub never_missing : (m : Module) (limit : ℕ) (i : Instantiated) (before : List CoreInstance) → StandsInTable m limit i → InNoTable (record { text = m; items = meanings_of m; table = before }) limit i → ⊥
+pub never_missing : (m : Module) (limit : ℕ) (i : Instantiated) (before : List CoreInstance) → ExistsInTable m limit i → InNoTable (record { text = m; items = meanings_of m; table = before }) limit i → ⊥
 never_missing m limit i before stands missing = none_some stands.place (sym (missing stands.table stands.is_table stands.few) ∙ stands.has)

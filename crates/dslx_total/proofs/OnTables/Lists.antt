@@ -6,14 +6,14 @@ use Rattle.std.proofs.lemmas.Slice.Eq.{bytes_eq-Decides}
 use Rattle.dslx_meaning.specs.Lists.{pairwise}
 use Rattle.dslx_meaning.specs.declared.value.DslxValue.{DslxValue}
 use Rattle.dslx_meaning.specs.Rules.EqualValues.{equal_value}
-use Rattle.dslx_meaning.specs.Rules.Judging.{Instance, Known, same_instance}
+use Rattle.dslx_meaning.specs.Rules.TypeEnvs.{Instance, GlobalEnv, same_instance}
 use Rattle.dslx_typing.proofs.Lemmas.Laws.{value_equals_itself}
-use Rattle.dslx_typing.specs.Judged.Closed.{IsOneOf}
+use Rattle.dslx_typing.specs.TypingRelations.Closed.{IsOneOf}
 use Rattle.dslx_core.specs.Lowering.Functions.{Instantiated}
 use Rattle.dslx_total.specs.Expressions.InstanceLists.{EachReachesThoseBefore, ReachesThese, is_among}
 
 abbrev pub as_named : Instance → Instantiated
-as_named i = record { name = i.name; numbers = i.numbers }
+as_named i = record { name = i.name; parametric_args = i.parametric_args }
 
 abbrev pub chosen : (Instance → Bool) → List Instance → List Instantiated
 chosen p [] = []
@@ -21,12 +21,12 @@ chosen p (i ∷ is) = if p i then as_named i ∷ chosen p is else chosen p is
 
 -- ---- those that are among them
 
-numbers_equal : (vs : List DslxValue) → pairwise equal_value vs vs ≡ true
-numbers_equal [] = refl
-numbers_equal (v ∷ vs) = λ i. value_equals_itself v i && numbers_equal vs i
+parametric_args_equal : (vs : List DslxValue) → pairwise equal_value vs vs ≡ true
+parametric_args_equal [] = refl
+parametric_args_equal (v ∷ vs) = λ i. value_equals_itself v i && parametric_args_equal vs i
 
 pub equal_itself : (i : Instance) → same_instance i i ≡ true
-equal_itself i = λ k. (bytes_eq-Decides i.name i.name).1 refl k && numbers_equal i.numbers k
+equal_itself i = λ k. (bytes_eq-Decides i.name i.name).1 refl k && parametric_args_equal i.parametric_args k
 
 pub or_second : (p q : Bool) → q ≡ true → (p || q) ≡ true
 or_second true q e = refl
@@ -44,7 +44,7 @@ chosen_among p i (x ∷ xs) h e = by_kind (p x) refl h (λ more. chosen_among p 
 
 pub among_first : (i : Instance) (xs ys : List Instantiated) → is_among xs i ≡ true → is_among (xs ++ ys) i ≡ true
 among_first i [] ys e = absurd (true≢false (sym e))
-among_first i (x ∷ xs) ys e = by_first (same_instance i (record { name = x.name; numbers = x.numbers })) e (among_first i xs ys)
+among_first i (x ∷ xs) ys e = by_first (same_instance i (record { name = x.name; parametric_args = x.parametric_args })) e (among_first i xs ys)
   where
     by_first : (b : Bool) → (b || is_among xs i) ≡ true → (is_among xs i ≡ true → is_among (xs ++ ys) i ≡ true) → (b || is_among (xs ++ ys) i) ≡ true
     by_first true q rest = refl
@@ -52,12 +52,12 @@ among_first i (x ∷ xs) ys e = by_first (same_instance i (record { name = x.nam
 
 pub among_second : (i : Instance) (xs ys : List Instantiated) → is_among ys i ≡ true → is_among (xs ++ ys) i ≡ true
 among_second i [] ys e = e
-among_second i (x ∷ xs) ys e = or_second (same_instance i (record { name = x.name; numbers = x.numbers })) (is_among (xs ++ ys) i) (among_second i xs ys e)
+among_second i (x ∷ xs) ys e = or_second (same_instance i (record { name = x.name; parametric_args = x.parametric_args })) (is_among (xs ++ ys) i) (among_second i xs ys e)
 
 -- ---- orders
 
 -- what reaches these reaches these and more
-behind_more : (known : Known) (before more : List Instantiated) (i : Instantiated) → ReachesThese known before i → ReachesThese known (before ++ more) i
+behind_more : (known : GlobalEnv) (before more : List Instantiated) (i : Instantiated) → ReachesThese known before i → ReachesThese known (before ++ more) i
 behind_more known before more i r = record {
   function = r.function;
   is = r.is;
@@ -69,7 +69,7 @@ behind_more known before more i r = record {
 }
 
 -- where each of the chosen reaches those before all of them
-pub each_chosen : (known : Known) (before : List Instantiated) (p : Instance → Bool) (is : List Instance) → ((i : Instance) → IsOneOf i is → p i ≡ true → ReachesThese known before (as_named i))
+pub each_chosen : (known : GlobalEnv) (before : List Instantiated) (p : Instance → Bool) (is : List Instance) → ((i : Instance) → IsOneOf i is → p i ≡ true → ReachesThese known before (as_named i))
     → EachReachesThoseBefore known before (chosen p is)
 each_chosen known before p [] h = tt
 each_chosen known before p (x ∷ xs) h =
@@ -81,7 +81,7 @@ each_chosen known before p (x ∷ xs) h =
     by_kind true q behind rest = (h x (inl refl) q, behind)
     by_kind false q behind rest = rest
 
-pub each_behind : (known : Known) (before xs ys : List Instantiated) → EachReachesThoseBefore known before xs → EachReachesThoseBefore known (before ++ xs) ys → EachReachesThoseBefore known before (xs ++ ys)
+pub each_behind : (known : GlobalEnv) (before xs ys : List Instantiated) → EachReachesThoseBefore known before xs → EachReachesThoseBefore known (before ++ xs) ys → EachReachesThoseBefore known before (xs ++ ys)
 each_behind known before [] ys h k = subst (λ zs. EachReachesThoseBefore known zs ys) (append-nil before) k
 each_behind known before (x ∷ xs) ys h k = (h.0, each_behind known (before ++ x ∷ []) xs ys h.1 (subst (λ zs. EachReachesThoseBefore known zs ys) (sym (append_assoc before (x ∷ []) xs)) k))
 

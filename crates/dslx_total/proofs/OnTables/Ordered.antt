@@ -9,13 +9,13 @@ use Rattle.dslx_tree.specs.declared.item.Function.{Function}
 use Rattle.dslx_tree.specs.declared.item.Module.{Module}
 use Rattle.dslx_meaning.specs.Items.{as_function, item_named}
 use Rattle.dslx_meaning.specs.Rules.ItemRules.{Found, function_seen}
-use Rattle.dslx_meaning.specs.Rules.Judging.{Instance, Known}
+use Rattle.dslx_meaning.specs.Rules.TypeEnvs.{Instance, GlobalEnv}
 use Rattle.dslx_meaning.specs.Rules.Mentions.{AsFunction, is_of_use}
-use Rattle.dslx_meaning.specs.Rules.ModuleRules.{found_of_instance, found_of_item, instances_of, is_reached, known_of}
+use Rattle.dslx_meaning.specs.Rules.ModuleRules.{found_of_instance, found_of_item, instances_of, is_reached, globals_of}
 use Rattle.dslx_typing.proofs.Lemmas.Laws.{and_true}
 use Rattle.dslx_typing.specs.Typed.Numbers.{AllOwn}
-use Rattle.dslx_typing.specs.Judged.Closed.{IsOneOf, ends_within}
-use Rattle.dslx_typing.proofs.Lemmas.Judged.{function_is, instances_reach, longer, whole_is}
+use Rattle.dslx_typing.specs.TypingRelations.Closed.{IsOneOf, ends_within}
+use Rattle.dslx_typing.proofs.Lemmas.TypingRelations.{function_is, instances_reach, longer, whole_is}
 use Rattle.dslx_typing.proofs.Lemmas.Depends.{every_item_passes, is_proc_item, passes, passes_closed, passes_next}
 use Rattle.dslx_typing.proofs.Lemmas.Accepted.{IsAccepted, all_empty, all_so, instance_faults, one_of_these, sound}
 use Rattle.dslx_core.specs.Lowering.Functions.{Instantiated}
@@ -24,15 +24,15 @@ use Rattle.dslx_total.proofs.OnTables.Lists.{AreApart, among_first, among_second
 use Rattle.dslx_total.proofs.OnTables.Own.{all_own_pass, all_own_there, are_own}
 
 module _ (m : Module) (top : Option (List ℕ)) (s : IsAccepted m top) where
-  abbrev K : Known
-  K = known_of m
+  abbrev K : GlobalEnv
+  K = globals_of m
 
   abbrev all : List Instance
   all = instances_of m top
 
-  -- an instance of a function whose number parameters have values of their own types
+  -- an instance of a function whose parametrics have values of their own types
   abbrev is_function : Instance → Bool
-  is_function i = is_of_use AsFunction (item_named i.name m.items) && are_own K.items.type_named i.numbers
+  is_function i = is_of_use AsFunction (item_named i.name m.items) && are_own K.items.type_named i.parametric_args
 
   -- chains from it have one item more, and no fewer
   abbrev is_next : ℕ → Instance → Bool
@@ -54,8 +54,8 @@ module _ (m : Module) (top : Option (List ℕ)) (s : IsAccepted m top) where
   named_function : (i : Instance) (f : Function) → as_function (item_named i.name K.whole.items) ≡ Some f → item_named i.name m.items ≡ Some (d.Function f)
   named_function i f e = function_is (item_named i.name m.items) f (ap as_function (sym (known_item i.name)) ∙ e)
 
-  is_function_there : (i : Instance) (f : Function) → item_named i.name m.items ≡ Some (d.Function f) → AllOwn K.items.type_named i.numbers → is_function i ≡ true
-  is_function_there i f e own = λ t. is_of_use AsFunction (e t) && all_own_pass K.items.type_named i.numbers own t
+  is_function_there : (i : Instance) (f : Function) → item_named i.name m.items ≡ Some (d.Function f) → AllOwn K.items.type_named i.parametric_args → is_function i ≡ true
+  is_function_there i f e own = λ t. is_of_use AsFunction (e t) && all_own_pass K.items.type_named i.parametric_args own t
 
   stands : (k : ℕ) (i : Instance) → IsOneOf i all → is_function i ≡ true → passes m k i.name ≡ true → is_among (in_order k) i ≡ true
   stands zero i one e p = absurd (true≢false (sym p))
@@ -89,16 +89,16 @@ module _ (m : Module) (top : Option (List ℕ)) (s : IsAccepted m top) where
   reaches k l i one e =
       let a = and_true (is_next k i) (is_function i) e in
       let b = and_true (passes m (suc k) i.name) (not (passes m k i.name)) a.0 in
-      let c = and_true (is_of_use AsFunction (item_named i.name m.items)) (are_own K.items.type_named i.numbers) a.1 in
+      let c = and_true (is_of_use AsFunction (item_named i.name m.items)) (are_own K.items.type_named i.parametric_args) a.1 in
       let f = function_there i c.0 in
-      let seen : found_of_instance K i ≡ (function_seen K f.0 i.numbers).found = ap (found_of_item K i.numbers) (known_item i.name ∙ f.1) in
+      let seen : found_of_instance K i ≡ (function_seen K f.0 i.parametric_args).found = ap (found_of_item K i.parametric_args) (known_item i.name ∙ f.1) in
       let mentions = (passes_next m k i.name b.0).0 in
       let named = instances_reach (passes m k) m (passes_closed m k) (length m.items) i mentions in
       let shorter : k ≤ length m.items = omega (arith, l) in
       record {
         function = f.0;
         is = ap as_function (known_item i.name ∙ f.1);
-        own = all_own_there K.items.type_named i.numbers c.1;
+        own = all_own_there K.items.type_named i.parametric_args c.1;
         here = here;
         clean = record {
           faults = ap (λ (x : Found). x.faults) (sym seen) ∙ instance_faults K i all one (all_empty m top s).1;

@@ -15,18 +15,18 @@ use Rattle.dslx_meaning.specs.Environment.{Env}
 use Rattle.dslx_meaning.specs.Types.{flat_bits, plain_type}
 use Rattle.dslx_meaning.specs.Values.{from_word}
 use Rattle.dslx_meaning.specs.declared.ty.DslxType.{DslxType}
-use Rattle.dslx_meaning.specs.Rules.ItemRules.{judged_inner}
-use Rattle.dslx_meaning.specs.Rules.Judging.{Sight, found_number, passes}
+use Rattle.dslx_meaning.specs.Rules.ItemRules.{typing_of_inner}
+use Rattle.dslx_meaning.specs.Rules.TypeEnvs.{TypeEnv, found_number, passes}
 use Rattle.dslx_meaning.specs.Rules.NameRules.{local_name}
 use Rattle.dslx_meaning.specs.Rules.NodeRules.{type_pair}
 use Rattle.dslx_meaning.specs.Rules.ProcRules.{channel_type, ends_found, word_limit}
 use Rattle.dslx_typing.specs.Typed.Kinds.{is_of}
-use Rattle.dslx_typing.specs.Typed.WellTyped.{IsWellTyped, types_at}
-use Rattle.dslx_typing.proofs.Lemmas.Sound.{none_in, some_fault, type_stands}
+use Rattle.dslx_typing.specs.Typed.WellTyped.{IsWellTypedEnv, types_at}
+use Rattle.dslx_typing.proofs.Lemmas.Sound.{none_in, some_fault, type_has_den}
 use Rattle.dslx_core.specs.Lowering.Steps.{is_sized}
 use Rattle.dslx_core.proofs.Lemmas.Lowering.{from_plain}
 use Rattle.dslx_total.specs.Expressions.Beside.{NamesHaveWidths}
-use Rattle.dslx_total.specs.Expressions.Lowers.{IsWide}
+use Rattle.dslx_total.specs.Expressions.ExprLowering.{IsWide}
 use Rattle.dslx_total.specs.Expressions.Members.{EachHasWords, HasWords}
 use Rattle.dslx_total.proofs.Lemmas.Expressions.{sized_there}
 use Rattle.dslx_typing.specs.Procs.WordsOfEnds.{WordsAreValues}
@@ -44,12 +44,12 @@ within_limit at n e = by_test (nat_lt 128 n) refl e
     by_test false q f = ltb-false 128 n q
 
 -- the words of an end
-record EndHasWords (sight : Sight) (e : End) : Type 0 where
-  words : HasWords sight e
-  values : (w : DslxType) → (judged_inner sight e.word).ty ≡ Some w → (x : Word) → is_of w (from_word w x) ≡ true
+record EndHasWords (context : TypeEnv) (e : End) : Type 0 where
+  words : HasWords context e
+  values : (w : DslxType) → (typing_of_inner context e.word).ty ≡ Some w → (x : Word) → is_of w (from_word w x) ≡ true
 
-end_has_words : TypesAreWide → (sight : Sight) (env : Env) → IsWellTyped sight env → NamesHaveWidths sight.known → (e : End) → (channel_type sight e.word).faults ≡ [] → EndHasWords sight e
-end_has_words wide sight env h names e f = record {
+end_has_words : TypesAreWide → (context : TypeEnv) (env : Env) → IsWellTypedEnv context env → NamesHaveWidths context.known → (e : End) → (channel_type context e.word).faults ≡ [] → EndHasWords context e
+end_has_words wide context env h names e f = record {
   words = record { widths = few };
   values = λ t q x. (from_plain t (sized t q) (unflat_of (plain_type t) x.value) (gives_typed (plain_type t) (few t q) x.value)).0;
 }
@@ -57,26 +57,26 @@ end_has_words wide sight env h names e f = record {
     to : ℕ
     to = (out-TypeExpr e.word).span.to
 
-    limit : word_limit to (judged_inner sight e.word).ty ≡ []
-    limit = (none_in (judged_inner sight e.word).faults (word_limit to (judged_inner sight e.word).ty) f).1
+    limit : word_limit to (typing_of_inner context e.word).ty ≡ []
+    limit = (none_in (typing_of_inner context e.word).faults (word_limit to (typing_of_inner context e.word).ty) f).1
 
-    sized : (t : DslxType) → (judged_inner sight e.word).ty ≡ Some t → is_sized t ≡ true
-    sized t q = sized_there (types_at sight) h.known.parts t ((type_stands e.word).means sight env h t q).1
+    sized : (t : DslxType) → (typing_of_inner context e.word).ty ≡ Some t → is_sized t ≡ true
+    sized t q = sized_there (types_at context) h.known.parts t ((type_has_den e.word).means context env h t q).1
 
-    few : (t : DslxType) → (judged_inner sight e.word).ty ≡ Some t → fold-Ty Bool widths_step (plain_type t) ≡ true
-    few t q = narrow t (wide e.word sight names t q) (sized t q) (within_limit to (flat_bits t) (ap (word_limit to) (sym q) ∙ limit))
+    few : (t : DslxType) → (typing_of_inner context e.word).ty ≡ Some t → fold-Ty Bool widths_step (plain_type t) ≡ true
+    few t q = narrow t (wide e.word context names t q) (sized t q) (within_limit to (flat_bits t) (ap (word_limit to) (sym q) ∙ limit))
 
-module _ (wide : TypesAreWide) (sight : Sight) (env : Env) (h : IsWellTyped sight env) (names : NamesHaveWidths sight.known) where
-  first_end : (before : List (List ℕ)) (e : End) (es : List End) → (ends_found sight before (e ∷ es)).faults ≡ [] → EndHasWords sight e × ((ends_found sight (e.name.name ∷ before) es).faults ≡ [])
+module _ (wide : TypesAreWide) (context : TypeEnv) (env : Env) (h : IsWellTypedEnv context env) (names : NamesHaveWidths context.known) where
+  first_end : (before : List (List ℕ)) (e : End) (es : List End) → (ends_found context before (e ∷ es)).faults ≡ [] → EndHasWords context e × ((ends_found context (e.name.name ∷ before) es).faults ≡ [])
   first_end before e es f =
-      let rest = ends_found sight (e.name.name ∷ before) es in
-      let both = none_in (channel_type sight e.word).faults rest.faults (none_in (local_name sight before e.name) ((channel_type sight e.word).faults ++ rest.faults) f).1 in
-      (end_has_words wide sight env h names e both.0, both.1)
+      let rest = ends_found context (e.name.name ∷ before) es in
+      let both = none_in (channel_type context e.word).faults rest.faults (none_in (local_name context before e.name) ((channel_type context e.word).faults ++ rest.faults) f).1 in
+      (end_has_words wide context env h names e both.0, both.1)
 
-  pub each_has_words : (before : List (List ℕ)) (es : List End) → (ends_found sight before es).faults ≡ [] → EachHasWords sight es
+  pub each_has_words : (before : List (List ℕ)) (es : List End) → (ends_found context before es).faults ≡ [] → EachHasWords context es
   each_has_words before [] f = tt
   each_has_words before (e ∷ es) f = let q = first_end before e es f in (q.0.words, each_has_words (e.name.name ∷ before) es q.1)
 
-  pub words_are_values : (before : List (List ℕ)) (es : List End) → (ends_found sight before es).faults ≡ [] → WordsAreValues sight es
+  pub words_are_values : (before : List (List ℕ)) (es : List End) → (ends_found context before es).faults ≡ [] → WordsAreValues context es
   words_are_values before [] f = tt
   words_are_values before (e ∷ es) f = let q = first_end before e es f in (q.0.values, words_are_values (e.name.name ∷ before) es q.1)

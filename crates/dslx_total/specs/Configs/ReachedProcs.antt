@@ -9,9 +9,9 @@ use Rattle.dslx_meaning.specs.declared.value.DslxValue.{DslxValue}
 use Rattle.dslx_meaning.specs.Rules.ModuleRules.{instances_of, is_reached}
 use Rattle.dslx_typing.specs.Typed.Numbers.{AllOwn}
 
--- a proc of the text with number arguments: its instance is checked, and each number argument is of its own type, where names of types
+-- a proc of the text with parametric arguments: its instance is checked, and each parametric argument is of its own type, where names of types
 -- stand for these
-pub record IsReachedProc (m : Module) (items : Meanings) (top : Option (List ℕ)) (p : Proc) (numbers : List DslxValue) : Type 0 where
+pub record IsReachedProc (m : Module) (items : Meanings) (top : Option (List ℕ)) (p : Proc) (parametric_args : List DslxValue) : Type 0 where
   pub named : item_named p.name.name m.items ≡ Some (d.Proc p)
-  pub checked : is_reached (record { name = p.name.name; numbers = numbers }) (instances_of m top) ≡ true
-  pub own : AllOwn items.type_named numbers
+  pub checked : is_reached (record { name = p.name.name; parametric_args = parametric_args }) (instances_of m top) ≡ true
+  pub own : AllOwn items.type_named parametric_args

@@ -3,14 +3,14 @@ use Rattle.std.specs.Prelude.{◌≡◌, ◌≤◌, ℕ, List, [], Option, Some,
 use Rattle.dslx_tree.specs.declared.item.Module.{Module}
 use Rattle.dslx_tree.specs.declared.process.Proc.{Proc}
 use Rattle.dslx_meaning.specs.Items.{meanings_of}
-use Rattle.dslx_meaning.specs.Network.{top_numbers}
+use Rattle.dslx_meaning.specs.Network.{top_parametric_args}
 use Rattle.dslx_meaning.specs.Rules.ModuleRules.{instances_of}
 use Rattle.dslx_core.specs.CoreOf.{CoreOf}
-use Rattle.dslx_core.specs.Designs.{last_place}
+use Rattle.dslx_core.specs.Designs.{last_index}
 use Rattle.dslx_core.specs.declared.design.Design.{Design}
 use Rattle.dslx_core.specs.Lowering.Functions.{CoreInstance, Instantiated}
 use Rattle.dslx_core.specs.Networks.Configs.{ProcInstance}
-use Rattle.dslx_core.specs.Networks.Making.{IsDesignFrom, instances_alone}
+use Rattle.dslx_core.specs.Networks.Assembly.{IsDesignFrom, instances_alone}
 use Rattle.dslx_core.specs.Networks.Procs.{procs_from}
 
 -- instances in an order in which each spawns those before it, and what they become where these functions are at hand. The last one is
@@ -20,9 +20,9 @@ pub record ProcsHaveTable (m : Module) (top : Option (List ℕ)) (functions : Li
   pub table : List ProcInstance
   pub lowered : procs_from m (meanings_of m) functions [] instances ≡ Some table
   pub last : ProcInstance
-  pub is_last : slice_get table (last_place (instances_alone table)) ≡ Some last
+  pub is_last : slice_get table (last_index (instances_alone table)) ≡ Some last
   pub of_name : last.name ≡ p.name.name
-  pub of_numbers : last.numbers ≡ top_numbers (meanings_of m) p
+  pub of_parametric_args : last.parametric_args ≡ top_parametric_args (meanings_of m) p
   pub few : length table ≤ length (instances_of m top)
 
 -- a checked text that is made of its instances, and that stands for it

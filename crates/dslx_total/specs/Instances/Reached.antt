@@ -8,17 +8,17 @@ use Rattle.dslx_typing.specs.Typed.Numbers.{AllOwn}
 use Rattle.dslx_core.specs.Lowering.Functions.{CoreInstance, Instantiated, instance_in}
 use Rattle.dslx_machines.specs.Machine.Reached.{IsTable}
 
--- an instance of a function that is checked, and whose number parameters have values of their own types
+-- an instance of a function that is checked, and whose parametrics have values of their own types
 pub record IsReachedInstance (m : Module) (top : Option (List ℕ)) (i : Instantiated) : Type 0 where
   pub function : Function
   pub is : as_function (item_named i.name m.items) ≡ Some function
-  pub own : AllOwn (meanings_of m).type_named i.numbers
-  pub reached : is_reached (record { name = i.name; numbers = i.numbers }) (instances_of m top) ≡ true
+  pub own : AllOwn (meanings_of m).type_named i.parametric_args
+  pub reached : is_reached (record { name = i.name; parametric_args = i.parametric_args }) (instances_of m top) ≡ true
 
 -- a table of at most so many of the text's instances that has this one
-pub record StandsInTable (m : Module) (limit : ℕ) (i : Instantiated) : Type 0 where
+pub record ExistsInTable (m : Module) (limit : ℕ) (i : Instantiated) : Type 0 where
   pub table : List CoreInstance
   pub is_table : IsTable m (meanings_of m) table
   pub few : length table ≤ limit
   pub place : ℕ × CoreInstance
-  pub has : instance_in i.name i.numbers 0 table ≡ Some place
+  pub has : instance_in i.name i.parametric_args 0 table ≡ Some place

@@ -2,15 +2,15 @@
 use Rattle.std.specs.Prelude.{◌≡◌, ◌≤◌, ℕ, List, [], Option, Some, length}
 use Rattle.dslx_tree.specs.declared.item.Module.{Module}
 use Rattle.dslx_meaning.specs.Items.{meanings_of}
-use Rattle.dslx_meaning.specs.Rules.ModuleRules.{instances_of, is_reached, known_of}
+use Rattle.dslx_meaning.specs.Rules.ModuleRules.{instances_of, is_reached, globals_of}
 use Rattle.dslx_core.specs.Lowering.Functions.{Instantiated, instances_from}
 use Rattle.dslx_total.specs.Expressions.InstanceLists.{AreThere, HaveTable}
 
 -- instances in an order in which each calls those before it, and what they become by what is known of the items, which is what these
--- mean. Each instance of a function that is checked stands in it, if its number parameters have values of their own types
+-- mean. Each instance of a function that is checked stands in it, if its parametrics have values of their own types
 pub record FunctionsHaveTable (m : Module) (top : Option (List ℕ)) : Type 0 where
   pub instances : List Instantiated
-  pub known : HaveTable (known_of m) instances
+  pub known : HaveTable (globals_of m) instances
   pub lowered : instances_from m (meanings_of m) [] instances ≡ Some known.table
-  pub reached : AreThere (λ i. is_reached i (instances_of m top)) (known_of m) instances
+  pub reached : AreThere (λ i. is_reached i (instances_of m top)) (globals_of m) instances
   pub few : length known.table ≤ length (instances_of m top)

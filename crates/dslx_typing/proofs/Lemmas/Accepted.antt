@@ -2,4 +2,4 @@
 -- folder is.
 pub use Rattle.dslx_typing.proofs.OnAccepted.Namesakes.{names_apart, own_faults}
 pub use Rattle.dslx_typing.proofs.OnAccepted.OneInstance.{one_instance}
-pub use Rattle.dslx_typing.proofs.OnAccepted.Sound.{IsAccepted, all_empty, all_so, both_empty, each_fine, instance_faults, one_of_these, outside, sound}
+pub use Rattle.dslx_typing.proofs.OnAccepted.Sound.{IsAccepted, all_empty, all_so, both_empty, each_well_typed, instance_faults, one_of_these, outside, sound}

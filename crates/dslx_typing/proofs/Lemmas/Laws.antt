@@ -5,6 +5,6 @@ pub mod Chains
 pub use Rattle.dslx_typing.proofs.OnLaws.Typed.{and_true, unbroken, both_unbroken, AreBits, is_bits_value, is_unsigned_value, is_bits_type, some_typed, binary_typed, prefix_typed, cast_typed}
 pub use Rattle.dslx_typing.proofs.OnLaws.Free.{value_depends, written_type_depends, pattern_depends, bound_alike}
 pub use Rattle.dslx_typing.proofs.OnLaws.Agreeing.{NamesAgree, Extend, FitAlike, unchanged}
-pub use Rattle.dslx_typing.proofs.OnLaws.Endings.{Agreeing, AllGiven, call_one, given_agree, given_here, given_more, numbers_one}
+pub use Rattle.dslx_typing.proofs.OnLaws.Endings.{Agreeing, AllGiven, call_one, given_agree, given_here, given_more, parametric_args_one}
 pub use Rattle.dslx_typing.proofs.OnLaws.Orders.{none_without_faults}
 pub use Rattle.dslx_typing.proofs.OnLaws.OneValue.{one_value_by_test, value_equals_itself}

@@ -2,7 +2,7 @@
 -- nothing else of this folder is.
 -- lists of parts
 pub mod OfLists
-pub use Rattle.dslx_typing.proofs.OnTyped.Judged.{none_some, same_some, or_false, not_false, unbroken_parts, rule_holds, test_holds, settled_type, alone_type}
+pub use Rattle.dslx_typing.proofs.OnTyped.TypingRelations.{none_some, same_some, or_false, not_false, unbroken_parts, rule_holds, test_holds, settled_type, alone_type}
 pub use Rattle.dslx_typing.proofs.OnTyped.OfTypes.{ElementsOf, base_lies, bits_level, bits_lie, bits_of_width, is_array_of, is_bits_of, is_enum_of, is_struct_of, is_token_of, is_tuple_of, of_array, of_bits, of_struct, of_token, of_tuple, one_bool, one_list, one_name, one_type, own_bits, type_induction, typed_level, of_enum}
 pub use Rattle.dslx_typing.proofs.Lemmas.Typed.OfLists.{all_are, all_there}
 pub use Rattle.dslx_typing.proofs.OnTyped.OfWords.{BaseLies, BitsLie, InRange, MadeBits, and_reduce_lies, binary_made, cast_made, clz_lies, ctz_lies, dyn_slice_lies, in_range, lies, next_lies, number_lies, or_reduce_lies, prefix_made, rev_lies, slice_lies, xor_reduce_lies}
@@ -15,9 +15,9 @@ pub use Rattle.dslx_typing.proofs.OnTyped.OfPatterns.{bound_keeps, parts_of_type
 pub use Rattle.dslx_typing.proofs.OnTyped.OfControl.{truth_given, if_gives, let_keeps, bare_keeps, statements_keep, block_gives}
 pub use Rattle.dslx_typing.proofs.OnTyped.OfCalls.{counting_gives, reducing_gives, update_given, BitsGiven, bits_given}
 pub use Rattle.dslx_typing.proofs.OnTyped.OfParts.{bounds_within, slice_gives, part_gives, field_gives, with_both_type}
-pub use Rattle.dslx_typing.proofs.OnTyped.OfConstants.{none_shown, shown, constant_is_meant, meant_is_known, size_is_meant, bound_is_meant}
+pub use Rattle.dslx_typing.proofs.OnTyped.OfConstants.{none_shown, shown, constant_is_denoted, denoted_is_known, size_is_denoted, bound_is_denoted}
 pub use Rattle.dslx_typing.proofs.OnTyped.OfStructs.{struct_gives}
 pub use Rattle.dslx_typing.proofs.OnTyped.OfMatches.{match_gives}
 pub use Rattle.dslx_typing.proofs.OnTyped.OfWritten.{bits_mean, wide_means, name_means, tuple_means, array_means}
 pub use Rattle.dslx_typing.proofs.OnTyped.OfFunctions.{turn_gives, for_gives, function_gives}
-pub use Rattle.dslx_typing.proofs.OnTyped.OfNumbers.{numbers_found, inferred_alike, declared_is, own_value, own_more, own_bound}
+pub use Rattle.dslx_typing.proofs.OnTyped.OfParametricArgs.{parametric_args_found, inferred_alike, declared_is, own_value, own_more, own_bound}

@@ -10,18 +10,18 @@ use Rattle.dslx_tree.specs.declared.item.Module.{Module}
 use Rattle.dslx_meaning.specs.Items.{item_named, name_of_definition}
 use Rattle.dslx_meaning.specs.Network.{top_proc}
 use Rattle.dslx_meaning.specs.Rules.ConstantRules.{is_empty}
-use Rattle.dslx_meaning.specs.Rules.Judging.{Instance, Known, same_instance}
+use Rattle.dslx_meaning.specs.Rules.TypeEnvs.{Instance, GlobalEnv, same_instance}
 use Rattle.dslx_meaning.specs.Rules.Mentions.{mentions_of}
-use Rattle.dslx_meaning.specs.Rules.ModuleRules.{faults_of, found_of_instance, instance_limit, instances_faults, instances_of, is_reached, item_found, items_found, known_of, outside_instances, top_faults, top_found}
+use Rattle.dslx_meaning.specs.Rules.ModuleRules.{faults_of, found_of_instance, instance_limit, instances_faults, instances_of, is_reached, item_found, items_found, globals_of, outside_instances, top_faults, top_found}
 use Rattle.dslx_typing.specs.Laws.Recursion.{HasNoCycle}
 use Rattle.dslx_typing.proofs.Lemmas.Typed.{none_some, same_some}
-use Rattle.dslx_typing.specs.Judged.Closed.{IsOneOf, ReachOneAnother}
-use Rattle.dslx_typing.specs.Judged.Reached.{AllNamed}
-use Rattle.dslx_typing.proofs.Lemmas.Judged.{in_first, in_second, instances_reach, items_reach}
+use Rattle.dslx_typing.specs.TypingRelations.Closed.{IsOneOf, ReachOneAnother}
+use Rattle.dslx_typing.specs.TypingRelations.Reached.{AllNamed}
+use Rattle.dslx_typing.proofs.Lemmas.TypingRelations.{in_first, in_second, instances_reach, items_reach}
 use Rattle.dslx_typing.specs.Depends.Settled.{BindsNoConstant}
 use Rattle.dslx_typing.proofs.Lemmas.Depends.{every_item_passes, is_proc_item, passes, passes_closed, passes_next, stage}
-use Rattle.dslx_typing.specs.Complete.Standing.{IsFineFound}
-use Rattle.dslx_typing.specs.Known.Fine.{EachItemFine}
+use Rattle.dslx_typing.specs.Complete.HasValue.{IsWellTypedFound}
+use Rattle.dslx_typing.specs.GlobalEnv.WellTypedParts.{EachItemWellTyped}
 use Rattle.dslx_typing.proofs.OnAccepted.Namesakes.{own_faults}
 use Rattle.dslx_typing.proofs.OnAccepted.OneInstance.{one_instance}
 
@@ -47,7 +47,7 @@ one_of_these i (x ∷ xs) e = by_first (same_instance i x) refl e (one_of_these 
 
 -- ---- what an item comes to is among what all come to
 
-item_faults : (known : Known) (name : List ℕ) (x : Definition) (is : List Item) → item_named name is ≡ Some x → (items_found known is).faults ≡ [] → (item_found known x).faults ≡ []
+item_faults : (known : GlobalEnv) (name : List ℕ) (x : Definition) (is : List Item) → item_named name is ≡ Some x → (items_found known is).faults ≡ [] → (item_found known x).faults ≡ []
 item_faults known name x [] q e = none_some x q
 item_faults known name x (i ∷ is) q e =
     let parts = both_empty (item_found known i.definition).faults (items_found known is).faults e in
@@ -58,7 +58,7 @@ item_faults known name x (i ∷ is) q e =
     by_name true r own rest = subst (λ z. (item_found known z).faults ≡ []) (same_some i.definition x r) own
     by_name false r own rest = rest r
 
-item_reached : (known : Known) (name : List ℕ) (x : Definition) (j : Instance) (is : List Item) → item_named name is ≡ Some x → IsOneOf j (item_found known x).reached → IsOneOf j (items_found known is).reached
+item_reached : (known : GlobalEnv) (name : List ℕ) (x : Definition) (j : Instance) (is : List Item) → item_named name is ≡ Some x → IsOneOf j (item_found known x).reached → IsOneOf j (items_found known is).reached
 item_reached known name x j [] q h = none_some x q
 item_reached known name x j (i ∷ is) q h = by_name (bytes_eq name (name_of_definition i.definition)) q (λ r. item_reached known name x j is r h)
   where
@@ -67,7 +67,7 @@ item_reached known name x j (i ∷ is) q h = by_name (bytes_eq name (name_of_def
     by_name true r rest = in_first j (item_found known i.definition).reached (items_found known is).reached (subst (λ z. IsOneOf j (item_found known z).reached) (sym (same_some i.definition x r)) h)
     by_name false r rest = in_second j (item_found known i.definition).reached (items_found known is).reached (rest r)
 
-pub instance_faults : (known : Known) (i : Instance) (is : List Instance) → IsOneOf i is → instances_faults known is ≡ [] → (found_of_instance known i).faults ≡ []
+pub instance_faults : (known : GlobalEnv) (i : Instance) (is : List Instance) → IsOneOf i is → instances_faults known is ≡ [] → (found_of_instance known i).faults ≡ []
 instance_faults known i [] h e = absurd h
 instance_faults known i (x ∷ xs) (inl q) e = ap (λ z. (found_of_instance known z).faults) q ∙ (both_empty (found_of_instance known x).faults (instances_faults known xs) e).0
 instance_faults known i (x ∷ xs) (inr h) e = instance_faults known i xs h (both_empty (found_of_instance known x).faults (instances_faults known xs) e).1
@@ -78,12 +78,12 @@ pub record IsAccepted (m : Module) (top : Option (List ℕ)) : Type 0 where
   pub free : HasNoCycle m
   pub plain : BindsNoConstant m
   pub faults : faults_of m top ≡ []
-  pub among : ReachOneAnother (known_of m) (instances_of m top)
+  pub among : ReachOneAnother (globals_of m) (instances_of m top)
   pub outside : (i : Instance) → IsOneOf i (outside_instances m top).reached → is_reached i (instances_of m top) ≡ true
 
 module _ (m : Module) (top : Option (List ℕ)) (s : IsAccepted m top) where
-  abbrev K : Known
-  K = known_of m
+  abbrev K : GlobalEnv
+  K = globals_of m
 
   abbrev instances : List Instance
   instances = instances_of m top
@@ -115,8 +115,8 @@ module _ (m : Module) (top : Option (List ℕ)) (s : IsAccepted m top) where
   outside i h = one_of_these i instances (s.outside i h)
 
   -- an item that is no proc
-  fine_item : (name : List ℕ) (x : Definition) → item_named name m.items ≡ Some x → is_proc_item (Some x) ≡ false → IsFineFound K (item_found K x)
-  fine_item name x e other =
+  well_typed_item : (name : List ℕ) (x : Definition) → item_named name m.items ≡ Some x → is_proc_item (Some x) ≡ false → IsWellTypedFound K (item_found K x)
+  well_typed_item name x e other =
       let P = passes m (length m.items) in
       let closed = passes_closed m (length m.items) in
       let mentions = (λ t. list_all P (mentions_of m (sym e t))) ∙ closed name (every_item_passes m s.free name x e other) in
@@ -126,10 +126,10 @@ module _ (m : Module) (top : Option (List ℕ)) (s : IsAccepted m top) where
             (λ j h p. sound (length m.items) (omega arith) j (outside j (in_first j (items_found K m.items).reached (top_found K (top_proc m top)).reached (item_reached K name x j m.items e h))) p);
       }
 
-  pub each_fine : EachItemFine m
-  each_fine name (d.Proc p) e = record { faults = refl; reached = refl }
-  each_fine name (d.Function f) e = fine_item name (d.Function f) e refl
-  each_fine name (d.Constant c) e = fine_item name (d.Constant c) e refl
-  each_fine name (d.Alias a) e = fine_item name (d.Alias a) e refl
-  each_fine name (d.Struct x) e = fine_item name (d.Struct x) e refl
-  each_fine name (d.Enum x) e = fine_item name (d.Enum x) e refl
+  pub each_well_typed : EachItemWellTyped m
+  each_well_typed name (d.Proc p) e = record { faults = refl; reached = refl }
+  each_well_typed name (d.Function f) e = well_typed_item name (d.Function f) e refl
+  each_well_typed name (d.Constant c) e = well_typed_item name (d.Constant c) e refl
+  each_well_typed name (d.Alias a) e = well_typed_item name (d.Alias a) e refl
+  each_well_typed name (d.Struct x) e = well_typed_item name (d.Struct x) e refl
+  each_well_typed name (d.Enum x) e = well_typed_item name (d.Enum x) e refl

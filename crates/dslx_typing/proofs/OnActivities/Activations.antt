@@ -8,31 +8,31 @@ use Rattle.dslx_meaning.specs.Environment.{Env, bind}
 use Rattle.dslx_meaning.specs.Values.{at_type}
 use Rattle.dslx_meaning.specs.declared.ty.DslxType.{DslxType}
 use Rattle.dslx_meaning.specs.declared.value.DslxValue.{DslxValue}
-use Rattle.dslx_meaning.specs.Rules.Judging.{Known, Sight, with_typed}
+use Rattle.dslx_meaning.specs.Rules.TypeEnvs.{GlobalEnv, TypeEnv, with_typed}
 use Rattle.dslx_typing.specs.Typed.Kinds.{is_of}
-use Rattle.dslx_typing.specs.Typed.WellTyped.{IsWellTyped}
+use Rattle.dslx_typing.specs.Typed.WellTyped.{IsWellTypedEnv}
 use Rattle.dslx_typing.proofs.Lemmas.Typed.{bound_keeps}
 use Rattle.dslx_typing.specs.Activities.ActivityGoesOn.{ActivityGoesOn}
-use Rattle.dslx_typing.specs.Activities.Members.{IsFineNext, ProcMembersStand, inner_env, inner_sight}
+use Rattle.dslx_typing.specs.Activities.Members.{IsWellTypedNext, ProcMembersHaveValues, inner_env, inner_type_env}
 use Rattle.dslx_typing.proofs.OnActivities.Statements.{body_goes}
 
-pub activation_goes : (known : Known) (p : Proc) (numbers : List DslxValue) (t : DslxType) → IsFineNext known p numbers t → (state : Value) → is_of t (at_type t state) ≡ true
-    → (words : List Word) → ActivityGoesOn t (length (site_names p)) words (activation_of known.items p numbers state words)
-activation_goes known p numbers t h state of words =
-    subst (λ o. ActivityGoesOn t (length (site_names p)) words (activity_from known.items p numbers state words o)) (sym h.state)
+pub activation_goes : (known : GlobalEnv) (p : Proc) (parametric_args : List DslxValue) (t : DslxType) → IsWellTypedNext known p parametric_args t → (state : Value) → is_of t (at_type t state) ≡ true
+    → (words : List Word) → ActivityGoesOn t (length (site_names p)) words (activation_of known.items p parametric_args state words)
+activation_goes known p parametric_args t h state of words =
+    subst (λ o. ActivityGoesOn t (length (site_names p)) words (activity_from known.items p parametric_args state words o)) (sym h.state)
     (body_goes t site p.next.body inside (bind p.next.state.name (at_type t state) env) typed members h.declared h.body words)
   where
     env : Env
-    env = inner_env known p numbers
+    env = inner_env known p parametric_args
 
     site : SiteEnv
     site = record { members = p.members; env = env }
 
-    inside : Sight
-    inside = with_typed (inner_sight known p numbers) (record { name = p.next.state.name; ty = Some t } ∷ [])
+    inside : TypeEnv
+    inside = with_typed (inner_type_env known p parametric_args) (record { name = p.next.state.name; ty = Some t } ∷ [])
 
-    typed : IsWellTyped inside (bind p.next.state.name (at_type t state) env)
-    typed = bound_keeps (inner_sight known p numbers) [] env p.next.state.name t (at_type t state) h.typed (record { value = at_type t state; is = refl; of = of; declared = h.declared }) h.name
+    typed : IsWellTypedEnv inside (bind p.next.state.name (at_type t state) env)
+    typed = bound_keeps (inner_type_env known p parametric_args) [] env p.next.state.name t (at_type t state) h.typed (record { value = at_type t state; is = refl; of = of; declared = h.declared }) h.name
 
-    members : ProcMembersStand inside site
+    members : ProcMembersHaveValues inside site
     members name o e = let m = h.members name o e in record { word = m.word; typed = m.typed; means = m.means; declared = m.declared; holds = m.holds }

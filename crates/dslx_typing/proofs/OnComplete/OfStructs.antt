@@ -10,24 +10,24 @@ use Rattle.dslx_tree.specs.declared.item.Struct.{Struct}
 use Rattle.dslx_meaning.specs.Callees.{is_own_name}
 use Rattle.dslx_meaning.specs.Environment.{Env}
 use Rattle.dslx_meaning.specs.Items.{name_of_field}
-use Rattle.dslx_meaning.specs.Lists.{all_some, and_then, beside, is_in, place_in}
+use Rattle.dslx_meaning.specs.Lists.{all_some, and_then, beside, is_in, index_in}
 use Rattle.dslx_meaning.specs.Meaning.{written_type}
 use Rattle.dslx_meaning.specs.declared.ty.DslxType.{DslxType}
 use Rattle.dslx_meaning.specs.declared.ty.DslxType as ty
 use Rattle.dslx_meaning.specs.Rules.ConstantRules.{is_empty}
-use Rattle.dslx_meaning.specs.Rules.ItemRules.{fields_found, fields_types, item_sight, judged_inner, judged_type, struct_seen}
-use Rattle.dslx_meaning.specs.Rules.Judging.{Known, Sight, breaks_if, type_limits, unless_broken}
+use Rattle.dslx_meaning.specs.Rules.ItemRules.{fields_found, fields_types, item_type_env, typing_of_inner, typing_of_type, struct_seen}
+use Rattle.dslx_meaning.specs.Rules.TypeEnvs.{GlobalEnv, TypeEnv, breaks_if, type_limits, unless_broken}
 use Rattle.dslx_meaning.specs.Rules.NameRules.{listed_name}
 use Rattle.dslx_meaning.specs.Rules.NodeRules.{type_pair}
 use Rattle.dslx_meaning.specs.Rules.TypeRules.{span_of_type, unit_faults}
 use Rattle.dslx_typing.specs.Typed.Complete.{IsComplete}
 use Rattle.dslx_typing.specs.Typed.Declared.{AllDeclared}
 use Rattle.dslx_typing.specs.Typed.Given.{OwnTypes}
-use Rattle.dslx_typing.specs.Typed.WellTyped.{IsWellTyped, types_at}
+use Rattle.dslx_typing.specs.Typed.WellTyped.{IsWellTypedEnv, types_at}
 use Rattle.dslx_typing.proofs.Lemmas.Typed.{all_are, or_false}
-use Rattle.dslx_typing.proofs.Lemmas.Sound.{all_in, none_in, not_broken, type_stands}
-use Rattle.dslx_typing.specs.Complete.Standing.{AreTyped, IsFineFound, StructStands}
-use Rattle.dslx_typing.proofs.OnComplete.Places.{item_env, item_typed, none_own}
+use Rattle.dslx_typing.proofs.Lemmas.Sound.{all_in, none_in, not_broken, type_has_den}
+use Rattle.dslx_typing.specs.Complete.HasValue.{AreTyped, IsWellTypedFound, StructHasType}
+use Rattle.dslx_typing.proofs.OnComplete.Scopes.{item_env, item_typed, none_own}
 
 -- ---- names that stand once
 
@@ -41,8 +41,8 @@ beside_at a as' true o = refl
 beside_at a as' false None = refl
 beside_at a as' false (Some k) = refl
 
-place_is : (n m : List ℕ) (ns : List (List ℕ)) → place_in n (m ∷ ns) ≡ place_behind (bytes_eq n m) (place_in n ns)
-place_is n m ns = by_place (bytes_eq n m) (place_in n ns)
+place_is : (n m : List ℕ) (ns : List (List ℕ)) → index_in n (m ∷ ns) ≡ place_behind (bytes_eq n m) (index_in n ns)
+place_is n m ns = by_place (bytes_eq n m) (index_in n ns)
   where
     next : Option ℕ → Option ℕ
     next None = None
@@ -54,7 +54,7 @@ place_is n m ns = by_place (bytes_eq n m) (place_in n ns)
     by_place false (Some k) = refl
 
 beside_is : {A : Type 0} (n m : List ℕ) (ns : List (List ℕ)) (a : A) (as' : List A) → beside n (m ∷ ns) (a ∷ as') ≡ (if bytes_eq n m then Some a else beside n ns as')
-beside_is n m ns a as' = ap (λ o. and_then o (λ k. slice_get (a ∷ as') k)) (place_is n m ns) ∙ beside_at a as' (bytes_eq n m) (place_in n ns)
+beside_is n m ns a as' = ap (λ o. and_then o (λ k. slice_get (a ∷ as') k)) (place_is n m ns) ∙ beside_at a as' (bytes_eq n m) (index_in n ns)
 
 not_in : (n m : List ℕ) (ns : List (List ℕ)) → is_in n (m ∷ ns) ≡ false → (bytes_eq n m ≡ false) × (is_in n ns ≡ false)
 not_in n m ns e = by_name (bytes_eq n m) e
@@ -80,29 +80,29 @@ itself_found before names types m ns t ts h e = h m e ∙ beside_is m m ns t ts 
 -- ---- fields
 
 -- the types of fields with which nothing is wrong
-record FieldsStand (sight : Sight) (env : Env) (before : List (List ℕ)) (fs : List Field) : Type 0 where
+record FieldsHaveValues (context : TypeEnv) (env : Env) (before : List (List ℕ)) (fs : List Field) : Type 0 where
   types : List DslxType
-  are : map (λ (f : Field). (judged_inner sight f.ty).ty) fs ≡ map Some types
-  declared : AllDeclared (types_at sight) types
+  are : map (λ (f : Field). (typing_of_inner context f.ty).ty) fs ≡ map Some types
+  declared : AllDeclared (types_at context) types
   means : map (λ (f : Field). written_type f.ty env) fs ≡ map Some types
   own : (names : List (List ℕ)) (all : List DslxType) → FoundBehind before names all (map name_of_field fs) types → OwnTypes names all (map name_of_field fs) types
 
-fields_stand : (sight : Sight) (env : Env) → IsWellTyped sight env → (before : List (List ℕ)) (fs : List Field) → (fields_found sight before fs).faults ≡ [] → list_all sight.known.is_sound (fields_found sight before fs).reached ≡ true
-    → FieldsStand sight env before fs
-fields_stand sight env h before [] f r = record { types = []; are = refl; declared = tt; means = refl; own = λ names all q. tt }
-fields_stand sight env h before (g ∷ fs) f r =
+fields_have_values : (context : TypeEnv) (env : Env) → IsWellTypedEnv context env → (before : List (List ℕ)) (fs : List Field) → (fields_found context before fs).faults ≡ [] → list_all context.known.is_sound (fields_found context before fs).reached ≡ true
+    → FieldsHaveValues context env before fs
+fields_have_values context env h before [] f r = record { types = []; are = refl; declared = tt; means = refl; own = λ names all q. tt }
+fields_have_values context env h before (g ∷ fs) f r =
     let listed = listed_name before g.name in
-    let j = judged_inner sight g.ty in
-    let written = judged_type sight g.ty in
-    let rest = fields_found sight (g.name.name ∷ before) fs in
+    let j = typing_of_inner context g.ty in
+    let written = typing_of_type context g.ty in
+    let rest = fields_found context (g.name.name ∷ before) fs in
     let a = none_in listed (j.faults ++ rest.faults) f in
     let b = none_in j.faults rest.faults a.1 in
-    let s = all_in sight.known.is_sound j.reached rest.reached r in
+    let s = all_in context.known.is_sound j.reached rest.reached r in
     let c = none_in written.faults (unit_faults (span_of_type (type_pair g.ty)) written.ty) b.0 in
-    let k = (type_stands g.ty).known sight env h (record { faults = c.0; reached = s.0 }) in
-    let m = (type_stands g.ty).means sight env h k.0 k.1 in
+    let k = (type_has_den g.ty).known context env h (record { faults = c.0; reached = s.0 }) in
+    let m = (type_has_den g.ty).means context env h k.0 k.1 in
     let fresh = or_false (is_own_name g.name.name) (is_in g.name.name before) (not_broken (is_own_name g.name.name || is_in g.name.name before) 2 g.name.span a.0) in
-    let more = fields_stand sight env h (g.name.name ∷ before) fs b.1 s.1 in
+    let more = fields_have_values context env h (g.name.name ∷ before) fs b.1 s.1 in
     record {
       types = k.0 ∷ more.types;
       are = λ i. k.1 i ∷ more.are i;
@@ -114,15 +114,15 @@ fields_stand sight env h before (g ∷ fs) f r =
       );
     }
 
-pub struct_stands : (known : Known) → IsComplete known → AreTyped known → (s : Struct) → IsFineFound known (struct_seen known s).found → StructStands known s
-struct_stands known complete typed s fine =
-    let sight = item_sight known s.name.name [] in
-    let found = fields_found sight [] s.fields in
+pub struct_has_type : (known : GlobalEnv) → IsComplete known → AreTyped known → (s : Struct) → IsWellTypedFound known (struct_seen known s).found → StructHasType known s
+struct_has_type known complete typed s well_typed =
+    let context = item_type_env known s.name.name [] in
+    let found = fields_found context [] s.fields in
     let empty = breaks_if (is_empty s.fields) 31 s.span in
     let made : Option (List DslxType) → Option DslxType = λ o. and_then o (λ ts. Some (ty.Struct s.name.name (map name_of_field s.fields) ts)) in
-    let f = none_in (found.faults ++ empty) (type_limits s.span.to (unless_broken (found.faults ++ empty) (made (fields_types sight s.fields)))) fine.faults in
+    let f = none_in (found.faults ++ empty) (type_limits s.span.to (unless_broken (found.faults ++ empty) (made (fields_types context s.fields)))) well_typed.faults in
     let g = none_in found.faults empty f.0 in
-    let k = fields_stand sight (item_env known []) (item_typed known complete typed s.name.name [] (none_own known)) [] s.fields g.0 fine.reached in
+    let k = fields_have_values context (item_env known []) (item_typed known complete typed s.name.name [] (none_own known)) [] s.fields g.0 well_typed.reached in
     record {
       fields = k.types;
       is = (λ i. unless_broken (f.0 i) (made (all_some (k.are i)))) ∙ ap made (all_are k.types);

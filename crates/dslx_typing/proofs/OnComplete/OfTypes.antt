@@ -3,7 +3,7 @@ use Rattle.std.proofs.Common.{◌≡◌, ℕ, Bool, true, false, List, [], ◌�
 use mathlib.Core.Bool.{true≢false}
 use Rattle.std.specs.Prelude.{unwrap_or}
 use Rattle.xb_value.proofs.Lemmas.Types.{EachHas}
-use Rattle.dslx_tree.specs.declared.item.Parameter.{Parameter}
+use Rattle.dslx_tree.specs.declared.item.Parametric.{Parametric}
 use Rattle.dslx_meaning.specs.Environment.{Given}
 use Rattle.dslx_meaning.specs.Items.{with_number}
 use Rattle.dslx_meaning.specs.Types.{unit_type}
@@ -14,12 +14,12 @@ use Rattle.dslx_meaning.specs.declared.ty.DslxType.TheOpen.{DslxType-F}
 use Rattle.dslx_meaning.specs.declared.ty.DslxType.TheViews as views
 use Rattle.dslx_meaning.specs.declared.ty.DslxType.TheFolds.{fold-roll-DslxType, map-DslxType}
 use Rattle.dslx_meaning.specs.declared.value.DslxValue.{DslxValue}
-use Rattle.dslx_meaning.specs.Rules.Judging.{Known}
+use Rattle.dslx_meaning.specs.Rules.TypeEnvs.{GlobalEnv}
 use Rattle.dslx_typing.specs.Typed.Declared.{AllDeclared, Declarations, IsDeclared, as_declared, declared_step}
 use Rattle.dslx_typing.specs.Typed.Given.{GivesOf}
-use Rattle.dslx_typing.specs.Typed.Numbers.{AllOwn, FitNumbers}
+use Rattle.dslx_typing.specs.Typed.Numbers.{AllOwn, FitParametricArgs}
 use Rattle.dslx_typing.proofs.Lemmas.Typed.{array_declared, bits_declared, element_declared, own_value, parts_declared, struct_declared, tuple_declared, type_induction}
-use Rattle.dslx_typing.specs.Complete.Standing.{DeclareMore}
+use Rattle.dslx_typing.specs.Complete.HasValue.{DeclareMore}
 
 declared_as : (types : Declarations) (l : DslxType-F DslxType) → as_declared types (views.roll-DslxType l) ≡ declared_step types (map-DslxType DslxType DslxType (as_declared types) l)
 declared_as types l = fold-roll-DslxType DslxType (declared_step types) l
@@ -60,8 +60,8 @@ pub gives_still : (types more : Declarations) → DeclareMore types more → (t 
 gives_still types more stay t o g = record { value = g.value; is = g.is; of = g.of; declared = declared_stays types more stay t g.declared }
 
 -- values of the types of their parameters are of their own
-pub own_numbers : (known : Known) (home : List ℕ) (so_far : List Given) (ps : List Parameter) (vs : List DslxValue) → FitNumbers known home so_far ps vs → AllOwn known.items.type_named vs
-own_numbers known home so_far [] [] h = tt
-own_numbers known home so_far [] (v ∷ vs) h = absurd h
-own_numbers known home so_far (p ∷ ps) [] h = absurd h
-own_numbers known home so_far (p ∷ ps) (v ∷ vs) h = (own_value known.items.type_named h.0.0 (Some v) v refl h.0.2, own_numbers known home (with_number so_far p v) ps vs h.1)
+pub own_parametric_args : (known : GlobalEnv) (owner : List ℕ) (so_far : List Given) (ps : List Parametric) (vs : List DslxValue) → FitParametricArgs known owner so_far ps vs → AllOwn known.items.type_named vs
+own_parametric_args known owner so_far [] [] h = tt
+own_parametric_args known owner so_far [] (v ∷ vs) h = absurd h
+own_parametric_args known owner so_far (p ∷ ps) [] h = absurd h
+own_parametric_args known owner so_far (p ∷ ps) (v ∷ vs) h = (own_value known.items.type_named h.0.0 (Some v) v refl h.0.2, own_parametric_args known owner (with_number so_far p v) ps vs h.1)

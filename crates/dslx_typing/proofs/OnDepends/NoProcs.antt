@@ -84,9 +84,9 @@ node_holds (Node-F.Node::Array None es dots) bound = each_holds es bound
 node_holds (Node-F.Node::Array (Some t) es dots) bound = no_procs_join (t.0 bound) (all_mentions (map (λ (p : MentionsPart). p.0) es) bound) (t.2 bound) (each_holds es bound)
 node_holds (Node-F.Node::Name name) bound = value_holds name bound
 node_holds (Node-F.Node::Member e a) bound = (tt, tt)
-node_holds (Node-F.Call f numbers es) bound =
-    three_join (if is_text_function (kind_of_call f.name) then mention AsFunction f.name else []) (all_mentions (map (λ (p : MentionsPart). p.0) numbers) bound) (all_mentions (map (λ (p : MentionsPart). p.0) es) bound)
-    (function_holds f.name (is_text_function (kind_of_call f.name))) (each_holds numbers bound) (each_holds es bound)
+node_holds (Node-F.Call f parametric_args es) bound =
+    three_join (if is_text_function (kind_of_call f.name) then mention AsFunction f.name else []) (all_mentions (map (λ (p : MentionsPart). p.0) parametric_args) bound) (all_mentions (map (λ (p : MentionsPart). p.0) es) bound)
+    (function_holds f.name (is_text_function (kind_of_call f.name))) (each_holds parametric_args bound) (each_holds es bound)
 node_holds (Node-F.Node::Tuple es) bound = each_holds es bound
 node_holds (Node-F.Struct s fields None) bound = three_join (mention AsStruct s.name) (all_mentions (map (λ (p : MentionsPart). p.0) fields) bound) [] (tt, tt) (each_holds fields bound) tt
 node_holds (Node-F.Struct s fields (Some rest)) bound = three_join (mention AsStruct s.name) (all_mentions (map (λ (p : MentionsPart). p.0) fields) bound) (rest.0 bound) (tt, tt) (each_holds fields bound) (rest.2 bound)

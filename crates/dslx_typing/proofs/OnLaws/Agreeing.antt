@@ -111,7 +111,7 @@ meaning_moves names a b a' b' x AsPattern name h = record {
 }
 meaning_moves names a b a' b' x AsType name h = ap (λ i. i.type_named name) x.first_items ∙ h ∙ sym (ap (λ i. i.type_named name) x.second_items)
 meaning_moves names a b a' b' x AsFunction name h =
-    λ numbers operands. ap (λ i. i.call name numbers operands) x.first_items ∙ h numbers operands ∙ sym (ap (λ i. i.call name numbers operands) x.second_items)
+    λ parametric_args operands. ap (λ i. i.call name parametric_args operands) x.first_items ∙ h parametric_args operands ∙ sym (ap (λ i. i.call name parametric_args operands) x.second_items)
 meaning_moves names a b a' b' x AsProc name h = tt
 meaning_moves names a b a' b' x AsEnum name h = λ m. ap (λ i. i.member name m) x.first_items ∙ h m ∙ sym (ap (λ i. i.member name m) x.second_items)
 meaning_moves names a b a' b' x AsStruct name h = ap (λ i. i.struct_named name) x.first_items ∙ h ∙ sym (ap (λ i. i.struct_named name) x.second_items)

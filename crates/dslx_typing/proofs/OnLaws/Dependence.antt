@@ -12,12 +12,12 @@ use Rattle.dslx_meaning.specs.Values.{bits_of, elements_of, bool_value}
 use Rattle.dslx_meaning.specs.Operators.{number_value, truth, binary_value, prefix_value, cast_value, slice_value, part_value, index_value, element_value}
 use Rattle.dslx_meaning.specs.Environment.{Env}
 use Rattle.dslx_meaning.specs.Meaning as m
-use Rattle.dslx_meaning.specs.Meaning.{Evaluates, Meant, PatternMeant, Typing, Going, ArmMeant, FieldMeant}
+use Rattle.dslx_meaning.specs.Meaning.{ValueDen, ExprDen, PatternDen, TypeDen, StmtDen, ArmDen, FieldDen}
 use Rattle.dslx_meaning.specs.declared.ty.DslxType.{DslxType, out-DslxType}
 use Rattle.dslx_meaning.specs.declared.ty.DslxType as ty
 use Rattle.dslx_meaning.specs.declared.ty.DslxType.TheOpen.{DslxType-F}
 use Rattle.dslx_meaning.specs.declared.value.DslxValue.{DslxValue, Tuple, Array, Struct}
-use Rattle.dslx_meaning.specs.declared.value.Bare.{Bare}
+use Rattle.dslx_meaning.specs.declared.value.UntypedLiteral.{UntypedLiteral}
 use Rattle.dslx_meaning.specs.Rules.Mentions as k
 use Rattle.dslx_meaning.specs.Rules.Mentions.{AsEnum, AsFunction, AsPattern, Mention, Mentions, NamesBound, mention, all_mentions, binders_mentions, binders_names, bound_behind, statements_mentions, mentions_if}
 use Rattle.dslx_typing.specs.Laws.Agreement.{AgreeOn}
@@ -27,38 +27,38 @@ use Rattle.dslx_typing.proofs.OnLaws.Agreeing.{NamesAgree, ConstantsAgree, parts
 
 abbrev pub meanings : Carriers
 meanings = record {
-  stmt = Going;
-  node = Meant;
-  shape = PatternMeant;
-  type_node = Typing;
-  block = Evaluates;
-  bind = Going;
-  arg = Meant;
-  arm = ArmMeant;
-  expr = Meant;
-  field = FieldMeant;
-  loop = Evaluates;
-  number = Meant;
-  pattern = PatternMeant;
-  type_expr = Typing;
+  stmt = StmtDen;
+  node = ExprDen;
+  shape = PatternDen;
+  type_node = TypeDen;
+  block = ValueDen;
+  bind = StmtDen;
+  arg = ExprDen;
+  arm = ArmDen;
+  expr = ExprDen;
+  field = FieldDen;
+  loop = ValueDen;
+  number = ExprDen;
+  pattern = PatternDen;
+  type_expr = TypeDen;
 }
 
 abbrev pub meaning_steps : Steps meanings
 meaning_steps = record {
-  stmt = m.stmt_meant;
-  node = m.node_meant;
-  shape = m.shape_meant;
-  type_node = m.type_meant;
-  block = m.block_meant;
-  bind = m.let_meant;
-  arg = m.arg_meant;
-  arm = m.arm_meant;
-  expr = m.expr_meant;
-  field = m.field_meant;
-  loop = m.for_meant;
+  stmt = m.stmt_den;
+  node = m.node_den;
+  shape = m.shape_den;
+  type_node = m.type_den;
+  block = m.block_den;
+  bind = m.let_den;
+  arg = m.arg_den;
+  arm = m.arm_den;
+  expr = m.expr_den;
+  field = m.field_den;
+  loop = m.for_den;
   number = m.number_node;
-  pattern = m.pattern_meant;
-  type_expr = m.type_expr_meant;
+  pattern = m.pattern_den;
+  type_expr = m.type_expr_den;
 }
 
 abbrev pub mentions : Carriers
@@ -103,42 +103,42 @@ mention_steps = record {
 abbrev pub DependsOn : {X : Type 0} → Mentions → (Env → X) → Type 0
 DependsOn ms f = (bound : List (List ℕ)) (a b : Env) → NamesAgree bound a b → AgreeOn (ms bound) a b → f a ≡ f b
 
-abbrev pub ValueDepends : Meant → Mentions → Type 0
+abbrev pub ValueDepends : ExprDen → Mentions → Type 0
 ValueDepends v ms = DependsOn ms v.value
 
-abbrev pub TypeDepends : Typing → Mentions → Type 0
+abbrev pub TypeDepends : TypeDen → Mentions → Type 0
 TypeDepends t ms = DependsOn ms t
 
-abbrev pub BlockDepends : Evaluates → Mentions → Type 0
+abbrev pub BlockDepends : ValueDen → Mentions → Type 0
 BlockDepends f ms = DependsOn ms f
 
 -- a statement, where the rest gives one thing behind it
-abbrev pub GoingDepends : Going → NamesBound → Type 0
-GoingDepends g n = (bound : List (List ℕ)) (a b : Env) (rest : Evaluates) → NamesAgree bound a b → AgreeOn (n.mentions bound) a b
+abbrev pub StmtDenDepends : StmtDen → NamesBound → Type 0
+StmtDenDepends g n = (bound : List (List ℕ)) (a b : Env) (rest : ValueDen) → NamesAgree bound a b → AgreeOn (n.mentions bound) a b
     → ((a' b' : Env) → Extend n.names a b a' b' → rest a' ≡ rest b') → g rest a ≡ g rest b
 
-pub record PatternDepends (p : PatternMeant) (n : NamesBound) : Type 0 where
+pub record PatternDepends (p : PatternDen) (n : NamesBound) : Type 0 where
   pub same_names : p.names ≡ n.names
   pub fits : (bound : List (List ℕ)) (a b a' b' : Env) (v : DslxValue) → NamesAgree bound a b → AgreeOn (n.mentions bound) a b → Extend [] a b a' b'
       → FitAlike n.names a' b' (p.fits a v a') (p.fits b v b')
   pub constants : (bound : List (List ℕ)) (a b : Env) → AgreeOn (n.mentions bound) a b → ConstantsAgree p.names a b
 
-pub record ArmDepends (arm : ArmMeant) (ms : Mentions) : Type 0 where
+pub record ArmDepends (arm : ArmDen) (ms : Mentions) : Type 0 where
   pub taken : (bound : List (List ℕ)) (a b : Env) (v : DslxValue) (r r' : Option DslxValue) → NamesAgree bound a b → AgreeOn (ms bound) a b → r ≡ r'
       → m.take_arm arm (m.first_fit arm.patterns v a) r ≡ m.take_arm arm (m.first_fit arm.patterns v b) r'
   pub without : (bound : List (List ℕ)) (a b : Env) → NamesAgree bound a b → AgreeOn (ms bound) a b → m.value_without arm a ≡ m.value_without arm b
 
-abbrev pub FieldDepends : FieldMeant → Mentions → Type 0
+abbrev pub FieldDepends : FieldDen → Mentions → Type 0
 FieldDepends f ms = DependsOn ms f.value
 
 abbrev pub dependence : Relations meanings mentions
 dependence = record {
-  stmt = GoingDepends;
+  stmt = StmtDenDepends;
   node = ValueDepends;
   shape = PatternDepends;
   type_node = TypeDepends;
   block = BlockDepends;
-  bind = GoingDepends;
+  bind = StmtDenDepends;
   arg = ValueDepends;
   arm = ArmDepends;
   expr = ValueDepends;
@@ -153,54 +153,54 @@ dependence = record {
 abbrev Parts : Carriers
 Parts = both meanings mentions dependence
 
-abbrev MeantPart : Type 0
-MeantPart = (v : Meant) × (ms : Mentions) × ValueDepends v ms
+abbrev ExprDenPart : Type 0
+ExprDenPart = (v : ExprDen) × (ms : Mentions) × ValueDepends v ms
 
 abbrev TypePart : Type 0
-TypePart = (t : Typing) × (ms : Mentions) × TypeDepends t ms
+TypePart = (t : TypeDen) × (ms : Mentions) × TypeDepends t ms
 
 abbrev FieldPart : Type 0
-FieldPart = (f : FieldMeant) × (ms : Mentions) × FieldDepends f ms
+FieldPart = (f : FieldDen) × (ms : Mentions) × FieldDepends f ms
 
 abbrev ArmPart : Type 0
-ArmPart = (arm : ArmMeant) × (ms : Mentions) × ArmDepends arm ms
+ArmPart = (arm : ArmDen) × (ms : Mentions) × ArmDepends arm ms
 
 abbrev PatternPart : Type 0
-PatternPart = (p : PatternMeant) × (n : NamesBound) × PatternDepends p n
+PatternPart = (p : PatternDen) × (n : NamesBound) × PatternDepends p n
 
-abbrev GoingPart : Type 0
-GoingPart = (g : Going) × (n : NamesBound) × GoingDepends g n
+abbrev StmtDenPart : Type 0
+StmtDenPart = (g : StmtDen) × (n : NamesBound) × StmtDenDepends g n
 
 -- ---- lists of parts
 
-values_same : (xs : List MeantPart) (bound : List (List ℕ)) (a b : Env) → NamesAgree bound a b → AgreeOn (all_mentions (map (λ x. x.1) xs) bound) a b
-    → map (λ (e : Meant). e.value a) (map (λ x. x.0) xs) ≡ map (λ (e : Meant). e.value b) (map (λ x. x.0) xs)
+values_same : (xs : List ExprDenPart) (bound : List (List ℕ)) (a b : Env) → NamesAgree bound a b → AgreeOn (all_mentions (map (λ x. x.1) xs) bound) a b
+    → map (λ (e : ExprDen). e.value a) (map (λ x. x.0) xs) ≡ map (λ (e : ExprDen). e.value b) (map (λ x. x.0) xs)
 values_same [] bound a b n h = refl
 values_same (x ∷ xs) bound a b n h =
-    let r = parts a b (x.1 bound) (all_mentions (map (λ (y : MeantPart). y.1) xs) bound) h in
+    let r = parts a b (x.1 bound) (all_mentions (map (λ (y : ExprDenPart). y.1) xs) bound) h in
     λ i. x.2 bound a b n r.0 i ∷ values_same xs bound a b n r.1 i
 
 types_same : (xs : List TypePart) (bound : List (List ℕ)) (a b : Env) → NamesAgree bound a b → AgreeOn (all_mentions (map (λ x. x.1) xs) bound) a b
-    → map (λ (t : Typing). t a) (map (λ x. x.0) xs) ≡ map (λ (t : Typing). t b) (map (λ x. x.0) xs)
+    → map (λ (t : TypeDen). t a) (map (λ x. x.0) xs) ≡ map (λ (t : TypeDen). t b) (map (λ x. x.0) xs)
 types_same [] bound a b n h = refl
 types_same (x ∷ xs) bound a b n h =
     let r = parts a b (x.1 bound) (all_mentions (map (λ (y : TypePart). y.1) xs) bound) h in
     λ i. x.2 bound a b n r.0 i ∷ types_same xs bound a b n r.1 i
 
 -- an element of a literal
-element_same : (t : DslxType) (a b : Env) (bare : Option Bare) (value : Evaluates) → value a ≡ value b
-    → m.element_meant t a (record { bare = bare; value = value }) ≡ m.element_meant t b (record { bare = bare; value = value })
+element_same : (t : DslxType) (a b : Env) (bare : Option UntypedLiteral) (value : ValueDen) → value a ≡ value b
+    → m.element_den t a (record { bare = bare; value = value }) ≡ m.element_den t b (record { bare = bare; value = value })
 element_same t a b None value e = e
 element_same t a b (Some number) value e = refl
 
-elements_same : (t : DslxType) (xs : List MeantPart) (bound : List (List ℕ)) (a b : Env) → NamesAgree bound a b → AgreeOn (all_mentions (map (λ x. x.1) xs) bound) a b
-    → map (m.element_meant t a) (map (λ x. x.0) xs) ≡ map (m.element_meant t b) (map (λ x. x.0) xs)
+elements_same : (t : DslxType) (xs : List ExprDenPart) (bound : List (List ℕ)) (a b : Env) → NamesAgree bound a b → AgreeOn (all_mentions (map (λ x. x.1) xs) bound) a b
+    → map (m.element_den t a) (map (λ x. x.0) xs) ≡ map (m.element_den t b) (map (λ x. x.0) xs)
 elements_same t [] bound a b n h = refl
 elements_same t (x ∷ xs) bound a b n h =
-    let r = parts a b (x.1 bound) (all_mentions (map (λ (y : MeantPart). y.1) xs) bound) h in
+    let r = parts a b (x.1 bound) (all_mentions (map (λ (y : ExprDenPart). y.1) xs) bound) h in
     λ i. element_same t a b x.0.bare x.0.value (x.2 bound a b n r.0) i ∷ elements_same t xs bound a b n r.1 i
 
-array_same : (dots : Bool) (xs : List MeantPart) (bound : List (List ℕ)) (a b : Env) → NamesAgree bound a b → AgreeOn (all_mentions (map (λ x. x.1) xs) bound) a b
+array_same : (dots : Bool) (xs : List ExprDenPart) (bound : List (List ℕ)) (a b : Env) → NamesAgree bound a b → AgreeOn (all_mentions (map (λ x. x.1) xs) bound) a b
     → (u : DslxType-F DslxType) → m.array_at a (map (λ x. x.0) xs) dots u ≡ m.array_at b (map (λ x. x.0) xs) dots u
 array_same dots xs bound a b n h (DslxType-F.Array t k) = ap (λ os. and_then (all_some os) (m.filled dots k)) (elements_same t xs bound a b n h)
 array_same dots xs bound a b n h (DslxType-F.Bits s w) = refl
@@ -220,7 +220,7 @@ field_same name (x ∷ xs) bound a b r r' n h e =
     let q = parts a b (x.1 bound) (all_mentions (map (λ (y : FieldPart). y.1) xs) bound) h in
     pick (is_in name (x.0.name ∷ [])) (x.2 bound a b n q.0) (field_same name xs bound a b r r' n q.1 e)
   where
-    rest : Option Evaluates
+    rest : Option ValueDen
     rest = m.field_written name (map (λ (y : FieldPart). y.0) xs)
 
     pick : (t : Bool) → x.0.value a ≡ x.0.value b → m.field_given a r name rest ≡ m.field_given b r' name rest
@@ -246,7 +246,7 @@ struct_same xs bound a b r r' n h e DslxType-F.Token = refl
 -- ---- calls
 
 call_same : (kind : CallKind) (name : List ℕ) (a b : Env) → AgreeOn (if is_text_function kind then mention AsFunction name else []) a b → (ns vs : List DslxValue)
-    → m.call_meant kind name a ns vs ≡ m.call_meant kind name b ns vs
+    → m.call_den kind name a ns vs ≡ m.call_den kind name b ns vs
 call_same Calls name a b h ns vs = h.0 ns vs
 call_same _ name a b h ns vs = refl
 
@@ -281,7 +281,7 @@ tuple_fits ps (Some vs) bound a b a' b' n h x = each_fits ps vs bound a b a' b' 
 
 -- at its own place
 fits_there : (p : PatternPart) (bound : List (List ℕ)) (a b : Env) (v : DslxValue) → NamesAgree bound a b → AgreeOn (p.1.mentions bound) a b
-    → FitAlike p.1.names a b (m.fits_at_place p.0 v a) (m.fits_at_place p.0 v b)
+    → FitAlike p.1.names a b (m.fits_in_scope p.0 v a) (m.fits_in_scope p.0 v b)
 fits_there p bound a b v n h = p.2.fits bound a b a b v n h (unchanged [] a b tt)
 
 -- ---- arms
@@ -291,17 +291,17 @@ any_fits : (ps : List PatternPart) (v : DslxValue) (bound : List (List ℕ)) (a 
 any_fits [] v bound a b n h = tt
 any_fits (p ∷ ps) v bound a b n h =
     let r = parts a b (p.1.mentions bound) (binders_mentions (map (λ (y : PatternPart). y.1) ps) bound) h in
-    first_or_rest [] a b (m.fits_at_place p.0 v a) (m.fits_at_place p.0 v b) (m.first_fit (map (λ (y : PatternPart). y.0) ps) v a) (m.first_fit (map (λ (y : PatternPart). y.0) ps) v b)
-    (binds_nothing p.1.names a b (m.fits_at_place p.0 v a) (m.fits_at_place p.0 v b) (fits_there p bound a b v n r.0)) (any_fits ps v bound a b n r.1)
+    first_or_rest [] a b (m.fits_in_scope p.0 v a) (m.fits_in_scope p.0 v b) (m.first_fit (map (λ (y : PatternPart). y.0) ps) v a) (m.first_fit (map (λ (y : PatternPart). y.0) ps) v b)
+    (binds_nothing p.1.names a b (m.fits_in_scope p.0 v a) (m.fits_in_scope p.0 v b) (fits_there p bound a b v n r.0)) (any_fits ps v bound a b n r.1)
 
 alternatives_fit : (ps : List PatternPart) (v : DslxValue) (bound : List (List ℕ)) (a b : Env) → NamesAgree bound a b → AgreeOn (binders_mentions (map (λ x. x.1) ps) bound) a b
     → FitAlike (bound_behind (map (λ x. x.1) ps)) a b (m.first_fit (map (λ x. x.0) ps) v a) (m.first_fit (map (λ x. x.0) ps) v b)
 alternatives_fit [] v bound a b n h = tt
 alternatives_fit (p ∷ []) v bound a b n h =
-    first_or_rest p.1.names a b (m.fits_at_place p.0 v a) (m.fits_at_place p.0 v b) None None (fits_there p bound a b v n (parts a b (p.1.mentions bound) [] h).0) tt
+    first_or_rest p.1.names a b (m.fits_in_scope p.0 v a) (m.fits_in_scope p.0 v b) None None (fits_there p bound a b v n (parts a b (p.1.mentions bound) [] h).0) tt
 alternatives_fit (p ∷ q ∷ ps) v bound a b n h = any_fits (p ∷ q ∷ ps) v bound a b n h
 
-take_same : (arm : ArmMeant) (ns : List (List ℕ)) (a b : Env) (oa ob : Option Env) (r r' : Option DslxValue) → FitAlike ns a b oa ob
+take_same : (arm : ArmDen) (ns : List (List ℕ)) (a b : Env) (oa ob : Option Env) (r r' : Option DslxValue) → FitAlike ns a b oa ob
     → ((a' b' : Env) → Extend ns a b a' b' → arm.value a' ≡ arm.value b') → r ≡ r' → m.take_arm arm oa r ≡ m.take_arm arm ob r'
 take_same arm ns a b None None r r' h inner e = e
 take_same arm ns a b None (Some b') r r' h inner e = absurd h
@@ -314,7 +314,7 @@ constant_names [] a b h = tt
 constant_names (p ∷ []) a b h = subst (λ ns. NamesAgree ns a b) p.2.same_names (names_first a b p.0.names [] h)
 constant_names (p ∷ q ∷ ps) a b h = tt
 
-without_same : (ps : List PatternPart) (value : MeantPart) (bound : List (List ℕ)) (a b : Env) → NamesAgree bound a b
+without_same : (ps : List PatternPart) (value : ExprDenPart) (bound : List (List ℕ)) (a b : Env) → NamesAgree bound a b
     → AgreeOn (binders_mentions (map (λ x. x.1) ps) bound ++ value.1 (bound_behind (map (λ x. x.1) ps) ++ bound)) a b
     → (t : Bool) → list_all a.items.is_constant (m.all_names (map (λ x. x.0) ps)) ≡ t → (if t then value.0.value a else None) ≡ (if t then value.0.value b else None)
 without_same ps value bound a b n h true e =
@@ -324,14 +324,14 @@ without_same ps value bound a b n h true e =
     (names_join a b behind bound (constant_names ps a b (constants_values a b (m.all_names (map (λ (y : PatternPart). y.0) ps)) (patterns_constants ps bound a b r.0) e)) n) r.1
 without_same ps value bound a b n h false e = refl
 
-arm_depends : (x : ArmLevel Parts) → ArmDepends (m.arm_meant (map_arm Parts meanings (firsts meanings mentions dependence) x)) (k.arm_mentions (map_arm Parts mentions (seconds meanings mentions dependence) x))
+arm_depends : (x : ArmLevel Parts) → ArmDepends (m.arm_den (map_arm Parts meanings (firsts meanings mentions dependence) x)) (k.arm_mentions (map_arm Parts mentions (seconds meanings mentions dependence) x))
 arm_depends x = record {
   taken = λ bound a b v r r' n h e.
       let own = binders_mentions (map (λ (y : PatternPart). y.1) x.patterns) bound in
       let behind = bound_behind (map (λ (y : PatternPart). y.1) x.patterns) in
       let inner = x.value.1 (behind ++ bound) in
       let q = parts a b own inner h in
-      take_same (m.arm_meant (map_arm Parts meanings (firsts meanings mentions dependence) x)) behind a b
+      take_same (m.arm_den (map_arm Parts meanings (firsts meanings mentions dependence) x)) behind a b
       (m.first_fit (map (λ (y : PatternPart). y.0) x.patterns) v a) (m.first_fit (map (λ (y : PatternPart). y.0) x.patterns) v b) r r'
       (alternatives_fit x.patterns v bound a b n q.0)
       (λ a' b' more. x.value.2 (behind ++ bound) a' b' (bound_moves behind bound a b a' b' more n) (mentions_move behind a b a' b' more inner q.1)) e;
@@ -357,19 +357,19 @@ arms_same (x ∷ y ∷ ys) v bound a b n h =
 
 -- ---- expressions
 
-node_depends : (x : NodeLevel Parts) → ValueDepends (m.node_meant (map_node Parts meanings (firsts meanings mentions dependence) x)) (k.node_mentions (map_node Parts mentions (seconds meanings mentions dependence) x))
+node_depends : (x : NodeLevel Parts) → ValueDepends (m.node_den (map_node Parts meanings (firsts meanings mentions dependence) x)) (k.node_mentions (map_node Parts mentions (seconds meanings mentions dependence) x))
 node_depends (Node-F.Node::Number x) = x.2
 node_depends (Node-F.Node::Bool bit) = λ bound a b n h. refl
 node_depends (Node-F.Node::Array None es dots) = λ bound a b n h. ap (λ os. and_then (all_some os) (λ vs. Some (Array vs))) (values_same es bound a b n h)
 node_depends (Node-F.Node::Array (Some t) es dots) = λ bound a b n h.
-    let r = parts a b (t.1 bound) (all_mentions (map (λ (y : MeantPart). y.1) es) bound) h in
+    let r = parts a b (t.1 bound) (all_mentions (map (λ (y : ExprDenPart). y.1) es) bound) h in
     λ i. and_then (t.2 bound a b n r.0 i) (λ u. array_same dots es bound a b n r.1 (out-DslxType u) i)
 node_depends (Node-F.Node::Name name) = λ bound a b n h. name_same name bound a b n h
 node_depends (Node-F.Node::Member e member) = λ bound a b n h. h.0 member.name
-node_depends (Node-F.Call callee numbers es) = λ bound a b n h.
+node_depends (Node-F.Call callee parametric_args es) = λ bound a b n h.
     let called = if is_text_function (kind_of_call callee.name) then mention AsFunction callee.name else [] in
-    let r = three_parts a b called (all_mentions (map (λ (y : MeantPart). y.1) numbers) bound) (all_mentions (map (λ (y : MeantPart). y.1) es) bound) h in
-    λ i. with_both (all_some (values_same numbers bound a b n r.1 i)) (all_some (values_same es bound a b n r.2 i)) (λ ns vs. call_same (kind_of_call callee.name) callee.name a b r.0 ns vs i)
+    let r = three_parts a b called (all_mentions (map (λ (y : ExprDenPart). y.1) parametric_args) bound) (all_mentions (map (λ (y : ExprDenPart). y.1) es) bound) h in
+    λ i. with_both (all_some (values_same parametric_args bound a b n r.1 i)) (all_some (values_same es bound a b n r.2 i)) (λ ns vs. call_same (kind_of_call callee.name) callee.name a b r.0 ns vs i)
 node_depends (Node-F.Node::Tuple es) = λ bound a b n h. ap (λ os. and_then (all_some os) (λ vs. Some (Tuple vs))) (values_same es bound a b n h)
 node_depends (Node-F.Struct name fields None) = λ bound a b n h.
     let r = parts a b (all_mentions (map (λ (y : FieldPart). y.1) fields) bound) [] h.1 in
@@ -409,7 +409,7 @@ node_depends (Node-F.Binary o l r) = λ bound a b n h.
 
 -- ---- types
 
-type_depends : (x : TypeNodeLevel Parts) → TypeDepends (m.type_meant (map_type_node Parts meanings (firsts meanings mentions dependence) x)) (k.type_mentions (map_type_node Parts mentions (seconds meanings mentions dependence) x))
+type_depends : (x : TypeNodeLevel Parts) → TypeDepends (m.type_den (map_type_node Parts meanings (firsts meanings mentions dependence) x)) (k.type_mentions (map_type_node Parts mentions (seconds meanings mentions dependence) x))
 type_depends (TypeNode-F.Bits signed width) = λ bound a b n h. refl
 type_depends (TypeNode-F.Wide signed e) = λ bound a b n h. ap (λ v. and_then (and_then (m.count_in e.0.bare v) m.some_count) (λ w. Some (ty.Bits signed w))) (e.2 bound a b n h)
 type_depends TypeNode-F.TypeNode::Bool = λ bound a b n h. refl
@@ -421,7 +421,7 @@ type_depends (TypeNode-F.TypeNode::Array t e) = λ bound a b n h.
 
 -- ---- patterns
 
-shape_depends : (x : ShapeLevel Parts) → PatternDepends (m.shape_meant (map_shape Parts meanings (firsts meanings mentions dependence) x)) (k.shape_mentions (map_shape Parts mentions (seconds meanings mentions dependence) x))
+shape_depends : (x : ShapeLevel Parts) → PatternDepends (m.shape_den (map_shape Parts meanings (firsts meanings mentions dependence) x)) (k.shape_mentions (map_shape Parts mentions (seconds meanings mentions dependence) x))
 shape_depends Shape-F.Wild = record { same_names = refl; fits = λ bound a b a' b' v n h x. unchanged [] a' b' tt; constants = λ bound a b h. tt }
 shape_depends (Shape-F.Shape::Bool bit) = record {
   same_names = refl;
@@ -452,18 +452,18 @@ shape_depends (Shape-F.Shape::Tuple ps) = record {
 
 -- ---- statements and blocks
 
-bind_depends : (x : LetLevel Parts) → GoingDepends (m.let_meant (map_bind Parts meanings (firsts meanings mentions dependence) x)) (k.let_mentions (map_bind Parts mentions (seconds meanings mentions dependence) x))
+bind_depends : (x : LetLevel Parts) → StmtDenDepends (m.let_den (map_bind Parts meanings (firsts meanings mentions dependence) x)) (k.let_mentions (map_bind Parts mentions (seconds meanings mentions dependence) x))
 bind_depends x = by_type x.ty
   where
-    going : (bound : List (List ℕ)) (a b : Env) (rest : Evaluates) → NamesAgree bound a b → AgreeOn (x.value.1 bound) a b → AgreeOn (x.pattern.1.mentions bound) a b
+    going : (bound : List (List ℕ)) (a b : Env) (rest : ValueDen) → NamesAgree bound a b → AgreeOn (x.value.1 bound) a b → AgreeOn (x.pattern.1.mentions bound) a b
         → ((a' b' : Env) → Extend x.pattern.1.names a b a' b' → rest a' ≡ rest b')
-        → and_then (x.value.0.value a) (λ v. and_then (m.fits_at_place x.pattern.0 v a) rest) ≡ and_then (x.value.0.value b) (λ v. and_then (m.fits_at_place x.pattern.0 v b) rest)
+        → and_then (x.value.0.value a) (λ v. and_then (m.fits_in_scope x.pattern.0 v a) rest) ≡ and_then (x.value.0.value b) (λ v. and_then (m.fits_in_scope x.pattern.0 v b) rest)
     going bound a b rest n own inner same =
         λ i. and_then (x.value.2 bound a b n own i)
-        (λ v. made_alike x.pattern.1.names a b (m.fits_at_place x.pattern.0 v a) (m.fits_at_place x.pattern.0 v b) rest rest (fits_there x.pattern bound a b v n inner) same i)
+        (λ v. made_alike x.pattern.1.names a b (m.fits_in_scope x.pattern.0 v a) (m.fits_in_scope x.pattern.0 v b) rest rest (fits_there x.pattern bound a b v n inner) same i)
 
     by_type : (o : Option TypePart)
-        → GoingDepends (m.let_meant (map_bind Parts meanings (firsts meanings mentions dependence) (record { span = x.span; pattern = x.pattern; ty = o; value = x.value })))
+        → StmtDenDepends (m.let_den (map_bind Parts meanings (firsts meanings mentions dependence) (record { span = x.span; pattern = x.pattern; ty = o; value = x.value })))
         (k.let_mentions (map_bind Parts mentions (seconds meanings mentions dependence) (record { span = x.span; pattern = x.pattern; ty = o; value = x.value })))
     by_type None = λ bound a b rest n h same.
         let r = parts a b (x.value.1 bound) (x.pattern.1.mentions bound) h in
@@ -472,31 +472,31 @@ bind_depends x = by_type x.ty
         let r = three_parts a b (t.1 bound) (x.value.1 bound) (x.pattern.1.mentions bound) h in
         going bound a b rest n r.1 r.2 same
 
-stmt_depends : (x : StmtLevel Parts) → GoingDepends (m.stmt_meant (map_stmt Parts meanings (firsts meanings mentions dependence) x)) (k.stmt_mentions (map_stmt Parts mentions (seconds meanings mentions dependence) x))
+stmt_depends : (x : StmtLevel Parts) → StmtDenDepends (m.stmt_den (map_stmt Parts meanings (firsts meanings mentions dependence) x)) (k.stmt_mentions (map_stmt Parts mentions (seconds meanings mentions dependence) x))
 stmt_depends (Stmt-F.Let l) = λ bound a b rest n h same. l.2 bound a b rest n h same
 stmt_depends (Stmt-F.Bare e) = λ bound a b rest n h same. λ i. and_then (e.2 bound a b n h i) (λ v. same a b (unchanged [] a b tt) i)
 
-statements_same : (xs : List GoingPart) (last : Evaluates) (ms : Mentions) → DependsOn ms last → (bound : List (List ℕ)) (a b : Env) → NamesAgree bound a b
-    → AgreeOn (statements_mentions (map (λ x. x.1) xs) ms bound) a b → m.statements_meant (map (λ x. x.0) xs) last a ≡ m.statements_meant (map (λ x. x.0) xs) last b
+statements_same : (xs : List StmtDenPart) (last : ValueDen) (ms : Mentions) → DependsOn ms last → (bound : List (List ℕ)) (a b : Env) → NamesAgree bound a b
+    → AgreeOn (statements_mentions (map (λ x. x.1) xs) ms bound) a b → m.statements_den (map (λ x. x.0) xs) last a ≡ m.statements_den (map (λ x. x.0) xs) last b
 statements_same [] last ms d bound a b n h = d bound a b n h
 statements_same (x ∷ xs) last ms d bound a b n h =
-    let behind = statements_mentions (map (λ (y : GoingPart). y.1) xs) ms (x.1.names ++ bound) in
+    let behind = statements_mentions (map (λ (y : StmtDenPart). y.1) xs) ms (x.1.names ++ bound) in
     let r = parts a b (x.1.mentions bound) behind h in
-    x.2 bound a b (m.statements_meant (map (λ (y : GoingPart). y.0) xs) last) n r.0
+    x.2 bound a b (m.statements_den (map (λ (y : StmtDenPart). y.0) xs) last) n r.0
     (λ a' b' more. statements_same xs last ms d (x.1.names ++ bound) a' b' (bound_moves x.1.names bound a b a' b' more n) (mentions_move x.1.names a b a' b' more behind r.1))
 
-block_depends : (x : BlockLevel Parts) → BlockDepends (m.block_meant (map_block Parts meanings (firsts meanings mentions dependence) x)) (k.block_mentions (map_block Parts mentions (seconds meanings mentions dependence) x))
+block_depends : (x : BlockLevel Parts) → BlockDepends (m.block_den (map_block Parts meanings (firsts meanings mentions dependence) x)) (k.block_mentions (map_block Parts mentions (seconds meanings mentions dependence) x))
 block_depends x = by_value x.value
   where
-    by_value : (o : Option MeantPart)
-        → BlockDepends (m.block_meant (map_block Parts meanings (firsts meanings mentions dependence) (record { span = x.span; statements = x.statements; value = o })))
+    by_value : (o : Option ExprDenPart)
+        → BlockDepends (m.block_den (map_block Parts meanings (firsts meanings mentions dependence) (record { span = x.span; statements = x.statements; value = o })))
         (k.block_mentions (map_block Parts mentions (seconds meanings mentions dependence) (record { span = x.span; statements = x.statements; value = o })))
-    by_value None = λ bound a b n h. statements_same x.statements (m.last_meant None) (mentions_if None) (λ bound a b n h. refl) bound a b n h
-    by_value (Some e) = λ bound a b n h. statements_same x.statements (m.last_meant (Some e.0)) (mentions_if (Some e.1)) e.2 bound a b n h
+    by_value None = λ bound a b n h. statements_same x.statements (m.last_den None) (mentions_if None) (λ bound a b n h. refl) bound a b n h
+    by_value (Some e) = λ bound a b n h. statements_same x.statements (m.last_den (Some e.0)) (mentions_if (Some e.1)) e.2 bound a b n h
 
 -- ---- loops
 
-loop_depends : (x : ForLevel Parts) → BlockDepends (m.for_meant (map_loop Parts meanings (firsts meanings mentions dependence) x)) (k.for_mentions (map_loop Parts mentions (seconds meanings mentions dependence) x))
+loop_depends : (x : ForLevel Parts) → BlockDepends (m.for_den (map_loop Parts meanings (firsts meanings mentions dependence) x)) (k.for_mentions (map_loop Parts mentions (seconds meanings mentions dependence) x))
 loop_depends x = by_type x.ty
   where
     inner_names : List (List ℕ) → List (List ℕ)
@@ -504,11 +504,11 @@ loop_depends x = by_type x.ty
 
     body_same : (bound : List (List ℕ)) (a b : Env) → NamesAgree bound a b → AgreeOn (x.index.1.mentions bound) a b → AgreeOn (x.accumulator.1.mentions bound) a b
         → AgreeOn (x.body.1 ((x.accumulator.1.names ++ x.index.1.names) ++ bound)) a b → (i acc : DslxValue)
-        → and_then (m.fits_at_place x.index.0 i a) (λ inner. and_then (m.fits_at_place x.accumulator.0 acc inner) x.body.0) ≡ and_then (m.fits_at_place x.index.0 i b) (λ inner. and_then (m.fits_at_place x.accumulator.0 acc inner) x.body.0)
+        → and_then (m.fits_in_scope x.index.0 i a) (λ inner. and_then (m.fits_in_scope x.accumulator.0 acc inner) x.body.0) ≡ and_then (m.fits_in_scope x.index.0 i b) (λ inner. and_then (m.fits_in_scope x.accumulator.0 acc inner) x.body.0)
     body_same bound a b n index accumulator body i acc =
-        made_alike x.index.1.names a b (m.fits_at_place x.index.0 i a) (m.fits_at_place x.index.0 i b) (λ inner. and_then (m.fits_at_place x.accumulator.0 acc inner) x.body.0) (λ inner. and_then (m.fits_at_place x.accumulator.0 acc inner) x.body.0)
+        made_alike x.index.1.names a b (m.fits_in_scope x.index.0 i a) (m.fits_in_scope x.index.0 i b) (λ inner. and_then (m.fits_in_scope x.accumulator.0 acc inner) x.body.0) (λ inner. and_then (m.fits_in_scope x.accumulator.0 acc inner) x.body.0)
         (fits_there x.index bound a b i n index)
-        (λ a' b' more. made_alike x.accumulator.1.names a' b' (m.fits_at_place x.accumulator.0 acc a') (m.fits_at_place x.accumulator.0 acc b') x.body.0 x.body.0
+        (λ a' b' more. made_alike x.accumulator.1.names a' b' (m.fits_in_scope x.accumulator.0 acc a') (m.fits_in_scope x.accumulator.0 acc b') x.body.0 x.body.0
         (fits_there x.accumulator bound a' b' acc (names_move x.index.1.names bound a b a' b' more n) (mentions_move x.index.1.names a b a' b' more (x.accumulator.1.mentions bound) accumulator))
         (λ a'' b'' still. x.body.2 ((x.accumulator.1.names ++ x.index.1.names) ++ bound) a'' b''
         (names_join a'' b'' (x.accumulator.1.names ++ x.index.1.names) bound
@@ -520,15 +520,15 @@ loop_depends x = by_type x.ty
     same : (bound : List (List ℕ)) (a b : Env) → NamesAgree bound a b → AgreeOn (x.from.1 bound) a b → AgreeOn (x.to.1 bound) a b → AgreeOn (x.start.1 bound) a b
         → AgreeOn (x.index.1.mentions bound) a b → AgreeOn (x.accumulator.1.mentions bound) a b → AgreeOn (x.body.1 ((x.accumulator.1.names ++ x.index.1.names) ++ bound)) a b
         → and_then (x.start.0.value a) (λ start. with_both (and_then (x.from.0.value a) bits_of) (and_then (x.to.0.value a) bits_of)
-        (m.loop_over (λ i acc. and_then (m.fits_at_place x.index.0 i a) (λ inner. and_then (m.fits_at_place x.accumulator.0 acc inner) x.body.0)) start))
+        (m.loop_over (λ i acc. and_then (m.fits_in_scope x.index.0 i a) (λ inner. and_then (m.fits_in_scope x.accumulator.0 acc inner) x.body.0)) start))
         ≡ and_then (x.start.0.value b) (λ start. with_both (and_then (x.from.0.value b) bits_of) (and_then (x.to.0.value b) bits_of)
-        (m.loop_over (λ i acc. and_then (m.fits_at_place x.index.0 i b) (λ inner. and_then (m.fits_at_place x.accumulator.0 acc inner) x.body.0)) start))
+        (m.loop_over (λ i acc. and_then (m.fits_in_scope x.index.0 i b) (λ inner. and_then (m.fits_in_scope x.accumulator.0 acc inner) x.body.0)) start))
     same bound a b n from to start index accumulator body =
         λ d. and_then (x.start.2 bound a b n start d) (λ s. with_both (and_then (x.from.2 bound a b n from d) bits_of) (and_then (x.to.2 bound a b n to d) bits_of)
         (m.loop_over (λ i acc. body_same bound a b n index accumulator body i acc d) s))
 
     by_type : (o : Option TypePart)
-        → BlockDepends (m.for_meant (map_loop Parts meanings (firsts meanings mentions dependence) (record { index = x.index; accumulator = x.accumulator; ty = o; from = x.from; to = x.to; body = x.body; start = x.start })))
+        → BlockDepends (m.for_den (map_loop Parts meanings (firsts meanings mentions dependence) (record { index = x.index; accumulator = x.accumulator; ty = o; from = x.from; to = x.to; body = x.body; start = x.start })))
         (k.for_mentions (map_loop Parts mentions (seconds meanings mentions dependence) (record { index = x.index; accumulator = x.accumulator; ty = o; from = x.from; to = x.to; body = x.body; start = x.start })))
     by_type o = λ bound a b n h.
         let body = x.body.1 ((x.accumulator.1.names ++ x.index.1.names) ++ bound) in
@@ -562,11 +562,11 @@ number_depends x = by_type x.ty
     by_type None = λ bound a b n h. refl
     by_type (Some t) = λ bound a b n h. ap (λ o. and_then o (λ u. number_value u (record { is_negative = x.is_negative; value = x.value }))) (t.2 bound a b n h)
 
-field_depends : (x : FieldValueLevel Parts) → FieldDepends (m.field_meant (map_field Parts meanings (firsts meanings mentions dependence) x)) (k.field_mentions (map_field Parts mentions (seconds meanings mentions dependence) x))
+field_depends : (x : FieldValueLevel Parts) → FieldDepends (m.field_den (map_field Parts meanings (firsts meanings mentions dependence) x)) (k.field_mentions (map_field Parts mentions (seconds meanings mentions dependence) x))
 field_depends x = by_value x.value
   where
-    by_value : (o : Option MeantPart)
-        → FieldDepends (m.field_meant (map_field Parts meanings (firsts meanings mentions dependence) (record { name = x.name; value = o })))
+    by_value : (o : Option ExprDenPart)
+        → FieldDepends (m.field_den (map_field Parts meanings (firsts meanings mentions dependence) (record { name = x.name; value = o })))
         (k.field_mentions (map_field Parts mentions (seconds meanings mentions dependence) (record { name = x.name; value = o })))
     by_value None = λ bound a b n h. name_same x.name.name bound a b n h
     by_value (Some e) = λ bound a b n h. e.2 bound a b n h

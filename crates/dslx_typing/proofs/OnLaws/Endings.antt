@@ -15,21 +15,21 @@ use Rattle.dslx_tree.specs.declared.item.Enum.{Enum}
 use Rattle.dslx_tree.specs.declared.item.Field.{Field}
 use Rattle.dslx_tree.specs.declared.item.Function.{Function}
 use Rattle.dslx_tree.specs.declared.item.Member.{Member}
-use Rattle.dslx_tree.specs.declared.item.Parameter.{Parameter}
+use Rattle.dslx_tree.specs.declared.item.Parametric.{Parametric}
 use Rattle.dslx_meaning.specs.Lists.{all_some, and_then, or_else, where_true}
 use Rattle.dslx_meaning.specs.Types.{bits_in, same_type}
 use Rattle.dslx_meaning.specs.Values.{type_of_value}
 use Rattle.dslx_meaning.specs.Operators.{number_value}
 use Rattle.dslx_meaning.specs.Environment.{Meanings, Env, Given, given_in, outside}
-use Rattle.dslx_meaning.specs.Meaning.{meant, value_of, value_of_block, written_type}
+use Rattle.dslx_meaning.specs.Meaning.{denotation, value_of, value_of_block, written_type}
 use Rattle.dslx_meaning.specs.Inference.{Inferred, inferred_for}
 use Rattle.dslx_meaning.specs.Items as i
 use Rattle.dslx_meaning.specs.Items.{item_named, meanings_over, meanings_within}
 use Rattle.dslx_meaning.specs.declared.ty.BitKind.{BitKind}
 use Rattle.dslx_meaning.specs.declared.ty.DslxType as ty
-use Rattle.dslx_meaning.specs.declared.value.Bare.{Bare}
+use Rattle.dslx_meaning.specs.declared.value.UntypedLiteral.{UntypedLiteral}
 use Rattle.dslx_meaning.specs.declared.value.DslxValue.{DslxValue}
-use Rattle.dslx_meaning.specs.Rules.Mentions.{Use, AsValue, AsPattern, AsType, AsFunction, AsProc, AsEnum, AsStruct, Mention, is_of_use, names_meant, mentions_of, definition_mentions, mentioned, mentioned_in_block, mentioned_in_type, parameters_mentions, fields_mentions, type_if, expr_if, parameter_names, field_names}
+use Rattle.dslx_meaning.specs.Rules.Mentions.{Use, AsValue, AsPattern, AsType, AsFunction, AsProc, AsEnum, AsStruct, Mention, is_of_use, names_mentioned, mentions_of, definition_mentions, mentioned, mentioned_in_block, mentioned_in_type, parametrics_mentions, fields_mentions, type_if, expr_if, parametric_names, field_names}
 use Rattle.dslx_typing.specs.Laws.Agreement.{MeansOne, AgreeOn}
 use Rattle.dslx_typing.specs.Laws.Recursion.{HasNoCycle}
 use Rattle.dslx_typing.proofs.OnLaws.Agreeing.{NamesAgree, parts}
@@ -48,7 +48,7 @@ pub record ItemMeansOne (x y : Meanings) (name : List ℕ) : Type 0 where
   pub kind : x.is_constant name ≡ y.is_constant name
   pub constants : x.constant name ≡ y.constant name
   pub members : (member : List ℕ) → x.member name member ≡ y.member name member
-  pub calls : (numbers operands : List DslxValue) → x.call name numbers operands ≡ y.call name numbers operands
+  pub calls : (parametric_args operands : List DslxValue) → x.call name parametric_args operands ≡ y.call name parametric_args operands
 
 -- what isn't of a kind means nothing of that kind
 pub record OfKinds (m : Module) (x : Meanings) : Type 0 where
@@ -57,7 +57,7 @@ pub record OfKinds (m : Module) (x : Meanings) : Type 0 where
   pub kind : (name : List ℕ) → is_of_use AsPattern (item_named name m.items) ≡ false → x.is_constant name ≡ false
   pub constants : (name : List ℕ) → is_of_use AsValue (item_named name m.items) ≡ false → x.constant name ≡ None
   pub members : (name : List ℕ) → is_of_use AsEnum (item_named name m.items) ≡ false → (member : List ℕ) → x.member name member ≡ None
-  pub calls : (name : List ℕ) → is_of_use AsFunction (item_named name m.items) ≡ false → (numbers operands : List DslxValue) → x.call name numbers operands ≡ None
+  pub calls : (name : List ℕ) → is_of_use AsFunction (item_named name m.items) ≡ false → (parametric_args operands : List DslxValue) → x.call name parametric_args operands ≡ None
 
 no_type : (x : Meanings) (o : Option Definition) → is_of_use AsType o ≡ false → i.type_of_item x o ≡ None
 no_type x (Some (d.Alias a)) e = absurd (true≢false e)
@@ -163,13 +163,13 @@ mention_one m x y p q bound AsEnum name false e h = λ a. p.members name e a ∙
 mention_one m x y p q bound AsStruct name true e h = (h refl).structs
 mention_one m x y p q bound AsStruct name false e h = p.structs name e ∙ sym (q.structs name e)
 
-agree_on : (m : Module) (x y : Meanings) → OfKinds m x → OfKinds m y → (bound : List Given) (ms : List Mention) → OfEach (ItemMeansOne x y) (names_meant m ms)
+agree_on : (m : Module) (x y : Meanings) → OfKinds m x → OfKinds m y → (bound : List Given) (ms : List Mention) → OfEach (ItemMeansOne x y) (names_mentioned m ms)
     → AgreeOn ms (within_items x bound) (within_items y bound)
 agree_on m x y p q bound [] h = tt
 agree_on m x y p q bound (n ∷ ns) h = pick (is_of_use n.use_as (item_named n.name m.items)) refl h (agree_on m x y p q bound ns)
   where
-    pick : (t : Bool) → is_of_use n.use_as (item_named n.name m.items) ≡ t → OfEach (ItemMeansOne x y) (if t then n.name ∷ names_meant m ns else names_meant m ns)
-        → (OfEach (ItemMeansOne x y) (names_meant m ns) → AgreeOn ns (within_items x bound) (within_items y bound)) → AgreeOn (n ∷ ns) (within_items x bound) (within_items y bound)
+    pick : (t : Bool) → is_of_use n.use_as (item_named n.name m.items) ≡ t → OfEach (ItemMeansOne x y) (if t then n.name ∷ names_mentioned m ns else names_mentioned m ns)
+        → (OfEach (ItemMeansOne x y) (names_mentioned m ns) → AgreeOn ns (within_items x bound) (within_items y bound)) → AgreeOn (n ∷ ns) (within_items x bound) (within_items y bound)
     pick true e h rest = (mention_one m x y p q bound n.use_as n.name true e (λ r. h.0), rest h.1)
     pick false e h rest = (mention_one m x y p q bound n.use_as n.name false e (λ r. absurd (true≢false (sym r))), rest h)
 
@@ -212,16 +212,16 @@ as_many [] (v ∷ vs) e = absurd (omega arith)
 as_many (x ∷ xs) [] e = absurd (omega arith)
 as_many (x ∷ xs) (v ∷ vs) e = as_many xs vs (omega arith)
 
-numbers_keep : (ns : List (List ℕ)) (so_far : List Given) (ps : List Parameter) (vs : List DslxValue) → AllGiven ns so_far → AllGiven ns (i.numbers_bound so_far ps vs)
-numbers_keep ns so_far [] vs h = h
-numbers_keep ns so_far (p ∷ ps) [] h = h
-numbers_keep ns so_far (p ∷ ps) (v ∷ vs) h = numbers_keep ns (i.with_number so_far p v) ps vs (given_more ns p.name.name v so_far h)
+parametric_args_keep : (ns : List (List ℕ)) (so_far : List Given) (ps : List Parametric) (vs : List DslxValue) → AllGiven ns so_far → AllGiven ns (i.parametric_args_bound so_far ps vs)
+parametric_args_keep ns so_far [] vs h = h
+parametric_args_keep ns so_far (p ∷ ps) [] h = h
+parametric_args_keep ns so_far (p ∷ ps) (v ∷ vs) h = parametric_args_keep ns (i.with_number so_far p v) ps vs (given_more ns p.name.name v so_far h)
 
-numbers_given : (so_far : List Given) (ps : List Parameter) (vs : List DslxValue) → AsMany ps vs → AllGiven (parameter_names ps) (i.numbers_bound so_far ps vs)
-numbers_given so_far [] vs h = tt
-numbers_given so_far (p ∷ ps) [] h = absurd h
-numbers_given so_far (p ∷ ps) (v ∷ vs) h =
-    ((numbers_keep (p.name.name ∷ []) (i.with_number so_far p v) ps vs ((v, given_here p.name.name v so_far), tt)).0, numbers_given (i.with_number so_far p v) ps vs h)
+parametric_args_given : (so_far : List Given) (ps : List Parametric) (vs : List DslxValue) → AsMany ps vs → AllGiven (parametric_names ps) (i.parametric_args_bound so_far ps vs)
+parametric_args_given so_far [] vs h = tt
+parametric_args_given so_far (p ∷ ps) [] h = absurd h
+parametric_args_given so_far (p ∷ ps) (v ∷ vs) h =
+    ((parametric_args_keep (p.name.name ∷ []) (i.with_number so_far p v) ps vs ((v, given_here p.name.name v so_far), tt)).0, parametric_args_given (i.with_number so_far p v) ps vs h)
 
 operands_keep : (ns : List (List ℕ)) (so_far : List Given) (fs : List Field) (vs : List DslxValue) → AllGiven ns so_far → AllGiven ns (i.operands_bound so_far fs vs)
 operands_keep ns so_far [] vs h = h
@@ -259,7 +259,7 @@ fields_one x y (f ∷ fs) h =
 base_one : (x y : Meanings) (n : Enum) → Agreeing x y (mentioned_in_type n.base []) → i.base_of x n ≡ i.base_of y n
 base_one x y n h = ap (λ o. and_then o bits_in) (written_type_depends n.base [] (outside x) (outside y) tt (h []))
 
-bits_one : (x y : Meanings) (kind : BitKind) (bare : Option Bare) (value : Env → Option DslxValue) → value (outside x) ≡ value (outside y)
+bits_one : (x y : Meanings) (kind : BitKind) (bare : Option UntypedLiteral) (value : Env → Option DslxValue) → value (outside x) ≡ value (outside y)
     → i.member_bits x kind (record { bare = bare; value = value }) ≡ i.member_bits y kind (record { bare = bare; value = value })
 bits_one x y kind None value e = ap (λ o. and_then o (λ v. where_true (same_type (type_of_value v) (ty.Bits kind.signed kind.width)) (Some v))) e
 bits_one x y kind (Some number) value e = refl
@@ -276,7 +276,7 @@ member_one x y n a base (b ∷ ms) h =
     pick : (t : Bool) → Agreeing x y (mentioned b.value []) → and_then (i.member_named a ms) (i.member_value x n) ≡ and_then (i.member_named a ms) (i.member_value y n)
         → and_then (if t then Some b else i.member_named a ms) (i.member_value x n) ≡ and_then (if t then Some b else i.member_named a ms) (i.member_value y n)
     pick true own rest =
-        λ j. and_then (base j) (λ kind. and_then (bits_one x y kind (meant b.value).bare (meant b.value).value (value_depends b.value [] (outside x) (outside y) tt (own [])) j) (i.enum_member n.name.name))
+        λ j. and_then (base j) (λ kind. and_then (bits_one x y kind (denotation b.value).bare (denotation b.value).value (value_depends b.value [] (outside x) (outside y) tt (own [])) j) (i.enum_member n.name.name))
     pick false own rest = rest
 
 -- ---- calls
@@ -286,104 +286,104 @@ default_one : (x y : Meanings) (names : List (List ℕ)) (bound : List Given) �
 default_one x y names bound given None h = refl
 default_one x y names bound given (Some e) h = value_depends e names (within_items x bound) (within_items y bound) (given_agree x y names bound given) (h bound)
 
-inferred_one : (x y : Meanings) (names : List (List ℕ)) (bound : List Given) → AllGiven names bound → (p : Parameter) (o : Option ℕ)
+inferred_one : (x y : Meanings) (names : List (List ℕ)) (bound : List Given) → AllGiven names bound → (p : Parametric) (o : Option ℕ)
     → Agreeing x y (mentioned_in_type p.ty names) → Agreeing x y (expr_if p.default names) → i.inferred_value (within_items x bound) p o ≡ i.inferred_value (within_items y bound) p o
 inferred_one x y names bound given p None t h = default_one x y names bound given p.default h
 inferred_one x y names bound given p (Some n) t h =
     ap (λ o. and_then o (λ u. number_value u (record { is_negative = false; value = n })))
     (written_type_depends p.ty names (within_items x bound) (within_items y bound) (given_agree x y names bound given) (t bound))
 
-pub numbers_one : (x y : Meanings) (inferred : List Inferred) (names : List (List ℕ)) (bound : List Given) → AllGiven names bound → (ps : List Parameter) (vs : List DslxValue)
-    → Agreeing x y (parameters_mentions ps names) → i.all_numbers x inferred bound ps vs ≡ i.all_numbers y inferred bound ps vs
-numbers_one x y inferred names bound given [] [] h = refl
-numbers_one x y inferred names bound given [] (v ∷ vs) h = refl
-numbers_one x y inferred names bound given (p ∷ ps) (v ∷ vs) h =
+pub parametric_args_one : (x y : Meanings) (inferred : List Inferred) (names : List (List ℕ)) (bound : List Given) → AllGiven names bound → (ps : List Parametric) (vs : List DslxValue)
+    → Agreeing x y (parametrics_mentions ps names) → i.all_parametric_args x inferred bound ps vs ≡ i.all_parametric_args y inferred bound ps vs
+parametric_args_one x y inferred names bound given [] [] h = refl
+parametric_args_one x y inferred names bound given [] (v ∷ vs) h = refl
+parametric_args_one x y inferred names bound given (p ∷ ps) (v ∷ vs) h =
     let own = mentioned_in_type p.ty names ++ expr_if p.default names in
-    let behind = parameters_mentions ps (p.name.name ∷ names) in
-    ap (i.put_first v) (numbers_one x y inferred (p.name.name ∷ names) (i.with_number bound p v)
+    let behind = parametrics_mentions ps (p.name.name ∷ names) in
+    ap (i.put_first v) (parametric_args_one x y inferred (p.name.name ∷ names) (i.with_number bound p v)
     ((v, given_here p.name.name v bound), given_more names p.name.name v bound given) ps vs (lasts_agree x y own behind h))
-numbers_one x y inferred names bound given (p ∷ ps) [] h =
+parametric_args_one x y inferred names bound given (p ∷ ps) [] h =
     let typed = mentioned_in_type p.ty names in
     let default = expr_if p.default names in
-    let behind = parameters_mentions ps (p.name.name ∷ names) in
+    let behind = parametrics_mentions ps (p.name.name ∷ names) in
     let own = firsts_agree x y (typed ++ default) behind h in
     λ j. and_then (inferred_one x y names bound given p (inferred_for p.name.name inferred) (firsts_agree x y typed default own) (lasts_agree x y typed default own) j)
-    (λ v. i.put_first v (numbers_one x y inferred (p.name.name ∷ names) (i.with_number bound p v)
+    (λ v. i.put_first v (parametric_args_one x y inferred (p.name.name ∷ names) (i.with_number bound p v)
     ((v, given_here p.name.name v bound), given_more names p.name.name v bound given) ps [] (lasts_agree x y (typed ++ default) behind h) j))
 
 -- all numbers are as many as the parameters
-abbrev IfAsMany : List Parameter → Option (List DslxValue) → Type 0
+abbrev IfAsMany : List Parametric → Option (List DslxValue) → Type 0
 IfAsMany ps None = Unit {0}
 IfAsMany ps (Some vs) = AsMany ps vs
 
-put_many : (p : Parameter) (ps : List Parameter) (v : DslxValue) (o : Option (List DslxValue)) → IfAsMany ps o → IfAsMany (p ∷ ps) (i.put_first v o)
+put_many : (p : Parametric) (ps : List Parametric) (v : DslxValue) (o : Option (List DslxValue)) → IfAsMany ps o → IfAsMany (p ∷ ps) (i.put_first v o)
 put_many p ps v None h = tt
 put_many p ps v (Some vs) h = h
 
-numbers_many : (x : Meanings) (inferred : List Inferred) (bound : List Given) (ps : List Parameter) (vs : List DslxValue) → IfAsMany ps (i.all_numbers x inferred bound ps vs)
-numbers_many x inferred bound [] [] = tt
-numbers_many x inferred bound [] (v ∷ vs) = tt
-numbers_many x inferred bound (p ∷ ps) (v ∷ vs) = put_many p ps v (i.all_numbers x inferred (i.with_number bound p v) ps vs) (numbers_many x inferred (i.with_number bound p v) ps vs)
-numbers_many x inferred bound (p ∷ ps) [] =
-    found (i.inferred_value (within_items x bound) p (inferred_for p.name.name inferred)) (λ v. numbers_many x inferred (i.with_number bound p v) ps [])
+parametric_args_many : (x : Meanings) (inferred : List Inferred) (bound : List Given) (ps : List Parametric) (vs : List DslxValue) → IfAsMany ps (i.all_parametric_args x inferred bound ps vs)
+parametric_args_many x inferred bound [] [] = tt
+parametric_args_many x inferred bound [] (v ∷ vs) = tt
+parametric_args_many x inferred bound (p ∷ ps) (v ∷ vs) = put_many p ps v (i.all_parametric_args x inferred (i.with_number bound p v) ps vs) (parametric_args_many x inferred (i.with_number bound p v) ps vs)
+parametric_args_many x inferred bound (p ∷ ps) [] =
+    found (i.inferred_value (within_items x bound) p (inferred_for p.name.name inferred)) (λ v. parametric_args_many x inferred (i.with_number bound p v) ps [])
   where
-    found : (o : Option DslxValue) → ((v : DslxValue) → IfAsMany ps (i.all_numbers x inferred (i.with_number bound p v) ps []))
-        → IfAsMany (p ∷ ps) (and_then o (λ v. i.put_first v (i.all_numbers x inferred (i.with_number bound p v) ps [])))
+    found : (o : Option DslxValue) → ((v : DslxValue) → IfAsMany ps (i.all_parametric_args x inferred (i.with_number bound p v) ps []))
+        → IfAsMany (p ∷ ps) (and_then o (λ v. i.put_first v (i.all_parametric_args x inferred (i.with_number bound p v) ps [])))
     found None rest = tt
-    found (Some v) rest = put_many p ps v (i.all_numbers x inferred (i.with_number bound p v) ps []) (rest v)
+    found (Some v) rest = put_many p ps v (i.all_parametric_args x inferred (i.with_number bound p v) ps []) (rest v)
 
-function_one : (x y : Meanings) (f : Function) (ns vs : List DslxValue) → AsMany f.parameters ns → Agreeing x y (mentioned_in_block f.body (field_names f.arguments ++ parameter_names f.parameters))
+function_one : (x y : Meanings) (f : Function) (ns vs : List DslxValue) → AsMany f.parametrics ns → Agreeing x y (mentioned_in_block f.body (field_names f.arguments ++ parametric_names f.parametrics))
     → i.function_value x f ns vs ≡ i.function_value y f ns vs
 function_one x y f ns vs many h = pick (length vs == length f.arguments) refl
   where
     bound : List Given
-    bound = i.operands_bound (i.numbers_bound [] f.parameters ns) f.arguments vs
+    bound = i.operands_bound (i.parametric_args_bound [] f.parametrics ns) f.arguments vs
 
     names : List (List ℕ)
-    names = field_names f.arguments ++ parameter_names f.parameters
+    names = field_names f.arguments ++ parametric_names f.parametrics
 
-    all_given : length vs ≡ length f.arguments → AllGiven (field_names f.arguments ++ parameter_names f.parameters) (i.operands_bound (i.numbers_bound [] f.parameters ns) f.arguments vs)
+    all_given : length vs ≡ length f.arguments → AllGiven (field_names f.arguments ++ parametric_names f.parametrics) (i.operands_bound (i.parametric_args_bound [] f.parametrics ns) f.arguments vs)
     all_given e =
-        given_join (field_names f.arguments) (parameter_names f.parameters) (i.operands_bound (i.numbers_bound [] f.parameters ns) f.arguments vs)
-        (operands_given (i.numbers_bound [] f.parameters ns) f.arguments vs (as_many f.arguments vs e))
-        (operands_keep (parameter_names f.parameters) (i.numbers_bound [] f.parameters ns) f.arguments vs (numbers_given [] f.parameters ns many))
+        given_join (field_names f.arguments) (parametric_names f.parametrics) (i.operands_bound (i.parametric_args_bound [] f.parametrics ns) f.arguments vs)
+        (operands_given (i.parametric_args_bound [] f.parametrics ns) f.arguments vs (as_many f.arguments vs e))
+        (operands_keep (parametric_names f.parametrics) (i.parametric_args_bound [] f.parametrics ns) f.arguments vs (parametric_args_given [] f.parametrics ns many))
 
     pick : (t : Bool) → (length vs == length f.arguments) ≡ t
-        → where_true t (value_of_block f.body (within_items x (i.operands_bound (i.numbers_bound [] f.parameters ns) f.arguments vs)))
-        ≡ where_true t (value_of_block f.body (within_items y (i.operands_bound (i.numbers_bound [] f.parameters ns) f.arguments vs)))
+        → where_true t (value_of_block f.body (within_items x (i.operands_bound (i.parametric_args_bound [] f.parametrics ns) f.arguments vs)))
+        ≡ where_true t (value_of_block f.body (within_items y (i.operands_bound (i.parametric_args_bound [] f.parametrics ns) f.arguments vs)))
     pick true e = block_value_depends f.body names (within_items x bound) (within_items y bound) (given_agree x y names bound (all_given ((Decides-eqb (length vs) (length f.arguments)).0 e))) (h bound)
     pick false e = refl
 
 -- a call means one thing in both
 pub call_one : (x y : Meanings) (f : Function) (ns vs : List DslxValue) → Agreeing x y (definition_mentions (d.Function f)) → i.call_of x f ns vs ≡ i.call_of y f ns vs
 call_one x y f ns vs h =
-    ap (λ o. and_then o (λ numbers. i.function_value x f numbers vs)) (numbers_one x y inferred [] [] tt f.parameters ns (firsts_agree x y own of_fields (firsts_agree x y (own ++ of_fields) of_result front)))
-    ∙ values (i.all_numbers y inferred [] f.parameters ns) (numbers_many y inferred [] f.parameters ns)
+    ap (λ o. and_then o (λ parametric_args. i.function_value x f parametric_args vs)) (parametric_args_one x y inferred [] [] tt f.parametrics ns (firsts_agree x y own of_fields (firsts_agree x y (own ++ of_fields) of_result front)))
+    ∙ values (i.all_parametric_args y inferred [] f.parametrics ns) (parametric_args_many y inferred [] f.parametrics ns)
   where
     inferred : List Inferred
     inferred = i.inferred_from f.arguments (map type_of_value vs)
 
     own : List Mention
-    own = parameters_mentions f.parameters []
+    own = parametrics_mentions f.parametrics []
 
     of_fields : List Mention
-    of_fields = fields_mentions f.arguments (parameter_names f.parameters)
+    of_fields = fields_mentions f.arguments (parametric_names f.parametrics)
 
     of_result : List Mention
-    of_result = type_if f.result (parameter_names f.parameters)
+    of_result = type_if f.result (parametric_names f.parametrics)
 
     of_body : List Mention
-    of_body = mentioned_in_block f.body (field_names f.arguments ++ parameter_names f.parameters)
+    of_body = mentioned_in_block f.body (field_names f.arguments ++ parametric_names f.parametrics)
 
-    front : Agreeing x y ((parameters_mentions f.parameters [] ++ fields_mentions f.arguments (parameter_names f.parameters)) ++ type_if f.result (parameter_names f.parameters))
-    front = firsts_agree x y ((parameters_mentions f.parameters [] ++ fields_mentions f.arguments (parameter_names f.parameters)) ++ type_if f.result (parameter_names f.parameters))
-        (mentioned_in_block f.body (field_names f.arguments ++ parameter_names f.parameters)) h
+    front : Agreeing x y ((parametrics_mentions f.parametrics [] ++ fields_mentions f.arguments (parametric_names f.parametrics)) ++ type_if f.result (parametric_names f.parametrics))
+    front = firsts_agree x y ((parametrics_mentions f.parametrics [] ++ fields_mentions f.arguments (parametric_names f.parametrics)) ++ type_if f.result (parametric_names f.parametrics))
+        (mentioned_in_block f.body (field_names f.arguments ++ parametric_names f.parametrics)) h
 
-    values : (o : Option (List DslxValue)) → IfAsMany f.parameters o → and_then o (λ numbers. i.function_value x f numbers vs) ≡ and_then o (λ numbers. i.function_value y f numbers vs)
+    values : (o : Option (List DslxValue)) → IfAsMany f.parametrics o → and_then o (λ parametric_args. i.function_value x f parametric_args vs) ≡ and_then o (λ parametric_args. i.function_value y f parametric_args vs)
     values None many = refl
-    values (Some numbers) many = function_one x y f numbers vs many
-        (lasts_agree x y ((parameters_mentions f.parameters [] ++ fields_mentions f.arguments (parameter_names f.parameters)) ++ type_if f.result (parameter_names f.parameters))
-        (mentioned_in_block f.body (field_names f.arguments ++ parameter_names f.parameters)) h)
+    values (Some parametric_args) many = function_one x y f parametric_args vs many
+        (lasts_agree x y ((parametrics_mentions f.parametrics [] ++ fields_mentions f.arguments (parametric_names f.parametrics)) ++ type_if f.result (parametric_names f.parametrics))
+        (mentioned_in_block f.body (field_names f.arguments ++ parametric_names f.parametrics)) h)
 
 -- ---- an item over what it mentions
 

@@ -28,7 +28,7 @@ use Rattle.dslx_meaning.specs.declared.value.DslxValue.TheVariants as rolls
 use Rattle.dslx_meaning.specs.declared.value.DslxValue.TheOpen.{DslxValue-F}
 use Rattle.dslx_meaning.specs.declared.value.DslxValue.TheViews as views
 use Rattle.dslx_meaning.specs.declared.value.DslxValue.TheFolds.{fold-roll-DslxValue, ind-DslxValue, map-DslxValue}
-use Rattle.dslx_meaning.specs.Rules.Judging.{breaks, breaks_if}
+use Rattle.dslx_meaning.specs.Rules.TypeEnvs.{breaks, breaks_if}
 use Rattle.dslx_meaning.specs.Rules.ConstantRules.{is_unsigned, is_unsigned_kind}
 use Rattle.dslx_meaning.specs.Rules.PatternRules.{is_there}
 use Rattle.dslx_meaning.specs.Rules.OperatorRules.{is_bits, is_bits_or_enum, is_bool, one_bit_type, one_unsigned_type, one_comparable_type, width_of_type, binary_faults, binary_type}

@@ -19,89 +19,89 @@ use Rattle.dslx_tree.proofs.Lemmas.Folds.Folds.{Steps, folds, fold_stmt, fold_no
 use Rattle.dslx_tree.proofs.Lemmas.Folds.Related.{Relations, both, firsts, seconds}
 use Rattle.xb_span.specs.declared.span.Span.{Span}
 use Rattle.dslx_meaning.specs.Meaning as m
-use Rattle.dslx_meaning.specs.Meaning.{ArmMeant, Evaluates, FieldMeant, Going, Meant, PatternMeant, Typing}
-use Rattle.dslx_meaning.specs.Rules.Judging.{ExprPair, Judging}
-use Rattle.dslx_meaning.specs.Rules.Judgings.{ArmSeen, FieldSeen, PatternJudging, SightJudging, StatementJudging, judged_sorts}
-use Rattle.dslx_meaning.specs.Rules.NodeRules.{judged_steps}
+use Rattle.dslx_meaning.specs.Meaning.{ArmDen, ValueDen, FieldDen, StmtDen, ExprDen, PatternDen, TypeDen}
+use Rattle.dslx_meaning.specs.Rules.TypeEnvs.{ExprPair, ExprTyping}
+use Rattle.dslx_meaning.specs.Rules.Typings.{ArmSeen, FieldSeen, PatternTyping, TypeExprTyping, StatementTyping, typing_sorts}
+use Rattle.dslx_meaning.specs.Rules.NodeRules.{typing_steps}
 use Rattle.dslx_meaning.specs.Rules.Paired.{with_stmt, with_node, with_shape, with_type_node, with_block, with_bind, with_arg, with_arm, with_expr, with_field, with_loop, with_number, with_pattern, with_type_expr}
 
 -- ---- the two folds
 
 -- trees with what the rules say of them
-abbrev pub judged : Carriers
-judged = record {
-  stmt = Stmt × StatementJudging;
-  node = Node × (Span → Judging);
-  shape = Shape × (Span → PatternJudging);
-  type_node = TypeNode × (Span → SightJudging);
-  block = Block × Judging;
-  bind = Let × StatementJudging;
+abbrev pub typing : Carriers
+typing = record {
+  stmt = Stmt × StatementTyping;
+  node = Node × (Span → ExprTyping);
+  shape = Shape × (Span → PatternTyping);
+  type_node = TypeNode × (Span → TypeExprTyping);
+  block = Block × ExprTyping;
+  bind = Let × StatementTyping;
   arg = Arg × ExprPair;
   arm = Arm × ArmSeen;
-  expr = Expr × Judging;
+  expr = Expr × ExprTyping;
   field = FieldValue × FieldSeen;
-  loop = For × (Span → SightJudging);
-  number = Number × (Span → SightJudging);
-  pattern = Pattern × PatternJudging;
-  type_expr = TypeExpr × SightJudging;
+  loop = For × (Span → TypeExprTyping);
+  number = Number × (Span → TypeExprTyping);
+  pattern = Pattern × PatternTyping;
+  type_expr = TypeExpr × TypeExprTyping;
 }
 
-abbrev pub judging : Steps judged
-judging = record {
-  stmt = with_stmt judged_sorts judged_steps;
-  node = with_node judged_sorts judged_steps;
-  shape = with_shape judged_sorts judged_steps;
-  type_node = with_type_node judged_sorts judged_steps;
-  block = with_block judged_sorts judged_steps;
-  bind = with_bind judged_sorts judged_steps;
-  arg = with_arg judged_sorts judged_steps;
-  arm = with_arm judged_sorts judged_steps;
-  expr = with_expr judged_sorts judged_steps;
-  field = with_field judged_sorts judged_steps;
-  loop = with_loop judged_sorts judged_steps;
-  number = with_number judged_sorts judged_steps;
-  pattern = with_pattern judged_sorts judged_steps;
-  type_expr = with_type_expr judged_sorts judged_steps;
+abbrev pub expr_typing : Steps typing
+expr_typing = record {
+  stmt = with_stmt typing_sorts typing_steps;
+  node = with_node typing_sorts typing_steps;
+  shape = with_shape typing_sorts typing_steps;
+  type_node = with_type_node typing_sorts typing_steps;
+  block = with_block typing_sorts typing_steps;
+  bind = with_bind typing_sorts typing_steps;
+  arg = with_arg typing_sorts typing_steps;
+  arm = with_arm typing_sorts typing_steps;
+  expr = with_expr typing_sorts typing_steps;
+  field = with_field typing_sorts typing_steps;
+  loop = with_loop typing_sorts typing_steps;
+  number = with_number typing_sorts typing_steps;
+  pattern = with_pattern typing_sorts typing_steps;
+  type_expr = with_type_expr typing_sorts typing_steps;
 }
 
 -- what they mean
 abbrev pub meanings : Carriers
 meanings = record {
-  stmt = Going;
-  node = Meant;
-  shape = PatternMeant;
-  type_node = Typing;
-  block = Evaluates;
-  bind = Going;
-  arg = Meant;
-  arm = ArmMeant;
-  expr = Meant;
-  field = FieldMeant;
-  loop = Evaluates;
-  number = Meant;
-  pattern = PatternMeant;
-  type_expr = Typing;
+  stmt = StmtDen;
+  node = ExprDen;
+  shape = PatternDen;
+  type_node = TypeDen;
+  block = ValueDen;
+  bind = StmtDen;
+  arg = ExprDen;
+  arm = ArmDen;
+  expr = ExprDen;
+  field = FieldDen;
+  loop = ValueDen;
+  number = ExprDen;
+  pattern = PatternDen;
+  type_expr = TypeDen;
 }
 
 abbrev pub meaning : Steps meanings
 meaning = record {
-  stmt = m.stmt_meant;
-  node = m.node_meant;
-  shape = m.shape_meant;
-  type_node = m.type_meant;
-  block = m.block_meant;
-  bind = m.let_meant;
-  arg = m.arg_meant;
-  arm = m.arm_meant;
-  expr = m.expr_meant;
-  field = m.field_meant;
-  loop = m.for_meant;
+  stmt = m.stmt_den;
+  node = m.node_den;
+  shape = m.shape_den;
+  type_node = m.type_den;
+  block = m.block_den;
+  bind = m.let_den;
+  arg = m.arg_den;
+  arm = m.arm_den;
+  expr = m.expr_den;
+  field = m.field_den;
+  loop = m.for_den;
   number = m.number_node;
-  pattern = m.pattern_meant;
-  type_expr = m.type_expr_meant;
+  pattern = m.pattern_den;
+  type_expr = m.type_expr_den;
 }
 
-abbrev tree_of : Maps judged trees
+abbrev tree_of : Maps typing trees
 tree_of = record {
   stmt = λ p. p.0;
   node = λ p. p.0;
@@ -123,22 +123,22 @@ tree_of = record {
 
 -- what is to hold of each sort
 pub record Claims : Type 1 where
-  pub stmt : StatementJudging → Going → Type 0
-  pub node : (Span → Judging) → Meant → Type 0
-  pub shape : (Span → PatternJudging) → PatternMeant → Type 0
-  pub type_node : (Span → SightJudging) → Typing → Type 0
-  pub block : Judging → Evaluates → Type 0
-  pub bind : StatementJudging → Going → Type 0
-  pub arg : ExprPair → Meant → Type 0
-  pub arm : ArmSeen → ArmMeant → Type 0
-  pub expr : Judging → Meant → Type 0
-  pub field : FieldSeen → FieldMeant → Type 0
-  pub loop : (Span → SightJudging) → Evaluates → Type 0
-  pub number : (Span → SightJudging) → Meant → Type 0
-  pub pattern : PatternJudging → PatternMeant → Type 0
-  pub type_expr : SightJudging → Typing → Type 0
+  pub stmt : StatementTyping → StmtDen → Type 0
+  pub node : (Span → ExprTyping) → ExprDen → Type 0
+  pub shape : (Span → PatternTyping) → PatternDen → Type 0
+  pub type_node : (Span → TypeExprTyping) → TypeDen → Type 0
+  pub block : ExprTyping → ValueDen → Type 0
+  pub bind : StatementTyping → StmtDen → Type 0
+  pub arg : ExprPair → ExprDen → Type 0
+  pub arm : ArmSeen → ArmDen → Type 0
+  pub expr : ExprTyping → ExprDen → Type 0
+  pub field : FieldSeen → FieldDen → Type 0
+  pub loop : (Span → TypeExprTyping) → ValueDen → Type 0
+  pub number : (Span → TypeExprTyping) → ExprDen → Type 0
+  pub pattern : PatternTyping → PatternDen → Type 0
+  pub type_expr : TypeExprTyping → TypeDen → Type 0
 
-abbrev pub claimed : Claims → Relations judged meanings
+abbrev pub claimed : Claims → Relations typing meanings
 claimed c = record {
   stmt = λ p x. (fold_stmt meanings meaning p.0 ≡ x) × c.stmt p.1 x;
   node = λ p x. (fold_node meanings meaning p.0 ≡ x) × c.node p.1 x;
@@ -158,7 +158,7 @@ claimed c = record {
 
 module _ (c : Claims) where
   -- a part is what its tree means
-  linked : composed (both judged meanings (claimed c)) judged meanings (composed judged trees meanings (folds meanings meaning) tree_of) (firsts judged meanings (claimed c)) ≡ seconds judged meanings (claimed c)
+  linked : composed (both typing meanings (claimed c)) typing meanings (composed typing trees meanings (folds meanings meaning) tree_of) (firsts typing meanings (claimed c)) ≡ seconds typing meanings (claimed c)
   linked = λ i. record {
     stmt = λ p. p.2.0 i;
     node = λ p. p.2.0 i;
@@ -176,128 +176,128 @@ module _ (c : Claims) where
     type_expr = λ p. p.2.0 i;
   }
 
-  pub link_stmt : (x : StmtLevel (both judged meanings (claimed c))) → fold_stmt meanings meaning (judging.stmt (map_stmt (both judged meanings (claimed c)) judged (firsts judged meanings (claimed c)) x)).0
-      ≡ meaning.stmt (map_stmt (both judged meanings (claimed c)) meanings (seconds judged meanings (claimed c)) x)
+  pub link_stmt : (x : StmtLevel (both typing meanings (claimed c))) → fold_stmt meanings meaning (expr_typing.stmt (map_stmt (both typing meanings (claimed c)) typing (firsts typing meanings (claimed c)) x)).0
+      ≡ meaning.stmt (map_stmt (both typing meanings (claimed c)) meanings (seconds typing meanings (claimed c)) x)
   link_stmt x =
-      fold_stmt-roll meanings meaning (map_stmt judged trees tree_of (map_stmt (both judged meanings (claimed c)) judged (firsts judged meanings (claimed c)) x))
+      fold_stmt-roll meanings meaning (map_stmt typing trees tree_of (map_stmt (both typing meanings (claimed c)) typing (firsts typing meanings (claimed c)) x))
       ∙ ap meaning.stmt
-      (map_stmt-twice judged trees meanings (folds meanings meaning) tree_of (map_stmt (both judged meanings (claimed c)) judged (firsts judged meanings (claimed c)) x)
-      ∙ map_stmt-twice (both judged meanings (claimed c)) judged meanings (composed judged trees meanings (folds meanings meaning) tree_of) (firsts judged meanings (claimed c)) x
-      ∙ (λ i. map_stmt (both judged meanings (claimed c)) meanings (linked i) x))
+      (map_stmt-twice typing trees meanings (folds meanings meaning) tree_of (map_stmt (both typing meanings (claimed c)) typing (firsts typing meanings (claimed c)) x)
+      ∙ map_stmt-twice (both typing meanings (claimed c)) typing meanings (composed typing trees meanings (folds meanings meaning) tree_of) (firsts typing meanings (claimed c)) x
+      ∙ (λ i. map_stmt (both typing meanings (claimed c)) meanings (linked i) x))
 
-  pub link_node : (x : NodeLevel (both judged meanings (claimed c))) → fold_node meanings meaning (judging.node (map_node (both judged meanings (claimed c)) judged (firsts judged meanings (claimed c)) x)).0
-      ≡ meaning.node (map_node (both judged meanings (claimed c)) meanings (seconds judged meanings (claimed c)) x)
+  pub link_node : (x : NodeLevel (both typing meanings (claimed c))) → fold_node meanings meaning (expr_typing.node (map_node (both typing meanings (claimed c)) typing (firsts typing meanings (claimed c)) x)).0
+      ≡ meaning.node (map_node (both typing meanings (claimed c)) meanings (seconds typing meanings (claimed c)) x)
   link_node x =
-      fold_node-roll meanings meaning (map_node judged trees tree_of (map_node (both judged meanings (claimed c)) judged (firsts judged meanings (claimed c)) x))
+      fold_node-roll meanings meaning (map_node typing trees tree_of (map_node (both typing meanings (claimed c)) typing (firsts typing meanings (claimed c)) x))
       ∙ ap meaning.node
-      (map_node-twice judged trees meanings (folds meanings meaning) tree_of (map_node (both judged meanings (claimed c)) judged (firsts judged meanings (claimed c)) x)
-      ∙ map_node-twice (both judged meanings (claimed c)) judged meanings (composed judged trees meanings (folds meanings meaning) tree_of) (firsts judged meanings (claimed c)) x
-      ∙ (λ i. map_node (both judged meanings (claimed c)) meanings (linked i) x))
+      (map_node-twice typing trees meanings (folds meanings meaning) tree_of (map_node (both typing meanings (claimed c)) typing (firsts typing meanings (claimed c)) x)
+      ∙ map_node-twice (both typing meanings (claimed c)) typing meanings (composed typing trees meanings (folds meanings meaning) tree_of) (firsts typing meanings (claimed c)) x
+      ∙ (λ i. map_node (both typing meanings (claimed c)) meanings (linked i) x))
 
-  pub link_shape : (x : ShapeLevel (both judged meanings (claimed c))) → fold_shape meanings meaning (judging.shape (map_shape (both judged meanings (claimed c)) judged (firsts judged meanings (claimed c)) x)).0
-      ≡ meaning.shape (map_shape (both judged meanings (claimed c)) meanings (seconds judged meanings (claimed c)) x)
+  pub link_shape : (x : ShapeLevel (both typing meanings (claimed c))) → fold_shape meanings meaning (expr_typing.shape (map_shape (both typing meanings (claimed c)) typing (firsts typing meanings (claimed c)) x)).0
+      ≡ meaning.shape (map_shape (both typing meanings (claimed c)) meanings (seconds typing meanings (claimed c)) x)
   link_shape x =
-      fold_shape-roll meanings meaning (map_shape judged trees tree_of (map_shape (both judged meanings (claimed c)) judged (firsts judged meanings (claimed c)) x))
+      fold_shape-roll meanings meaning (map_shape typing trees tree_of (map_shape (both typing meanings (claimed c)) typing (firsts typing meanings (claimed c)) x))
       ∙ ap meaning.shape
-      (map_shape-twice judged trees meanings (folds meanings meaning) tree_of (map_shape (both judged meanings (claimed c)) judged (firsts judged meanings (claimed c)) x)
-      ∙ map_shape-twice (both judged meanings (claimed c)) judged meanings (composed judged trees meanings (folds meanings meaning) tree_of) (firsts judged meanings (claimed c)) x
-      ∙ (λ i. map_shape (both judged meanings (claimed c)) meanings (linked i) x))
+      (map_shape-twice typing trees meanings (folds meanings meaning) tree_of (map_shape (both typing meanings (claimed c)) typing (firsts typing meanings (claimed c)) x)
+      ∙ map_shape-twice (both typing meanings (claimed c)) typing meanings (composed typing trees meanings (folds meanings meaning) tree_of) (firsts typing meanings (claimed c)) x
+      ∙ (λ i. map_shape (both typing meanings (claimed c)) meanings (linked i) x))
 
-  pub link_type_node : (x : TypeNodeLevel (both judged meanings (claimed c))) → fold_type_node meanings meaning (judging.type_node (map_type_node (both judged meanings (claimed c)) judged (firsts judged meanings (claimed c)) x)).0
-      ≡ meaning.type_node (map_type_node (both judged meanings (claimed c)) meanings (seconds judged meanings (claimed c)) x)
+  pub link_type_node : (x : TypeNodeLevel (both typing meanings (claimed c))) → fold_type_node meanings meaning (expr_typing.type_node (map_type_node (both typing meanings (claimed c)) typing (firsts typing meanings (claimed c)) x)).0
+      ≡ meaning.type_node (map_type_node (both typing meanings (claimed c)) meanings (seconds typing meanings (claimed c)) x)
   link_type_node x =
-      fold_type_node-roll meanings meaning (map_type_node judged trees tree_of (map_type_node (both judged meanings (claimed c)) judged (firsts judged meanings (claimed c)) x))
+      fold_type_node-roll meanings meaning (map_type_node typing trees tree_of (map_type_node (both typing meanings (claimed c)) typing (firsts typing meanings (claimed c)) x))
       ∙ ap meaning.type_node
-      (map_type_node-twice judged trees meanings (folds meanings meaning) tree_of (map_type_node (both judged meanings (claimed c)) judged (firsts judged meanings (claimed c)) x)
-      ∙ map_type_node-twice (both judged meanings (claimed c)) judged meanings (composed judged trees meanings (folds meanings meaning) tree_of) (firsts judged meanings (claimed c)) x
-      ∙ (λ i. map_type_node (both judged meanings (claimed c)) meanings (linked i) x))
+      (map_type_node-twice typing trees meanings (folds meanings meaning) tree_of (map_type_node (both typing meanings (claimed c)) typing (firsts typing meanings (claimed c)) x)
+      ∙ map_type_node-twice (both typing meanings (claimed c)) typing meanings (composed typing trees meanings (folds meanings meaning) tree_of) (firsts typing meanings (claimed c)) x
+      ∙ (λ i. map_type_node (both typing meanings (claimed c)) meanings (linked i) x))
 
-  pub link_block : (x : BlockLevel (both judged meanings (claimed c))) → fold_block meanings meaning (judging.block (map_block (both judged meanings (claimed c)) judged (firsts judged meanings (claimed c)) x)).0
-      ≡ meaning.block (map_block (both judged meanings (claimed c)) meanings (seconds judged meanings (claimed c)) x)
+  pub link_block : (x : BlockLevel (both typing meanings (claimed c))) → fold_block meanings meaning (expr_typing.block (map_block (both typing meanings (claimed c)) typing (firsts typing meanings (claimed c)) x)).0
+      ≡ meaning.block (map_block (both typing meanings (claimed c)) meanings (seconds typing meanings (claimed c)) x)
   link_block x =
-      fold_block-roll meanings meaning (map_block judged trees tree_of (map_block (both judged meanings (claimed c)) judged (firsts judged meanings (claimed c)) x))
+      fold_block-roll meanings meaning (map_block typing trees tree_of (map_block (both typing meanings (claimed c)) typing (firsts typing meanings (claimed c)) x))
       ∙ ap meaning.block
-      (map_block-twice judged trees meanings (folds meanings meaning) tree_of (map_block (both judged meanings (claimed c)) judged (firsts judged meanings (claimed c)) x)
-      ∙ map_block-twice (both judged meanings (claimed c)) judged meanings (composed judged trees meanings (folds meanings meaning) tree_of) (firsts judged meanings (claimed c)) x
-      ∙ (λ i. map_block (both judged meanings (claimed c)) meanings (linked i) x))
+      (map_block-twice typing trees meanings (folds meanings meaning) tree_of (map_block (both typing meanings (claimed c)) typing (firsts typing meanings (claimed c)) x)
+      ∙ map_block-twice (both typing meanings (claimed c)) typing meanings (composed typing trees meanings (folds meanings meaning) tree_of) (firsts typing meanings (claimed c)) x
+      ∙ (λ i. map_block (both typing meanings (claimed c)) meanings (linked i) x))
 
-  pub link_bind : (x : LetLevel (both judged meanings (claimed c))) → fold_bind meanings meaning (judging.bind (map_bind (both judged meanings (claimed c)) judged (firsts judged meanings (claimed c)) x)).0
-      ≡ meaning.bind (map_bind (both judged meanings (claimed c)) meanings (seconds judged meanings (claimed c)) x)
+  pub link_bind : (x : LetLevel (both typing meanings (claimed c))) → fold_bind meanings meaning (expr_typing.bind (map_bind (both typing meanings (claimed c)) typing (firsts typing meanings (claimed c)) x)).0
+      ≡ meaning.bind (map_bind (both typing meanings (claimed c)) meanings (seconds typing meanings (claimed c)) x)
   link_bind x =
-      fold_bind-roll meanings meaning (map_bind judged trees tree_of (map_bind (both judged meanings (claimed c)) judged (firsts judged meanings (claimed c)) x))
+      fold_bind-roll meanings meaning (map_bind typing trees tree_of (map_bind (both typing meanings (claimed c)) typing (firsts typing meanings (claimed c)) x))
       ∙ ap meaning.bind
-      (map_bind-twice judged trees meanings (folds meanings meaning) tree_of (map_bind (both judged meanings (claimed c)) judged (firsts judged meanings (claimed c)) x)
-      ∙ map_bind-twice (both judged meanings (claimed c)) judged meanings (composed judged trees meanings (folds meanings meaning) tree_of) (firsts judged meanings (claimed c)) x
-      ∙ (λ i. map_bind (both judged meanings (claimed c)) meanings (linked i) x))
+      (map_bind-twice typing trees meanings (folds meanings meaning) tree_of (map_bind (both typing meanings (claimed c)) typing (firsts typing meanings (claimed c)) x)
+      ∙ map_bind-twice (both typing meanings (claimed c)) typing meanings (composed typing trees meanings (folds meanings meaning) tree_of) (firsts typing meanings (claimed c)) x
+      ∙ (λ i. map_bind (both typing meanings (claimed c)) meanings (linked i) x))
 
-  pub link_arg : (x : ArgLevel (both judged meanings (claimed c))) → fold_arg meanings meaning (judging.arg (map_arg (both judged meanings (claimed c)) judged (firsts judged meanings (claimed c)) x)).0
-      ≡ meaning.arg (map_arg (both judged meanings (claimed c)) meanings (seconds judged meanings (claimed c)) x)
+  pub link_arg : (x : ArgLevel (both typing meanings (claimed c))) → fold_arg meanings meaning (expr_typing.arg (map_arg (both typing meanings (claimed c)) typing (firsts typing meanings (claimed c)) x)).0
+      ≡ meaning.arg (map_arg (both typing meanings (claimed c)) meanings (seconds typing meanings (claimed c)) x)
   link_arg x =
-      fold_arg-roll meanings meaning (map_arg judged trees tree_of (map_arg (both judged meanings (claimed c)) judged (firsts judged meanings (claimed c)) x))
+      fold_arg-roll meanings meaning (map_arg typing trees tree_of (map_arg (both typing meanings (claimed c)) typing (firsts typing meanings (claimed c)) x))
       ∙ ap meaning.arg
-      (map_arg-twice judged trees meanings (folds meanings meaning) tree_of (map_arg (both judged meanings (claimed c)) judged (firsts judged meanings (claimed c)) x)
-      ∙ map_arg-twice (both judged meanings (claimed c)) judged meanings (composed judged trees meanings (folds meanings meaning) tree_of) (firsts judged meanings (claimed c)) x
-      ∙ (λ i. map_arg (both judged meanings (claimed c)) meanings (linked i) x))
+      (map_arg-twice typing trees meanings (folds meanings meaning) tree_of (map_arg (both typing meanings (claimed c)) typing (firsts typing meanings (claimed c)) x)
+      ∙ map_arg-twice (both typing meanings (claimed c)) typing meanings (composed typing trees meanings (folds meanings meaning) tree_of) (firsts typing meanings (claimed c)) x
+      ∙ (λ i. map_arg (both typing meanings (claimed c)) meanings (linked i) x))
 
-  pub link_arm : (x : ArmLevel (both judged meanings (claimed c))) → fold_arm meanings meaning (judging.arm (map_arm (both judged meanings (claimed c)) judged (firsts judged meanings (claimed c)) x)).0
-      ≡ meaning.arm (map_arm (both judged meanings (claimed c)) meanings (seconds judged meanings (claimed c)) x)
+  pub link_arm : (x : ArmLevel (both typing meanings (claimed c))) → fold_arm meanings meaning (expr_typing.arm (map_arm (both typing meanings (claimed c)) typing (firsts typing meanings (claimed c)) x)).0
+      ≡ meaning.arm (map_arm (both typing meanings (claimed c)) meanings (seconds typing meanings (claimed c)) x)
   link_arm x =
-      fold_arm-roll meanings meaning (map_arm judged trees tree_of (map_arm (both judged meanings (claimed c)) judged (firsts judged meanings (claimed c)) x))
+      fold_arm-roll meanings meaning (map_arm typing trees tree_of (map_arm (both typing meanings (claimed c)) typing (firsts typing meanings (claimed c)) x))
       ∙ ap meaning.arm
-      (map_arm-twice judged trees meanings (folds meanings meaning) tree_of (map_arm (both judged meanings (claimed c)) judged (firsts judged meanings (claimed c)) x)
-      ∙ map_arm-twice (both judged meanings (claimed c)) judged meanings (composed judged trees meanings (folds meanings meaning) tree_of) (firsts judged meanings (claimed c)) x
-      ∙ (λ i. map_arm (both judged meanings (claimed c)) meanings (linked i) x))
+      (map_arm-twice typing trees meanings (folds meanings meaning) tree_of (map_arm (both typing meanings (claimed c)) typing (firsts typing meanings (claimed c)) x)
+      ∙ map_arm-twice (both typing meanings (claimed c)) typing meanings (composed typing trees meanings (folds meanings meaning) tree_of) (firsts typing meanings (claimed c)) x
+      ∙ (λ i. map_arm (both typing meanings (claimed c)) meanings (linked i) x))
 
-  pub link_expr : (x : ExprLevel (both judged meanings (claimed c))) → fold_expr meanings meaning (judging.expr (map_expr (both judged meanings (claimed c)) judged (firsts judged meanings (claimed c)) x)).0
-      ≡ meaning.expr (map_expr (both judged meanings (claimed c)) meanings (seconds judged meanings (claimed c)) x)
+  pub link_expr : (x : ExprLevel (both typing meanings (claimed c))) → fold_expr meanings meaning (expr_typing.expr (map_expr (both typing meanings (claimed c)) typing (firsts typing meanings (claimed c)) x)).0
+      ≡ meaning.expr (map_expr (both typing meanings (claimed c)) meanings (seconds typing meanings (claimed c)) x)
   link_expr x =
-      fold_expr-roll meanings meaning (map_expr judged trees tree_of (map_expr (both judged meanings (claimed c)) judged (firsts judged meanings (claimed c)) x))
+      fold_expr-roll meanings meaning (map_expr typing trees tree_of (map_expr (both typing meanings (claimed c)) typing (firsts typing meanings (claimed c)) x))
       ∙ ap meaning.expr
-      (map_expr-twice judged trees meanings (folds meanings meaning) tree_of (map_expr (both judged meanings (claimed c)) judged (firsts judged meanings (claimed c)) x)
-      ∙ map_expr-twice (both judged meanings (claimed c)) judged meanings (composed judged trees meanings (folds meanings meaning) tree_of) (firsts judged meanings (claimed c)) x
-      ∙ (λ i. map_expr (both judged meanings (claimed c)) meanings (linked i) x))
+      (map_expr-twice typing trees meanings (folds meanings meaning) tree_of (map_expr (both typing meanings (claimed c)) typing (firsts typing meanings (claimed c)) x)
+      ∙ map_expr-twice (both typing meanings (claimed c)) typing meanings (composed typing trees meanings (folds meanings meaning) tree_of) (firsts typing meanings (claimed c)) x
+      ∙ (λ i. map_expr (both typing meanings (claimed c)) meanings (linked i) x))
 
-  pub link_field : (x : FieldValueLevel (both judged meanings (claimed c))) → fold_field meanings meaning (judging.field (map_field (both judged meanings (claimed c)) judged (firsts judged meanings (claimed c)) x)).0
-      ≡ meaning.field (map_field (both judged meanings (claimed c)) meanings (seconds judged meanings (claimed c)) x)
+  pub link_field : (x : FieldValueLevel (both typing meanings (claimed c))) → fold_field meanings meaning (expr_typing.field (map_field (both typing meanings (claimed c)) typing (firsts typing meanings (claimed c)) x)).0
+      ≡ meaning.field (map_field (both typing meanings (claimed c)) meanings (seconds typing meanings (claimed c)) x)
   link_field x =
-      fold_field-roll meanings meaning (map_field judged trees tree_of (map_field (both judged meanings (claimed c)) judged (firsts judged meanings (claimed c)) x))
+      fold_field-roll meanings meaning (map_field typing trees tree_of (map_field (both typing meanings (claimed c)) typing (firsts typing meanings (claimed c)) x))
       ∙ ap meaning.field
-      (map_field-twice judged trees meanings (folds meanings meaning) tree_of (map_field (both judged meanings (claimed c)) judged (firsts judged meanings (claimed c)) x)
-      ∙ map_field-twice (both judged meanings (claimed c)) judged meanings (composed judged trees meanings (folds meanings meaning) tree_of) (firsts judged meanings (claimed c)) x
-      ∙ (λ i. map_field (both judged meanings (claimed c)) meanings (linked i) x))
+      (map_field-twice typing trees meanings (folds meanings meaning) tree_of (map_field (both typing meanings (claimed c)) typing (firsts typing meanings (claimed c)) x)
+      ∙ map_field-twice (both typing meanings (claimed c)) typing meanings (composed typing trees meanings (folds meanings meaning) tree_of) (firsts typing meanings (claimed c)) x
+      ∙ (λ i. map_field (both typing meanings (claimed c)) meanings (linked i) x))
 
-  pub link_loop : (x : ForLevel (both judged meanings (claimed c))) → fold_loop meanings meaning (judging.loop (map_loop (both judged meanings (claimed c)) judged (firsts judged meanings (claimed c)) x)).0
-      ≡ meaning.loop (map_loop (both judged meanings (claimed c)) meanings (seconds judged meanings (claimed c)) x)
+  pub link_loop : (x : ForLevel (both typing meanings (claimed c))) → fold_loop meanings meaning (expr_typing.loop (map_loop (both typing meanings (claimed c)) typing (firsts typing meanings (claimed c)) x)).0
+      ≡ meaning.loop (map_loop (both typing meanings (claimed c)) meanings (seconds typing meanings (claimed c)) x)
   link_loop x =
-      fold_loop-roll meanings meaning (map_loop judged trees tree_of (map_loop (both judged meanings (claimed c)) judged (firsts judged meanings (claimed c)) x))
+      fold_loop-roll meanings meaning (map_loop typing trees tree_of (map_loop (both typing meanings (claimed c)) typing (firsts typing meanings (claimed c)) x))
       ∙ ap meaning.loop
-      (map_loop-twice judged trees meanings (folds meanings meaning) tree_of (map_loop (both judged meanings (claimed c)) judged (firsts judged meanings (claimed c)) x)
-      ∙ map_loop-twice (both judged meanings (claimed c)) judged meanings (composed judged trees meanings (folds meanings meaning) tree_of) (firsts judged meanings (claimed c)) x
-      ∙ (λ i. map_loop (both judged meanings (claimed c)) meanings (linked i) x))
+      (map_loop-twice typing trees meanings (folds meanings meaning) tree_of (map_loop (both typing meanings (claimed c)) typing (firsts typing meanings (claimed c)) x)
+      ∙ map_loop-twice (both typing meanings (claimed c)) typing meanings (composed typing trees meanings (folds meanings meaning) tree_of) (firsts typing meanings (claimed c)) x
+      ∙ (λ i. map_loop (both typing meanings (claimed c)) meanings (linked i) x))
 
-  pub link_number : (x : NumberLevel (both judged meanings (claimed c))) → fold_number meanings meaning (judging.number (map_number (both judged meanings (claimed c)) judged (firsts judged meanings (claimed c)) x)).0
-      ≡ meaning.number (map_number (both judged meanings (claimed c)) meanings (seconds judged meanings (claimed c)) x)
+  pub link_number : (x : NumberLevel (both typing meanings (claimed c))) → fold_number meanings meaning (expr_typing.number (map_number (both typing meanings (claimed c)) typing (firsts typing meanings (claimed c)) x)).0
+      ≡ meaning.number (map_number (both typing meanings (claimed c)) meanings (seconds typing meanings (claimed c)) x)
   link_number x =
-      fold_number-roll meanings meaning (map_number judged trees tree_of (map_number (both judged meanings (claimed c)) judged (firsts judged meanings (claimed c)) x))
+      fold_number-roll meanings meaning (map_number typing trees tree_of (map_number (both typing meanings (claimed c)) typing (firsts typing meanings (claimed c)) x))
       ∙ ap meaning.number
-      (map_number-twice judged trees meanings (folds meanings meaning) tree_of (map_number (both judged meanings (claimed c)) judged (firsts judged meanings (claimed c)) x)
-      ∙ map_number-twice (both judged meanings (claimed c)) judged meanings (composed judged trees meanings (folds meanings meaning) tree_of) (firsts judged meanings (claimed c)) x
-      ∙ (λ i. map_number (both judged meanings (claimed c)) meanings (linked i) x))
+      (map_number-twice typing trees meanings (folds meanings meaning) tree_of (map_number (both typing meanings (claimed c)) typing (firsts typing meanings (claimed c)) x)
+      ∙ map_number-twice (both typing meanings (claimed c)) typing meanings (composed typing trees meanings (folds meanings meaning) tree_of) (firsts typing meanings (claimed c)) x
+      ∙ (λ i. map_number (both typing meanings (claimed c)) meanings (linked i) x))
 
-  pub link_pattern : (x : PatternLevel (both judged meanings (claimed c))) → fold_pattern meanings meaning (judging.pattern (map_pattern (both judged meanings (claimed c)) judged (firsts judged meanings (claimed c)) x)).0
-      ≡ meaning.pattern (map_pattern (both judged meanings (claimed c)) meanings (seconds judged meanings (claimed c)) x)
+  pub link_pattern : (x : PatternLevel (both typing meanings (claimed c))) → fold_pattern meanings meaning (expr_typing.pattern (map_pattern (both typing meanings (claimed c)) typing (firsts typing meanings (claimed c)) x)).0
+      ≡ meaning.pattern (map_pattern (both typing meanings (claimed c)) meanings (seconds typing meanings (claimed c)) x)
   link_pattern x =
-      fold_pattern-roll meanings meaning (map_pattern judged trees tree_of (map_pattern (both judged meanings (claimed c)) judged (firsts judged meanings (claimed c)) x))
+      fold_pattern-roll meanings meaning (map_pattern typing trees tree_of (map_pattern (both typing meanings (claimed c)) typing (firsts typing meanings (claimed c)) x))
       ∙ ap meaning.pattern
-      (map_pattern-twice judged trees meanings (folds meanings meaning) tree_of (map_pattern (both judged meanings (claimed c)) judged (firsts judged meanings (claimed c)) x)
-      ∙ map_pattern-twice (both judged meanings (claimed c)) judged meanings (composed judged trees meanings (folds meanings meaning) tree_of) (firsts judged meanings (claimed c)) x
-      ∙ (λ i. map_pattern (both judged meanings (claimed c)) meanings (linked i) x))
+      (map_pattern-twice typing trees meanings (folds meanings meaning) tree_of (map_pattern (both typing meanings (claimed c)) typing (firsts typing meanings (claimed c)) x)
+      ∙ map_pattern-twice (both typing meanings (claimed c)) typing meanings (composed typing trees meanings (folds meanings meaning) tree_of) (firsts typing meanings (claimed c)) x
+      ∙ (λ i. map_pattern (both typing meanings (claimed c)) meanings (linked i) x))
 
-  pub link_type_expr : (x : TypeExprLevel (both judged meanings (claimed c))) → fold_type_expr meanings meaning (judging.type_expr (map_type_expr (both judged meanings (claimed c)) judged (firsts judged meanings (claimed c)) x)).0
-      ≡ meaning.type_expr (map_type_expr (both judged meanings (claimed c)) meanings (seconds judged meanings (claimed c)) x)
+  pub link_type_expr : (x : TypeExprLevel (both typing meanings (claimed c))) → fold_type_expr meanings meaning (expr_typing.type_expr (map_type_expr (both typing meanings (claimed c)) typing (firsts typing meanings (claimed c)) x)).0
+      ≡ meaning.type_expr (map_type_expr (both typing meanings (claimed c)) meanings (seconds typing meanings (claimed c)) x)
   link_type_expr x =
-      fold_type_expr-roll meanings meaning (map_type_expr judged trees tree_of (map_type_expr (both judged meanings (claimed c)) judged (firsts judged meanings (claimed c)) x))
+      fold_type_expr-roll meanings meaning (map_type_expr typing trees tree_of (map_type_expr (both typing meanings (claimed c)) typing (firsts typing meanings (claimed c)) x))
       ∙ ap meaning.type_expr
-      (map_type_expr-twice judged trees meanings (folds meanings meaning) tree_of (map_type_expr (both judged meanings (claimed c)) judged (firsts judged meanings (claimed c)) x)
-      ∙ map_type_expr-twice (both judged meanings (claimed c)) judged meanings (composed judged trees meanings (folds meanings meaning) tree_of) (firsts judged meanings (claimed c)) x
-      ∙ (λ i. map_type_expr (both judged meanings (claimed c)) meanings (linked i) x))
+      (map_type_expr-twice typing trees meanings (folds meanings meaning) tree_of (map_type_expr (both typing meanings (claimed c)) typing (firsts typing meanings (claimed c)) x)
+      ∙ map_type_expr-twice (both typing meanings (claimed c)) typing meanings (composed typing trees meanings (folds meanings meaning) tree_of) (firsts typing meanings (claimed c)) x
+      ∙ (λ i. map_type_expr (both typing meanings (claimed c)) meanings (linked i) x))

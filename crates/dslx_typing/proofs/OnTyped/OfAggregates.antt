@@ -13,15 +13,15 @@ use Rattle.dslx_meaning.specs.declared.ty.DslxType.TheViews as type_views
 use Rattle.dslx_meaning.specs.declared.value.DslxValue.{DslxValue, out-DslxValue}
 use Rattle.dslx_meaning.specs.declared.value.DslxValue as value
 use Rattle.dslx_meaning.specs.declared.value.DslxValue.TheViews as views
-use Rattle.dslx_meaning.specs.Rules.Judging.{Sight, ExprPair, has_broken, alone, types_of, faults_of_all}
+use Rattle.dslx_meaning.specs.Rules.TypeEnvs.{TypeEnv, ExprPair, has_broken, alone, types_of, faults_of_all}
 use Rattle.dslx_meaning.specs.Rules.ConstantRules.{is_unsigned, is_zero}
 use Rattle.dslx_meaning.specs.Rules.OperatorRules.{unless_type}
-use Rattle.dslx_meaning.specs.Rules.AggregateRules.{array_parts, array_in, is_array, element_type, element_alone, tuple_judged, index_judged, part_type, tuple_parts}
+use Rattle.dslx_meaning.specs.Rules.AggregateRules.{array_parts, array_in, is_array, element_type, element_alone, tuple_typing, index_typing, part_type, tuple_parts}
 use Rattle.dslx_typing.proofs.Lemmas.Laws.{and_true, is_unsigned_value}
 use Rattle.dslx_typing.specs.Typed.Kinds.{each_of, is_of, tuple_of}
 use Rattle.dslx_typing.specs.Typed.Declared.{Declarations, IsDeclared, AllDeclared}
 use Rattle.dslx_typing.specs.Typed.Given.{GivesOf, GivesItsType, EachGives}
-use Rattle.dslx_typing.proofs.OnTyped.Judged.{none_some, same_some, unbroken_parts, test_holds, settled_type}
+use Rattle.dslx_typing.proofs.OnTyped.TypingRelations.{none_some, same_some, unbroken_parts, test_holds, settled_type}
 use Rattle.dslx_typing.proofs.OnTyped.OfTypes.{one_type, of_tuple, is_tuple_of, is_array_of}
 use Rattle.dslx_typing.proofs.OnTyped.OneName.{tuple_declared, parts_declared, element_declared}
 use Rattle.dslx_typing.proofs.Lemmas.Typed.OfLists.{all_there, all_alone_given, element_types}
@@ -34,13 +34,13 @@ and_then_type (Some a) f b e = (a, refl, e)
 
 -- ---- tuples
 
-pub tuple_gives : (types : Declarations) (span : Span) (sight : Sight) (es : List ExprPair) (xs : List (Option DslxValue))
-    → EachGives types sight es xs → GivesItsType types (tuple_judged span sight es) (and_then (all_some xs) (λ vs. Some (value.Tuple vs)))
-tuple_gives types span sight es xs h t e =
-    let js = map (element_alone sight) es in
+pub tuple_gives : (types : Declarations) (span : Span) (context : TypeEnv) (es : List ExprPair) (xs : List (Option DslxValue))
+    → EachGives types context es xs → GivesItsType types (tuple_typing span context es) (and_then (all_some xs) (λ vs. Some (value.Tuple vs)))
+tuple_gives types span context es xs h t e =
+    let js = map (element_alone context) es in
     let s = settled_type (and_then (all_some (types_of js)) (λ ts. Some (ty.Tuple ts))) (faults_of_all js) t e in
     let q = and_then_type (all_some (types_of js)) (λ ts. Some (ty.Tuple ts)) t s.1 in
-    let all = all_alone_given types sight es xs q.0 h (sym (element_types sight es) ∙ all_there (types_of js) q.0 q.1) in
+    let all = all_alone_given types context es xs q.0 h (sym (element_types context es) ∙ all_there (types_of js) q.0 q.1) in
     let is = same_some (ty.Tuple q.0) t q.2 in
     record {
       value = value.Tuple all.values;
@@ -116,11 +116,11 @@ some_element test (v ∷ vs) k e h =
     let less : min k (length vs) < suc (length vs) = omega arith in
     there test (v ∷ vs) (min k (length vs)) less h
 
-pub index_gives : (types : Declarations) (span : Span) (sight : Sight) (e i : ExprPair) (x y : Option DslxValue)
-    → GivesItsType types (alone sight e) x → GivesItsType types (alone sight i) y → GivesItsType types (index_judged span sight e i) (with_both x y index_value)
-index_gives types span sight e i x y p q t h =
-    let whole = alone sight e in
-    let place = alone sight i in
+pub index_gives : (types : Declarations) (span : Span) (context : TypeEnv) (e i : ExprPair) (x y : Option DslxValue)
+    → GivesItsType types (alone context e) x → GivesItsType types (alone context i) y → GivesItsType types (index_typing span context e i) (with_both x y index_value)
+index_gives types span context e i x y p q t h =
+    let whole = alone context e in
+    let place = alone context i in
     let s = settled_type (and_then place.ty (λ k. element_type (and_then whole.ty array_in)))
     (((whole.faults ++ place.faults) ++ unless_type is_array 19 span whole.ty) ++ unless_type is_unsigned 19 span place.ty) t h in
     let f = unbroken_parts ((whole.faults ++ place.faults) ++ unless_type is_array 19 span whole.ty) (unless_type is_unsigned 19 span place.ty) s.0 in

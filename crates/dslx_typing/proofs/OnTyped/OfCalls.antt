@@ -15,7 +15,7 @@ use Rattle.dslx_meaning.specs.declared.ty.DslxType as ty
 use Rattle.dslx_meaning.specs.declared.value.DslxValue.{DslxValue}
 use Rattle.dslx_meaning.specs.declared.value.DslxValue as value
 use Rattle.dslx_meaning.specs.declared.value.SignedWord.{SignedWord}
-use Rattle.dslx_meaning.specs.Rules.Judging.{Sight, ExprPair, has_broken, span_of, alone}
+use Rattle.dslx_meaning.specs.Rules.TypeEnvs.{TypeEnv, ExprPair, has_broken, span_of, alone}
 use Rattle.dslx_meaning.specs.Rules.ConstantRules.{is_unsigned, is_zero}
 use Rattle.dslx_meaning.specs.Rules.PatternRules.{is_there}
 use Rattle.dslx_meaning.specs.Rules.OperatorRules.{is_bits, unless_type}
@@ -25,7 +25,7 @@ use Rattle.dslx_typing.proofs.Lemmas.Laws.{and_true, is_bits_type, is_unsigned_v
 use Rattle.dslx_typing.specs.Typed.Kinds.{is_of, lies_in}
 use Rattle.dslx_typing.specs.Typed.Declared.{Declarations, IsDeclared}
 use Rattle.dslx_typing.specs.Typed.Given.{GivesOf, GivesItsType}
-use Rattle.dslx_typing.proofs.OnTyped.Judged.{same_some, unbroken_parts, test_holds, settled_type}
+use Rattle.dslx_typing.proofs.OnTyped.TypingRelations.{same_some, unbroken_parts, test_holds, settled_type}
 use Rattle.dslx_typing.proofs.OnTyped.OfTypes.{one_type, is_bits_of, is_array_of, bits_of_width}
 use Rattle.dslx_typing.proofs.OnTyped.OfOperators.{bits_declared}
 use Rattle.dslx_typing.proofs.OnTyped.OneName.{one_of_text, element_declared}
@@ -49,10 +49,10 @@ pub of_its_bits : {A : Type 0} (x : Option DslxValue) (f : SignedWord → Option
 of_its_bits None f = refl
 of_its_bits (Some v) f = refl
 
-pub counting_gives : (types : Declarations) (span : Span) (sight : Sight) (e : ExprPair) (x : Option DslxValue) (f : Word → Word) → ((w : Word) → (f w).width ≡ w.width) → ((w : Word) → lies_in w ≡ true → lies_in (f w) ≡ true)
-    → GivesItsType types (alone sight e) x → GivesItsType types (counting span (e ∷ []) (alone sight e ∷ []) (alone sight e).ty) (and_then x (λ v. counted f (v ∷ [])))
-counting_gives types span sight e x f width within gives t h =
-    let a = alone sight e in
+pub counting_gives : (types : Declarations) (span : Span) (context : TypeEnv) (e : ExprPair) (x : Option DslxValue) (f : Word → Word) → ((w : Word) → (f w).width ≡ w.width) → ((w : Word) → lies_in w ≡ true → lies_in (f w) ≡ true)
+    → GivesItsType types (alone context e) x → GivesItsType types (counting span (e ∷ []) (alone context e ∷ []) (alone context e).ty) (and_then x (λ v. counted f (v ∷ [])))
+counting_gives types span context e x f width within gives t h =
+    let a = alone context e in
     let s = settled_type (and_then a.ty (λ t. a.ty)) (a.faults ++ unless_type is_bits 27 (span_of e) a.ty) t h in
     let q = and_then_type a.ty (λ t. a.ty) t s.1 in
     let k = unbroken_parts a.faults (unless_type is_bits 27 (span_of e) a.ty) s.0 in
@@ -65,10 +65,10 @@ counting_gives types span sight e x f width within gives t h =
       declared = g.declared;
     }
 
-pub reducing_gives : (types : Declarations) (span : Span) (sight : Sight) (e : ExprPair) (x : Option DslxValue) (f : Word → Word) → ((w : Word) → (f w).width ≡ 1) → ((w : Word) → lies_in w ≡ true → lies_in (f w) ≡ true)
-    → GivesItsType types (alone sight e) x → GivesItsType types (counting span (e ∷ []) (alone sight e ∷ []) (Some bool_type)) (and_then x (λ v. reduced f (v ∷ [])))
-reducing_gives types span sight e x f width within gives t h =
-    let a = alone sight e in
+pub reducing_gives : (types : Declarations) (span : Span) (context : TypeEnv) (e : ExprPair) (x : Option DslxValue) (f : Word → Word) → ((w : Word) → (f w).width ≡ 1) → ((w : Word) → lies_in w ≡ true → lies_in (f w) ≡ true)
+    → GivesItsType types (alone context e) x → GivesItsType types (counting span (e ∷ []) (alone context e ∷ []) (Some bool_type)) (and_then x (λ v. reduced f (v ∷ [])))
+reducing_gives types span context e x f width within gives t h =
+    let a = alone context e in
     let s = settled_type (and_then a.ty (λ t. Some bool_type)) (a.faults ++ unless_type is_bits 27 (span_of e) a.ty) t h in
     let q = and_then_type a.ty (λ t. Some bool_type) t s.1 in
     let k = unbroken_parts a.faults (unless_type is_bits 27 (span_of e) a.ty) s.0 in

@@ -10,7 +10,7 @@ use Rattle.dslx_meaning.specs.Types.{same_bool, same_type, bool_type, unit_type}
 use Rattle.dslx_meaning.specs.Values.{signed_step, bits_of, unit_value}
 use Rattle.dslx_meaning.specs.Operators.{truth, truth_of}
 use Rattle.dslx_meaning.specs.Environment.{Env}
-use Rattle.dslx_meaning.specs.Meaning.{Evaluates, Meant, Going, PatternMeant, choose, fits_at_place, statements_meant, last_meant, turns_from, turn_count, loop_over}
+use Rattle.dslx_meaning.specs.Meaning.{ValueDen, ExprDen, StmtDen, PatternDen, choose, fits_in_scope, statements_den, last_den, turns_from, turn_count, loop_over}
 use Rattle.dslx_meaning.specs.declared.ty.BitKind.{BitKind}
 use Rattle.dslx_meaning.specs.declared.value.SignedWord.{SignedWord}
 use Rattle.dslx_meaning.specs.declared.ty.DslxType.{DslxType}
@@ -18,17 +18,17 @@ use Rattle.dslx_meaning.specs.declared.ty.DslxType as ty
 use Rattle.dslx_meaning.specs.declared.value.DslxValue.{DslxValue}
 use Rattle.dslx_meaning.specs.declared.value.DslxValue as value
 use Rattle.dslx_meaning.specs.declared.value.DslxValue.TheViews as views
-use Rattle.dslx_meaning.specs.Rules.Judging.{Sight, Judgement, ExprPair, has_broken, settled, span_of, alone, within}
-use Rattle.dslx_meaning.specs.Rules.Judgings.{BlockPair, PatternPair, StatementJudging}
+use Rattle.dslx_meaning.specs.Rules.TypeEnvs.{TypeEnv, Judgement, ExprPair, has_broken, settled, span_of, alone, within}
+use Rattle.dslx_meaning.specs.Rules.Typings.{BlockPair, PatternPair, StatementTyping}
 use Rattle.dslx_meaning.specs.Rules.OperatorRules.{is_bits, is_bool, one_bit_type, unless_type, unless_types}
 use Rattle.dslx_meaning.specs.Rules.PatternRules.{pattern_alone}
-use Rattle.dslx_meaning.specs.Rules.ControlRules.{block_alone, if_judged, statements_judged, last_judged, behind, bound_type, annotation_faults, let_with}
+use Rattle.dslx_meaning.specs.Rules.ControlRules.{block_alone, if_typing, statements_typing, last_typing, behind, bound_type, annotation_faults, let_with}
 use Rattle.dslx_typing.proofs.Lemmas.Laws.{and_true, is_bits_type}
 use Rattle.dslx_typing.specs.Typed.Kinds.{is_of, lies_in, tuple_of}
 use Rattle.dslx_typing.specs.Typed.Declared.{Declarations, IsDeclared}
 use Rattle.dslx_typing.specs.Typed.Given.{GivesOf, GivesItsType, TurnGives}
-use Rattle.dslx_typing.specs.Typed.WellTyped.{types_at, IsWellTyped, FitsOrFails, Fits, Fails, PatternKeeps, GoesOnTyped, StatementKeeps, AllKeep, LastGives}
-use Rattle.dslx_typing.proofs.OnTyped.Judged.{none_some, same_some, unbroken_parts, three_unbroken, test_holds, settled_type}
+use Rattle.dslx_typing.specs.Typed.WellTyped.{types_at, IsWellTypedEnv, FitsOrFails, Fits, Fails, PatternKeeps, GoesOnTyped, StatementKeeps, AllKeep, LastGives}
+use Rattle.dslx_typing.proofs.OnTyped.TypingRelations.{none_some, same_some, unbroken_parts, three_unbroken, test_holds, settled_type}
 use Rattle.dslx_typing.proofs.OnTyped.OfTypes.{is_bits_of, of_tuple, bits_of_width}
 use Rattle.dslx_typing.proofs.OnTyped.OfWords.{next_lies}
 use Rattle.dslx_typing.proofs.OnTyped.OfOperators.{bits_declared}
@@ -47,13 +47,13 @@ truth_given types k x g e =
           ∙ ap (λ n. where_true (n == 1) (Some (b.0.value == 1))) b.2,
     )
 
-pub if_gives : (types : Declarations) (span : Span) (sight : Sight) (c : ExprPair) (a : BlockPair) (b : ExprPair) (x y z : Option DslxValue)
-    → GivesItsType types (alone sight c) x → GivesItsType types (block_alone sight a) y → GivesItsType types (alone sight b) z
-    → GivesItsType types (if_judged span sight c a b) (choose (and_then x truth) y z)
-if_gives types span sight c a b x y z hx hy hz t e =
-    let condition = alone sight c in
-    let first = block_alone sight a in
-    let second = alone sight b in
+pub if_gives : (types : Declarations) (span : Span) (context : TypeEnv) (c : ExprPair) (a : BlockPair) (b : ExprPair) (x y z : Option DslxValue)
+    → GivesItsType types (alone context c) x → GivesItsType types (block_alone context a) y → GivesItsType types (alone context b) z
+    → GivesItsType types (if_typing span context c a b) (choose (and_then x truth) y z)
+if_gives types span context c a b x y z hx hy hz t e =
+    let condition = alone context c in
+    let first = block_alone context a in
+    let second = alone context b in
     let parts = (condition.faults ++ first.faults) ++ second.faults in
     let s = settled_type (and_then condition.ty (λ t. with_both first.ty second.ty (λ u v. Some u)))
     ((parts ++ unless_type is_bool 15 (span_of c) condition.ty) ++ unless_types same_type 25 span first.ty second.ty) t e in
@@ -66,7 +66,7 @@ if_gives types span sight c a b x y z hx hy hz t e =
     taken true q gy gz = subst (GivesOf types t) (ap (λ o. choose o y z) (sym q)) gy
     taken false q gy gz = subst (GivesOf types t) (ap (λ o. choose o y z) (sym q)) gz
 
-    branches : (m n : Option DslxType) → (block_alone sight a).ty ≡ m → (alone sight b).ty ≡ n → with_both m n (λ u v. Some u) ≡ Some t → has_broken (unless_types same_type 25 span m n) ≡ false
+    branches : (m n : Option DslxType) → (block_alone context a).ty ≡ m → (alone context b).ty ≡ n → with_both m n (λ u v. Some u) ≡ Some t → has_broken (unless_types same_type 25 span m n) ≡ false
         → (p : Bool) → and_then x truth ≡ Some p → GivesOf types t (choose (and_then x truth) y z)
     branches None n em en h f p q = none_some t h
     branches (Some u) None em en h f p q = none_some t h
@@ -79,16 +79,16 @@ if_gives types span sight c a b x y z hx hy hz t e =
 
 -- ---- blocks
 
-pub statements_keep : (sight : Sight) (ss : List StatementJudging) (gs : List Going) → AllKeep sight ss gs → StatementKeeps sight (statements_judged ss) (statements_meant gs)
-statements_keep sight [] [] k env h f = record { inner = env; typed = h; goes = λ rest. refl }
-statements_keep sight [] (g ∷ gs) k env h f = absurd k
-statements_keep sight (s ∷ ss) [] k env h f = absurd k
-statements_keep sight (s ∷ ss) (g ∷ gs) k env h f =
-    let first = s false sight in
-    let q = unbroken_parts first.faults (statements_judged ss false first.sight).faults f in
+pub statements_keep : (context : TypeEnv) (ss : List StatementTyping) (gs : List StmtDen) → AllKeep context ss gs → StatementKeeps context (statements_typing ss) (statements_den gs)
+statements_keep context [] [] k env h f = record { inner = env; typed = h; goes = λ rest. refl }
+statements_keep context [] (g ∷ gs) k env h f = absurd k
+statements_keep context (s ∷ ss) [] k env h f = absurd k
+statements_keep context (s ∷ ss) (g ∷ gs) k env h f =
+    let first = s false context in
+    let q = unbroken_parts first.faults (statements_typing ss false first.context).faults f in
     let one = k.0 env h q.0 in
-    let more = statements_keep first.sight ss gs k.1 one.inner one.typed q.1 in
-    record { inner = more.inner; typed = more.typed; goes = λ rest. one.goes (statements_meant gs rest) ∙ more.goes rest }
+    let more = statements_keep first.context ss gs k.1 one.inner one.typed q.1 in
+    record { inner = more.inner; typed = more.typed; goes = λ rest. one.goes (statements_den gs rest) ∙ more.goes rest }
 
 unit_gives : (types : Declarations) (t : DslxType) → Some unit_type ≡ Some t → GivesOf types t (Some unit_value)
 unit_gives types t e =
@@ -100,62 +100,62 @@ unit_gives types t e =
       declared = subst (IsDeclared types) own (tuple_declared types [] tt);
     }
 
-last_gives : (sight : Sight) (o : Option ExprPair) (p : Option Meant) (env : Env) → LastGives sight o p → IsWellTyped sight env → GivesItsType (types_at sight) (last_judged sight o) (last_meant p env)
-last_gives sight None None env k h = unit_gives (types_at sight)
-last_gives sight None (Some m) env k h = absurd k
-last_gives sight (Some e) None env k h = absurd k
-last_gives sight (Some e) (Some m) env k h = k env h
+last_gives : (context : TypeEnv) (o : Option ExprPair) (p : Option ExprDen) (env : Env) → LastGives context o p → IsWellTypedEnv context env → GivesItsType (types_at context) (last_typing context o) (last_den p env)
+last_gives context None None env k h = unit_gives (types_at context)
+last_gives context None (Some m) env k h = absurd k
+last_gives context (Some e) None env k h = absurd k
+last_gives context (Some e) (Some m) env k h = k env h
 
 -- a block, by its statements and its last expression
-pub block_gives : (span : Span) (sight : Sight) (ss : List StatementJudging) (gs : List Going) (o : Option ExprPair) (p : Option Meant) (size : Option ℕ) (env : Env)
-    → AllKeep sight ss gs → LastGives (statements_judged ss false sight).sight o p → IsWellTyped sight env
-    → GivesItsType (types_at (statements_judged ss false sight).sight)
-    (settled span (last_judged (statements_judged ss false sight).sight o).ty ((statements_judged ss false sight).faults ++ (last_judged (statements_judged ss false sight).sight o).faults)
-    ((statements_judged ss false sight).reached ++ (last_judged (statements_judged ss false sight).sight o).reached) size)
-    (statements_meant gs (last_meant p) env)
-block_gives span sight ss gs o p size env keeps last h t e =
-    let walked = statements_judged ss false sight in
-    let own = last_judged walked.sight o in
+pub block_gives : (span : Span) (context : TypeEnv) (ss : List StatementTyping) (gs : List StmtDen) (o : Option ExprPair) (p : Option ExprDen) (size : Option ℕ) (env : Env)
+    → AllKeep context ss gs → LastGives (statements_typing ss false context).context o p → IsWellTypedEnv context env
+    → GivesItsType (types_at (statements_typing ss false context).context)
+    (settled span (last_typing (statements_typing ss false context).context o).ty ((statements_typing ss false context).faults ++ (last_typing (statements_typing ss false context).context o).faults)
+    ((statements_typing ss false context).reached ++ (last_typing (statements_typing ss false context).context o).reached) size)
+    (statements_den gs (last_den p) env)
+block_gives span context ss gs o p size env keeps last h t e =
+    let walked = statements_typing ss false context in
+    let own = last_typing walked.context o in
     let s = settled_type own.ty (walked.faults ++ own.faults) t e in
     let f = unbroken_parts walked.faults own.faults s.0 in
-    let on = statements_keep sight ss gs keeps env h f.0 in
-    let g = last_gives walked.sight o p on.inner last on.typed t s.1 in
-    record { value = g.value; is = on.goes (last_meant p) ∙ g.is; of = g.of; declared = g.declared }
+    let on = statements_keep context ss gs keeps env h f.0 in
+    let g = last_gives walked.context o p on.inner last on.typed t s.1 in
+    record { value = g.value; is = on.goes (last_den p) ∙ g.is; of = g.of; declared = g.declared }
 
 -- a `let` whose value and written type have types
-pub let_keeps : (sight : Sight) (e : ExprPair) (m : Meant) (span : Span) (written : Option Judgement) (pattern : PatternPair) (pm : PatternMeant) (t : DslxType)
-    → ((env : Env) → IsWellTyped sight env → GivesItsType (types_at sight) (within sight e) (m.value env)) → (within sight e).ty ≡ Some t
+pub let_keeps : (context : TypeEnv) (e : ExprPair) (m : ExprDen) (span : Span) (written : Option Judgement) (pattern : PatternPair) (pm : PatternDen) (t : DslxType)
+    → ((env : Env) → IsWellTypedEnv context env → GivesItsType (types_at context) (within context e) (m.value env)) → (within context e).ty ≡ Some t
     → bound_type written (Some t) ≡ Some t → PatternKeeps pattern.1 pm.fits
-    → (env : Env) → IsWellTyped sight env
-    → has_broken (let_with sight e.0 span (within sight e) written (pattern_alone false sight (bound_type written (within sight e).ty) pattern)).faults ≡ false
-    → GoesOnTyped (let_with sight e.0 span (within sight e) written (pattern_alone false sight (bound_type written (within sight e).ty) pattern)) env (λ rest env. and_then (m.value env) (λ v. and_then (fits_at_place pm v env) rest))
-let_keeps sight e m span written pattern pm t value own bound keeps env h f =
-    let seen = pattern_alone false sight (bound_type written (within sight e).ty) pattern in
-    let q = unbroken_parts ((within sight e).faults ++ annotation_faults span written (within sight e).ty) seen.faults f in
-    by_type (bound_type written (within sight e).ty) (ap (bound_type written) own ∙ bound) (value env h t own) q.1
+    → (env : Env) → IsWellTypedEnv context env
+    → has_broken (let_with context e.0 span (within context e) written (pattern_alone false context (bound_type written (within context e).ty) pattern)).faults ≡ false
+    → GoesOnTyped (let_with context e.0 span (within context e) written (pattern_alone false context (bound_type written (within context e).ty) pattern)) env (λ rest env. and_then (m.value env) (λ v. and_then (fits_in_scope pm v env) rest))
+let_keeps context e m span written pattern pm t value own bound keeps env h f =
+    let seen = pattern_alone false context (bound_type written (within context e).ty) pattern in
+    let q = unbroken_parts ((within context e).faults ++ annotation_faults span written (within context e).ty) seen.faults f in
+    by_type (bound_type written (within context e).ty) (ap (bound_type written) own ∙ bound) (value env h t own) q.1
   where
     Behind : Option DslxType → Type 0
-    Behind o = GoesOnTyped (let_with sight e.0 span (within sight e) written (pattern_alone false sight o pattern)) env (λ rest env. and_then (m.value env) (λ v. and_then (fits_at_place pm v env) rest))
+    Behind o = GoesOnTyped (let_with context e.0 span (within context e) written (pattern_alone false context o pattern)) env (λ rest env. and_then (m.value env) (λ v. and_then (fits_in_scope pm v env) rest))
 
-    on : (g : GivesOf (types_at sight) t (m.value env)) → FitsOrFails false sight (pattern_alone false sight (Some t) pattern) (fits_at_place pm g.value env) → Behind (Some t)
+    on : (g : GivesOf (types_at context) t (m.value env)) → FitsOrFails false context (pattern_alone false context (Some t) pattern) (fits_in_scope pm g.value env) → Behind (Some t)
     on g (Fits inner is typed) = record {
       inner = inner;
-      typed = record { locals = typed.locals; numbers = typed.numbers; constants = typed.constants; members = typed.members; kinds = typed.kinds; typed = typed.typed; valued = typed.valued; place = record { others = typed.place.others; hides = typed.place.hides }; items = typed.items; known = typed.known };
-      goes = λ rest. ap (λ o. and_then o (λ v. and_then (fits_at_place pm v env) rest)) g.is ∙ ap (λ o. and_then o rest) is;
+      typed = record { locals = typed.locals; parametric_args = typed.parametric_args; constants = typed.constants; members = typed.members; kinds = typed.kinds; typed = typed.typed; valued = typed.valued; place = record { others = typed.place.others; hides = typed.place.hides }; items = typed.items; known = typed.known };
+      goes = λ rest. ap (λ o. and_then o (λ v. and_then (fits_in_scope pm v env) rest)) g.is ∙ ap (λ o. and_then o rest) is;
     }
     on g (Fails is may sure) = absurd (true≢false (sym may))
 
-    by_type : (o : Option DslxType) → o ≡ Some t → GivesOf (types_at sight) t (m.value env) → has_broken (pattern_alone false sight o pattern).faults ≡ false → Behind o
+    by_type : (o : Option DslxType) → o ≡ Some t → GivesOf (types_at context) t (m.value env) → has_broken (pattern_alone false context o pattern).faults ≡ false → Behind o
     by_type o q g k =
         subst Behind (sym q)
-        (on g (keeps false sight t [] sight.locals env env g.value h h (record { value = g.value; is = refl; of = g.of; declared = g.declared }) (ap (λ p. has_broken (pattern_alone false sight p pattern).faults) (sym q) ∙ k)))
+        (on g (keeps false context t [] context.locals env env g.value h h (record { value = g.value; is = refl; of = g.of; declared = g.declared }) (ap (λ p. has_broken (pattern_alone false context p pattern).faults) (sym q) ∙ k)))
 
 -- an expression as a statement, where it has a type
-pub bare_keeps : (sight : Sight) (e : ExprPair) (m : Meant) (t : DslxType) → ((env : Env) → IsWellTyped sight env → GivesItsType (types_at sight) (within sight e) (m.value env)) → (within sight e).ty ≡ Some t
-    → (env : Env) → IsWellTyped sight env → (inner : Env) × IsWellTyped (behind sight sight.locals e.0) inner × ((rest : Evaluates) → and_then (m.value env) (λ v. rest env) ≡ rest inner)
-bare_keeps sight e m t value own env h =
+pub bare_keeps : (context : TypeEnv) (e : ExprPair) (m : ExprDen) (t : DslxType) → ((env : Env) → IsWellTypedEnv context env → GivesItsType (types_at context) (within context e) (m.value env)) → (within context e).ty ≡ Some t
+    → (env : Env) → IsWellTypedEnv context env → (inner : Env) × IsWellTypedEnv (behind context context.locals e.0) inner × ((rest : ValueDen) → and_then (m.value env) (λ v. rest env) ≡ rest inner)
+bare_keeps context e m t value own env h =
     let g = value env h t own in
-    (env, record { locals = h.locals; numbers = h.numbers; constants = h.constants; members = h.members; kinds = h.kinds; typed = h.typed; valued = h.valued; place = record { others = h.place.others; hides = h.place.hides }; items = h.items; known = h.known }, λ rest. ap (λ o. and_then o (λ v. rest env)) g.is)
+    (env, record { locals = h.locals; parametric_args = h.parametric_args; constants = h.constants; members = h.members; kinds = h.kinds; typed = h.typed; valued = h.valued; place = record { others = h.place.others; hides = h.place.hides }; items = h.items; known = h.known }, λ rest. ap (λ o. and_then o (λ v. rest env)) g.is)
 
 -- ---- for
 

@@ -10,24 +10,24 @@ use Rattle.dslx_meaning.specs.Lists.{and_then, with_both, where_true}
 use Rattle.dslx_meaning.specs.Values.{bits_of}
 use Rattle.dslx_meaning.specs.Types.{same_type}
 use Rattle.dslx_meaning.specs.Environment.{Meanings, Given, Env}
-use Rattle.dslx_meaning.specs.Meaning.{Evaluates, PatternMeant, fits_at_place, loop_over, value_of_block}
-use Rattle.dslx_meaning.specs.Items.{operands_bound, numbers_bound, function_value}
+use Rattle.dslx_meaning.specs.Meaning.{ValueDen, PatternDen, fits_in_scope, loop_over, value_of_block}
+use Rattle.dslx_meaning.specs.Items.{operands_bound, parametric_args_bound, function_value}
 use Rattle.dslx_meaning.specs.declared.ty.DslxType.{DslxType}
 use Rattle.dslx_meaning.specs.declared.value.DslxValue.{DslxValue}
-use Rattle.dslx_meaning.specs.Rules.Judging.{Known, Sight, Typed, Judgement, has_broken, with_typed}
-use Rattle.dslx_meaning.specs.Rules.Judgings.{PatternPair, PatternSeen}
+use Rattle.dslx_meaning.specs.Rules.TypeEnvs.{GlobalEnv, TypeEnv, Typed, Judgement, has_broken, with_typed}
+use Rattle.dslx_meaning.specs.Rules.Typings.{PatternPair, PatternSeen}
 use Rattle.dslx_meaning.specs.Rules.ConstantRules.{size_faults}
 use Rattle.dslx_meaning.specs.Rules.ControlRules.{LoopSeen, annotated_type, index_type, loop_annotation, loop_faults, loop_parts_faults, loop_type, loop_with, same_ends, turn_limit, turns_of}
 use Rattle.dslx_meaning.specs.Rules.OperatorRules.{one_bit_type, unless_types}
 use Rattle.dslx_meaning.specs.Rules.PatternRules.{pattern_alone}
 use Rattle.dslx_meaning.specs.Rules.AggregateRules.{wanted_faults}
 use Rattle.dslx_meaning.specs.Rules.NodeRules.{block_pair}
-use Rattle.dslx_meaning.specs.Rules.ItemRules.{judged_inner, arguments_typed, body_judged, function_sight}
+use Rattle.dslx_meaning.specs.Rules.ItemRules.{typing_of_inner, arguments_typed, body_typing, function_type_env}
 use Rattle.dslx_typing.specs.Typed.Kinds.{is_of}
 use Rattle.dslx_typing.specs.Typed.Declared.{Declarations, IsDeclared}
 use Rattle.dslx_typing.specs.Typed.Given.{GivesOf, GivesItsType, TurnGives}
-use Rattle.dslx_typing.specs.Typed.WellTyped.{types_at, IsWellTyped, FitsOrFails, Fits, Fails, PatternKeeps, turn_seen, AreOperandsOf, NameNoConstant}
-use Rattle.dslx_typing.proofs.OnTyped.Judged.{none_some, same_some, unbroken_parts, three_unbroken, test_holds, settled_type}
+use Rattle.dslx_typing.specs.Typed.WellTyped.{types_at, IsWellTypedEnv, FitsOrFails, Fits, Fails, PatternKeeps, turn_seen, AreOperandsOf, NameNoConstant}
+use Rattle.dslx_typing.proofs.OnTyped.TypingRelations.{none_some, same_some, unbroken_parts, three_unbroken, test_holds, settled_type}
 use Rattle.dslx_typing.proofs.OnTyped.OfAggregates.{and_then_type}
 use Rattle.dslx_typing.proofs.OnTyped.OfControl.{loop_gives}
 use Rattle.dslx_typing.proofs.OnTyped.OneName.{one_of_text}
@@ -36,26 +36,26 @@ use Rattle.dslx_typing.proofs.OnTyped.OfPatterns.{bound_keeps}
 -- ---- turns
 
 -- a pattern that may not fail fits
-fits_surely : (sight : Sight) (seen : PatternSeen) (o : Option Env) → FitsOrFails false sight seen o → (inner : Env) × (o ≡ Some inner) × IsWellTyped (with_typed sight seen.locals) inner
-fits_surely sight seen o (Fits inner is typed) = (inner, is, typed)
-fits_surely sight seen o (Fails is may sure) = absurd (true≢false (sym may))
+fits_surely : (context : TypeEnv) (seen : PatternSeen) (o : Option Env) → FitsOrFails false context seen o → (inner : Env) × (o ≡ Some inner) × IsWellTypedEnv (with_typed context seen.locals) inner
+fits_surely context seen o (Fits inner is typed) = (inner, is, typed)
+fits_surely context seen o (Fails is may sure) = absurd (true≢false (sym may))
 
-pub turn_gives : (sight : Sight) (k t u : DslxType) (index acc : PatternPair) (im am : PatternMeant) (j : Judgement) (body : Evaluates) (env : Env)
-    → PatternKeeps index.1 im.fits → PatternKeeps acc.1 am.fits → IsDeclared (types_at sight) k → IsDeclared (types_at sight) t
-    → has_broken (pattern_alone false sight (Some k) index).faults ≡ false → has_broken (turn_seen sight k t index acc).faults ≡ false
+pub turn_gives : (context : TypeEnv) (k t u : DslxType) (index acc : PatternPair) (im am : PatternDen) (j : Judgement) (body : ValueDen) (env : Env)
+    → PatternKeeps index.1 im.fits → PatternKeeps acc.1 am.fits → IsDeclared (types_at context) k → IsDeclared (types_at context) t
+    → has_broken (pattern_alone false context (Some k) index).faults ≡ false → has_broken (turn_seen context k t index acc).faults ≡ false
     → j.ty ≡ Some u → same_type t u ≡ true
-    → ((inner : Env) → IsWellTyped (with_typed sight (turn_seen sight k t index acc).locals) inner → GivesItsType (types_at sight) j (body inner))
-    → IsWellTyped sight env → TurnGives k t (λ i a. and_then (fits_at_place im i env) (λ inner. and_then (fits_at_place am a inner) body))
-turn_gives sight k t u index acc im am j body env ik ak dk dt fi fa own same gives h i a ki ta =
-    let first = fits_surely sight (pattern_alone false sight (Some k) index) (fits_at_place im i env)
-    (ik false sight k [] sight.locals env env i h h (record { value = i; is = refl; of = ki; declared = dk }) fi) in
-    let second = fits_surely (with_typed sight (pattern_alone false sight (Some k) index).locals) (turn_seen sight k t index acc) (fits_at_place am a first.0)
-    (ak false (with_typed sight (pattern_alone false sight (Some k) index).locals) t [] (pattern_alone false sight (Some k) index).locals first.0 first.0 a first.2 first.2
+    → ((inner : Env) → IsWellTypedEnv (with_typed context (turn_seen context k t index acc).locals) inner → GivesItsType (types_at context) j (body inner))
+    → IsWellTypedEnv context env → TurnGives k t (λ i a. and_then (fits_in_scope im i env) (λ inner. and_then (fits_in_scope am a inner) body))
+turn_gives context k t u index acc im am j body env ik ak dk dt fi fa own same gives h i a ki ta =
+    let first = fits_surely context (pattern_alone false context (Some k) index) (fits_in_scope im i env)
+    (ik false context k [] context.locals env env i h h (record { value = i; is = refl; of = ki; declared = dk }) fi) in
+    let second = fits_surely (with_typed context (pattern_alone false context (Some k) index).locals) (turn_seen context k t index acc) (fits_in_scope am a first.0)
+    (ak false (with_typed context (pattern_alone false context (Some k) index).locals) t [] (pattern_alone false context (Some k) index).locals first.0 first.0 a first.2 first.2
     (record { value = a; is = refl; of = ta; declared = dt }) fa) in
     let g = gives second.0 second.2 u own in (
       g.value,
-      ap (λ o. and_then o (λ inner. and_then (fits_at_place am a inner) body)) first.1 ∙ ap (λ o. and_then o body) second.1 ∙ g.is,
-      ap (λ x. is_of x g.value) (one_of_text (types_at sight) t u same dt g.declared) ∙ g.of,
+      ap (λ o. and_then o (λ inner. and_then (fits_in_scope am a inner) body)) first.1 ∙ ap (λ o. and_then o body) second.1 ∙ g.is,
+      ap (λ x. is_of x g.value) (one_of_text (types_at context) t u same dt g.declared) ∙ g.of,
     )
 
 -- a loop that breaks no rule, where its turns give what is accumulated its type
@@ -97,49 +97,49 @@ for_gives types span body_span l x y z turn gx gy gz turns t e =
 -- ---- functions
 
 -- operands of the types of the arguments, bound one after the other
-operands_keep : (sight : Sight) (items : Meanings) (fs : List Field) (vs : List DslxValue) (locals : List Typed) (bound : List Given) → AreOperandsOf sight fs vs → NameNoConstant sight fs
-    → IsWellTyped (with_typed sight locals) (record { items = items; bound = bound })
-    → IsWellTyped (with_typed sight (arguments_typed sight locals fs)) (record { items = items; bound = operands_bound bound fs vs })
-operands_keep sight items [] [] locals bound k c h = h
-operands_keep sight items [] (v ∷ vs) locals bound k c h = absurd k
-operands_keep sight items (f ∷ fs) [] locals bound k c h = absurd k
-operands_keep sight items (f ∷ fs) (v ∷ vs) locals bound k c h =
-    operands_keep sight items fs vs (record { name = f.name.name; ty = (judged_inner sight f.ty).ty } ∷ locals) (record { name = f.name.name; value = v } ∷ bound) k.1 c.1
-    (subst (λ o. IsWellTyped (with_typed sight (record { name = f.name.name; ty = o } ∷ locals)) (record { items = items; bound = record { name = f.name.name; value = v } ∷ bound })) (sym k.0.1)
-    (bound_keeps sight locals (record { items = items; bound = bound }) f.name.name k.0.0 v h k.0.2 c.0))
+operands_keep : (context : TypeEnv) (items : Meanings) (fs : List Field) (vs : List DslxValue) (locals : List Typed) (bound : List Given) → AreOperandsOf context fs vs → NameNoConstant context fs
+    → IsWellTypedEnv (with_typed context locals) (record { items = items; bound = bound })
+    → IsWellTypedEnv (with_typed context (arguments_typed context locals fs)) (record { items = items; bound = operands_bound bound fs vs })
+operands_keep context items [] [] locals bound k c h = h
+operands_keep context items [] (v ∷ vs) locals bound k c h = absurd k
+operands_keep context items (f ∷ fs) [] locals bound k c h = absurd k
+operands_keep context items (f ∷ fs) (v ∷ vs) locals bound k c h =
+    operands_keep context items fs vs (record { name = f.name.name; ty = (typing_of_inner context f.ty).ty } ∷ locals) (record { name = f.name.name; value = v } ∷ bound) k.1 c.1
+    (subst (λ o. IsWellTypedEnv (with_typed context (record { name = f.name.name; ty = o } ∷ locals)) (record { items = items; bound = record { name = f.name.name; value = v } ∷ bound })) (sym k.0.1)
+    (bound_keeps context locals (record { items = items; bound = bound }) f.name.name k.0.0 v h k.0.2 c.0))
 
-as_many : (sight : Sight) (fs : List Field) (vs : List DslxValue) → AreOperandsOf sight fs vs → length vs ≡ length fs
-as_many sight [] [] k = refl
-as_many sight [] (v ∷ vs) k = absurd k
-as_many sight (f ∷ fs) [] k = absurd k
-as_many sight (f ∷ fs) (v ∷ vs) k = ap suc (as_many sight fs vs k.1)
+as_many : (context : TypeEnv) (fs : List Field) (vs : List DslxValue) → AreOperandsOf context fs vs → length vs ≡ length fs
+as_many context [] [] k = refl
+as_many context [] (v ∷ vs) k = absurd k
+as_many context (f ∷ fs) [] k = absurd k
+as_many context (f ∷ fs) (v ∷ vs) k = ap suc (as_many context fs vs k.1)
 
 -- the type of a body is the one that is wanted
-body_fits : (sight : Sight) (wanted u : DslxType) (body : Block) → ((block_pair body).1 false sight).ty ≡ Some u → has_broken (body_judged false sight (Some wanted) body).faults ≡ false → same_type wanted u ≡ true
-body_fits sight wanted u body own f =
-    let j = (block_pair body).1 false sight in
+body_fits : (context : TypeEnv) (wanted u : DslxType) (body : Block) → ((block_pair body).1 false context).ty ≡ Some u → has_broken (body_typing false context (Some wanted) body).faults ≡ false → same_type wanted u ≡ true
+body_fits context wanted u body own f =
+    let j = (block_pair body).1 false context in
     let wrong = wanted_faults (out-Block body).span (Some wanted) j.ty in
-    let q = unbroken_parts (j.faults ++ wrong) (size_faults sight.known (out-Block body).span.to (record j { faults = j.faults ++ wrong })) f in
+    let q = unbroken_parts (j.faults ++ wrong) (size_faults context.known (out-Block body).span.to (record j { faults = j.faults ++ wrong })) f in
     let r = unbroken_parts j.faults wrong q.0 in
     test_holds (same_type wanted u) 9 (out-Block body).span (ap (λ o. has_broken (wanted_faults (out-Block body).span (Some wanted) o)) (sym own) ∙ r.1)
 
-pub function_gives : (known : Known) (items : Meanings) (f : Function) (numbers operands : List DslxValue) (result u : DslxType)
-    → IsWellTyped (function_sight known f numbers) (record { items = items; bound = numbers_bound [] f.parameters numbers })
-    → AreOperandsOf (function_sight known f numbers) f.arguments operands → NameNoConstant (function_sight known f numbers) f.arguments → IsDeclared known.items.type_named result
-    → ((block_pair f.body).1 false (with_typed (function_sight known f numbers) (arguments_typed (function_sight known f numbers) [] f.arguments))).ty ≡ Some u
-    → has_broken (body_judged false (with_typed (function_sight known f numbers) (arguments_typed (function_sight known f numbers) [] f.arguments)) (Some result) f.body).faults ≡ false
-    → ((env : Env) → IsWellTyped (with_typed (function_sight known f numbers) (arguments_typed (function_sight known f numbers) [] f.arguments)) env
-    → GivesItsType known.items.type_named ((block_pair f.body).1 false (with_typed (function_sight known f numbers) (arguments_typed (function_sight known f numbers) [] f.arguments))) (value_of_block f.body env))
-    → GivesOf known.items.type_named result (function_value items f numbers operands)
-function_gives known items f numbers operands result u h k plain declared own faults gives =
-    let sight = function_sight known f numbers in
-    let inner = with_typed sight (arguments_typed sight [] f.arguments) in
-    let env : Env = record { items = items; bound = operands_bound (numbers_bound [] f.parameters numbers) f.arguments operands } in
-    let g = gives env (operands_keep sight items f.arguments operands [] (numbers_bound [] f.parameters numbers) k plain h) u own in
+pub function_gives : (known : GlobalEnv) (items : Meanings) (f : Function) (parametric_args operands : List DslxValue) (result u : DslxType)
+    → IsWellTypedEnv (function_type_env known f parametric_args) (record { items = items; bound = parametric_args_bound [] f.parametrics parametric_args })
+    → AreOperandsOf (function_type_env known f parametric_args) f.arguments operands → NameNoConstant (function_type_env known f parametric_args) f.arguments → IsDeclared known.items.type_named result
+    → ((block_pair f.body).1 false (with_typed (function_type_env known f parametric_args) (arguments_typed (function_type_env known f parametric_args) [] f.arguments))).ty ≡ Some u
+    → has_broken (body_typing false (with_typed (function_type_env known f parametric_args) (arguments_typed (function_type_env known f parametric_args) [] f.arguments)) (Some result) f.body).faults ≡ false
+    → ((env : Env) → IsWellTypedEnv (with_typed (function_type_env known f parametric_args) (arguments_typed (function_type_env known f parametric_args) [] f.arguments)) env
+    → GivesItsType known.items.type_named ((block_pair f.body).1 false (with_typed (function_type_env known f parametric_args) (arguments_typed (function_type_env known f parametric_args) [] f.arguments))) (value_of_block f.body env))
+    → GivesOf known.items.type_named result (function_value items f parametric_args operands)
+function_gives known items f parametric_args operands result u h k plain declared own faults gives =
+    let context = function_type_env known f parametric_args in
+    let inner = with_typed context (arguments_typed context [] f.arguments) in
+    let env : Env = record { items = items; bound = operands_bound (parametric_args_bound [] f.parametrics parametric_args) f.arguments operands } in
+    let g = gives env (operands_keep context items f.arguments operands [] (parametric_args_bound [] f.parametrics parametric_args) k plain h) u own in
     let same = one_of_text known.items.type_named result u (body_fits inner result u f.body own faults) declared g.declared in
     record {
       value = g.value;
-      is = ap (λ b. where_true b (value_of_block f.body env)) ((Decides-eqb (length operands) (length f.arguments)).1 (as_many sight f.arguments operands k)) ∙ g.is;
+      is = ap (λ b. where_true b (value_of_block f.body env)) ((Decides-eqb (length operands) (length f.arguments)).1 (as_many context f.arguments operands k)) ∙ g.is;
       of = ap (λ x. is_of x g.value) same ∙ g.of;
       declared = declared;
     }

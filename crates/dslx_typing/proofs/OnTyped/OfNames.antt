@@ -13,17 +13,17 @@ use Rattle.dslx_meaning.specs.Environment.{Env, given_in, value_of_name}
 use Rattle.dslx_meaning.specs.Items.{item_named, as_enum}
 use Rattle.dslx_meaning.specs.declared.ty.DslxType.{DslxType}
 use Rattle.dslx_meaning.specs.declared.value.DslxValue.{DslxValue}
-use Rattle.dslx_meaning.specs.declared.value.Bare.{Bare}
-use Rattle.dslx_meaning.specs.Rules.Judging.{Sight, Judgement, breaks, breaks_if, has_broken, settled, typed_in}
+use Rattle.dslx_meaning.specs.declared.value.UntypedLiteral.{UntypedLiteral}
+use Rattle.dslx_meaning.specs.Rules.TypeEnvs.{TypeEnv, Judgement, breaks, breaks_if, has_broken, settled, typed_in}
 use Rattle.dslx_meaning.specs.Rules.PatternRules.{is_there}
-use Rattle.dslx_meaning.specs.Rules.AggregateRules.{number_judged, range_faults}
-use Rattle.dslx_meaning.specs.Rules.NameRules.{name_judged, local_or_other, number_or_item, item_value, has_member, member_of, member_type, member_judged, end_or_other}
+use Rattle.dslx_meaning.specs.Rules.AggregateRules.{number_typing, range_faults}
+use Rattle.dslx_meaning.specs.Rules.NameRules.{name_typing, local_or_other, parametric_or_item, item_value, has_member, member_of, member_type, member_typing, end_or_other}
 use Rattle.dslx_meaning.specs.Rules.Mentions.{is_cyclic}
 use Rattle.dslx_typing.specs.Typed.Kinds.{is_of}
 use Rattle.dslx_typing.specs.Typed.Declared.{Declarations, IsDeclared}
 use Rattle.dslx_typing.specs.Typed.Given.{GivesOf, GivesItsType}
-use Rattle.dslx_typing.specs.Typed.WellTyped.{types_at, IsWellTyped}
-use Rattle.dslx_typing.proofs.OnTyped.Judged.{none_some, same_some, mapped_from, unbroken_parts, test_holds, settled_type}
+use Rattle.dslx_typing.specs.Typed.WellTyped.{types_at, IsWellTypedEnv}
+use Rattle.dslx_typing.proofs.OnTyped.TypingRelations.{none_some, same_some, mapped_from, unbroken_parts, test_holds, settled_type}
 use Rattle.dslx_typing.proofs.OnTyped.OfTypes.{bits_of_width}
 use Rattle.dslx_typing.proofs.OnTyped.OfOperators.{bits_declared}
 use Rattle.dslx_typing.proofs.OnTyped.OfAggregates.{and_then_type}
@@ -35,49 +35,49 @@ moved types t u o p e q g = record { value = g.value; is = sym q ∙ g.is; of = 
 
 -- ---- names
 
-pub name_gives : (span : Span) (sight : Sight) (name : List ℕ) (env : Env) → IsWellTyped sight env → GivesItsType (types_at sight) (name_judged span sight name) (value_of_name name env)
-name_gives span sight name env h t e = by_local (typed_in name sight.locals) refl e
+pub name_gives : (span : Span) (context : TypeEnv) (name : List ℕ) (env : Env) → IsWellTypedEnv context env → GivesItsType (types_at context) (name_typing span context name) (value_of_name name env)
+name_gives span context name env h t e = by_local (typed_in name context.locals) refl e
   where
-    by_item : (b : Bool) → typed_in name sight.locals ≡ None → given_in name sight.numbers ≡ None → (item_value span sight name b).ty ≡ Some t → GivesOf (types_at sight) t (value_of_name name env)
+    by_item : (b : Bool) → typed_in name context.locals ≡ None → given_in name context.parametric_args ≡ None → (item_value span context name b).ty ≡ Some t → GivesOf (types_at context) t (value_of_name name env)
     by_item false q r k = none_some t (settled_type None (breaks 1 span ∷ []) t k).1
     by_item true q r k =
-        let s = settled_type (option_map type_of_value (sight.known.items.constant name)) (breaks_if (is_cyclic sight.known.whole sight.home name) 3 span) t k in
-        let c = mapped_from type_of_value (sight.known.items.constant name) t s.1 in
-        moved (types_at sight) (type_of_value c.0) t _ _ c.2 refl (h.constants name c.0 q r c.1).gives
+        let s = settled_type (option_map type_of_value (context.known.items.constant name)) (breaks_if (is_cyclic context.known.whole context.owner name) 3 span) t k in
+        let c = mapped_from type_of_value (context.known.items.constant name) t s.1 in
+        moved (types_at context) (type_of_value c.0) t _ _ c.2 refl (h.constants name c.0 q r c.1).gives
 
-    by_known : (b : Bool) → typed_in name sight.locals ≡ None → given_in name sight.numbers ≡ None
-        → (if b then settled span None [] [] (Some 1) else item_value span sight name (sight.known.items.is_constant name)).ty ≡ Some t → GivesOf (types_at sight) t (value_of_name name env)
-    by_known true q r k = none_some t (settled_type None [] t k).1
-    by_known false q r k = by_item (sight.known.items.is_constant name) q r k
+    by_globals : (b : Bool) → typed_in name context.locals ≡ None → given_in name context.parametric_args ≡ None
+        → (if b then settled span None [] [] (Some 1) else item_value span context name (context.known.items.is_constant name)).ty ≡ Some t → GivesOf (types_at context) t (value_of_name name env)
+    by_globals true q r k = none_some t (settled_type None [] t k).1
+    by_globals false q r k = by_item (context.known.items.is_constant name) q r k
 
-    by_number : (o : Option DslxValue) → given_in name sight.numbers ≡ o → typed_in name sight.locals ≡ None → (number_or_item span sight name o).ty ≡ Some t → GivesOf (types_at sight) t (value_of_name name env)
-    by_number None r q k = by_known (is_in name sight.unknown) q r k
+    by_number : (o : Option DslxValue) → given_in name context.parametric_args ≡ o → typed_in name context.locals ≡ None → (parametric_or_item span context name o).ty ≡ Some t → GivesOf (types_at context) t (value_of_name name env)
+    by_number None r q k = by_globals (is_in name context.unknown) q r k
     by_number (Some v) r q k =
         let s = settled_type (Some (type_of_value v)) [] t k in
-        let known = h.numbers name v q r in
-        moved (types_at sight) (type_of_value v) t _ _ (same_some (type_of_value v) t s.1) (known.is ∙ sym (ap (λ o. or_else o (env.items.constant name)) known.is)) known.gives
+        let known = h.parametric_args name v q r in
+        moved (types_at context) (type_of_value v) t _ _ (same_some (type_of_value v) t s.1) (known.is ∙ sym (ap (λ o. or_else o (env.items.constant name)) known.is)) known.gives
 
-    by_end : (b : Bool) → typed_in name sight.locals ≡ None → (end_or_other span sight name b).ty ≡ Some t → GivesOf (types_at sight) t (value_of_name name env)
+    by_end : (b : Bool) → typed_in name context.locals ≡ None → (end_or_other span context name b).ty ≡ Some t → GivesOf (types_at context) t (value_of_name name env)
     by_end true q k = none_some t (settled_type None (breaks 1 span ∷ []) t k).1
-    by_end false q k = by_number (given_in name sight.numbers) refl q k
+    by_end false q k = by_number (given_in name context.parametric_args) refl q k
 
-    by_local : (o : Option (Option DslxType)) → typed_in name sight.locals ≡ o → (local_or_other span sight name o).ty ≡ Some t → GivesOf (types_at sight) t (value_of_name name env)
-    by_local None q k = by_end (is_in name sight.ends) q k
+    by_local : (o : Option (Option DslxType)) → typed_in name context.locals ≡ o → (local_or_other span context name o).ty ≡ Some t → GivesOf (types_at context) t (value_of_name name env)
+    by_local None q k = by_end (is_in name context.ends) q k
     by_local (Some ty) q k =
         let s = settled_type ty [] t k in
         let g = h.locals name t (q ∙ ap Some s.1) in
-        moved (types_at sight) t t _ _ refl (g.is ∙ sym (ap (λ o. or_else o (env.items.constant name)) g.is)) g
+        moved (types_at context) t t _ _ refl (g.is ∙ sym (ap (λ o. or_else o (env.items.constant name)) g.is)) g
 
-pub member_gives : (sight : Sight) (e a : Ident) (env : Env) → IsWellTyped sight env → GivesItsType (types_at sight) (member_judged sight e a) (env.items.member e.name a.name)
-member_gives sight e a env h t k = by_enum (as_enum (item_named e.name sight.known.whole.items)) refl k
+pub member_gives : (context : TypeEnv) (e a : Ident) (env : Env) → IsWellTypedEnv context env → GivesItsType (types_at context) (member_typing context e a) (env.items.member e.name a.name)
+member_gives context e a env h t k = by_enum (as_enum (item_named e.name context.known.whole.items)) refl k
   where
-    by_enum : (o : Option Enum) → as_enum (item_named e.name sight.known.whole.items) ≡ o → (member_of sight e a o).ty ≡ Some t → GivesOf (types_at sight) t (env.items.member e.name a.name)
+    by_enum : (o : Option Enum) → as_enum (item_named e.name context.known.whole.items) ≡ o → (member_of context e a o).ty ≡ Some t → GivesOf (types_at context) t (env.items.member e.name a.name)
     by_enum None q r = none_some t (settled_type None (breaks 1 e.span ∷ []) t r).1
     by_enum (Some declared) q r =
-        let s = settled_type (member_type sight e a)
-        (breaks_if (is_cyclic sight.known.whole sight.home e.name) 3 e.span ++ breaks_if (not (has_member declared a.name)) 1 a.span) t r in
-        let f = unbroken_parts (breaks_if (is_cyclic sight.known.whole sight.home e.name) 3 e.span) (breaks_if (not (has_member declared a.name)) 1 a.span) s.0 in
-        let known = and_then_type (sight.known.items.member e.name a.name) (λ v. types_at sight e.name) t s.1 in
+        let s = settled_type (member_type context e a)
+        (breaks_if (is_cyclic context.known.whole context.owner e.name) 3 e.span ++ breaks_if (not (has_member declared a.name)) 1 a.span) t r in
+        let f = unbroken_parts (breaks_if (is_cyclic context.known.whole context.owner e.name) 3 e.span) (breaks_if (not (has_member declared a.name)) 1 a.span) s.0 in
+        let known = and_then_type (context.known.items.member e.name a.name) (λ v. types_at context e.name) t s.1 in
         h.members e.name a.name declared t q (test_holds (has_member declared a.name) 1 a.span f.1) known.2
 
 -- ---- literals
@@ -89,8 +89,8 @@ bool_given types false = record { value = bool_value false; is = refl; of = bits
 pub bool_gives : (types : Declarations) (span : Span) (b : Bool) → GivesItsType types (settled span (Some bool_type) [] [] (Some 1)) (Some (bool_value b))
 bool_gives types span b t e = moved types bool_type t _ _ (same_some bool_type t (settled_type (Some bool_type) [] t e).1) refl (bool_given types b)
 
-pub number_gives : (types : Declarations) (span : Span) (tj : Judgement) (w : Option DslxType) (number : Bare) → ((t : DslxType) → tj.ty ≡ Some t → (w ≡ Some t) × IsDeclared types t)
-    → GivesItsType types (number_judged span (Some tj) number) (and_then w (λ t. number_value t number))
+pub number_gives : (types : Declarations) (span : Span) (tj : Judgement) (w : Option DslxType) (number : UntypedLiteral) → ((t : DslxType) → tj.ty ≡ Some t → (w ≡ Some t) × IsDeclared types t)
+    → GivesItsType types (number_typing span (Some tj) number) (and_then w (λ t. number_value t number))
 number_gives types span tj w number written t e =
     let s = settled_type tj.ty (tj.faults ++ range_faults span tj.ty number) t e in
     let f = unbroken_parts tj.faults (range_faults span tj.ty number) s.0 in

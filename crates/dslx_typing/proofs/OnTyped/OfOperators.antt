@@ -20,15 +20,15 @@ use Rattle.dslx_meaning.specs.declared.ty.DslxType.TheFolds.{fold-roll-DslxType}
 use Rattle.dslx_meaning.specs.declared.value.DslxValue.{DslxValue}
 use Rattle.dslx_meaning.specs.declared.value.DslxValue.TheViews as views
 use Rattle.dslx_meaning.specs.declared.value.SignedWord.{SignedWord}
-use Rattle.dslx_meaning.specs.Rules.Judging.{Sight, Judgement, ExprPair, has_broken, span_of, alone}
+use Rattle.dslx_meaning.specs.Rules.TypeEnvs.{TypeEnv, Judgement, ExprPair, has_broken, span_of, alone}
 use Rattle.dslx_meaning.specs.Rules.ConstantRules.{is_unsigned, is_unsigned_kind}
 use Rattle.dslx_meaning.specs.Rules.PatternRules.{is_there}
-use Rattle.dslx_meaning.specs.Rules.OperatorRules.{is_bits, is_bits_or_enum, is_bool, one_bit_type, one_unsigned_type, one_comparable_type, binary_faults, binary_type, binary_judged, prefix_judged, cast_judged, unless_type}
+use Rattle.dslx_meaning.specs.Rules.OperatorRules.{is_bits, is_bits_or_enum, is_bool, one_bit_type, one_unsigned_type, one_comparable_type, binary_faults, binary_type, binary_typing, prefix_typing, cast_typing, unless_type}
 use Rattle.dslx_typing.proofs.Lemmas.Laws.{and_true, unbroken, both_unbroken, is_bits_value, is_bits_type, binary_typed, prefix_typed, cast_typed}
 use Rattle.dslx_typing.specs.Typed.Kinds.{is_of, lies_in}
 use Rattle.dslx_typing.specs.Typed.Declared.{Declarations, IsDeclared, as_declared, declared_step}
 use Rattle.dslx_typing.specs.Typed.Given.{GivesOf, GivesItsType}
-use Rattle.dslx_typing.proofs.OnTyped.Judged.{none_some, same_some, mapped_from, unbroken_parts, three_unbroken, no_fault, no_two_faults, test_holds, settled_type}
+use Rattle.dslx_typing.proofs.OnTyped.TypingRelations.{none_some, same_some, mapped_from, unbroken_parts, three_unbroken, no_fault, no_two_faults, test_holds, settled_type}
 use Rattle.dslx_typing.proofs.OnTyped.OfTypes.{base_lies, bits_lie, one_type, own_bits}
 use Rattle.dslx_typing.proofs.OnTyped.OfWords.{BitsLie, MadeBits, binary_made, cast_made, in_range, lies, prefix_made}
 
@@ -165,11 +165,11 @@ binary_bits b.Ge span l r u w t e q = ap is_bits (sym (same_some bool_type t q))
 binary_bits b.Both span l r u w t e q = ap is_bits (sym (same_some bool_type t q)) ∙ bits_are_bits false 1
 binary_bits b.Either span l r u w t e q = ap is_bits (sym (same_some bool_type t q)) ∙ bits_are_bits false 1
 
-pub binary_gives : (types : Declarations) (span : Span) (sight : Sight) (o : Binary) (l r : ExprPair) (x y : Option DslxValue)
-    → GivesItsType types (alone sight l) x → GivesItsType types (alone sight r) y → GivesItsType types (binary_judged span sight o l r) (with_both x y (binary_value o))
-binary_gives types span sight o l r x y p q t e =
-    let a = alone sight l in
-    let c = alone sight r in
+pub binary_gives : (types : Declarations) (span : Span) (context : TypeEnv) (o : Binary) (l r : ExprPair) (x y : Option DslxValue)
+    → GivesItsType types (alone context l) x → GivesItsType types (alone context r) y → GivesItsType types (binary_typing span context o l r) (with_both x y (binary_value o))
+binary_gives types span context o l r x y p q t e =
+    let a = alone context l in
+    let c = alone context r in
     let s = settled_type (binary_type o a.ty c.ty) ((a.faults ++ c.faults) ++ binary_faults o span (span_of l) a.ty (span_of r) c.ty) t e in
     let h = three_unbroken a.faults c.faults (binary_faults o span (span_of l) a.ty (span_of r) c.ty) s.0 in
     let k = both_typed o a.ty c.ty t s.1 in
@@ -192,10 +192,10 @@ binary_gives types span sight o l r x y p q t e =
 
 -- ---- unary operators and casts
 
-pub prefix_gives : (types : Declarations) (span : Span) (sight : Sight) (o : Prefix) (e : ExprPair) (x : Option DslxValue)
-    → GivesItsType types (alone sight e) x → GivesItsType types (prefix_judged span sight e) (and_then x (prefix_value o))
-prefix_gives types span sight o e x p t h =
-    let a = alone sight e in
+pub prefix_gives : (types : Declarations) (span : Span) (context : TypeEnv) (o : Prefix) (e : ExprPair) (x : Option DslxValue)
+    → GivesItsType types (alone context e) x → GivesItsType types (prefix_typing span context e) (and_then x (prefix_value o))
+prefix_gives types span context o e x p t h =
+    let a = alone context e in
     let s = settled_type a.ty (a.faults ++ unless_type is_bits 11 span a.ty) t h in
     let f = unbroken_parts a.faults (unless_type is_bits 11 span a.ty) s.0 in
     let v = p t s.1 in
@@ -205,16 +205,16 @@ prefix_gives types span sight o e x p t h =
     (ap (λ m. option_map type_of_value (and_then m (prefix_value o))) v.is ∙ prefix_typed o v.value (ap is_bits own ∙ bits) ∙ ap Some own) bits
     (λ r e. prefix_made o v.value r (own_lie t v.value v.of) (ap (λ m. and_then m (prefix_value o)) (sym v.is) ∙ e))
 
-pub cast_gives : (types : Declarations) (span : Span) (sight : Sight) (e : ExprPair) (target : Judgement) (x : Option DslxValue) (u : Option DslxType)
-    → GivesItsType types (alone sight e) x → ((t : DslxType) → target.ty ≡ Some t → u ≡ Some t) → GivesItsType types (cast_judged span sight e target) (with_both u x cast_value)
-cast_gives types span sight e target x u p q t h =
-    let a = alone sight e in
+pub cast_gives : (types : Declarations) (span : Span) (context : TypeEnv) (e : ExprPair) (target : Judgement) (x : Option DslxValue) (u : Option DslxType)
+    → GivesItsType types (alone context e) x → ((t : DslxType) → target.ty ≡ Some t → u ≡ Some t) → GivesItsType types (cast_typing span context e target) (with_both u x cast_value)
+cast_gives types span context e target x u p q t h =
+    let a = alone context e in
     let s = settled_type (and_then a.ty (λ t. target.ty)) (((a.faults ++ target.faults) ++ unless_type is_bits_or_enum 20 span a.ty) ++ unless_type is_bits 20 span target.ty) t h in
     let f = unbroken_parts ((a.faults ++ target.faults) ++ unless_type is_bits_or_enum 20 span a.ty) (unless_type is_bits 20 span target.ty) s.0 in
     let g = unbroken_parts (a.faults ++ target.faults) (unless_type is_bits_or_enum 20 span a.ty) f.0 in
     by_type a.ty refl s.1 g.1 f.1
   where
-    by_type : (m : Option DslxType) → (alone sight e).ty ≡ m → and_then m (λ t. target.ty) ≡ Some t → has_broken (unless_type is_bits_or_enum 20 span m) ≡ false
+    by_type : (m : Option DslxType) → (alone context e).ty ≡ m → and_then m (λ t. target.ty) ≡ Some t → has_broken (unless_type is_bits_or_enum 20 span m) ≡ false
         → has_broken (unless_type is_bits 20 span target.ty) ≡ false → GivesOf types t (with_both u x cast_value)
     by_type None em typed based bits = none_some t typed
     by_type (Some k) em typed based bits =

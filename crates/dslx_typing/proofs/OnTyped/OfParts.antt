@@ -8,7 +8,7 @@ use Rattle.xb_bits.specs.Word.{Word}
 use Rattle.xb_bits.specs.Operations as op
 use Rattle.xb_span.specs.declared.span.Span.{Span}
 use Rattle.dslx_tree.specs.declared.ident.Ident.{Ident}
-use Rattle.dslx_meaning.specs.Lists.{and_then, with_both, where_true, beside, place_in}
+use Rattle.dslx_meaning.specs.Lists.{and_then, with_both, where_true, beside, index_in}
 use Rattle.dslx_meaning.specs.Types.{bits_in, unsigned}
 use Rattle.dslx_meaning.specs.Values.{fields_step, amount_in, bits_of}
 use Rattle.dslx_meaning.specs.Operators.{slice_value, slice_word, part_value}
@@ -21,16 +21,16 @@ use Rattle.dslx_meaning.specs.declared.ty.DslxType.TheViews as type_views
 use Rattle.dslx_meaning.specs.declared.value.DslxValue.{DslxValue}
 use Rattle.dslx_meaning.specs.declared.value.DslxValue as value
 use Rattle.dslx_meaning.specs.declared.value.SignedWord.{SignedWord}
-use Rattle.dslx_meaning.specs.Rules.Judging.{Sight, Judgement, ExprPair, breaks_if, has_broken, alone}
-use Rattle.dslx_meaning.specs.Rules.ConstantRules.{constant_or_bare, is_unsigned, is_unsigned_kind}
+use Rattle.dslx_meaning.specs.Rules.TypeEnvs.{TypeEnv, Judgement, ExprPair, breaks_if, has_broken, alone}
+use Rattle.dslx_meaning.specs.Rules.ConstantRules.{constant_or_untyped, is_unsigned, is_unsigned_kind}
 use Rattle.dslx_meaning.specs.Rules.PatternRules.{is_there}
-use Rattle.dslx_meaning.specs.Rules.OperatorRules.{is_bits, width_of_type, unless_type, bound_number, is_negative_bound, is_past, bounds_fall, is_wrong_bound, slice_faults, slice_judged, part_judged}
-use Rattle.dslx_meaning.specs.Rules.AggregateRules.{struct_field_type, field_type, field_part_judged}
+use Rattle.dslx_meaning.specs.Rules.OperatorRules.{is_bits, width_of_type, unless_type, bound_number, is_negative_bound, is_past, bounds_fall, is_wrong_bound, slice_faults, slice_typing, part_typing}
+use Rattle.dslx_meaning.specs.Rules.AggregateRules.{struct_field_type, field_type, field_part_typing}
 use Rattle.dslx_typing.proofs.Lemmas.Laws.{is_bits_type, is_unsigned_value}
 use Rattle.dslx_typing.specs.Typed.Kinds.{is_of, each_of}
 use Rattle.dslx_typing.specs.Typed.Declared.{Declarations, IsDeclared, AllDeclared, DeclaresParts}
 use Rattle.dslx_typing.specs.Typed.Given.{GivesOf, GivesItsType}
-use Rattle.dslx_typing.proofs.OnTyped.Judged.{none_some, same_some, or_false, unbroken_parts, three_unbroken, rule_holds, test_holds, settled_type}
+use Rattle.dslx_typing.proofs.OnTyped.TypingRelations.{none_some, same_some, or_false, unbroken_parts, three_unbroken, rule_holds, test_holds, settled_type}
 use Rattle.dslx_typing.proofs.OnTyped.OfTypes.{one_type, is_struct_of, bits_of_width}
 use Rattle.dslx_typing.proofs.OnTyped.OfWords.{dyn_slice_lies, slice_lies}
 use Rattle.dslx_typing.proofs.OnTyped.OfOperators.{bits_declared, unsigned_bits}
@@ -56,13 +56,13 @@ bounds_within t i j past fall =
     let most : j ≤ width_of_type t = ltb-false (width_of_type t) j past in
     λ d. (Decides-ltb i j).1 less d && le-leb j (width_of_type t) most d
 
-pub slice_gives : (types : Declarations) (span : Span) (sight : Sight) (e a c : ExprPair) (x : Option DslxValue) (m n : Option ℕ)
-    → GivesItsType types (alone sight e) x → ((k : ℕ) → bound_number (constant_or_bare sight a) ≡ Some k → m ≡ Some k) → ((k : ℕ) → bound_number (constant_or_bare sight c) ≡ Some k → n ≡ Some k)
-    → GivesItsType types (slice_judged span sight e a c) (and_then x (λ v. with_both m n (slice_value v)))
-slice_gives types span sight e a c x m n gives first last t h =
-    let whole = alone sight e in
-    let from = constant_or_bare sight a in
-    let to = constant_or_bare sight c in
+pub slice_gives : (types : Declarations) (span : Span) (context : TypeEnv) (e a c : ExprPair) (x : Option DslxValue) (m n : Option ℕ)
+    → GivesItsType types (alone context e) x → ((k : ℕ) → bound_number (constant_or_untyped context a) ≡ Some k → m ≡ Some k) → ((k : ℕ) → bound_number (constant_or_untyped context c) ≡ Some k → n ≡ Some k)
+    → GivesItsType types (slice_typing span context e a c) (and_then x (λ v. with_both m n (slice_value v)))
+slice_gives types span context e a c x m n gives first last t h =
+    let whole = alone context e in
+    let from = constant_or_untyped context a in
+    let to = constant_or_untyped context c in
     let parts = (whole.faults ++ from.judgement.faults) ++ to.judgement.faults in
     let s = settled_type (and_then whole.ty (λ t. with_both (bound_number from) (bound_number to) (λ i j. Some (unsigned (j - i))))) (parts ++ slice_faults span whole.ty from to) t h in
     let f = unbroken_parts parts (slice_faults span whole.ty from to) s.0 in
@@ -92,12 +92,12 @@ slice_gives types span sight e a c x m n gives first last t h =
           declared = subst (IsDeclared types) own (bits_declared types false (j - i));
         }
 
-pub part_gives : (types : Declarations) (span : Span) (sight : Sight) (e i : ExprPair) (target : Judgement) (x y : Option DslxValue) (u : Option DslxType)
-    → GivesItsType types (alone sight e) x → GivesItsType types (alone sight i) y → ((t : DslxType) → target.ty ≡ Some t → u ≡ Some t)
-    → GivesItsType types (part_judged span sight e i target) (with_both x y (λ v k. and_then (and_then u bits_in) (λ kind. where_true (not kind.signed) (part_value v k kind.width))))
-part_gives types span sight e i target x y u gives starts written t h =
-    let whole = alone sight e in
-    let start = alone sight i in
+pub part_gives : (types : Declarations) (span : Span) (context : TypeEnv) (e i : ExprPair) (target : Judgement) (x y : Option DslxValue) (u : Option DslxType)
+    → GivesItsType types (alone context e) x → GivesItsType types (alone context i) y → ((t : DslxType) → target.ty ≡ Some t → u ≡ Some t)
+    → GivesItsType types (part_typing span context e i target) (with_both x y (λ v k. and_then (and_then u bits_in) (λ kind. where_true (not kind.signed) (part_value v k kind.width))))
+part_gives types span context e i target x y u gives starts written t h =
+    let whole = alone context e in
+    let start = alone context i in
     let parts = (whole.faults ++ start.faults) ++ target.faults in
     let kinds = parts ++ unless_type is_bits 18 span whole.ty in
     let s = settled_type (and_then whole.ty (λ t. and_then start.ty (λ u. target.ty)))
@@ -159,14 +159,14 @@ struct_with_field whole t name e = by_level (out-DslxType whole) refl e
 pub beside_given : (types : Declarations) (fields : List (List ℕ)) (ts : List DslxType) (vs : List DslxValue) (name : List ℕ) (t : DslxType) → each_of (map is_of ts) vs ≡ true → AllDeclared types ts
     → beside name fields ts ≡ Some t → GivesOf types t (beside name fields vs)
 beside_given types fields ts vs name t of d e =
-    let q = and_then_type (place_in name fields) (λ k. slice_get ts k) t e in
+    let q = and_then_type (index_in name fields) (λ k. slice_get ts k) t e in
     let g = part_of types ts vs q.0 t of d q.2 in
     record { value = g.value; is = ap (λ o. and_then o (λ k. slice_get vs k)) q.1 ∙ g.is; of = g.of; declared = g.declared }
 
-pub field_gives : (types : Declarations) → DeclaresParts types → (span : Span) (sight : Sight) (e : ExprPair) (name : Ident) (x : Option DslxValue)
-    → GivesItsType types (alone sight e) x → GivesItsType types (field_part_judged span sight e name) (and_then x (λ v. field_of v name.name))
-field_gives types parts span sight e name x gives t h =
-    let whole = alone sight e in
+pub field_gives : (types : Declarations) → DeclaresParts types → (span : Span) (context : TypeEnv) (e : ExprPair) (name : Ident) (x : Option DslxValue)
+    → GivesItsType types (alone context e) x → GivesItsType types (field_part_typing span context e name) (and_then x (λ v. field_of v name.name))
+field_gives types parts span context e name x gives t h =
+    let whole = alone context e in
     let s = settled_type (field_type whole.ty name.name) (whole.faults ++ unless_type (λ t. is_there (field_type (Some t) name.name)) 19 span whole.ty) t h in
     by_type whole.ty refl s.1
   where
@@ -182,6 +182,6 @@ field_gives types parts span sight e name x gives t h =
           declared = b.declared;
         }
 
-    by_type : (o : Option DslxType) → (alone sight e).ty ≡ o → field_type o name.name ≡ Some t → GivesOf types t (and_then x (λ v. field_of v name.name))
+    by_type : (o : Option DslxType) → (alone context e).ty ≡ o → field_type o name.name ≡ Some t → GivesOf types t (and_then x (λ v. field_of v name.name))
     by_type None q k = none_some t k
     by_type (Some w) q k = of_struct_value w (gives w q) k

@@ -23,7 +23,7 @@ use Rattle.dslx_meaning.specs.declared.value.DslxValue.TheFolds.{fold-roll-DslxV
 use Rattle.dslx_meaning.specs.declared.value.SignedWord.{SignedWord}
 use Rattle.dslx_meaning.specs.Rules.ConstantRules.{is_zero}
 use Rattle.dslx_typing.proofs.Lemmas.Laws.{and_true, AreBits}
-use Rattle.dslx_typing.proofs.OnTyped.Judged.{none_some, same_some}
+use Rattle.dslx_typing.proofs.OnTyped.TypingRelations.{none_some, same_some}
 use Rattle.dslx_typing.specs.Typed.Kinds.{lies_in, each_of, bits_of_kind, tuple_of, elements_all_of, same_names, struct_of, enum_of_kind, is_some_token, is_of_step, is_of}
 
 -- ---- induction on types

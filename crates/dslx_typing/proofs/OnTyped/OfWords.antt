@@ -10,7 +10,7 @@ use Rattle.std.proofs.lemmas.Bool.{leb-false}
 use Rattle.std.proofs.lemmas.Bool.Decides.{Decides-ltb, Decides-eqb}
 use Rattle.xb_bits.specs.Word.{Word, word}
 use Rattle.xb_bits.specs.Operations as op
-use Rattle.xb_bits.specs.Places.{leading_zero_count, reversed_bits, trailing_zero_count}
+use Rattle.xb_bits.specs.BitPositions.{leading_zero_count, reversed_bits, trailing_zero_count}
 use Rattle.xb_bits.specs.Sign.{signed_bits}
 use Rattle.dslx_tree.specs.declared.operator.Binary.{Binary}
 use Rattle.dslx_tree.specs.declared.operator.Binary.TheVariants as b
@@ -22,13 +22,13 @@ use Rattle.dslx_meaning.specs.Values.{based_bits, bits_of, bool_value, same_valu
 use Rattle.dslx_meaning.specs.Operators.{binary_value, bits_binary, bits_or_enums, cast_to, cast_value, cast_word, enum_binary, is_equal, is_less, negative_word, of_one_type, order_of, positive_word, prefix_value, prefix_word, truth_of, word_in_range}
 use Rattle.dslx_meaning.specs.declared.ty.BitKind.{BitKind}
 use Rattle.dslx_meaning.specs.declared.ty.DslxType.{DslxType}
-use Rattle.dslx_meaning.specs.declared.value.Bare.{Bare}
+use Rattle.dslx_meaning.specs.declared.value.UntypedLiteral.{UntypedLiteral}
 use Rattle.dslx_meaning.specs.declared.value.DslxValue as value
 use Rattle.dslx_meaning.specs.declared.value.DslxValue.{DslxValue}
 use Rattle.dslx_meaning.specs.declared.value.SignedWord.{SignedWord}
 use Rattle.dslx_typing.proofs.Lemmas.Laws.{and_true}
 use Rattle.dslx_typing.specs.Typed.Kinds.{lies_in}
-use Rattle.dslx_typing.proofs.OnTyped.Judged.{none_some, same_some}
+use Rattle.dslx_typing.proofs.OnTyped.TypingRelations.{none_some, same_some}
 
 -- ---- numbers
 
@@ -160,7 +160,7 @@ xor_reduce_lies x = lies (op.xor_reduce x) (mod_below (count_ones x.value) 2 (li
 
 -- ---- numbers
 
-pub number_lies : (k : BitKind) (number : Bare) (x : Word) → word_in_range k number ≡ Some x → lies_in x ≡ true
+pub number_lies : (k : BitKind) (number : UntypedLiteral) (x : Word) → word_in_range k number ≡ Some x → lies_in x ≡ true
 number_lies k number x e = by_test number.is_negative e
   where
     moved : (y : Word) → InRange y → Some y ≡ Some x → lies_in x ≡ true

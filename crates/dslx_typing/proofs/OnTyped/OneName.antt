@@ -16,7 +16,7 @@ use Rattle.dslx_meaning.specs.Rules.AggregateRules.{tuple_parts, array_parts}
 use Rattle.dslx_meaning.specs.Rules.ConstantRules.{is_zero}
 use Rattle.dslx_typing.proofs.Lemmas.Laws.{and_true}
 use Rattle.dslx_typing.specs.Typed.Declared.{Declarations, declared_step, sized_array, as_declared, IsDeclared, AllDeclared, DeclaresParts}
-use Rattle.dslx_typing.proofs.OnTyped.Judged.{same_some}
+use Rattle.dslx_typing.proofs.OnTyped.TypingRelations.{same_some}
 use Rattle.dslx_typing.proofs.OnTyped.OfTypes.{type_induction, one_bool}
 
 -- ---- the test, by the kind of the first type

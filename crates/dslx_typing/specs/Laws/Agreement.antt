@@ -15,7 +15,7 @@ abbrev pub MeansOne : Env → Env → Use → List ℕ → Type 0
 MeansOne a b AsValue name = value_of_name name a ≡ value_of_name name b
 MeansOne a b AsPattern name = NamesOneConstant a b name
 MeansOne a b AsType name = a.items.type_named name ≡ b.items.type_named name
-MeansOne a b AsFunction name = (numbers operands : List DslxValue) → a.items.call name numbers operands ≡ b.items.call name numbers operands
+MeansOne a b AsFunction name = (parametric_args operands : List DslxValue) → a.items.call name parametric_args operands ≡ b.items.call name parametric_args operands
 MeansOne a b AsProc name = Unit {0}
 MeansOne a b AsEnum name = (member : List ℕ) → a.items.member name member ≡ b.items.member name member
 MeansOne a b AsStruct name = a.items.struct_named name ≡ b.items.struct_named name

@@ -7,4 +7,4 @@ use Rattle.dslx_meaning.specs.Rules.Mentions.{mentions_of, is_cyclic}
 
 -- no item mentions one that is the same or reaches it, which is what rule 3 refuses
 abbrev pub HasNoCycle : Module → Type 0
-HasNoCycle m = (home : List ℕ) → list_any (is_cyclic m home) (mentions_of m (item_named home m.items)) ≡ false
+HasNoCycle m = (owner : List ℕ) → list_any (is_cyclic m owner) (mentions_of m (item_named owner m.items)) ≡ false

@@ -4,11 +4,11 @@ use Rattle.xb_bits.specs.Word.{Word}
 use Rattle.dslx_tree.specs.declared.process.End.{End}
 use Rattle.dslx_meaning.specs.Values.{from_word}
 use Rattle.dslx_meaning.specs.declared.ty.DslxType.{DslxType}
-use Rattle.dslx_meaning.specs.Rules.ItemRules.{judged_inner}
-use Rattle.dslx_meaning.specs.Rules.Judging.{Sight}
+use Rattle.dslx_meaning.specs.Rules.ItemRules.{typing_of_inner}
+use Rattle.dslx_meaning.specs.Rules.TypeEnvs.{TypeEnv}
 use Rattle.dslx_typing.specs.Typed.Kinds.{is_of}
 
 -- whatever bits a word has, it is a value of the type of its end's words, where that is known
-abbrev pub WordsAreValues : Sight → List End → Type 0
-WordsAreValues sight [] = Unit {0}
-WordsAreValues sight (e ∷ es) = ((w : DslxType) → (judged_inner sight e.word).ty ≡ Some w → (x : Word) → is_of w (from_word w x) ≡ true) × WordsAreValues sight es
+abbrev pub WordsAreValues : TypeEnv → List End → Type 0
+WordsAreValues context [] = Unit {0}
+WordsAreValues context (e ∷ es) = ((w : DslxType) → (typing_of_inner context e.word).ty ≡ Some w → (x : Word) → is_of w (from_word w x) ≡ true) × WordsAreValues context es

@@ -4,10 +4,10 @@ use Rattle.dslx_meaning.specs.declared.ty.DslxType.{DslxType}
 use Rattle.dslx_meaning.specs.declared.value.DslxValue.{DslxValue}
 use Rattle.dslx_meaning.specs.Lists.{beside}
 use Rattle.dslx_meaning.specs.Environment.{Env}
-use Rattle.dslx_meaning.specs.Meaning.{Meant, FieldMeant}
-use Rattle.dslx_meaning.specs.Rules.Judging.{Sight, Judgement, ExprPair, bare_of, alone}
-use Rattle.dslx_meaning.specs.Rules.Judgings.{FieldSeen, TypePair}
-use Rattle.dslx_meaning.specs.Rules.AggregateRules.{field_judged}
+use Rattle.dslx_meaning.specs.Meaning.{ExprDen, FieldDen}
+use Rattle.dslx_meaning.specs.Rules.TypeEnvs.{TypeEnv, Judgement, ExprPair, untyped_of, alone}
+use Rattle.dslx_meaning.specs.Rules.Typings.{FieldSeen, TypePair}
+use Rattle.dslx_meaning.specs.Rules.AggregateRules.{field_typing}
 use Rattle.dslx_typing.specs.Typed.Kinds.{is_of}
 use Rattle.dslx_typing.specs.Typed.Declared.{Declarations, IsDeclared}
 
@@ -27,32 +27,32 @@ abbrev pub GivesItsType : Declarations → Judgement → Option DslxValue → Ty
 GivesItsType types j o = (t : DslxType) → j.ty ≡ Some t → GivesOf types t o
 
 -- each expression that has a type where it stands alone gives a value of it
-abbrev pub EachGives : Declarations → Sight → List ExprPair → List (Option DslxValue) → Type 0
-EachGives types sight [] [] = Unit {0}
-EachGives types sight (e ∷ es) (o ∷ os) = GivesItsType types (alone sight e) o × EachGives types sight es os
-EachGives types sight [] (o ∷ os) = ⊥
-EachGives types sight (e ∷ es) [] = ⊥
+abbrev pub EachGives : Declarations → TypeEnv → List ExprPair → List (Option DslxValue) → Type 0
+EachGives types context [] [] = Unit {0}
+EachGives types context (e ∷ es) (o ∷ os) = GivesItsType types (alone context e) o × EachGives types context es os
+EachGives types context [] (o ∷ os) = ⊥
+EachGives types context (e ∷ es) [] = ⊥
 
 -- where the type is known, it is what is meant, and one of the text
 abbrev pub TypeMeans : Declarations → Judgement → Option DslxType → Type 0
 TypeMeans types j u = (t : DslxType) → j.ty ≡ Some t → (u ≡ Some t) × IsDeclared types t
 
-abbrev pub EachTypeMeans : Declarations → Sight → List TypePair → List (Option DslxType) → Type 0
-EachTypeMeans types sight [] [] = Unit {0}
-EachTypeMeans types sight (p ∷ ps) (u ∷ us) = TypeMeans types (p.1 sight) u × EachTypeMeans types sight ps us
-EachTypeMeans types sight [] (u ∷ us) = ⊥
-EachTypeMeans types sight (p ∷ ps) [] = ⊥
+abbrev pub EachTypeMeans : Declarations → TypeEnv → List TypePair → List (Option DslxType) → Type 0
+EachTypeMeans types context [] [] = Unit {0}
+EachTypeMeans types context (p ∷ ps) (u ∷ us) = TypeMeans types (p.1 context) u × EachTypeMeans types context ps us
+EachTypeMeans types context [] (u ∷ us) = ⊥
+EachTypeMeans types context (p ∷ ps) [] = ⊥
 
 -- an expression as it is judged, and as it means something: the number without a type that it is, and its value
-pub record MeansThere (types : Declarations) (sight : Sight) (env : Env) (e : ExprPair) (m : Meant) : Type 0 where
-  pub bare : bare_of e ≡ m.bare
-  pub gives : GivesItsType types (alone sight e) (m.value env)
+pub record MeansThere (types : Declarations) (context : TypeEnv) (env : Env) (e : ExprPair) (m : ExprDen) : Type 0 where
+  pub bare : untyped_of e ≡ m.bare
+  pub gives : GivesItsType types (alone context e) (m.value env)
 
-abbrev pub EachMeans : Declarations → Sight → Env → List ExprPair → List Meant → Type 0
-EachMeans types sight env [] [] = Unit {0}
-EachMeans types sight env (e ∷ es) (m ∷ ms) = MeansThere types sight env e m × EachMeans types sight env es ms
-EachMeans types sight env [] (m ∷ ms) = ⊥
-EachMeans types sight env (e ∷ es) [] = ⊥
+abbrev pub EachMeans : Declarations → TypeEnv → Env → List ExprPair → List ExprDen → Type 0
+EachMeans types context env [] [] = Unit {0}
+EachMeans types context env (e ∷ es) (m ∷ ms) = MeansThere types context env e m × EachMeans types context env es ms
+EachMeans types context env [] (m ∷ ms) = ⊥
+EachMeans types context env (e ∷ es) [] = ⊥
 
 -- ---- loops
 
@@ -70,13 +70,13 @@ OwnTypes names types [] (t ∷ ts) = ⊥
 OwnTypes names types (n ∷ ns) [] = ⊥
 
 -- fields that are written, each with what it means
-abbrev pub FieldsMean : Declarations → Sight → Env → Option DslxType → List FieldSeen → List FieldMeant → Type 0
-FieldsMean types sight env struct [] [] = Unit {0}
-FieldsMean types sight env struct (f ∷ fs) (m ∷ ms) = (f.name.name ≡ m.name) × GivesItsType types (field_judged sight struct f) (m.value env) × FieldsMean types sight env struct fs ms
-FieldsMean types sight env struct [] (m ∷ ms) = ⊥
-FieldsMean types sight env struct (f ∷ fs) [] = ⊥
+abbrev pub FieldsMean : Declarations → TypeEnv → Env → Option DslxType → List FieldSeen → List FieldDen → Type 0
+FieldsMean types context env struct [] [] = Unit {0}
+FieldsMean types context env struct (f ∷ fs) (m ∷ ms) = (f.name.name ≡ m.name) × GivesItsType types (field_typing context struct f) (m.value env) × FieldsMean types context env struct fs ms
+FieldsMean types context env struct [] (m ∷ ms) = ⊥
+FieldsMean types context env struct (f ∷ fs) [] = ⊥
 
 -- what gives the others
-abbrev pub OthersGive : Declarations → Sight → Option ExprPair → Option DslxValue → Type 0
-OthersGive types sight None r = Unit {0}
-OthersGive types sight (Some e) r = GivesItsType types (alone sight e) r
+abbrev pub OthersGive : Declarations → TypeEnv → Option ExprPair → Option DslxValue → Type 0
+OthersGive types context None r = Unit {0}
+OthersGive types context (Some e) r = GivesItsType types (alone context e) r

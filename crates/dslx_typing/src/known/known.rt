@@ -1,8 +1,8 @@
-ghost use Rattle.dslx_typing.specs.Complete.Standing.{AreTyped};
+ghost use Rattle.dslx_typing.specs.Complete.HasValue.{AreTyped};
 ghost use Rattle.dslx_typing.specs.Depends.Settled.{BindsNoConstant};
-ghost use Rattle.dslx_typing.specs.Known.Fine.{EachItemFine};
+ghost use Rattle.dslx_typing.specs.GlobalEnv.WellTypedParts.{EachItemWellTyped};
 ghost use Rattle.dslx_typing.specs.Laws.Recursion.{HasNoCycle};
-ghost use Rattle.dslx_meaning.specs.Rules.ModuleRules.{known_of};
+ghost use Rattle.dslx_meaning.specs.Rules.ModuleRules.{globals_of};
 ghost use Rattle.dslx_tree.specs.declared.item.Module.{Module};
 ghost use Rattle.dslx_typing.specs.Typed.Complete.{IsComplete};
 
@@ -10,6 +10,6 @@ ghost use Rattle.dslx_typing.specs.Typed.Complete.{IsComplete};
 /// or enum, all items of the text are known: constants and members of enums by values of their types, types by what they name,
 /// functions by what their instances give with which nothing is wrong.
 pub fn all_items_are_known()
-    ensures complete { (m : Module) → HasNoCycle m → BindsNoConstant m → EachItemFine m → IsComplete (known_of m) }
-    ensures typed { (m : Module) → HasNoCycle m → BindsNoConstant m → EachItemFine m → AreTyped (known_of m) }
+    ensures complete { (m : Module) → HasNoCycle m → BindsNoConstant m → EachItemWellTyped m → IsComplete (globals_of m) }
+    ensures typed { (m : Module) → HasNoCycle m → BindsNoConstant m → EachItemWellTyped m → AreTyped (globals_of m) }
 {}

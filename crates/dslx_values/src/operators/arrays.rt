@@ -19,14 +19,14 @@ pub fn index_value(
 {
     match (value, unsigned_of(index)) {
         (DslxValue::Array(elements), Some(word)) => {
-            value_at(alloc, elements.as_slice(), place_of(word, elements.len()))
+            value_at(alloc, elements.as_slice(), index_of(word, elements.len()))
         }
         _ => Ok(None),
     }
 }
 
 /// The place that a word is, or the last one of so many where it is past them.
-fn place_of(word: Bits, count: usize) -> u128
+fn index_of(word: Bits, count: usize) -> u128
     ensures { result ≡ min word.value (pred count) }
 {
     let last = count.saturating_sub(1) as u128;

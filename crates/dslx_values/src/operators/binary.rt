@@ -7,7 +7,7 @@ ghost use Rattle.dslx_values.specs.Operators.Widths.{is_held};
 ghost use Rattle.dslx_values.specs.Operators.Inner.Binaries.{worked as worked_by, holds_at as holds_by};
 
 use crate::operators::numbers::{of_one_type, truth_of};
-use crate::operators::width::OddWidth;
+use crate::operators::width::WidthOutOfRange;
 use crate::{based_bits, bits_of, bool_value, same_value};
 use dslx_meaning::{DslxValue, SignedWord};
 use dslx_tree::Binary;
@@ -21,7 +21,7 @@ pub fn binary_value(
     op: Binary,
     left: &DslxValue,
     right: &DslxValue,
-) -> Result<Option<DslxValue>, OddWidth>
+) -> Result<Option<DslxValue>, WidthOutOfRange>
     ensures { MatchResult result (λ v. v ≡ the_value op left.now right.now) (λ e. is_held (the_value op left.now right.now) ≡ false) }
 {
     match (bits_of(left), bits_of(right)) {
@@ -46,7 +46,7 @@ fn enum_binary(op: Binary, left: &DslxValue, right: &DslxValue) -> Option<DslxVa
 }
 
 /// What an operator gives for bits.
-fn bits_binary(op: Binary, x: &SignedWord, y: &SignedWord) -> Result<Option<DslxValue>, OddWidth>
+fn bits_binary(op: Binary, x: &SignedWord, y: &SignedWord) -> Result<Option<DslxValue>, WidthOutOfRange>
     ensures { MatchResult result (λ v. v ≡ of_bits op x.now y.now) (λ e. is_held (of_bits op x.now y.now) ≡ false) }
 {
     match op {
@@ -105,7 +105,7 @@ fn worked(op: Binary, x: Bits, y: Bits) -> Bits
 
 /// Two unsigned words side by side.
 #[tactic(auto, using(crate::proofs::OnOperators::Helds::bits_held))]
-fn joined(x: &SignedWord, y: &SignedWord) -> Result<Option<DslxValue>, OddWidth>
+fn joined(x: &SignedWord, y: &SignedWord) -> Result<Option<DslxValue>, WidthOutOfRange>
     ensures { MatchResult result (λ v. v ≡ joining x.now y.now) (λ e. is_held (joining x.now y.now) ≡ false) }
 {
     if x.signed || y.signed {
@@ -114,7 +114,7 @@ fn joined(x: &SignedWord, y: &SignedWord) -> Result<Option<DslxValue>, OddWidth>
     if u16::from(x.word.width()) + u16::from(y.word.width()) <= 128 {
         Ok(Some(DslxValue::Bits(false, concat(x.word, y.word))))
     } else {
-        Err(OddWidth)
+        Err(WidthOutOfRange)
     }
 }
 

@@ -6,12 +6,12 @@ ghost use Rattle.dslx_values.specs.Operators.Widths.{is_held, is_held_word};
 ghost use Rattle.dslx_values.specs.Operators.Inner.Ranges.{digits_of, is_small_below};
 
 use crate::bits_in;
-use crate::operators::width::{OddWidth, word_width};
-use dslx_meaning::{Bare, BitKind, DslxType, DslxValue};
+use crate::operators::width::{WidthOutOfRange, word_width};
+use dslx_meaning::{UntypedLiteral, BitKind, DslxType, DslxValue};
 use xb_bits::{Bits, neg};
 
 /// A number with its type, if that is bits and the number lies in their range.
-pub fn number_value(ty: &DslxType, number: Bare) -> Result<Option<DslxValue>, OddWidth>
+pub fn number_value(ty: &DslxType, number: UntypedLiteral) -> Result<Option<DslxValue>, WidthOutOfRange>
     ensures { MatchResult result (λ v. v ≡ the_number ty.now number) (λ e. is_held (the_number ty.now number) ≡ false) }
 {
     match bits_in(ty) {
@@ -22,7 +22,7 @@ pub fn number_value(ty: &DslxType, number: Bare) -> Result<Option<DslxValue>, Od
 
 /// A number as bits of this kind, if it lies in their range.
 #[tactic(auto, using(crate::proofs::OnOperators::Helds::word_held))]
-fn number_in(kind: BitKind, number: Bare) -> Result<Option<DslxValue>, OddWidth>
+fn number_in(kind: BitKind, number: UntypedLiteral) -> Result<Option<DslxValue>, WidthOutOfRange>
     ensures { MatchResult result (λ v. v ≡ number_of_kind (Some kind) number) (λ e. is_held (number_of_kind (Some kind) number) ≡ false) }
 {
     match word_in_range(kind, number) {
@@ -33,7 +33,7 @@ fn number_in(kind: BitKind, number: Bare) -> Result<Option<DslxValue>, OddWidth>
 }
 
 /// The word of a number in bits of this kind, if it lies in their range.
-fn word_in_range(kind: BitKind, number: Bare) -> Result<Option<Bits>, OddWidth>
+fn word_in_range(kind: BitKind, number: UntypedLiteral) -> Result<Option<Bits>, WidthOutOfRange>
     ensures { MatchResult result (λ w. w ≡ the_word kind number) (λ e. is_held_word (the_word kind number) ≡ false) }
 {
     if number.is_negative {
@@ -44,7 +44,7 @@ fn word_in_range(kind: BitKind, number: Bare) -> Result<Option<Bits>, OddWidth>
 }
 
 #[tactic(auto, using(crate::proofs::OnOperators::RangeLemmas::positive_by_digits, crate::proofs::OnOperators::RangeLemmas::fits_by_digits))]
-fn positive_word(signed: bool, width: u128, value: u128) -> Result<Option<Bits>, OddWidth>
+fn positive_word(signed: bool, width: u128, value: u128) -> Result<Option<Bits>, WidthOutOfRange>
     ensures { MatchResult result (λ w. w ≡ word_above signed width value) (λ e. is_held_word (word_above signed width value) ≡ false) }
 {
     if !is_below_power(value, digits(signed, width)) {
@@ -52,13 +52,13 @@ fn positive_word(signed: bool, width: u128, value: u128) -> Result<Option<Bits>,
     }
     match word_width(width) {
         Some(width) => Ok(Some(Bits::new(width, value))),
-        None => Err(OddWidth),
+        None => Err(WidthOutOfRange),
     }
 }
 
 /// The word of the number that makes 0 with a value.
 #[tactic(auto, using(crate::proofs::OnOperators::RangeLemmas::negative_by_smallness, crate::proofs::OnOperators::RangeLemmas::fits_by_smallness))]
-fn negative_word(signed: bool, width: u128, value: u128) -> Result<Option<Bits>, OddWidth>
+fn negative_word(signed: bool, width: u128, value: u128) -> Result<Option<Bits>, WidthOutOfRange>
     ensures { MatchResult result (λ w. w ≡ word_below signed width value) (λ e. is_held_word (word_below signed width value) ≡ false) }
 {
     if !is_small(signed, width, value) {
@@ -66,7 +66,7 @@ fn negative_word(signed: bool, width: u128, value: u128) -> Result<Option<Bits>,
     }
     match word_width(width) {
         Some(width) => Ok(Some(neg(Bits::new(width, value)))),
-        None => Err(OddWidth),
+        None => Err(WidthOutOfRange),
     }
 }
 

@@ -5,7 +5,7 @@ ghost use Rattle.dslx_values.specs.Operators.Widths.{is_width};
 
 /// A word would have no bits, or more than 128, and no `Bits` holds it.
 #[derive(Clone, Copy, PartialEq, Eq, Drop)]
-pub struct OddWidth;
+pub struct WidthOutOfRange;
 
 /// The width as one of words, if a word may have it.
 pub fn word_width(width: u128) -> Option<u8>

@@ -2,7 +2,7 @@
 use Rattle.std.proofs.Common.{◌≡◌, ℕ, suc, ◌+◌, ◌<◌, ◌^◌, Bool, true, false, List, [], ◌∷◌, ◌++◌, length, take, get_or, Some, None, refl, sym, ap, ◌∙◌, subst, arith, nat_lt}
 use Rattle.std.specs.Prelude.{if◌then◌else◌, slice_get}
 use mathlib.Core.Path.{fun_ext}
-use Rattle.base.specs.Lists.Front.{IsFront}
+use Rattle.base.specs.Lists.Prefix.{IsPrefix}
 use Rattle.base.specs.Lists.Indexed.{indexed}
 use Rattle.xb_bits.specs.Word.{Word}
 use Rattle.xb_value.specs.declared.value.Value.{Value}
@@ -25,7 +25,7 @@ use Rattle.net_core.specs.WellFormed.{AreBehaviorsOf, AreWordsOf, EachKeepsTypes
 use Rattle.net_core.proofs.Lemmas.{ends_by_position, opening_typed, rounds_settle, run_fits}
 use Rattle.ir_tree.specs.declared.package.Package.{Package}
 use Rattle.ir_tree.specs.Networks.{behaviors_of, network_of}
-use Rattle.ir_tree.specs.SameBehavior.{IsMeantBy, SameActivations, SameActivationsEach, SameBehavior}
+use Rattle.ir_tree.specs.SameBehavior.{IsDenotedBy, SameActivations, SameActivationsEach, SameBehavior}
 use Rattle.ir_verify.proofs.Lemmas.Typed.{network_fits, procs_fit, procs_keep_types}
 use Rattle.ir_verify.specs.Verified.{IsVerified}
 use Rattle.ir_eval.proofs.OnOutcomes.Positions.{trace_stands}
@@ -51,14 +51,14 @@ indexed_same {B} f g k (x ∷ xs) (y ∷ ys) count same =
 
 -- ---- fronts
 
-front_if : (t : Bool) (e : Event) (es fs : List Event) → IsFront es fs → IsFront (if t then e ∷ es else []) (e ∷ fs)
-front_if true e es fs f = (refl, f)
-front_if false e es fs f = tt
+prefix_if : (t : Bool) (e : Event) (es fs : List Event) → IsPrefix es fs → IsPrefix (if t then e ∷ es else []) (e ∷ fs)
+prefix_if true e es fs f = (refl, f)
+prefix_if false e es fs f = tt
 
-fit_front : (sites : List Site) (room : ℕ → ℕ → Bool) (before es : List Event) → IsFront (longest_fit sites room before es) es
+fit_prefix : (sites : List Site) (room : ℕ → ℕ → Bool) (before es : List Event) → IsPrefix (longest_fit sites room before es) es
 unfolding longest_fit
-fit_front sites room before [] = tt
-fit_front sites room before (e ∷ es) = front_if (fits_after sites room before e) e (longest_fit sites room (before ++ e ∷ []) es) es (fit_front sites room (before ++ e ∷ []) es)
+fit_prefix sites room before [] = tt
+fit_prefix sites room before (e ∷ es) = prefix_if (fits_after sites room before e) e (longest_fit sites room (before ++ e ∷ []) es) es (fit_prefix sites room (before ++ e ∷ []) es)
 
 -- ---- streams
 
@@ -74,12 +74,12 @@ stream_is : (run : Run) (cut : Cut) (c : ℕ) (chan : Chan) → stream_of run cu
 unfolding stream_of stream_in
 stream_is run cut c chan = refl
 
--- how far a proc comes by itself is a front of its trace
-reach_front : (run : Run) (cut : Cut) (p : ℕ) → IsFront (reach run cut p) (trace_of run.activations (words_at run cut) (slice_get run.procs p))
+-- how far a proc comes by itself is a prefix of its trace
+reach_prefix : (run : Run) (cut : Cut) (p : ℕ) → IsPrefix (reach run cut p) (trace_of run.activations (words_at run cut) (slice_get run.procs p))
 unfolding reach
-reach_front run cut p = fit_front (sites_at run p) (room_at run cut) [] (trace_of run.activations (words_at run cut) (slice_get run.procs p))
+reach_prefix run cut p = fit_prefix (sites_at run p) (room_at run cut) [] (trace_of run.activations (words_at run cut) (slice_get run.procs p))
 
-trace_is : (n : ℕ) (words : Histories) (x : Proc) (es : List Event) → IsFront es (trace_of n words (Some x)) → IsFront es (trace x.behavior n x.opening words)
+trace_is : (n : ℕ) (words : Histories) (x : Proc) (es : List Event) → IsPrefix es (trace_of n words (Some x)) → IsPrefix es (trace x.behavior n x.opening words)
 unfolding trace_of
 trace_is n words x es f = f
 
@@ -110,11 +110,11 @@ module _ (nexts : TheSameNext) (net : Net) (well : IsNet net) (xs ys : List Beha
   finals : final_cut one ≡ final_cut two
   finals = same_final net.procs xs ys count each net.chans inputs n depths fits opens words_given
 
-  -- the final cut of a proc is a front of its trace
-  made : (p : ℕ) (x : Proc) → slice_get (procs_of net.procs xs) p ≡ Some x → IsFront (final_cut one p) (trace_of n (words_at one (final_cut one)) (Some x))
+  -- the final cut of a proc is a prefix of its trace
+  made : (p : ℕ) (x : Proc) → slice_get (procs_of net.procs xs) p ≡ Some x → IsPrefix (final_cut one p) (trace_of n (words_at one (final_cut one)) (Some x))
   made p x e =
-      subst (λ o. IsFront (final_cut one p) (trace_of n (words_at one (final_cut one)) o)) e
-      (subst (λ es. IsFront es (trace_of n (words_at one (final_cut one)) (slice_get (procs_of net.procs xs) p))) (ap (λ (cut : Cut). cut p) (rounds_settle one)) (reach_front one (final_cut one) p))
+      subst (λ o. IsPrefix (final_cut one p) (trace_of n (words_at one (final_cut one)) o)) e
+      (subst (λ es. IsPrefix es (trace_of n (words_at one (final_cut one)) (slice_get (procs_of net.procs xs) p))) (ap (λ (cut : Cut). cut p) (rounds_settle one)) (reach_prefix one (final_cut one) p))
 
   stands : (p : ℕ) (x : Proc) → slice_get (procs_of net.procs xs) p ≡ Some x → IsOpen x.behavior (position_in one (final_cut one) p x).state (position_in one (final_cut one) p x).got (position_in one (final_cut one) p x).done
   stands p x e =
@@ -168,7 +168,7 @@ pub behaviors_outcome : TheSameNext → (net : Net) (behaviors others : List Beh
 behaviors_outcome nexts net behaviors others inputs n depths same well fit keep given small = same_outcome nexts net well behaviors others same.count same.each fit keep inputs given n small depths
 
 pub network_outcome : TheSameNext → (net : Net) (behaviors : List Behavior) (ir : Package) (inputs : List (List Word)) (n : ℕ) (depths : List ℕ)
-    → IsMeantBy net behaviors ir → IsNet net → AreBehaviorsOf net behaviors → EachKeepsTypes behaviors → IsInputs net inputs → n < 2 ^ 32
+    → IsDenotedBy net behaviors ir → IsNet net → AreBehaviorsOf net behaviors → EachKeepsTypes behaviors → IsInputs net inputs → n < 2 ^ 32
     → outcome_of (run_of net behaviors inputs n depths) (final_cut (run_of net behaviors inputs n depths))
     ≡ outcome_of (run_of (network_of ir) (behaviors_of ir) inputs n depths) (final_cut (run_of (network_of ir) (behaviors_of ir) inputs n depths))
 network_outcome nexts net behaviors ir inputs n depths meant well fit keep given small =

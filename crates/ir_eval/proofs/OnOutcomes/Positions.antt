@@ -1,7 +1,7 @@
 -- Behind the events of a trace over words of their channels' widths an activation stands.
 use Rattle.std.proofs.Common.{◌≡◌, ℕ, zero, suc, List, [], ◌∷◌, ◌++◌, length, drop, take, Some, refl, sym, ap, subst}
 use Rattle.std.specs.Prelude.{slice_get}
-use Rattle.base.specs.Lists.Front.{IsFront}
+use Rattle.base.specs.Lists.Prefix.{IsPrefix}
 use Rattle.xb_bits.specs.Word.{Word}
 use Rattle.xb_value.specs.declared.value.Value.{Value}
 use Rattle.xb_value.specs.Typing.{IsOfType}
@@ -20,13 +20,13 @@ module _ (a : Behavior) (keeps : KeepsTypes a) where
   StandsAt at = IsOpen a at.state at.got at.done
 
   abbrev LaterStands : (Value → Histories → List Event) → Type 0
-  LaterStands after = (t : Value) (ends : ℕ) (words : Histories) → IsOfType a.state t → AreTyped a words → (made : List Event) → IsFront made (after t words)
+  LaterStands after = (t : Value) (ends : ℕ) (words : Histories) → IsOfType a.state t → AreTyped a words → (made : List Event) → IsPrefix made (after t words)
       → StandsAt (position_after a.sites (record { state = t; got = []; done = 0; ends = ends }) made words)
 
   -- the events from the next site on
   abbrev StandsBehind : (Value → Histories → List Event) → ℕ → List Site → Type 0
   StandsBehind after i sites = (at : Position) (words : Histories) (made : List Event) → IsOpen a at.state at.got (suc i) → StandsAt at → AreTyped a words
-      → IsFront made (events_from a after at.state at.got words (suc i) sites) → StandsAt (position_after a.sites at made words)
+      → IsPrefix made (events_from a after at.state at.got words (suc i) sites) → StandsAt (position_after a.sites at made words)
 
   -- behind a receive from this channel
   abbrev BehindWord : Position → ℕ → Histories → List Event → ℕ → Type 0
@@ -35,7 +35,7 @@ module _ (a : Behavior) (keeps : KeepsTypes a) where
 
   word_stands : (after : Value → Histories → List Event) (at : Position) (words : Histories) (i : ℕ) (site : Site) (sites : List Site) → StandsBehind after i sites
       → slice_get a.sites i ≡ Some site → IsOpen a at.state at.got i → a.turn at.state at.got i ≡ Receive → AreTyped a words → (here : List Word) → words site.chan ≡ here → AreWordsOf (a.width site.chan) here
-      → (x : Event) (made : List Event) → IsFront (x ∷ made) (on_word a after at.state at.got words i site sites here) → StandsAt (position_after a.sites at (x ∷ made) words)
+      → (x : Event) (made : List Event) → IsPrefix (x ∷ made) (on_word a after at.state at.got words i site sites here) → StandsAt (position_after a.sites at (x ∷ made) words)
   unfolding on_word position_after
   word_stands after at words i site sites again place o turn typed [] is fits x made f = absurd f
   word_stands after at words i site sites again place o turn typed (w ∷ ws) is fits x made f =
@@ -48,7 +48,7 @@ module _ (a : Behavior) (keeps : KeepsTypes a) where
 
   turn_stands : (after : Value → Histories → List Event) (at : Position) (words : Histories) (i : ℕ) (site : Site) (sites : List Site) → StandsBehind after i sites
       → slice_get a.sites i ≡ Some site → IsOpen a at.state at.got i → StandsAt at → AreTyped a words → (turn : Turn) → a.turn at.state at.got i ≡ turn
-      → (x : Event) (made : List Event) → IsFront (x ∷ made) (at_turn a after at.state at.got words i site sites turn) → StandsAt (position_after a.sites at (x ∷ made) words)
+      → (x : Event) (made : List Event) → IsPrefix (x ∷ made) (at_turn a after at.state at.got words i site sites turn) → StandsAt (position_after a.sites at (x ∷ made) words)
   unfolding at_turn position_after
   turn_stands after at words i site sites again place o stands typed Skip e x made f = again at words (x ∷ made) (open_skip a at.state at.got i site o place e) stands typed f
   turn_stands after at words i site sites again place o stands typed Receive e x made f =
@@ -59,12 +59,12 @@ module _ (a : Behavior) (keeps : KeepsTypes a) where
       (again (record { state = at.state; got = at.got; done = suc i; ends = at.ends }) words made here here typed f.1)
 
   events_stand : (after : Value → Histories → List Event) → LaterStands after → (sites : List Site) (at : Position) (words : Histories) (i : ℕ) → drop i a.sites ≡ sites
-      → IsOpen a at.state at.got i → StandsAt at → AreTyped a words → (made : List Event) → IsFront made (events_from a after at.state at.got words i sites) → StandsAt (position_after a.sites at made words)
+      → IsOpen a at.state at.got i → StandsAt at → AreTyped a words → (made : List Event) → IsPrefix made (events_from a after at.state at.got words i sites) → StandsAt (position_after a.sites at made words)
   unfolding position_after
   events_stand after later sites at words i e o stands typed [] f = stands
   events_stand after later [] at words i e o stands typed (x ∷ made) f =
       let whole : IsOpen a at.state at.got (length a.sites) = subst (λ k. IsOpen a at.state at.got k) (split_end a.sites i o.within e) o in
-      let g = subst (λ es. IsFront (x ∷ made) es) (at_end a after at.state at.got words i) f in
+      let g = subst (λ es. IsPrefix (x ∷ made) es) (at_end a after at.state at.got words i) f in
       subst (λ y. StandsAt (position_after a.sites (moved a.sites at y words) made (left_after a.sites y words))) (sym g.0)
       (later (a.next_state at.state at.got) (suc at.ends) words (keeps.state at.state at.got whole) typed made g.1)
   events_stand after later (site ∷ sites) at words i e o stands typed (x ∷ made) f =
@@ -72,9 +72,9 @@ module _ (a : Behavior) (keeps : KeepsTypes a) where
       turn_stands after at words i site sites
       (λ at' words' made' o' stands' typed' f'. events_stand after later sites at' words' (suc i) split.rest o' stands' typed' made' f')
       split.here o stands typed (a.turn at.state at.got i) refl x made
-      (subst (λ es. IsFront (x ∷ made) es) (at_site a after at.state at.got words i site sites) f)
+      (subst (λ es. IsPrefix (x ∷ made) es) (at_site a after at.state at.got words i site sites) f)
 
-  pub trace_stands : (n : ℕ) (s : Value) (ends : ℕ) (words : Histories) → IsOfType a.state s → AreTyped a words → (made : List Event) → IsFront made (trace a n s words)
+  pub trace_stands : (n : ℕ) (s : Value) (ends : ℕ) (words : Histories) → IsOfType a.state s → AreTyped a words → (made : List Event) → IsPrefix made (trace a n s words)
       → StandsAt (position_after a.sites (record { state = s; got = []; done = 0; ends = ends }) made words)
   unfolding trace position_after
   trace_stands zero s ends words h typed [] f = open_first a s h

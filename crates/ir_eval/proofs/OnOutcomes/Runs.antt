@@ -16,7 +16,7 @@ use Rattle.net_core.specs.declared.event.Event.{Event}
 use Rattle.net_core.specs.declared.event.Event.TheVariants.{Recv, Send, End}
 use Rattle.net_core.specs.Behavior.{Behavior, IsWordOf, chan_at}
 use Rattle.net_core.specs.Trace.{trace}
-use Rattle.net_core.specs.Cuts.{Proc, Run, Cut, empty_cut, place_of, sender, receiver, sites_of, sites_at, words_sent, count_received, words_by, words_at, received_at, room_by, room_at, fits_after, longest_fit, trace_of, reach, round, rounds, most_events, final_cut}
+use Rattle.net_core.specs.Cuts.{Proc, Run, Cut, empty_cut, index_of, sender, receiver, sites_of, sites_at, words_sent, count_received, words_by, words_at, received_at, room_by, room_at, fits_after, longest_fit, trace_of, reach, round, rounds, most_events, final_cut}
 use Rattle.net_core.specs.WellFormed.{AreWordsOf, IsRun, procs_of}
 use Rattle.ir_tree.specs.SameBehavior.{SameActivations}
 use Rattle.ir_eval.proofs.OnOutcomes.Traces.{AreTyped, SendsFit, same_trace, trace_fits}
@@ -46,13 +46,13 @@ same_procs (h ∷ heads) (x ∷ xs) (y ∷ ys) count each zero = record { openin
 same_procs (h ∷ heads) (x ∷ xs) (y ∷ ys) count each (suc p) = same_procs heads xs ys (omega (arith, count)) (λ q a b e f. each (suc q) a b e f) p
 
 place_same : (test : List Site → Bool) (heads : List ProcHead) (xs ys : List Behavior) → length xs ≡ length ys → SameEach xs ys
-    → place_of (λ (proc : Proc). test proc.behavior.sites) (procs_of heads xs) ≡ place_of (λ (proc : Proc). test proc.behavior.sites) (procs_of heads ys)
+    → index_of (λ (proc : Proc). test proc.behavior.sites) (procs_of heads xs) ≡ index_of (λ (proc : Proc). test proc.behavior.sites) (procs_of heads ys)
 place_same test [] xs ys count each = refl
 place_same test (h ∷ heads) [] [] count each = refl
 place_same test (h ∷ heads) [] (y ∷ ys) count each = absurd (omega (arith, count))
 place_same test (h ∷ heads) (x ∷ xs) [] count each = absurd (omega (arith, count))
 place_same test (h ∷ heads) (x ∷ xs) (y ∷ ys) count each =
-    ap (λ (sites : List Site). if test sites then 0 else suc (place_of (λ (proc : Proc). test proc.behavior.sites) (procs_of heads xs))) (each 0 x y refl refl).sites
+    ap (λ (sites : List Site). if test sites then 0 else suc (index_of (λ (proc : Proc). test proc.behavior.sites) (procs_of heads xs))) (each 0 x y refl refl).sites
     ∙ ap (λ k. if test y.sites then 0 else suc k) (place_same test heads xs ys (omega (arith, count)) (λ q a b e f. each (suc q) a b e f))
 
 counts_same : (made : ℕ) (heads : List ProcHead) (xs ys : List Behavior) → length xs ≡ length ys → SameEach xs ys
@@ -117,11 +117,11 @@ tail_fits b (Recv i) es h = h
 tail_fits b (Send i w) es h = h.1
 tail_fits b (End s) es h = h
 
-front_fits : (b : Behavior) (sites : List Site) (room : ℕ → ℕ → Bool) (before es : List Event) → SendsFit b es → SendsFit b (longest_fit sites room before es)
+prefix_fits : (b : Behavior) (sites : List Site) (room : ℕ → ℕ → Bool) (before es : List Event) → SendsFit b es → SendsFit b (longest_fit sites room before es)
 unfolding longest_fit
-front_fits b sites room before [] h = tt
-front_fits b sites room before (e ∷ es) h =
-    fits_if b (fits_after sites room before e) e es (longest_fit sites room (before ++ e ∷ []) es) h (front_fits b sites room (before ++ e ∷ []) es (tail_fits b e es h))
+prefix_fits b sites room before [] h = tt
+prefix_fits b sites room before (e ∷ es) h =
+    fits_if b (fits_after sites room before e) e es (longest_fit sites room (before ++ e ∷ []) es) h (prefix_fits b sites room (before ++ e ∷ []) es (tail_fits b e es h))
 
 pub chan_there : (sites : List Site) (i : ℕ) (site : Site) → slice_get sites i ≡ Some site → chan_at sites i ≡ site.chan
 chan_there [] i site e = absurd (cc)
@@ -256,7 +256,7 @@ module _ (heads : List ProcHead) (xs ys : List Behavior) (count : length xs ≡ 
         no_proc e (ap (λ o. longest_fit (sites_at one p) (room_at one cut) [] (trace_of n (words_at one cut) o)) e)
     reach_fits cut words p (Some x) e =
         a_proc x e (subst (λ o. SendsFit x.behavior (longest_fit (sites_at one p) (room_at one cut) [] (trace_of n (words_at one cut) o))) (sym e)
-        (front_fits x.behavior (sites_at one p) (room_at one cut) [] (trace x.behavior n x.opening (words_at one cut))
+        (prefix_fits x.behavior (sites_at one p) (room_at one cut) [] (trace x.behavior n x.opening (words_at one cut))
         (trace_fits x.behavior (fits.keeps_types p x e) n x.opening (words_at one cut) (opens p x e) (typed_for cut words p x e))))
 
     empty_fits : (p : ℕ) (x : Option Proc) → slice_get (procs_of heads xs) p ≡ x → CutFitsAt (procs_of heads xs) empty_cut p

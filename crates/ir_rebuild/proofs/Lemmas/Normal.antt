@@ -19,7 +19,7 @@ use Rattle.ir_rebuild.specs.Operands.{operands_in, attribute_operands, optional_
 use Rattle.ir_rebuild.specs.Built.{is_plain_op, numbered}
 use Rattle.ir_rebuild.proofs.Lemmas.{node_there, there_more, all_weaker, all_parts, type_more, at_place, before_more}
 use Rattle.ir_rebuild.specs.Normal.Origins.{made_by, origin}
-use Rattle.ir_rebuild.specs.Normal.LeftSides.{is_literal_op, left_side, first_bit, has_left_side}
+use Rattle.ir_rebuild.specs.Normal.Patterns.{is_literal_op, node_pattern, first_bit, has_pattern}
 use Rattle.ir_rebuild.specs.Normal.Normal.{is_literal_node, names_literal, all_literals, are_one, chooses_one, IsNormalNode, AreNormal}
 
 both : (a b : Bool) → a && b ≡ true → (a ≡ true) × (b ≡ true)
@@ -84,10 +84,10 @@ chooses_more xs ys os (attributes.Indices i) h = refl
 chooses_more xs ys os (attributes.Value c) h = refl
 chooses_more xs ys os (attributes.Channel predicate c) h = refl
 
-pub side_more : (state : IrType) (xs ys : List Node) (n : Node) → AreOrdered xs → list_all (is_there (length xs)) (operands_in n) ≡ true → has_left_side state (xs ++ ys) n ≡ has_left_side state xs n
+pub side_more : (state : IrType) (xs ys : List Node) (n : Node) → AreOrdered xs → list_all (is_there (length xs)) (operands_in n) ≡ true → has_pattern state (xs ++ ys) n ≡ has_pattern state xs n
 side_more state xs ys n ordered there =
     let own = (all_parts (is_there (length xs)) n.operands (attribute_operands n.attributes) there).0 in
-    ap (left_side n.op (bits_width n.ty) (first_bit n.attributes)) (map_still (is_there (length xs)) (origin state (xs ++ ys)) (origin state xs) (origin_more state xs ys ordered) n.operands own)
+    ap (node_pattern n.op (bits_width n.ty) (first_bit n.attributes)) (map_still (is_there (length xs)) (origin state (xs ++ ys)) (origin state xs) (origin_more state xs ys ordered) n.operands own)
 
 -- a normal node is normal with more nodes
 pub still_normal : (state : IrType) (xs ys : List Node) (n : Node) → AreOrdered xs → list_all (is_there (length xs)) (operands_in n) ≡ true → IsNormalNode state xs n → IsNormalNode state (xs ++ ys) n

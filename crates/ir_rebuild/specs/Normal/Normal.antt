@@ -13,19 +13,19 @@ use Rattle.ir_tree.specs.NodeValues.{role_of}
 use Rattle.ir_rebuild.specs.Operands.{operands_in, optional_operand, node_of}
 use Rattle.ir_rebuild.specs.Built.{is_plain_op}
 use Rattle.ir_rebuild.specs.Kept.{is_site}
-use Rattle.ir_rebuild.specs.Normal.LeftSides.{is_literal_op, has_left_side}
+use Rattle.ir_rebuild.specs.Normal.Patterns.{is_literal_op, has_pattern}
 
--- ---- nodes that are needed
+-- ---- nodes that are live
 
--- by the next state, as a site, or by a node that is needed itself
+-- by the next state, as a site, or by a node that is live itself
 pub data IsReached (proc : Proc) : ℕ → Type 0 where
   by_next : (i : ℕ) → proc.next ≡ operand.Node i → IsReached proc i
   as_site : (i : ℕ) (n : Node) → slice_get proc.nodes i ≡ Some n → is_site (role_of n) ≡ true → IsReached proc i
   by_node : (i j k : ℕ) (n : Node) → IsReached proc j → slice_get proc.nodes j ≡ Some n → slice_get (operands_in n) k ≡ Some (operand.Node i) → IsReached proc i
 
--- what is marked is needed
-abbrev pub AreNeeded : Proc → List Bool → Type 0
-AreNeeded proc kept = (i : ℕ) → get_or kept i false ≡ true → IsReached proc i
+-- what is marked is live
+abbrev pub AreLive : Proc → List Bool → Type 0
+AreLive proc kept = (i : ℕ) → get_or kept i false ≡ true → IsReached proc i
 
 -- ---- literals and selects
 
@@ -64,20 +64,20 @@ chooses_one nodes os _ = false
 
 -- ---- the normal form
 
--- among these nodes a node whose operands aren't all literals, no select that always chooses one operand, and none of the left sides
+-- among these nodes a node whose operands aren't all literals, no select that always chooses one operand, and none of the patterns
 pub record IsNormalNode (state : IrType) (nodes : List Node) (n : Node) : Type 0 where
   pub folded : all_literals nodes (operands_in n) ≡ false
   pub chosen : chooses_one nodes n.operands n.attributes ≡ false
-  pub narrowed : has_left_side state nodes n ≡ false
+  pub narrowed : has_pattern state nodes n ≡ false
 
 -- each plain node is normal
 pub record AreNormal (state : IrType) (nodes : List Node) : Type 0 where
   pub each : (i : ℕ) (n : Node) → slice_get nodes i ≡ Some n → is_plain_op n.op ≡ true → IsNormalNode state nodes n
 
--- and each node is needed
+-- and each node is live
 pub record IsNormalProc (proc : Proc) : Type 0 where
   pub nodes : AreNormal proc.state proc.nodes
-  pub needed : (i : ℕ) (n : Node) → slice_get proc.nodes i ≡ Some n → IsReached proc i
+  pub live : (i : ℕ) (n : Node) → slice_get proc.nodes i ≡ Some n → IsReached proc i
 
 pub record IsNormal (ir : Package) : Type 0 where
   pub procs : (i : ℕ) (proc : Proc) → slice_get ir.procs i ≡ Some proc → IsNormalProc proc

@@ -1,4 +1,4 @@
--- What the table of left sides sees of an operand: its type, and how it was made.
+-- What the table of patterns sees of an operand: its type, and how it was made.
 use Rattle.std.specs.Prelude.{List, map, Option, Some, None}
 use Rattle.delay_model.specs.declared.op.Op.{Op}
 use Rattle.ir_tree.specs.declared.ir_type.IrType.{IrType}

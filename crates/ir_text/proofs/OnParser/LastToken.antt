@@ -5,7 +5,7 @@ use Rattle.grammar.specs.Answer.{EndsWith}
 use Rattle.ir_token.specs.declared.rules.generated.kind.TheConstants.{END}
 use Rattle.dslx_token.specs.Blank.{after_blank}
 use Rattle.dslx_token.specs.Lexeme.{Lexeme}
-use Rattle.dslx_token.specs.Tokens.{place_of}
+use Rattle.dslx_token.specs.Tokens.{offset_of}
 use Rattle.ir_token.specs.Kinds.{Context, context_behind, kind_in, no_context, settled_in}
 use Rattle.ir_token.specs.Tokens.{ends, goes, ir_lexeme_at, AreIrTokens, IsCutInto}
 use Rattle.ir_text.specs.Parser.Reads.{kinds_of}
@@ -17,7 +17,7 @@ ends_behind k (y ∷ ys) x h = let e : length (k ∷ y ∷ ys) - 1 ≡ suc (leng
 cut_ends : (text rest : List ℕ) (ls : List Lexeme) (before : Context) → IsCutInto text rest ls → EndsWith (kinds_of (settled_in before ls)) END
 cut_ends text rest ls before (ends r blank) = refl
 cut_ends text rest ls before (goes r len more some front tail) =
-    let l = ir_lexeme_at (place_of text (after_blank rest)) (take len (after_blank rest)) in
+    let l = ir_lexeme_at (offset_of text (after_blank rest)) (take len (after_blank rest)) in
     let kind = kind_in before l.kind l.bytes in
     let behind = context_behind before kind l.bytes in
     ends_behind kind (kinds_of (settled_in behind more)) END (cut_ends text (drop len (after_blank rest)) more behind tail)

@@ -10,10 +10,10 @@ use Rattle.xb_span.specs.declared.fault.Fault.{Fault}
 use Rattle.xb_span.specs.declared.limit.Limit.{Limit}
 use Rattle.xb_span.specs.declared.read_error.ReadError.{ReadError}
 use Rattle.xb_span.specs.declared.read_error.ReadError.TheVariants.{Syntax, Broken, Over, OutOfMemory}
-use Rattle.ir_builder.specs.declared.builder.Placed.{Placed}
+use Rattle.ir_builder.specs.declared.builder.Spanned.{Spanned}
 use Rattle.ir_text.specs.Parser.Reads.{AreDeep, AreShallow, IsMisplaced, IsRefusal, Reads}
 use Rattle.ir_text.specs.Parser.Texts.{GivesPackage, IsIrTextOf, accepted, cut_off, misplaced, too_deep, faulty}
-use Rattle.ir_text.proofs.OnParser.OneTree.{TheGrammarLaws, one_placed, same_place, misplaced_or_deep, deep_or_shallow, reads_or_misplaced}
+use Rattle.ir_text.proofs.OnParser.OneTree.{TheGrammarLaws, one_spanned, same_place, misplaced_or_deep, deep_or_shallow, reads_or_misplaced}
 
 -- what the laws of tokens and grammars say
 pub record TheLaws : Type 0 where
@@ -23,37 +23,37 @@ pub record TheLaws : Type 0 where
   pub either : (text : List ℕ) (ls : List Lexeme) (at : ℕ) → AreIrTokens text ls → IsCutOffAt text text at → ⊥
 
 module _ (laws : TheLaws) (text : List ℕ) where
-  same_shown : (a b : Placed) → IsIrTextOf text a → IsIrTextOf text b → a ≡ b
+  same_shown : (a b : Spanned) → IsIrTextOf text a → IsIrTextOf text b → a ≡ b
   same_shown a b is also =
       let same = laws.one text is.tokens also.tokens is.cut also.cut in
-      one_placed laws.grammar also.tokens a b (subst (λ ls. Reads ls a) same is.reads) also.reads
+      one_spanned laws.grammar also.tokens a b (subst (λ ls. Reads ls a) same is.reads) also.reads
 
-  shown_or_misplaced : (a : Placed) (tokens : List Lexeme) (at : ℕ) → IsIrTextOf text a → AreIrTokens text tokens → IsMisplaced tokens at → ⊥
+  shown_or_misplaced : (a : Spanned) (tokens : List Lexeme) (at : ℕ) → IsIrTextOf text a → AreIrTokens text tokens → IsMisplaced tokens at → ⊥
   shown_or_misplaced a tokens at is cut fault =
       reads_or_misplaced laws.grammar tokens a at (subst (λ ls. Reads ls a) (laws.one text is.tokens tokens is.cut cut) is.reads) fault
 
-  shown_or_deep : (a : Placed) (tokens : List Lexeme) (limit : Limit) → IsIrTextOf text a → AreIrTokens text tokens → AreDeep tokens limit → ⊥
+  shown_or_deep : (a : Spanned) (tokens : List Lexeme) (limit : Limit) → IsIrTextOf text a → AreIrTokens text tokens → AreDeep tokens limit → ⊥
   shown_or_deep a tokens limit is cut deep =
       deep_or_shallow tokens limit (subst (λ ls. AreShallow ls) (laws.one text is.tokens tokens is.cut cut) is.shallow) deep
 
-  shown_or_cut_off : (a : Placed) (at : ℕ) → IsIrTextOf text a → IsCutOffAt text text at → ⊥
+  shown_or_cut_off : (a : Spanned) (at : ℕ) → IsIrTextOf text a → IsCutOffAt text text at → ⊥
   shown_or_cut_off a at is odd = laws.either text is.tokens at is.cut odd
 
-  sound_or_faulty : (a b : Placed) (error : ReadError) → IsIrTextOf text a → IsIrTextOf text b → first_fault a.tree a.places ≡ None → option_map error_of (first_fault b.tree b.places) ≡ Some error → ⊥
+  sound_or_faulty : (a b : Spanned) (error : ReadError) → IsIrTextOf text a → IsIrTextOf text b → first_fault a.tree a.line_spans ≡ None → option_map error_of (first_fault b.tree b.line_spans) ≡ Some error → ⊥
   sound_or_faulty a b error is also sound fault =
-      let none : first_fault b.tree b.places ≡ None = subst (λ (p : Placed). first_fault p.tree p.places ≡ None) (same_shown a b is also) sound in
+      let none : first_fault b.tree b.line_spans ≡ None = subst (λ (p : Spanned). first_fault p.tree p.line_spans ≡ None) (same_shown a b is also) sound in
       let e : option_map error_of None ≡ Some error = ap (option_map error_of) (sym none) ∙ fault in
       cc
 
-  same_faulty : (a b : Placed) (e f : ReadError) → IsIrTextOf text a → IsIrTextOf text b → option_map error_of (first_fault a.tree a.places) ≡ Some e → option_map error_of (first_fault b.tree b.places) ≡ Some f → e ≡ f
+  same_faulty : (a b : Spanned) (e f : ReadError) → IsIrTextOf text a → IsIrTextOf text b → option_map error_of (first_fault a.tree a.line_spans) ≡ Some e → option_map error_of (first_fault b.tree b.line_spans) ≡ Some f → e ≡ f
   same_faulty a b e f is also fault other =
-      let same : option_map error_of (first_fault a.tree a.places) ≡ option_map error_of (first_fault b.tree b.places) =
-      ap (λ (p : Placed). option_map error_of (first_fault p.tree p.places)) (same_shown a b is also) in
+      let same : option_map error_of (first_fault a.tree a.line_spans) ≡ option_map error_of (first_fault b.tree b.line_spans) =
+      ap (λ (p : Spanned). option_map error_of (first_fault p.tree p.line_spans)) (same_shown a b is also) in
       let some : Some e ≡ Some f = sym fault ∙ (same ∙ other) in
       cc
 
   pub one_answer : (a b : Result Package ReadError) → GivesPackage text a → GivesPackage text b → a ≡ b
-  one_answer a b (accepted p is sound) (accepted q also sounds) = ap (λ (x : Placed). Ok x.tree) (same_shown p q is also)
+  one_answer a b (accepted p is sound) (accepted q also sounds) = ap (λ (x : Spanned). Ok x.tree) (same_shown p q is also)
   one_answer a b (accepted p is sound) (cut_off at odd) = absurd (shown_or_cut_off p at is odd)
   one_answer a b (accepted p is sound) (misplaced tokens at cut fault) = absurd (shown_or_misplaced p tokens at is cut fault)
   one_answer a b (accepted p is sound) (too_deep tokens limit cut deep) = absurd (shown_or_deep p tokens limit is cut deep)
@@ -102,15 +102,15 @@ refusal_given text ls cut (Broken rule span) is = absurd is
 refusal_given text ls cut (Over limit) is = inr (too_deep ls limit cut is)
 refusal_given text ls cut OutOfMemory is = inl refl
 
-pub reading_refused : (text : List ℕ) (ls : List Lexeme) → AreIrTokens text ls → (r : Result Placed ReadError) → IfErr r (λ e. IsRefusal ls e) → IfErr r (λ e. (e ≡ OutOfMemory) ⊎ GivesPackage text (Err e))
+pub reading_refused : (text : List ℕ) (ls : List Lexeme) → AreIrTokens text ls → (r : Result Spanned ReadError) → IfErr r (λ e. IsRefusal ls e) → IfErr r (λ e. (e ≡ OutOfMemory) ⊎ GivesPackage text (Err e))
 reading_refused text ls cut (Ok p) is = tt
 reading_refused text ls cut (Err e) is = refusal_given text ls cut e is
 
-pub reading_shows : (text : List ℕ) (ls : List Lexeme) → AreIrTokens text ls → (r : Result Placed ReadError) → IfOk r (λ p. Reads ls p) → IfOk r (λ _. AreShallow ls) → IfOk r (λ p. IsIrTextOf text p)
+pub reading_shows : (text : List ℕ) (ls : List Lexeme) → AreIrTokens text ls → (r : Result Spanned ReadError) → IfOk r (λ p. Reads ls p) → IfOk r (λ _. AreShallow ls) → IfOk r (λ p. IsIrTextOf text p)
 reading_shows text ls cut (Ok p) reads shallow = record { tokens = ls; cut = cut; reads = reads; shallow = shallow }
 reading_shows text ls cut (Err e) reads shallow = tt
 
 -- rules and limits that refuse
-pub fault_given : (text : List ℕ) (placed : Placed) (e : ReadError) → IsIrTextOf text placed → (e ≡ OutOfMemory) ⊎ (option_map error_of (first_fault placed.tree placed.places) ≡ Some e) → (e ≡ OutOfMemory) ⊎ GivesPackage text (Err e)
-fault_given text placed e is (inl memory) = inl memory
-fault_given text placed e is (inr fault) = inr (faulty placed e is fault)
+pub fault_given : (text : List ℕ) (spanned : Spanned) (e : ReadError) → IsIrTextOf text spanned → (e ≡ OutOfMemory) ⊎ (option_map error_of (first_fault spanned.tree spanned.line_spans) ≡ Some e) → (e ≡ OutOfMemory) ⊎ GivesPackage text (Err e)
+fault_given text spanned e is (inl memory) = inl memory
+fault_given text spanned e is (inr fault) = inr (faulty spanned e is fault)

@@ -11,8 +11,8 @@ use Rattle.ir_tree.specs.declared.package.Channel.{Channel}
 use Rattle.ir_tree.specs.declared.package.Package.{Package}
 use Rattle.ir_tree.specs.declared.package.Proc.{Proc}
 use Rattle.ir_tree.specs.NodeValues.{role_of}
-use Rattle.ir_verify.specs.declared.places.Places.{Places}
-use Rattle.ir_verify.specs.declared.places.ProcPlaces.{ProcPlaces}
+use Rattle.ir_verify.specs.declared.line_spans.LineSpans.{LineSpans}
+use Rattle.ir_verify.specs.declared.line_spans.ProcSpans.{ProcSpans}
 use Rattle.ir_verify.specs.Checks.{Check, limit_at, note, noted}
 use Rattle.ir_verify.specs.Lines.{Seen, see, channel_checks, node_checks, own_levels, type_limits}
 use Rattle.ir_tree.specs.NodeTypes.Types.{widths_in}
@@ -51,19 +51,19 @@ nodes_same channels state here there before i seen [] = none
 nodes_same channels state here there before i seen (n ∷ ns) =
     both _ _ _ _ (node_same channels state before (get_or here i nowhere) (get_or there i nowhere) i seen n) (nodes_same channels state here there (before ++ n ∷ []) (suc i) (see i n seen) ns)
 
-proc_same : (channels : List Channel) (a b : ProcPlaces) (names : List (List ℕ)) (seen : Seen) (p : Proc) → SameVerdicts (proc_checks channels a names seen p) (proc_checks channels b names seen p)
+proc_same : (channels : List Channel) (a b : ProcSpans) (names : List (List ℕ)) (seen : Seen) (p : Proc) → SameVerdicts (proc_checks channels a names seen p) (proc_checks channels b names seen p)
 proc_same channels a b names seen p =
     both _ _ _ _ (one _ _ _ _ refl (one _ _ _ _ refl (types_same a.head.to b.head.to p.state 0)))
     (both _ _ _ _ (nodes_same channels p.state a.nodes b.nodes [] 0 (at_start seen) p.nodes)
     (both _ _ _ _ (one _ _ _ _ refl (one _ _ _ _ refl none)) (one _ _ _ _ refl none)))
 
-procs_same : (channels : List Channel) (here there : List ProcPlaces) (names : List (List ℕ)) (i : ℕ) (seen : Seen) (ps : List Proc) → SameVerdicts (procs_checks channels here names i seen ps) (procs_checks channels there names i seen ps)
+procs_same : (channels : List Channel) (here there : List ProcSpans) (names : List (List ℕ)) (i : ℕ) (seen : Seen) (ps : List Proc) → SameVerdicts (procs_checks channels here names i seen ps) (procs_checks channels there names i seen ps)
 procs_same channels here there names i seen [] = none
 procs_same channels here there names i seen (p ∷ ps) =
     both _ _ _ _ (proc_same channels (get_or here i nowhere_proc) (get_or there i nowhere_proc) names seen p)
     (procs_same channels here there (names ++ p.name ∷ []) (suc i) (seen_after 0 (at_start seen) p.nodes) ps)
 
-all_same : (ir : Package) (a b : Places) → SameVerdicts (checks_of ir a) (checks_of ir b)
+all_same : (ir : Package) (a b : LineSpans) → SameVerdicts (checks_of ir a) (checks_of ir b)
 all_same ir a b =
     one _ _ _ _ refl (both _ _ _ _ (channels_same a.channels b.channels [] 0 ir.channels)
     (both _ _ _ _ (procs_same ir.channels a.procs b.procs [] 0 (nothing_seen ir.channels) ir.procs) (one _ _ _ _ refl (one _ _ _ _ refl none))))
@@ -92,10 +92,10 @@ none_said : (cs ds : List Check) → SameVerdicts cs ds → noted None cs ≡ No
 none_said cs ds none e = refl
 none_said cs ds (one c d xs ys same rest) e = step_said c.broken d.broken c.fault d.fault xs ys same (none_said xs ys rest) e
 
-pub verified_there : (ir : Package) (places : Places) → IsVerified ir → first_fault ir places ≡ None
+pub verified_there : (ir : Package) (line_spans : LineSpans) → IsVerified ir → first_fault ir line_spans ≡ None
 unfolding first_fault
-verified_there ir places e = none_said (checks_of ir nowhere_at_all) (checks_of ir places) (all_same ir nowhere_at_all places) e
+verified_there ir line_spans e = none_said (checks_of ir nowhere_at_all) (checks_of ir line_spans) (all_same ir nowhere_at_all line_spans) e
 
-pub verified_nowhere : (ir : Package) (places : Places) → first_fault ir places ≡ None → IsVerified ir
+pub verified_nowhere : (ir : Package) (line_spans : LineSpans) → first_fault ir line_spans ≡ None → IsVerified ir
 unfolding first_fault
-verified_nowhere ir places e = none_said (checks_of ir places) (checks_of ir nowhere_at_all) (all_same ir places nowhere_at_all) e
+verified_nowhere ir line_spans e = none_said (checks_of ir line_spans) (checks_of ir nowhere_at_all) (all_same ir line_spans nowhere_at_all) e

@@ -12,7 +12,7 @@ use Rattle.delay_model.specs.declared.op.Op.{Op}
 use Rattle.delay_model.specs.Names.{name_of, op_named}
 use Rattle.delay_model.specs.Signatures.{attribute_kind_of}
 use Rattle.delay_model.proofs.Lemmas.Naming.{named_by_name}
-use Rattle.xb_span.specs.declared.nesting.role.Role.TheVariants.{Plain}
+use Rattle.xb_span.specs.declared.nesting.bracket_class.BracketClass.TheVariants.{Plain}
 use Rattle.dslx_token.specs.Blank.{after_blank}
 use Rattle.dslx_token.specs.Lexeme.{Lexeme}
 use Rattle.ir_token.specs.declared.rules.generated.kind.TheConstants as kinds
@@ -31,13 +31,13 @@ use Rattle.ir_text.specs.Printer.Parts.{constant_text, operand_text, operands_te
 use Rattle.ir_text.specs.Printer.Lines.{attributes_text, channel_name, default_text, predicate_text}
 use Rattle.ir_builder.specs.declared.state.State.{State}
 use Rattle.ir_builder.specs.Building.{shifted}
-use Rattle.ir_builder.specs.Named.{numbered, place_in}
-use Rattle.ir_text.specs.Parser.Roles.{role_of}
+use Rattle.ir_builder.specs.Named.{numbered, index_in}
+use Rattle.ir_text.specs.Parser.BracketClasses.{role_of}
 use Rattle.ir_text.specs.RoundTrip.InRange.{is_held}
 use Rattle.ir_text.proofs.OnRoundTrip.Writable.{is_one_word}
 use Rattle.ir_text.proofs.OnRoundTrip.Held.{attributes_held, constant_held}
 use Rattle.ir_text.proofs.OnRoundTrip.Walks.{Due, Goes, Point, Turns, a_token, a_tree, complete, complete_then, due_of, lexeme_of, stays, token_then}
-use Rattle.ir_text.proofs.OnRoundTrip.Words.{number_front_is, number_kind, number_shown, word_front, word_shown}
+use Rattle.ir_text.proofs.OnRoundTrip.Words.{number_prefix_is, number_kind, number_shown, word_prefix, word_shown}
 use Rattle.ir_text.proofs.OnRoundTrip.OpWords.{id_part_is, name_kind, op_id, op_part_is, word_is_one}
 use Rattle.ir_text.proofs.OnRoundTrip.Lists.{left_over, onto, taken}
 use Rattle.ir_text.proofs.OnRoundTrip.Steps.{Reads, behind, by_rule, close_then, comma, complete_as, equals, keyword_then, left_bracket, left_parenthesis, mark_then, open_then, right_bracket, right_parenthesis, spot, the_cases, the_channel, the_id, the_index, the_indices, the_new_bit_count, the_start, the_value, the_width}
@@ -130,7 +130,7 @@ some_cases_read text nodes os later rest here c d q st said few e s k =
 pub record IsChannelNamed (channels : List Channel) (names : List (List ℕ)) (place : ℕ) : Type 0 where
   pub channel : Channel
   pub there : slice_get channels place ≡ Some channel
-  pub named : place_in names channel.name ≡ Some place
+  pub named : index_in names channel.name ≡ Some place
   pub small : place < 2 ^ 32
   pub one : is_one_word channel.name ≡ true
 
@@ -194,7 +194,7 @@ call_by {P} text nodes o id os later here second d q st kind number tail rule od
     let word = name_of o in
     let rest = 40 ∷ (operands_text nodes os ++ later) in
     by_rule number rule
-    (token_then word rest d (suc q) (e ∙ word_shown word rest (word_is_one o)) (word_front word rest (word_is_one o) refl) (class_here o id kind second class) (subst (λ x. Turns x d (suc q) d (suc q)) (sym role) (stays d (suc q)))
+    (token_then word rest d (suc q) (e ∙ word_shown word rest (word_is_one o)) (word_prefix word rest (word_is_one o) refl) (class_here o id kind second class) (subst (λ x. Turns x d (suc q) d (suc q)) (sym role) (stays d (suc q)))
     (subst (λ node. Goes text P (a_token kinds.LPAREN ∷ a_tree nonterminals.OPERANDS ∷ (due_of tail ++ complete number ∷ s)) (spot rest (behind kind kinds.ASSIGN node) d (suc q) (shifted (lexeme_of text word rest kind) st))) (sym (not_begun (behind kinds.ASSIGN second (op_id o id)) kind word odd))
     (open_then left_parenthesis _ q refl refl
     (operands_read text nodes os later (operands_text nodes os ++ later) _ (suc d) q _ said few refl refl _ λ here1 last1 second1 e1. k _ _ here1 last1 second1 e1))))
@@ -216,7 +216,7 @@ id_then text o id rest here last second d q st small e s k =
     by_rule productions.ID refl
     (keyword_then the_id (61 ∷ (decimal id ++ (41 ∷ 10 ∷ rest))) e refl
     (mark_then equals _ refl
-    (token_then (decimal id) (41 ∷ 10 ∷ rest) (suc d) q (number_shown id (41 ∷ 10 ∷ rest) enough) (number_front_is id (41 ∷ 10 ∷ rest) enough refl) (own_id o id small) (stays (suc d) q)
+    (token_then (decimal id) (41 ∷ 10 ∷ rest) (suc d) q (number_shown id (41 ∷ 10 ∷ rest) enough) (number_prefix_is id (41 ∷ 10 ∷ rest) enough refl) (own_id o id small) (stays (suc d) q)
     (close_then right_parenthesis (10 ∷ rest) d refl refl
     (complete_then (k _ _ _ _))))))
 

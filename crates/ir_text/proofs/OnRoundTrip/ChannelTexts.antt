@@ -20,7 +20,7 @@ use Rattle.ir_builder.specs.declared.state.State.{State}
 use Rattle.ir_text.proofs.OnRoundTrip.Writable.{is_one_word}
 use Rattle.ir_text.proofs.OnRoundTrip.Held.{type_held}
 use Rattle.ir_text.proofs.OnRoundTrip.Walks.{Due, Goes, Point, a_tree, complete_then, stays, token_then}
-use Rattle.ir_text.proofs.OnRoundTrip.Words.{digits_of_decimal, ends_words, number_front_is, number_kind, number_shown}
+use Rattle.ir_text.proofs.OnRoundTrip.Words.{digits_of_decimal, ends_words, number_prefix_is, number_kind, number_shown}
 use Rattle.ir_text.proofs.OnRoundTrip.Lists.{onto}
 use Rattle.ir_text.proofs.OnRoundTrip.Steps.{Reads, behind, by_rule, close_then, comma, complete_as, equals, keyword_then, left_parenthesis, mark_then, open_then, right_parenthesis, spot, the_chan, the_depth, the_id, the_inner, the_input, the_kind, the_output}
 use Rattle.ir_text.proofs.OnRoundTrip.Numbers.{number_reads, small_said_is}
@@ -47,7 +47,7 @@ id_reads text n rest here last second d r st small e s k =
     by_rule productions.CHANNEL_ID refl
     (keyword_then the_id (61 ∷ (decimal n ++ (44 ∷ rest))) e refl
     (mark_then equals _ refl
-    (token_then (decimal n) (44 ∷ rest) d r (number_shown n (44 ∷ rest) enough) (number_front_is n (44 ∷ rest) enough refl) (channel_id_kind n small) (stays d r)
+    (token_then (decimal n) (44 ∷ rest) d r (number_shown n (44 ∷ rest) enough) (number_prefix_is n (44 ∷ rest) enough refl) (channel_id_kind n small) (stays d r)
     (mark_then comma rest refl
     (complete_as (record st { ids = n ∷ st.ids }) (ap (λ v. record st { ids = v ∷ st.ids }) (small_said_is n small)) (k rest _ _ refl))))))
 

@@ -4,7 +4,7 @@ use Rattle.std.specs.Prelude.{◌==◌, if◌then◌else◌}
 use Rattle.std.proofs.lemmas.Bool.{and_parts, and_right, cond_both, cond-false, cond-true}
 use Rattle.grammar.specs.declared.table.Symbol.TheVariants.{Terminal, Nonterminal}
 use Rattle.grammar.specs.Derivation.{IsRule}
-use Rattle.xb_span.specs.declared.nesting.role.Role.TheVariants.{Plain}
+use Rattle.xb_span.specs.declared.nesting.bracket_class.BracketClass.TheVariants.{Plain}
 use Rattle.dslx_token.specs.Blank.{after_blank}
 use Rattle.dslx_token.specs.Spelling.{Spelling, kind_among}
 use Rattle.base.specs.Texts.Words.{begins_word}
@@ -13,16 +13,16 @@ use Rattle.ir_token.specs.declared.rules.generated.nonterminal.TheConstants as n
 use Rattle.ir_token.specs.declared.rules.generated.production.TheConstants as productions
 use Rattle.ir_token.specs.Rules.Ir.{ir}
 use Rattle.ir_token.specs.Rules.Rules.{named_rules}
-use Rattle.ir_token.specs.Fronts.{name_len}
+use Rattle.ir_token.specs.TokenPrefixes.{name_len}
 use Rattle.delay_model.specs.Names.{op_named}
 use Rattle.ir_token.specs.Kinds.{Context, class_of, id_part, op_part, ir_plain_kind, ir_word_kind, ir_words, is_op_id, kind_in}
 use Rattle.ir_builder.specs.declared.rule.Rule.TheVariants.{Keep, Name}
 use Rattle.ir_builder.specs.declared.state.State.{State}
 use Rattle.ir_builder.specs.Building.{reduced, rule_of, shifted}
-use Rattle.ir_text.specs.Parser.Roles.{role_of}
+use Rattle.ir_text.specs.Parser.BracketClasses.{role_of}
 use Rattle.ir_text.proofs.OnRoundTrip.Writable.{is_one_word}
 use Rattle.ir_text.proofs.OnRoundTrip.Walks.{Due, Goes, Point, Turns, a_tree, complete, lexeme_of, stays, token_then}
-use Rattle.ir_text.proofs.OnRoundTrip.Words.{ends_words, word_front, word_shown}
+use Rattle.ir_text.proofs.OnRoundTrip.Words.{ends_words, word_prefix, word_shown}
 use Rattle.ir_text.proofs.OnRoundTrip.Steps.{behind, by_rule, complete_as, spot}
 
 -- ---- kinds of names
@@ -159,13 +159,13 @@ node_kept c kind word free = cond-false ((kind == kinds.OPID) && begins_nodes c)
 pub name_reads : {P : Point → Type 0} → (text name rest here : List ℕ) (c : Context) (d r : ℕ) (st : State) (kind : ℕ) → IsAnyName kind → is_one_word name ≡ true → ends_words rest ≡ true → after_blank here ≡ after_blank (name ++ rest) → begins_nodes c ≡ false → kind_in c (ir_plain_kind name) name ≡ kind → (s : List Due) → Goes text P s (spot rest (behind kind c.last c.node) d r (record st { names = lexeme_of text name rest kind ∷ st.names })) → Goes text P (a_tree nonterminals.ANY_NAME ∷ s) (spot here c d r st)
 name_reads {P} text name rest here c d r st kind (bare number rule names role) one stop e free own s g =
     by_rule number rule
-    (token_then name rest d r (e ∙ word_shown name rest one) (word_front name rest one stop) own (subst (λ x. Turns x d r d r) (sym role) (stays d r))
+    (token_then name rest d r (e ∙ word_shown name rest one) (word_prefix name rest one stop) own (subst (λ x. Turns x d r d r) (sym role) (stays d r))
     (subst (λ node. Goes text P (complete number ∷ s) (spot rest (behind kind c.last node) d r (shifted (lexeme_of text name rest kind) st))) (sym (node_kept c kind name free))
     (complete_as (record st { names = lexeme_of text name rest kind ∷ st.names }) (ap (λ x. reduced x (shifted (lexeme_of text name rest kind) st)) names) g)))
 name_reads {P} text name rest here c d r st kind (among number through head rule names inner keeps role) one stop e free own s g =
     by_rule number rule
     (by_rule through inner
-    (token_then name rest d r (e ∙ word_shown name rest one) (word_front name rest one stop) own (subst (λ x. Turns x d r d r) (sym role) (stays d r))
+    (token_then name rest d r (e ∙ word_shown name rest one) (word_prefix name rest one stop) own (subst (λ x. Turns x d r d r) (sym role) (stays d r))
     (subst (λ node. Goes text P (complete through ∷ complete number ∷ s) (spot rest (behind kind c.last node) d r (shifted (lexeme_of text name rest kind) st))) (sym (node_kept c kind name free))
     (complete_as (shifted (lexeme_of text name rest kind) st) (ap (λ x. reduced x (shifted (lexeme_of text name rest kind) st)) keeps)
     (complete_as (record st { names = lexeme_of text name rest kind ∷ st.names }) (ap (λ x. reduced x (shifted (lexeme_of text name rest kind) st)) names) g)))))

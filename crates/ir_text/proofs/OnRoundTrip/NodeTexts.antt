@@ -24,7 +24,7 @@ use Rattle.ir_builder.specs.Empty.{join}
 use Rattle.ir_builder.specs.Rules.{op_or}
 use Rattle.ir_text.proofs.OnRoundTrip.Held.{attributes_held, type_held}
 use Rattle.ir_text.proofs.OnRoundTrip.Walks.{Due, Goes, Point, a_tree, complete, complete_then, a_token, lexeme_of, stays, token_then}
-use Rattle.ir_text.proofs.OnRoundTrip.Words.{word_front, word_shown}
+use Rattle.ir_text.proofs.OnRoundTrip.Words.{word_prefix, word_shown}
 use Rattle.ir_text.proofs.OnRoundTrip.OpWords.{id_said_is, op_id_kind, op_id_word, op_part_is}
 use Rattle.ir_text.proofs.OnRoundTrip.Lists.{one_more, onto}
 use Rattle.ir_text.proofs.OnRoundTrip.Steps.{behind, by_rule, colon, complete_as, equals, mark_then, spot}
@@ -74,7 +74,7 @@ node_reads {P} text channels nodes n rest here c d q st said begins e s k =
     let after_name = rest_of_name channels nodes n rest in
     let shown : after_blank here ≡ name ++ after_name = e ∙ ap after_blank (node_flat channels nodes n rest) ∙ word_shown name after_name one in
     by_rule productions.NODE refl
-    (token_then name after_name d (suc q) shown (word_front name after_name one refl) (ap (λ x. kind_in c x name) (op_id_kind n.op n.id said.id)) (stays d (suc q))
+    (token_then name after_name d (suc q) shown (word_prefix name after_name one refl) (ap (λ x. kind_in c x name) (op_id_kind n.op n.id said.id)) (stays d (suc q))
     (subst (λ node. Goes text P (a_token kinds.COLON ∷ a_tree nonterminals.TYPE ∷ a_token kinds.ASSIGN ∷ a_tree nonterminals.CALL ∷ complete productions.NODE ∷ s) (spot after_name (behind kinds.OPID c.last node) d (suc q) (shifted (lexeme_of text name after_name kinds.OPID) st))) (sym (begun c name begins))
     (mark_then colon _ refl
     (type_reads n.ty text (rest_of_type channels nodes n rest) (32 ∷ (type_text n.ty ++ rest_of_type channels nodes n rest)) _ d (suc q) _ said.ty said.ty_nesting refl refl _ λ here1 last1 second1 e1.

@@ -12,7 +12,7 @@ use Rattle.delay_model.specs.declared.op.TheConstants.Op.{ALL}
 use Rattle.delay_model.specs.Names.{name_of, op_named}
 use Rattle.delay_model.proofs.Lemmas.Naming.{named_by_name}
 use Rattle.ir_token.specs.declared.rules.generated.kind.TheConstants as kinds
-use Rattle.ir_token.specs.Fronts.{name_len, word_goes_on}
+use Rattle.ir_token.specs.TokenPrefixes.{name_len, word_goes_on}
 use Rattle.ir_token.specs.Kinds.{id_part, ir_plain_kind, ir_word_kind, is_id, is_no_dot, is_op_id, op_part}
 use Rattle.ir_token.specs.Said.{id_said}
 use Rattle.ir_text.proofs.OnRoundTrip.Writable.{is_one_word}
@@ -70,16 +70,16 @@ up_to_dot (c ∷ cs) more all =
     let rest = up_to_dot cs more parts.1 in
     cond-true (is_no_dot c) (1 + prefix_len is_no_dot (cs ++ (46 ∷ more))) 0 parts.0 ∙ omega (arith, rest)
 
-front_taken : (a b : List ℕ) → take (length a) (a ++ b) ≡ a
-front_taken [] b = refl
-front_taken (x ∷ xs) b = ap (λ t. x ∷ t) (front_taken xs b)
+prefix_taken : (a b : List ℕ) → take (length a) (a ++ b) ≡ a
+prefix_taken [] b = refl
+prefix_taken (x ∷ xs) b = ap (λ t. x ∷ t) (prefix_taken xs b)
 
 behind_dot : (a b : List ℕ) → drop (suc (length a)) (a ++ (46 ∷ b)) ≡ b
 behind_dot [] b = refl
 behind_dot (x ∷ xs) b = behind_dot xs b
 
 pub op_part_is : (o : Op) (n : ℕ) → op_part (op_id o n) ≡ name_of o
-op_part_is o n = ap (λ k. take k (op_id o n)) (up_to_dot (name_of o) (decimal n) (no_dots o)) ∙ front_taken (name_of o) (46 ∷ decimal n)
+op_part_is o n = ap (λ k. take k (op_id o n)) (up_to_dot (name_of o) (decimal n) (no_dots o)) ∙ prefix_taken (name_of o) (46 ∷ decimal n)
 
 pub id_part_is : (o : Op) (n : ℕ) → id_part (op_id o n) ≡ decimal n
 id_part_is o n =

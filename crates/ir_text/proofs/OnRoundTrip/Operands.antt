@@ -16,9 +16,9 @@ use Rattle.ir_text.specs.Printer.Parts.{name_there, node_name, operand_text, ope
 use Rattle.ir_text.specs.Printer.Lines.{default_text, predicate_text}
 use Rattle.ir_builder.specs.declared.state.State.{State}
 use Rattle.ir_builder.specs.Building.{shifted}
-use Rattle.ir_builder.specs.Named.{numbered, place_in}
+use Rattle.ir_builder.specs.Named.{numbered, index_in}
 use Rattle.ir_text.proofs.OnRoundTrip.Walks.{Goes, Point, complete, complete_then, lexeme_of, stays, token_then}
-use Rattle.ir_text.proofs.OnRoundTrip.Words.{ends_words, word_front, word_shown}
+use Rattle.ir_text.proofs.OnRoundTrip.Words.{ends_words, word_prefix, word_shown}
 use Rattle.ir_text.proofs.OnRoundTrip.OpWords.{op_id_kind, op_id_word}
 use Rattle.ir_text.proofs.OnRoundTrip.Lists.{one_more, onto}
 use Rattle.ir_text.proofs.OnRoundTrip.Steps.{Reads, behind, by_rule, comma, complete_as, equals, keyword_then, mark_then, spot, the_default, the_predicate, the_st}
@@ -31,7 +31,7 @@ use Rattle.ir_text.proofs.OnRoundTrip.TypeTexts.{more_ends}
 pub record IsNamed (nodes : List Node) (names : List (List ℕ)) (place : ℕ) : Type 0 where
   pub node : Node
   pub there : slice_get nodes place ≡ Some node
-  pub named : place_in names (node_name node) ≡ Some place
+  pub named : index_in names (node_name node) ≡ Some place
   pub small : place < 2 ^ 32
   pub id : node.id < 2 ^ 32
 
@@ -62,7 +62,7 @@ operand_reads {P} text nodes (operands.Node place) rest here c d r st said stop 
     let one = op_id_word n.op n.id said.id in
     let shown : after_blank here ≡ name ++ rest = e ∙ ap (λ o. after_blank (name_there o ++ rest)) said.there ∙ word_shown name rest one in
     by_rule productions.OPERAND__OPID refl
-    (token_then name rest d r shown (word_front name rest one stop) (ap (λ x. kind_in c x name) (op_id_kind n.op n.id said.id)) (stays d r)
+    (token_then name rest d r shown (word_prefix name rest one stop) (ap (λ x. kind_in c x name) (op_id_kind n.op n.id said.id)) (stays d r)
     (subst (λ node. Goes text P (complete productions.OPERAND__OPID ∷ s) (spot rest (behind kinds.OPID c.last node) d r (shifted (lexeme_of text name rest kinds.OPID) st))) (sym (node_kept c kinds.OPID name free))
     (complete_as (record st { operands = operands.Node place ∷ st.operands })
     (ap (λ p. record st { operands = operands.Node (numbered p) ∷ st.operands }) said.named ∙ ap (λ m. record st { operands = operands.Node m ∷ st.operands }) (small_min place said.small))

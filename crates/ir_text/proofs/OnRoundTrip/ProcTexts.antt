@@ -13,12 +13,12 @@ use Rattle.ir_tree.specs.declared.node.Operand.{Operand}
 use Rattle.ir_tree.specs.declared.package.Channel.{Channel}
 use Rattle.ir_tree.specs.declared.package.Proc.{Proc}
 use Rattle.ir_tree.specs.declared.package.Package.{Package}
-use Rattle.ir_verify.specs.declared.places.ProcPlaces.{ProcPlaces}
+use Rattle.ir_verify.specs.declared.line_spans.ProcSpans.{ProcSpans}
 use Rattle.ir_text.specs.Printer.Parts.{constant_text, node_name, operand_text, type_text}
 use Rattle.ir_text.specs.Printer.Lines.{channel_text, lines_text, node_text, package_text, proc_end, proc_init, proc_start, proc_text}
 use Rattle.ir_builder.specs.declared.state.State.{State}
 use Rattle.ir_builder.specs.Building.{package_of}
-use Rattle.ir_builder.specs.Rules.{places_made, proc_made, proc_of, token_of}
+use Rattle.ir_builder.specs.Rules.{spans_made, proc_made, proc_of, token_of}
 use Rattle.ir_text.proofs.OnRoundTrip.Writable.{is_one_word}
 use Rattle.ir_text.proofs.OnRoundTrip.Held.{constant_held, type_held}
 use Rattle.ir_text.proofs.OnRoundTrip.Walks.{Due, Goes, IsReadTo, Point, a_token, a_tree, at_once, beginning, complete, complete_then, lexeme_of, walk_reads}
@@ -48,7 +48,7 @@ finished z ns base counts = record z {
   heads = drop 1 z.heads;
   nexts = drop 1 z.nexts;
   procs = proc_made ns z ∷ z.procs;
-  proc_places = places_made (reverse (take (length ns) z.node_spans)) (token_of z.tokens).span.to z ∷ z.proc_places;
+  proc_spans = spans_made (reverse (take (length ns) z.node_spans)) (token_of z.tokens).span.to z ∷ z.proc_spans;
 }
 
 proc_of_nodes : (z : State) (ns base : List Node) (counts : List ℕ) → proc_of (record z { nodes = onto ns base; counts = length ns ∷ counts }) ≡ finished z ns base counts
@@ -62,7 +62,7 @@ finish_then {text} {P} {a} {s} ns base counts e f g = complete_then (subst (λ z
 
 -- `next(OPERAND)` and the closing brace
 proc_ends : {P : Point → Type 0} → (text : List ℕ) (nodes : List Node) (o : Operand) (rest here : List ℕ) (c : Context) (d q : ℕ) (st : State) (ns base : List Node) (counts : List ℕ) → IsSaid nodes st.node_names o → st.nodes ≡ onto ns base → st.counts ≡ length ns ∷ counts → after_blank here ≡ after_blank (codes "  next(" ++ (operand_text nodes o ++ (codes ")\n}\n" ++ rest))) → (s : List Due)
-    → ((c : Context) (spans : List Span) (places : ProcPlaces) → Goes text P s (spot (10 ∷ rest) c d (suc (suc q)) (record st {
+    → ((c : Context) (spans : List Span) (line_spans : ProcSpans) → Goes text P s (spot (10 ∷ rest) c d (suc (suc q)) (record st {
       counts = counts;
       nodes = base;
       node_spans = spans;
@@ -72,7 +72,7 @@ proc_ends : {P : Point → Type 0} → (text : List ℕ) (nodes : List Node) (o 
       constants = drop 1 st.constants;
       heads = drop 1 st.heads;
       procs = proc_made ns (record st { operands = o ∷ st.operands }) ∷ st.procs;
-      proc_places = places ∷ st.proc_places;
+      proc_spans = line_spans ∷ st.proc_spans;
     })))
     → Goes text P (a_tree nonterminals.NEXT ∷ a_token kinds.RBRACE ∷ complete productions.PROC ∷ s) (spot here c (suc d) (suc q) st)
 unfolding ir named_rules
@@ -114,7 +114,7 @@ proc_flat channels p rest = simp append_assoc
 
 -- what stands between the braces, and the closing one
 body_reads : {P : Point → Type 0} → (text : List ℕ) (channels : List Channel) (p : Proc) (rest here : List ℕ) (c : Context) (d q : ℕ) (st : State) → AreNodesSaid channels st.channel_names p.nodes q st.node_names p.nodes → length p.nodes < 2 ^ 64 → IsSaid p.nodes (onto (map node_name p.nodes) st.node_names) p.next → begins_nodes c ≡ true → after_blank here ≡ after_blank (lines_text (map (node_text channels p.nodes) p.nodes) ++ rest_of_nodes p rest) → (s : List Due)
-    → ((c : Context) (spans : List Span) (places : ProcPlaces) → Goes text P s (spot (10 ∷ rest) c d (suc (suc q)) (record st {
+    → ((c : Context) (spans : List Span) (line_spans : ProcSpans) → Goes text P s (spot (10 ∷ rest) c d (suc (suc q)) (record st {
       node_spans = spans;
       node_names = [];
       names = drop 1 st.names;
@@ -122,12 +122,12 @@ body_reads : {P : Point → Type 0} → (text : List ℕ) (channels : List Chann
       constants = drop 1 st.constants;
       heads = drop 1 st.heads;
       procs = proc_made p.nodes (record st { operands = p.next ∷ st.operands }) ∷ st.procs;
-      proc_places = places ∷ st.proc_places;
+      proc_spans = line_spans ∷ st.proc_spans;
     })))
     → Goes text P (a_tree nonterminals.NODES ∷ a_tree nonterminals.NEXT ∷ a_token kinds.RBRACE ∷ complete productions.PROC ∷ s) (spot here c (suc d) (suc q) st)
 body_reads text channels p rest here c d q st said few next begins e s k =
     nodes_read text channels p.nodes p.nodes (rest_of_nodes p rest) here c (suc d) q st said few begins e _ λ here3 c3 spans e3.
-    proc_ends text p.nodes p.next rest here3 c3 d q _ p.nodes st.nodes st.counts next refl refl e3 s λ c4 spans4 places. k c4 spans4 places
+    proc_ends text p.nodes p.next rest here3 c3 d q _ p.nodes st.nodes st.counts next refl refl e3 s λ c4 spans4 line_spans. k c4 spans4 line_spans
 
 -- its first line
 head_reads : {P : Point → Type 0} → (text : List ℕ) (channels : List Channel) (p : Proc) (rest here : List ℕ) (c : Context) (d q : ℕ) (st : State) → IsProcSaid channels st.channel_names st.node_names q p → after_blank here ≡ after_blank (proc_text channels p ++ rest) → (s : List Due)
@@ -162,13 +162,13 @@ head_reads text channels p rest here c d q st said e s k =
     (k _ _ _ refl refl))))))))))))))))
 
 proc_reads : {P : Point → Type 0} → (text : List ℕ) (channels : List Channel) (p : Proc) (rest here : List ℕ) (c : Context) (d q : ℕ) (st : State) → IsProcSaid channels st.channel_names st.node_names q p → after_blank here ≡ after_blank (proc_text channels p ++ rest) → (s : List Due)
-    → ((c : Context) (spans : List Span) (places : ProcPlaces) → Goes text P s (spot (10 ∷ rest) c d (suc (suc q)) (record st { node_spans = spans; node_names = []; procs = p ∷ st.procs; proc_places = places ∷ st.proc_places })))
+    → ((c : Context) (spans : List Span) (line_spans : ProcSpans) → Goes text P s (spot (10 ∷ rest) c d (suc (suc q)) (record st { node_spans = spans; node_names = []; procs = p ∷ st.procs; proc_spans = line_spans ∷ st.proc_spans })))
     → Goes text P (a_tree nonterminals.PROC ∷ s) (spot here c d (suc (suc q)) st)
 unfolding ir named_rules
 proc_reads text channels p rest here c d q st said e s k =
     by_rule productions.PROC refl
     (head_reads text channels p rest here c d q st said e (a_tree nonterminals.NODES ∷ a_tree nonterminals.NEXT ∷ a_token kinds.RBRACE ∷ complete productions.PROC ∷ s) λ here1 c1 head begins e1.
-    body_reads text channels p rest here1 c1 d q _ said.nodes said.few said.next begins e1 s λ c4 spans4 places. k c4 spans4 places)
+    body_reads text channels p rest here1 c1 d q _ said.nodes said.few said.next begins e1 s λ c4 spans4 line_spans. k c4 spans4 line_spans)
 
 -- ---- all procs
 
@@ -177,10 +177,10 @@ AreProcsSaid channels channel_names names room [] = Unit {0}
 AreProcsSaid channels channel_names names room (p ∷ ps) = IsProcSaid channels channel_names names room p × AreProcsSaid channels channel_names [] room ps
 
 procs_read : {P : Point → Type 0} → (text : List ℕ) (channels : List Channel) (ps : List Proc) (rest here : List ℕ) (c : Context) (d q : ℕ) (st : State) → AreProcsSaid channels st.channel_names st.node_names q ps → after_blank here ≡ after_blank (lines_text (map (proc_text channels) ps) ++ rest) → (s : List Due)
-    → ((here : List ℕ) (c : Context) (spans : List Span) (names : List (List ℕ)) (places : List ProcPlaces) → after_blank here ≡ after_blank rest → Goes text P s (spot here c d (suc (suc q)) (record st { node_spans = spans; node_names = names; procs = onto ps st.procs; proc_places = places })))
+    → ((here : List ℕ) (c : Context) (spans : List Span) (names : List (List ℕ)) (line_spans : List ProcSpans) → after_blank here ≡ after_blank rest → Goes text P s (spot here c d (suc (suc q)) (record st { node_spans = spans; node_names = names; procs = onto ps st.procs; proc_spans = line_spans })))
     → Goes text P (a_tree nonterminals.PROCS ∷ s) (spot here c d (suc (suc q)) st)
 unfolding ir named_rules
-procs_read text channels [] rest here c d q st said e s k = by_rule productions.PROCS__NONE refl (complete_then (k here c st.node_spans st.node_names st.proc_places e))
+procs_read text channels [] rest here c d q st said e s k = by_rule productions.PROCS__NONE refl (complete_then (k here c st.node_spans st.node_names st.proc_spans e))
 procs_read text channels (p ∷ ps) rest here c d q st said e s k =
     let lines = lines_text (map (proc_text channels) ps) in
     by_rule productions.PROCS__PROC refl

@@ -27,7 +27,7 @@ use Rattle.ir_tree.proofs.Lemmas.NodeTypes.IrTypes as ty_folds
 use Rattle.ir_builder.proofs.Lemmas.{top_has}
 use Rattle.ir_builder.specs.declared.rule.Rule.{Rule}
 use Rattle.ir_builder.specs.declared.rule.Rule.TheVariants.{Keep, Skip, Start, More, Name, Number, BitsElement, TokenElement, TupleElement, TypeOf, NumberValue, TupleValue, ArrayValue, StateOperand, NodeOperand, SomeOperand, NoOperand, PlainCall, SliceCall, DynamicCall, ExtendCall, SelCall, IndexCall, IndicesCall, LiteralCall, SiteChannel, SiteCall, ChannelId, Input, Output, Inner, ChannelOf, HeadOf, NodeOf, NextOf, ProcOf, PackageLine}
-use Rattle.ir_builder.specs.declared.builder.Placed.{Placed}
+use Rattle.ir_builder.specs.declared.builder.Spanned.{Spanned}
 use Rattle.ir_builder.specs.declared.state.Call.{Call}
 use Rattle.ir_builder.specs.declared.state.State.{State}
 use Rattle.ir_builder.specs.Building.{built, package_of, reduced, rule_of, shifted}
@@ -267,19 +267,19 @@ GivenVerified (Ok ir) = IsVerified ir
 GivenVerified (Err e) = Unit {0}
 
 given_in_range : (text : List ℕ) (given : Result Package ReadError) → GivesPackage text given → GivenInRange given
-given_in_range text _ (accepted placed is none) =
-    subst (λ (p : Placed). IsInRange p.tree) (sym is.reads.placed_is) (package_in_range (built (steps_of is.reads.forest) is.tokens empty) (built_in_range (steps_of is.reads.forest) is.tokens empty nothing_in_range))
+given_in_range text _ (accepted spanned is none) =
+    subst (λ (p : Spanned). IsInRange p.tree) (sym is.reads.spanned_is) (package_in_range (built (steps_of is.reads.forest) is.tokens empty) (built_in_range (steps_of is.reads.forest) is.tokens empty nothing_in_range))
 given_in_range text _ (cut_off at is) = tt
 given_in_range text _ (misplaced tokens at cut is) = tt
 given_in_range text _ (too_deep tokens limit cut is) = tt
-given_in_range text _ (faulty placed error is some) = tt
+given_in_range text _ (faulty spanned error is some) = tt
 
 given_verified : (text : List ℕ) (given : Result Package ReadError) → GivesPackage text given → GivenVerified given
-given_verified text _ (accepted placed is none) = verified_nowhere placed.tree placed.places none
+given_verified text _ (accepted spanned is none) = verified_nowhere spanned.tree spanned.line_spans none
 given_verified text _ (cut_off at is) = tt
 given_verified text _ (misplaced tokens at cut is) = tt
 given_verified text _ (too_deep tokens limit cut is) = tt
-given_verified text _ (faulty placed error is some) = tt
+given_verified text _ (faulty spanned error is some) = tt
 
 -- a package that was read is that of its printed text
 pub read_reads : (text : List ℕ) (ir : Package) → GivesPackage text (Ok ir) → length (package_text ir) < 2 ^ 32 → GivesPackage (package_text ir) (Ok ir)

@@ -2,19 +2,19 @@
 use Rattle.std.proofs.Common.{◌≡◌, ℕ, suc, true, List, [], ◌∷◌, ◌++◌, codes, Some, refl, sym, ap, subst, ◌∙◌}
 use Rattle.grammar.specs.declared.table.Symbol.{Symbol}
 use Rattle.grammar.specs.Derivation.{IsRule}
-use Rattle.xb_span.specs.declared.nesting.role.Role.{Role}
-use Rattle.xb_span.specs.declared.nesting.role.Role.TheVariants.{Open, Close, Plain}
+use Rattle.xb_span.specs.declared.nesting.bracket_class.BracketClass.{BracketClass}
+use Rattle.xb_span.specs.declared.nesting.bracket_class.BracketClass.TheVariants.{Open, Close, Plain}
 use Rattle.dslx_token.specs.Blank.{after_blank}
 use Rattle.ir_token.specs.declared.rules.generated.kind.TheConstants as kinds
 use Rattle.ir_token.specs.Rules.Ir.{ir}
-use Rattle.ir_token.specs.Fronts.{token_front}
+use Rattle.ir_token.specs.TokenPrefixes.{token_prefix}
 use Rattle.ir_token.specs.Kinds.{Context, ir_plain_kind, ir_word_kind, kind_in}
 use Rattle.ir_builder.specs.declared.state.State.{State}
 use Rattle.ir_builder.specs.Building.{reduced, rule_of}
-use Rattle.ir_text.specs.Parser.Roles.{role_of}
+use Rattle.ir_text.specs.Parser.BracketClasses.{role_of}
 use Rattle.ir_text.proofs.OnRoundTrip.Writable.{is_one_word}
-use Rattle.ir_text.proofs.OnRoundTrip.Walks.{Due, a_token, a_tree, complete, Goes, IsFront, Point, Turns, beyond, complete_then, due_of, opens, closes, rule_then, stays, token_then}
-use Rattle.ir_text.proofs.OnRoundTrip.Words.{ends_words, word_front}
+use Rattle.ir_text.proofs.OnRoundTrip.Walks.{Due, a_token, a_tree, complete, Goes, IsPrefix, Point, Turns, beyond, complete_then, due_of, opens, closes, rule_then, stays, token_then}
+use Rattle.ir_text.proofs.OnRoundTrip.Words.{ends_words, word_prefix}
 
 -- ---- where a walk stands
 
@@ -49,7 +49,7 @@ pub record Keyword (word : List ℕ) (kind : ℕ) : Type 0 where
 
 pub keyword_then : {text : List ℕ} {P : Point → Type 0} {a : Point} {s : List Due} {word : List ℕ} {kind : ℕ} → Keyword word kind → (rest : List ℕ) → after_blank a.rest ≡ word ++ rest → ends_words rest ≡ true → Goes text P s (beyond text a word rest kind a.depth a.room) → Goes text P (a_token kind ∷ s) a
 keyword_then {text} {P} {a} {s} {word} {kind} k rest e stop g =
-    token_then word rest a.depth a.room e (word_front word rest k.one stop) (ap (λ x. kind_in a.before x word) k.plain ∙ k.own a.before)
+    token_then word rest a.depth a.room e (word_prefix word rest k.one stop) (ap (λ x. kind_in a.before x word) k.plain ∙ k.own a.before)
     (subst (λ r. Turns r a.depth a.room a.depth a.room) (sym k.role) (stays a.depth a.room)) g
 
 pub the_package : Keyword (codes "package") kinds.PACKAGE
@@ -150,31 +150,31 @@ the_new_bit_count = record { one = refl; plain = refl; own = λ c. refl; role = 
 
 -- ---- marks
 
-pub record Mark (role : Role) (c kind : ℕ) : Type 0 where
+pub record Mark (role : BracketClass) (c kind : ℕ) : Type 0 where
   pub plain : ir_plain_kind (c ∷ []) ≡ kind
   pub own : (x : Context) → kind_in x kind (c ∷ []) ≡ kind
-  pub front : (rest : List ℕ) → token_front (c ∷ rest) ≡ Some 1
+  pub front : (rest : List ℕ) → token_prefix (c ∷ rest) ≡ Some 1
   pub turns : role_of kind ≡ role
 
-mark_front : {role : Role} {c kind : ℕ} → Mark role c kind → (rest : List ℕ) → IsFront (c ∷ []) rest
-mark_front m rest = record { some = λ e. cc; front = m.front rest }
+mark_prefix : {role : BracketClass} {c kind : ℕ} → Mark role c kind → (rest : List ℕ) → IsPrefix (c ∷ []) rest
+mark_prefix m rest = record { some = λ e. cc; front = m.front rest }
 
-mark_kind : {role : Role} {c kind : ℕ} (x : Context) → Mark role c kind → kind_in x (ir_plain_kind (c ∷ [])) (c ∷ []) ≡ kind
+mark_kind : {role : BracketClass} {c kind : ℕ} (x : Context) → Mark role c kind → kind_in x (ir_plain_kind (c ∷ [])) (c ∷ []) ≡ kind
 mark_kind {c = c} x m = ap (λ k. kind_in x k (c ∷ [])) m.plain ∙ m.own x
 
 pub mark_then : {text : List ℕ} {P : Point → Type 0} {a : Point} {s : List Due} {c kind : ℕ} → Mark Plain c kind → (rest : List ℕ) → after_blank a.rest ≡ c ∷ rest → Goes text P s (beyond text a (c ∷ []) rest kind a.depth a.room) → Goes text P (a_token kind ∷ s) a
 mark_then {text} {P} {a} {s} {c} {kind} m rest e g =
-    token_then (c ∷ []) rest a.depth a.room e (mark_front m rest) (mark_kind a.before m)
+    token_then (c ∷ []) rest a.depth a.room e (mark_prefix m rest) (mark_kind a.before m)
     (subst (λ r. Turns r a.depth a.room a.depth a.room) (sym m.turns) (stays a.depth a.room)) g
 
 pub open_then : {text : List ℕ} {P : Point → Type 0} {a : Point} {s : List Due} {c kind : ℕ} → Mark Open c kind → (rest : List ℕ) (room : ℕ) → a.room ≡ suc room → after_blank a.rest ≡ c ∷ rest → Goes text P s (beyond text a (c ∷ []) rest kind (suc a.depth) room) → Goes text P (a_token kind ∷ s) a
 open_then {text} {P} {a} {s} {c} {kind} m rest room more e g =
-    token_then (c ∷ []) rest (suc a.depth) room e (mark_front m rest) (mark_kind a.before m)
+    token_then (c ∷ []) rest (suc a.depth) room e (mark_prefix m rest) (mark_kind a.before m)
     (subst (λ r. Turns r a.depth a.room (suc a.depth) room) (sym m.turns) (subst (λ n. Turns Open a.depth n (suc a.depth) room) (sym more) (opens a.depth room))) g
 
 pub close_then : {text : List ℕ} {P : Point → Type 0} {a : Point} {s : List Due} {c kind : ℕ} → Mark Close c kind → (rest : List ℕ) (depth : ℕ) → a.depth ≡ suc depth → after_blank a.rest ≡ c ∷ rest → Goes text P s (beyond text a (c ∷ []) rest kind depth (suc a.room)) → Goes text P (a_token kind ∷ s) a
 close_then {text} {P} {a} {s} {c} {kind} m rest depth more e g =
-    token_then (c ∷ []) rest depth (suc a.room) e (mark_front m rest) (mark_kind a.before m)
+    token_then (c ∷ []) rest depth (suc a.room) e (mark_prefix m rest) (mark_kind a.before m)
     (subst (λ r. Turns r a.depth a.room depth (suc a.room)) (sym m.turns) (subst (λ n. Turns Close n a.room depth (suc a.room)) (sym more) (closes depth a.room))) g
 
 pub comma : Mark Plain 44 kinds.COMMA

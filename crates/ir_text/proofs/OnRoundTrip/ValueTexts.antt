@@ -24,7 +24,7 @@ use Rattle.ir_text.proofs.OnRoundTrip.Walks.{complete_then, Point}
 use Rattle.ir_text.proofs.OnRoundTrip.Words.{ends_words}
 use Rattle.ir_text.proofs.OnRoundTrip.Lists.{left_over, one_more, onto, taken}
 use Rattle.ir_text.proofs.OnRoundTrip.Steps.{Reads, by_rule, close_then, comma, complete_as, left_bracket, left_parenthesis, mark_then, open_then, right_bracket, right_parenthesis, spot}
-use Rattle.ir_text.proofs.OnRoundTrip.Numbers.{is_own_place, number_reads}
+use Rattle.ir_text.proofs.OnRoundTrip.Numbers.{is_own_span, number_reads}
 use Rattle.ir_text.proofs.OnRoundTrip.TypeTexts.{held_below, more_ends, short_below}
 
 -- ---- folds over constants
@@ -59,9 +59,9 @@ constant_nesting = fold-Constant ℕ constant_nesting_step
 
 abbrev pub ConstantReads : (Point → Type 0) → Constant → Type 0
 ConstantReads P v =
-    (text rest here : List ℕ) (c : Context) (d r : ℕ) (st : State) → constant_held v ≡ true → constant_nesting v ≤ r → ends_words rest ≡ true → after_blank here ≡ after_blank (constant_text v ++ rest) → is_own_place c ≡ false → Reads text P nonterminals.VALUE (spot here c d r st) rest (record st { constants = v ∷ st.constants })
+    (text rest here : List ℕ) (c : Context) (d r : ℕ) (st : State) → constant_held v ≡ true → constant_nesting v ≤ r → ends_words rest ≡ true → after_blank here ≡ after_blank (constant_text v ++ rest) → is_own_span c ≡ false → Reads text P nonterminals.VALUE (spot here c d r st) rest (record st { constants = v ∷ st.constants })
 
-number_at : {P : Point → Type 0} → (n : ℕ) (text rest here : List ℕ) (c : Context) (d r : ℕ) (st : State) → is_held n ≡ true → ends_words rest ≡ true → after_blank here ≡ after_blank (decimal n ++ rest) → is_own_place c ≡ false → Reads text P nonterminals.VALUE (spot here c d r st) rest (record st { constants = Number n ∷ st.constants })
+number_at : {P : Point → Type 0} → (n : ℕ) (text rest here : List ℕ) (c : Context) (d r : ℕ) (st : State) → is_held n ≡ true → ends_words rest ≡ true → after_blank here ≡ after_blank (decimal n ++ rest) → is_own_span c ≡ false → Reads text P nonterminals.VALUE (spot here c d r st) rest (record st { constants = Number n ∷ st.constants })
 unfolding ir named_rules
 number_at n text rest here c d r st held stop e free s k =
     by_rule productions.VALUE__NUMBER refl
@@ -81,7 +81,7 @@ more_values (v ∷ vs) each text rest here c d r st held few deep stop e s k =
     (ap (λ n. record st { constants = onto (v ∷ vs) st.constants; counts = n ∷ st.counts }) (one_more (length vs) few))
     (k here2 last2 second2 e2)))
 
-all_values : {P : Point → Type 0} → (vs : List Constant) → EachHas (ConstantReads P) vs → (text rest here : List ℕ) (c : Context) (d r : ℕ) (st : State) → all_true (map constant_held vs) ≡ true → length vs < 2 ^ 64 → max_of (map constant_nesting vs) ≤ r → ends_words rest ≡ true → after_blank here ≡ after_blank (listed [] (map constant_text vs) ++ rest) → is_own_place c ≡ false → Reads text P nonterminals.VALUES (spot here c d r st) rest (record st { constants = onto vs st.constants; counts = length vs ∷ st.counts })
+all_values : {P : Point → Type 0} → (vs : List Constant) → EachHas (ConstantReads P) vs → (text rest here : List ℕ) (c : Context) (d r : ℕ) (st : State) → all_true (map constant_held vs) ≡ true → length vs < 2 ^ 64 → max_of (map constant_nesting vs) ≤ r → ends_words rest ≡ true → after_blank here ≡ after_blank (listed [] (map constant_text vs) ++ rest) → is_own_span c ≡ false → Reads text P nonterminals.VALUES (spot here c d r st) rest (record st { constants = onto vs st.constants; counts = length vs ∷ st.counts })
 unfolding ir named_rules
 all_values [] each text rest here c d r st held few deep stop e free s k = by_rule productions.VALUES__NONE refl (complete_then (k here c.last c.second e))
 all_values (v ∷ vs) each text rest here c d r st held few deep stop e free s k =

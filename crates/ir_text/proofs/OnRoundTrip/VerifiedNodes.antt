@@ -5,7 +5,7 @@ use Rattle.std.specs.List.{list_all}
 use Rattle.std.proofs.lemmas.Bool.{and_parts}
 use Rattle.std.proofs.lemmas.Bool.Decides.{nat_tests}
 use Rattle.std.proofs.lemmas.List.{map-append}
-use Rattle.base.proofs.Lemmas.Lists.Places.{slice_get-append_left}
+use Rattle.base.proofs.Lemmas.Lists.Indices.{slice_get-append_left}
 use Rattle.xb_span.specs.declared.span.Span.{Span}
 use Rattle.delay_model.specs.declared.op.Op.{Op}
 use Rattle.delay_model.specs.declared.op.Op.TheVariants as op
@@ -29,7 +29,7 @@ use Rattle.ir_verify.specs.Verified.{nodes_checks, nowhere}
 use Rattle.ir_verify.specs.Typed.Typed.{none_broken}
 use Rattle.ir_verify.proofs.Lemmas.Typed.Checked.{both_true, not_not_true, parts_not}
 use Rattle.ir_text.specs.Printer.Parts.{node_name}
-use Rattle.ir_builder.specs.Named.{place_in}
+use Rattle.ir_builder.specs.Named.{index_in}
 use Rattle.ir_text.proofs.OnRoundTrip.Held.{attributes_held, is_short, node_held, type_held}
 use Rattle.ir_text.proofs.OnRoundTrip.Lists.{onto}
 use Rattle.ir_text.proofs.OnRoundTrip.OpWords.{ids_same}
@@ -38,7 +38,7 @@ use Rattle.ir_text.proofs.OnRoundTrip.Operands.{AreSaid, IsNamed, IsSaid, IsSaid
 use Rattle.ir_text.proofs.OnRoundTrip.Calls.{AttributesSaid, IsChannelNamed, attributes_nesting}
 use Rattle.ir_text.proofs.OnRoundTrip.NodeTexts.{AreNodesSaid, IsNodeSaid}
 use Rattle.ir_text.proofs.OnRoundTrip.Depths.{constant_flat, few_levels, type_flat}
-use Rattle.ir_text.proofs.OnRoundTrip.Places.{below_there, last_or, last_there, length_more, map_at, map_from, onto_more, placed, there_below}
+use Rattle.ir_text.proofs.OnRoundTrip.LineSpans.{below_there, last_or, last_there, length_more, map_at, map_from, onto_more, spanned, there_below}
 use Rattle.ir_text.proofs.OnRoundTrip.Classes.{class_fits}
 
 -- ---- ids rise
@@ -106,7 +106,7 @@ node_named nodes before rest names a place less =
     record {
       node = n;
       there = ap (λ ns. slice_get ns place) a.all ∙ slice_get-append_left before rest place less ∙ there.1;
-      named = ap (λ x. place_in x (node_name n)) a.stack ∙ placed (map node_name before) [] place (node_name n) (map_at node_name before place n there.1) (only b n there.1) ∙ ap Some (omega arith);
+      named = ap (λ x. index_in x (node_name n)) a.stack ∙ spanned (map node_name before) [] place (node_name n) (map_at node_name before place n there.1) (only b n there.1) ∙ ap Some (omega arith);
       small = omega (arith, low, id);
       id = id;
     }

@@ -16,7 +16,7 @@ use Rattle.ir_tree.specs.declared.package.Proc.{Proc}
 use Rattle.ir_tree.specs.Activations.{sites_of}
 use Rattle.ir_tree.specs.Networks.{chan_of}
 use Rattle.ir_tree.specs.Types.{ty_of}
-use Rattle.ir_verify.specs.declared.places.ProcPlaces.{ProcPlaces}
+use Rattle.ir_verify.specs.declared.line_spans.ProcSpans.{ProcSpans}
 use Rattle.ir_verify.specs.Checks.{Check, bounded}
 use Rattle.ir_tree.specs.NodeTypes.Constants.{constant_fits}
 use Rattle.ir_verify.specs.Fitting.{type_in, types_behind}
@@ -28,7 +28,7 @@ use Rattle.ir_verify.proofs.Lemmas.Typed.Checked.{both_true, none_noted, not_not
 use Rattle.ir_verify.proofs.Lemmas.Typed.{network_fits}
 use Rattle.ir_verify.proofs.Lemmas.Typed.Tests.{nat_same}
 use Rattle.ir_text.specs.Printer.Lines.{channel_text, lines_text, package_text, proc_text}
-use Rattle.ir_builder.specs.Building.{package_of, placed_of, places_of}
+use Rattle.ir_builder.specs.Building.{package_of, spanned_of, spans_of}
 use Rattle.ir_text.specs.Parser.Texts.{GivesPackage, accepted}
 use Rattle.ir_text.specs.RoundTrip.InRange.{IsInRange}
 use Rattle.ir_text.proofs.OnRoundTrip.Writable.{IsWritable, channel_writable, is_one_word, proc_writable, verified_writable}
@@ -40,7 +40,7 @@ use Rattle.ir_text.proofs.OnRoundTrip.TypeTexts.{short_below}
 use Rattle.ir_text.proofs.OnRoundTrip.ChannelTexts.{AreChannelsSaid, IsChannelSaid, IsDepthSaid, names_of}
 use Rattle.ir_text.proofs.OnRoundTrip.ProcTexts.{AreProcsSaid, IsEnd, IsPackageSaid, IsProcSaid, package_reads}
 use Rattle.ir_text.proofs.OnRoundTrip.Depths.{constant_flat, few_levels, type_flat}
-use Rattle.ir_text.proofs.OnRoundTrip.Places.{below_there, map_at, map_from, placed}
+use Rattle.ir_text.proofs.OnRoundTrip.LineSpans.{below_there, map_at, map_from, spanned}
 use Rattle.ir_text.proofs.OnRoundTrip.VerifiedNodes.{AreChannelsNamed, proc_nodes}
 use Rattle.ir_text.proofs.OnRoundTrip.Anywhere.{verified_there}
 
@@ -94,7 +94,7 @@ channels_named : (chs : List Channel) → length chs < 2 ^ 32 → list_all chann
 channels_named chs few held own place ch e = record {
   channel = ch;
   there = e;
-  named = placed (names_of chs) [] place ch.name (map_at (λ (x : Channel). x.name) chs place ch e) only ∙ ap Some (omega arith);
+  named = spanned (names_of chs) [] place ch.name (map_at (λ (x : Channel). x.name) chs place ch e) only ∙ ap Some (omega arith);
   small = let less = below_there chs place ch e in omega (arith, less, few);
   one = (and_parts (is_one_word ch.name) (type_held ch.ty) (each_held chs held place ch e)).0;
 }
@@ -111,24 +111,24 @@ own_channels ir h c d a b e f g =
 
 -- ---- procs
 
-proc_said : (channels : List Channel) (channel_names : List (List ℕ)) (places : ProcPlaces) (names : List (List ℕ)) (seen : Seen) (p : Proc) → AreChannelsNamed channels channel_names → IsTrue (none_broken (proc_checks channels places names seen p)) → proc_held p ≡ true → IsProcSaid channels channel_names [] 126 p
-proc_said channels channel_names places names seen p named h held =
-    let a = parts_not (head_checks places.head names p) _ h in
-    let b = parts_not (nodes_checks channels p.state places.nodes [] 0 (at_start seen) p.nodes) _ a.1 in
-    let c = parts_not (next_checks places.next p) (count_check (Passed places.end (record { what = what.Sites; found = 33; most = 32 })) 32 (length (sites_of p.nodes)) ∷ []) b.1 in
+proc_said : (channels : List Channel) (channel_names : List (List ℕ)) (line_spans : ProcSpans) (names : List (List ℕ)) (seen : Seen) (p : Proc) → AreChannelsNamed channels channel_names → IsTrue (none_broken (proc_checks channels line_spans names seen p)) → proc_held p ≡ true → IsProcSaid channels channel_names [] 126 p
+proc_said channels channel_names line_spans names seen p named h held =
+    let a = parts_not (head_checks line_spans.head names p) _ h in
+    let b = parts_not (nodes_checks channels p.state line_spans.nodes [] 0 (at_start seen) p.nodes) _ a.1 in
+    let c = parts_not (next_checks line_spans.next p) (count_check (Passed line_spans.end (record { what = what.Sites; found = 33; most = 32 })) 32 (length (sites_of p.nodes)) ∷ []) b.1 in
     let d = both_true (not (not (is_proc_named names p))) _ a.0 in
-    let e = both_true (not (not (is_state p))) (none_broken (type_limits places.head.to p.state 0)) d.1 in
+    let e = both_true (not (not (is_state p))) (none_broken (type_limits line_spans.head.to p.state 0)) d.1 in
     let state = both_true (marks_of p.state).sound (is_value_of p.state p.init) (not_not_true (is_state p) e.0) in
     let value = both_true (not (marks_of p.state).token) (constant_fits (ty_of p.state) p.init) state.1 in
     let next = both_true (not (not (is_there (length p.nodes) p.next))) (not (not (same_type p.state (type_in (types_behind p.state p.nodes) p.next))) && true) c.0 in
-    let levels = few_levels places.head.to p.state 0 (omega arith) e.1 in
+    let levels = few_levels line_spans.head.to p.state 0 (omega arith) e.1 in
     let flat = type_flat p.state in
     let deep = constant_flat p.state p.init value.1 in
     let first = and_parts (is_one_word p.name && (type_held p.state && constant_held p.init)) (list_all node_held p.nodes && is_short p.nodes) held in
     let one = and_parts (is_one_word p.name) (type_held p.state && constant_held p.init) first.0 in
     let two = and_parts (type_held p.state) (constant_held p.init) one.1 in
     let three = and_parts (list_all node_held p.nodes) (is_short p.nodes) first.1 in
-    let nodes = proc_nodes channels channel_names p.state places.nodes p.nodes (at_start seen) named b.0 three.0 in
+    let nodes = proc_nodes channels channel_names p.state line_spans.nodes p.nodes (at_start seen) named b.0 three.0 in
     record {
       one = one.0;
       state = two.0;
@@ -140,13 +140,13 @@ proc_said channels channel_names places names seen p named h held =
       next = nodes.operand p.next (not_not_true (is_there (length p.nodes) p.next) next.0);
     }
 
-procs_said : (channels : List Channel) (channel_names : List (List ℕ)) (places : List ProcPlaces) (names : List (List ℕ)) (place : ℕ) (seen : Seen) (ps : List Proc) → AreChannelsNamed channels channel_names → IsTrue (none_broken (procs_checks channels places names place seen ps)) → list_all proc_held ps ≡ true → AreProcsSaid channels channel_names [] 126 ps
-procs_said channels channel_names places names place seen [] named h held = tt
-procs_said channels channel_names places names place seen (p ∷ ps) named h held =
-    let parts = parts_not (proc_checks channels (get_or places place nowhere_proc) names seen p) (procs_checks channels places (names ++ p.name ∷ []) (suc place) (seen_after 0 (at_start seen) p.nodes) ps) h in
+procs_said : (channels : List Channel) (channel_names : List (List ℕ)) (line_spans : List ProcSpans) (names : List (List ℕ)) (place : ℕ) (seen : Seen) (ps : List Proc) → AreChannelsNamed channels channel_names → IsTrue (none_broken (procs_checks channels line_spans names place seen ps)) → list_all proc_held ps ≡ true → AreProcsSaid channels channel_names [] 126 ps
+procs_said channels channel_names line_spans names place seen [] named h held = tt
+procs_said channels channel_names line_spans names place seen (p ∷ ps) named h held =
+    let parts = parts_not (proc_checks channels (get_or line_spans place nowhere_proc) names seen p) (procs_checks channels line_spans (names ++ p.name ∷ []) (suc place) (seen_after 0 (at_start seen) p.nodes) ps) h in
     let held_parts = and_parts (proc_held p) (list_all proc_held ps) held in (
-      proc_said channels channel_names (get_or places place nowhere_proc) names seen p named parts.0 held_parts.0,
-      procs_said channels channel_names places (names ++ p.name ∷ []) (suc place) (seen_after 0 (at_start seen) p.nodes) ps named parts.1 held_parts.1,
+      proc_said channels channel_names (get_or line_spans place nowhere_proc) names seen p named parts.0 held_parts.0,
+      procs_said channels channel_names line_spans (names ++ p.name ∷ []) (suc place) (seen_after 0 (at_start seen) p.nodes) ps named parts.1 held_parts.1,
     )
 
 -- ---- packages
@@ -201,7 +201,7 @@ gives name channels p ps h r =
     let built = (r.last).state in
     let same : package_of built ≡ ir = (r.holds).1 in
     subst (λ x. GivesPackage (package_text ir) (Ok x)) same
-    (accepted (placed_of built) r.is (verified_there (package_of built) (places_of built) (subst IsVerified (sym same) h)))
+    (accepted (spanned_of built) r.is (verified_there (package_of built) (spans_of built) (subst IsVerified (sym same) h)))
 
 of_procs : (name : List ℕ) (channels : List Channel) (procs : List Proc) → IsVerified (record { name = name; channels = channels; procs = procs }) → IsWritable (record { name = name; channels = channels; procs = procs }) → IsBrief (package_text (record { name = name; channels = channels; procs = procs })) → GivesPackage (package_text (record { name = name; channels = channels; procs = procs })) (Ok (record { name = name; channels = channels; procs = procs }))
 of_procs name channels [] h writable brief =

@@ -13,24 +13,24 @@ use Rattle.grammar.specs.Steps.{steps_of}
 use Rattle.grammar.specs.Tree.{Forest, Grows, leaves_of, productions_of}
 use Rattle.grammar.specs.Tree.Forest.{nothing, token, node}
 use Rattle.grammar.specs.Tree.Grows.{empty, leaf, branch}
-use Rattle.xb_span.specs.declared.nesting.role.Role.{Role}
-use Rattle.xb_span.specs.declared.nesting.role.Role.TheVariants.{Open, Close, Plain}
+use Rattle.xb_span.specs.declared.nesting.bracket_class.BracketClass.{BracketClass}
+use Rattle.xb_span.specs.declared.nesting.bracket_class.BracketClass.TheVariants.{Open, Close, Plain}
 use Rattle.xb_span.specs.Nesting.Nesting.{Around, depth_of, is_past, nestings_from}
 use Rattle.dslx_token.specs.Blank.{after_blank}
 use Rattle.dslx_token.specs.Lexeme.{Lexeme}
-use Rattle.dslx_token.specs.Tokens.{place_of}
+use Rattle.dslx_token.specs.Tokens.{offset_of}
 use Rattle.ir_token.specs.declared.rules.generated.kind.TheConstants as kinds
 use Rattle.ir_token.specs.declared.rules.generated.nonterminal.TheConstants as nonterminals
 use Rattle.ir_token.specs.Rules.Ir.{ir}
-use Rattle.ir_token.specs.Fronts.{token_front}
+use Rattle.ir_token.specs.TokenPrefixes.{token_prefix}
 use Rattle.ir_token.specs.Kinds.{Context, context_behind, ir_plain_kind, kind_in, no_context, settled_in}
 use Rattle.ir_token.specs.Tokens.{ir_lexeme_at, IsCutInto}
 use Rattle.ir_token.specs.Tokens.IsCutInto.{ends, goes}
 use Rattle.ir_builder.specs.declared.state.State.{State}
-use Rattle.ir_builder.specs.Building.{built, placed_of, reduced, rule_of, shifted}
+use Rattle.ir_builder.specs.Building.{built, spanned_of, reduced, rule_of, shifted}
 use Rattle.ir_builder.specs.Empty.{empty as nothing_built}
-use Rattle.ir_text.specs.Parser.Reads.{kinds_of, roles_of}
-use Rattle.ir_text.specs.Parser.Roles.{role_of}
+use Rattle.ir_text.specs.Parser.Reads.{kinds_of, bracket_classes_of}
+use Rattle.ir_text.specs.Parser.BracketClasses.{role_of}
 use Rattle.ir_text.specs.Parser.Texts.{IsIrTextOf}
 
 -- ---- walks
@@ -56,22 +56,22 @@ due_of (Terminal kind ∷ s) = a_token kind ∷ due_of s
 due_of (Nonterminal n ∷ s) = a_tree n ∷ due_of s
 
 -- what a token does to the numbers of brackets that are open and that may be opened
-pub data Turns : Role → ℕ → ℕ → ℕ → ℕ → Type 0 where
+pub data Turns : BracketClass → ℕ → ℕ → ℕ → ℕ → Type 0 where
   opens : (depth room : ℕ) → Turns Open depth (suc room) (suc depth) room
   closes : (depth room : ℕ) → Turns Close (suc depth) room depth (suc room)
   stays : (depth room : ℕ) → Turns Plain depth room depth room
 
 -- the word is the token at the front of a text with this rest behind it
-pub record IsFront (word behind : List ℕ) : Type 0 where
+pub record IsPrefix (word behind : List ℕ) : Type 0 where
   pub some : word ≢ []
-  pub front : token_front (word ++ behind) ≡ Some (length word)
+  pub front : token_prefix (word ++ behind) ≡ Some (length word)
 
 -- the number's rule rewrites the nonterminal to the body
 pub record HasRule (number head : ℕ) (body : List Symbol) : Type 0 where
   pub rule : IsRule ir.rules number head body
 
 abbrev pub lexeme_of : List ℕ → List ℕ → List ℕ → ℕ → Lexeme
-lexeme_of text word behind kind = record (ir_lexeme_at (place_of text (word ++ behind)) word) { kind = kind }
+lexeme_of text word behind kind = record (ir_lexeme_at (offset_of text (word ++ behind)) word) { kind = kind }
 
 -- the place behind a token
 abbrev pub beyond : List ℕ → Point → List ℕ → List ℕ → ℕ → ℕ → ℕ → Point
@@ -89,7 +89,7 @@ completed number a = record a { state = reduced (rule_of number) a.state }
 -- From a place on the text has what is due, and that leads to a place of which the claim holds.
 pub data Goes (text : List ℕ) (P : Point → Type 0) : List Due → Point → Type 0 where
   at_once : {a : Point} → P a → Goes text P [] a
-  token_then : {a : Point} {kind : ℕ} {s : List Due} (word behind : List ℕ) (depth room : ℕ) → after_blank a.rest ≡ word ++ behind → IsFront word behind → kind_in a.before (ir_plain_kind word) word ≡ kind → Turns (role_of kind) a.depth a.room depth room → Goes text P s (beyond text a word behind kind depth room) → Goes text P (a_token kind ∷ s) a
+  token_then : {a : Point} {kind : ℕ} {s : List Due} (word behind : List ℕ) (depth room : ℕ) → after_blank a.rest ≡ word ++ behind → IsPrefix word behind → kind_in a.before (ir_plain_kind word) word ≡ kind → Turns (role_of kind) a.depth a.room depth room → Goes text P s (beyond text a word behind kind depth room) → Goes text P (a_token kind ∷ s) a
   rule_then : {a : Point} {number head : ℕ} {body : List Symbol} {s : List Due} → HasRule number head body → Goes text P (due_of body ++ complete number ∷ s) a → Goes text P (a_tree head ∷ s) a
   complete_then : {a : Point} {number : ℕ} {s : List Due} → Goes text P s (completed number a) → Goes text P (complete number ∷ s) a
 
@@ -181,40 +181,40 @@ depth_past depth room level =
     let none = sum_zeros depth in
     not_past (depth_of (around depth)) (omega (arith, some, none, level))
 
-abbrev NonePast : ℕ → List Role → Type 0
-NonePast depth roles = (i : ℕ) → position_from is_past i (nestings_from (around depth) roles) ≡ None
+abbrev NonePast : ℕ → List BracketClass → Type 0
+NonePast depth bracket_classes = (i : ℕ) → position_from is_past i (nestings_from (around depth) bracket_classes) ≡ None
 
-turned : (role : Role) (depth room later left : ℕ) → Turns role depth room later left → depth + room ≡ 128 → (roles : List Role) → NonePast later roles → NonePast depth (role ∷ roles)
+turned : (role : BracketClass) (depth room later left : ℕ) → Turns role depth room later left → depth + room ≡ 128 → (bracket_classes : List BracketClass) → NonePast later bracket_classes → NonePast depth (role ∷ bracket_classes)
 unfolding zeros
-turned role depth room later left (opens d r) level roles none i = cond-false _ (Some i) _ (depth_past d (suc r) level) ∙ none (i + 1)
-turned role depth room later left (closes d r) level roles none i = cond-false _ (Some i) _ (depth_past (suc d) r level) ∙ none (i + 1)
-turned role depth room later left (stays d r) level roles none i = cond-false _ (Some i) _ (depth_past d r level) ∙ none (i + 1)
+turned role depth room later left (opens d r) level bracket_classes none i = cond-false _ (Some i) _ (depth_past d (suc r) level) ∙ none (i + 1)
+turned role depth room later left (closes d r) level bracket_classes none i = cond-false _ (Some i) _ (depth_past (suc d) r level) ∙ none (i + 1)
+turned role depth room later left (stays d r) level bracket_classes none i = cond-false _ (Some i) _ (depth_past d r level) ∙ none (i + 1)
 
-levelled : (role : Role) (depth room later left : ℕ) → Turns role depth room later left → depth + room ≡ 128 → later + left ≡ 128
+levelled : (role : BracketClass) (depth room later left : ℕ) → Turns role depth room later left → depth + room ≡ 128 → later + left ≡ 128
 levelled role depth room later left (opens d r) level = omega arith
 levelled role depth room later left (closes d r) level = omega arith
 levelled role depth room later left (stays d r) level = level
 
 -- ---- tokens
 
-take_front : (a b : List ℕ) → take (length a) (a ++ b) ≡ a
-take_front [] b = refl
-take_front (x ∷ xs) b = ap (λ t. x ∷ t) (take_front xs b)
+take_prefix : (a b : List ℕ) → take (length a) (a ++ b) ≡ a
+take_prefix [] b = refl
+take_prefix (x ∷ xs) b = ap (λ t. x ∷ t) (take_prefix xs b)
 
-drop_front : (a b : List ℕ) → drop (length a) (a ++ b) ≡ b
-drop_front [] b = refl
-drop_front (x ∷ xs) b = drop_front xs b
+drop_prefix : (a b : List ℕ) → drop (length a) (a ++ b) ≡ b
+drop_prefix [] b = refl
+drop_prefix (x ∷ xs) b = drop_prefix xs b
 
 none_before : (a b : List ℕ) → a ++ b ≡ [] → a ≡ []
 none_before [] b e = refl
 none_before (x ∷ xs) b e = absurd (cc)
 
-cut_word : (text rest word behind : List ℕ) (more : List Lexeme) → after_blank rest ≡ word ++ behind → IsFront word behind → IsCutInto text behind more → IsCutInto text rest (ir_lexeme_at (place_of text (word ++ behind)) word ∷ more)
+cut_word : (text rest word behind : List ℕ) (more : List Lexeme) → after_blank rest ≡ word ++ behind → IsPrefix word behind → IsCutInto text behind more → IsCutInto text rest (ir_lexeme_at (offset_of text (word ++ behind)) word ∷ more)
 cut_word text rest word behind more e front cut =
-    subst (λ w. IsCutInto text rest (ir_lexeme_at (place_of text (word ++ behind)) w ∷ more)) (take_front word behind)
-    (subst (λ x. IsCutInto text rest (ir_lexeme_at (place_of text x) (take (length word) x) ∷ more)) e
-    (goes rest (length word) more (λ none. front.some (none_before word behind (sym e ∙ none))) (ap token_front e ∙ front.front)
-    (subst (λ x. IsCutInto text x more) (sym (ap (drop (length word)) e ∙ drop_front word behind)) cut)))
+    subst (λ w. IsCutInto text rest (ir_lexeme_at (offset_of text (word ++ behind)) w ∷ more)) (take_prefix word behind)
+    (subst (λ x. IsCutInto text rest (ir_lexeme_at (offset_of text x) (take (length word) x) ∷ more)) e
+    (goes rest (length word) more (λ none. front.some (none_before word behind (sym e ∙ none))) (ap token_prefix e ∙ front.front)
+    (subst (λ x. IsCutInto text x more) (sym (ap (drop (length word)) e ∙ drop_prefix word behind)) cut)))
 
 -- ---- a walk is a derivation, and what it builds is what the derivation's steps build
 
@@ -236,25 +236,25 @@ record Walked (text : List ℕ) (P : Point → Type 0) (s : List Due) (a : Point
   kinds : kinds_of (settled_in a.before plain) ≡ leaves_along s trees ++ kinds_of (settled_in last.before (mark text ∷ []))
   builds : (steps : List Step) → built (steps_along s trees ++ steps) (settled_in a.before plain) a.state ≡ built steps (settled_in last.before (mark text ∷ [])) last.state
   level : a.depth + a.room ≡ 128 → last.depth + last.room ≡ 128
-  shallow : a.depth + a.room ≡ 128 → NonePast last.depth (roles_of (settled_in last.before (mark text ∷ []))) → NonePast a.depth (roles_of (settled_in a.before plain))
+  shallow : a.depth + a.room ≡ 128 → NonePast last.depth (bracket_classes_of (settled_in last.before (mark text ∷ []))) → NonePast a.depth (bracket_classes_of (settled_in a.before plain))
 
-own_walked : (text : List ℕ) (P : Point → Type 0) (s : List Due) (a : Point) (word behind : List ℕ) (depth room : ℕ) → after_blank a.rest ≡ word ++ behind → IsFront word behind → Turns (role_of (kind_in a.before (ir_plain_kind word) word)) a.depth a.room depth room → Walked text P s (beyond text a word behind (kind_in a.before (ir_plain_kind word) word) depth room) → Walked text P (a_token (kind_in a.before (ir_plain_kind word) word) ∷ s) a
+own_walked : (text : List ℕ) (P : Point → Type 0) (s : List Due) (a : Point) (word behind : List ℕ) (depth room : ℕ) → after_blank a.rest ≡ word ++ behind → IsPrefix word behind → Turns (role_of (kind_in a.before (ir_plain_kind word) word)) a.depth a.room depth room → Walked text P s (beyond text a word behind (kind_in a.before (ir_plain_kind word) word) depth room) → Walked text P (a_token (kind_in a.before (ir_plain_kind word) word) ∷ s) a
 unfolding built
 own_walked text P s a word behind depth room e front turns w =
     let kind = kind_in a.before (ir_plain_kind word) word in
     record {
       last = w.last;
       holds = w.holds;
-      plain = ir_lexeme_at (place_of text (word ++ behind)) word ∷ w.plain;
+      plain = ir_lexeme_at (offset_of text (word ++ behind)) word ∷ w.plain;
       trees = w.trees;
       cut = cut_word text a.rest word behind w.plain e front w.cut;
       kinds = ap (λ ks. kind ∷ ks) w.kinds;
       builds = λ steps. w.builds steps;
       level = λ level. w.level (levelled (role_of kind) a.depth a.room depth room turns level);
-      shallow = λ level none. turned (role_of kind) a.depth a.room depth room turns level (roles_of (settled_in (context_behind a.before kind word) w.plain)) (w.shallow (levelled (role_of kind) a.depth a.room depth room turns level) none);
+      shallow = λ level none. turned (role_of kind) a.depth a.room depth room turns level (bracket_classes_of (settled_in (context_behind a.before kind word) w.plain)) (w.shallow (levelled (role_of kind) a.depth a.room depth room turns level) none);
     }
 
-token_walked : (text : List ℕ) (P : Point → Type 0) (s : List Due) (a : Point) (kind : ℕ) (word behind : List ℕ) (depth room : ℕ) → after_blank a.rest ≡ word ++ behind → IsFront word behind → kind_in a.before (ir_plain_kind word) word ≡ kind → Turns (role_of kind) a.depth a.room depth room → Walked text P s (beyond text a word behind kind depth room) → Walked text P (a_token kind ∷ s) a
+token_walked : (text : List ℕ) (P : Point → Type 0) (s : List Due) (a : Point) (kind : ℕ) (word behind : List ℕ) (depth room : ℕ) → after_blank a.rest ≡ word ++ behind → IsPrefix word behind → kind_in a.before (ir_plain_kind word) word ≡ kind → Turns (role_of kind) a.depth a.room depth room → Walked text P s (beyond text a word behind kind depth room) → Walked text P (a_token kind ∷ s) a
 token_walked text P s a kind word behind depth room e front own =
     subst (λ k. Turns (role_of k) a.depth a.room depth room → Walked text P s (beyond text a word behind k depth room) → Walked text P (a_token k ∷ s) a) own
     (own_walked text P s a word behind depth room e front)
@@ -311,16 +311,16 @@ walked {text} {P} blank (complete_then {a = a} {number = number} {s = s} g) = co
 
 -- ---- a whole text
 
-end_shallow : (text : List ℕ) (b : Point) → b.depth + b.room ≡ 128 → NonePast b.depth (roles_of (settled_in b.before (mark text ∷ [])))
+end_shallow : (text : List ℕ) (b : Point) → b.depth + b.room ≡ 128 → NonePast b.depth (bracket_classes_of (settled_in b.before (mark text ∷ [])))
 end_shallow text b level = turned Plain b.depth b.room b.depth b.room (stays b.depth b.room) level [] (λ i. refl)
 
 -- the text is what was built where the walk ended
 pub record IsReadTo (text : List ℕ) (P : Point → Type 0) : Type 0 where
   pub last : Point
   pub holds : P last
-  pub is : IsIrTextOf text (placed_of last.state)
+  pub is : IsIrTextOf text (spanned_of last.state)
 
-reads_to : (text : List ℕ) (P : Point → Type 0) → (w : Walked text P (a_tree nonterminals.PACKAGE ∷ []) (beginning text)) → IsIrTextOf text (placed_of (w.last).state)
+reads_to : (text : List ℕ) (P : Point → Type 0) → (w : Walked text P (a_tree nonterminals.PACKAGE ∷ []) (beginning text)) → IsIrTextOf text (spanned_of (w.last).state)
 unfolding built ir zeros
 reads_to text P w =
     let t = (w.trees).0 in
@@ -337,7 +337,7 @@ reads_to text P w =
           productions = refl;
           tokens = ap (λ ks. ks ++ kinds.END ∷ []) (sym (append-nil (leaves_of t.below))) ∙ sym w.kinds;
         };
-        placed_is = sym (ap (λ ss. placed_of (built ss tokens nothing_built)) (sym (append_assoc (steps_of t.below) (Reduce t.number ∷ []) (Shift ∷ []))) ∙ ap placed_of (w.builds (Shift ∷ [])));
+        spanned_is = sym (ap (λ ss. spanned_of (built ss tokens nothing_built)) (sym (append_assoc (steps_of t.below) (Reduce t.number ∷ []) (Shift ∷ []))) ∙ ap spanned_of (w.builds (Shift ∷ [])));
       };
       shallow = w.shallow refl (end_shallow text w.last (w.level refl)) 0;
     }

@@ -12,10 +12,10 @@ use Rattle.base.specs.Texts.Words.{begins_word, is_word_byte}
 use Rattle.dslx_token.specs.Blank.{after_blank}
 use Rattle.dslx_token.specs.Characters.{is_white}
 use Rattle.ir_token.specs.declared.rules.generated.kind.TheConstants as kinds
-use Rattle.ir_token.specs.Fronts.{begins_hexadecimal, digits_len, name_len, number_front, token_front, value_of_number, word_goes_on}
+use Rattle.ir_token.specs.TokenPrefixes.{begins_hexadecimal, digits_len, name_len, number_prefix, token_prefix, value_of_number, word_goes_on}
 use Rattle.ir_token.specs.Kinds.{ir_number_kind, ir_plain_kind, is_id}
 use Rattle.ir_text.proofs.OnRoundTrip.Writable.{is_one_word}
-use Rattle.ir_text.proofs.OnRoundTrip.Walks.{IsFront}
+use Rattle.ir_text.proofs.OnRoundTrip.Walks.{IsPrefix}
 
 -- ---- where words and numbers end
 
@@ -82,9 +82,9 @@ word_shown (c ∷ cs) rest h =
     shown_after c (cs ++ rest) (not_white c parts.0) (not_slash c parts.0)
 
 -- a word is the token before what ends words
-pub word_front : (word rest : List ℕ) → is_one_word word ≡ true → ends_words rest ≡ true → IsFront word rest
-word_front [] rest h stop = absurd (cc)
-word_front (c ∷ cs) rest h stop =
+pub word_prefix : (word rest : List ℕ) → is_one_word word ≡ true → ends_words rest ≡ true → IsPrefix word rest
+word_prefix [] rest h stop = absurd (cc)
+word_prefix (c ∷ cs) rest h stop =
     let parts = and_parts (begins_word c) (name_len (c ∷ cs) == suc (length cs)) h in
     let len = eqb-true (name_len (c ∷ cs)) (suc (length cs)) parts.1 in
     record {
@@ -182,9 +182,9 @@ digits_before (d ∷ ds) rest all stop =
     let more = digits_before ds rest parts.1 stop in
     cond-true (is_ascii_digit d) (1 + prefix_len is_ascii_digit (ds ++ rest)) 0 parts.0 ∙ omega (arith, more)
 
-take_all_front : (a b : List ℕ) → take (length a) (a ++ b) ≡ a
-take_all_front [] b = refl
-take_all_front (x ∷ xs) b = ap (λ t. x ∷ t) (take_all_front xs b)
+take_all_prefix : (a b : List ℕ) → take (length a) (a ++ b) ≡ a
+take_all_prefix [] b = refl
+take_all_prefix (x ∷ xs) b = ap (λ t. x ∷ t) (take_all_prefix xs b)
 
 -- a number is not blank
 pub number_shown : (n : ℕ) (rest : List ℕ) → n < 2 ^ 128 → after_blank (decimal n ++ rest) ≡ decimal n ++ rest
@@ -207,26 +207,26 @@ plain_len n digits rest are stop =
     (subst (λ ds. begins_hexadecimal (ds ++ rest) ≡ false) (sym are.is) (not_hexadecimal are.first are.others rest are.all stop))
     ∙ digits_before digits rest (subst (λ ds. list_all is_ascii_digit ds ≡ true) (sym are.is) (and_from _ _ are.digit are.all)) stop
 
-below_front : (n : ℕ) (text : List ℕ) (len : ℕ) → digits_len text ≡ len → value_of_number (take len text) ≡ n → n < 2 ^ 128 → number_front text ≡ Some len
-below_front n text len e v h =
+below_prefix : (n : ℕ) (text : List ℕ) (len : ℕ) → digits_len text ≡ len → value_of_number (take len text) ≡ n → n < 2 ^ 128 → number_prefix text ≡ Some len
+below_prefix n text len e v h =
     let value : value_of_number (take (digits_len text) text) ≡ n = ap (λ k. value_of_number (take k text)) e ∙ v in
     let below : nat_lt (value_of_number (take (digits_len text) text)) (2 ^ 128) ≡ true = grind (arith, nat_tests) in
     cond-true _ (Some (digits_len text)) None below ∙ ap Some e
 
-digit_front : (first : ℕ) (cs : List ℕ) (len : ℕ) → is_ascii_digit first ≡ true → number_front (first ∷ cs) ≡ Some len → token_front (first ∷ cs) ≡ Some len
-digit_front first cs len digit e = cond-false (begins_word first) _ _ (digit_no_word first digit) ∙ (cond-true (is_ascii_digit first) _ _ digit ∙ e)
+digit_prefix : (first : ℕ) (cs : List ℕ) (len : ℕ) → is_ascii_digit first ≡ true → number_prefix (first ∷ cs) ≡ Some len → token_prefix (first ∷ cs) ≡ Some len
+digit_prefix first cs len digit e = cond-false (begins_word first) _ _ (digit_no_word first digit) ∙ (cond-true (is_ascii_digit first) _ _ digit ∙ e)
 
 -- a number is the token before what ends numbers
-pub number_front_is : (n : ℕ) (rest : List ℕ) → n < 2 ^ 128 → ends_words rest ≡ true → IsFront (decimal n) rest
-number_front_is n rest h stop =
+pub number_prefix_is : (n : ℕ) (rest : List ℕ) → n < 2 ^ 128 → ends_words rest ≡ true → IsPrefix (decimal n) rest
+number_prefix_is n rest h stop =
     let are = digits_of_decimal n h in
     let len = plain_len n (decimal n) rest are stop in
-    let value : value_of_number (take (length (decimal n)) (decimal n ++ rest)) ≡ n = ap value_of_number (take_all_front (decimal n) rest) ∙ number_value n h in
-    let found : number_front (decimal n ++ rest) ≡ Some (length (decimal n)) = below_front n (decimal n ++ rest) (length (decimal n)) len value h in
+    let value : value_of_number (take (length (decimal n)) (decimal n ++ rest)) ≡ n = ap value_of_number (take_all_prefix (decimal n) rest) ∙ number_value n h in
+    let found : number_prefix (decimal n ++ rest) ≡ Some (length (decimal n)) = below_prefix n (decimal n ++ rest) (length (decimal n)) len value h in
     record {
       some = λ none. (let e : are.first ∷ are.others ≡ [] = sym are.is ∙ none in cc);
-      front = subst (λ ds. number_front (ds ++ rest) ≡ Some (length (decimal n)) → token_front (ds ++ rest) ≡ Some (length (decimal n))) (sym are.is)
-          (λ e. digit_front are.first (are.others ++ rest) (length (decimal n)) are.digit e) found;
+      front = subst (λ ds. number_prefix (ds ++ rest) ≡ Some (length (decimal n)) → token_prefix (ds ++ rest) ≡ Some (length (decimal n))) (sym are.is)
+          (λ e. digit_prefix are.first (are.others ++ rest) (length (decimal n)) are.digit e) found;
     }
 
 -- its kind by itself

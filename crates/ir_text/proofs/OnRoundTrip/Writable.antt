@@ -9,11 +9,11 @@ use Rattle.xb_span.specs.declared.fault.Fault.TheVariants.{Passed}
 use Rattle.xb_span.specs.declared.limit.What.TheVariants as what
 use Rattle.xb_span.specs.declared.span.Span.{Span}
 use Rattle.base.specs.Texts.Words.{begins_word}
-use Rattle.ir_token.specs.Fronts.{name_len, word_goes_on}
+use Rattle.ir_token.specs.TokenPrefixes.{name_len, word_goes_on}
 use Rattle.ir_tree.specs.declared.package.Channel.{Channel}
 use Rattle.ir_tree.specs.declared.package.Package.{Package}
 use Rattle.ir_tree.specs.declared.package.Proc.{Proc}
-use Rattle.ir_verify.specs.declared.places.ProcPlaces.{ProcPlaces}
+use Rattle.ir_verify.specs.declared.line_spans.ProcSpans.{ProcSpans}
 use Rattle.ir_verify.specs.Checks.{Check}
 use Rattle.ir_verify.specs.Lines.{Seen, all_go_on, channel_checks, head_checks, is_among, is_channel_named, is_name, is_named_well, is_package_named, is_plain, is_proc_named, is_some_proc, package_checks}
 use Rattle.ir_verify.specs.Verified.{IsVerified, at_start, channels_checks, checks_of, count_check, first_fault, nothing_seen, nowhere, nowhere_at_all, nowhere_proc, proc_checks, procs_checks, seen_after}
@@ -76,9 +76,9 @@ channels_written spans names place (ch ∷ chs) h range =
     and_true (channel_writable ch) (list_all channel_writable chs) (channel_written (get_or spans place nowhere) names place ch parts.0 ranges.0)
     (channels_written spans (names ++ ch.name ∷ []) (suc place) chs parts.1 ranges.1)
 
-proc_written : (channels : List Channel) (places : ProcPlaces) (names : List (List ℕ)) (seen : Seen) (p : Proc) → IsTrue (none_broken (proc_checks channels places names seen p)) → IsTrue (proc_in_range p) → IsTrue (proc_writable p)
-proc_written channels places names seen p h range =
-    let a = parts_not (head_checks places.head names p) _ h in
+proc_written : (channels : List Channel) (line_spans : ProcSpans) (names : List (List ℕ)) (seen : Seen) (p : Proc) → IsTrue (none_broken (proc_checks channels line_spans names seen p)) → IsTrue (proc_in_range p) → IsTrue (proc_writable p)
+proc_written channels line_spans names seen p h range =
+    let a = parts_not (head_checks line_spans.head names p) _ h in
     let b = both_true (not (not (is_proc_named names p))) _ a.0 in
     let c = both_true (not (is_among names p.name)) (is_name p.name) (not_not_true (is_proc_named names p) b.0) in
     let ranges = and_parts (type_in_range p.state && constant_in_range p.init) (list_all node_in_range p.nodes) range in
@@ -86,13 +86,13 @@ proc_written channels places names seen p h range =
     (and_true (is_one_word p.name) (type_in_range p.state && constant_in_range p.init) (one_word p.name c.1) ranges.0)
     ranges.1
 
-procs_written : (channels : List Channel) (places : List ProcPlaces) (names : List (List ℕ)) (place : ℕ) (seen : Seen) (ps : List Proc) → IsTrue (none_broken (procs_checks channels places names place seen ps)) → IsTrue (list_all proc_in_range ps) → IsTrue (list_all proc_writable ps)
-procs_written channels places names place seen [] h range = refl
-procs_written channels places names place seen (p ∷ ps) h range =
-    let parts = parts_not (proc_checks channels (get_or places place nowhere_proc) names seen p) (procs_checks channels places (names ++ p.name ∷ []) (suc place) (seen_after 0 (at_start seen) p.nodes) ps) h in
+procs_written : (channels : List Channel) (line_spans : List ProcSpans) (names : List (List ℕ)) (place : ℕ) (seen : Seen) (ps : List Proc) → IsTrue (none_broken (procs_checks channels line_spans names place seen ps)) → IsTrue (list_all proc_in_range ps) → IsTrue (list_all proc_writable ps)
+procs_written channels line_spans names place seen [] h range = refl
+procs_written channels line_spans names place seen (p ∷ ps) h range =
+    let parts = parts_not (proc_checks channels (get_or line_spans place nowhere_proc) names seen p) (procs_checks channels line_spans (names ++ p.name ∷ []) (suc place) (seen_after 0 (at_start seen) p.nodes) ps) h in
     let ranges = and_parts (proc_in_range p) (list_all proc_in_range ps) range in
-    and_true (proc_writable p) (list_all proc_writable ps) (proc_written channels (get_or places place nowhere_proc) names seen p parts.0 ranges.0)
-    (procs_written channels places (names ++ p.name ∷ []) (suc place) (seen_after 0 (at_start seen) p.nodes) ps parts.1 ranges.1)
+    and_true (proc_writable p) (list_all proc_writable ps) (proc_written channels (get_or line_spans place nowhere_proc) names seen p parts.0 ranges.0)
+    (procs_written channels line_spans (names ++ p.name ∷ []) (suc place) (seen_after 0 (at_start seen) p.nodes) ps parts.1 ranges.1)
 
 -- ---- packages
 

@@ -8,20 +8,20 @@ use Rattle.xb_span.specs.Fault.{error_of}
 use Rattle.xb_span.specs.declared.limit.Limit.{Limit}
 use Rattle.xb_span.specs.declared.read_error.ReadError.{ReadError}
 use Rattle.xb_span.specs.declared.read_error.ReadError.TheVariants.{Syntax, Over}
-use Rattle.ir_builder.specs.declared.builder.Placed.{Placed}
+use Rattle.ir_builder.specs.declared.builder.Spanned.{Spanned}
 use Rattle.ir_text.specs.Parser.Reads.{AreDeep, AreShallow, IsMisplaced, Reads}
 
 -- the text is this package, whose lines stand there; it may break rules and pass limits
-pub record IsIrTextOf (text : List ℕ) (placed : Placed) : Type 0 where
+pub record IsIrTextOf (text : List ℕ) (spanned : Spanned) : Type 0 where
   pub tokens : List Lexeme
   pub cut : AreIrTokens text tokens
-  pub reads : Reads tokens placed
+  pub reads : Reads tokens spanned
   pub shallow : AreShallow tokens
 
 -- What a text gives, but for want of memory: its package, or the one cause of its refusal.
 pub data GivesPackage (text : List ℕ) : Result Package ReadError → Type 0 where
   -- no rule is broken, and no limit is passed
-  accepted : (placed : Placed) → IsIrTextOf text placed → first_fault placed.tree placed.places ≡ None → GivesPackage text (Ok placed.tree)
+  accepted : (spanned : Spanned) → IsIrTextOf text spanned → first_fault spanned.tree spanned.line_spans ≡ None → GivesPackage text (Ok spanned.tree)
   -- a character begins no token
   cut_off : (at : ℕ) → IsCutOffAt text text at → GivesPackage text (Err (Syntax at))
   -- a token stands where no text of the grammar goes on so
@@ -29,4 +29,4 @@ pub data GivesPackage (text : List ℕ) : Result Package ReadError → Type 0 wh
   -- a token is nested too deep
   too_deep : (tokens : List Lexeme) (limit : Limit) → AreIrTokens text tokens → AreDeep tokens limit → GivesPackage text (Err (Over limit))
   -- the first rule that is broken, or limit that is passed
-  faulty : (placed : Placed) (error : ReadError) → IsIrTextOf text placed → option_map error_of (first_fault placed.tree placed.places) ≡ Some error → GivesPackage text (Err error)
+  faulty : (spanned : Spanned) (error : ReadError) → IsIrTextOf text spanned → option_map error_of (first_fault spanned.tree spanned.line_spans) ≡ Some error → GivesPackage text (Err error)

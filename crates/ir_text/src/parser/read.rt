@@ -9,7 +9,7 @@ ghost use Rattle.ir_text.specs.Parser.Texts.{GivesPackage, IsIrTextOf};
 
 use crate::parser::laws::one_package;
 use crate::parser::reader::read_tokens;
-use ir_builder::Placed;
+use ir_builder::Spanned;
 use ir_token::tokens;
 use ir_tree::Package;
 use ir_verify::check;
@@ -46,20 +46,20 @@ fn read(alloc: Global, text: &str) -> Result<Package, ReadError>
     ensures verified { IfOk result (λ found. IsVerified found) }
     ensures refused { IfErr result (λ e. (e ≡ OutOfMemory) ⊎ GivesPackage text.now (Err e)) }
 {
-    let placed = match shown(alloc, text) {
-        Ok(placed) => placed,
+    let spanned = match shown(alloc, text) {
+        Ok(spanned) => spanned,
         Err(error) => return Err(error),
     };
-    match check(alloc, &placed.tree, &placed.places) {
-        Ok(()) => Ok(placed.tree),
+    match check(alloc, &spanned.tree, &spanned.line_spans) {
+        Ok(()) => Ok(spanned.tree),
         Err(error) => Err(error),
     }
 }
 
 /// What the text shows, by its tokens and the grammar.
-fn shown(alloc: Global, text: &str) -> Result<Placed, ReadError>
+fn shown(alloc: Global, text: &str) -> Result<Spanned, ReadError>
     requires { length text.now < 2 ^ 32 }
-    ensures shows { IfOk result (λ placed. IsIrTextOf text.now placed) }
+    ensures shows { IfOk result (λ spanned. IsIrTextOf text.now spanned) }
     ensures refused { IfErr result (λ e. (e ≡ OutOfMemory) ⊎ GivesPackage text.now (Err e)) }
 {
     match tokens(alloc, text.as_bytes()) {

@@ -6,21 +6,21 @@ ghost use Rattle.grammar.specs.Derivation.{IsDerivation, IsSentence};
 ghost use Rattle.base.specs.Lists.Fault.{IsFirstFault};
 ghost use Rattle.xb_span.specs.Nesting.Nesting.{first_past};
 ghost use Rattle.ir_token.specs.Rules.Ir.{ir};
-ghost use Rattle.ir_text.specs.Parser.Reads.{AreShallow, IsRefusal, Reads, kinds_of, roles_of};
-ghost use Rattle.ir_text.specs.Parser.Roles.{role_of};
+ghost use Rattle.ir_text.specs.Parser.Reads.{AreShallow, IsRefusal, Reads, kinds_of, bracket_classes_of};
+ghost use Rattle.ir_text.specs.Parser.BracketClasses.{role_of};
 
 use grammar::ParseError;
-use ir_builder::{Placed, build};
+use ir_builder::{Spanned, build};
 use ir_token::Token;
 use ir_token::rules::kind::{END, LBRACE, LBRACKET, LPAREN, RBRACE, RBRACKET, RPAREN};
 use std::alloc::{AllocError, Global};
-use xb_span::nesting::{Role, first_over};
+use xb_span::nesting::{BracketClass, first_over};
 use xb_span::{Limit, ReadError, What};
 
 /// The package of the tokens of a text, which end with the mark at its end.
-pub fn read_tokens(alloc: Global, tokens: &[Token]) -> Result<Placed, ReadError>
+pub fn read_tokens(alloc: Global, tokens: &[Token]) -> Result<Spanned, ReadError>
     requires { EndsWith (kinds_of tokens.now) END }
-    ensures reads { IfOk result (λ placed. Reads tokens.now placed) }
+    ensures reads { IfOk result (λ spanned. Reads tokens.now spanned) }
     ensures shallow { IfOk result (λ _. AreShallow tokens.now) }
     ensures refused { IfErr result (λ e. IsRefusal tokens.now e) }
 {
@@ -35,11 +35,11 @@ fn judged(
     tokens: &[Token],
     kinds: &[u8],
     deep: Option<usize>,
-) -> Result<Placed, ReadError>
+) -> Result<Spanned, ReadError>
     requires same { kinds.now ≡ kinds_of tokens.now }
     requires ended { EndsWith (kinds_of tokens.now) END }
-    requires deep { deep ≡ first_past (roles_of tokens.now) }
-    ensures reads { IfOk result (λ placed. Reads tokens.now placed) }
+    requires deep { deep ≡ first_past (bracket_classes_of tokens.now) }
+    ensures reads { IfOk result (λ spanned. Reads tokens.now spanned) }
     ensures shallow { IfOk result (λ _. AreShallow tokens.now) }
     ensures refused { IfErr result (λ e. IsRefusal tokens.now e) }
 {
@@ -59,10 +59,10 @@ fn tree(
     tokens: &[Token],
     kinds: &[u8],
     productions: &[u16],
-) -> Result<Placed, AllocError>
+) -> Result<Spanned, AllocError>
     requires same { kinds.now ≡ kinds_of tokens.now }
     requires derived { IsDerivation ir productions.now kinds.now }
-    ensures { IfOk result (λ placed. Reads tokens.now placed) }
+    ensures { IfOk result (λ spanned. Reads tokens.now spanned) }
 {
     grammar::one_tree();
     let steps = ir_token::rules::steps(alloc, productions)?;
@@ -73,7 +73,7 @@ fn tree(
 fn depth_fault(tokens: &[Token], kinds: &[u8], productions: &[u16], deep: usize) -> ReadError
     requires same { kinds.now ≡ kinds_of tokens.now }
     requires derived { IsDerivation ir productions.now kinds.now }
-    requires deep { Some deep ≡ first_past (roles_of tokens.now) }
+    requires deep { Some deep ≡ first_past (bracket_classes_of tokens.now) }
     ensures { IsRefusal tokens.now result }
 {
     ReadError::Over(NESTING)
@@ -91,7 +91,7 @@ fn refusal(tokens: &[Token], kinds: &[u8], deep: Option<usize>, place: usize) ->
     requires same { kinds.now ≡ kinds_of tokens.now }
     requires within { place < length kinds.now }
     requires fault { IsFirstFault (IsSentence ir) kinds.now place }
-    requires deep { deep ≡ first_past (roles_of tokens.now) }
+    requires deep { deep ≡ first_past (bracket_classes_of tokens.now) }
     ensures { IsRefusal tokens.now result }
 {
     match deep {
@@ -111,7 +111,7 @@ fn syntax_fault(tokens: &[Token], kinds: &[u8], place: usize) -> ReadError
     requires same { kinds.now ≡ kinds_of tokens.now }
     requires within { place < length kinds.now }
     requires fault { IsFirstFault (IsSentence ir) kinds.now place }
-    requires first { (deep : ℕ) → first_past (roles_of tokens.now) ≡ Some deep → place ≤ deep }
+    requires first { (deep : ℕ) → first_past (bracket_classes_of tokens.now) ≡ Some deep → place ≤ deep }
     ensures { IsRefusal tokens.now result }
 {
     ReadError::Syntax(start_of(tokens, place))
@@ -133,14 +133,14 @@ fn kinds(alloc: Global, tokens: &[Token]) -> Result<Vec<u8>, AllocError>
 
 /// The place of the first token that is nested too deep.
 fn too_deep(alloc: Global, tokens: &[Token]) -> Result<Option<usize>, AllocError>
-    ensures { IfOk result (λ place. place ≡ first_past (roles_of tokens.now)) }
+    ensures { IfOk result (λ place. place ≡ first_past (bracket_classes_of tokens.now)) }
 {
-    let roles = roles(alloc, tokens)?;
-    first_over(alloc, &roles)
+    let bracket_classes = bracket_classes(alloc, tokens)?;
+    first_over(alloc, &bracket_classes)
 }
 
-fn roles(alloc: Global, tokens: &[Token]) -> Result<Vec<Role>, AllocError>
-    ensures { IfOk result (λ roles. roles.items ≡ roles_of tokens.now) }
+fn bracket_classes(alloc: Global, tokens: &[Token]) -> Result<Vec<BracketClass>, AllocError>
+    ensures { IfOk result (λ bracket_classes. bracket_classes.items ≡ bracket_classes_of tokens.now) }
 {
     tokens
         .iter()
@@ -149,12 +149,12 @@ fn roles(alloc: Global, tokens: &[Token]) -> Result<Vec<Role>, AllocError>
 }
 
 /// What a token does to the nesting of those behind it.
-fn role_of(kind: u8) -> Role
+fn role_of(kind: u8) -> BracketClass
     ensures { result ≡ role_of kind }
 {
     match kind {
-        LPAREN | LBRACKET | LBRACE => Role::Open,
-        RPAREN | RBRACKET | RBRACE => Role::Close,
-        _ => Role::Plain,
+        LPAREN | LBRACKET | LBRACE => BracketClass::Open,
+        RPAREN | RBRACKET | RBRACE => BracketClass::Close,
+        _ => BracketClass::Plain,
     }
 }

@@ -14,11 +14,11 @@ use Rattle.ir_verify.proofs.OnSame.Takings.{TakesBy, to_by, from_by, Adds, takes
 
 -- ---- lists in front and behind
 
-front_take : (pre xs : List Site) (i : ℕ) → i ≡ length pre → take i (pre ++ xs) ≡ pre
-front_take [] xs zero e = refl
-front_take [] xs (suc i) e = absurd (omega (arith, e))
-front_take (y ∷ ys) xs zero e = absurd (omega (arith, e))
-front_take (y ∷ ys) xs (suc i) e = ap (λ zs. y ∷ zs) (front_take ys xs i (omega (arith, e)))
+prefix_take : (pre xs : List Site) (i : ℕ) → i ≡ length pre → take i (pre ++ xs) ≡ pre
+prefix_take [] xs zero e = refl
+prefix_take [] xs (suc i) e = absurd (omega (arith, e))
+prefix_take (y ∷ ys) xs zero e = absurd (omega (arith, e))
+prefix_take (y ∷ ys) xs (suc i) e = ap (λ zs. y ∷ zs) (prefix_take ys xs i (omega (arith, e)))
 
 there : (pre xs : List Site) (x : Site) (i : ℕ) → i ≡ length pre → slice_get (pre ++ x ∷ xs) i ≡ Some x
 there [] xs x zero e = refl
@@ -39,7 +39,7 @@ stands_open : (a : Behavior) (s : Value) (got : List Word) (i : ℕ) (pre xs : L
 stands_open a s got i pre xs h = record {
   within = omega (arith, h.place, ap length h.sites, length-append pre xs);
   state = h.state;
-  words = subst (λ ys. Takes a s [] 0 ys got) (sym (ap (take i) h.sites ∙ front_take pre xs i h.place)) h.words;
+  words = subst (λ ys. Takes a s [] 0 ys got) (sym (ap (take i) h.sites ∙ prefix_take pre xs i h.place)) h.words;
 }
 
 same_turn : (a b : Behavior) (same : SameActivations a b) (s : Value) (got : List Word) (i : ℕ) (pre xs : List Site) (x : Site) → Stands a s got i pre (x ∷ xs) → a.turn s got i ≡ b.turn s got i

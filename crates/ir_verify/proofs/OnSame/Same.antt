@@ -6,7 +6,7 @@ use Rattle.net_core.specs.declared.net.Net.{Net}
 use Rattle.net_core.specs.Behavior.{Behavior, IsOpen}
 use Rattle.ir_tree.specs.declared.package.Package.{Package}
 use Rattle.ir_tree.specs.Networks.{behaviors_of}
-use Rattle.ir_tree.specs.SameBehavior.{SameActivations, SameActivationsEach, IsMeantBy, SameBehavior}
+use Rattle.ir_tree.specs.SameBehavior.{SameActivations, SameActivationsEach, IsDenotedBy, SameBehavior}
 use Rattle.ir_verify.proofs.OnSame.Openings.{opens, reopens}
 
 itself_does : (a : Behavior) → SameActivations a a
@@ -69,5 +69,5 @@ itself p = record { network = refl; activations = each_itself (behaviors_of p) }
 pub either_way : (p q : Package) → SameBehavior p q → SameBehavior q p
 either_way p q h = record { network = sym h.network; activations = each_back (behaviors_of p) (behaviors_of q) h.activations }
 
-pub through : (net : Net) (behaviors : List Behavior) (p q : Package) → IsMeantBy net behaviors p → SameBehavior p q → IsMeantBy net behaviors q
+pub through : (net : Net) (behaviors : List Behavior) (p q : Package) → IsDenotedBy net behaviors p → SameBehavior p q → IsDenotedBy net behaviors q
 through net behaviors p q h k = record { network = h.network ∙ k.network; activations = each_through behaviors (behaviors_of p) (behaviors_of q) h.activations k.activations }

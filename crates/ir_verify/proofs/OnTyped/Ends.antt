@@ -13,7 +13,7 @@ use Rattle.ir_tree.specs.declared.package.Ends.TheVariants as ends
 use Rattle.ir_tree.specs.declared.package.Proc.{Proc}
 use Rattle.ir_tree.specs.NodeValues.{role_of}
 use Rattle.ir_tree.specs.Activations.{sites_by, sites_of}
-use Rattle.ir_verify.specs.declared.places.ProcPlaces.{ProcPlaces}
+use Rattle.ir_verify.specs.declared.line_spans.ProcSpans.{ProcSpans}
 use Rattle.ir_verify.specs.Fitting.{types_behind, node_fits}
 use Rattle.ir_verify.specs.Lines.{Seen, see, see_role, see_op, node_checks, head_checks, is_named, is_chained, is_at_end, is_free, may_receive, may_send}
 use Rattle.ir_verify.specs.Verified.{nowhere, nowhere_proc, nodes_checks, seen_after, at_start, proc_checks, procs_checks}
@@ -205,37 +205,37 @@ start_stays seen false c h = h
 pub start_ends : (k : ℕ) (seen : Seen) → HasEnds k seen → HasEnds k (at_start seen)
 start_ends k seen h = record { received = h.received; sent = h.sent }
 
-pub procs_free : (channels : List Channel) (places : List ProcPlaces) (names : List (List ℕ)) (i : ℕ) (seen : Seen) (procs : List Proc) (site : Site) → IsTrue (none_broken (procs_checks channels places names i seen procs)) → HasSite seen site.sends site.chan → (q : ℕ) (proc : Proc) → slice_get procs q ≡ Some proc → (p : ℕ) → slice_get (sites_of proc.nodes) p ≡ Some site → ⊥
-procs_free channels places names i seen [] site h taken q proc e p f = none_there proc q e
-procs_free channels places names i seen (x ∷ xs) site h taken zero proc e p f =
-    let parts = parts_not (proc_checks channels (get_or places i nowhere_proc) names seen x) (procs_checks channels places (names ++ x.name ∷ []) (suc i) (seen_after 0 (at_start seen) x.nodes) xs) h in
-    let place = get_or places i nowhere_proc in
+pub procs_free : (channels : List Channel) (line_spans : List ProcSpans) (names : List (List ℕ)) (i : ℕ) (seen : Seen) (procs : List Proc) (site : Site) → IsTrue (none_broken (procs_checks channels line_spans names i seen procs)) → HasSite seen site.sends site.chan → (q : ℕ) (proc : Proc) → slice_get procs q ≡ Some proc → (p : ℕ) → slice_get (sites_of proc.nodes) p ≡ Some site → ⊥
+procs_free channels line_spans names i seen [] site h taken q proc e p f = none_there proc q e
+procs_free channels line_spans names i seen (x ∷ xs) site h taken zero proc e p f =
+    let parts = parts_not (proc_checks channels (get_or line_spans i nowhere_proc) names seen x) (procs_checks channels line_spans (names ++ x.name ∷ []) (suc i) (seen_after 0 (at_start seen) x.nodes) xs) h in
+    let place = get_or line_spans i nowhere_proc in
     let a = parts_not (head_checks place.head names x) _ parts.0 in
     let b = parts_not (nodes_checks channels x.state place.nodes [] 0 (at_start seen) x.nodes) _ a.1 in
     let same : x ≡ proc = cc in
     nodes_free channels x.state place.nodes x.nodes [] 0 (at_start seen) site b.0 (start_stays seen site.sends site.chan taken) p (subst (λ y. slice_get (sites_of y.nodes) p ≡ Some site) (sym same) f)
-procs_free channels places names i seen (x ∷ xs) site h taken (suc q) proc e p f =
-    let parts = parts_not (proc_checks channels (get_or places i nowhere_proc) names seen x) (procs_checks channels places (names ++ x.name ∷ []) (suc i) (seen_after 0 (at_start seen) x.nodes) xs) h in
-    procs_free channels places (names ++ x.name ∷ []) (suc i) (seen_after 0 (at_start seen) x.nodes) xs site parts.1
+procs_free channels line_spans names i seen (x ∷ xs) site h taken (suc q) proc e p f =
+    let parts = parts_not (proc_checks channels (get_or line_spans i nowhere_proc) names seen x) (procs_checks channels line_spans (names ++ x.name ∷ []) (suc i) (seen_after 0 (at_start seen) x.nodes) xs) h in
+    procs_free channels line_spans (names ++ x.name ∷ []) (suc i) (seen_after 0 (at_start seen) x.nodes) xs site parts.1
     (after_stays x.nodes 0 (at_start seen) site.sends site.chan (start_stays seen site.sends site.chan taken)) q proc e p f
 
 -- the procs with a site at an end are one
-pub one_proc : (channels : List Channel) (places : List ProcPlaces) (names : List (List ℕ)) (i : ℕ) (seen : Seen) (procs : List Proc) (site : Site) → IsTrue (none_broken (procs_checks channels places names i seen procs)) → HasEnds (length channels) seen → (q r : ℕ) (a b : Proc) → slice_get procs q ≡ Some a → slice_get procs r ≡ Some b → (j k : ℕ) → slice_get (sites_of a.nodes) j ≡ Some site → slice_get (sites_of b.nodes) k ≡ Some site → IsAllowed channels site → q ≡ r
-one_proc channels places names i seen [] site h fits q r a b e f j k g l allowed = absurd (none_there a q e)
-one_proc channels places names i seen (x ∷ xs) site h fits zero zero a b e f j k g l allowed = refl
-one_proc channels places names i seen (x ∷ xs) site h fits zero (suc r) a b e f j k g l allowed =
-    let parts = parts_not (proc_checks channels (get_or places i nowhere_proc) names seen x) (procs_checks channels places (names ++ x.name ∷ []) (suc i) (seen_after 0 (at_start seen) x.nodes) xs) h in
+pub one_proc : (channels : List Channel) (line_spans : List ProcSpans) (names : List (List ℕ)) (i : ℕ) (seen : Seen) (procs : List Proc) (site : Site) → IsTrue (none_broken (procs_checks channels line_spans names i seen procs)) → HasEnds (length channels) seen → (q r : ℕ) (a b : Proc) → slice_get procs q ≡ Some a → slice_get procs r ≡ Some b → (j k : ℕ) → slice_get (sites_of a.nodes) j ≡ Some site → slice_get (sites_of b.nodes) k ≡ Some site → IsAllowed channels site → q ≡ r
+one_proc channels line_spans names i seen [] site h fits q r a b e f j k g l allowed = absurd (none_there a q e)
+one_proc channels line_spans names i seen (x ∷ xs) site h fits zero zero a b e f j k g l allowed = refl
+one_proc channels line_spans names i seen (x ∷ xs) site h fits zero (suc r) a b e f j k g l allowed =
+    let parts = parts_not (proc_checks channels (get_or line_spans i nowhere_proc) names seen x) (procs_checks channels line_spans (names ++ x.name ∷ []) (suc i) (seen_after 0 (at_start seen) x.nodes) xs) h in
     let same : x ≡ a = cc in
     let own : slice_get (sites_of x.nodes) j ≡ Some site = subst (λ y. slice_get (sites_of y.nodes) j ≡ Some site) (sym same) g in
-    absurd (procs_free channels places (names ++ x.name ∷ []) (suc i) (seen_after 0 (at_start seen) x.nodes) xs site parts.1
+    absurd (procs_free channels line_spans (names ++ x.name ∷ []) (suc i) (seen_after 0 (at_start seen) x.nodes) xs site parts.1
     (nodes_taken channels x.nodes 0 (at_start seen) site allowed (start_ends (length channels) seen fits) j own) r b f k l)
-one_proc channels places names i seen (x ∷ xs) site h fits (suc q) zero a b e f j k g l allowed =
-    let parts = parts_not (proc_checks channels (get_or places i nowhere_proc) names seen x) (procs_checks channels places (names ++ x.name ∷ []) (suc i) (seen_after 0 (at_start seen) x.nodes) xs) h in
+one_proc channels line_spans names i seen (x ∷ xs) site h fits (suc q) zero a b e f j k g l allowed =
+    let parts = parts_not (proc_checks channels (get_or line_spans i nowhere_proc) names seen x) (procs_checks channels line_spans (names ++ x.name ∷ []) (suc i) (seen_after 0 (at_start seen) x.nodes) xs) h in
     let same : x ≡ b = cc in
     let own : slice_get (sites_of x.nodes) k ≡ Some site = subst (λ y. slice_get (sites_of y.nodes) k ≡ Some site) (sym same) l in
-    absurd (procs_free channels places (names ++ x.name ∷ []) (suc i) (seen_after 0 (at_start seen) x.nodes) xs site parts.1
+    absurd (procs_free channels line_spans (names ++ x.name ∷ []) (suc i) (seen_after 0 (at_start seen) x.nodes) xs site parts.1
     (nodes_taken channels x.nodes 0 (at_start seen) site allowed (start_ends (length channels) seen fits) k own) q a e j g)
-one_proc channels places names i seen (x ∷ xs) site h fits (suc q) (suc r) a b e f j k g l allowed =
-    let parts = parts_not (proc_checks channels (get_or places i nowhere_proc) names seen x) (procs_checks channels places (names ++ x.name ∷ []) (suc i) (seen_after 0 (at_start seen) x.nodes) xs) h in
-    ap suc (one_proc channels places (names ++ x.name ∷ []) (suc i) (seen_after 0 (at_start seen) x.nodes) xs site parts.1
+one_proc channels line_spans names i seen (x ∷ xs) site h fits (suc q) (suc r) a b e f j k g l allowed =
+    let parts = parts_not (proc_checks channels (get_or line_spans i nowhere_proc) names seen x) (procs_checks channels line_spans (names ++ x.name ∷ []) (suc i) (seen_after 0 (at_start seen) x.nodes) xs) h in
+    ap suc (one_proc channels line_spans (names ++ x.name ∷ []) (suc i) (seen_after 0 (at_start seen) x.nodes) xs site parts.1
     (after_ends (length channels) x.nodes 0 (at_start seen) (start_ends (length channels) seen fits)) q r a b e f j k g l allowed)

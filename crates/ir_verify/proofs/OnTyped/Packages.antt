@@ -26,7 +26,7 @@ use Rattle.ir_tree.specs.Constants.{constant_value}
 use Rattle.ir_tree.specs.NodeValues.{channel_type}
 use Rattle.ir_tree.specs.Activations.{sites_of, width_at, activation}
 use Rattle.ir_tree.specs.Networks.{kind_of, chan_of, head_of, network_of, behaviors_of}
-use Rattle.ir_verify.specs.declared.places.ProcPlaces.{ProcPlaces}
+use Rattle.ir_verify.specs.declared.line_spans.ProcSpans.{ProcSpans}
 use Rattle.xb_span.specs.declared.fault.Fault.TheVariants.{Passed}
 use Rattle.xb_span.specs.declared.limit.What.TheVariants as what
 use Rattle.ir_verify.specs.Checks.{Check, bounded}
@@ -154,34 +154,34 @@ own_names spans names i (x ∷ xs) h (suc c) (suc d) a b e f g =
 
 -- ---- procs
 
-verified_proc : (channels : List Channel) (word_types : AreChannels channels) (places : ProcPlaces) (names : List (List ℕ)) (seen : Seen) (p : Proc) → IsTrue (none_broken (proc_checks channels places names seen p)) → IsVerifiedProc channels p
-verified_proc channels w places names seen p h =
-    let a = parts_not (head_checks places.head names p) _ h in
-    let b = parts_not (nodes_checks channels p.state places.nodes [] 0 (at_start seen) p.nodes) _ a.1 in
-    let c = parts_not (next_checks places.next p) (count_check (Passed places.end (record { what = what.Sites; found = 33; most = 32 })) 32 (length (sites_of p.nodes)) ∷ []) b.1 in
+verified_proc : (channels : List Channel) (word_types : AreChannels channels) (line_spans : ProcSpans) (names : List (List ℕ)) (seen : Seen) (p : Proc) → IsTrue (none_broken (proc_checks channels line_spans names seen p)) → IsVerifiedProc channels p
+verified_proc channels w line_spans names seen p h =
+    let a = parts_not (head_checks line_spans.head names p) _ h in
+    let b = parts_not (nodes_checks channels p.state line_spans.nodes [] 0 (at_start seen) p.nodes) _ a.1 in
+    let c = parts_not (next_checks line_spans.next p) (count_check (Passed line_spans.end (record { what = what.Sites; found = 33; most = 32 })) 32 (length (sites_of p.nodes)) ∷ []) b.1 in
     let d = both_true (not (nat_lt 32 (length (sites_of p.nodes)))) true c.1 in
     record {
       word_types = w;
-      head_span = places.head;
+      head_span = line_spans.head;
       names = names;
       head = a.0;
-      spans = places.nodes;
+      spans = line_spans.nodes;
       seen = at_start seen;
       nodes = b.0;
-      next_span = places.next;
+      next_span = line_spans.next;
       next = c.0;
       sites = grind (arith, nat_tests, d.0);
     }
 
-procs_verified : (channels : List Channel) (word_types : AreChannels channels) (places : List ProcPlaces) (names : List (List ℕ)) (i : ℕ) (seen : Seen) (procs : List Proc) → IsTrue (none_broken (procs_checks channels places names i seen procs)) → (q : ℕ) (proc : Proc) → slice_get procs q ≡ Some proc → IsVerifiedProc channels proc
-procs_verified channels w places names i seen [] h q proc e = absurd (cc)
-procs_verified channels w places names i seen (x ∷ xs) h zero proc e =
-    let parts = parts_not (proc_checks channels (get_or places i nowhere_proc) names seen x) (procs_checks channels places (names ++ x.name ∷ []) (suc i) (seen_after 0 (at_start seen) x.nodes) xs) h in
+procs_verified : (channels : List Channel) (word_types : AreChannels channels) (line_spans : List ProcSpans) (names : List (List ℕ)) (i : ℕ) (seen : Seen) (procs : List Proc) → IsTrue (none_broken (procs_checks channels line_spans names i seen procs)) → (q : ℕ) (proc : Proc) → slice_get procs q ≡ Some proc → IsVerifiedProc channels proc
+procs_verified channels w line_spans names i seen [] h q proc e = absurd (cc)
+procs_verified channels w line_spans names i seen (x ∷ xs) h zero proc e =
+    let parts = parts_not (proc_checks channels (get_or line_spans i nowhere_proc) names seen x) (procs_checks channels line_spans (names ++ x.name ∷ []) (suc i) (seen_after 0 (at_start seen) x.nodes) xs) h in
     let same : x ≡ proc = cc in
-    subst (IsVerifiedProc channels) same (verified_proc channels w (get_or places i nowhere_proc) names seen x parts.0)
-procs_verified channels w places names i seen (x ∷ xs) h (suc q) proc e =
-    let parts = parts_not (proc_checks channels (get_or places i nowhere_proc) names seen x) (procs_checks channels places (names ++ x.name ∷ []) (suc i) (seen_after 0 (at_start seen) x.nodes) xs) h in
-    procs_verified channels w places (names ++ x.name ∷ []) (suc i) (seen_after 0 (at_start seen) x.nodes) xs parts.1 q proc e
+    subst (IsVerifiedProc channels) same (verified_proc channels w (get_or line_spans i nowhere_proc) names seen x parts.0)
+procs_verified channels w line_spans names i seen (x ∷ xs) h (suc q) proc e =
+    let parts = parts_not (proc_checks channels (get_or line_spans i nowhere_proc) names seen x) (procs_checks channels line_spans (names ++ x.name ∷ []) (suc i) (seen_after 0 (at_start seen) x.nodes) xs) h in
+    procs_verified channels w line_spans (names ++ x.name ∷ []) (suc i) (seen_after 0 (at_start seen) x.nodes) xs parts.1 q proc e
 
 -- each proc of a verified package is verified
 pub proc_of : (ir : Package) → IsVerified ir → (q : ℕ) (proc : Proc) → slice_get ir.procs q ≡ Some proc → IsVerifiedProc ir.channels proc

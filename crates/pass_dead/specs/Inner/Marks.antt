@@ -1,4 +1,4 @@
--- Marks of nodes that are needed.
+-- Marks of nodes that are live.
 use Rattle.std.specs.Prelude.{◌≡◌, ◌≤◌, ◌<◌, ◌||◌, ℕ, Bool, true, false, List, [], ◌∷◌, length, get_or, slice_set}
 use Rattle.std.specs.List.{list_all}
 use Rattle.ir_tree.specs.declared.node.Operand.{Operand}

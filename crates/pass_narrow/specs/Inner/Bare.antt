@@ -1,4 +1,4 @@
--- What right sides say of a list of normal nodes.
+-- What replacements say of a list of normal nodes.
 use Rattle.std.specs.Prelude.{◌≡◌, ℕ, ◌+◌, max, nat_lt, Bool, false, List, Some, None}
 use Rattle.delay_model.specs.declared.op.Binary.{Binary}
 use Rattle.delay_model.specs.declared.op.Binary.TheVariants as binary
@@ -6,10 +6,10 @@ use Rattle.delay_model.specs.declared.op.Extend.TheVariants as extend
 use Rattle.ir_tree.specs.declared.ir_type.IrType.{IrType}
 use Rattle.ir_tree.specs.declared.node.Operand.{Operand}
 use Rattle.ir_tree.specs.declared.node.Node.{Node}
-use Rattle.ir_rebuild.specs.Normal.LeftSides.{has_left_side}
+use Rattle.ir_rebuild.specs.Normal.Patterns.{has_pattern}
 use Rattle.ir_rebuild.specs.Normal.Normal.{names_literal, AreNormal}
-use Rattle.pass_narrow.specs.declared.left_side.RightSide.{RightSide}
-use Rattle.pass_narrow.specs.declared.left_side.RightSide.TheVariants as right
+use Rattle.pass_narrow.specs.declared.node_pattern.NodeReplacement.{NodeReplacement}
+use Rattle.pass_narrow.specs.declared.node_pattern.NodeReplacement.TheVariants as right
 use Rattle.pass_narrow.specs.Nodes.{extension_node}
 use Rattle.pass_narrow.specs.Views.{width_in, extended}
 
@@ -35,10 +35,10 @@ pub record AreBare (state : IrType) (nodes : List Node) (a b : Operand) (test : 
   pub second : IsBare state nodes b
   pub least : test (width_in state nodes a) (width_in state nodes b) ≡ false
 
-abbrev pub IsNormalSide : IrType → List Node → ℕ → RightSide → Type 0
+abbrev pub IsNormalSide : IrType → List Node → ℕ → NodeReplacement → Type 0
 IsNormalSide state nodes total (right.Operand o) = Unit {0}
 IsNormalSide state nodes total right.Zero = Unit {0}
-IsNormalSide state nodes total (right.Extension kind a) = has_left_side state nodes (extension_node kind a total) ≡ false
+IsNormalSide state nodes total (right.Extension kind a) = has_pattern state nodes (extension_node kind a total) ≡ false
 IsNormalSide state nodes total (right.Slice x start) = Unit {0}
 IsNormalSide state nodes total (right.LongerSlice x start width) = Unit {0}
 IsNormalSide state nodes total (right.Operation o a b least) = AreBare state nodes a b (row_test o least)

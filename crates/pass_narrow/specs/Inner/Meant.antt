@@ -1,4 +1,4 @@
--- What right sides say of a node.
+-- What replacements say of a node.
 use Rattle.std.specs.Prelude.{◌≡◌, ℕ, ◌+◌, ◌<◌, ◌≤◌, List, [], Some, None}
 use Rattle.xb_bits.specs.Word.{word}
 use Rattle.xb_bits.specs.Parts.{slice_bits}
@@ -12,12 +12,12 @@ use Rattle.ir_tree.specs.declared.node.Operand.{Operand}
 use Rattle.ir_tree.specs.declared.node.Node.{Node}
 use Rattle.ir_tree.specs.Operations.{binary_word, holds, bit, extend_word}
 use Rattle.ir_tree.specs.NodeValues.{pure_value}
-use Rattle.ir_rebuild.specs.Built.{AreBuilt, AreValues, StandsFor, Extends}
-use Rattle.pass_narrow.specs.declared.left_side.RightSide.{RightSide}
-use Rattle.pass_narrow.specs.declared.left_side.RightSide.TheVariants as right
-use Rattle.pass_narrow.specs.declared.stand_in.LongSlice.{LongSlice}
+use Rattle.ir_rebuild.specs.Built.{AreBuilt, AreValues, OperandSimulates, Extends}
+use Rattle.pass_narrow.specs.declared.node_pattern.NodeReplacement.{NodeReplacement}
+use Rattle.pass_narrow.specs.declared.node_pattern.NodeReplacement.TheVariants as right
+use Rattle.pass_narrow.specs.declared.rewritten_node.LongSlice.{LongSlice}
 use Rattle.pass_narrow.specs.Numbers.{number, IsNumber}
-use Rattle.pass_narrow.specs.RightSides.{slice_of}
+use Rattle.pass_narrow.specs.Replacements.{slice_of}
 use Rattle.pass_narrow.specs.Slices.{inner_part}
 
 -- ---- what operations give for numbers of so many bits
@@ -53,7 +53,7 @@ pub record HasLonger (state : IrType) (nodes : List Node) (o : Operand) (w : ℕ
   pub longer : own ≤ w
   pub most : w ≤ 128
 
--- ---- what a right side says of a node of `total` bits
+-- ---- what a replacement says of a node of `total` bits
 
 pub record IsExtension (state : IrType) (nodes : List Node) (n : Node) (kind : Extend) (a : Operand) (total : ℕ) : Type 0 where
   pub own : ℕ
@@ -96,22 +96,22 @@ pub record IsWhole (state : IrType) (nodes : List Node) (n : Node) (o : Operand)
   pub most : total ≤ 128
   pub result : IsResult state nodes n total (λ s values. number s values o)
 
-abbrev pub IsRightSide : IrType → List Node → Node → ℕ → RightSide → Type 0
-IsRightSide state nodes n total (right.Operand o) = StandsFor state nodes n o
-IsRightSide state nodes n total right.Zero = IsZero state nodes n total
-IsRightSide state nodes n total (right.Extension kind a) = IsExtension state nodes n kind a total
-IsRightSide state nodes n total (right.Slice x start) = IsSliceOf state nodes n (record { operand = x; start = start; width = total; total = total })
-IsRightSide state nodes n total (right.LongerSlice x start width) = IsSliceOf state nodes n (record { operand = x; start = start; width = width; total = total })
-IsRightSide state nodes n total (right.Operation o a b least) = IsOperation state nodes n o a b least total
-IsRightSide state nodes n total (right.Comparison o a b least) = IsComparison state nodes n o a b least
+abbrev pub IsReplacement : IrType → List Node → Node → ℕ → NodeReplacement → Type 0
+IsReplacement state nodes n total (right.Operand o) = OperandSimulates state nodes n o
+IsReplacement state nodes n total right.Zero = IsZero state nodes n total
+IsReplacement state nodes n total (right.Extension kind a) = IsExtension state nodes n kind a total
+IsReplacement state nodes n total (right.Slice x start) = IsSliceOf state nodes n (record { operand = x; start = start; width = total; total = total })
+IsReplacement state nodes n total (right.LongerSlice x start width) = IsSliceOf state nodes n (record { operand = x; start = start; width = width; total = total })
+IsReplacement state nodes n total (right.Operation o a b least) = IsOperation state nodes n o a b least total
+IsReplacement state nodes n total (right.Comparison o a b least) = IsComparison state nodes n o a b least
 
 -- ---- slices
 
 abbrev pub slice_at : Operand → ℕ → ℕ → ℕ → LongSlice
 slice_at x start width total = record { operand = x; start = start; width = width; total = total }
 
--- what a right side says of a slice with zeros before it
-abbrev pub SaysOfSlice : IrType → List Node → Node → LongSlice → RightSide → Type 0
+-- what a replacement says of a slice with zeros before it
+abbrev pub SaysOfSlice : IrType → List Node → Node → LongSlice → NodeReplacement → Type 0
 SaysOfSlice state nodes n part (right.Operand o) = IsNumber state nodes part.operand part.width × IsResult state nodes n part.total (λ s values. number s values part.operand) × (part.operand ≡ o)
 SaysOfSlice state nodes n part right.Zero = IsResult state nodes n part.total (λ s values. 0)
 SaysOfSlice state nodes n part (right.Extension kind a) = ⊥
@@ -122,4 +122,4 @@ SaysOfSlice state nodes n part (right.Comparison o a b m) = ⊥
 
 -- no slice is inside this one
 abbrev pub IsInnermost : IrType → List Node → LongSlice → Type 0
-IsInnermost state nodes part = (r : RightSide) → slice_of state nodes part.start part.width part.operand ≡ Some r → inner_part r part ≡ None
+IsInnermost state nodes part = (r : NodeReplacement) → slice_of state nodes part.start part.width part.operand ≡ Some r → inner_part r part ≡ None

@@ -27,8 +27,8 @@ latest slots at [] = at
 latest slots at (j ∷ js) = latest slots (later_if at (slice_get slots j)) js
 
 -- the slot of a node that may start at one and takes so long: in its stage if there is time left, else in the next
-abbrev pub placed : ℕ → ℕ → Slot → Slot
-placed clock delay at =
+abbrev pub slotted : ℕ → ℕ → Slot → Slot
+slotted clock delay at =
     if nat_le (at.time + delay) clock then record { stage = at.stage; time = at.time + delay } else record { stage = suc at.stage; time = delay }
 
 -- the earliest stage of a node, by the sites before it
@@ -47,7 +47,7 @@ abbrev pub no_floor : Floor
 no_floor = record { send = 0; receive = 0 }
 
 abbrev pub slot_of : ℕ → List Slot → Floor → TimedNode → Slot
-slot_of clock slots floor n = placed clock n.delay (latest slots (record { stage = lowest floor n.role; time = 0 }) n.sources)
+slot_of clock slots floor n = slotted clock n.delay (latest slots (record { stage = lowest floor n.role; time = 0 }) n.sources)
 
 -- the slots of all nodes, where those before have these
 unfoldable pub slots_from : ℕ → List Slot → Floor → List TimedNode → List Slot
@@ -101,11 +101,11 @@ abbrev pub AreSourcesEarlier : List TimedNode → Type 0
 AreSourcesEarlier nodes = (i j : ℕ) → IsSource nodes i j → j < i
 
 -- nodes that take no longer than the clock, each in the slot that those before leave to it
-pub record ArePlaced (nodes : List TimedNode) (clock : ℕ) (slots : List Slot) : Type 0 where
+pub record AreSlotted (nodes : List TimedNode) (clock : ℕ) (slots : List Slot) : Type 0 where
   pub count : length slots ≡ length nodes
   pub order : AreSourcesEarlier nodes
   pub in_time : (i : ℕ) → (node_at nodes i).delay ≤ clock
-  pub placed : (i : ℕ) → i < length nodes → slot_at slots i ≡ placed clock (node_at nodes i).delay (start_at nodes slots i)
+  pub slotted : (i : ℕ) → i < length nodes → slot_at slots i ≡ slotted clock (node_at nodes i).delay (start_at nodes slots i)
 
 -- ---- what a schedule comes to
 

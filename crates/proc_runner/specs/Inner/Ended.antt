@@ -46,11 +46,11 @@ module _ {S : Type 0} where
   AreInletsOf p receivers recvs count inlets = AreEndsOf in_chan (λ c. slice_get receivers c ≡ Some p) (IsNewInlet recvs) count inlets
 
   -- each site has an end
-  pub record HasPlaces (sites : List Site) (outlets : List (Outlet S)) (inlets : List (Inlet S)) : Type 0 where
+  pub record HasIndices (sites : List Site) (outlets : List (Outlet S)) (inlets : List (Inlet S)) : Type 0 where
     pub sends : (i : ℕ) (site : Site) → slice_get sites i ≡ Some site → site.sends ≡ true → HasEndOn out_chan outlets site.chan
     pub receives : (i : ℕ) (site : Site) → slice_get sites i ≡ Some site → site.sends ≡ false → HasEndOn in_chan inlets site.chan
 
   -- and these are their places
-  pub record AreSitePlaces (sites : List Site) (places : List ℕ) (outlets : List (Outlet S)) (inlets : List (Inlet S)) : Type 0 where
-    pub senders : (i : ℕ) (site : Site) → slice_get sites i ≡ Some site → site.sends ≡ true → HasOutlet sites places outlets i site
-    pub receivers : (i : ℕ) (site : Site) → slice_get sites i ≡ Some site → site.sends ≡ false → HasInlet sites places inlets i site
+  pub record AreSiteIndices (sites : List Site) (indices : List ℕ) (outlets : List (Outlet S)) (inlets : List (Inlet S)) : Type 0 where
+    pub senders : (i : ℕ) (site : Site) → slice_get sites i ≡ Some site → site.sends ≡ true → HasOutlet sites indices outlets i site
+    pub receivers : (i : ℕ) (site : Site) → slice_get sites i ≡ Some site → site.sends ≡ false → HasInlet sites indices inlets i site

@@ -6,8 +6,8 @@ use Rattle.std.proofs.lemmas.Bool.{cases_lt}
 use Rattle.std.proofs.lemmas.Bool.Decides.{nat_tests}
 use Rattle.std.proofs.lemmas.List.Sums.{sum_by-cons}
 use Rattle.std.proofs.lemmas.Option.{slice_get_within}
-use Rattle.base.specs.Lists.Front.{IsFront}
-use Rattle.base.proofs.Lemmas.Lists.Fronts.{IsFront-take}
+use Rattle.base.specs.Lists.Prefix.{IsPrefix}
+use Rattle.base.proofs.Lemmas.Lists.Prefixes.{IsPrefix-take}
 use Rattle.xb_bits.specs.Word.{Word}
 use Rattle.chan_queue.specs.declared.queue.ChanQueue.{ChanQueue}
 use Rattle.net_core.specs.declared.net.Net.{Net}
@@ -15,7 +15,7 @@ use Rattle.net_core.specs.declared.net.ProcHead.{ProcHead}
 use Rattle.net_core.specs.declared.net.Site.{Site}
 use Rattle.net_core.specs.declared.outcome.ProcEnd.{ProcEnd}
 use Rattle.net_core.specs.Behavior.{IsOpen}
-use Rattle.net_core.specs.Cuts.{Proc, Run, IsWithin, place_of, sends_on, receives_on, sender, receiver, sites_of, sites_at, words_sent, count_received, final_cut}
+use Rattle.net_core.specs.Cuts.{Proc, Run, IsWithin, index_of, sends_on, receives_on, sender, receiver, sites_of, sites_at, words_sent, count_received, final_cut}
 use Rattle.net_core.specs.Machine.{Position}
 use Rattle.chan_queue.specs.Streams.Streams.{stands}
 use Rattle.chan_queue.specs.Streams.Moves.{first_events, sent_first, received_first}
@@ -46,15 +46,15 @@ below_has p (suc n) l = go (cases_lt p n) (λ m. below_has p n m)
     go (inr m) ih = let same : n ≡ p = omega (arith, l, m) in let here = one_here p in omega (arith, ap (one_at p) same, here)
 
 -- the place of the first that passes, by what a function gives
-place_map : {A B : Type 0} (f : A → B) (test : B → Bool) (xs : List A) → place_of (λ x. test (f x)) xs ≡ place_of test (map f xs)
+place_map : {A B : Type 0} (f : A → B) (test : B → Bool) (xs : List A) → index_of (λ x. test (f x)) xs ≡ index_of test (map f xs)
 place_map f test [] = refl
 place_map f test (x ∷ xs) = ap (λ n. cond (test (f x)) 0 (suc n)) (place_map f test xs)
 
-pub place_passes : {A : Type 0} (test : A → Bool) (xs : List A) (p : ℕ) (x : A) → place_of test xs ≡ p → slice_get xs p ≡ Some x → test x ≡ true
+pub place_passes : {A : Type 0} (test : A → Bool) (xs : List A) (p : ℕ) (x : A) → index_of test xs ≡ p → slice_get xs p ≡ Some x → test x ≡ true
 place_passes test [] p x e g = cc
 place_passes {A} test (y ∷ ys) p x e g = go (test y) refl e (λ q f h. place_passes test ys q x f h)
   where
-    later : (q : ℕ) → suc (place_of test ys) ≡ q → slice_get (y ∷ ys) q ≡ Some x → ((r : ℕ) → place_of test ys ≡ r → slice_get ys r ≡ Some x → test x ≡ true) → test x ≡ true
+    later : (q : ℕ) → suc (index_of test ys) ≡ q → slice_get (y ∷ ys) q ≡ Some x → ((r : ℕ) → index_of test ys ≡ r → slice_get ys r ≡ Some x → test x ≡ true) → test x ≡ true
     later zero f h ih = absurd (omega (arith, f))
     later (suc q) f h ih = ih q (omega (arith, f)) h
 
@@ -62,7 +62,7 @@ place_passes {A} test (y ∷ ys) p x e g = go (test y) refl e (λ q f h. place_p
     first zero f t h = let same : y ≡ x = cc in ap test (sym same) ∙ t
     first (suc q) f t h = absurd (omega (arith, f))
 
-    go : (b : Bool) → test y ≡ b → cond b 0 (suc (place_of test ys)) ≡ p → ((r : ℕ) → place_of test ys ≡ r → slice_get ys r ≡ Some x → test x ≡ true) → test x ≡ true
+    go : (b : Bool) → test y ≡ b → cond b 0 (suc (index_of test ys)) ≡ p → ((r : ℕ) → index_of test ys ≡ r → slice_get ys r ≡ Some x → test x ≡ true) → test x ≡ true
     go true t f ih = first p f t g
     go false t f ih = later p f g ih
 
@@ -103,16 +103,16 @@ receives_site c proc h =
     (found.0, found.1, found.2, not_true _ both.0, same_number _ _ both.1)
 
 -- the ends of a channel by the heads are those by the run
-pub sender_is : (net : Net) (run : Run) (c : ℕ) → IsRunOf net run → place_of (head_sends c) net.procs ≡ sender run c
+pub sender_is : (net : Net) (run : Run) (c : ℕ) → IsRunOf net run → index_of (head_sends c) net.procs ≡ sender run c
 sender_is net run c is =
     place_map (λ (head : ProcHead). head.sites) (λ (sites : List Site). list_any (λ (site : Site). site.sends && eqb site.chan c) sites) net.procs
-    ∙ (ap (λ (xs : List (List Site)). place_of (λ (sites : List Site). list_any (λ (site : Site). site.sends && eqb site.chan c) sites) xs) (sym is.sites)
+    ∙ (ap (λ (xs : List (List Site)). index_of (λ (sites : List Site). list_any (λ (site : Site). site.sends && eqb site.chan c) sites) xs) (sym is.sites)
     ∙ sym (place_map (λ (proc : Proc). proc.behavior.sites) (λ (sites : List Site). list_any (λ (site : Site). site.sends && eqb site.chan c) sites) run.procs))
 
-pub receiver_is : (net : Net) (run : Run) (c : ℕ) → IsRunOf net run → place_of (head_receives c) net.procs ≡ receiver run c
+pub receiver_is : (net : Net) (run : Run) (c : ℕ) → IsRunOf net run → index_of (head_receives c) net.procs ≡ receiver run c
 receiver_is net run c is =
     place_map (λ (head : ProcHead). head.sites) (λ (sites : List Site). list_any (λ (site : Site). not site.sends && eqb site.chan c) sites) net.procs
-    ∙ (ap (λ (xs : List (List Site)). place_of (λ (sites : List Site). list_any (λ (site : Site). not site.sends && eqb site.chan c) sites) xs) (sym is.sites)
+    ∙ (ap (λ (xs : List (List Site)). index_of (λ (sites : List Site). list_any (λ (site : Site). not site.sends && eqb site.chan c) sites) xs) (sym is.sites)
     ∙ sym (place_map (λ (proc : Proc). proc.behavior.sites) (λ (sites : List Site). list_any (λ (site : Site). not site.sends && eqb site.chan c) sites) run.procs))
 
 nothing_sent : (sites : List Site) (c : ℕ) → words_sent sites c [] ≡ []
@@ -149,128 +149,128 @@ task_past p i [] task e t = cc
 task_past p zero (x ∷ xs) task e t = let same : x ≡ task = cc in sym (ap (λ (b : Bool). cond b (Some x) (task_in p xs)) (ap (λ (y : Task _ _). eqb y.number p) same ∙ t))
 task_past p (suc i) (x ∷ xs) task e t = task_past p i xs task e t
 
-module _ {S H : Type 0} (run : H → Run) (lines : H → List (Option (ChanQueue S))) (home : H) (tasks : List (Task S H)) (are : AreTasksOf run lines home tasks) where
-  pub is_task : (p : ℕ) (task : Task S H) → task_in p tasks ≡ Some task → (task.number ≡ p) × (task.home ≡ home) × IsTask (run task.home) (lines task.home) task
+module _ {S H : Type 0} (run : H → Run) (lines : H → List (Option (ChanQueue S))) (runtime : H) (tasks : List (Task S H)) (are : AreTasksOf run lines runtime tasks) where
+  pub is_task : (p : ℕ) (task : Task S H) → task_in p tasks ≡ Some task → (task.number ≡ p) × (task.runtime ≡ runtime) × IsTask (run task.runtime) (lines task.runtime) task
   is_task p task e = let f = task_found p tasks task e in let is = are.each f.0 task f.1 in (f.2, is.0, is.1)
 
   -- each proc has one
-  pub has_task : (p : ℕ) → p < length (run home).procs → task_in p tasks ≡ None → ⊥
-  has_task p l e = omega (arith, are.all (one_at p), none_counts p tasks e, below_has p (length (run home).procs) l)
+  pub has_task : (p : ℕ) → p < length (run runtime).procs → task_in p tasks ≡ None → ⊥
+  has_task p l e = omega (arith, are.all (one_at p), none_counts p tasks e, below_has p (length (run runtime).procs) l)
 
   module _ (p : ℕ) (task : Task S H) (e : task_in p tasks ≡ Some task) where
-    pub is : IsTask (run home) (lines task.home) task
-    is = subst (λ (h : H). IsTask (run h) (lines task.home) task) (is_task p task e).1 (is_task p task e).2
+    pub is : IsTask (run runtime) (lines task.runtime) task
+    is = subst (λ (h : H). IsTask (run h) (lines task.runtime) task) (is_task p task e).1 (is_task p task e).2
 
-    pub proc_there : slice_get (run home).procs p ≡ Some is.proc
-    proc_there = ap (λ k. slice_get (run home).procs k) (sym (is_task p task e).0) ∙ is.standing.proc_is
+    pub proc_there : slice_get (run runtime).procs p ≡ Some is.proc
+    proc_there = ap (λ k. slice_get (run runtime).procs k) (sym (is_task p task e).0) ∙ is.standing.proc_is
 
-    pub made_is : cut_by (run home) tasks p ≡ first_events (run home) task.number task.count
-    made_is = ap (λ o. events_by (run home) p o) e ∙ ap (λ k. first_events (run home) k task.count) (sym (is_task p task e).0)
+    pub made_is : cut_by (run runtime) tasks p ≡ first_events (run runtime) task.number task.count
+    made_is = ap (λ o. events_by (run runtime) p o) e ∙ ap (λ k. first_events (run runtime) k task.count) (sym (is_task p task e).0)
 
-    pub stands_is : stands (run home) is.proc (cut_by (run home) tasks p) ≡ position_of task
-    stands_is = ap (λ es. stands (run home) is.proc es) made_is ∙ is.standing.at_is
+    pub stands_is : stands (run runtime) is.proc (cut_by (run runtime) tasks p) ≡ position_of task
+    stands_is = ap (λ es. stands (run runtime) is.proc es) made_is ∙ is.standing.at_is
 
-    pub end_is : end_at (run home) is.proc (position_of task) ≡ end_in (run home) (cut_by (run home) tasks) p is.proc
-    end_is = ap (λ (x : Position). end_at (run home) is.proc x) (sym stands_is)
+    pub end_is : end_at (run runtime) is.proc (position_of task) ≡ end_in (run runtime) (cut_by (run runtime) tasks) p is.proc
+    end_is = ap (λ (x : Position). end_at (run runtime) is.proc x) (sym stands_is)
 
-    pub sent_is : (c : ℕ) (proc : Proc) → slice_get (run home).procs p ≡ Some proc → sent_first (run home) task.number proc task.count c ≡ words_sent (sites_at (run home) p) c (cut_by (run home) tasks p)
+    pub sent_is : (c : ℕ) (proc : Proc) → slice_get (run runtime).procs p ≡ Some proc → sent_first (run runtime) task.number proc task.count c ≡ words_sent (sites_at (run runtime) p) c (cut_by (run runtime) tasks p)
     sent_is c proc f =
         ap (λ es. words_sent proc.behavior.sites c es) (sym made_is)
-        ∙ ap (λ o. words_sent (sites_of o) c (cut_by (run home) tasks p)) (sym f)
+        ∙ ap (λ o. words_sent (sites_of o) c (cut_by (run runtime) tasks p)) (sym f)
 
-    pub received_is : (c : ℕ) (proc : Proc) → slice_get (run home).procs p ≡ Some proc → received_first (run home) task.number proc task.count c ≡ count_received (sites_at (run home) p) c (cut_by (run home) tasks p)
+    pub received_is : (c : ℕ) (proc : Proc) → slice_get (run runtime).procs p ≡ Some proc → received_first (run runtime) task.number proc task.count c ≡ count_received (sites_at (run runtime) p) c (cut_by (run runtime) tasks p)
     received_is c proc f =
         ap (λ es. count_received proc.behavior.sites c es) (sym made_is)
-        ∙ ap (λ o. count_received (sites_of o) c (cut_by (run home) tasks p)) (sym f)
+        ∙ ap (λ o. count_received (sites_of o) c (cut_by (run runtime) tasks p)) (sym f)
 
-    pub sender_site : (c : ℕ) → sender (run home) c ≡ p → HasSiteOn is.proc c true
-    sender_site c ours = sends_site c is.proc (place_passes (sends_on c) (run home).procs p is.proc ours proc_there)
+    pub sender_site : (c : ℕ) → sender (run runtime) c ≡ p → HasSiteOn is.proc c true
+    sender_site c ours = sends_site c is.proc (place_passes (sends_on c) (run runtime).procs p is.proc ours proc_there)
 
-    pub receiver_site : (c : ℕ) → receiver (run home) c ≡ p → HasSiteOn is.proc c false
-    receiver_site c ours = receives_site c is.proc (place_passes (receives_on c) (run home).procs p is.proc ours proc_there)
+    pub receiver_site : (c : ℕ) → receiver (run runtime) c ≡ p → HasSiteOn is.proc c false
+    receiver_site c ours = receives_site c is.proc (place_passes (receives_on c) (run runtime).procs p is.proc ours proc_there)
 
   -- where there is no task, no event was made
-  pub none_sent : (p c : ℕ) → task_in p tasks ≡ None → words_sent (sites_at (run home) p) c (cut_by (run home) tasks p) ≡ []
-  none_sent p c e = ap (λ es. words_sent (sites_at (run home) p) c es) (ap (λ o. events_by (run home) p o) e) ∙ nothing_sent (sites_at (run home) p) c
+  pub none_sent : (p c : ℕ) → task_in p tasks ≡ None → words_sent (sites_at (run runtime) p) c (cut_by (run runtime) tasks p) ≡ []
+  none_sent p c e = ap (λ es. words_sent (sites_at (run runtime) p) c es) (ap (λ o. events_by (run runtime) p o) e) ∙ nothing_sent (sites_at (run runtime) p) c
 
-  pub none_received : (p c : ℕ) → task_in p tasks ≡ None → count_received (sites_at (run home) p) c (cut_by (run home) tasks p) ≡ 0
-  none_received p c e = ap (λ es. count_received (sites_at (run home) p) c es) (ap (λ o. events_by (run home) p o) e) ∙ nothing_received (sites_at (run home) p) c
+  pub none_received : (p c : ℕ) → task_in p tasks ≡ None → count_received (sites_at (run runtime) p) c (cut_by (run runtime) tasks p) ≡ 0
+  none_received p c e = ap (λ es. count_received (sites_at (run runtime) p) c es) (ap (λ o. events_by (run runtime) p o) e) ∙ nothing_received (sites_at (run runtime) p) c
 
   -- no proc is further than in the final cut
-  pub within_final : IsWithin (cut_by (run home) tasks) (final_cut (run home))
+  pub within_final : IsWithin (cut_by (run runtime) tasks) (final_cut (run runtime))
   within_final p = go (task_in p tasks)
     where
-      go : (o : Option (Task S H)) → IsFront (events_by (run home) p o) (final_cut (run home) p)
+      go : (o : Option (Task S H)) → IsPrefix (events_by (run runtime) p o) (final_cut (run runtime) p)
       go None = tt
-      go (Some task) = IsFront-take task.count (final_cut (run home) p)
+      go (Some task) = IsPrefix-take task.count (final_cut (run runtime) p)
 
   -- each proc stands where an activation can
-  pub opens_there : (p : ℕ) (proc : Proc) → slice_get (run home).procs p ≡ Some proc
-      → IsOpen proc.behavior (stands (run home) proc (cut_by (run home) tasks p)).state (stands (run home) proc (cut_by (run home) tasks p)).got (stands (run home) proc (cut_by (run home) tasks p)).done
+  pub opens_there : (p : ℕ) (proc : Proc) → slice_get (run runtime).procs p ≡ Some proc
+      → IsOpen proc.behavior (stands (run runtime) proc (cut_by (run runtime) tasks p)).state (stands (run runtime) proc (cut_by (run runtime) tasks p)).got (stands (run runtime) proc (cut_by (run runtime) tasks p)).done
   opens_there p proc e = go (task_in p tasks) refl
     where
       go : (o : Option (Task S H)) → task_in p tasks ≡ o
-          → IsOpen proc.behavior (stands (run home) proc (cut_by (run home) tasks p)).state (stands (run home) proc (cut_by (run home) tasks p)).got (stands (run home) proc (cut_by (run home) tasks p)).done
-      go None f = absurd (has_task p (slice_get_within (run home).procs p proc e) f)
+          → IsOpen proc.behavior (stands (run runtime) proc (cut_by (run runtime) tasks p)).state (stands (run runtime) proc (cut_by (run runtime) tasks p)).got (stands (run runtime) proc (cut_by (run runtime) tasks p)).done
+      go None f = absurd (has_task p (slice_get_within (run runtime).procs p proc e) f)
       go (Some task) f =
           let here = is p task f in
           let there = proc_there p task f in
           let same : here.proc ≡ proc = cc in
-          subst (λ (q : Proc). IsOpen q.behavior (stands (run home) q (cut_by (run home) tasks p)).state (stands (run home) q (cut_by (run home) tasks p)).got (stands (run home) q (cut_by (run home) tasks p)).done) same
+          subst (λ (q : Proc). IsOpen q.behavior (stands (run runtime) q (cut_by (run runtime) tasks p)).state (stands (run runtime) q (cut_by (run runtime) tasks p)).got (stands (run runtime) q (cut_by (run runtime) tasks p)).done) same
           (subst (λ (x : Position). IsOpen here.proc.behavior x.state x.got x.done) (sym (stands_is p task f)) here.standing.stands_open)
 
 -- the first place, by what is left of the list
-pub place_here : {A : Type 0} (test : A → Bool) (xs : List A) (k : ℕ) (x : A) → slice_get xs k ≡ Some x → test x ≡ true → place_of test (drop k xs) ≡ 0
+pub place_here : {A : Type 0} (test : A → Bool) (xs : List A) (k : ℕ) (x : A) → slice_get xs k ≡ Some x → test x ≡ true → index_of test (drop k xs) ≡ 0
 place_here test [] k x e t = cc
-place_here test (y ∷ ys) zero x e t = let same : y ≡ x = cc in ap (λ (b : Bool). cond b 0 (suc (place_of test ys))) (ap test same ∙ t)
+place_here test (y ∷ ys) zero x e t = let same : y ≡ x = cc in ap (λ (b : Bool). cond b 0 (suc (index_of test ys))) (ap test same ∙ t)
 place_here test (y ∷ ys) (suc k) x e t = place_here test ys k x e t
 
-pub place_past : {A : Type 0} (test : A → Bool) (xs : List A) (k : ℕ) (x : A) → slice_get xs k ≡ Some x → test x ≡ false → place_of test (drop k xs) ≡ suc (place_of test (drop (k + 1) xs))
+pub place_past : {A : Type 0} (test : A → Bool) (xs : List A) (k : ℕ) (x : A) → slice_get xs k ≡ Some x → test x ≡ false → index_of test (drop k xs) ≡ suc (index_of test (drop (k + 1) xs))
 place_past test [] k x e t = cc
-place_past test (y ∷ ys) zero x e t = let same : y ≡ x = cc in ap (λ (b : Bool). cond b 0 (suc (place_of test ys))) (ap test same ∙ t)
-place_past test (y ∷ ys) (suc k) x e t = let n : suc (k + 1) ≡ suc k + 1 = omega arith in place_past test ys k x e t ∙ ap (λ (m : ℕ). suc (place_of test (drop m (y ∷ ys)))) n
+place_past test (y ∷ ys) zero x e t = let same : y ≡ x = cc in ap (λ (b : Bool). cond b 0 (suc (index_of test ys))) (ap test same ∙ t)
+place_past test (y ∷ ys) (suc k) x e t = let n : suc (k + 1) ≡ suc k + 1 = omega arith in place_past test ys k x e t ∙ ap (λ (m : ℕ). suc (index_of test (drop m (y ∷ ys)))) n
 
-pub place_none : {A : Type 0} (test : A → Bool) (xs : List A) (k : ℕ) → length xs ≤ k → place_of test (drop k xs) ≡ 0
+pub place_none : {A : Type 0} (test : A → Bool) (xs : List A) (k : ℕ) → length xs ≤ k → index_of test (drop k xs) ≡ 0
 place_none test [] zero l = refl
 place_none test [] (suc k) l = refl
 place_none test (y ∷ ys) zero l = absurd (omega (arith, l))
 place_none test (y ∷ ys) (suc k) l = place_none test ys k (omega (arith, l))
 
-module _ {S H : Type 0} (run : H → Run) (lines : H → List (Option (ChanQueue S))) (home : H) (tasks : List (Task S H)) (are : AreTasksOf run lines home tasks) where
+module _ {S H : Type 0} (run : H → Run) (lines : H → List (Option (ChanQueue S))) (runtime : H) (tasks : List (Task S H)) (are : AreTasksOf run lines runtime tasks) where
   -- what a task counts, at the place of its channel's sender or receiver
-  pub words_there : (c : ℕ) (task : Task S H) → task_in (sender (run home) c) tasks ≡ Some task → (words : List Word)
-      → ((proc : Proc) → slice_get (run task.home).procs task.number ≡ Some proc → HasSiteOn proc c true → words ≡ sent_first (run task.home) task.number proc task.count c)
-      → words ≡ words_sent (sites_at (run home) (sender (run home) c)) c (cut_by (run home) tasks (sender (run home) c))
+  pub words_there : (c : ℕ) (task : Task S H) → task_in (sender (run runtime) c) tasks ≡ Some task → (words : List Word)
+      → ((proc : Proc) → slice_get (run task.runtime).procs task.number ≡ Some proc → HasSiteOn proc c true → words ≡ sent_first (run task.runtime) task.number proc task.count c)
+      → words ≡ words_sent (sites_at (run runtime) (sender (run runtime) c)) c (cut_by (run runtime) tasks (sender (run runtime) c))
   words_there c task e words says =
-      let p = sender (run home) c in
-      let at = is run lines home tasks are p task e in
-      let there = proc_there run lines home tasks are p task e in
-      let own = (is_task run lines home tasks are p task e).1 in
+      let p = sender (run runtime) c in
+      let at = is run lines runtime tasks are p task e in
+      let there = proc_there run lines runtime tasks are p task e in
+      let own = (is_task run lines runtime tasks are p task e).1 in
       subst (λ (h : H). (proc : Proc) → slice_get (run h).procs task.number ≡ Some proc → HasSiteOn proc c true → words ≡ sent_first (run h) task.number proc task.count c) own says
-      at.proc at.standing.proc_is (sender_site run lines home tasks are p task e c refl)
-      ∙ sent_is run lines home tasks are p task e c at.proc there
+      at.proc at.standing.proc_is (sender_site run lines runtime tasks are p task e c refl)
+      ∙ sent_is run lines runtime tasks are p task e c at.proc there
 
-  pub received_there : (c : ℕ) (task : Task S H) → task_in (receiver (run home) c) tasks ≡ Some task → (count : ℕ)
-      → ((proc : Proc) → slice_get (run task.home).procs task.number ≡ Some proc → HasSiteOn proc c false → count ≡ received_first (run task.home) task.number proc task.count c)
-      → count ≡ count_received (sites_at (run home) (receiver (run home) c)) c (cut_by (run home) tasks (receiver (run home) c))
+  pub received_there : (c : ℕ) (task : Task S H) → task_in (receiver (run runtime) c) tasks ≡ Some task → (count : ℕ)
+      → ((proc : Proc) → slice_get (run task.runtime).procs task.number ≡ Some proc → HasSiteOn proc c false → count ≡ received_first (run task.runtime) task.number proc task.count c)
+      → count ≡ count_received (sites_at (run runtime) (receiver (run runtime) c)) c (cut_by (run runtime) tasks (receiver (run runtime) c))
   received_there c task e count says =
-      let p = receiver (run home) c in
-      let at = is run lines home tasks are p task e in
-      let there = proc_there run lines home tasks are p task e in
-      let own = (is_task run lines home tasks are p task e).1 in
+      let p = receiver (run runtime) c in
+      let at = is run lines runtime tasks are p task e in
+      let there = proc_there run lines runtime tasks are p task e in
+      let own = (is_task run lines runtime tasks are p task e).1 in
       subst (λ (h : H). (proc : Proc) → slice_get (run h).procs task.number ≡ Some proc → HasSiteOn proc c false → count ≡ received_first (run h) task.number proc task.count c) own says
-      at.proc at.standing.proc_is (receiver_site run lines home tasks are p task e c refl)
-      ∙ received_is run lines home tasks are p task e c at.proc there
+      at.proc at.standing.proc_is (receiver_site run lines runtime tasks are p task e c refl)
+      ∙ received_is run lines runtime tasks are p task e c at.proc there
 
   -- where the proc of a task stands, as it says itself
   pub ends_there : (p : ℕ) (task : Task S H) → task_in p tasks ≡ Some task → (end : ProcEnd)
-      → ((proc : Proc) → slice_get (run task.home).procs task.number ≡ Some proc → end ≡ end_at (run task.home) proc (position_of task))
-      → (proc : Proc) → slice_get (run home).procs p ≡ Some proc → end ≡ end_in (run home) (cut_by (run home) tasks) p proc
+      → ((proc : Proc) → slice_get (run task.runtime).procs task.number ≡ Some proc → end ≡ end_at (run task.runtime) proc (position_of task))
+      → (proc : Proc) → slice_get (run runtime).procs p ≡ Some proc → end ≡ end_in (run runtime) (cut_by (run runtime) tasks) p proc
   ends_there p task e end says proc proc_is =
-      let at = is run lines home tasks are p task e in
-      let there = proc_there run lines home tasks are p task e in
-      let own = (is_task run lines home tasks are p task e).1 in
+      let at = is run lines runtime tasks are p task e in
+      let there = proc_there run lines runtime tasks are p task e in
+      let own = (is_task run lines runtime tasks are p task e).1 in
       let same : at.proc ≡ proc = cc in
-      subst (λ (q : Proc). end ≡ end_in (run home) (cut_by (run home) tasks) p q) same
+      subst (λ (q : Proc). end ≡ end_in (run runtime) (cut_by (run runtime) tasks) p q) same
       (subst (λ (h : H). (q : Proc) → slice_get (run h).procs task.number ≡ Some q → end ≡ end_at (run h) q (position_of task)) own says at.proc at.standing.proc_is
-      ∙ end_is run lines home tasks are p task e)
+      ∙ end_is run lines runtime tasks are p task e)

@@ -26,10 +26,10 @@ module _ {S H : Type 0} where
   cut_by run tasks p = events_by run p (task_in p tasks)
 
   -- the tasks of a run: one for each proc, whatever is added up over their numbers
-  pub record AreTasksOf (run : H → Run) (lines : H → List (Option (ChanQueue S))) (home : H) (tasks : List (Task S H)) : Type 0 where
-    pub typed : IsTyped (run home)
-    pub each : (k : ℕ) (task : Task S H) → slice_get tasks k ≡ Some task → (task.home ≡ home) × IsTask (run task.home) (lines task.home) task
-    pub all : (h : ℕ → ℕ) → sum_by (λ (task : Task S H). h task.number) tasks ≡ sum_below h (length (run home).procs)
+  pub record AreTasksOf (run : H → Run) (lines : H → List (Option (ChanQueue S))) (runtime : H) (tasks : List (Task S H)) : Type 0 where
+    pub typed : IsTyped (run runtime)
+    pub each : (k : ℕ) (task : Task S H) → slice_get tasks k ≡ Some task → (task.runtime ≡ runtime) × IsTask (run task.runtime) (lines task.runtime) task
+    pub all : (h : ℕ → ℕ) → sum_by (λ (task : Task S H). h task.number) tasks ≡ sum_below h (length (run runtime).procs)
 
 -- the run is one of this network
 pub record IsRunOf (net : Net) (run : Run) : Type 0 where

@@ -1,12 +1,12 @@
 ghost use Rattle.std.specs.Prelude.{◌≡◌};
-ghost use Rattle.net_core.specs.Cuts.{place_of};
+ghost use Rattle.net_core.specs.Cuts.{index_of};
 ghost use Rattle.proc_task.specs.Outcome.Places.{head_sends, head_receives};
 
 use net_core::ProcHead;
 
 /// The place of the proc that sends on a channel, or the number of procs.
 pub fn sender(heads: &[ProcHead], chan: u32) -> usize
-    ensures { result ≡ place_of (head_sends chan) heads.now }
+    ensures { result ≡ index_of (head_sends chan) heads.now }
 {
     for (place, head) in heads.iter().enumerate() {
         if sends_on(head, chan) {
@@ -18,7 +18,7 @@ pub fn sender(heads: &[ProcHead], chan: u32) -> usize
 
 /// The place of the proc that receives from a channel, or the number of procs.
 pub fn receiver(heads: &[ProcHead], chan: u32) -> usize
-    ensures { result ≡ place_of (head_receives chan) heads.now }
+    ensures { result ≡ index_of (head_receives chan) heads.now }
 {
     for (place, head) in heads.iter().enumerate() {
         if receives_on(head, chan) {

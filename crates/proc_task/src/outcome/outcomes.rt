@@ -8,7 +8,7 @@ ghost use Rattle.proc_task.specs.Outcome.Inner.Counts.{end_in};
 
 use crate::outcome::stops::{all_fit, all_stay};
 use crate::outcome::tasks::{received_on, sent_on, task_of};
-use crate::{Home, Task};
+use crate::{Runtime, Task};
 use chan_queue::Streams;
 use net_core::{Inputs, Kind, Net, Outcome, ProcEnd, Stream};
 use std::alloc::{AllocError, Global};
@@ -18,32 +18,32 @@ use xb_value::Seq;
 /// The outcome of the run, if its tasks have come to its end: where the counts show that no proc can go.
 ///
 /// It asks the body of each proc that isn't done once.
-pub fn outcome<S: Streams, H: Home<S>>(
+pub fn outcome<S: Streams, H: Runtime<S>>(
     alloc: Global,
-    home: &H,
+    runtime: &H,
     net: &Net,
     inputs: &Inputs,
     depths: &[u32],
     tasks: &[Task<S, H>],
 ) -> Result<Option<Outcome>, AllocError>
-    requires tasks { AreTasksOf H.run H.lines home.now tasks.now }
-    requires run { IsRunOf net.now (H.run home.now) }
-    requires inputs { ((H.run home.now).inputs ≡ inputs.now.words) × (length inputs.now.words ≡ length net.now.chans) }
-    requires depths { ((H.run home.now).depths ≡ depths.now) × (length depths.now ≡ length net.now.chans) }
-    ensures outcome { IfOk result (λ given. IfSome given (λ outcome. outcome ≡ outcome_of (H.run home.now) (final_cut (H.run home.now)))) }
-    ensures over { cut_by (H.run home.now) tasks.now ≡ final_cut (H.run home.now) → IfOk result (λ given. IsSome given) }
+    requires tasks { AreTasksOf H.run H.lines runtime.now tasks.now }
+    requires run { IsRunOf net.now (H.run runtime.now) }
+    requires inputs { ((H.run runtime.now).inputs ≡ inputs.now.words) × (length inputs.now.words ≡ length net.now.chans) }
+    requires depths { ((H.run runtime.now).depths ≡ depths.now) × (length depths.now ≡ length net.now.chans) }
+    ensures outcome { IfOk result (λ given. IfSome given (λ outcome. outcome ≡ outcome_of (H.run runtime.now) (final_cut (H.run runtime.now)))) }
+    ensures over { cut_by (H.run runtime.now) tasks.now ≡ final_cut (H.run runtime.now) → IfOk result (λ given. IsSome given) }
 {
-    let streams = streams(alloc, home, net, inputs.words.as_slice(), tasks)?;
+    let streams = streams(alloc, runtime, net, inputs.words.as_slice(), tasks)?;
     if !all_fit(net.chans.as_slice(), depths, streams.as_slice()) {
         return Ok(None);
     }
-    let ends = ends(alloc, home, net, tasks)?;
+    let ends = ends(alloc, runtime, net, tasks)?;
     let stopped = all_stay(
         net.chans.as_slice(),
         inputs.words.as_slice(),
         depths,
         streams.as_slice(),
-        home.activations(),
+        runtime.activations(),
         ends.as_slice(),
     );
     if !stopped {
@@ -56,15 +56,15 @@ pub fn outcome<S: Streams, H: Home<S>>(
 }
 
 /// Where each proc stands, and what it waits for.
-fn ends<S: Streams, H: Home<S>>(
+fn ends<S: Streams, H: Runtime<S>>(
     alloc: Global,
-    home: &H,
+    runtime: &H,
     net: &Net,
     tasks: &[Task<S, H>],
 ) -> Result<Vec<ProcEnd>, AllocError>
-    requires tasks { AreTasksOf H.run H.lines home.now tasks.now }
-    requires run { IsRunOf net.now (H.run home.now) }
-    ensures { IfOk result (λ ends. ends.items ≡ indexed (end_in (H.run home.now) (cut_by (H.run home.now) tasks.now)) 0 (H.run home.now).procs) }
+    requires tasks { AreTasksOf H.run H.lines runtime.now tasks.now }
+    requires run { IsRunOf net.now (H.run runtime.now) }
+    ensures { IfOk result (λ ends. ends.items ≡ indexed (end_in (H.run runtime.now) (cut_by (H.run runtime.now) tasks.now)) 0 (H.run runtime.now).procs) }
 {
     let mut ends = Vec::new(alloc);
     for p in 0..net.procs.len() {
@@ -77,23 +77,23 @@ fn ends<S: Streams, H: Home<S>>(
 }
 
 /// What went over each channel.
-fn streams<S: Streams, H: Home<S>>(
+fn streams<S: Streams, H: Runtime<S>>(
     alloc: Global,
-    home: &H,
+    runtime: &H,
     net: &Net,
     inputs: &[Seq<Bits>],
     tasks: &[Task<S, H>],
 ) -> Result<Vec<Stream>, AllocError>
-    requires tasks { AreTasksOf H.run H.lines home.now tasks.now }
-    requires run { IsRunOf net.now (H.run home.now) }
-    requires inputs { ((H.run home.now).inputs ≡ inputs.now) × (length inputs.now ≡ length net.now.chans) }
-    ensures { IfOk result (λ streams. streams.items ≡ indexed (stream_of (H.run home.now) (cut_by (H.run home.now) tasks.now)) 0 net.now.chans) }
+    requires tasks { AreTasksOf H.run H.lines runtime.now tasks.now }
+    requires run { IsRunOf net.now (H.run runtime.now) }
+    requires inputs { ((H.run runtime.now).inputs ≡ inputs.now) × (length inputs.now ≡ length net.now.chans) }
+    ensures { IfOk result (λ streams. streams.items ≡ indexed (stream_of (H.run runtime.now) (cut_by (H.run runtime.now) tasks.now)) 0 net.now.chans) }
 {
     let mut streams = Vec::new(alloc);
     for (c, chan) in net.chans.as_slice().iter().enumerate() {
         streams.push(stream(
             alloc,
-            home,
+            runtime,
             net,
             inputs[c].as_slice(),
             tasks,
@@ -105,34 +105,34 @@ fn streams<S: Streams, H: Home<S>>(
 }
 
 /// What went over a channel.
-fn stream<S: Streams, H: Home<S>>(
+fn stream<S: Streams, H: Runtime<S>>(
     alloc: Global,
-    home: &H,
+    runtime: &H,
     net: &Net,
     outside: &[Bits],
     tasks: &[Task<S, H>],
     c: u32,
     kind: Kind,
 ) -> Result<Stream, AllocError>
-    requires tasks { AreTasksOf H.run H.lines home.now tasks.now }
-    requires run { IsRunOf net.now (H.run home.now) }
-    requires outside { get_or (H.run home.now).inputs c [] ≡ outside.now }
-    ensures { IfOk result (λ stream. (chan : Chan) → slice_get (H.run home.now).chans c ≡ Some chan → chan.kind ≡ kind →
-        stream ≡ stream_of (H.run home.now) (cut_by (H.run home.now) tasks.now) c chan) }
+    requires tasks { AreTasksOf H.run H.lines runtime.now tasks.now }
+    requires run { IsRunOf net.now (H.run runtime.now) }
+    requires outside { get_or (H.run runtime.now).inputs c [] ≡ outside.now }
+    ensures { IfOk result (λ stream. (chan : Chan) → slice_get (H.run runtime.now).chans c ≡ Some chan → chan.kind ≡ kind →
+        stream ≡ stream_of (H.run runtime.now) (cut_by (H.run runtime.now) tasks.now) c chan) }
 {
     match kind {
         Kind::Input => {
-            let received = received_on(home, net, tasks, c);
+            let received = received_on(runtime, net, tasks, c);
             let words = Seq::from_slice(alloc, first(outside, received))?;
             Ok(Stream { words, received })
         }
         Kind::Output => {
-            let words = Seq::from_slice(alloc, sent_on(home, net, tasks, c))?;
+            let words = Seq::from_slice(alloc, sent_on(runtime, net, tasks, c))?;
             Ok(Stream { words, received: 0 })
         }
         Kind::Inner => {
-            let received = received_on(home, net, tasks, c);
-            let words = Seq::from_slice(alloc, sent_on(home, net, tasks, c))?;
+            let received = received_on(runtime, net, tasks, c);
+            let words = Seq::from_slice(alloc, sent_on(runtime, net, tasks, c))?;
             Ok(Stream { words, received })
         }
     }

@@ -66,10 +66,10 @@ at_end [] x (suc k) y e = cc
 at_end (z ∷ zs) x zero y e = inl e
 at_end (z ∷ zs) x (suc k) y e = at_end zs x k y e
 
-pub in_front : {A : Type 0} (xs ys : List A) (k : ℕ) (y : A) → slice_get xs k ≡ Some y → slice_get (xs ++ ys) k ≡ Some y
-in_front [] ys k y e = cc
-in_front (x ∷ xs) ys zero y e = e
-in_front (x ∷ xs) ys (suc k) y e = in_front xs ys k y e
+pub in_prefix : {A : Type 0} (xs ys : List A) (k : ℕ) (y : A) → slice_get xs k ≡ Some y → slice_get (xs ++ ys) k ≡ Some y
+in_prefix [] ys k y e = cc
+in_prefix (x ∷ xs) ys zero y e = e
+in_prefix (x ∷ xs) ys (suc k) y e = in_prefix xs ys k y e
 
 pub last_there : {A : Type 0} (xs : List A) (x : A) → slice_get (xs ++ x ∷ []) (length xs) ≡ Some x
 last_there [] x = refl
@@ -176,7 +176,7 @@ module _ {N T : Type 0} (number : T → ℕ) (run : T → N) (fact : T → Type 
         let left_is = ap (λ (xs : List T). sum_numbers number h xs) parked_is in
         omega (arith, now, all, left_is, is.held h, sum_without h (number task) (knows share.pass).held (last_held left task e), sum_by-append (λ (x : T). h (number x)) left (task ∷ []), sum_one (λ (x : T). h (number x)) task);
     each = λ k x f.
-        is.each k x (ap (λ (xs : List T). slice_get xs k) e ∙ in_front left (task ∷ []) k x (ap (λ (xs : List T). slice_get xs k) (sym parked_is) ∙ f));
+        is.each k x (ap (λ (xs : List T). slice_get xs k) e ∙ in_prefix left (task ∷ []) k x (ap (λ (xs : List T). slice_get xs k) (sym parked_is) ∙ f));
   }
 
   -- it is the share of a worker whose pass knew what this one knows
@@ -242,7 +242,7 @@ last_share {N} {T} number run fact waits queue given shares left other share are
 pub fewer_shares : {N T : Type 0} (number : T → ℕ) (run : T → N) (fact waits : T → Type 0) (queue : TaskQueue N T) (given : Hand N) (shares left : List (Result (Share N T) AllocError)) (other : Result (Share N T) AllocError)
     → AreShares number run fact waits queue given shares → shares ≡ left ++ other ∷ [] → AreShares number run fact waits queue given left
 fewer_shares {N} {T} number run fact waits queue given shares left other are split k share e =
-    are k share (ap (λ (xs : List (Result (Share N T) AllocError)). slice_get xs k) split ∙ in_front left (other ∷ []) k share e)
+    are k share (ap (λ (xs : List (Result (Share N T) AllocError)). slice_get xs k) split ∙ in_prefix left (other ∷ []) k share e)
 
 -- the same answer, by a view that is the same
 pub same_share : {N T : Type 0} (number : T → ℕ) (run : T → N) (fact waits : T → Type 0) (queue : TaskQueue N T) (r s : Result (Share N T) AllocError) (v w : Hand N) → r ≡ s → v ≡ w

@@ -9,8 +9,8 @@ use Rattle.topo_order.specs.Needs.{needs_of, Reaches}
 use Rattle.topo_order.specs.Inner.Walk.{mark_of, taken_of}
 
 -- where an open thing stands on the stack
-abbrev pub place_of : List ℕ → ℕ → ℕ
-place_of places i = unwrap_or (slice_get places i) 0
+abbrev pub position_of : List ℕ → ℕ → ℕ
+position_of positions i = unwrap_or (slice_get positions i) 0
 
 -- a thing is known to need itself
 abbrev pub flag_of : List Bool → ℕ → Bool
@@ -21,32 +21,32 @@ abbrev pub IsNotBelow : List ℕ → ℕ → ℕ → Type 0
 IsNotBelow starts o p = (q b : ℕ) → slice_get starts q ≡ Some b → b ≤ o → b ≤ p
 
 -- both things are open, and thing j stands in the group of thing i or in a later one
-pub record IsOpenAbove (marks : List Mark) (places starts : List ℕ) (i j : ℕ) : Type 0 where
+pub record IsOpenAbove (marks : List Mark) (positions starts : List ℕ) (i j : ℕ) : Type 0 where
   pub first : mark_of marks i ≡ Open
   pub second : mark_of marks j ≡ Open
-  pub above : IsNotBelow starts (place_of places i) (place_of places j)
+  pub above : IsNotBelow starts (position_of positions i) (position_of positions j)
 
-pub record IsGrouping (needs : List (List ℕ)) (marks : List Mark) (taken places path stack starts : List ℕ) (loops : List Bool) : Type 0 where
+pub record IsGrouping (needs : List (List ℕ)) (marks : List Mark) (taken positions path stack starts : List ℕ) (loops : List Bool) : Type 0 where
   pub marks_size : length marks ≡ length needs
   pub taken_size : length taken ≡ length needs
-  pub places_size : length places ≡ length needs
+  pub positions_size : length positions ≡ length needs
   pub loops_size : length loops ≡ length needs
   -- the stack has the open things, each at its place
-  pub open_on : (i : ℕ) → mark_of marks i ≡ Open → slice_get stack (place_of places i) ≡ Some i
+  pub open_on : (i : ℕ) → mark_of marks i ≡ Open → slice_get stack (position_of positions i) ≡ Some i
   pub on_open : (p i : ℕ) → slice_get stack p ≡ Some i → mark_of marks i ≡ Open
-  pub placed : (p i : ℕ) → slice_get stack p ≡ Some i → place_of places i ≡ p
+  pub placed : (p i : ℕ) → slice_get stack p ≡ Some i → position_of positions i ≡ p
   -- the path has some of them, in the same order
   pub path_open : (k i : ℕ) → slice_get path k ≡ Some i → mark_of marks i ≡ Open
-  pub path_rises : (k l i j : ℕ) → k < l → slice_get path k ≡ Some i → slice_get path l ≡ Some j → place_of places i < place_of places j
+  pub path_rises : (k l i j : ℕ) → k < l → slice_get path k ≡ Some i → slice_get path l ≡ Some j → position_of positions i < position_of positions j
   -- each group begins at a thing of the path, and each open thing stands in one
   pub starts_rise : (q r b c : ℕ) → q < r → slice_get starts q ≡ Some b → slice_get starts r ≡ Some c → b < c
-  pub begins : (q b : ℕ) → slice_get starts q ≡ Some b → (k : ℕ) × (i : ℕ) × (slice_get path k ≡ Some i) × (place_of places i ≡ b)
+  pub begins : (q b : ℕ) → slice_get starts q ≡ Some b → (k : ℕ) × (i : ℕ) × (slice_get path k ≡ Some i) × (position_of positions i ≡ b)
   pub grouped : (p i : ℕ) → slice_get stack p ≡ Some i → (q : ℕ) × (b : ℕ) × (slice_get starts q ≡ Some b) × (b ≤ p)
   -- a thing reaches all above it, and those of its group below it
   pub down : (p q i j : ℕ) → p < q → slice_get stack p ≡ Some i → slice_get stack q ≡ Some j → Reaches needs i j
   pub up : (p q i j : ℕ) → p < q → slice_get stack p ≡ Some i → slice_get stack q ≡ Some j → IsNotBelow starts q p → Reaches needs j i
   -- needs that were taken, and things that have no more
-  pub settled : (i k j : ℕ) → k < taken_of taken i → slice_get (needs_of needs i) k ≡ Some j → (mark_of marks j ≡ Done) ⊎ IsOpenAbove marks places starts i j
+  pub settled : (i k j : ℕ) → k < taken_of taken i → slice_get (needs_of needs i) k ≡ Some j → (mark_of marks j ≡ Done) ⊎ IsOpenAbove marks positions starts i j
   pub finished : (i : ℕ) → mark_of marks i ≢ New → ((k : ℕ) → slice_get path k ≢ Some i) → length (needs_of needs i) ≤ taken_of taken i
   -- what is known to need itself, and what doesn't
   pub sound : (i : ℕ) → flag_of loops i ≡ true → Reaches needs i i
@@ -78,4 +78,4 @@ all_flagged (i ∷ things) loops = all_flagged things (slice_set loops i true)
 
 -- where the walk stands
 abbrev pub IsGroups : List (List ℕ) → Groups → Type 0
-IsGroups needs g = IsGrouping needs g.marks.items g.taken.items g.places.items g.path.items g.stack.items g.starts.items g.loops.items
+IsGroups needs g = IsGrouping needs g.marks.items g.taken.items g.positions.items g.path.items g.stack.items g.starts.items g.loops.items

@@ -16,7 +16,7 @@ use Rattle.xb_span.specs.declared.read_error.ReadError.TheVariants.{Syntax, Brok
 use Rattle.vlog_builder.specs.declared.parsed.Parsed.{Parsed}
 use Rattle.vlog_builder.specs.Building.{built, parsed_of}
 use Rattle.vlog_builder.specs.Empty.{empty}
-use Rattle.vlog_text.specs.Parser.Reads.{IsOutOfPlace, IsParsing, IsRefusal, Reads, kinds_of, misplaced, whole}
+use Rattle.vlog_text.specs.Parser.Reads.{IsUnexpectedToken, IsParsing, IsRefusal, Reads, kinds_of, misplaced, whole}
 
 -- what the laws of grammars say
 pub record GrammarLaws : Type 0 where
@@ -55,7 +55,7 @@ tree_reads ls ps steps f (Ok p) tree e is = record { productions = ps; forest = 
 tree_reads ls ps steps f (Err x) tree e is = tt
 
 -- the fault at a token of which the beginning is known
-pub fault_at : (ls : List Lexeme) (place at : ℕ) → (token : Option Lexeme) → slice_get ls place ≡ token → place < length ls → IfSome token (λ t. at ≡ t.span.from) → IsFirstFault (IsSentence verilog) (kinds_of ls) place → IsOutOfPlace ls at
+pub fault_at : (ls : List Lexeme) (place at : ℕ) → (token : Option Lexeme) → slice_get ls place ≡ token → place < length ls → IfSome token (λ t. at ≡ t.span.from) → IsFirstFault (IsSentence verilog) (kinds_of ls) place → IsUnexpectedToken ls at
 fault_at ls place at None e within starts fault = absurd (none_within ls place within e)
 fault_at ls place at (Some t) e within starts fault = record { place = place; token = t; fault = fault; here = e; starts = starts }
 
@@ -65,7 +65,7 @@ kinds_length (l ∷ ls) = ap suc (kinds_length ls)
 
 -- ---- one parsing
 
-same_place : (ls : List Lexeme) (at also : ℕ) → IsOutOfPlace ls at → IsOutOfPlace ls also → at ≡ also
+same_place : (ls : List Lexeme) (at also : ℕ) → IsUnexpectedToken ls at → IsUnexpectedToken ls also → at ≡ also
 same_place ls at also a b =
     let place = IsFirstFault-unique (IsSentence verilog) (kinds_of ls) a.place b.place a.fault b.fault in
     let one : Some a.token ≡ Some b.token = sym a.here ∙ (ap (slice_get ls) place ∙ b.here) in

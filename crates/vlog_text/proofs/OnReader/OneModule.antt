@@ -4,7 +4,7 @@ use Rattle.std.specs.Prelude.{slice_get, ◌⊎◌}
 use Rattle.grammar.specs.Answer.{EndsWith}
 use Rattle.vlog_token.specs.declared.rules.generated.kind.TheConstants.{END}
 use Rattle.dslx_token.specs.Blank.{after_blank}
-use Rattle.dslx_token.specs.Tokens.{place_of}
+use Rattle.dslx_token.specs.Tokens.{offset_of}
 use Rattle.xb_span.specs.Fault.{error_of}
 use Rattle.xb_span.specs.declared.fault.Fault.{Fault}
 use Rattle.xb_span.specs.declared.fault.Fault.TheVariants as faults
@@ -16,8 +16,8 @@ use Rattle.vlog_token.specs.Tokens.{BreaksAt, HasTokens, IsBroken, ends, goes, v
 use Rattle.vlog_builder.specs.declared.parsed.Parsed.{Parsed}
 use Rattle.vlog_text.specs.Parser.Reads.{IsParsing, kinds_of, misplaced, whole}
 use Rattle.vlog_text.specs.Parser.Reads as parses
-use Rattle.vlog_tree.specs.declared.verifier.places.Places.{Places}
-use Rattle.vlog_tree.specs.Verifier.Verified.{IsJudged}
+use Rattle.vlog_tree.specs.declared.verifier.part_spans.PartSpans.{PartSpans}
+use Rattle.vlog_tree.specs.Verifier.Verified.{IsVerdict}
 use Rattle.vlog_text.specs.Reader.Given.{GivesModule, IsRefusal, faulty, no_sentence, no_token, sound}
 
 -- what the laws of the layers below say
@@ -26,14 +26,14 @@ pub record LayerLaws : Type 0 where
   pub one_place : (text : List ℕ) (i j : ℕ) → BreaksAt text text i → BreaksAt text text j → i ≡ j
   pub not_both : (text : List ℕ) (ls : List Lexeme) (at : ℕ) → HasTokens text text ls → BreaksAt text text at → ⊥
   pub one_parsing : (ls : List Lexeme) (a b : Result Parsed ReadError) → IsParsing ls a → IsParsing ls b → a ≡ b
-  pub one_judgement : (m : VModule) (places : Places) (one other : Option Fault) → IsJudged m places one → IsJudged m places other → one ≡ other
+  pub one_judgement : (m : VModule) (part_spans : PartSpans) (one other : Option Fault) → IsVerdict m part_spans one → IsVerdict m part_spans other → one ≡ other
 
 -- what tokens give is what other tokens of the text give
 same_parsing : LayerLaws → (text : List ℕ) (ls ms : List Lexeme) (a b : Result Parsed ReadError) → HasTokens text text ls → HasTokens text text ms → IsParsing ls a → IsParsing ms b → a ≡ b
 same_parsing laws text ls ms a b h k p q = laws.one_parsing ls a b p (subst (λ x. IsParsing x b) (sym (laws.one_list text ls ms h k)) q)
 
-one_fault : LayerLaws → (p q : Parsed) (a b : Option Fault) → p ≡ q → IsJudged p.design p.places a → IsJudged q.design q.places b → a ≡ b
-one_fault laws p q a b e h k = laws.one_judgement p.design p.places a b h (subst (λ (x : Parsed). IsJudged x.design x.places b) (sym e) k)
+one_fault : LayerLaws → (p q : Parsed) (a b : Option Fault) → p ≡ q → IsVerdict p.design p.part_spans a → IsVerdict q.design q.part_spans b → a ≡ b
+one_fault laws p q a b e h k = laws.one_judgement p.design p.part_spans a b h (subst (λ (x : Parsed). IsVerdict x.design x.part_spans b) (sym e) k)
 
 pub one_given : LayerLaws → (text : List ℕ) (a b : Result VModule ReadError) → GivesModule text a → GivesModule text b → a ≡ b
 one_given laws text a b (no_token at odd) (no_token place also) = ap (λ n. Err (Syntax n)) (laws.one_place text at place odd also)
@@ -93,7 +93,7 @@ behind_one l (m ∷ ls) e = last_more l.kind m.kind (kinds_of ls) END e
 
 pub ended : (text rest : List ℕ) (ls : List Lexeme) → HasTokens text rest ls → EndsWith (kinds_of ls) END
 ended text rest _ (ends r blank) = refl
-ended text rest _ (goes r len more some front tail) = behind_one (verilog_lexeme_at (place_of text (after_blank r)) (take len (after_blank r))) more (ended text (drop len (after_blank r)) more tail)
+ended text rest _ (goes r len more some front tail) = behind_one (verilog_lexeme_at (offset_of text (after_blank r)) (take len (after_blank r))) more (ended text (drop len (after_blank r)) more tail)
 
 -- ---- what is answered at each step
 
@@ -110,6 +110,6 @@ refused_parsing text ls (Over limit) tokens is = absurd is
 refused_parsing text ls OutOfMemory tokens is = tt
 
 pub refused_checking : (text : List ℕ) (ls : List Lexeme) (p : Parsed) (e : ReadError) → HasTokens text text ls → IsParsing ls (Ok p)
-    → (e ≡ OutOfMemory) ⊎ ((fault : Fault) × IsJudged p.design p.places (Some fault) × (e ≡ error_of fault)) → IsRefusal text e
+    → (e ≡ OutOfMemory) ⊎ ((fault : Fault) × IsVerdict p.design p.part_spans (Some fault) × (e ≡ error_of fault)) → IsRefusal text e
 refused_checking text ls p e tokens parsed (inl memory) = subst (IsRefusal text) (sym memory) tt
 refused_checking text ls p e tokens parsed (inr (fault, judged, is)) = subst (IsRefusal text) (sym is) (by_fault text fault (faulty ls p fault tokens parsed judged))

@@ -27,7 +27,7 @@ use Rattle.vlog_tree.specs.declared.expression.Simple.{Simple}
 use Rattle.vlog_tree.specs.declared.expression.Simple.TheVariants as simple
 use Rattle.vlog_tree.specs.declared.expression.Expr.{Expr}
 use Rattle.vlog_tree.specs.declared.expression.Expr.TheVariants as expr
-use Rattle.vlog_token.specs.Fronts.{width_said}
+use Rattle.vlog_token.specs.TokenPrefixes.{width_said}
 use Rattle.vlog_token.specs.Kinds.{verilog_kind}
 use Rattle.vlog_token.specs.Tokens.{verilog_lexeme_at}
 use Rattle.vlog_builder.specs.declared.rule.Rule.{Rule}

@@ -8,14 +8,14 @@ use Rattle.base.specs.Texts.Words.{begins_word, is_word, is_word_byte}
 use Rattle.dslx_token.specs.Blank.{after_blank, behind_blank}
 use Rattle.dslx_token.specs.Characters.{is_white}
 use Rattle.dslx_token.specs.Lexeme.{Lexeme}
-use Rattle.dslx_token.specs.Tokens.{place_of}
+use Rattle.dslx_token.specs.Tokens.{offset_of}
 use Rattle.vlog_token.specs.declared.rules.generated.kind.TheConstants.{END}
 use Rattle.vlog_tree.specs.declared.expression.Literal.{Literal}
-use Rattle.vlog_token.specs.Fronts.{front_len, mark_len, number_len}
+use Rattle.vlog_token.specs.TokenPrefixes.{token_prefix_len, mark_len, number_len}
 use Rattle.vlog_token.specs.Tokens.{HasTokens, ends, goes, verilog_lexeme_at}
 use Rattle.vlog_text.specs.Printer.Parts.{literal_text}
 use Rattle.vlog_text.proofs.OnRoundTrip.Says.{AreOf, are-append}
-use Rattle.vlog_text.proofs.OnRoundTrip.Spelling.{AreDigits, and_first, decimal_digits, drop_front, if_false, literal-len, literal_front, number-len, stops, take_front, word-len}
+use Rattle.vlog_text.proofs.OnRoundTrip.Spelling.{AreDigits, and_first, decimal_digits, drop_prefix, if_false, literal-len, literal_prefix, number-len, stops, take_prefix, word-len}
 
 -- ---- cutting
 
@@ -98,15 +98,15 @@ nothing_there : (w rest : List ℕ) → 0 < length w → w ++ rest ≡ [] → �
 nothing_there [] rest some e = omega (arith, some)
 nothing_there (c ∷ cs) rest some e = cc
 
-cut_token : (whole w rest : List ℕ) (more : List Lexeme) → 0 < length w → after_blank (w ++ rest) ≡ w ++ rest → front_len (w ++ rest) ≡ Some (length w) → HasTokens whole rest more → CutSo whole (w ++ rest) (w ∷ []) more
+cut_token : (whole w rest : List ℕ) (more : List Lexeme) → 0 < length w → after_blank (w ++ rest) ≡ w ++ rest → token_prefix_len (w ++ rest) ≡ Some (length w) → HasTokens whole rest more → CutSo whole (w ++ rest) (w ∷ []) more
 cut_token whole w rest more some blank len h = record {
-  lexemes = verilog_lexeme_at (place_of whole (w ++ rest)) w ∷ [];
-  are = ((place_of whole (w ++ rest), refl), tt);
+  lexemes = verilog_lexeme_at (offset_of whole (w ++ rest)) w ∷ [];
+  are = ((offset_of whole (w ++ rest), refl), tt);
   cuts =
-      subst (λ v. HasTokens whole (w ++ rest) (verilog_lexeme_at (place_of whole (w ++ rest)) v ∷ more)) (take_front w rest)
-      (subst (λ t. HasTokens whole (w ++ rest) (verilog_lexeme_at (place_of whole t) (take (length w) t) ∷ more)) blank
-      (goes (w ++ rest) (length w) more (λ none. nothing_there w rest some (sym blank ∙ none)) (ap front_len blank ∙ len)
-      (subst (λ t. HasTokens whole (drop (length w) t) more) (sym blank) (subst (λ t. HasTokens whole t more) (sym (drop_front w rest)) h))));
+      subst (λ v. HasTokens whole (w ++ rest) (verilog_lexeme_at (offset_of whole (w ++ rest)) v ∷ more)) (take_prefix w rest)
+      (subst (λ t. HasTokens whole (w ++ rest) (verilog_lexeme_at (offset_of whole t) (take (length w) t) ∷ more)) blank
+      (goes (w ++ rest) (length w) more (λ none. nothing_there w rest some (sym blank ∙ none)) (ap token_prefix_len blank ∙ len)
+      (subst (λ t. HasTokens whole (drop (length w) t) more) (sym blank) (subst (λ t. HasTokens whole t more) (sym (drop_prefix w rest)) h))));
 }
 
 -- no blank begins here
@@ -143,7 +143,7 @@ cuts_number n h =
 
 pub cuts_literal : (l : Literal) → l.width ≤ 128 → Cuts (literal_text l) (literal_text l ∷ [])
 cuts_literal l h =
-    let front = literal_front l h in
+    let front = literal_prefix l h in
     record {
       cut = λ whole rest more stop k.
           cut_token whole (literal_text l) rest more front.some
@@ -166,71 +166,71 @@ single false true c = refl
 single false false true = refl
 single false false false = refl
 
-mark : (c : ℕ) → ((rest : List ℕ) → after_blank (c ∷ rest) ≡ c ∷ rest) → ((rest : List ℕ) → front_len (c ∷ rest) ≡ Some 1) → Opens (c ∷ []) ((c ∷ []) ∷ [])
+mark : (c : ℕ) → ((rest : List ℕ) → after_blank (c ∷ rest) ≡ c ∷ rest) → ((rest : List ℕ) → token_prefix_len (c ∷ rest) ≡ Some 1) → Opens (c ∷ []) ((c ∷ []) ∷ [])
 mark c blank len = record { cut = λ whole rest more h. cut_token whole (c ∷ []) rest more (omega arith) (blank rest) (len rest) h }
 
 pub mark_LPAREN : Opens (codes "(") (codes "(" ∷ [])
-unfolding front_len mark_len
+unfolding token_prefix_len mark_len
 mark_LPAREN = mark 40 (λ rest. refl) (λ rest. single (slice_index rest 0 == 61) (slice_index rest 0 == 60) (slice_index rest 0 == 62))
 
 pub mark_RPAREN : Opens (codes ")") (codes ")" ∷ [])
-unfolding front_len mark_len
+unfolding token_prefix_len mark_len
 mark_RPAREN = mark 41 (λ rest. refl) (λ rest. single (slice_index rest 0 == 61) (slice_index rest 0 == 60) (slice_index rest 0 == 62))
 
 pub mark_SEMI : Opens (codes ";") (codes ";" ∷ [])
-unfolding front_len mark_len
+unfolding token_prefix_len mark_len
 mark_SEMI = mark 59 (λ rest. refl) (λ rest. single (slice_index rest 0 == 61) (slice_index rest 0 == 60) (slice_index rest 0 == 62))
 
 pub mark_COMMA : Opens (codes ",") (codes "," ∷ [])
-unfolding front_len mark_len
+unfolding token_prefix_len mark_len
 mark_COMMA = mark 44 (λ rest. refl) (λ rest. single (slice_index rest 0 == 61) (slice_index rest 0 == 60) (slice_index rest 0 == 62))
 
 pub mark_LBRACKET : Opens (codes "[") (codes "[" ∷ [])
-unfolding front_len mark_len
+unfolding token_prefix_len mark_len
 mark_LBRACKET = mark 91 (λ rest. refl) (λ rest. single (slice_index rest 0 == 61) (slice_index rest 0 == 60) (slice_index rest 0 == 62))
 
 pub mark_RBRACKET : Opens (codes "]") (codes "]" ∷ [])
-unfolding front_len mark_len
+unfolding token_prefix_len mark_len
 mark_RBRACKET = mark 93 (λ rest. refl) (λ rest. single (slice_index rest 0 == 61) (slice_index rest 0 == 60) (slice_index rest 0 == 62))
 
 pub mark_COLON : Opens (codes ":") (codes ":" ∷ [])
-unfolding front_len mark_len
+unfolding token_prefix_len mark_len
 mark_COLON = mark 58 (λ rest. refl) (λ rest. single (slice_index rest 0 == 61) (slice_index rest 0 == 60) (slice_index rest 0 == 62))
 
 pub mark_LBRACE : Opens (codes "{") (codes "{" ∷ [])
-unfolding front_len mark_len
+unfolding token_prefix_len mark_len
 mark_LBRACE = mark 123 (λ rest. refl) (λ rest. single (slice_index rest 0 == 61) (slice_index rest 0 == 60) (slice_index rest 0 == 62))
 
 pub mark_RBRACE : Opens (codes "}") (codes "}" ∷ [])
-unfolding front_len mark_len
+unfolding token_prefix_len mark_len
 mark_RBRACE = mark 125 (λ rest. refl) (λ rest. single (slice_index rest 0 == 61) (slice_index rest 0 == 60) (slice_index rest 0 == 62))
 
 pub mark_AT : Opens (codes "@") (codes "@" ∷ [])
-unfolding front_len mark_len
+unfolding token_prefix_len mark_len
 mark_AT = mark 64 (λ rest. refl) (λ rest. single (slice_index rest 0 == 61) (slice_index rest 0 == 60) (slice_index rest 0 == 62))
 
 pub mark_MINUS : Opens (codes "-") (codes "-" ∷ [])
-unfolding front_len mark_len
+unfolding token_prefix_len mark_len
 mark_MINUS = mark 45 (λ rest. refl) (λ rest. single (slice_index rest 0 == 61) (slice_index rest 0 == 60) (slice_index rest 0 == 62))
 
 pub mark_TILDE : Opens (codes "~") (codes "~" ∷ [])
-unfolding front_len mark_len
+unfolding token_prefix_len mark_len
 mark_TILDE = mark 126 (λ rest. refl) (λ rest. single (slice_index rest 0 == 61) (slice_index rest 0 == 60) (slice_index rest 0 == 62))
 
 pub mark_AMP : Opens (codes "&") (codes "&" ∷ [])
-unfolding front_len mark_len
+unfolding token_prefix_len mark_len
 mark_AMP = mark 38 (λ rest. refl) (λ rest. single (slice_index rest 0 == 61) (slice_index rest 0 == 60) (slice_index rest 0 == 62))
 
 pub mark_PIPE : Opens (codes "|") (codes "|" ∷ [])
-unfolding front_len mark_len
+unfolding token_prefix_len mark_len
 mark_PIPE = mark 124 (λ rest. refl) (λ rest. single (slice_index rest 0 == 61) (slice_index rest 0 == 60) (slice_index rest 0 == 62))
 
 pub mark_CARET : Opens (codes "^") (codes "^" ∷ [])
-unfolding front_len mark_len
+unfolding token_prefix_len mark_len
 mark_CARET = mark 94 (λ rest. refl) (λ rest. single (slice_index rest 0 == 61) (slice_index rest 0 == 60) (slice_index rest 0 == 62))
 
 -- with a space on each side
-spaced : (w : List ℕ) → 0 < length w → ((rest : List ℕ) → after_blank (w ++ 32 ∷ rest) ≡ w ++ 32 ∷ rest) → ((rest : List ℕ) → front_len (w ++ 32 ∷ rest) ≡ Some (length w)) → Opens (32 ∷ (w ++ 32 ∷ [])) (w ∷ [])
+spaced : (w : List ℕ) → 0 < length w → ((rest : List ℕ) → after_blank (w ++ 32 ∷ rest) ≡ w ++ 32 ∷ rest) → ((rest : List ℕ) → token_prefix_len (w ++ 32 ∷ rest) ≡ Some (length w)) → Opens (32 ∷ (w ++ 32 ∷ [])) (w ∷ [])
 spaced w some blank len = record {
   cut = λ whole rest more h.
       let cut = cut_token whole w (32 ∷ rest) more some (blank rest) (len rest) (behind_space whole rest more h) in
@@ -242,87 +242,87 @@ spaced w some blank len = record {
 }
 
 pub spaced_PLUS : Opens (codes " + ") (codes "+" ∷ [])
-unfolding front_len mark_len
+unfolding token_prefix_len mark_len
 spaced_PLUS = spaced (codes "+") (omega arith) (λ rest. refl) (λ rest. refl)
 
 pub spaced_MINUS : Opens (codes " - ") (codes "-" ∷ [])
-unfolding front_len mark_len
+unfolding token_prefix_len mark_len
 spaced_MINUS = spaced (codes "-") (omega arith) (λ rest. refl) (λ rest. refl)
 
 pub spaced_STAR : Opens (codes " * ") (codes "*" ∷ [])
-unfolding front_len mark_len
+unfolding token_prefix_len mark_len
 spaced_STAR = spaced (codes "*") (omega arith) (λ rest. refl) (λ rest. refl)
 
 pub spaced_SLASH : Opens (codes " / ") (codes "/" ∷ [])
-unfolding front_len mark_len
+unfolding token_prefix_len mark_len
 spaced_SLASH = spaced (codes "/") (omega arith) (λ rest. refl) (λ rest. refl)
 
 pub spaced_PERCENT : Opens (codes " % ") (codes "%" ∷ [])
-unfolding front_len mark_len
+unfolding token_prefix_len mark_len
 spaced_PERCENT = spaced (codes "%") (omega arith) (λ rest. refl) (λ rest. refl)
 
 pub spaced_AMP : Opens (codes " & ") (codes "&" ∷ [])
-unfolding front_len mark_len
+unfolding token_prefix_len mark_len
 spaced_AMP = spaced (codes "&") (omega arith) (λ rest. refl) (λ rest. refl)
 
 pub spaced_PIPE : Opens (codes " | ") (codes "|" ∷ [])
-unfolding front_len mark_len
+unfolding token_prefix_len mark_len
 spaced_PIPE = spaced (codes "|") (omega arith) (λ rest. refl) (λ rest. refl)
 
 pub spaced_CARET : Opens (codes " ^ ") (codes "^" ∷ [])
-unfolding front_len mark_len
+unfolding token_prefix_len mark_len
 spaced_CARET = spaced (codes "^") (omega arith) (λ rest. refl) (λ rest. refl)
 
 pub spaced_EQ : Opens (codes " == ") (codes "==" ∷ [])
-unfolding front_len mark_len
+unfolding token_prefix_len mark_len
 spaced_EQ = spaced (codes "==") (omega arith) (λ rest. refl) (λ rest. refl)
 
 pub spaced_NE : Opens (codes " != ") (codes "!=" ∷ [])
-unfolding front_len mark_len
+unfolding token_prefix_len mark_len
 spaced_NE = spaced (codes "!=") (omega arith) (λ rest. refl) (λ rest. refl)
 
 pub spaced_SHL : Opens (codes " << ") (codes "<<" ∷ [])
-unfolding front_len mark_len
+unfolding token_prefix_len mark_len
 spaced_SHL = spaced (codes "<<") (omega arith) (λ rest. refl) (λ rest. refl)
 
 pub spaced_SHR : Opens (codes " >> ") (codes ">>" ∷ [])
-unfolding front_len mark_len
+unfolding token_prefix_len mark_len
 spaced_SHR = spaced (codes ">>") (omega arith) (λ rest. refl) (λ rest. refl)
 
 pub spaced_LT : Opens (codes " < ") (codes "<" ∷ [])
-unfolding front_len mark_len
+unfolding token_prefix_len mark_len
 spaced_LT = spaced (codes "<") (omega arith) (λ rest. refl) (λ rest. refl)
 
 pub spaced_LE : Opens (codes " <= ") (codes "<=" ∷ [])
-unfolding front_len mark_len
+unfolding token_prefix_len mark_len
 spaced_LE = spaced (codes "<=") (omega arith) (λ rest. refl) (λ rest. refl)
 
 pub spaced_GT : Opens (codes " > ") (codes ">" ∷ [])
-unfolding front_len mark_len
+unfolding token_prefix_len mark_len
 spaced_GT = spaced (codes ">") (omega arith) (λ rest. refl) (λ rest. refl)
 
 pub spaced_GE : Opens (codes " >= ") (codes ">=" ∷ [])
-unfolding front_len mark_len
+unfolding token_prefix_len mark_len
 spaced_GE = spaced (codes ">=") (omega arith) (λ rest. refl) (λ rest. refl)
 
 pub spaced_EQUALS : Opens (codes " = ") (codes "=" ∷ [])
-unfolding front_len mark_len
+unfolding token_prefix_len mark_len
 spaced_EQUALS = spaced (codes "=") (omega arith) (λ rest. refl) (λ rest. refl)
 
 pub spaced_QUESTION : Opens (codes " ? ") (codes "?" ∷ [])
-unfolding front_len mark_len
+unfolding token_prefix_len mark_len
 spaced_QUESTION = spaced (codes "?") (omega arith) (λ rest. refl) (λ rest. refl)
 
 pub spaced_COLON : Opens (codes " : ") (codes ":" ∷ [])
-unfolding front_len mark_len
+unfolding token_prefix_len mark_len
 spaced_COLON = spaced (codes ":") (omega arith) (λ rest. refl) (λ rest. refl)
 
 pub spaced_ASHR : Opens (codes " >>> ") (codes ">>>" ∷ [])
-unfolding front_len mark_len
+unfolding token_prefix_len mark_len
 spaced_ASHR = spaced (codes ">>>") (omega arith) (λ rest. refl) (λ rest. refl)
 
 pub signed_word : Opens (codes "$signed(") (codes "$signed" ∷ codes "(" ∷ [])
-unfolding front_len
+unfolding token_prefix_len
 signed_word = record {
   cut = λ whole rest more h.
       let second = mark_LPAREN.cut whole rest more h in
@@ -332,7 +332,7 @@ signed_word = record {
 
 -- `0]`
 pub zero_end : Opens (codes "0]") (codes "0" ∷ codes "]" ∷ [])
-unfolding front_len number_len
+unfolding token_prefix_len number_len
 zero_end = record {
   cut = λ whole rest more h.
       let second = mark_RBRACKET.cut whole rest more h in

@@ -31,7 +31,7 @@ use Rattle.vlog_tree.specs.declared.expression.Expr.{Expr}
 use Rattle.vlog_tree.specs.declared.expression.Expr.TheVariants as expr
 use Rattle.vlog_tree.specs.Signals.{signals}
 use Rattle.vlog_tree.specs.Sound.{IsKnown, IsKnownAtom, IsKnownSimple}
-use Rattle.vlog_token.specs.Fronts.{width_said}
+use Rattle.vlog_token.specs.TokenPrefixes.{width_said}
 use Rattle.vlog_token.specs.Kinds.{digits_kind, verilog_kind}
 use Rattle.vlog_builder.specs.Building.{is_name, is_number}
 use Rattle.vlog_builder.specs.Parts.{literal_of, most, name_text}
@@ -39,7 +39,7 @@ use Rattle.vlog_builder.specs.declared.tail.Tail.TheVariants as tail
 use Rattle.vlog_text.specs.Printer.Parts.{atom_text, literal_text, signal_text, unary_text}
 use Rattle.vlog_text.proofs.OnRoundTrip.Core.{Core, kept_by, shifted_core}
 use Rattle.vlog_text.proofs.OnRoundTrip.Says.{Says, says_is, says_next, says_nothing, says_token}
-use Rattle.vlog_text.proofs.OnRoundTrip.Spelling.{drop_front, literal-is_literal, number-is_number, take_front}
+use Rattle.vlog_text.proofs.OnRoundTrip.Spelling.{drop_prefix, literal-is_literal, number-is_number, take_prefix}
 use Rattle.vlog_text.proofs.OnRoundTrip.Words.{AreNamed, IsShort, IsShortExpr, IsWrittenAssignment, IsWrittenDeclaration, IsWrittenPort, IsWrittenSet, always_words, assignment_words, assignments_words, binary_word, choice_words, clock_words, declaration_words, declaration_names, declarations_words, direction_word, expr_words, listed_words, more_ports_words, more_words, order_word, port_names, port_words, range_words, reset_words, said_assignment, said_atom, said_declaration, said_expr, said_number, said_port, said_range, said_set, said_simple, set_words, sets_words, simple_words, slice_words, storage_word}
 use Rattle.vlog_text.proofs.OnRoundTrip.Grammar as g
 
@@ -157,11 +157,11 @@ counted_is (a ∷ atoms) h =
     let before : counted atoms ≡ length atoms = counted_is atoms (omega (arith, h)) in
     omega (arith, before, h)
 
-take_front_of : (xs ys : List Atom) (k : ℕ) → k ≡ length xs → take k (xs ++ ys) ≡ xs
-take_front_of xs ys k e = ap (λ n. take n (xs ++ ys)) e ∙ take_front xs ys
+take_prefix_of : (xs ys : List Atom) (k : ℕ) → k ≡ length xs → take k (xs ++ ys) ≡ xs
+take_prefix_of xs ys k e = ap (λ n. take n (xs ++ ys)) e ∙ take_prefix xs ys
 
-drop_front_of : (xs ys : List Atom) (k : ℕ) → k ≡ length xs → drop k (xs ++ ys) ≡ ys
-drop_front_of xs ys k e = ap (λ n. drop n (xs ++ ys)) e ∙ drop_front xs ys
+drop_prefix_of : (xs ys : List Atom) (k : ℕ) → k ≡ length xs → drop k (xs ++ ys) ≡ ys
+drop_prefix_of xs ys k e = ap (λ n. drop n (xs ++ ys)) e ∙ drop_prefix xs ys
 
 braced : (atoms : List Atom) (count : ℕ) (c : Core) → count ≡ length atoms
     → ◌≡◌ {A = Core} (record c { atoms = drop count (pushed atoms c.atoms); simples = simple.Concat (reverse (take count (pushed atoms c.atoms))) ∷ c.simples })
@@ -169,8 +169,8 @@ braced : (atoms : List Atom) (count : ℕ) (c : Core) → count ≡ length atoms
 braced atoms count c e =
     let size : count ≡ length (reverse atoms) = e ∙ sym (length-reverse atoms) in
     ap₂ {C = Core} (λ rest front. record c { atoms = rest; simples = simple.Concat (reverse front) ∷ c.simples })
-    (ap (drop count) (pushed_is atoms c.atoms) ∙ drop_front_of (reverse atoms) c.atoms count size)
-    (ap (take count) (pushed_is atoms c.atoms) ∙ take_front_of (reverse atoms) c.atoms count size)
+    (ap (drop count) (pushed_is atoms c.atoms) ∙ drop_prefix_of (reverse atoms) c.atoms count size)
+    (ap (take count) (pushed_is atoms c.atoms) ∙ take_prefix_of (reverse atoms) c.atoms count size)
     ∙ ap (λ xs. record c { simples = simple.Concat xs ∷ c.simples }) (reverse-reverse atoms)
 
 module _ (m : VModule) (named : AreNamed m) where

@@ -23,10 +23,10 @@ use Rattle.vlog_tree.specs.declared.expression.Expr.TheVariants as expr
 use Rattle.vlog_tree.specs.Signals.{Declared, declared_own, declared_port, signals}
 use Rattle.vlog_tree.specs.Sound.{IsKnown, IsKnownAtom, IsKnownSimple}
 use Rattle.vlog_tree.specs.Verifier.Parts.{is_among}
-use Rattle.vlog_builder.specs.Parts.{most, name_text, place_from, range_width, signal_of, undeclared}
+use Rattle.vlog_builder.specs.Parts.{most, name_text, index_from, range_width, signal_of, undeclared}
 use Rattle.vlog_builder.specs.Rules.{declaration_by, port_by}
 use Rattle.vlog_text.specs.Printer.Parts.{signal_text}
-use Rattle.vlog_text.proofs.OnRoundTrip.Placed.{AreApart}
+use Rattle.vlog_text.proofs.OnRoundTrip.WithSpans.{AreApart}
 use Rattle.vlog_text.proofs.OnRoundTrip.Spelling.{if_false, if_true, literal-said, name-said, number-said}
 use Rattle.vlog_text.proofs.OnRoundTrip.Whole.{read_names, said_module}
 use Rattle.vlog_text.proofs.OnRoundTrip.Words.{IsShort, IsShortExpr, IsWrittenAssignment, IsWrittenDeclaration, IsWrittenModule, IsWrittenPort, IsWrittenSet, declaration_names, port_names, said_assignment, said_atom, said_declaration, said_expr, said_number, said_port, said_range, said_set, said_signal, said_simple}
@@ -58,7 +58,7 @@ last_differs seen name q h =
 same_name : (q : List ℕ) → bytes_eq q q ≡ true
 same_name q = (bytes_eq-Decides q q).1 refl
 
-found : (seen : List (List ℕ)) (ds : List Declared) → AreApart seen ds → (i k : ℕ) (d : Declared) → slice_get ds k ≡ Some d → place_from i (names_of ds) d.name ≡ Some (min (i + k) undeclared)
+found : (seen : List (List ℕ)) (ds : List Declared) → AreApart seen ds → (i k : ℕ) (d : Declared) → slice_get ds k ≡ Some d → index_from i (names_of ds) d.name ≡ Some (min (i + k) undeclared)
 found seen [] h i k d e = absurd (cc)
 found seen (x ∷ ds) h i zero d e =
     let same : x ≡ d = cc in
@@ -68,7 +68,7 @@ found seen (x ∷ ds) h i zero d e =
     none_more : (i : ℕ) → i ≡ i + 0
     none_more i = omega arith
 found seen (x ∷ ds) h i (suc k) d e =
-    if_false (bytes_eq d.name x.name) (Some (min i undeclared)) (place_from (suc i) (names_of ds) d.name) (last_differs seen x.name d.name (unseen (seen ++ x.name ∷ []) ds h.1 k d e))
+    if_false (bytes_eq d.name x.name) (Some (min i undeclared)) (index_from (suc i) (names_of ds) d.name) (last_differs seen x.name d.name (unseen (seen ++ x.name ∷ []) ds h.1 k d e))
     ∙ found (seen ++ x.name ∷ []) ds h.1 (suc i) k d e
     ∙ ap (λ j. Some (min j undeclared)) (step i k)
   where

@@ -18,9 +18,9 @@ use Rattle.vlog_tree.specs.declared.module.Storage.{Storage}
 use Rattle.vlog_tree.specs.declared.module.Storage.TheVariants as storages
 use Rattle.vlog_tree.specs.Signals.{declared_own, declared_port, signals}
 use Rattle.vlog_tree.specs.WellFormed.{CanRun}
-use Rattle.vlog_tree.specs.declared.verifier.places.Places.{Places}
-use Rattle.vlog_tree.specs.Verifier.Placed.{no_places}
-use Rattle.vlog_tree.specs.Verifier.Verified.{IsJudged}
+use Rattle.vlog_tree.specs.declared.verifier.part_spans.PartSpans.{PartSpans}
+use Rattle.vlog_tree.specs.Verifier.WithSpans.{no_spans}
+use Rattle.vlog_tree.specs.Verifier.Verified.{IsVerdict}
 use Rattle.vlog_token.specs.Tokens.{HasTokens, ends, verilog_lexeme_at}
 use Rattle.vlog_builder.specs.Building.{built, parsed_of}
 use Rattle.vlog_builder.specs.Empty.{empty}
@@ -33,7 +33,7 @@ use Rattle.vlog_text.specs.Reader.Given.{GivesModule, sound}
 use Rattle.vlog_text.specs.RoundTrip.Names.{HasTextNames}
 use Rattle.vlog_text.proofs.OnRoundTrip.Core.{core, design-of_core, design_of}
 use Rattle.vlog_text.proofs.OnRoundTrip.Cuts.{Opens}
-use Rattle.vlog_text.proofs.OnRoundTrip.Placed.{judged_anywhere, names_apart}
+use Rattle.vlog_text.proofs.OnRoundTrip.WithSpans.{verdict_anywhere, names_apart}
 use Rattle.vlog_text.proofs.OnRoundTrip.Resolved.{same_module}
 use Rattle.vlog_text.proofs.OnRoundTrip.Says.{AreOf, are-append, are-kinds, says_next, says_token}
 use Rattle.vlog_text.proofs.OnRoundTrip.Texts.{module_cut}
@@ -46,8 +46,8 @@ use Rattle.vlog_text.proofs.OnRoundTrip.Writing.{written}
 behind_longer : (a b : List ℕ) → length b ≤ length (a ++ b)
 behind_longer a b = omega (arith, length-append a b)
 
-front_longer : (a b : List ℕ) → length a ≤ length (a ++ b)
-front_longer a b = omega (arith, length-append a b)
+prefix_longer : (a b : List ℕ) → length a ≤ length (a ++ b)
+prefix_longer a b = omega (arith, length-append a b)
 
 direction_some : (d : Direction) → 1 ≤ length (direction_text d)
 direction_some directions.Input = omega arith
@@ -62,7 +62,7 @@ ports_fewer separator [] = omega arith
 ports_fewer separator (p ∷ ports) =
     let more = ports_fewer (codes ", ") ports in
     let some = direction_some p.direction in
-    let port : length (direction_text p.direction) ≤ length (port_text p) = front_longer (direction_text p.direction) _ in
+    let port : length (direction_text p.direction) ≤ length (port_text p) = prefix_longer (direction_text p.direction) _ in
     let both = length-append (port_text p) (listed (codes ", ") (map port_text ports)) in
     let all = length-append separator (port_text p ++ listed (codes ", ") (map port_text ports)) in
     omega (arith, more, some, port, both, all)
@@ -72,7 +72,7 @@ declarations_fewer [] = omega arith
 declarations_fewer (d ∷ ds) =
     let more = declarations_fewer ds in
     let some = storage_some d.storage in
-    let own : length (storage_text d.storage) ≤ length (declaration_text d) = front_longer (storage_text d.storage) _ in
+    let own : length (storage_text d.storage) ≤ length (declaration_text d) = prefix_longer (storage_text d.storage) _ in
     let all = ap length (flat_map-cons declaration_text d ds) ∙ length-append (declaration_text d) (flat_map declaration_text ds) in
     omega (arith, more, some, own, all)
 
@@ -80,7 +80,7 @@ ports_in_start : (m : VModule) → length m.ports ≤ length (module_start m)
 unfolding module_start
 ports_in_start m =
     let ports = ports_fewer [] m.ports in
-    let a = front_longer (listed [] (map port_text m.ports)) (codes ");\n") in
+    let a = prefix_longer (listed [] (map port_text m.ports)) (codes ");\n") in
     let b = behind_longer (codes "(") (listed [] (map port_text m.ports) ++ codes ");\n") in
     let c = behind_longer m.name (codes "(" ++ (listed [] (map port_text m.ports) ++ codes ");\n")) in
     let d = behind_longer (codes "module ") (m.name ++ (codes "(" ++ (listed [] (map port_text m.ports) ++ codes ");\n"))) in
@@ -95,15 +95,15 @@ fewer m =
     let d = length-map m.declarations declared_own in
     let rest : List ℕ = flat_map (assignment_text m) m.assignments ++ (clocked_text m ++ codes "endmodule\n") in
     let whole = length-append (module_start m) (flat_map declaration_text m.declarations ++ rest) in
-    let back = front_longer (flat_map declaration_text m.declarations) rest in
+    let back = prefix_longer (flat_map declaration_text m.declarations) rest in
     omega (arith, ports, own, count, p, d, whole, back)
 
 -- each assignment's text begins with a word
 assignment_some : (m : VModule) (a : Assignment) → 1 ≤ length (assignment_text m a)
 unfolding assignment_start
 assignment_some m a =
-    let start = front_longer (codes "assign ") (signal_text m a.target.0 ++ codes " = ") in
-    let own = front_longer (assignment_start m a.target.0) (expr_text m a.value ++ codes ";\n") in
+    let start = prefix_longer (codes "assign ") (signal_text m a.target.0 ++ codes " = ") in
+    let own = prefix_longer (assignment_start m a.target.0) (expr_text m a.value ++ codes ";\n") in
     omega (arith, start, own)
 
 texts_fewer : (m : VModule) (xs : List Assignment) → length xs ≤ length (flat_map (assignment_text m) xs)
@@ -118,7 +118,7 @@ assignments_fewer : (m : VModule) → length m.assignments ≤ length (module_te
 assignments_fewer m =
     let own = texts_fewer m m.assignments in
     let rest : List ℕ = clocked_text m ++ codes "endmodule\n" in
-    let a = front_longer (flat_map (assignment_text m) m.assignments) rest in
+    let a = prefix_longer (flat_map (assignment_text m) m.assignments) rest in
     let b = behind_longer (flat_map declaration_text m.declarations) (flat_map (assignment_text m) m.assignments ++ rest) in
     let c = behind_longer (module_start m) (flat_map declaration_text m.declarations ++ (flat_map (assignment_text m) m.assignments ++ rest)) in
     omega (arith, own, a, b, c)
@@ -173,10 +173,10 @@ read_as m b ls are same =
 -- ---- the round trip
 
 -- what is judged can run: the law is an argument
-pub round : ((m : VModule) (places : Places) → IsJudged m places None → length m.assignments < 2 ^ 32 → CanRun m)
-    → (m : VModule) → IsJudged m no_places None → HasTextNames m → length (module_text m) < 2 ^ 32 → GivesModule (module_text m) (Ok m)
+pub round : ((m : VModule) (part_spans : PartSpans) → IsVerdict m part_spans None → length m.assignments < 2 ^ 32 → CanRun m)
+    → (m : VModule) → IsVerdict m no_spans None → HasTextNames m → length (module_text m) < 2 ^ 32 → GivesModule (module_text m) (Ok m)
 round can_run m judged names short =
-    let run = can_run m no_places judged (let count = assignments_fewer m in omega (arith, count, short)) in
+    let run = can_run m no_spans judged (let count = assignments_fewer m in omega (arith, count, short)) in
     let w = written m run names in
     let ports = run.wired.ports in
     let few : length (signals m) < 4294967296 = let count = fewer m in omega (arith, count, short) in
@@ -185,4 +185,4 @@ round can_run m judged names short =
     let read = read_as m (module_built m w ports.clock (ports.reset ∷ ports.channels) ports.are) words.lexemes words.are same in
     subst (λ d. GivesModule (module_text m) (Ok d)) read.design
     (sound words.lexemes read.parsed words.tokens (whole read.parsed read.reads)
-    (subst (λ d. IsJudged d read.parsed.places None) (sym read.design) (judged_anywhere m read.parsed.places judged)))
+    (subst (λ d. IsVerdict d read.parsed.part_spans None) (sym read.design) (verdict_anywhere m read.parsed.part_spans judged)))

@@ -14,7 +14,7 @@ use mathlib.Core.HLevel.{is_prop→PathP}
 use Rattle.base.specs.Texts.Words.{begins_word, is_word, is_word_byte}
 use Rattle.vlog_token.specs.declared.rules.generated.kind.TheConstants.{LITERAL, NUMBER, ZERO}
 use Rattle.vlog_tree.specs.declared.expression.Literal.{Literal}
-use Rattle.vlog_token.specs.Fronts.{begins_literal, begins_value, digit_run, front_digits, front_len, is_in_range, number_len, value_digits, value_said, width_said, word_run}
+use Rattle.vlog_token.specs.TokenPrefixes.{begins_literal, begins_value, digit_run, prefix_digits, token_prefix_len, is_in_range, number_len, value_digits, value_said, width_said, word_run}
 use Rattle.vlog_token.specs.Kinds.{digits_kind, verilog_kind}
 use Rattle.vlog_builder.specs.Building.{is_number}
 use Rattle.vlog_builder.specs.Parts.{literal_of, most, name_text}
@@ -45,13 +45,13 @@ not_true false h = refl
 
 -- ---- lists
 
-pub take_front : {A : Type 0} (xs ys : List A) → take (length xs) (xs ++ ys) ≡ xs
-take_front [] ys = refl
-take_front (x ∷ xs) ys = ap (λ r. x ∷ r) (take_front xs ys)
+pub take_prefix : {A : Type 0} (xs ys : List A) → take (length xs) (xs ++ ys) ≡ xs
+take_prefix [] ys = refl
+take_prefix (x ∷ xs) ys = ap (λ r. x ∷ r) (take_prefix xs ys)
 
-pub drop_front : {A : Type 0} (xs ys : List A) → drop (length xs) (xs ++ ys) ≡ ys
-drop_front [] ys = refl
-drop_front (x ∷ xs) ys = drop_front xs ys
+pub drop_prefix : {A : Type 0} (xs ys : List A) → drop (length xs) (xs ++ ys) ≡ ys
+drop_prefix [] ys = refl
+drop_prefix (x ∷ xs) ys = drop_prefix xs ys
 
 -- how far a run goes, where what stands behind it doesn't go on
 run_stops : (p : ℕ → Bool) (rest : List ℕ) → p (slice_index rest 0) ≡ false → prefix_len p rest ≡ 0
@@ -113,11 +113,11 @@ decimal_value n h = (decimal_is_IsNumeral_wide n h).1
 run_of : (ds rest : List ℕ) → AreDigits ds → is_ascii_digit (slice_index rest 0) ≡ false → digit_run (ds ++ rest) ≡ length ds
 run_of ds rest d h = run_over is_ascii_digit ds rest d.all h
 
-front_of : (ds rest : List ℕ) → AreDigits ds → is_ascii_digit (slice_index rest 0) ≡ false → front_digits (ds ++ rest) ≡ ds
-front_of ds rest d h = ap (λ n. take n (ds ++ rest)) (run_of ds rest d h) ∙ take_front ds rest
+prefix_of : (ds rest : List ℕ) → AreDigits ds → is_ascii_digit (slice_index rest 0) ≡ false → prefix_digits (ds ++ rest) ≡ ds
+prefix_of ds rest d h = ap (λ n. take n (ds ++ rest)) (run_of ds rest d h) ∙ take_prefix ds rest
 
 behind_of : (ds rest : List ℕ) → AreDigits ds → is_ascii_digit (slice_index rest 0) ≡ false → drop (digit_run (ds ++ rest)) (ds ++ rest) ≡ rest
-behind_of ds rest d h = ap (λ n. drop n (ds ++ rest)) (run_of ds rest d h) ∙ drop_front ds rest
+behind_of ds rest d h = ap (λ n. drop n (ds ++ rest)) (run_of ds rest d h) ∙ drop_prefix ds rest
 
 no_value : (rest : List ℕ) → (slice_index rest 0 == 39) ≡ false → begins_value rest ≡ false
 no_value rest h = ap (λ b. b && ((slice_index rest 1 == 100) && is_ascii_digit (slice_index rest 2))) h
@@ -149,25 +149,25 @@ number-is_number n h = digits_are_number (decimal n) (decimal_digits n (omega (a
 pub number-said : (n : ℕ) → n ≤ 128 → said_number n ≡ n
 number-said n h =
     let big : n < 10 ^ 64 = omega (arith, h) in
-    let front : front_digits (decimal n) ≡ decimal n = subst (λ t. front_digits t ≡ decimal n) (append-nil (decimal n)) (front_of (decimal n) [] (decimal_digits n big) refl) in
+    let front : prefix_digits (decimal n) ≡ decimal n = subst (λ t. prefix_digits t ≡ decimal n) (append-nil (decimal n)) (prefix_of (decimal n) [] (decimal_digits n big) refl) in
     let value : width_said (decimal n) ≡ n = ap (digits_value 10) front ∙ decimal_value n big in
     omega (arith, value, h)
 
-len_of_digits : (c : ℕ) (cs : List ℕ) → is_ascii_digit c ≡ true → front_len (c ∷ cs) ≡ number_len (c ∷ cs)
-unfolding front_len
+len_of_digits : (c : ℕ) (cs : List ℕ) → is_ascii_digit c ≡ true → token_prefix_len (c ∷ cs) ≡ number_len (c ∷ cs)
+unfolding token_prefix_len
 len_of_digits c cs digit = if_false (begins_word c) _ _ (digit_begins_no_word c digit) ∙ if_true (is_ascii_digit c) _ _ digit
 
 short_len : (text : List ℕ) (k : ℕ) → begins_literal text ≡ false → digit_run text ≡ k → number_len text ≡ Some k
 unfolding number_len
 short_len text k none run = if_false (begins_literal text) _ (Some (digit_run text)) none ∙ ap Some run
 
-digits_len : (ds rest : List ℕ) → AreDigits ds → is_ascii_digit (slice_index rest 0) ≡ false → (slice_index rest 0 == 39) ≡ false → front_len (ds ++ rest) ≡ Some (length ds)
+digits_len : (ds rest : List ℕ) → AreDigits ds → is_ascii_digit (slice_index rest 0) ≡ false → (slice_index rest 0 == 39) ≡ false → token_prefix_len (ds ++ rest) ≡ Some (length ds)
 digits_len [] rest d h q = absurd (omega (arith, d.some))
 digits_len (c ∷ cs) rest d h q =
     len_of_digits c (cs ++ rest) (and_first (is_ascii_digit c) (list_all is_ascii_digit cs) d.all)
     ∙ short_len ((c ∷ cs) ++ rest) (length (c ∷ cs)) (no_literal (c ∷ cs) rest d h q) (run_of (c ∷ cs) rest d h)
 
-pub number-len : (n : ℕ) (rest : List ℕ) → n ≤ 128 → stops rest ≡ true → front_len (decimal n ++ rest) ≡ Some (length (decimal n))
+pub number-len : (n : ℕ) (rest : List ℕ) → n ≤ 128 → stops rest ≡ true → token_prefix_len (decimal n ++ rest) ≡ Some (length (decimal n))
 number-len n rest h e = digits_len (decimal n) rest (decimal_digits n (omega (arith, h))) (no_digit (slice_index rest 0) e) (no_quote (slice_index rest 0) e)
 
 -- ---- literals
@@ -187,9 +187,9 @@ module _ (ds vs rest text : List ℕ) (s : IsSpelled ds vs rest text) where
   unfolding quoted
   run_is = ap digit_run s.is ∙ run_of ds quoted s.widths refl
 
-  front_is : front_digits text ≡ ds
+  prefix_is : prefix_digits text ≡ ds
   unfolding quoted
-  front_is = ap front_digits s.is ∙ front_of ds quoted s.widths refl
+  prefix_is = ap prefix_digits s.is ∙ prefix_of ds quoted s.widths refl
 
   first_digit : (xs : List ℕ) → AreDigits xs → is_ascii_digit (slice_index (39 ∷ 100 ∷ (xs ++ rest)) 2) ≡ true
   first_digit [] d = absurd (omega (arith, d.some))
@@ -211,8 +211,8 @@ module _ (ds vs rest text : List ℕ) (s : IsSpelled ds vs rest text) where
   unfolding quoted
   behind_is = ap₂ (λ n t. drop (n + 2) t) run_is s.is ∙ past ds
 
-  value_front : value_digits text ≡ vs
-  value_front = ap front_digits behind_is ∙ front_of vs rest s.values s.ends
+  value_prefix : value_digits text ≡ vs
+  value_prefix = ap prefix_digits behind_is ∙ prefix_of vs rest s.values s.ends
 
   value_run : digit_run (drop (digit_run text + 2) text) ≡ length vs
   value_run = ap digit_run behind_is ∙ run_of vs rest s.values s.ends
@@ -237,11 +237,11 @@ alone : (l : Literal) → l.width ≤ 128 → IsSpelled (decimal l.width) (decim
 alone l h = subst (IsSpelled (decimal l.width) (decimal l.value) []) (append-nil (literal_text l)) (spelled l [] h refl)
 
 literal_digits : (l : Literal) → l.width ≤ 128 → verilog_kind (literal_text l) ≡ digits_kind (literal_text l)
-literal_digits l h = by_front (literal_text l) (decimal l.width) (39 ∷ 100 ∷ (decimal l.value ++ [])) (alone l h).widths (alone l h).is
+literal_digits l h = by_prefix (literal_text l) (decimal l.width) (39 ∷ 100 ∷ (decimal l.value ++ [])) (alone l h).widths (alone l h).is
   where
-    by_front : (text ds behind : List ℕ) → AreDigits ds → text ≡ ds ++ behind → verilog_kind text ≡ digits_kind text
-    by_front text [] behind d e = absurd (omega (arith, d.some))
-    by_front text (c ∷ cs) behind d e =
+    by_prefix : (text ds behind : List ℕ) → AreDigits ds → text ≡ ds ++ behind → verilog_kind text ≡ digits_kind text
+    by_prefix text [] behind d e = absurd (omega (arith, d.some))
+    by_prefix text (c ∷ cs) behind d e =
         let digit = and_first (is_ascii_digit c) (list_all is_ascii_digit cs) d.all in
         subst (λ t. verilog_kind t ≡ digits_kind t) (sym e) (if_false (begins_word c) _ _ (digit_begins_no_word c digit) ∙ if_true (is_ascii_digit c) _ _ digit)
 
@@ -250,10 +250,10 @@ unfolding digits_kind
 literal-is_literal l h = literal_digits l h ∙ if_true (begins_literal (literal_text l)) LITERAL _ (begins (decimal l.width) (decimal l.value) [] (literal_text l) (alone l h))
 
 said_width : (l : Literal) (rest : List ℕ) → l.width ≤ 128 → is_ascii_digit (slice_index rest 0) ≡ false → width_said (literal_text l ++ rest) ≡ l.width
-said_width l rest h e = ap (digits_value 10) (front_is (decimal l.width) (decimal l.value) rest (literal_text l ++ rest) (spelled l rest h e)) ∙ decimal_value l.width (omega (arith, h))
+said_width l rest h e = ap (digits_value 10) (prefix_is (decimal l.width) (decimal l.value) rest (literal_text l ++ rest) (spelled l rest h e)) ∙ decimal_value l.width (omega (arith, h))
 
 said_value : (l : Literal) (rest : List ℕ) → l.width ≤ 128 → is_ascii_digit (slice_index rest 0) ≡ false → value_said (literal_text l ++ rest) ≡ l.value
-said_value l rest h e = ap (digits_value 10) (value_front (decimal l.width) (decimal l.value) rest (literal_text l ++ rest) (spelled l rest h e)) ∙ decimal_value l.value (literal_value_small l h)
+said_value l rest h e = ap (digits_value 10) (value_prefix (decimal l.width) (decimal l.value) rest (literal_text l ++ rest) (spelled l rest h e)) ∙ decimal_value l.value (literal_value_small l h)
 
 same_literal : (a b : Literal) → a.width ≡ b.width → a.value ≡ b.value → a ≡ b
 same_literal a b w v = λ i. record {
@@ -292,9 +292,9 @@ literal-said l h = same_literal (literal_of (literal_text l)) l width value
         ap₂ (λ (w v : ℕ). if nat_le w 128 && nat_lt v (2 ^ w) then v else 0) least valued
         ∙ if_true (nat_le l.width 128 && nat_lt l.value (2 ^ l.width)) l.value 0 (ap₂ (λ a b. a && b) narrow fits)
 
-len_by_front : (t ds behind : List ℕ) → AreDigits ds → t ≡ ds ++ behind → front_len t ≡ number_len t
-len_by_front t [] behind d q = absurd (omega (arith, d.some))
-len_by_front t (c ∷ cs) behind d q = subst (λ u. front_len u ≡ number_len u) (sym q) (len_of_digits c (cs ++ behind) (and_first (is_ascii_digit c) (list_all is_ascii_digit cs) d.all))
+len_by_prefix : (t ds behind : List ℕ) → AreDigits ds → t ≡ ds ++ behind → token_prefix_len t ≡ number_len t
+len_by_prefix t [] behind d q = absurd (omega (arith, d.some))
+len_by_prefix t (c ∷ cs) behind d q = subst (λ u. token_prefix_len u ≡ number_len u) (sym q) (len_of_digits c (cs ++ behind) (and_first (is_ascii_digit c) (list_all is_ascii_digit cs) d.all))
 
 long_len : (t : List ℕ) → begins_literal t ≡ true → is_in_range t ≡ true → number_len t ≡ Some (digit_run t + 2 + digit_run (drop (digit_run t + 2) t))
 unfolding number_len
@@ -314,36 +314,36 @@ positive l = let some : 1 ≤ l.width = l.some_width in grind (arith, nat_tests)
 value_fits : (l : Literal) → l.width ≤ 128 → nat_lt l.value (2 ^ l.width) ≡ true
 value_fits l h = let below : l.value < 2 ^ l.width = l.in_range h in grind (arith, nat_tests)
 
-pub literal-len : (l : Literal) (rest : List ℕ) → l.width ≤ 128 → stops rest ≡ true → front_len (literal_text l ++ rest) ≡ Some (length (literal_text l))
+pub literal-len : (l : Literal) (rest : List ℕ) → l.width ≤ 128 → stops rest ≡ true → token_prefix_len (literal_text l ++ rest) ≡ Some (length (literal_text l))
 literal-len l rest h e =
     let no = no_digit (slice_index rest 0) e in
     let text = literal_text l ++ rest in
     let s = spelled l rest h no in
     let ranged : is_in_range (literal_text l ++ rest) ≡ true =
     ap₂ (λ (w v : ℕ). nat_lt 0 w && nat_lt v (2 ^ w)) (said_width l rest h no) (said_value l rest h no) ∙ ap₂ (λ a b. a && b) (positive l) (value_fits l h) in
-    len_by_front text (decimal l.width) (39 ∷ 100 ∷ (decimal l.value ++ rest)) s.widths s.is
+    len_by_prefix text (decimal l.width) (39 ∷ 100 ∷ (decimal l.value ++ rest)) s.widths s.is
     ∙ long_len text (begins (decimal l.width) (decimal l.value) rest text s) ranged
     ∙ ap Some
     (ap₂ (λ (a b : ℕ). a + 2 + b) (run_is (decimal l.width) (decimal l.value) rest text s) (value_run (decimal l.width) (decimal l.value) rest text s)
     ∙ sym (literal_length l))
 
 -- a literal begins with digits
-pub record BeginsWithDigits (text : List ℕ) : Type 0 where
+pub record StartsWithDigits (text : List ℕ) : Type 0 where
   pub some : 0 < length text
   pub digits : List ℕ
   pub behind : List ℕ
   pub are : AreDigits digits
   pub is : text ≡ digits ++ behind
 
-begins_so : (text ds behind : List ℕ) → AreDigits ds → text ≡ ds ++ behind → BeginsWithDigits text
+begins_so : (text ds behind : List ℕ) → AreDigits ds → text ≡ ds ++ behind → StartsWithDigits text
 begins_so text ds behind d e = record { some = subst (λ t. 0 < length t) (sym e) (long ds behind d); digits = ds; behind = behind; are = d; is = e }
   where
     long : (ds behind : List ℕ) → AreDigits ds → 0 < length (ds ++ behind)
     long [] behind d = absurd (omega (arith, d.some))
     long (c ∷ cs) behind d = omega arith
 
-pub literal_front : (l : Literal) → l.width ≤ 128 → BeginsWithDigits (literal_text l)
-literal_front l h = begins_so (literal_text l) (decimal l.width) (39 ∷ 100 ∷ (decimal l.value ++ [])) (alone l h).widths (alone l h).is
+pub literal_prefix : (l : Literal) → l.width ≤ 128 → StartsWithDigits (literal_text l)
+literal_prefix l h = begins_so (literal_text l) (decimal l.width) (39 ∷ 100 ∷ (decimal l.value ++ [])) (alone l h).widths (alone l h).is
 
 -- ---- names
 
@@ -368,8 +368,8 @@ word_bytes (c ∷ cs) h = ap₂ (λ a b. a && b) (begins_goes c (and_first (begi
 pub name-said : (w : List ℕ) → is_word w ≡ true → name_text w ≡ w
 name-said w h = if_true (is_utf8 w) w [] (is_utf8-from_IsUtf8 w (IsUtf8-from_ascii w (word_is_ascii w (word_bytes w h))))
 
-pub word-len : (w rest : List ℕ) → is_word w ≡ true → stops rest ≡ true → front_len (w ++ rest) ≡ Some (length w)
-unfolding front_len
+pub word-len : (w rest : List ℕ) → is_word w ≡ true → stops rest ≡ true → token_prefix_len (w ++ rest) ≡ Some (length w)
+unfolding token_prefix_len
 word-len [] rest h e = let no : false ≡ true = h in absurd (cc)
 word-len (c ∷ cs) rest h e =
     if_true (begins_word c) (Some (word_run ((c ∷ cs) ++ rest))) _ (and_first (begins_word c) (list_all is_word_byte cs) h)

@@ -20,7 +20,7 @@ use Rattle.vlog_tree.specs.Signals.{Declared, declared_own, declared_port, decla
 use Rattle.vlog_tree.specs.Sound.{IsSoundAssignment}
 use Rattle.vlog_tree.specs.WellFormed.{CanRun, IsSoundSet}
 use Rattle.vlog_text.specs.RoundTrip.Names.{HasTextNames, IsTextName}
-use Rattle.vlog_text.proofs.OnRoundTrip.Placed.{back_holds, front_holds}
+use Rattle.vlog_text.proofs.OnRoundTrip.WithSpans.{back_holds, prefix_holds}
 use Rattle.vlog_text.proofs.OnRoundTrip.Resolved.{each_of, slice_within, text_is}
 use Rattle.vlog_text.proofs.OnRoundTrip.Spelling.{and_first, and_second}
 use Rattle.vlog_text.proofs.OnRoundTrip.Words.{AreNamed, IsShort, IsShortExpr, IsWrittenAssignment, IsWrittenDeclaration, IsWrittenModule, IsWrittenPort, IsWrittenSet}
@@ -151,7 +151,7 @@ pub written : (m : VModule) → CanRun m → HasTextNames m → IsWrittenModule 
 written m run names = record {
   name = names.own;
   named = all_named m names;
-  ports = ports_named m.ports (front_holds (λ (d : Declared). IsTextName d.name) (map declared_port m.ports) (map declared_own m.declarations) names.all)
+  ports = ports_named m.ports (prefix_holds (λ (d : Declared). IsTextName d.name) (map declared_port m.ports) (map declared_own m.declarations) names.all)
       (by_recursion (λ (p : Port). IsWidth p.width) m.ports run.wired.port_widths);
   declarations = own_named m.declarations (back_holds (λ (d : Declared). IsTextName d.name) (map declared_port m.ports) (map declared_own m.declarations) names.all)
       (by_recursion (λ (d : Declaration). IsWidth d.width) m.declarations run.wired.own_widths);

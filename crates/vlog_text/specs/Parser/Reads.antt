@@ -23,7 +23,7 @@ pub record Reads (ls : List Lexeme) (p : Parsed) : Type 0 where
   pub parsed_is : p ≡ parsed_of (built (steps_of forest) ls empty)
 
 -- The token that begins at this byte is the first one with which no text of the grammar goes on.
-pub record IsOutOfPlace (ls : List Lexeme) (at : ℕ) : Type 0 where
+pub record IsUnexpectedToken (ls : List Lexeme) (at : ℕ) : Type 0 where
   pub place : ℕ
   pub token : Lexeme
   pub fault : IsFirstFault (IsSentence verilog) (kinds_of ls) place
@@ -32,7 +32,7 @@ pub record IsOutOfPlace (ls : List Lexeme) (at : ℕ) : Type 0 where
 
 -- why the tokens are refused
 abbrev pub IsRefusal : List Lexeme → ReadError → Type 0
-IsRefusal ls (Syntax at) = IsOutOfPlace ls at
+IsRefusal ls (Syntax at) = IsUnexpectedToken ls at
 IsRefusal ls (Broken rule span) = ⊥
 IsRefusal ls (Over limit) = ⊥
 IsRefusal ls OutOfMemory = Unit {0}
@@ -40,4 +40,4 @@ IsRefusal ls OutOfMemory = Unit {0}
 -- what the tokens give, but for want of memory: their module, or why they are refused
 pub data IsParsing (ls : List Lexeme) : Result Parsed ReadError → Type 0 where
   whole : (p : Parsed) → Reads ls p → IsParsing ls (Ok p)
-  misplaced : (at : ℕ) → IsOutOfPlace ls at → IsParsing ls (Err (Syntax at))
+  misplaced : (at : ℕ) → IsUnexpectedToken ls at → IsParsing ls (Err (Syntax at))

@@ -10,7 +10,7 @@ use Rattle.vlog_tree.specs.declared.module.VModule.{VModule}
 use Rattle.vlog_token.specs.Tokens.{BreaksAt, HasTokens}
 use Rattle.vlog_builder.specs.declared.parsed.Parsed.{Parsed}
 use Rattle.vlog_text.specs.Parser.Reads.{IsParsing}
-use Rattle.vlog_tree.specs.Verifier.Verified.{IsJudged}
+use Rattle.vlog_tree.specs.Verifier.Verified.{IsVerdict}
 
 pub data GivesModule (text : List ℕ) : Result VModule ReadError → Type 0 where
   -- some character begins no token
@@ -18,8 +18,8 @@ pub data GivesModule (text : List ℕ) : Result VModule ReadError → Type 0 whe
   -- some token may not stand where it does
   no_sentence : (ls : List Lexeme) (error : ReadError) → HasTokens text text ls → IsParsing ls (Err error) → GivesModule text (Err error)
   -- a rule is broken or a limit passed
-  faulty : (ls : List Lexeme) (p : Parsed) (fault : Fault) → HasTokens text text ls → IsParsing ls (Ok p) → IsJudged p.design p.places (Some fault) → GivesModule text (Err (error_of fault))
-  sound : (ls : List Lexeme) (p : Parsed) → HasTokens text text ls → IsParsing ls (Ok p) → IsJudged p.design p.places None → GivesModule text (Ok p.design)
+  faulty : (ls : List Lexeme) (p : Parsed) (fault : Fault) → HasTokens text text ls → IsParsing ls (Ok p) → IsVerdict p.design p.part_spans (Some fault) → GivesModule text (Err (error_of fault))
+  sound : (ls : List Lexeme) (p : Parsed) → HasTokens text text ls → IsParsing ls (Ok p) → IsVerdict p.design p.part_spans None → GivesModule text (Ok p.design)
 
 -- why a text is refused
 abbrev pub IsRefusal : List ℕ → ReadError → Type 0

@@ -47,7 +47,7 @@ fn judged(alloc: Global, text: &str, parsed: Parsed) -> Result<VModule, ReadErro
     ensures runs { IfOk result CanRun }
     ensures refused { IfErr result (IsRefusal text.now) }
 {
-    match check(alloc, &parsed.design, &parsed.places) {
+    match check(alloc, &parsed.design, &parsed.part_spans) {
         Ok(()) => Ok(parsed.design),
         Err(error) => Err(error),
     }

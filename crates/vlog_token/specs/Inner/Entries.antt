@@ -2,7 +2,7 @@
 use Rattle.std.specs.Prelude.{◌≡◌, ℕ, ◌<◌, ◌≤◌, List, length, Some}
 use denote.Ref.{Bor}
 use Rattle.dslx_token.specs.Spelling.{Spelling}
-use Rattle.vlog_token.specs.Fronts.{front_len}
+use Rattle.vlog_token.specs.TokenPrefixes.{token_prefix_len}
 
 -- an entry of a table of words
 abbrev pub entry_of : Bor (List ℕ) × ℕ → Spelling
@@ -10,6 +10,6 @@ entry_of e = (e.0.now, e.1)
 
 -- the token at the front of the text has this length
 pub record HasTokenOf (text : List ℕ) (len : ℕ) : Type 0 where
-  pub front : front_len text ≡ Some len
+  pub front : token_prefix_len text ≡ Some len
   pub some : 0 < len
   pub within : len ≤ length text

@@ -2,7 +2,7 @@
 use Rattle.std.proofs.Common.{◌≡◌, ◌≢◌, ℕ, zero, suc, ◌<◌, List, [], ◌∷◌, ◌++◌, length, refl, sym, ap, ◌∙◌, length-set, ◌⊎◌, inl, inr, subst, arith}
 use Rattle.std.proofs.lemmas.Bool.{cases_eq}
 use Rattle.std.specs.Prelude.{slice_get, slice_set, unwrap_or, flat_map, Option, Some, None}
-use Rattle.base.proofs.Lemmas.Lists.Places.{slice_get-set_other}
+use Rattle.base.proofs.Lemmas.Lists.Indices.{slice_get-set_other}
 use Rattle.xb_bits.specs.Word.{Word, word}
 use Rattle.vlog_tree.specs.declared.signal.Signal.{Signal}
 use Rattle.vlog_tree.specs.declared.expression.Atom.{Atom}
@@ -20,15 +20,15 @@ use Rattle.vlog_tree.specs.declared.module.VModule.{VModule}
 use Rattle.vlog_tree.specs.declared.module.Storage.TheVariants as storage
 use Rattle.vlog_tree.specs.Signals.{Declared, IsSignal, signals, declared_own}
 use Rattle.vlog_tree.specs.declared.signal.Role.{Role}
-use Rattle.vlog_tree.specs.declared.signal.Role.TheVariants.{Given, Driven, Held}
+use Rattle.vlog_tree.specs.declared.signal.Role.TheVariants.{InputSignal, WireSignal, RegisterSignal}
 use Rattle.vlog_tree.specs.Meaning.{IsNow}
 use Rattle.vlog_tree.specs.Settled.{values_of, IsUndriven, IsOrdered, settled, AreReady, DrivesWires, ReadsSignals, AreAllDriven}
 use Rattle.std.proofs.lemmas.Option.{slice_get_within, slice_get-get_or}
 
 -- it holds of each element of the one list, and of the other
-pub each_front : {A : Type 0} (P : A → Type 0) (xs ys : List A) → AllByRecursion P (xs ++ ys) → AllByRecursion P xs
-each_front P [] ys h = tt
-each_front P (x ∷ xs) ys h = (h.0, each_front P xs ys h.1)
+pub each_prefix : {A : Type 0} (P : A → Type 0) (xs ys : List A) → AllByRecursion P (xs ++ ys) → AllByRecursion P xs
+each_prefix P [] ys h = tt
+each_prefix P (x ∷ xs) ys h = (h.0, each_prefix P xs ys h.1)
 
 pub each_back : {A : Type 0} (P : A → Type 0) (xs ys : List A) → AllByRecursion P (xs ++ ys) → AllByRecursion P ys
 each_back P [] ys h = h
@@ -50,14 +50,14 @@ atom_same v w (atom.Literal l) h = refl
 pub joined_same : (v w : Values) (atoms : List Atom) → Agree v w (flat_map atom_reads atoms) → joined_value v atoms ≡ joined_value w atoms
 joined_same v w [] h = refl
 joined_same v w (a ∷ rest) h =
-    let first = atom_same v w a (each_front _ (atom_reads a) (flat_map atom_reads rest) h) in
+    let first = atom_same v w a (each_prefix _ (atom_reads a) (flat_map atom_reads rest) h) in
     let others = joined_same v w rest (each_back _ (atom_reads a) (flat_map atom_reads rest) h) in
     cc
 
 pub simple_same : (v w : Values) (x : Simple) → Agree v w (simple_reads x) → simple_value v x ≡ simple_value w x
 simple_same v w (simple.Atom a) h = atom_same v w a h
 simple_same v w (simple.Binary operator a b) h =
-    let left = atom_same v w a (each_front _ (atom_reads a) (atom_reads b) h) in
+    let left = atom_same v w a (each_prefix _ (atom_reads a) (atom_reads b) h) in
     let right = atom_same v w b (each_back _ (atom_reads a) (atom_reads b) h) in
     rw (left, right)
 simple_same v w (simple.Unary operator a) h = rw (atom_same v w a h)
@@ -69,9 +69,9 @@ expr_same v w (expr.Simple x) h = simple_same v w x h
 expr_same v w (expr.SignedOrder order a b) h = rw (h.0, h.1.0)
 expr_same v w (expr.SignedShift a k) h = rw (h.0, atom_same v w k h.1)
 expr_same v w (expr.Choice c a b) h =
-    let test = atom_same v w c (each_front _ (atom_reads c) (simple_reads a ++ simple_reads b) h) in
+    let test = atom_same v w c (each_prefix _ (atom_reads c) (simple_reads a ++ simple_reads b) h) in
     let both = each_back _ (atom_reads c) (simple_reads a ++ simple_reads b) h in
-    let left = simple_same v w a (each_front _ (simple_reads a) (simple_reads b) both) in
+    let left = simple_same v w a (each_prefix _ (simple_reads a) (simple_reads b) both) in
     let right = simple_same v w b (each_back _ (simple_reads a) (simple_reads b) both) in
     rw (test, left, right)
 
@@ -144,12 +144,12 @@ settled_only (a ∷ later) words values count covers ordered within reading driv
         go (inr ne) = others s inside (ne, h) ∙ sym (values_of-set_other words a.target.0 s value (λ e. ne (sym e)))
 
 -- a signal of one role is not driven by assignments to signals of another
-pub undriven_by_role : (m : VModule) (s : ℕ) (d : Declared) → IsSignal m s d → d.role ≢ Driven
+pub undriven_by_role : (m : VModule) (s : ℕ) (d : Declared) → IsSignal m s d → d.role ≢ WireSignal
     → (assignments : List Assignment) → DrivesWires m assignments → IsUndriven assignments s
 undriven_by_role m s d is_s other [] h = tt
 undriven_by_role m s d is_s other (a ∷ rest) h = (here h.0, undriven_by_role m s d is_s other rest h.1)
   where
-    here : (e : Declared) × IsSignal m a.target.0 e × (e.role ≡ Driven) → a.target.0 ≢ s
+    here : (e : Declared) × IsSignal m a.target.0 e × (e.role ≡ WireSignal) → a.target.0 ≢ s
     here (e, is_e, driven) same =
         let both_there : Some e ≡ Some d = sym is_e ∙ ap (slice_get (signals m)) same ∙ is_s in
         let equal : e ≡ d = cc in
@@ -159,7 +159,7 @@ undriven_by_role m s d is_s other (a ∷ rest) h = (here h.0, undriven_by_role m
 pub targets_within : (m : VModule) (assignments : List Assignment) → DrivesWires m assignments
     → AllByRecursion (λ a. a.target.0 < length (signals m)) assignments
 targets_within m assignments h =
-    each_other (λ a. (d : Declared) × IsSignal m a.target.0 d × (d.role ≡ Driven)) (λ a. a.target.0 < length (signals m))
+    each_other (λ a. (d : Declared) × IsSignal m a.target.0 d × (d.role ≡ WireSignal)) (λ a. a.target.0 < length (signals m))
     (λ a there. slice_get_within (signals m) a.target.0 there.0 there.1) assignments h
 
 -- taking the assignments in such an order gives what the module means
@@ -172,10 +172,10 @@ order_means m held given words steps ordered wires covers ready = record {
   wires = covers (settled_drives steps words ordered (rw ready.covers (targets_within m steps wires)));
 }
   where
-    no_given : Given ≢ Driven
+    no_given : InputSignal ≢ WireSignal
     no_given e = cc
 
-    no_held : Held ≢ Driven
+    no_held : RegisterSignal ≢ WireSignal
     no_held e = cc
 
 pub order_only : (m : VModule) (held given values : Values) (words : List Word) → IsOrdered m.assignments → DrivesWires m m.assignments
@@ -188,9 +188,9 @@ order_only m held given values words ordered wires reading all_driven ready now 
     others s inside undriven = at (slice_get (signals m) s) refl
       where
         by_role : (d : Declared) → IsSignal m s d → (r : Role) → d.role ≡ r → values s ≡ values_of words s
-        by_role d is_s Given role = now.inputs s d is_s role ∙ sym (ready.inputs s d is_s role)
-        by_role d is_s Held role = now.registers s d is_s role ∙ sym (ready.registers s d is_s role)
-        by_role d is_s Driven role = absurd (all_driven s d is_s role undriven)
+        by_role d is_s InputSignal role = now.inputs s d is_s role ∙ sym (ready.inputs s d is_s role)
+        by_role d is_s RegisterSignal role = now.registers s d is_s role ∙ sym (ready.registers s d is_s role)
+        by_role d is_s WireSignal role = absurd (all_driven s d is_s role undriven)
 
         at : (o : Option Declared) → slice_get (signals m) s ≡ o → values s ≡ values_of words s
         at (Some d) is_s = by_role d is_s d.role refl

@@ -4,10 +4,10 @@ use Rattle.std.proofs.Common.{◌⊎◌, inl, inr, ◌<◌, ◌≤◌, arith, �
 use Rattle.xb_span.specs.declared.fault.Fault.{Fault}
 use Rattle.xb_span.specs.declared.span.Span.{Span}
 use Rattle.vlog_tree.specs.declared.module.VModule.{VModule}
-use Rattle.vlog_tree.specs.declared.verifier.places.Places.{Places}
-use Rattle.vlog_tree.specs.Verifier.Placed.{nowhere}
+use Rattle.vlog_tree.specs.declared.verifier.part_spans.PartSpans.{PartSpans}
+use Rattle.vlog_tree.specs.Verifier.WithSpans.{nowhere}
 use Rattle.vlog_tree.specs.Verifier.Checks.{PartCheck, note, noted, rule_at}
-use Rattle.vlog_tree.specs.Verifier.Verified.{module_checks, Loops, none, first, IsJudged}
+use Rattle.vlog_tree.specs.Verifier.Verified.{module_checks, Loops, none, first, IsVerdict}
 use Rattle.vlog_tree.specs.Verifier.Inner.Firsts.{IsFirstLoop}
 use Rattle.vlog_tree.proofs.OnVerifier.Steps.{noted-append}
 
@@ -29,24 +29,24 @@ nothing_more : (cs : List PartCheck) → cs ++ [] ≡ cs
 nothing_more [] = refl
 nothing_more (c ∷ cs) = ap (λ ds. c ∷ ds) (nothing_more cs)
 
-pub judged_free : (m : VModule) (places : Places) (held : Option Fault) → held ≡ noted None (module_checks m places) → IsFirstLoop m None → IsJudged m places held
-judged_free m places held e free = record { loops = []; looped = none free; is = e ∙ ap (noted None) (sym (nothing_more (module_checks m places))) }
+pub verdict_free : (m : VModule) (part_spans : PartSpans) (held : Option Fault) → held ≡ noted None (module_checks m part_spans) → IsFirstLoop m None → IsVerdict m part_spans held
+verdict_free m part_spans held e free = record { loops = []; looped = none free; is = e ∙ ap (noted None) (sym (nothing_more (module_checks m part_spans))) }
 
-pub judged_looped : (m : VModule) (places : Places) (held named : Option Fault) (i : ℕ) (span : Span) → held ≡ noted None (module_checks m places) → IsFirstLoop m (Some i)
-    → span ≡ get_or places.assignments i nowhere → named ≡ noted held (rule_at span 75 true ∷ []) → IsJudged m places named
-judged_looped m places held named i span e (a, at, depends, before) s n = record {
-  loops = rule_at (get_or places.assignments i nowhere) 75 true ∷ [];
+pub verdict_looped : (m : VModule) (part_spans : PartSpans) (held named : Option Fault) (i : ℕ) (span : Span) → held ≡ noted None (module_checks m part_spans) → IsFirstLoop m (Some i)
+    → span ≡ get_or part_spans.assignments i nowhere → named ≡ noted held (rule_at span 75 true ∷ []) → IsVerdict m part_spans named
+verdict_looped m part_spans held named i span e (a, at, depends, before) s n = record {
+  loops = rule_at (get_or part_spans.assignments i nowhere) 75 true ∷ [];
   looped = first i a at depends before;
-  is = n ∙ ap (λ sp. noted held (rule_at sp 75 true ∷ [])) s ∙ ap (λ h. noted h (rule_at (get_or places.assignments i nowhere) 75 true ∷ [])) e
-      ∙ sym (noted-append (module_checks m places) (rule_at (get_or places.assignments i nowhere) 75 true ∷ []) None);
+  is = n ∙ ap (λ sp. noted held (rule_at sp 75 true ∷ [])) s ∙ ap (λ h. noted h (rule_at (get_or part_spans.assignments i nowhere) 75 true ∷ [])) e
+      ∙ sym (noted-append (module_checks m part_spans) (rule_at (get_or part_spans.assignments i nowhere) 75 true ∷ []) None);
 }
 
 -- one assignment is the first whose target depends on itself
-pub one_loop : (m : VModule) (places : Places) (one other : List PartCheck) → Loops m places one → Loops m places other → one ≡ other
-one_loop m places _ _ (none free) (none also) = refl
-one_loop m places _ _ (none free) (first i a at d before) = absurd (free i a at d)
-one_loop m places _ _ (first i a at d before) (none free) = absurd (free i a at d)
-one_loop m places _ _ (first i a at d before) (first j b bt e earlier) = ap (λ k. rule_at (get_or places.assignments k nowhere) 75 true ∷ []) (same (cases_lt i j))
+pub one_loop : (m : VModule) (part_spans : PartSpans) (one other : List PartCheck) → Loops m part_spans one → Loops m part_spans other → one ≡ other
+one_loop m part_spans _ _ (none free) (none also) = refl
+one_loop m part_spans _ _ (none free) (first i a at d before) = absurd (free i a at d)
+one_loop m part_spans _ _ (first i a at d before) (none free) = absurd (free i a at d)
+one_loop m part_spans _ _ (first i a at d before) (first j b bt e earlier) = ap (λ k. rule_at (get_or part_spans.assignments k nowhere) 75 true ∷ []) (same (cases_lt i j))
   where
     same : (i < j) ⊎ (j ≤ i) → i ≡ j
     same (inl h) = absurd (earlier i a h at d)

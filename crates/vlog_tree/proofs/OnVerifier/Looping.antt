@@ -3,12 +3,12 @@ use Rattle.std.proofs.Common.{◌≡◌, ◌≢◌, ℕ, zero, suc, ◌+◌, ◌
 use Rattle.std.proofs.lemmas.Bool.{cases_eq}
 use Rattle.std.specs.Prelude.{slice_get, slice_set, unwrap_or, Option, Some, None, replicate, MatchBool, option_map}
 use Rattle.std.proofs.lemmas.Option.{slice_get_within, slice_get-get_or}
-use Rattle.base.proofs.Lemmas.Lists.Places.{slice_get-set_other, slice_get-append_left, slice_get-append_right}
+use Rattle.base.proofs.Lemmas.Lists.Indices.{slice_get-set_other, slice_get-append_left, slice_get-append_right}
 use Rattle.topo_order.specs.Needs.{AreClosed, needs_of, Needs, Reaches, itself, by_way}
 use Rattle.vlog_tree.specs.declared.module.VModule.{VModule}
 use Rattle.vlog_tree.specs.declared.module.Assignment.{Assignment}
 use Rattle.vlog_tree.specs.declared.signal.Role.{Role}
-use Rattle.vlog_tree.specs.declared.signal.Role.TheVariants.{Given, Driven, Held}
+use Rattle.vlog_tree.specs.declared.signal.Role.TheVariants.{InputSignal, WireSignal, RegisterSignal}
 use Rattle.vlog_tree.specs.Signals.{Declared, IsSignal, signals}
 use Rattle.vlog_tree.specs.Forms.{reads}
 use Rattle.vlog_tree.specs.Verifier.Parts.{count_of, role_at, is_driven}
@@ -25,10 +25,10 @@ wire_of m s h = at (slice_get (signals m) s) refl
     at None e = absurd (let w : is_driven None ≡ true = sym (ap (λ o. is_driven (option_map (λ (d : Declared). d.role) o)) e) ∙ h in cc)
     at (Some d) e = (d, e, driven d.role (sym (ap (λ o. is_driven (option_map (λ (d : Declared). d.role) o)) e) ∙ h))
       where
-        driven : (r : Role) → is_driven (Some r) ≡ true → r ≡ Driven
-        driven Given w = cc
-        driven Driven w = refl
-        driven Held w = cc
+        driven : (r : Role) → is_driven (Some r) ≡ true → r ≡ WireSignal
+        driven InputSignal w = cc
+        driven WireSignal w = refl
+        driven RegisterSignal w = cc
 
 pub driven_of : (m : VModule) (s : ℕ) → IsWire m s → is_driven (role_at m s) ≡ true
 driven_of m s (d, at, role) = ap (λ o. is_driven (option_map (λ (d : Declared). d.role) o)) at ∙ ap (λ r. is_driven (Some r)) role
@@ -84,10 +84,10 @@ needs_of-set (n ∷ needs) (suc t) xs h = needs_of-set needs t xs (omega arith)
 needs_of-set_other : (needs : List (List ℕ)) (t u : ℕ) (xs : List ℕ) → u ≢ t → needs_of (slice_set needs t xs) u ≡ needs_of needs u
 needs_of-set_other needs t u xs h = ap (λ o. unwrap_or o []) (slice_get-set_other needs t u xs h)
 
-place_in : (xs ys : List ℕ) (y q : ℕ) → slice_get (xs ++ ys) q ≡ Some y → ((p : ℕ) × (slice_get xs p ≡ Some y)) ⊎ ((p : ℕ) × (slice_get ys p ≡ Some y))
-place_in [] ys y q h = inr (q, h)
-place_in (x ∷ xs) ys y zero h = inl (0, h)
-place_in (x ∷ xs) ys y (suc q) h = elim (place_in xs ys y q h) [ inl w ↦ inl (suc w.0, w.1) | inr w ↦ inr w ]
+index_in : (xs ys : List ℕ) (y q : ℕ) → slice_get (xs ++ ys) q ≡ Some y → ((p : ℕ) × (slice_get xs p ≡ Some y)) ⊎ ((p : ℕ) × (slice_get ys p ≡ Some y))
+index_in [] ys y q h = inr (q, h)
+index_in (x ∷ xs) ys y zero h = inl (0, h)
+index_in (x ∷ xs) ys y (suc q) h = elim (index_in xs ys y q h) [ inl w ↦ inl (suc w.0, w.1) | inr w ↦ inr w ]
 
 pub needs_step : (m : VModule) (i : ℕ) (a : Assignment) (needs new : List (List ℕ)) → slice_get m.assignments i ≡ Some a → AreNeedsBefore m i needs
     → new ≡ needs_with m needs a → AreNeedsBefore m (i + 1) new
@@ -129,7 +129,7 @@ needs_step m i a needs new at before is = subst (AreNeedsBefore m (i + 1)) (sym 
 
         sound : (t s : ℕ) → Needs (slice_set needs a.target.0 more) t s → (t ≡ a.target.0) ⊎ (t ≢ a.target.0) → ReadsWire m t s
         sound t s (k, h) (inr ne) = before.sound t s (k, ap (λ xs. slice_get xs k) (sym (needs_of-set_other needs a.target.0 t more ne)) ∙ h)
-        sound t s (k, h) (inl same) = subst (λ u. ReadsWire m u s) (sym same) (split (place_in (needs_of needs a.target.0) (wires_among m (reads a.value)) s k
+        sound t s (k, h) (inl same) = subst (λ u. ReadsWire m u s) (sym same) (split (index_in (needs_of needs a.target.0) (wires_among m (reads a.value)) s k
             (ap (λ xs. slice_get xs k) (sym (needs_of-set needs a.target.0 more inside)) ∙ ap (λ u. slice_get (needs_of (slice_set needs a.target.0 more) u) k) (sym same) ∙ h)))
           where
             split : ((p : ℕ) × (slice_get (needs_of needs a.target.0) p ≡ Some s)) ⊎ ((p : ℕ) × (slice_get (wires_among m (reads a.value)) p ≡ Some s)) → ReadsWire m a.target.0 s
@@ -190,13 +190,13 @@ pub reader_inside : (m : VModule) (t s : ℕ) → Depends m t s → t < count_of
 reader_inside m t s (direct _ _ r) = wire_inside m t r.reader
 reader_inside m t s (loops.by_way _ u _ r rest) = wire_inside m t r.reader
 
-pub judged_by : (m : VModule) (needs : List (List ℕ)) (s : ℕ) (b : Bool) → AreNeeds m needs → MatchBool b (Reaches needs s s) (¬ (Reaches needs s s)) → MatchBool b (Depends m s s) (¬ (Depends m s s))
-judged_by m needs s true are h = depends_of m needs are s s h
-judged_by m needs s false are h = λ d. h (reaches_of m needs are s s d)
+pub verdict_by : (m : VModule) (needs : List (List ℕ)) (s : ℕ) (b : Bool) → AreNeeds m needs → MatchBool b (Reaches needs s s) (¬ (Reaches needs s s)) → MatchBool b (Depends m s s) (¬ (Depends m s s))
+verdict_by m needs s true are h = depends_of m needs are s s h
+verdict_by m needs s false are h = λ d. h (reaches_of m needs are s s d)
 
 pub loops_by : (m : VModule) (needs : List (List ℕ)) (loops : List Bool) → AreNeeds m needs → length loops ≡ length needs
     → ((s : ℕ) (does : Bool) → slice_get loops s ≡ Some does → MatchBool does (Reaches needs s s) (¬ (Reaches needs s s))) → AreLoops m loops
-loops_by m needs loops are size told = record { size = size ∙ are.size; are = λ s does at. judged_by m needs s does are (told s does at) }
+loops_by m needs loops are size told = record { size = size ∙ are.size; are = λ s does at. verdict_by m needs s does are (told s does at) }
 
 pub past_free : (m : VModule) (loops : List Bool) (s : ℕ) → AreLoops m loops → length loops ≤ s → ¬ (Depends m s s)
 past_free m loops s are past d = let inside = reader_inside m s s d in omega (arith, inside, past, are.size)

@@ -3,13 +3,13 @@
 use Rattle.std.specs.Prelude.{◌≡◌, ℕ, slice_get, Some}
 use Rattle.vlog_tree.specs.declared.module.VModule.{VModule}
 use Rattle.vlog_tree.specs.declared.module.Assignment.{Assignment}
-use Rattle.vlog_tree.specs.declared.signal.Role.TheVariants.{Driven}
+use Rattle.vlog_tree.specs.declared.signal.Role.TheVariants.{WireSignal}
 use Rattle.vlog_tree.specs.Signals.{Declared, IsSignal}
 use Rattle.vlog_tree.specs.Forms.{reads}
 
 -- signal s is a wire or an output
 abbrev pub IsWire : VModule → ℕ → Type 0
-IsWire m s = (d : Declared) × IsSignal m s d × (d.role ≡ Driven)
+IsWire m s = (d : Declared) × IsSignal m s d × (d.role ≡ WireSignal)
 
 -- an assignment to the wire t mentions the wire s
 pub record ReadsWire (m : VModule) (t s : ℕ) : Type 0 where

@@ -10,7 +10,7 @@ use Rattle.vlog_tree.specs.declared.module.Set.{Set}
 use Rattle.vlog_tree.specs.declared.expression.Atom.{Atom}
 use Rattle.vlog_tree.specs.declared.expression.Atom.TheVariants as atom
 use Rattle.vlog_tree.specs.declared.signal.Role.{Role}
-use Rattle.vlog_tree.specs.declared.signal.Role.TheVariants.{Given, Driven, Held}
+use Rattle.vlog_tree.specs.declared.signal.Role.TheVariants.{InputSignal, WireSignal, RegisterSignal}
 use Rattle.vlog_tree.specs.Signals.{Declared, signals, declared_widths}
 use Rattle.vlog_tree.specs.Forms.{atom_width, atom_reads, reads, fits}
 use Rattle.vlog_tree.specs.Verifier.Checks.{PartCheck, rule_at, width_at}
@@ -39,19 +39,19 @@ abbrev pub role_at : VModule → ℕ → Option Role
 role_at m s = option_map (λ d. d.role) (slice_get (signals m) s)
 
 abbrev pub is_driven : Option Role → Bool
-is_driven (Some Driven) = true
+is_driven (Some WireSignal) = true
 is_driven _ = false
 
 -- a declared signal that no assignment may drive
 abbrev pub bars_assignment : Option Role → Bool
-bars_assignment (Some Given) = true
-bars_assignment (Some Held) = true
+bars_assignment (Some InputSignal) = true
+bars_assignment (Some RegisterSignal) = true
 bars_assignment _ = false
 
 -- a declared signal that no set may give a value
 abbrev pub bars_set : Option Role → Bool
-bars_set (Some Given) = true
-bars_set (Some Driven) = true
+bars_set (Some InputSignal) = true
+bars_set (Some WireSignal) = true
 bars_set _ = false
 
 abbrev pub is_signal : Atom → Bool

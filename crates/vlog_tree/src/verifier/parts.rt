@@ -18,7 +18,7 @@ pub fn is_driven(role: Option<Role>) -> bool
     ensures { result ≡ is_driven role }
 {
     match role {
-        Some(Role::Driven) => true,
+        Some(Role::WireSignal) => true,
         _ => false,
     }
 }
@@ -27,8 +27,8 @@ fn bars_assignment(role: Option<Role>) -> bool
     ensures { result ≡ bars_assignment role }
 {
     match role {
-        Some(Role::Given) => true,
-        Some(Role::Held) => true,
+        Some(Role::InputSignal) => true,
+        Some(Role::RegisterSignal) => true,
         _ => false,
     }
 }
@@ -37,8 +37,8 @@ fn bars_set(role: Option<Role>) -> bool
     ensures { result ≡ bars_set role }
 {
     match role {
-        Some(Role::Given) => true,
-        Some(Role::Driven) => true,
+        Some(Role::InputSignal) => true,
+        Some(Role::WireSignal) => true,
         _ => false,
     }
 }

@@ -2,7 +2,7 @@
 
 ghost use Rattle.std.specs.Prelude.{◌≡◌, ◌++◌, ◌∷◌, [], ℕ, List, get_or, IfOk, OnOk, length, flat_map};
 ghost use Rattle.vlog_tree.specs.Forms.{literals, atom_literals};
-ghost use Rattle.vlog_tree.specs.Verifier.Placed.{nowhere};
+ghost use Rattle.vlog_tree.specs.Verifier.WithSpans.{nowhere};
 ghost use Rattle.vlog_tree.specs.Verifier.Checks.{noted, walk, width_at};
 ghost use Rattle.vlog_tree.specs.Verifier.Parts.{count_of, set_checks, see_set};
 ghost use Rattle.vlog_tree.specs.Verifier.Verified.{targets, set_targets, signals_checks, ports_checks, end_check, assignments_checks, resets_checks, clocks_checks, set_literals, module_literals, literals_checks};
@@ -11,7 +11,7 @@ ghost use Rattle.vlog_tree.specs.Verifier.Inner.Seen.{ShowsMarks};
 use crate::verifier::checks::{note_rule, note_width};
 use crate::verifier::marks::Marks;
 use crate::verifier::parts::{note_assignment, note_port, note_set, note_signal};
-use crate::verifier::places::{Places, end_at, signal_span, span_at};
+use crate::verifier::part_spans::{PartSpans, end_at, signal_span, span_at};
 use crate::verifier::ports::{Due, due_behind, may_end};
 use crate::{Set, VModule};
 use base::name_table::Table;
@@ -24,11 +24,11 @@ pub fn note_signals(
     alloc: Global,
     held: Option<Fault>,
     design: &VModule,
-    places: &Places,
+    part_spans: &PartSpans,
     driven: &Marks,
 ) -> Result<Option<Fault>, AllocError>
     requires { ShowsMarks (count_of design.now) driven.now (targets design.now.assignments) }
-    ensures { IfOk result (λ fault. fault ≡ noted held (signals_checks design.now places.now)) }
+    ensures { IfOk result (λ fault. fault ≡ noted held (signals_checks design.now part_spans.now)) }
 {
     let mut names = Table::new(alloc);
     let mut held = held;
@@ -36,7 +36,7 @@ pub fn note_signals(
         let name = design.name_of(s);
         let is_again = names.has(name);
         names.put(name, ())?;
-        let span = signal_span(design, places, s);
+        let span = signal_span(design, part_spans, s);
         let role = design.role_of(s);
         held = note_signal(
             held,
@@ -51,11 +51,11 @@ pub fn note_signals(
 }
 
 /// Notes the faults of the ports as a list.
-pub fn note_ports(held: Option<Fault>, design: &VModule, places: &Places) -> Option<Fault>
-    ensures { result ≡ noted held (ports_checks design.now places.now ++ end_check design.now places.now ∷ []) }
+pub fn note_ports(held: Option<Fault>, design: &VModule, part_spans: &PartSpans) -> Option<Fault>
+    ensures { result ≡ noted held (ports_checks design.now part_spans.now ++ end_check design.now part_spans.now ∷ []) }
 {
     let ports = design.ports.as_slice();
-    let spans = places.ports.as_slice();
+    let spans = part_spans.ports.as_slice();
     let mut due = Due::Clock;
     let mut held = held;
     'ports: for i in 0..ports.len() {
@@ -72,12 +72,12 @@ pub fn note_assignments(
     alloc: Global,
     held: Option<Fault>,
     design: &VModule,
-    places: &Places,
+    part_spans: &PartSpans,
 ) -> Result<Option<Fault>, AllocError>
-    ensures { IfOk result (λ fault. fault ≡ noted held (assignments_checks design.now places.now)) }
+    ensures { IfOk result (λ fault. fault ≡ noted held (assignments_checks design.now part_spans.now)) }
 {
     let assignments = design.assignments.as_slice();
-    let spans = places.assignments.as_slice();
+    let spans = part_spans.assignments.as_slice();
     let mut earlier = Marks::new(alloc, design.signal_count())?;
     let mut held = held;
     'assignments: for i in 0..assignments.len() {
@@ -136,18 +136,18 @@ pub fn note_branches(
     alloc: Global,
     held: Option<Fault>,
     design: &VModule,
-    places: &Places,
+    part_spans: &PartSpans,
 ) -> Result<Option<Fault>, AllocError>
-    ensures { IfOk result (λ fault. fault ≡ noted held (resets_checks design.now places.now ++ clocks_checks design.now places.now)) }
+    ensures { IfOk result (λ fault. fault ≡ noted held (resets_checks design.now part_spans.now ++ clocks_checks design.now part_spans.now)) }
 {
     let count = design.signal_count();
     let resets = design.at_reset.as_slice();
     let clocks = design.at_clock.as_slice();
     let at_reset = Marks::of_sets(alloc, count, resets)?;
     let at_clock = Marks::of_sets(alloc, count, clocks)?;
-    let spans = places.at_reset.as_slice();
+    let spans = part_spans.at_reset.as_slice();
     let held = note_sets(alloc, held, design, spans, true, &at_clock, resets)?;
-    let spans = places.at_clock.as_slice();
+    let spans = part_spans.at_clock.as_slice();
     let held = note_sets(alloc, held, design, spans, false, &at_reset, clocks)?;
     Ok(held)
 }
@@ -189,12 +189,12 @@ pub fn note_literals(
     alloc: Global,
     held: Option<Fault>,
     design: &VModule,
-    places: &Places,
+    part_spans: &PartSpans,
 ) -> Result<Option<Fault>, AllocError>
-    ensures { IfOk result (λ fault. fault ≡ noted held (literals_checks design.now places.now)) }
+    ensures { IfOk result (λ fault. fault ≡ noted held (literals_checks design.now part_spans.now)) }
 {
     let widths = literals_of(alloc, design)?;
-    Ok(note_widths(held, places.literals.as_slice(), widths.as_slice()))
+    Ok(note_widths(held, part_spans.literals.as_slice(), widths.as_slice()))
 }
 
 /// Notes widths that pass their limit.

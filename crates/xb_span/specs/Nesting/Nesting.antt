@@ -3,8 +3,8 @@
 use Rattle.std.specs.Prelude.{ℕ, ◌+◌, ◌-◌, Bool, nat_lt, Option, List, [], ◌∷◌, length, sum}
 use Rattle.std.specs.List.{position_from}
 use Rattle.xb_span.specs.declared.nesting.depth.TheConstants.{MOST}
-use Rattle.xb_span.specs.declared.nesting.role.Role.{Role}
-use Rattle.xb_span.specs.declared.nesting.role.Role.TheVariants.{Open, OpenMark, OpenBody, Close, Mark, Stop, Item, Head, Plain}
+use Rattle.xb_span.specs.declared.nesting.bracket_class.BracketClass.{BracketClass}
+use Rattle.xb_span.specs.declared.nesting.bracket_class.BracketClass.TheVariants.{Open, OpenMark, OpenBody, Close, Mark, Stop, Item, Head, Plain}
 
 -- what is open before a token: the marks of each open bracket, the innermost one first, then those outside all brackets,
 -- and the number of heads
@@ -40,7 +40,7 @@ stopped [] = []
 stopped (marks ∷ more) = 0 ∷ more
 
 -- what is open behind a token
-abbrev pub behind : Around → Role → Around
+abbrev pub behind : Around → BracketClass → Around
 behind a Open = opened a
 behind a OpenMark = opened (marked a)
 behind a OpenBody = opened (record { brackets = a.brackets; outside = a.outside; heads = a.heads - 1 })
@@ -52,22 +52,22 @@ behind a Head = record { brackets = a.brackets; outside = a.outside; heads = a.h
 behind a Plain = a
 
 -- the nesting of a token; the `{` behind a head stands no more in it
-abbrev pub nesting_in : Around → Role → ℕ
+abbrev pub nesting_in : Around → BracketClass → ℕ
 nesting_in a OpenBody = depth_of (record { brackets = a.brackets; outside = a.outside; heads = a.heads - 1 })
 nesting_in a _ = depth_of a
 
 -- the nesting of each token
-abbrev pub nestings_from : Around → List Role → List ℕ
+abbrev pub nestings_from : Around → List BracketClass → List ℕ
 nestings_from a [] = []
-nestings_from a (role ∷ roles) = nesting_in a role ∷ nestings_from (behind a role) roles
+nestings_from a (role ∷ bracket_classes) = nesting_in a role ∷ nestings_from (behind a role) bracket_classes
 
-abbrev pub nestings : List Role → List ℕ
-nestings roles = nestings_from at_start roles
+abbrev pub nestings : List BracketClass → List ℕ
+nestings bracket_classes = nestings_from at_start bracket_classes
 
 -- more than the limit
 abbrev pub is_past : ℕ → Bool
 is_past n = nat_lt MOST n
 
 -- the place of the first token whose nesting is more than the limit
-abbrev pub first_past : List Role → Option ℕ
-first_past roles = position_from is_past 0 (nestings roles)
+abbrev pub first_past : List BracketClass → Option ℕ
+first_past bracket_classes = position_from is_past 0 (nestings bracket_classes)

@@ -1,7 +1,7 @@
 ghost use Rattle.std.specs.Prelude.{◌≡◌, ◌+◌, ◌-◌, ◌≤◌, IfOk, OnOk, nat_lt};
 ghost use Rattle.xb_span.specs.Nesting.Nesting.{at_start, behind, closed, depth_of, marked, first_past, nesting_in, opened, stopped};
 
-use crate::nesting::role::Role;
+use crate::nesting::bracket_class::BracketClass;
 use std::alloc::{AllocError, Global};
 use std::marker::Model;
 
@@ -11,13 +11,13 @@ pub const MOST: u64 = 128;
 /// The place of the first token whose nesting passes [`MOST`], if there is one.
 ///
 /// The work is linear, and the memory is bounded by `MOST`.
-pub fn first_over(alloc: Global, roles: &[Role]) -> Result<Option<usize>, AllocError>
-    ensures { IfOk result (λ place. place ≡ first_past roles.now) }
+pub fn first_over(alloc: Global, bracket_classes: &[BracketClass]) -> Result<Option<usize>, AllocError>
+    ensures { IfOk result (λ index. index ≡ first_past bracket_classes.now) }
 {
     let mut around = Around::new(alloc);
-    for (place, &role) in roles.iter().enumerate() {
+    for (index, &role) in bracket_classes.iter().enumerate() {
         if around.nesting(role) > MOST {
-            return Ok(Some(place));
+            return Ok(Some(index));
         }
         around.read(role)?;
     }
@@ -60,47 +60,47 @@ impl Around {
     }
 
     /// The nesting of a token of this role.
-    fn nesting(&self, role: Role) -> u64
+    fn nesting(&self, role: BracketClass) -> u64
         ensures { result ≡ nesting_in self.now role }
     {
         match role {
-            Role::OpenBody if self.heads > 0 => self.depth - 1,
+            BracketClass::OpenBody if self.heads > 0 => self.depth - 1,
             _ => self.depth,
         }
     }
 
     /// Goes on behind a token of this role.
-    fn read(&mut self, role: Role) -> Result<(), AllocError>
+    fn read(&mut self, role: BracketClass) -> Result<(), AllocError>
         requires { nesting_in self.old role ≤ MOST }
         ensures { OnOk result (self.new ≡ behind self.old role) }
     {
         match role {
-            Role::Open => self.open(),
-            Role::OpenMark => {
+            BracketClass::Open => self.open(),
+            BracketClass::OpenMark => {
                 self.mark()?;
                 self.open()
             }
-            Role::OpenBody => {
+            BracketClass::OpenBody => {
                 self.end_head();
                 self.open()
             }
-            Role::Close => {
+            BracketClass::Close => {
                 self.close();
                 Ok(())
             }
-            Role::Mark => self.mark(),
-            Role::Stop => self.stop(),
-            Role::Item => {
+            BracketClass::Mark => self.mark(),
+            BracketClass::Stop => self.stop(),
+            BracketClass::Item => {
                 self.depth -= self.outside;
                 self.outside = 0;
                 Ok(())
             }
-            Role::Head => {
+            BracketClass::Head => {
                 self.heads += 1;
                 self.depth += 1;
                 Ok(())
             }
-            Role::Plain => Ok(()),
+            BracketClass::Plain => Ok(()),
         }
     }
 

@@ -9,12 +9,12 @@ use Rattle.xls_cmd.specs.declared.shared.fault.Fault.TheVariants.{Usage, TooBig,
 use Rattle.std.specs.Borrow.{Bor}
 use Rattle.xls_cmd.specs.declared.shared.fault.Fault as code
 use Rattle.xls_cmd.specs.Shared.Fault.{Fault, named, status_of}
-use Rattle.xls_cmd.specs.Shared.Step.{Then, goes_on, stops, IsOne, IsOfCommand, IsGivenByCommand, DueBy, Gives}
+use Rattle.xls_cmd.specs.Shared.Step.{Then, goes_on, stops, IsOne, IsOfCommand, IsGivenByCommand, ExpectedBy, Gives}
 use Rattle.xls_cmd.specs.Shared.Loads.{Loads, whole, past_limit, OfText, accepts, rejects}
 use Rattle.xb_span.specs.declared.read_error.ReadError.{ReadError}
 use Rattle.xb_span.specs.declared.read_error.ReadError.TheVariants.{Syntax, Broken, Over, OutOfMemory}
 use Rattle.xls_cmd.specs.Shared.Events.{FileEvents, SinkEvents, file_events}
-use Rattle.xls_cmd.specs.Shared.Done.{text_refusal, RefusesFor, IsBehindLoads, StopsBy, IsRefused, IsDone, IsLast, IsBackedByBytes, GivesDue}
+use Rattle.xls_cmd.specs.Shared.Done.{text_refusal, RefusesFor, IsBehindLoads, StopsBy, IsRefused, IsDone, IsLast, IsBackedByBytes, GivesExpected}
 use Rattle.xls_cmd.specs.Shared.Response.{Writes, ShowsRefusal}
 use Rattle.xls_cmd.specs.Shared.Answered.{Answers, wrote, refused, no_memory, unread, unwritten, IsAnswered}
 
@@ -66,31 +66,31 @@ loads_is_one holds name a b (whole bytes held within) (past_limit bytes' held' p
 loads_is_one holds name a b (past_limit bytes held past) (whole bytes' held' within) = absurd (let same = same_bytes holds name bytes bytes' held held' in let past' = rw same at past in omega arith)
 loads_is_one holds name a b (past_limit bytes held past) (past_limit bytes' held' past') = refl
 
--- ---- what is due by what files hold, where that is told
+-- ---- what is expected by what files hold, where that is told
 
-pub due_stops : {A B : Type 0} (told : Option Contents) (first : Contents → Result A Fault → Type 0) (next : Contents → A → Result B Fault → Type 0) (fault : Fault) →
-    DueBy told first (Err fault) → DueBy told (λ holds. Then (first holds) (next holds)) (Err fault)
-due_stops None first next fault due = (due.0, tt)
-due_stops (Some holds) first next fault due = (due.0, stops fault due.1)
+pub expected_stops : {A B : Type 0} (known_contents : Option Contents) (first : Contents → Result A Fault → Type 0) (next : Contents → A → Result B Fault → Type 0) (fault : Fault) →
+    ExpectedBy known_contents first (Err fault) → ExpectedBy known_contents (λ holds. Then (first holds) (next holds)) (Err fault)
+expected_stops None first next fault expected = (expected.0, tt)
+expected_stops (Some holds) first next fault expected = (expected.0, stops fault expected.1)
 
-pub due_goes_on : {A B : Type 0} (told : Option Contents) (first : Contents → Result A Fault → Type 0) (next : Contents → A → Result B Fault → Type 0) (x : A) (given : Result B Fault) →
-    DueBy told first (Ok x) → DueBy told (λ holds. next holds x) given → DueBy told (λ holds. Then (first holds) (next holds)) given
-due_goes_on None first next x given here there = (there.0, tt)
-due_goes_on (Some holds) first next x given here there = (there.0, goes_on x given here.1 there.1)
+pub expected_goes_on : {A B : Type 0} (known_contents : Option Contents) (first : Contents → Result A Fault → Type 0) (next : Contents → A → Result B Fault → Type 0) (x : A) (given : Result B Fault) →
+    ExpectedBy known_contents first (Ok x) → ExpectedBy known_contents (λ holds. next holds x) given → ExpectedBy known_contents (λ holds. Then (first holds) (next holds)) given
+expected_goes_on None first next x given here there = (there.0, tt)
+expected_goes_on (Some holds) first next x given here there = (there.0, goes_on x given here.1 there.1)
 
-pub due_anyway : {A : Type 0} (told : Option Contents) (step : Result A Fault → Type 0) (given : Result A Fault) → IsGivenByCommand given → step given → DueBy told (λ holds. step) given
-due_anyway None step given of is = (of, tt)
-due_anyway (Some holds) step given of is = (of, is)
+pub expected_anyway : {A : Type 0} (known_contents : Option Contents) (step : Result A Fault → Type 0) (given : Result A Fault) → IsGivenByCommand given → step given → ExpectedBy known_contents (λ holds. step) given
+expected_anyway None step given of is = (of, tt)
+expected_anyway (Some holds) step given of is = (of, is)
 
 -- ---- refusals
 
 -- what is refused for a fault that one thing gives is refused for it as another gives it
-pub refused_as : (due due' : Result (List ℕ) Fault → Type 0) (files : FileEvents) (names : List (List ℕ)) (r : Refusal) → ((fault : Fault) → due (Err fault) → due' (Err fault)) →
-    IsRefused due files names r → IsRefused due' files names r
-refused_as due due' files names refusal.OutOfMemory same is = is
-refused_as due due' files names (refusal.Unread name) same is = is
-refused_as due due' files names (refusal.Fault fault) same is = (same (named fault) is.0, is.1, is.2)
-refused_as due due' files names (refusal.Infeasible line) same is = (same (Infeasible (string_bytes line)) is.0, is.1)
+pub refused_as : (expected expected' : Result (List ℕ) Fault → Type 0) (files : FileEvents) (names : List (List ℕ)) (r : Refusal) → ((fault : Fault) → expected (Err fault) → expected' (Err fault)) →
+    IsRefused expected files names r → IsRefused expected' files names r
+refused_as expected expected' files names refusal.OutOfMemory same is = is
+refused_as expected expected' files names (refusal.Unread name) same is = is
+refused_as expected expected' files names (refusal.Fault fault) same is = (same (named fault) is.0, is.1, is.2)
+refused_as expected expected' files names (refusal.Infeasible line) same is = (same (Infeasible (string_bytes line)) is.0, is.1)
 
 -- the last name stays the last one behind others
 last_behind : (before names : List (List ℕ)) (name : List ℕ) → IsLast names name → IsLast (before ++ names) name
@@ -102,12 +102,12 @@ module _ {F : Type 0} (asked : F → List (List ℕ)) (faults taken : F → ℕ)
   counted_later old mid new _ rises is = tt
 
   -- a load that refuses after others
-  pub refused_later : (due : Result (List ℕ) Fault → Type 0) (old mid new : F) (before names : List (List ℕ)) (r : Refusal) → faults mid ≡ faults old → taken old ≤ taken mid →
-      IsRefused due (file_events asked faults taken mid new) names r → IsRefused due (file_events asked faults taken old new) (before ++ names) r
-  refused_later due old mid new before names refusal.OutOfMemory same rises is = is ∙ same
-  refused_later due old mid new before names (refusal.Unread name) same rises is = (omega arith, last_behind before names name.now is.1)
-  refused_later due old mid new before names (refusal.Fault fault) same rises is = (is.0, is.1 ∙ same, counted_later old mid new (named fault) rises is.2)
-  refused_later due old mid new before names (refusal.Infeasible line) same rises is = (is.0, is.1 ∙ same)
+  pub refused_later : (expected : Result (List ℕ) Fault → Type 0) (old mid new : F) (before names : List (List ℕ)) (r : Refusal) → faults mid ≡ faults old → taken old ≤ taken mid →
+      IsRefused expected (file_events asked faults taken mid new) names r → IsRefused expected (file_events asked faults taken old new) (before ++ names) r
+  refused_later expected old mid new before names refusal.OutOfMemory same rises is = is ∙ same
+  refused_later expected old mid new before names (refusal.Unread name) same rises is = (omega arith, last_behind before names name.now is.1)
+  refused_later expected old mid new before names (refusal.Fault fault) same rises is = (is.0, is.1 ∙ same, counted_later old mid new (named fault) rises is.2)
+  refused_later expected old mid new before names (refusal.Infeasible line) same rises is = (is.0, is.1 ∙ same)
 
   -- the names of loads one after the other
   pub asks_later : (old mid new : F) (before names : List (List ℕ)) → asked mid ≡ asked old ++ before → asked new ≡ asked mid ++ names → asked new ≡ asked old ++ (before ++ names)
@@ -147,45 +147,45 @@ of_command (Text name error) is = tt
 of_command (Input name cause at) is = tt
 of_command (Infeasible line) is = tt
 
-refused_behind : (told : Option Contents) (step : Result (List ℕ) Fault → Type 0) (files : FileEvents) (names : List (List ℕ)) (r : Refusal) → files.sound → StopsBy step r → IsRefused (DueBy told (λ holds. step)) files names r
-refused_behind told step files names refusal.OutOfMemory sound stop = sound
-refused_behind told step files names (refusal.Unread name) sound stop = absurd stop
-refused_behind told step files names (refusal.Fault fault) sound stop = (due_anyway told step (Err (named fault)) (of_command fault stop.1) stop.0, sound, counted_behind files fault stop.1)
-refused_behind told step files names (refusal.Infeasible line) sound stop = (due_anyway told step (Err (Infeasible (string_bytes line))) tt stop, sound)
+refused_behind : (known_contents : Option Contents) (step : Result (List ℕ) Fault → Type 0) (files : FileEvents) (names : List (List ℕ)) (r : Refusal) → files.sound → StopsBy step r → IsRefused (ExpectedBy known_contents (λ holds. step)) files names r
+refused_behind known_contents step files names refusal.OutOfMemory sound stop = sound
+refused_behind known_contents step files names (refusal.Unread name) sound stop = absurd stop
+refused_behind known_contents step files names (refusal.Fault fault) sound stop = (expected_anyway known_contents step (Err (named fault)) (of_command fault stop.1) stop.0, sound, counted_behind files fault stop.1)
+refused_behind known_contents step files names (refusal.Infeasible line) sound stop = (expected_anyway known_contents step (Err (Infeasible (string_bytes line))) tt stop, sound)
 
-gives_behind : {V : Type 0} (items : V → List ℕ) (told : Option Contents) (step : Result (List ℕ) Fault → Type 0) (files : FileEvents) (names : List (List ℕ)) (given : Result V Refusal) → files.sound →
-    IfOk given (λ v. step (Ok (items v))) → IfErr given (StopsBy step) → GivesDue items (DueBy told (λ holds. step)) files names given
-gives_behind items told step files names (Ok v) sound ok err = (due_anyway told step (Ok (items v)) tt ok, sound)
-gives_behind items told step files names (Err r) sound ok err = refused_behind told step files names r sound err
+gives_behind : {V : Type 0} (items : V → List ℕ) (known_contents : Option Contents) (step : Result (List ℕ) Fault → Type 0) (files : FileEvents) (names : List (List ℕ)) (given : Result V Refusal) → files.sound →
+    IfOk given (λ v. step (Ok (items v))) → IfErr given (StopsBy step) → GivesExpected items (ExpectedBy known_contents (λ holds. step)) files names given
+gives_behind items known_contents step files names (Ok v) sound ok err = (expected_anyway known_contents step (Ok (items v)) tt ok, sound)
+gives_behind items known_contents step files names (Err r) sound ok err = refused_behind known_contents step files names r sound err
 
-module _ {F : Type 0} (asked : F → List (List ℕ)) (faults taken : F → ℕ) {V : Type 0} (items : V → List ℕ) (told : Option Contents) where
+module _ {F : Type 0} (asked : F → List (List ℕ)) (faults taken : F → ℕ) {V : Type 0} (items : V → List ℕ) (known_contents : Option Contents) where
   -- what stands behind the loads is done without any
   pub done_behind_loads : (step : Result (List ℕ) Fault → Type 0) (named_files : List (List ℕ)) (now : F) (given : Result V Refusal) →
-      IfOk given (λ v. step (Ok (items v))) → IfErr given (StopsBy step) → IsDone items (DueBy told (λ holds. step)) named_files (file_events asked faults taken now now) given
+      IfOk given (λ v. step (Ok (items v))) → IfErr given (StopsBy step) → IsDone items (ExpectedBy known_contents (λ holds. step)) named_files (file_events asked faults taken now now) given
   done_behind_loads step named_files now given ok err = record {
     names = [];
     in_order = tt;
     asked = sym (append-nil (asked now));
-    gives = gives_behind items told step (file_events asked faults taken now now) [] given refl ok err;
+    gives = gives_behind items known_contents step (file_events asked faults taken now now) [] given refl ok err;
   }
 
   -- the load of the next file refuses
   pub done_at_load : (name : List ℕ) (next : Contents → List ℕ → Result (List ℕ) Fault → Type 0) (others : List (List ℕ)) (old new : F) (r : Refusal) → asked new ≡ asked old ++ name ∷ [] →
-      IsRefused (DueBy told (λ holds. Loads holds name)) (file_events asked faults taken old new) (name ∷ []) r →
-      IsDone items (DueBy told (λ holds. Then (Loads holds name) (next holds))) (name ∷ others) (file_events asked faults taken old new) (Err r)
+      IsRefused (ExpectedBy known_contents (λ holds. Loads holds name)) (file_events asked faults taken old new) (name ∷ []) r →
+      IsDone items (ExpectedBy known_contents (λ holds. Then (Loads holds name) (next holds))) (name ∷ others) (file_events asked faults taken old new) (Err r)
   done_at_load name next others old new r asks is = record {
     names = name ∷ [];
     in_order = (refl, tt);
     asked = asks;
-    gives = refused_as (DueBy told (λ holds. Loads holds name)) (DueBy told (λ holds. Then (Loads holds name) (next holds))) (file_events asked faults taken old new) (name ∷ []) r
-        (λ fault due. due_stops told (λ holds. Loads holds name) next fault due) is;
+    gives = refused_as (ExpectedBy known_contents (λ holds. Loads holds name)) (ExpectedBy known_contents (λ holds. Then (Loads holds name) (next holds))) (file_events asked faults taken old new) (name ∷ []) r
+        (λ fault expected. expected_stops known_contents (λ holds. Loads holds name) next fault expected) is;
   }
 
   -- what is done behind a load is done
   pub done_after_load : (name bytes : List ℕ) (next : Contents → List ℕ → Result (List ℕ) Fault → Type 0) (others : List (List ℕ)) (old mid new : F) (given : Result V Refusal) →
-      asked mid ≡ asked old ++ name ∷ [] → faults mid ≡ faults old → taken old ≤ taken mid → DueBy told (λ holds. Loads holds name) (Ok bytes) →
-      IsDone items (DueBy told (λ holds. next holds bytes)) others (file_events asked faults taken mid new) given →
-      IsDone items (DueBy told (λ holds. Then (Loads holds name) (next holds))) (name ∷ others) (file_events asked faults taken old new) given
+      asked mid ≡ asked old ++ name ∷ [] → faults mid ≡ faults old → taken old ≤ taken mid → ExpectedBy known_contents (λ holds. Loads holds name) (Ok bytes) →
+      IsDone items (ExpectedBy known_contents (λ holds. next holds bytes)) others (file_events asked faults taken mid new) given →
+      IsDone items (ExpectedBy known_contents (λ holds. Then (Loads holds name) (next holds))) (name ∷ others) (file_events asked faults taken old new) given
   done_after_load name bytes next others old mid new given asks same rises loaded done = record {
     names = name ∷ done.names;
     in_order = (refl, done.in_order);
@@ -193,39 +193,39 @@ module _ {F : Type 0} (asked : F → List (List ℕ)) (faults taken : F → ℕ)
     gives = gives_after given done.gives;
   }
     where
-      gives_after : (given : Result V Refusal) → GivesDue items (DueBy told (λ holds. next holds bytes)) (file_events asked faults taken mid new) done.names given
-          → GivesDue items (DueBy told (λ holds. Then (Loads holds name) (next holds))) (file_events asked faults taken old new) (name ∷ done.names) given
-      gives_after (Ok v) is = (due_goes_on told (λ holds. Loads holds name) next bytes (Ok (items v)) loaded is.0, is.1 ∙ same)
+      gives_after : (given : Result V Refusal) → GivesExpected items (ExpectedBy known_contents (λ holds. next holds bytes)) (file_events asked faults taken mid new) done.names given
+          → GivesExpected items (ExpectedBy known_contents (λ holds. Then (Loads holds name) (next holds))) (file_events asked faults taken old new) (name ∷ done.names) given
+      gives_after (Ok v) is = (expected_goes_on known_contents (λ holds. Loads holds name) next bytes (Ok (items v)) loaded is.0, is.1 ∙ same)
       gives_after (Err r) is =
-          refused_as (DueBy told (λ holds. next holds bytes)) (DueBy told (λ holds. Then (Loads holds name) (next holds))) (file_events asked faults taken old new) (name ∷ done.names) r
-          (λ fault due. due_goes_on told (λ holds. Loads holds name) next bytes (Err fault) loaded due)
-          (refused_later asked faults taken (DueBy told (λ holds. next holds bytes)) old mid new (name ∷ []) done.names r same rises is)
+          refused_as (ExpectedBy known_contents (λ holds. next holds bytes)) (ExpectedBy known_contents (λ holds. Then (Loads holds name) (next holds))) (file_events asked faults taken old new) (name ∷ done.names) r
+          (λ fault expected. expected_goes_on known_contents (λ holds. Loads holds name) next bytes (Err fault) loaded expected)
+          (refused_later asked faults taken (ExpectedBy known_contents (λ holds. next holds bytes)) old mid new (name ∷ []) done.names r same rises is)
 
 -- ---- from what is ready
 
-module _ {V W : Type 0} (items : V → List ℕ) (shown_as : W → List ℕ) (due : Result (List ℕ) Fault → Type 0) (named_files : List (List ℕ)) (files : FileEvents) where
+module _ {V W : Type 0} (items : V → List ℕ) (shown_as : W → List ℕ) (expected : Result (List ℕ) Fault → Type 0) (named_files : List (List ℕ)) (files : FileEvents) where
   -- a command that could make nothing ready refuses
-  pub done_refused : (r : Refusal) → IsDone items due named_files files (Err r) → IsDone shown_as due named_files files (Err r)
+  pub done_refused : (r : Refusal) → IsDone items expected named_files files (Err r) → IsDone shown_as expected named_files files (Err r)
   done_refused r done = record { names = done.names; in_order = done.in_order; asked = done.asked; gives = done.gives }
 
   -- what is made of what is ready is what that stands for, or memory is wanting
-  pub done_from : {E : Type 0} (v : V) (made : Result W E) (given : Result W Refusal) → IsDone items due named_files files (Ok v) → IfOk made (λ w. shown_as w ≡ items v) →
-      MatchResult made (λ w. given ≡ Ok w) (λ e. given ≡ Err refusal.OutOfMemory) → IsDone shown_as due named_files files given
+  pub done_from : {E : Type 0} (v : V) (made : Result W E) (given : Result W Refusal) → IsDone items expected named_files files (Ok v) → IfOk made (λ w. shown_as w ≡ items v) →
+      MatchResult made (λ w. given ≡ Ok w) (λ e. given ≡ Err refusal.OutOfMemory) → IsDone shown_as expected named_files files given
   done_from v (Ok w) given done is same =
-      subst (IsDone shown_as due named_files files) (sym same)
-      (record { names = done.names; in_order = done.in_order; asked = done.asked; gives = (subst (λ t. due (Ok t)) (sym is) done.gives.0, done.gives.1) })
+      subst (IsDone shown_as expected named_files files) (sym same)
+      (record { names = done.names; in_order = done.in_order; asked = done.asked; gives = (subst (λ t. expected (Ok t)) (sym is) done.gives.0, done.gives.1) })
   done_from v (Err e) given done is same =
-      subst (IsDone shown_as due named_files files) (sym same) (record { names = done.names; in_order = done.in_order; asked = done.asked; gives = done.gives.1 })
+      subst (IsDone shown_as expected named_files files) (sym same) (record { names = done.names; in_order = done.in_order; asked = done.asked; gives = done.gives.1 })
 
 -- ---- the answer
 
-answers_at : (due : Result (List ℕ) Fault → Type 0) (files : FileEvents) (names : List (List ℕ)) (out err : SinkEvents) (m n : ℕ) → m ≡ n → Answers due files names out err n → Answers due files names out err m
-answers_at due files names out err m n same answer = subst (Answers due files names out err) (sym same) answer
+answers_at : (expected : Result (List ℕ) Fault → Type 0) (files : FileEvents) (names : List (List ℕ)) (out err : SinkEvents) (m n : ℕ) → m ≡ n → Answers expected files names out err n → Answers expected files names out err m
+answers_at expected files names out err m n same answer = subst (Answers expected files names out err) (sym same) answer
 
-written : (due : Result (List ℕ) Fault → Type 0) (files : FileEvents) (names : List (List ℕ)) (out err : SinkEvents) (text : List ℕ) (status : ℕ) → due (Ok text) → files.sound → Writes out err text status →
-    Answers due files names out err status
-written due files names out err text status is sound (inl w) = answers_at due files names out err status 0 w.0 (wrote text is sound w.1 w.2)
-written due files names out err text status is sound (inr w) = answers_at due files names out err status 5 w.0 (unwritten text is sound w.1 w.2)
+written : (expected : Result (List ℕ) Fault → Type 0) (files : FileEvents) (names : List (List ℕ)) (out err : SinkEvents) (text : List ℕ) (status : ℕ) → expected (Ok text) → files.sound → Writes out err text status →
+    Answers expected files names out err status
+written expected files names out err text status is sound (inl w) = answers_at expected files names out err status 0 w.0 (wrote text is sound w.1 w.2)
+written expected files names out err text status is sound (inr w) = answers_at expected files names out err status 5 w.0 (unwritten text is sound w.1 w.2)
 
 -- where the name lies makes no difference to the status
 status_named : (fault : code.Fault (Bor (List ℕ))) → status_of (named fault) ≡ status_of fault
@@ -235,26 +235,26 @@ status_named (Text name error) = refl
 status_named (Input name cause at) = refl
 status_named (Infeasible line) = refl
 
-shown : (due : Result (List ℕ) Fault → Type 0) (files : FileEvents) (names : List (List ℕ)) (out err : SinkEvents) (r : Refusal) (status : ℕ) → IsRefused due files names r → ShowsRefusal out err r status →
-    Answers due files names out err status
-shown due files names out err refusal.OutOfMemory status is shows = answers_at due files names out err status 3 shows.1 (no_memory is shows.0 shows.2)
-shown due files names out err (refusal.Unread name) status is shows = answers_at due files names out err status 4 shows.1 (unread name.now is.1 is.0 shows.0 shows.2)
-shown due files names out err (refusal.Fault fault) status is shows = answers_at due files names out err status _ (shows.1 ∙ sym (status_named fault)) (refused (named fault) is.0 is.1 is.2 shows.0 shows.2)
-shown due files names out err (refusal.Infeasible line) status is shows = answers_at due files names out err status 9 shows.1 (refused (Infeasible (string_bytes line)) is.0 is.1 tt shows.0 shows.2)
+shown : (expected : Result (List ℕ) Fault → Type 0) (files : FileEvents) (names : List (List ℕ)) (out err : SinkEvents) (r : Refusal) (status : ℕ) → IsRefused expected files names r → ShowsRefusal out err r status →
+    Answers expected files names out err status
+shown expected files names out err refusal.OutOfMemory status is shows = answers_at expected files names out err status 3 shows.1 (no_memory is shows.0 shows.2)
+shown expected files names out err (refusal.Unread name) status is shows = answers_at expected files names out err status 4 shows.1 (unread name.now is.1 is.0 shows.0 shows.2)
+shown expected files names out err (refusal.Fault fault) status is shows = answers_at expected files names out err status _ (shows.1 ∙ sym (status_named fault)) (refused (named fault) is.0 is.1 is.2 shows.0 shows.2)
+shown expected files names out err (refusal.Infeasible line) status is shows = answers_at expected files names out err status 9 shows.1 (refused (Infeasible (string_bytes line)) is.0 is.1 tt shows.0 shows.2)
 
-given_answer : {V : Type 0} (items : V → List ℕ) (due : Result (List ℕ) Fault → Type 0) (files : FileEvents) (names : List (List ℕ)) (out err : SinkEvents) (given : Result V Refusal) (status : ℕ) →
-    GivesDue items due files names given → MatchResult given (λ v. Writes out err (items v) status) (λ r. ShowsRefusal out err r status) → Answers due files names out err status
-given_answer items due files names out err (Ok v) status gives response = written due files names out err (items v) status gives.0 gives.1 response
-given_answer items due files names out err (Err r) status gives response = shown due files names out err r status gives response
+given_answer : {V : Type 0} (items : V → List ℕ) (expected : Result (List ℕ) Fault → Type 0) (files : FileEvents) (names : List (List ℕ)) (out err : SinkEvents) (given : Result V Refusal) (status : ℕ) →
+    GivesExpected items expected files names given → MatchResult given (λ v. Writes out err (items v) status) (λ r. ShowsRefusal out err r status) → Answers expected files names out err status
+given_answer items expected files names out err (Ok v) status gives response = written expected files names out err (items v) status gives.0 gives.1 response
+given_answer items expected files names out err (Err r) status gives response = shown expected files names out err r status gives response
 
--- a command that did what is due, and what is put for what it gave
-pub answered : {V : Type 0} (items : V → List ℕ) (due : Result (List ℕ) Fault → Type 0) (named_files : List (List ℕ)) (files : FileEvents) (out err : SinkEvents) (given : Result V Refusal) (status : ℕ) →
-    IsDone items due named_files files given → MatchResult given (λ v. Writes out err (items v) status) (λ r. ShowsRefusal out err r status) → IsAnswered due named_files files out err status
-answered items due named_files files out err given status done response = record {
+-- a command that did what is expected, and what is put for what it gave
+pub answered : {V : Type 0} (items : V → List ℕ) (expected : Result (List ℕ) Fault → Type 0) (named_files : List (List ℕ)) (files : FileEvents) (out err : SinkEvents) (given : Result V Refusal) (status : ℕ) →
+    IsDone items expected named_files files given → MatchResult given (λ v. Writes out err (items v) status) (λ r. ShowsRefusal out err r status) → IsAnswered expected named_files files out err status
+answered items expected named_files files out err given status done response = record {
   names = done.names;
   in_order = done.in_order;
   asked = done.asked;
-  answers = given_answer items due files done.names out err given status done.gives response;
+  answers = given_answer items expected files done.names out err given status done.gives response;
 }
 
 -- ---- what `?` hands on

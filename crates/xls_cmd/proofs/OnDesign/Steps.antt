@@ -60,20 +60,20 @@ stops_at_design name bytes text e found is =
 
 -- ---- a run
 
-by_some : (said : Option ℕ) (kind : Kind) (depth : ℕ) → 1 ≤ depth_by said kind depth
+by_some : (arguments : Option ℕ) (kind : Kind) (depth : ℕ) → 1 ≤ depth_by arguments kind depth
 by_some None kind depth = omega arith
 by_some (Some d) AtInput depth = omega arith
 by_some (Some d) AtOutput depth = omega arith
 by_some (Some d) AtInner depth = omega arith
 
-some_depths : (said : Option ℕ) (chans : List Chan) → (c : ℕ) → c < length (map (λ (chan : Chan). depth_by said chan.kind chan.depth) chans) → 1 ≤ get_or (map (λ (chan : Chan). depth_by said chan.kind chan.depth) chans) c 0
-some_depths said [] c h = absurd (omega arith)
-some_depths said (chan ∷ chans) zero h = by_some said chan.kind chan.depth
-some_depths said (chan ∷ chans) (suc c) h = some_depths said chans c (omega arith)
+some_depths : (arguments : Option ℕ) (chans : List Chan) → (c : ℕ) → c < length (map (λ (chan : Chan). depth_by arguments chan.kind chan.depth) chans) → 1 ≤ get_or (map (λ (chan : Chan). depth_by arguments chan.kind chan.depth) chans) c 0
+some_depths arguments [] c h = absurd (omega arith)
+some_depths arguments (chan ∷ chans) zero h = by_some arguments chan.kind chan.depth
+some_depths arguments (chan ∷ chans) (suc c) h = some_depths arguments chans c (omega arith)
 
 -- such depths are those of a run
-pub own_depths : (said : Option ℕ) (net : Net) → IsDepths net (depths_by said net)
-own_depths said net = record { count = length-map net.chans (λ (chan : Chan). depth_by said chan.kind chan.depth); some = some_depths said net.chans }
+pub own_depths : (arguments : Option ℕ) (net : Net) → IsDepths net (depths_by arguments net)
+own_depths arguments net = record { count = length-map net.chans (λ (chan : Chan). depth_by arguments chan.kind chan.depth); some = some_depths arguments net.chans }
 
 pub same_text : (net net' : Net) (behaviors behaviors' : List Behavior) (inputs : Inputs) (how : How) → net ≡ net' → behaviors ≡ behaviors' → run_text net behaviors inputs how.activations (depths_by how.depth net) ≡ run_text net' behaviors' inputs how.activations (depths_by how.depth net')
 same_text net net' behaviors behaviors' inputs how e f = ap (λ x. run_text x behaviors inputs how.activations (depths_by how.depth x)) e ∙ ap (λ b. run_text net' b inputs how.activations (depths_by how.depth net')) f
@@ -95,20 +95,20 @@ inputs_is_one name file net a b (at_fault cause at is) (at_fault other place als
     let same : ◌≡◌ {A = Cause × ℕ} (cause, at) (other, place) = let e = one_reading net file (Err (cause, at)) (Err (other, place)) is also in cc in
     ap (λ (x : Cause × ℕ). Err (Input name x.0 x.1)) same
 
-pub check_is_one : OneDesign → (holds : Contents) (said : Check (List ℕ)) → IsOne (check holds said)
-check_is_one law holds said =
-    then_is_one (Loads holds said.design) (λ design. check_text said.design design) (loads_is_one holds said.design)
-    (λ design. then_is_one (ReadsDesign said.design design) (λ m. Gives (Ok (accepted (network_of m top)))) (design_is_one law said.design design) (λ m. gives_is_one (Ok (accepted (network_of m top)))))
+pub check_is_one : OneDesign → (holds : Contents) (arguments : Check (List ℕ)) → IsOne (check holds arguments)
+check_is_one law holds arguments =
+    then_is_one (Loads holds arguments.design) (λ design. check_text arguments.design design) (loads_is_one holds arguments.design)
+    (λ design. then_is_one (ReadsDesign arguments.design design) (λ m. Gives (Ok (accepted (network_of m top)))) (design_is_one law arguments.design design) (λ m. gives_is_one (Ok (accepted (network_of m top)))))
 
-texts_are_one : OneDesign → (said : Run (List ℕ)) (design inputs : List ℕ) → IsOne (run_texts said design inputs)
-texts_are_one law said design inputs =
-    then_is_one (ReadsDesign said.design design)
-    (λ m. Then (ReadsInputs said.inputs inputs (network_of m top)) (λ words. Gives (Ok (run_text (network_of m top) (behaviors_of m top) words said.how.activations (depths_by said.how.depth (network_of m top))))))
-    (design_is_one law said.design design)
-    (λ m. then_is_one (ReadsInputs said.inputs inputs (network_of m top)) (λ words. Gives (Ok (run_text (network_of m top) (behaviors_of m top) words said.how.activations (depths_by said.how.depth (network_of m top)))))
-    (inputs_is_one said.inputs inputs (network_of m top)) (λ words. gives_is_one (Ok (run_text (network_of m top) (behaviors_of m top) words said.how.activations (depths_by said.how.depth (network_of m top))))))
+texts_are_one : OneDesign → (arguments : Run (List ℕ)) (design inputs : List ℕ) → IsOne (run_texts arguments design inputs)
+texts_are_one law arguments design inputs =
+    then_is_one (ReadsDesign arguments.design design)
+    (λ m. Then (ReadsInputs arguments.inputs inputs (network_of m top)) (λ words. Gives (Ok (run_text (network_of m top) (behaviors_of m top) words arguments.how.activations (depths_by arguments.how.depth (network_of m top))))))
+    (design_is_one law arguments.design design)
+    (λ m. then_is_one (ReadsInputs arguments.inputs inputs (network_of m top)) (λ words. Gives (Ok (run_text (network_of m top) (behaviors_of m top) words arguments.how.activations (depths_by arguments.how.depth (network_of m top)))))
+    (inputs_is_one arguments.inputs inputs (network_of m top)) (λ words. gives_is_one (Ok (run_text (network_of m top) (behaviors_of m top) words arguments.how.activations (depths_by arguments.how.depth (network_of m top))))))
 
-pub run_is_one : OneDesign → (holds : Contents) (said : Run (List ℕ)) → IsOne (run holds said)
-run_is_one law holds said =
-    then_is_one (Loads holds said.design) (λ design. Then (Loads holds said.inputs) (λ inputs. run_texts said design inputs)) (loads_is_one holds said.design)
-    (λ design. then_is_one (Loads holds said.inputs) (λ inputs. run_texts said design inputs) (loads_is_one holds said.inputs) (λ inputs. texts_are_one law said design inputs))
+pub run_is_one : OneDesign → (holds : Contents) (arguments : Run (List ℕ)) → IsOne (run holds arguments)
+run_is_one law holds arguments =
+    then_is_one (Loads holds arguments.design) (λ design. Then (Loads holds arguments.inputs) (λ inputs. run_texts arguments design inputs)) (loads_is_one holds arguments.design)
+    (λ design. then_is_one (Loads holds arguments.inputs) (λ inputs. run_texts arguments design inputs) (loads_is_one holds arguments.inputs) (λ inputs. texts_are_one law arguments design inputs))

@@ -39,7 +39,7 @@ package_is_one law name bytes =
 optimised_agrees : (ir : Package) → Agrees (GivesOptimised ir)
 optimised_agrees ir a b (optimised x text is same again) (optimised y other also like back) = tt
 
-pub opt_agrees : OnePackage → (holds : Contents) (said : Opt (List ℕ)) → Agrees (opt holds said)
-opt_agrees law holds said =
-    then_agrees (Loads holds said.design) (λ bytes. opt_loaded said bytes) (loads_is_one holds said.design)
-    (λ bytes. then_agrees (ReadsPackage said.design bytes) (λ ir. GivesOptimised ir) (package_is_one law said.design bytes) optimised_agrees)
+pub opt_agrees : OnePackage → (holds : Contents) (arguments : Opt (List ℕ)) → Agrees (opt holds arguments)
+opt_agrees law holds arguments =
+    then_agrees (Loads holds arguments.design) (λ bytes. opt_loaded arguments bytes) (loads_is_one holds arguments.design)
+    (λ bytes. then_agrees (ReadsPackage arguments.design bytes) (λ ir. GivesOptimised ir) (package_is_one law arguments.design bytes) optimised_agrees)

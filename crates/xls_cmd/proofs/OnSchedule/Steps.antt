@@ -38,11 +38,11 @@ schedules_are_one laws ir demands a b (infeasible e is some) (fits y also) = abs
 schedules_are_one laws ir demands a b (infeasible e is some) (infeasible f also more) =
     ap (λ (x : Infeasible). Err (fault.Infeasible (infeasible_text ir demands x))) (laws.first ir.procs demands e f is also some more)
 
-loaded_is_one : TheLaws → (said : Said (List ℕ)) (bytes : List ℕ) → IsOne (schedule_loaded said bytes)
-loaded_is_one laws said bytes =
-    then_is_one (ReadsPackage said.design bytes) (λ ir. GivesSchedules ir (demands_of said.timing)) (package_is_one laws said.design bytes)
-    (λ ir. schedules_are_one laws ir (demands_of said.timing))
+loaded_is_one : TheLaws → (arguments : Said (List ℕ)) (bytes : List ℕ) → IsOne (schedule_loaded arguments bytes)
+loaded_is_one laws arguments bytes =
+    then_is_one (ReadsPackage arguments.design bytes) (λ ir. GivesSchedules ir (demands_of arguments.timing)) (package_is_one laws arguments.design bytes)
+    (λ ir. schedules_are_one laws ir (demands_of arguments.timing))
 
-pub schedule_is_one : TheLaws → (holds : Contents) (said : Said (List ℕ)) → IsOne (schedule holds said)
-schedule_is_one laws holds said =
-    then_is_one (Loads holds said.design) (λ bytes. schedule_loaded said bytes) (loads_is_one holds said.design) (λ bytes. loaded_is_one laws said bytes)
+pub schedule_is_one : TheLaws → (holds : Contents) (arguments : Said (List ℕ)) → IsOne (schedule holds arguments)
+schedule_is_one laws holds arguments =
+    then_is_one (Loads holds arguments.design) (λ bytes. schedule_loaded arguments bytes) (loads_is_one holds arguments.design) (λ bytes. loaded_is_one laws arguments bytes)

@@ -10,7 +10,7 @@ use Rattle.xb_span.specs.declared.read_error.ReadError.TheVariants.{Syntax}
 use Rattle.xls_cmd.specs.declared.shared.fault.Fault.TheVariants.{TooBig, Text}
 use Rattle.xls_cmd.specs.Shared.Loads.{Loads, whole, past_limit, text_of}
 
-pub loaded_whole : (told : Option Contents) (name bytes : List ℕ) → IfSome told (λ holds. holds name ≡ Some bytes) → length bytes ≤ FILE_LIMIT → IfSome told (λ holds. Loads holds name (Ok bytes))
+pub loaded_whole : (known_contents : Option Contents) (name bytes : List ℕ) → IfSome known_contents (λ holds. holds name ≡ Some bytes) → length bytes ≤ FILE_LIMIT → IfSome known_contents (λ holds. Loads holds name (Ok bytes))
 loaded_whole None name bytes held within = tt
 loaded_whole (Some holds) name bytes held within = whole bytes held within
 
@@ -18,7 +18,7 @@ past : (holds : Contents) (name : List ℕ) (o : Option (List ℕ)) → holds na
 past holds name None e more = absurd more
 past holds name (Some bytes) e more = past_limit bytes e more
 
-pub loaded_past_limit : (told : Option Contents) (name : List ℕ) → IfSome told (λ holds. IsSomeAnd (holds name) (λ bytes. FILE_LIMIT < length bytes)) → IfSome told (λ holds. Loads holds name (Err (TooBig name)))
+pub loaded_past_limit : (known_contents : Option Contents) (name : List ℕ) → IfSome known_contents (λ holds. IsSomeAnd (holds name) (λ bytes. FILE_LIMIT < length bytes)) → IfSome known_contents (λ holds. Loads holds name (Err (TooBig name)))
 loaded_past_limit None name more = tt
 loaded_past_limit (Some holds) name more = past holds name (holds name) refl more
 

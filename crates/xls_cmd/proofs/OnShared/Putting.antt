@@ -3,7 +3,7 @@ use Rattle.std.proofs.Common.{◌≡◌, ◌<◌, ◌+◌, ℕ, zero, suc, min, 
 use Rattle.std.specs.Prelude.{flat_map, OnOk, OnErr}
 use Rattle.std.proofs.lemmas.List.{append_assoc, append-nil, take-append-le, take_min}
 use Rattle.std.specs.Io.KnownBytes.{Appends}
-use Rattle.xb_io.specs.Sink.{AppendsFront}
+use Rattle.xb_io.specs.Sink.{AppendsPrefix}
 use Rattle.xb_io.specs.Counts.{HasRisen}
 
 -- a piece stands in the line behind the pieces before it
@@ -24,21 +24,21 @@ take_behind (c ∷ cs) piece rest n =
     ap (λ t. c ∷ t) (take_behind cs piece rest n) ∙ ap (λ k. take k (c ∷ (cs ++ (piece ++ rest)))) (sym more)
 
 -- a front, and then a front of the piece behind it
-pub appends_then_front : (old mid new : Option (List ℕ)) (front piece rest : List ℕ) → Appends old mid front → AppendsFront mid new piece → AppendsFront old new (front ++ (piece ++ rest))
-appends_then_front None mid new front piece rest first then = (0, tt)
-appends_then_front (Some bytes) None new front piece rest first then = absurd first
-appends_then_front (Some bytes) (Some more) None front piece rest first then = absurd then.1
-appends_then_front (Some bytes) (Some more) (Some all) front piece rest first then = (
+pub appends_then_prefix : (old mid new : Option (List ℕ)) (front piece rest : List ℕ) → Appends old mid front → AppendsPrefix mid new piece → AppendsPrefix old new (front ++ (piece ++ rest))
+appends_then_prefix None mid new front piece rest first then = (0, tt)
+appends_then_prefix (Some bytes) None new front piece rest first then = absurd first
+appends_then_prefix (Some bytes) (Some more) None front piece rest first then = absurd then.1
+appends_then_prefix (Some bytes) (Some more) (Some all) front piece rest first then = (
   length front + min then.0 (length piece),
   then.1 ∙ ap (λ b. b ++ take then.0 piece) first ∙ append_assoc bytes front (take then.0 piece) ∙ ap (λ t. bytes ++ t) (take_behind front piece rest then.0),
 )
 
 -- the line as far as a piece that broke off
 pub breaks_off_at : {X : Type 0} (f : X → List ℕ) (pieces : List X) (i : ℕ) (d : X) (old mid new : Option (List ℕ)) → i < length pieces →
-    Appends old mid (flat_map f (take i pieces)) → AppendsFront mid new (f (get_or pieces i d)) → AppendsFront old new (flat_map f pieces)
+    Appends old mid (flat_map f (take i pieces)) → AppendsPrefix mid new (f (get_or pieces i d)) → AppendsPrefix old new (flat_map f pieces)
 breaks_off_at f pieces i d old mid new within first broken =
     let split = piece_in_line f pieces i d within in
-    subst (λ line. AppendsFront old new line) (sym split.1) (appends_then_front old mid new (flat_map f (take i pieces)) (f (get_or pieces i d)) split.0 first broken)
+    subst (λ line. AppendsPrefix old new line) (sym split.1) (appends_then_prefix old mid new (flat_map f (take i pieces)) (f (get_or pieces i d)) split.0 first broken)
 
 -- what stays as it is has grown by nothing
 appends_nothing : (a : Option (List ℕ)) → Appends a a []
@@ -52,16 +52,16 @@ appends_both (Some x) (Some y) None xs ys first next = absurd next
 appends_both (Some x) (Some y) (Some z) xs ys first next = next ∙ ap (λ front. front ++ ys) first ∙ append_assoc x xs ys
 
 -- Three parts that are put one after the other, by the counts of faults: it breaks off in the first, in the second, or in the last.
-pub breaks_in_first : (a b : Option (List ℕ)) (x y z : List ℕ) (m n : ℕ) → AppendsFront a b x → HasRisen m n → AppendsFront a b ((x ++ y) ++ z) × HasRisen m n
-breaks_in_first a b x y z m n broken risen = (rw append_assoc (appends_then_front a a b [] x (y ++ z) (appends_nothing a) broken), risen)
+pub breaks_in_first : (a b : Option (List ℕ)) (x y z : List ℕ) (m n : ℕ) → AppendsPrefix a b x → HasRisen m n → AppendsPrefix a b ((x ++ y) ++ z) × HasRisen m n
+breaks_in_first a b x y z m n broken risen = (rw append_assoc (appends_then_prefix a a b [] x (y ++ z) (appends_nothing a) broken), risen)
 
-pub breaks_in_second : (a b c : Option (List ℕ)) (x y z : List ℕ) (m k n : ℕ) → Appends a b x → k ≡ m → AppendsFront b c y → HasRisen k n → AppendsFront a c ((x ++ y) ++ z) × HasRisen m n
-breaks_in_second a b c x y z m k n first same broken risen = (rw append_assoc (appends_then_front a b c x y z first broken), rw same at risen)
+pub breaks_in_second : (a b c : Option (List ℕ)) (x y z : List ℕ) (m k n : ℕ) → Appends a b x → k ≡ m → AppendsPrefix b c y → HasRisen k n → AppendsPrefix a c ((x ++ y) ++ z) × HasRisen m n
+breaks_in_second a b c x y z m k n first same broken risen = (rw append_assoc (appends_then_prefix a b c x y z first broken), rw same at risen)
 
-pub breaks_in_last : (a b c d : Option (List ℕ)) (x y z : List ℕ) (m k j n : ℕ) → Appends a b x → k ≡ m → Appends b c y → j ≡ k → AppendsFront c d z → HasRisen j n →
-    AppendsFront a d ((x ++ y) ++ z) × HasRisen m n
+pub breaks_in_last : (a b c d : Option (List ℕ)) (x y z : List ℕ) (m k j n : ℕ) → Appends a b x → k ≡ m → Appends b c y → j ≡ k → AppendsPrefix c d z → HasRisen j n →
+    AppendsPrefix a d ((x ++ y) ++ z) × HasRisen m n
 breaks_in_last a b c d x y z m k j n first same next still broken risen = (
-  rw append-nil at (appends_then_front a c d (x ++ y) z [] (appends_both a b c x y first next) broken),
+  rw append-nil at (appends_then_prefix a c d (x ++ y) z [] (appends_both a b c x y first next) broken),
   rw (still ∙ same) at risen,
 )
 

@@ -107,12 +107,12 @@ rows_are_one law name file m a b x y =
 simulation_is_one : OneText → (m : VModule) (rows : List Repeated) → IsOne (Simulates m rows)
 simulation_is_one law m rows a b (shows text is) (shows other also) = ap Ok (law m (all_rows rows) text other is also)
 
-texts_are_one : OneModule → OneReading → OneText → (said : Sim (List ℕ)) (design rows : List ℕ) → IsOne (sim_texts said design rows)
-texts_are_one modules readings texts said design rows =
-    then_is_one (ReadsModule said.design design) (λ m. Then (ReadsRows said.rows rows m) (λ listed. Simulates m listed)) (module_is_one modules said.design design)
-    (λ m. then_is_one (ReadsRows said.rows rows m) (λ listed. Simulates m listed) (rows_are_one readings said.rows rows m) (λ listed. simulation_is_one texts m listed))
+texts_are_one : OneModule → OneReading → OneText → (arguments : Sim (List ℕ)) (design rows : List ℕ) → IsOne (sim_texts arguments design rows)
+texts_are_one modules readings texts arguments design rows =
+    then_is_one (ReadsModule arguments.design design) (λ m. Then (ReadsRows arguments.rows rows m) (λ listed. Simulates m listed)) (module_is_one modules arguments.design design)
+    (λ m. then_is_one (ReadsRows arguments.rows rows m) (λ listed. Simulates m listed) (rows_are_one readings arguments.rows rows m) (λ listed. simulation_is_one texts m listed))
 
-pub sim_is_one : OneModule → OneReading → OneText → (holds : Contents) (said : Sim (List ℕ)) → IsOne (sim holds said)
-sim_is_one modules readings texts holds said =
-    then_is_one (Loads holds said.design) (λ design. Then (Loads holds said.rows) (λ rows. sim_texts said design rows)) (loads_is_one holds said.design)
-    (λ design. then_is_one (Loads holds said.rows) (λ rows. sim_texts said design rows) (loads_is_one holds said.rows) (λ rows. texts_are_one modules readings texts said design rows))
+pub sim_is_one : OneModule → OneReading → OneText → (holds : Contents) (arguments : Sim (List ℕ)) → IsOne (sim holds arguments)
+sim_is_one modules readings texts holds arguments =
+    then_is_one (Loads holds arguments.design) (λ design. Then (Loads holds arguments.rows) (λ rows. sim_texts arguments design rows)) (loads_is_one holds arguments.design)
+    (λ design. then_is_one (Loads holds arguments.rows) (λ rows. sim_texts arguments design rows) (loads_is_one holds arguments.rows) (λ rows. texts_are_one modules readings texts arguments design rows))

@@ -38,24 +38,24 @@ abbrev pub check_text : List ℕ → List ℕ → Step (List ℕ)
 check_text name design = Then (ReadsDesign name design) (λ m. Gives (Ok (accepted (network_of m top))))
 
 abbrev pub check : Contents → Check (List ℕ) → Step (List ℕ)
-check holds said = Then (Loads holds said.design) (λ design. check_text said.design design)
+check holds arguments = Then (Loads holds arguments.design) (λ design. check_text arguments.design design)
 
 -- `run`, once both files are loaded
 abbrev pub run_texts : Run (List ℕ) → List ℕ → List ℕ → Step (List ℕ)
-run_texts said design inputs =
-    Then (ReadsDesign said.design design) (λ m.
-    Then (ReadsInputs said.inputs inputs (network_of m top)) (λ words.
-    Gives (Ok (run_text (network_of m top) (behaviors_of m top) words said.how.activations (depths_by said.how.depth (network_of m top))))))
+run_texts arguments design inputs =
+    Then (ReadsDesign arguments.design design) (λ m.
+    Then (ReadsInputs arguments.inputs inputs (network_of m top)) (λ words.
+    Gives (Ok (run_text (network_of m top) (behaviors_of m top) words arguments.how.activations (depths_by arguments.how.depth (network_of m top))))))
 
 abbrev pub run : Contents → Run (List ℕ) → Step (List ℕ)
-run holds said =
-    Then (Loads holds said.design) (λ design.
-    Then (Loads holds said.inputs) (λ inputs.
-    run_texts said design inputs))
+run holds arguments =
+    Then (Loads holds arguments.design) (λ design.
+    Then (Loads holds arguments.inputs) (λ inputs.
+    run_texts arguments design inputs))
 
 -- the files that each names, in the order in which they are loaded
 abbrev pub check_files : Check (List ℕ) → List (List ℕ)
-check_files said = said.design ∷ []
+check_files arguments = arguments.design ∷ []
 
 abbrev pub run_files : Run (List ℕ) → List (List ℕ)
-run_files said = said.design ∷ said.inputs ∷ []
+run_files arguments = arguments.design ∷ arguments.inputs ∷ []

@@ -24,7 +24,7 @@ depth_by (Some d) Inner depth = max d 1
 
 -- the depth that each channel has
 abbrev pub depths_by : Option ℕ → Net → List ℕ
-depths_by said net = map (λ (chan : Chan). depth_by said chan.kind chan.depth) net.chans
+depths_by arguments net = map (λ (chan : Chan). depth_by arguments chan.kind chan.depth) net.chans
 
 -- the outcome of the final cut of a network whose procs do this, with these words on its inputs
 abbrev pub run_text : Net → List Behavior → Inputs → ℕ → List ℕ → List ℕ

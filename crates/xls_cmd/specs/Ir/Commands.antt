@@ -16,17 +16,17 @@ ReadsPackage name bytes = Then (Gives (text_of name bytes)) (λ text. OfText nam
 
 -- `run --from ir`, once both files are loaded
 abbrev pub run_texts : Run (List ℕ) → List ℕ → List ℕ → Step (List ℕ)
-run_texts said design inputs =
-    Then (ReadsPackage said.design design) (λ ir.
-    Then (ReadsInputs said.inputs inputs (network_of ir)) (λ words.
-    Gives (Ok (run_text (network_of ir) (behaviors_of ir) words said.how.activations (depths_by said.how.depth (network_of ir))))))
+run_texts arguments design inputs =
+    Then (ReadsPackage arguments.design design) (λ ir.
+    Then (ReadsInputs arguments.inputs inputs (network_of ir)) (λ words.
+    Gives (Ok (run_text (network_of ir) (behaviors_of ir) words arguments.how.activations (depths_by arguments.how.depth (network_of ir))))))
 
 abbrev pub run : Contents → Run (List ℕ) → Step (List ℕ)
-run holds said =
-    Then (Loads holds said.design) (λ design.
-    Then (Loads holds said.inputs) (λ inputs.
-    run_texts said design inputs))
+run holds arguments =
+    Then (Loads holds arguments.design) (λ design.
+    Then (Loads holds arguments.inputs) (λ inputs.
+    run_texts arguments design inputs))
 
 -- the files that it names, in the order in which they are loaded
 abbrev pub run_files : Run (List ℕ) → List (List ℕ)
-run_files said = said.design ∷ said.inputs ∷ []
+run_files arguments = arguments.design ∷ arguments.inputs ∷ []

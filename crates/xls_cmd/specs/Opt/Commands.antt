@@ -17,11 +17,11 @@ pub data GivesOptimised (ir : Package) : Result (List ℕ) Fault → Type 0 wher
 
 -- `opt --from ir`, once the file is loaded
 abbrev pub opt_loaded : Opt (List ℕ) → List ℕ → Step (List ℕ)
-opt_loaded said bytes = Then (ReadsPackage said.design bytes) (λ ir. GivesOptimised ir)
+opt_loaded arguments bytes = Then (ReadsPackage arguments.design bytes) (λ ir. GivesOptimised ir)
 
 abbrev pub opt : Contents → Opt (List ℕ) → Step (List ℕ)
-opt holds said = Then (Loads holds said.design) (λ bytes. opt_loaded said bytes)
+opt holds arguments = Then (Loads holds arguments.design) (λ bytes. opt_loaded arguments bytes)
 
 -- the files that it names
 abbrev pub opt_files : Opt (List ℕ) → List (List ℕ)
-opt_files said = said.design ∷ []
+opt_files arguments = arguments.design ∷ []

@@ -28,11 +28,11 @@ demands_of timing = record { clock = timing.clock; stages = timing.stages; inter
 
 -- `schedule --from ir`, once the file is loaded
 abbrev pub schedule_loaded : Said (List ℕ) → List ℕ → Step (List ℕ)
-schedule_loaded said bytes = Then (ReadsPackage said.design bytes) (λ ir. GivesSchedules ir (demands_of said.timing))
+schedule_loaded arguments bytes = Then (ReadsPackage arguments.design bytes) (λ ir. GivesSchedules ir (demands_of arguments.timing))
 
 abbrev pub schedule : Contents → Said (List ℕ) → Step (List ℕ)
-schedule holds said = Then (Loads holds said.design) (λ bytes. schedule_loaded said bytes)
+schedule holds arguments = Then (Loads holds arguments.design) (λ bytes. schedule_loaded arguments bytes)
 
 -- the files that it names
 abbrev pub schedule_files : Said (List ℕ) → List (List ℕ)
-schedule_files said = said.design ∷ []
+schedule_files arguments = arguments.design ∷ []

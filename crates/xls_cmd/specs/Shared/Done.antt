@@ -1,6 +1,6 @@
--- What a command did: what is due, but for want of memory and faults of the outside.
+-- What a command did: what is expected, but for want of memory and faults of the outside.
 use Rattle.std.specs.Prelude.{◌≡◌, ℕ, List, [], ◌∷◌, ◌++◌, Result, Ok, Err, string_bytes}
-use Rattle.base.specs.Lists.Front.{IsFront}
+use Rattle.base.specs.Lists.Prefix.{IsPrefix}
 use Rattle.std.specs.Borrow.{Bor}
 use Rattle.xb_span.specs.declared.read_error.ReadError.{ReadError}
 use Rattle.xb_span.specs.declared.read_error.ReadError.TheVariants.{OutOfMemory}
@@ -45,20 +45,20 @@ IsBackedByBytes files _ = Unit {0}
 
 -- why there is no output, after these names were asked for
 abbrev pub IsRefused : (Result (List ℕ) Fault → Type 0) → FileEvents → List (List ℕ) → Refusal → Type 0
-IsRefused due files names refusal.OutOfMemory = files.sound
-IsRefused due files names (refusal.Unread name) = files.faulted × IsLast names name.now
-IsRefused due files names (refusal.Fault fault) = due (Err (named fault)) × files.sound × IsBackedByBytes files (named fault)
-IsRefused due files names (refusal.Infeasible line) = due (Err (Infeasible (string_bytes line))) × files.sound
+IsRefused expected files names refusal.OutOfMemory = files.sound
+IsRefused expected files names (refusal.Unread name) = files.faulted × IsLast names name.now
+IsRefused expected files names (refusal.Fault fault) = expected (Err (named fault)) × files.sound × IsBackedByBytes files (named fault)
+IsRefused expected files names (refusal.Infeasible line) = expected (Err (Infeasible (string_bytes line))) × files.sound
 
--- a command that names files gave the text that is due, or refused
-abbrev pub GivesDue : {V : Type 0} → (V → List ℕ) → (Result (List ℕ) Fault → Type 0) → FileEvents → List (List ℕ) → Result V Refusal → Type 0
-GivesDue items due files names (Ok text) = due (Ok (items text)) × files.sound
-GivesDue items due files names (Err refused) = IsRefused due files names refused
+-- a command that names files gave the text that is expected, or refused
+abbrev pub GivesExpected : {V : Type 0} → (V → List ℕ) → (Result (List ℕ) Fault → Type 0) → FileEvents → List (List ℕ) → Result V Refusal → Type 0
+GivesExpected items expected files names (Ok text) = expected (Ok (items text)) × files.sound
+GivesExpected items expected files names (Err refused) = IsRefused expected files names refused
 
--- Of the files that the words name, the command asked for the first ones in their order, each once, and gave what is due,
+-- Of the files that the words name, the command asked for the first ones in their order, each once, and gave what is expected,
 -- its text as `items` shows it.
-pub record IsDone {V : Type 0} (items : V → List ℕ) (due : Result (List ℕ) Fault → Type 0) (named_files : List (List ℕ)) (files : FileEvents) (given : Result V Refusal) : Type 0 where
+pub record IsDone {V : Type 0} (items : V → List ℕ) (expected : Result (List ℕ) Fault → Type 0) (named_files : List (List ℕ)) (files : FileEvents) (given : Result V Refusal) : Type 0 where
   pub names : List (List ℕ)
-  pub in_order : IsFront names named_files
+  pub in_order : IsPrefix names named_files
   pub asked : files.asks names
-  pub gives : GivesDue items due files names given
+  pub gives : GivesExpected items expected files names given

@@ -2,7 +2,7 @@
 use Rattle.std.specs.Prelude.{◌≡◌, ◌+◌, ◌++◌, ◌⊎◌, ℕ, List, Option}
 use Rattle.std.specs.Io.KnownBytes.{Appends}
 use Rattle.xb_io.specs.Counts.{HasRisen, HasRisenBy}
-use Rattle.xb_io.specs.Sink.{AppendsFront}
+use Rattle.xb_io.specs.Sink.{AppendsPrefix}
 use Rattle.xb_io.specs.declared.files.TheConstants.{FILE_LIMIT}
 
 pub record FileEvents : Type 1 where
@@ -33,7 +33,7 @@ abbrev pub sink_events : {S : Type 0} → (S → Option (List ℕ)) → (S → �
 sink_events written faults old new = record {
   untouched = new ≡ old;
   puts = λ bytes. Appends (written old) (written new) bytes × (faults new ≡ faults old);
-  breaks_off = λ bytes. AppendsFront (written old) (written new) bytes × HasRisen (faults old) (faults new);
+  breaks_off = λ bytes. AppendsPrefix (written old) (written new) bytes × HasRisen (faults old) (faults new);
 }
 
 -- the bytes were added, or a front of them where a fault was counted

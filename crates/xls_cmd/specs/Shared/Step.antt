@@ -30,6 +30,6 @@ abbrev pub IsGivenByCommand : {A : Type 0} → Result A Fault → Type 0
 IsGivenByCommand (Ok x) = Unit {0}
 IsGivenByCommand (Err fault) = IsOfCommand fault
 
--- What is due of a command by what the files hold, where that is told. No command refuses its words.
-abbrev pub DueBy : {A : Type 0} → Option Contents → (Contents → Result A Fault → Type 0) → Result A Fault → Type 0
-DueBy told command given = IsGivenByCommand given × IfSome told (λ holds. command holds given)
+-- What is expected of a command by what the files hold, where that is told. No command refuses its words.
+abbrev pub ExpectedBy : {A : Type 0} → Option Contents → (Contents → Result A Fault → Type 0) → Result A Fault → Type 0
+ExpectedBy known_contents command given = IsGivenByCommand given × IfSome known_contents (λ holds. command holds given)

@@ -36,15 +36,15 @@ pub data Simulates (m : VModule) (rows : List Repeated) : Result (List ℕ) Faul
 
 -- `sim`, once both files are loaded
 abbrev pub sim_texts : Sim (List ℕ) → List ℕ → List ℕ → Step (List ℕ)
-sim_texts said design rows =
-    Then (ReadsModule said.design design) (λ m. Then (ReadsRows said.rows rows m) (λ listed. Simulates m listed))
+sim_texts arguments design rows =
+    Then (ReadsModule arguments.design design) (λ m. Then (ReadsRows arguments.rows rows m) (λ listed. Simulates m listed))
 
 abbrev pub sim : Contents → Sim (List ℕ) → Step (List ℕ)
-sim holds said =
-    Then (Loads holds said.design) (λ design.
-    Then (Loads holds said.rows) (λ rows.
-    sim_texts said design rows))
+sim holds arguments =
+    Then (Loads holds arguments.design) (λ design.
+    Then (Loads holds arguments.rows) (λ rows.
+    sim_texts arguments design rows))
 
 -- the files that it names, in the order in which they are loaded
 abbrev pub sim_files : Sim (List ℕ) → List (List ℕ)
-sim_files said = said.design ∷ said.rows ∷ []
+sim_files arguments = arguments.design ∷ arguments.rows ∷ []

@@ -1,7 +1,7 @@
 ghost use Rattle.std.specs.Prelude.{◌≡◌, ◌<◌, ◌^◌, Ok, length, IfOk, IfErr};
 ghost use Rattle.xls_cmd.specs.Shared.Done.{IsDone, StopsBy};
 ghost use Rattle.xls_cmd.specs.Shared.Events.{file_events};
-ghost use Rattle.xls_cmd.specs.Shared.Step.{DueBy};
+ghost use Rattle.xls_cmd.specs.Shared.Step.{ExpectedBy};
 ghost use Rattle.cmd_line.specs.Named.{named_check};
 ghost use Rattle.xls_cmd.specs.Design.Commands.{check, check_files, check_text};
 ghost use Rattle.xls_cmd.specs.Design.Written.{accepted};
@@ -17,14 +17,14 @@ use xb_io::Files;
 pub fn check_design<'a, F: Files>(
     alloc: Global,
     files: &mut F,
-    said: Check<&'a str>,
+    arguments: Check<&'a str>,
 ) -> Result<Vec<u8>, Refusal<'a>>
-    ensures { let asked = named_check said.entry in
-        IsDone (λ text. text.items) (DueBy (F.told files.old) (λ holds. check holds asked)) (check_files asked)
+    ensures { let asked = named_check arguments.entry in
+        IsDone (λ text. text.items) (ExpectedBy (F.known_contents files.old) (λ holds. check holds asked)) (check_files asked)
         (file_events F.asked F.faults F.taken files.old files.new) result }
 {
-    let design = load(alloc, files, said.design)?;
-    check_loaded(alloc, said.design, &design)
+    let design = load(alloc, files, arguments.design)?;
+    check_loaded(alloc, arguments.design, &design)
 }
 
 /// What `check` gives once the file is loaded.

@@ -10,8 +10,8 @@ ghost use Rattle.net_core.specs.declared.net.Net.{Net};
 
 /// What the files hold determines what each command gives, and what a channel file says.
 pub fn one_answer()
-    ensures check { (holds : Contents) (said : Check (List ℕ)) → IsOne (check holds said) }
-    ensures run { (holds : Contents) (said : Run (List ℕ)) → IsOne (run holds said) }
+    ensures check { (holds : Contents) (arguments : Check (List ℕ)) → IsOne (check holds arguments) }
+    ensures run { (holds : Contents) (arguments : Run (List ℕ)) → IsOne (run holds arguments) }
     ensures inputs { (name file : List ℕ) (net : Net) → IsOne (ReadsInputs name file net) }
 {
     dslx_narrow::one_design();

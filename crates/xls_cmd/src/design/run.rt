@@ -1,7 +1,7 @@
 ghost use Rattle.std.specs.Prelude.{◌≡◌, ◌<◌, ◌^◌, ◌∷◌, [], Ok, length, IfOk, IfErr};
 ghost use Rattle.xls_cmd.specs.Shared.Done.{IsDone, StopsBy};
 ghost use Rattle.xls_cmd.specs.Shared.Events.{file_events};
-ghost use Rattle.xls_cmd.specs.Shared.Step.{DueBy};
+ghost use Rattle.xls_cmd.specs.Shared.Step.{ExpectedBy};
 ghost use Rattle.cmd_line.specs.Bounds.{IsWorkerCount};
 ghost use Rattle.cmd_line.specs.Named.{named_run};
 ghost use Rattle.xls_cmd.specs.Design.Commands.{run, run_files, run_texts};
@@ -32,16 +32,16 @@ pub fn run_design<'a, R: Threads + Wait + Sync, F: Files, G: Gate + Sync>(
     rt: &R,
     alloc: Global,
     files: &mut F,
-    said: Run<&'a str>,
+    arguments: Run<&'a str>,
     gate: &G,
 ) -> Result<Vec<u8>, Refusal<'a>>
-    requires { IsWorkerCount said.how.workers }
-    ensures { let asked = named_run said.entry in
-        IsDone (λ text. text.items) (DueBy (F.told files.old) (λ holds. run holds asked)) (run_files asked)
+    requires { IsWorkerCount arguments.how.workers }
+    ensures { let asked = named_run arguments.entry in
+        IsDone (λ text. text.items) (ExpectedBy (F.known_contents files.old) (λ holds. run holds asked)) (run_files asked)
         (file_events F.asked F.faults F.taken files.old files.new) result }
 {
-    let how = said.how;
-    match prepare(alloc, files, said) {
+    let how = arguments.how;
+    match prepare(alloc, files, arguments) {
         Ok(ready) => or_no_memory(ran(rt, alloc, &ready, how, gate)),
         Err(refusal) => Err(refusal),
     }
@@ -51,14 +51,14 @@ pub fn run_design<'a, R: Threads + Wait + Sync, F: Files, G: Gate + Sync>(
 pub fn run_design_alone<'a, F: Files>(
     alloc: Global,
     files: &mut F,
-    said: Run<&'a str>,
+    arguments: Run<&'a str>,
 ) -> Result<Vec<u8>, Refusal<'a>>
-    ensures { let asked = named_run said.entry in
-        IsDone (λ text. text.items) (DueBy (F.told files.old) (λ holds. run holds asked)) (run_files asked)
+    ensures { let asked = named_run arguments.entry in
+        IsDone (λ text. text.items) (ExpectedBy (F.known_contents files.old) (λ holds. run holds asked)) (run_files asked)
         (file_events F.asked F.faults F.taken files.old files.new) result }
 {
-    let how = said.how;
-    match prepare(alloc, files, said) {
+    let how = arguments.how;
+    match prepare(alloc, files, arguments) {
         Ok(ready) => or_no_memory(ran_alone(alloc, &ready, how)),
         Err(refusal) => Err(refusal),
     }
@@ -68,33 +68,33 @@ pub fn run_design_alone<'a, F: Files>(
 fn prepare<'a, F: Files>(
     alloc: Global,
     files: &mut F,
-    said: Run<&'a str>,
+    arguments: Run<&'a str>,
 ) -> Result<Ready, Refusal<'a>>
-    ensures done { let asked = named_run said.entry in
-        IsDone (shown asked.how) (DueBy (F.told files.old) (λ holds. run holds asked)) (run_files asked)
+    ensures done { let asked = named_run arguments.entry in
+        IsDone (shown asked.how) (ExpectedBy (F.known_contents files.old) (λ holds. run holds asked)) (run_files asked)
         (file_events F.asked F.faults F.taken files.old files.new) result }
     ensures fits { IfOk result IsReady }
 {
-    let design = load(alloc, files, said.design)?;
-    let inputs = load(alloc, files, said.inputs)?;
-    prepare_loaded(alloc, &said, &design, &inputs)
+    let design = load(alloc, files, arguments.design)?;
+    let inputs = load(alloc, files, arguments.inputs)?;
+    prepare_loaded(alloc, &arguments, &design, &inputs)
 }
 
 /// [`prepare`], once both files are loaded.
 fn prepare_loaded<'a>(
     alloc: Global,
-    said: &Run<&'a str>,
+    arguments: &Run<&'a str>,
     bytes: &[u8],
     file: &[u8],
 ) -> Result<Ready, Refusal<'a>>
     requires design { length bytes.now < 2 ^ 32 }
     requires inputs { length file.now < 2 ^ 32 }
-    ensures gives { IfOk result (λ ready. run_texts (named_run said.now) bytes.now file.now (Ok (shown said.now.how ready))) }
-    ensures refused { IfErr result (StopsBy (run_texts (named_run said.now) bytes.now file.now)) }
+    ensures gives { IfOk result (λ ready. run_texts (named_run arguments.now) bytes.now file.now (Ok (shown arguments.now.how ready))) }
+    ensures refused { IfErr result (StopsBy (run_texts (named_run arguments.now) bytes.now file.now)) }
     ensures fits { IfOk result IsReady }
 {
-    let design = read_design(alloc, said.design, bytes)?;
-    let inputs = inputs_of(alloc, said.inputs, file, &design.net)?;
+    let design = read_design(alloc, arguments.design, bytes)?;
+    let inputs = inputs_of(alloc, arguments.inputs, file, &design.net)?;
     Ok(Ready { design, inputs })
 }
 

@@ -74,28 +74,28 @@ pub fn run_text_alone<B: Body>(
 }
 
 /// The depth that each channel of a network has, 1 at least: where one is said, that is the depth of inner channels.
-fn depths(alloc: Global, net: &Net, said: Option<u32>) -> Result<Vec<u32>, AllocError>
-    ensures depths { IfOk result (λ depths. depths.items ≡ depths_by said net.now) }
+fn depths(alloc: Global, net: &Net, arguments: Option<u32>) -> Result<Vec<u32>, AllocError>
+    ensures depths { IfOk result (λ depths. depths.items ≡ depths_by arguments net.now) }
     ensures fit { IfOk result (λ depths. IsDepths net.now depths.items) }
 {
-    let depths = depths_of(alloc, net, said)?;
+    let depths = depths_of(alloc, net, arguments)?;
     Ok(depths)
 }
 
-fn depths_of(alloc: Global, net: &Net, said: Option<u32>) -> Result<Vec<u32>, AllocError>
-    ensures { IfOk result (λ depths. depths.items ≡ depths_by said net.now) }
+fn depths_of(alloc: Global, net: &Net, arguments: Option<u32>) -> Result<Vec<u32>, AllocError>
+    ensures { IfOk result (λ depths. depths.items ≡ depths_by arguments net.now) }
 {
     net.chans
         .as_slice()
         .iter()
-        .map(|chan| depth_by(said, chan.kind, chan.depth))
+        .map(|chan| depth_by(arguments, chan.kind, chan.depth))
         .collect(alloc)
 }
 
-fn depth_by(said: Option<u32>, kind: Kind, depth: u32) -> u32
-    ensures { result ≡ depth_by said kind depth }
+fn depth_by(arguments: Option<u32>, kind: Kind, depth: u32) -> u32
+    ensures { result ≡ depth_by arguments kind depth }
 {
-    match said {
+    match arguments {
         None => depth.max(1),
         Some(replaced) => match kind {
             Kind::Input | Kind::Output => depth.max(1),

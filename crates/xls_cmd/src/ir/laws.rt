@@ -8,7 +8,7 @@ ghost use Rattle.xls_cmd.specs.Ir.Commands.{run};
 
 /// What the files hold determines what each command gives.
 pub fn one_answer()
-    ensures { (holds : Contents) (said : Run (List ℕ)) → IsOne (run holds said) }
+    ensures { (holds : Contents) (arguments : Run (List ℕ)) → IsOne (run holds arguments) }
 {
     ir_text::parser::one_package();
     crate::design::laws::one_answer();

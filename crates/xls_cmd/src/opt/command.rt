@@ -1,7 +1,7 @@
 ghost use Rattle.std.specs.Prelude.{◌<◌, ◌^◌, Ok, length, IfOk, IfErr};
 ghost use Rattle.xls_cmd.specs.Shared.Done.{IsDone, StopsBy};
 ghost use Rattle.xls_cmd.specs.Shared.Events.{file_events};
-ghost use Rattle.xls_cmd.specs.Shared.Step.{DueBy};
+ghost use Rattle.xls_cmd.specs.Shared.Step.{ExpectedBy};
 ghost use Rattle.cmd_line.specs.Named.{named_opt};
 ghost use Rattle.xls_cmd.specs.Opt.Commands.{opt, opt_files, opt_loaded};
 
@@ -16,23 +16,23 @@ use xb_io::Files;
 pub fn opt_ir<'a, F: Files>(
     alloc: Global,
     files: &mut F,
-    said: Opt<&'a str>,
+    arguments: Opt<&'a str>,
 ) -> Result<Vec<u8>, Refusal<'a>>
-    ensures { let asked = named_opt said.entry in
-        IsDone (λ text. text.items) (DueBy (F.told files.old) (λ holds. opt holds asked)) (opt_files asked)
+    ensures { let asked = named_opt arguments.entry in
+        IsDone (λ text. text.items) (ExpectedBy (F.known_contents files.old) (λ holds. opt holds asked)) (opt_files asked)
         (file_events F.asked F.faults F.taken files.old files.new) result }
 {
-    let design = load(alloc, files, said.design)?;
-    opt_loaded(alloc, &said, &design)
+    let design = load(alloc, files, arguments.design)?;
+    opt_loaded(alloc, &arguments, &design)
 }
 
 /// What `opt` gives once the file is loaded.
-fn opt_loaded<'a>(alloc: Global, said: &Opt<&'a str>, bytes: &[u8]) -> Result<Vec<u8>, Refusal<'a>>
+fn opt_loaded<'a>(alloc: Global, arguments: &Opt<&'a str>, bytes: &[u8]) -> Result<Vec<u8>, Refusal<'a>>
     requires { length bytes.now < 2 ^ 32 }
-    ensures gives { IfOk result (λ text. opt_loaded (named_opt said.now) bytes.now (Ok text.items)) }
-    ensures refused { IfErr result (StopsBy (opt_loaded (named_opt said.now) bytes.now)) }
+    ensures gives { IfOk result (λ text. opt_loaded (named_opt arguments.now) bytes.now (Ok text.items)) }
+    ensures refused { IfErr result (StopsBy (opt_loaded (named_opt arguments.now) bytes.now)) }
 {
-    let ir = read_package(alloc, said.design, bytes)?;
+    let ir = read_package(alloc, arguments.design, bytes)?;
     let text = optimised(alloc, ir)?;
     Ok(text)
 }

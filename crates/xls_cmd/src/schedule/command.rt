@@ -1,7 +1,7 @@
 ghost use Rattle.std.specs.Prelude.{◌<◌, ◌≤◌, ◌^◌, Ok, length, IfOk, IfErr};
 ghost use Rattle.xls_cmd.specs.Shared.Done.{IsDone, StopsBy};
 ghost use Rattle.xls_cmd.specs.Shared.Events.{file_events};
-ghost use Rattle.xls_cmd.specs.Shared.Step.{DueBy};
+ghost use Rattle.xls_cmd.specs.Shared.Step.{ExpectedBy};
 ghost use Rattle.cmd_line.specs.Named.{named_schedule};
 ghost use Rattle.xls_cmd.specs.Schedule.Commands.{schedule, schedule_files, schedule_loaded};
 
@@ -17,33 +17,33 @@ use xb_io::Files;
 pub fn schedule_ir<'a, F: Files>(
     alloc: Global,
     files: &mut F,
-    said: Schedule<&'a str>,
+    arguments: Schedule<&'a str>,
 ) -> Result<Vec<u8>, Refusal<'a>>
-    requires { 1 ≤ said.timing.stages }
-    ensures { let asked = named_schedule said.entry in
-        IsDone (λ text. text.items) (DueBy (F.told files.old) (λ holds. schedule holds asked)) (schedule_files asked)
+    requires { 1 ≤ arguments.timing.stages }
+    ensures { let asked = named_schedule arguments.entry in
+        IsDone (λ text. text.items) (ExpectedBy (F.known_contents files.old) (λ holds. schedule holds asked)) (schedule_files asked)
         (file_events F.asked F.faults F.taken files.old files.new) result }
 {
-    let design = load(alloc, files, said.design)?;
-    schedule_loaded(alloc, &said, &design)
+    let design = load(alloc, files, arguments.design)?;
+    schedule_loaded(alloc, &arguments, &design)
 }
 
 /// What `schedule` gives once the file is loaded.
 fn schedule_loaded<'a>(
     alloc: Global,
-    said: &Schedule<&'a str>,
+    arguments: &Schedule<&'a str>,
     bytes: &[u8],
 ) -> Result<Vec<u8>, Refusal<'a>>
     requires short { length bytes.now < 2 ^ 32 }
-    requires some { 1 ≤ said.now.timing.stages }
-    ensures gives { IfOk result (λ text. schedule_loaded (named_schedule said.now) bytes.now (Ok text.items)) }
-    ensures refused { IfErr result (StopsBy (schedule_loaded (named_schedule said.now) bytes.now)) }
+    requires some { 1 ≤ arguments.now.timing.stages }
+    ensures gives { IfOk result (λ text. schedule_loaded (named_schedule arguments.now) bytes.now (Ok text.items)) }
+    ensures refused { IfErr result (StopsBy (schedule_loaded (named_schedule arguments.now) bytes.now)) }
 {
-    let ir = read_package(alloc, said.design, bytes)?;
+    let ir = read_package(alloc, arguments.design, bytes)?;
     let demands = Demands {
-        clock: said.timing.clock,
-        stages: said.timing.stages,
-        interval: said.timing.interval,
+        clock: arguments.timing.clock,
+        stages: arguments.timing.stages,
+        interval: arguments.timing.interval,
     };
     scheduled(alloc, &ir, demands)
 }

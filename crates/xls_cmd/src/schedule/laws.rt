@@ -8,7 +8,7 @@ ghost use Rattle.xls_cmd.specs.Schedule.Commands.{schedule};
 
 /// What the file holds determines what the command gives.
 pub fn one_answer()
-    ensures { (holds : Contents) (said : Schedule (List ℕ)) → IsOne (schedule holds said) }
+    ensures { (holds : Contents) (arguments : Schedule (List ℕ)) → IsOne (schedule holds arguments) }
 {
     ir_text::parser::one_package();
     pipe_schedule::laws::one_list();

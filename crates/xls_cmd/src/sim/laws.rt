@@ -8,7 +8,7 @@ ghost use Rattle.xls_cmd.specs.Sim.Simulation.{sim};
 
 /// What the files hold determines what the command gives.
 pub fn one_answer()
-    ensures { (holds : Contents) (said : Sim (List ℕ)) → IsOne (sim holds said) }
+    ensures { (holds : Contents) (arguments : Sim (List ℕ)) → IsOne (sim holds arguments) }
 {
     vlog_text::reader::laws::one_module();
     cycle_file::rows::laws::one_reading();

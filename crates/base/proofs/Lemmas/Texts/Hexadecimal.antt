@@ -30,10 +30,10 @@ length-hex_digits (suc k) n = ap suc (length-hex_digits k n)
 -- one digit above the others
 digit_step : (k v n : ℕ) → (v * 16 + n / 2 ^ (4 * k) % 16) * 2 ^ (4 * k) + n % 2 ^ (4 * k) ≡ v * 2 ^ (4 * suc k) + n % 2 ^ (4 * suc k)
 digit_step k v n =
-    let place : 4 * suc k ≡ 4 + 4 * k = omega arith in
+    let offset : 4 * suc k ≡ 4 + 4 * k = omega arith in
     let high : 2 ^ (4 + 4 * k) ≡ 16 * 2 ^ (4 * k) = pow-add 2 4 (4 * k) in
     let low : n % 2 ^ (4 + 4 * k) ≡ (n / 2 ^ (4 * k) % 16) * 2 ^ (4 * k) + n % 2 ^ (4 * k) = mod-pow-add n 4 (4 * k) in
-    rw place (rw (low, high) (omega arith))
+    rw offset (rw (low, high) (omega arith))
 
 -- the number that goes on with these digits
 pub digits_value_after-hex_digits : (k v n : ℕ) → digits_value_after 16 v (hex_digits k n) ≡ v * 2 ^ (4 * k) + n % 2 ^ (4 * k)

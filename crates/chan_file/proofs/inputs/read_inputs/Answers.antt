@@ -1,6 +1,6 @@
 use Rattle.std.proofs.Common.{◌≡◌, ◌<◌, ◌∷◌, ◌++◌, [], length, set, replicate, ap, sym, subst, ◌∙◌, arith, Ok}
 use Rattle.std.proofs.lemmas.List.{get_or_read}
-use Rattle.base.specs.Texts.Lines.{lines_of, placed}
+use Rattle.base.specs.Texts.Lines.{lines_of, positioned}
 use Rattle.base.proofs.Lemmas.Texts.Lines.{lines-within}
 use Rattle.chan_file.specs.ChannelFile.{SaysLine, Reads}
 use Rattle.chan_file.specs.Inner.Named.{HasNamed}
@@ -14,8 +14,8 @@ lines-init c =
     let held = subst (λ k. HasNamed k [] c.in_ok-named.named) c.len.ensures c.in_ok-named.ensures in
     let none = c.in_ok-words.ensures ∙ ap (λ k. replicate k []) c.len-2.ensures in
     record {
-      so_far = subst (λ ls. IsSoFar c.args.net.now (placed 0 (lines_of text)) ls (length text) c.in_ok-named.named c.in_ok-words.words.items) (sym c.new-lines.ensures)
-          (so_far_none c.args.net.now (placed 0 (lines_of text)) (length text) c.in_ok-named.named c.in_ok-words.words.items held none
+      so_far = subst (λ ls. IsSoFar c.args.net.now (positioned 0 (lines_of text)) ls (length text) c.in_ok-named.named c.in_ok-words.words.items) (sym c.new-lines.ensures)
+          (so_far_none c.args.net.now (positioned 0 (lines_of text)) (length text) c.in_ok-named.named c.in_ok-words.words.items held none
           (lines-within 0 (length text) text (omega arith)));
     }
 

@@ -25,7 +25,7 @@ unreachable-requires c =
     let are = subst (AreDrivers c.args.design.now.assignments) (sym c.deref.ensures.value) (subst (λ given. AreDrivers given c.in_ok-drivers.drivers.items) c.as_slice-assignments.ensures c.in_ok-drivers.ensures.drivers) in
     let made : c.deref-2.result.now ≡ map (needs_by c.deref.result.now) c.args.design.now.assignments =
     c.deref-2.ensures.value ∙ c.in_ok-needs.ensures ∙ ap (map (needs_by c.deref.result.now)) c.as_slice-assignments.ensures in
-    let reach : Reaches c.deref-2.result.now c.in-Cycle.field-0 c.in-Cycle.field-0 = subst (IsSorting c.deref-2.result.now) c.in-Cycle.is c.in_ok-places.ensures in
+    let reach : Reaches c.deref-2.result.now c.in-Cycle.field-0 c.in-Cycle.field-0 = subst (IsSorting c.deref-2.result.now) c.in-Cycle.is c.in_ok-indices.ensures in
     runs_without_cycle c.args.design.now c.deref.result.now c.in-Cycle.field-0 c.requires.runs are same
     (subst (λ needs. Reaches needs c.in-Cycle.field-0 c.in-Cycle.field-0) made reach)
 
@@ -35,5 +35,5 @@ returns c =
     let are = subst (AreDrivers c.args.design.now.assignments) (sym c.deref.ensures.value) (subst (λ given. AreDrivers given c.in_ok-drivers.drivers.items) c.as_slice-assignments.ensures c.in_ok-drivers.ensures.drivers) in
     let made : c.deref-2.result.now ≡ map (needs_by c.deref.result.now) c.args.design.now.assignments =
     c.deref-2.ensures.value ∙ c.in_ok-needs.ensures ∙ ap (map (needs_by c.deref.result.now)) c.as_slice-assignments.ensures in
-    let sorted : IsOrderOf c.deref-2.result.now c.in-Order.places.items = subst (IsSorting c.deref-2.result.now) c.in-Order.is c.in_ok-places.ensures in
-    runs_in_order c.args.design.now c.deref.result.now c.in-Order.places.items c.requires.runs are same (subst (λ needs. IsOrderOf needs c.in-Order.places.items) made sorted)
+    let sorted : IsOrderOf c.deref-2.result.now c.in-Order.indices.items = subst (IsSorting c.deref-2.result.now) c.in-Order.is c.in_ok-indices.ensures in
+    runs_in_order c.args.design.now c.deref.result.now c.in-Order.indices.items c.requires.runs are same (subst (λ needs. IsOrderOf needs c.in-Order.indices.items) made sorted)

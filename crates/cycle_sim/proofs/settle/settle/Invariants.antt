@@ -6,6 +6,6 @@ use Rattle.cycle_sim.proofs.settle.settle.Given as goal
 
 abbrev pub invariant-loop-place : goal.invariant-loop-place
 invariant-loop-place l = record {
-  left : settled (taken l.assignments (drop l.place-index l.places)) l.values ≡ settled (taken l.assignments l.places) l.initial.values;
+  left : settled (taken l.assignments (drop l.place-index l.indices)) l.values ≡ settled (taken l.assignments l.indices) l.initial.values;
   widths : widths_of l.values ≡ widths_of l.initial.values;
 }

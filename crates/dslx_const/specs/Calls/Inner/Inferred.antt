@@ -8,4 +8,4 @@ use Rattle.dslx_meaning.specs.declared.value.DslxValue.{DslxValue}
 
 -- what operands infer where so many numbers are given
 abbrev pub inferred_past : ℕ → Function → List DslxValue → List Inferred
-inferred_past n f vs = if nat_lt n (length f.parameters) then inferred_from f.arguments (map type_of_value vs) else []
+inferred_past n f vs = if nat_lt n (length f.parametrics) then inferred_from f.arguments (map type_of_value vs) else []

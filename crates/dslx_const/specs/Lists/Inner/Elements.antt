@@ -3,22 +3,22 @@ use Rattle.std.specs.Prelude.{[], ◌∷◌, Option, Some, None}
 use Rattle.dslx_tree.specs.declared.expr.Expr.{Expr}
 use Rattle.dslx_meaning.specs.Operators.{number_value}
 use Rattle.dslx_meaning.specs.declared.ty.DslxType.{DslxType}
-use Rattle.dslx_meaning.specs.declared.value.Bare.{Bare}
+use Rattle.dslx_meaning.specs.declared.value.UntypedLiteral.{UntypedLiteral}
 use Rattle.dslx_meaning.specs.declared.value.DslxValue.{DslxValue}
-use Rattle.dslx_const_machine.specs.Layers.{bare_of}
+use Rattle.dslx_const_machine.specs.Layers.{untyped_of}
 use Rattle.dslx_const_machine.specs.States.{doing, finds_value}
-use Rattle.dslx_const_machine.specs.Tasks.{ConstState, ListMaker, Fills, Evaluates}
+use Rattle.dslx_const_machine.specs.Tasks.{ConstState, ListMaker, Fills, ValueDen}
 
-abbrev pub number_by : DslxType → Option Bare → Option (Option DslxValue)
+abbrev pub number_by : DslxType → Option UntypedLiteral → Option (Option DslxValue)
 number_by t None = None
 number_by t (Some b) = Some (number_value t b)
 
 -- what an element is that is not to be evaluated
 abbrev pub element_by : ListMaker → Expr → Option (Option DslxValue)
-element_by (Fills t n dots) e = number_by t (bare_of e)
+element_by (Fills t n dots) e = number_by t (untyped_of e)
 element_by maker e = None
 
 -- an element that has a value already, or is to be evaluated
 abbrev pub begins_by : Option (Option DslxValue) → Expr → ConstState → ConstState
-begins_by None e run = doing (Evaluates e ∷ []) run
+begins_by None e run = doing (ValueDen e ∷ []) run
 begins_by (Some v) e run = finds_value v run

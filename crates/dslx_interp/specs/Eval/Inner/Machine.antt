@@ -13,7 +13,7 @@ use Rattle.dslx_core.specs.declared.expr.Arm.{Arm, out-Arm}
 use Rattle.dslx_interp.specs.declared.eval.machine.Machine.{Machine}
 use Rattle.dslx_interp.specs.declared.eval.operation.Operation.TheVariants as o
 use Rattle.dslx_interp.specs.Eval.Inner.Operations.{top_of, below, top_word, put_on, operated}
-use Rattle.dslx_interp.specs.Eval.Inner.Tasks.{PlainTask, Evaluates, EvaluatesEach, Operates, Binds, Chooses, Selects, Turns, Calls, Forgets, Returns, plain_task}
+use Rattle.dslx_interp.specs.Eval.Inner.Tasks.{PlainTask, ValueDen, EachValueDen, Operates, Binds, Chooses, Selects, Turns, Calls, Forgets, Returns, plain_task}
 
 -- where the machine stands
 pub record MachineState : Type 0 where
@@ -43,27 +43,27 @@ put_in v run = with_values run (put_on v run.values)
 abbrev pub begun : CoreExpr-F CoreExpr Arm → MachineState → Option MachineState
 begun (CoreExpr-F.Literal v) run = put_in (Some v) run
 begun (CoreExpr-F.Slot k) run = put_in (slice_get run.bound k) run
-begun (CoreExpr-F.Tuple es) run = Some (todo_with (EvaluatesEach es ∷ Operates (o.Tuple (length es)) ∷ []) run)
-begun (CoreExpr-F.Array es) run = Some (todo_with (EvaluatesEach es ∷ Operates (o.Array (length es)) ∷ []) run)
-begun (CoreExpr-F.Unary op e) run = Some (todo_with (Evaluates e ∷ Operates (o.Unary op) ∷ []) run)
-begun (CoreExpr-F.Binary op l r) run = Some (todo_with (Evaluates l ∷ Evaluates r ∷ Operates (o.Binary op) ∷ []) run)
-begun (CoreExpr-F.Cast sign w e) run = Some (todo_with (Evaluates e ∷ Operates (o.Cast sign w) ∷ []) run)
-begun (CoreExpr-F.Slice e from w) run = Some (todo_with (Evaluates e ∷ Operates (o.Slice from w) ∷ []) run)
-begun (CoreExpr-F.Part e i w) run = Some (todo_with (Evaluates e ∷ Evaluates i ∷ Operates (o.Part w) ∷ []) run)
-begun (CoreExpr-F.Element e k) run = Some (todo_with (Evaluates e ∷ Operates (o.Element k) ∷ []) run)
-begun (CoreExpr-F.Index e i) run = Some (todo_with (Evaluates e ∷ Evaluates i ∷ Operates o.Index ∷ []) run)
-begun (CoreExpr-F.Update e i v) run = Some (todo_with (Evaluates e ∷ Evaluates i ∷ Evaluates v ∷ Operates o.Update ∷ []) run)
-begun (CoreExpr-F.Bind e shape body) run = Some (todo_with (Evaluates e ∷ Binds shape body ∷ []) run)
-begun (CoreExpr-F.Choose c a d) run = Some (todo_with (Evaluates c ∷ Chooses a d ∷ []) run)
-begun (CoreExpr-F.Select e arms) run = Some (todo_with (Evaluates e ∷ Selects arms ∷ []) run)
-begun (CoreExpr-F.Loop n from index acc body start) run = Some (todo_with (Evaluates start ∷ Turns n from index acc body ∷ []) run)
-begun (CoreExpr-F.Call f es) run = Some (todo_with (EvaluatesEach es ∷ Calls f (length es) ∷ []) run)
+begun (CoreExpr-F.Tuple es) run = Some (todo_with (EachValueDen es ∷ Operates (o.Tuple (length es)) ∷ []) run)
+begun (CoreExpr-F.Array es) run = Some (todo_with (EachValueDen es ∷ Operates (o.Array (length es)) ∷ []) run)
+begun (CoreExpr-F.Unary op e) run = Some (todo_with (ValueDen e ∷ Operates (o.Unary op) ∷ []) run)
+begun (CoreExpr-F.Binary op l r) run = Some (todo_with (ValueDen l ∷ ValueDen r ∷ Operates (o.Binary op) ∷ []) run)
+begun (CoreExpr-F.Cast sign w e) run = Some (todo_with (ValueDen e ∷ Operates (o.Cast sign w) ∷ []) run)
+begun (CoreExpr-F.Slice e from w) run = Some (todo_with (ValueDen e ∷ Operates (o.Slice from w) ∷ []) run)
+begun (CoreExpr-F.Part e i w) run = Some (todo_with (ValueDen e ∷ ValueDen i ∷ Operates (o.Part w) ∷ []) run)
+begun (CoreExpr-F.Element e k) run = Some (todo_with (ValueDen e ∷ Operates (o.Element k) ∷ []) run)
+begun (CoreExpr-F.Index e i) run = Some (todo_with (ValueDen e ∷ ValueDen i ∷ Operates o.Index ∷ []) run)
+begun (CoreExpr-F.Update e i v) run = Some (todo_with (ValueDen e ∷ ValueDen i ∷ ValueDen v ∷ Operates o.Update ∷ []) run)
+begun (CoreExpr-F.Bind e shape body) run = Some (todo_with (ValueDen e ∷ Binds shape body ∷ []) run)
+begun (CoreExpr-F.Choose c a d) run = Some (todo_with (ValueDen c ∷ Chooses a d ∷ []) run)
+begun (CoreExpr-F.Select e arms) run = Some (todo_with (ValueDen e ∷ Selects arms ∷ []) run)
+begun (CoreExpr-F.Loop n from index acc body start) run = Some (todo_with (ValueDen start ∷ Turns n from index acc body ∷ []) run)
+begun (CoreExpr-F.Call f es) run = Some (todo_with (EachValueDen es ∷ Calls f (length es) ∷ []) run)
 
 -- ---- where a value decides
 
 -- an expression, behind which only so many are bound
 abbrev pub entered : ℕ → CoreExpr → MachineState → MachineState
-entered n e run = todo_with (Evaluates e ∷ Forgets n ∷ []) run
+entered n e run = todo_with (ValueDen e ∷ Forgets n ∷ []) run
 
 -- an expression over more that is bound
 abbrev pub inside : CoreExpr → MachineState → Option Bindings → Option MachineState
@@ -101,7 +101,7 @@ abbrev pub called : Option Function → ℕ → List Value → MachineState → 
 called None f vs run = None
 called (Some g) f vs run =
     if length vs == g.arity
-    then Some (record { functions = run.functions; todo = Evaluates g.body ∷ Returns run.bound run.before ∷ run.todo; values = run.values; bound = vs; before = f })
+    then Some (record { functions = run.functions; todo = ValueDen g.body ∷ Returns run.bound run.before ∷ run.todo; values = run.values; bound = vs; before = f })
     else None
 
 -- the function of this number, if it may be called
@@ -119,12 +119,12 @@ abbrev pub off_top : MachineState → MachineState
 off_top run = record run { values = below run.values }
 
 abbrev pub stepped : PlainTask → MachineState → Option MachineState
-stepped (Evaluates e) run = begun (out-CoreExpr e) run
-stepped (EvaluatesEach []) run = Some run
-stepped (EvaluatesEach (e ∷ es)) run = Some (todo_with (Evaluates e ∷ EvaluatesEach es ∷ []) run)
+stepped (ValueDen e) run = begun (out-CoreExpr e) run
+stepped (EachValueDen []) run = Some run
+stepped (EachValueDen (e ∷ es)) run = Some (todo_with (ValueDen e ∷ EachValueDen es ∷ []) run)
 stepped (Operates o) run = with_values run (operated o run.values)
 stepped (Binds shape e) run = and_then (top_of run.values) (λ v. inside e (off_top run) (taken_apart shape v run.bound))
-stepped (Chooses a c) run = and_then (and_then (top_word run.values) is_one) (λ b. Some (todo_with (Evaluates (chosen_of a c b) ∷ []) (off_top run)))
+stepped (Chooses a c) run = and_then (and_then (top_word run.values) is_one) (λ b. Some (todo_with (ValueDen (chosen_of a c b) ∷ []) (off_top run)))
 stepped (Selects arms) run = and_then (top_of run.values) (λ v. selected arms v (off_top run))
 stepped (Turns n i index acc e) run = and_then (top_of run.values) (λ v. turned_from n i index acc e v (off_top run))
 stepped (Calls f n) run = called (callee run.functions run.before f) f (reverse (take n run.values)) (record run { values = drop n run.values })

@@ -11,8 +11,8 @@ use Rattle.dslx_interp.specs.declared.eval.task.Task.TheVariants as task
 
 -- what is still to be done
 pub data PlainTask : Type 0 where
-  Evaluates : CoreExpr → PlainTask
-  EvaluatesEach : List CoreExpr → PlainTask
+  ValueDen : CoreExpr → PlainTask
+  EachValueDen : List CoreExpr → PlainTask
   Operates : Operation → PlainTask
   Binds : Shape → CoreExpr → PlainTask
   Chooses : CoreExpr → CoreExpr → PlainTask
@@ -25,8 +25,8 @@ pub data PlainTask : Type 0 where
   Returns : Bindings → ℕ → PlainTask
 
 abbrev pub plain_task : Task → PlainTask
-plain_task (task.Eval e) = Evaluates e.now
-plain_task (task.EvalEach es) = EvaluatesEach es.now
+plain_task (task.Eval e) = ValueDen e.now
+plain_task (task.EvalEach es) = EachValueDen es.now
 plain_task (task.Operate o) = Operates o
 plain_task (task.Bind shape e) = Binds shape.now e.now
 plain_task (task.Choose a c) = Chooses a.now c.now

@@ -48,12 +48,12 @@ all_there [] = refl
 all_there (a ∷ as') = rw (all_there as') refl
 
 -- what stands in front of a list dropped again
-drop_front : {A : Type 0} (new old : List A) → drop (length new) (new ++ old) ≡ old
-drop_front [] old = refl
-drop_front (a ∷ new) old = drop_front new old
+drop_prefix : {A : Type 0} (new old : List A) → drop (length new) (new ++ old) ≡ old
+drop_prefix [] old = refl
+drop_prefix (a ∷ new) old = drop_prefix new old
 
 pub dropped_again : {A : Type 0} (new old : List A) → drop (length (new ++ old) - length old) (new ++ old) ≡ old
-dropped_again new old = ap (λ n. drop n (new ++ old)) count ∙ drop_front new old
+dropped_again new old = ap (λ n. drop n (new ++ old)) count ∙ drop_prefix new old
   where
     count : length (new ++ old) - length old ≡ length new
     count = omega (arith, length-append new old)

@@ -17,11 +17,11 @@ use Rattle.dslx_meaning.specs.declared.value.DslxValue.{DslxValue}
 use Rattle.dslx_typing.proofs.Lemmas.Typed.{none_some, same_some}
 use Rattle.dslx_core.specs.declared.expr.Shape.{Shape}
 use Rattle.dslx_core.specs.declared.expr.Shape as shape
-use Rattle.dslx_core.specs.Lowering.CorePlaces.{BoundSlot, CorePlace, size_at, with_local}
+use Rattle.dslx_core.specs.Lowering.CoreScopes.{BoundSlot, CoreScope, size_at, with_local}
 use Rattle.dslx_core.specs.Lowering.EqualTypes.{equal_type}
-use Rattle.dslx_core.specs.Lowering.Patterns.{LoweredShape, LoweredShapes, LowersPattern, parts_shaped, shaped, tuple_shape, value_shape, alternatives_shaped}
-use Rattle.dslx_core.specs.Lowering.Steps.{pattern_of_text_lowered}
-use Rattle.dslx_core.specs.Lowering.Trees.{LowersType, shape_lowered, type_lowered, type_of_text_lowered, number_meaning}
+use Rattle.dslx_core.specs.Lowering.Patterns.{LoweredShape, LoweredShapes, PatternLowering, parts_shaped, shaped, tuple_shape, value_shape, alternatives_shaped}
+use Rattle.dslx_core.specs.Lowering.Steps.{lower_pattern_of_text}
+use Rattle.dslx_core.specs.Lowering.Trees.{TypeLowering, lower_shape, lower_type, lower_type_of_text, number_meaning}
 use Rattle.dslx_machines.specs.Machine.Arms.{shaped_at}
 use Rattle.dslx_machines.specs.Machine.Callees.{CalleesByName, moved, with_callee}
 use Rattle.dslx_machines.proofs.Lemmas.Machine.Options.{from_then, from_where}
@@ -29,18 +29,18 @@ use Rattle.dslx_machines.proofs.Lemmas.Machine.Rebuilt.{become, becoming}
 
 -- ---- what holds of types and patterns
 
-abbrev pub KnowsNoCallee : {A : Type 0} → (CorePlace → Option A) → Type 0
-KnowsNoCallee l = (place : CorePlace) (c : CalleesByName) → l (with_callee c place) ≡ l place
+abbrev pub KnowsNoCallee : {A : Type 0} → (CoreScope → Option A) → Type 0
+KnowsNoCallee l = (place : CoreScope) (c : CalleesByName) → l (with_callee c place) ≡ l place
 
 -- more may be bound, the rest is as it was
-pub record Grows (before after : CorePlace) : Type 0 where
+pub record Grows (before after : CoreScope) : Type 0 where
   pub known : after.known ≡ before.known
   pub new : List BoundSlot
   pub locals : after.locals ≡ new ++ before.locals
 
-pub record PatternIsSteady (l : LowersPattern) : Type 0 where
-  pub grows : (outer place : CorePlace) (t : DslxType) (s : LoweredShape) → l.lower outer place t ≡ Some s → Grows place s.place
-  pub moves : (outer place : CorePlace) (t : DslxType) (c : CalleesByName) → l.lower (with_callee c outer) (with_callee c place) t ≡ moved c (l.lower outer place t)
+pub record PatternIsSteady (l : PatternLowering) : Type 0 where
+  pub grows : (outer place : CoreScope) (t : DslxType) (s : LoweredShape) → l.lower outer place t ≡ Some s → Grows place s.place
+  pub moves : (outer place : CoreScope) (t : DslxType) (c : CalleesByName) → l.lower (with_callee c outer) (with_callee c place) t ≡ moved c (l.lower outer place t)
 
 -- ---- nothing holds of the other sorts
 
@@ -103,12 +103,12 @@ Part = both become alone steady
 
 -- ---- types
 
-types_steady : (ts : List Part.type_expr) (place : CorePlace) (c : CalleesByName)
-    → map (λ (t : TypeExpr × LowersType). t.1 (with_callee c place)) (map (λ (x : Part.type_expr). x.0) ts) ≡ map (λ (t : TypeExpr × LowersType). t.1 place) (map (λ (x : Part.type_expr). x.0) ts)
+types_steady : (ts : List Part.type_expr) (place : CoreScope) (c : CalleesByName)
+    → map (λ (t : TypeExpr × TypeLowering). t.1 (with_callee c place)) (map (λ (x : Part.type_expr). x.0) ts) ≡ map (λ (t : TypeExpr × TypeLowering). t.1 place) (map (λ (x : Part.type_expr). x.0) ts)
 types_steady [] place c = refl
 types_steady (t ∷ ts) place c = λ i. t.2 place c i ∷ types_steady ts place c i
 
-pub type_steady : (x : TypeNodeLevel Part) → KnowsNoCallee (type_lowered (map_type_node Part become (firsts become alone steady) x))
+pub type_steady : (x : TypeNodeLevel Part) → KnowsNoCallee (lower_type (map_type_node Part become (firsts become alone steady) x))
 type_steady (TypeNode-F.Bits s w) place c = refl
 type_steady (TypeNode-F.Wide s e) place c = refl
 type_steady TypeNode-F.TypeNode::Bool place c = refl
@@ -127,47 +127,47 @@ number_steady x place c = by x.ty
 
 -- ---- patterns
 
-abbrev not_grown : (place : CorePlace) → Grows place place
+abbrev not_grown : (place : CoreScope) → Grows place place
 not_grown place = record { known = refl; new = []; locals = refl }
 
-pub grows_on : (a b c : CorePlace) → Grows a b → Grows b c → Grows a c
+pub grows_on : (a b c : CoreScope) → Grows a b → Grows b c → Grows a c
 grows_on a b c g h = record {
   known = h.known ∙ g.known;
   new = h.new ++ g.new;
   locals = h.locals ∙ ap (λ ls. h.new ++ ls) g.locals ∙ sym (append_assoc h.new g.new a.locals);
 }
 
-as_shaped : (x : Shape) (a b : CorePlace) (s : LoweredShape) → Grows a b → shaped x b ≡ Some s → Grows a s.place
+as_shaped : (x : Shape) (a b : CoreScope) (s : LoweredShape) → Grows a b → shaped x b ≡ Some s → Grows a s.place
 as_shaped x a b s g e = subst (λ q. Grows a q) (ap (λ (r : LoweredShape). r.place) (same_some (record { shape = x; place = b }) s e)) g
 
-value_grows : (v : Option DslxValue) (place : CorePlace) (t : DslxType) (s : LoweredShape) → value_shape v place t ≡ Some s → Grows place s.place
+value_grows : (v : Option DslxValue) (place : CoreScope) (t : DslxType) (s : LoweredShape) → value_shape v place t ≡ Some s → Grows place s.place
 value_grows v place t s e =
     let a = from_then v (λ v. where_true (equal_type t (type_of_value v)) (shaped (shape.Equal (plain_value v)) place)) s e in
     let b = from_where (equal_type t (type_of_value a.0)) (shaped (shape.Equal (plain_value a.0)) place) s a.2 in
     as_shaped (shape.Equal (plain_value a.0)) place place s (not_grown place) b.1
 
-name_grows : (b : Bool) (name : List ℕ) (place : CorePlace) (t : DslxType) (s : LoweredShape)
+name_grows : (b : Bool) (name : List ℕ) (place : CoreScope) (t : DslxType) (s : LoweredShape)
     → (if b then value_shape (place.known.items.constant name) place t else shaped shape.Bound (with_local name t place)) ≡ Some s → Grows place s.place
 name_grows true name place t s e = value_grows (place.known.items.constant name) place t s e
 name_grows false name place t s e =
     as_shaped shape.Bound place (with_local name t place) s (record { known = refl; new = record { name = name; slot = place.count; ty = t } ∷ []; locals = refl }) e
 
-abbrev patterns_of : List Part.pattern → List LowersPattern
-patterns_of ps = map (λ (p : Pattern × LowersPattern). p.1) (map (λ (x : Part.pattern). x.0) ps)
+abbrev patterns_of : List Part.pattern → List PatternLowering
+patterns_of ps = map (λ (p : Pattern × PatternLowering). p.1) (map (λ (x : Part.pattern). x.0) ps)
 
-parts_grow : (ps : List Part.pattern) (ts : List DslxType) (outer place : CorePlace) (r : LoweredShapes)
+parts_grow : (ps : List Part.pattern) (ts : List DslxType) (outer place : CoreScope) (r : LoweredShapes)
     → parts_shaped (patterns_of ps) ts outer place ≡ Some r → Grows place r.place
 parts_grow [] [] outer place r e = subst (λ q. Grows place q) (ap (λ (r : LoweredShapes). r.place) (same_some (record { shapes = []; place = place }) r e)) (not_grown place)
 parts_grow [] (t ∷ ts) outer place r e = none_some r e
 parts_grow (p ∷ ps) [] outer place r e = none_some r e
 parts_grow (p ∷ ps) (t ∷ ts) outer place r e =
-    let rest : CorePlace → Option LoweredShapes = parts_shaped (patterns_of ps) ts outer in
+    let rest : CoreScope → Option LoweredShapes = parts_shaped (patterns_of ps) ts outer in
     let a = from_then (p.0.1.lower outer place t) (λ s. and_then (rest s.place) (λ r. Some (record { shapes = s.shape ∷ r.shapes; place = r.place }))) r e in
     let b = from_then (rest a.0.place) (λ r. Some (record { shapes = a.0.shape ∷ r.shapes; place = r.place })) r a.2 in
     subst (λ q. Grows place q) (ap (λ (r : LoweredShapes). r.place) (same_some (record { shapes = a.0.shape ∷ b.0.shapes; place = b.0.place }) r b.2))
     (grows_on place a.0.place b.0.place (p.2.grows outer place t a.0 a.1) (parts_grow ps ts outer a.0.place b.0 b.1))
 
-tuple_grows : (ps : List Part.pattern) (outer place : CorePlace) (x : DslxType-F DslxType) (s : LoweredShape) → tuple_shape (patterns_of ps) outer place x ≡ Some s → Grows place s.place
+tuple_grows : (ps : List Part.pattern) (outer place : CoreScope) (x : DslxType-F DslxType) (s : LoweredShape) → tuple_shape (patterns_of ps) outer place x ≡ Some s → Grows place s.place
 tuple_grows ps outer place (DslxType-F.Tuple ts) s e =
     let a = from_then (parts_shaped (patterns_of ps) ts outer place) (λ r. shaped (shape.Tuple r.shapes) r.place) s e in
     as_shaped (shape.Tuple a.0.shapes) place a.0.place s (parts_grow ps ts outer place a.0 a.1) a.2
@@ -177,7 +177,7 @@ tuple_grows ps outer place (DslxType-F.Struct name fields ts) s e = none_some s 
 tuple_grows ps outer place (DslxType-F.Enum name sign w) s e = none_some s e
 tuple_grows ps outer place DslxType-F.Token s e = none_some s e
 
-value_moves : (v : Option DslxValue) (place : CorePlace) (t : DslxType) (c : CalleesByName) → value_shape v (with_callee c place) t ≡ moved c (value_shape v place t)
+value_moves : (v : Option DslxValue) (place : CoreScope) (t : DslxType) (c : CalleesByName) → value_shape v (with_callee c place) t ≡ moved c (value_shape v place t)
 value_moves None place t c = refl
 value_moves (Some v) place t c = by (equal_type t (type_of_value v))
   where
@@ -185,7 +185,7 @@ value_moves (Some v) place t c = by (equal_type t (type_of_value v))
     by true = refl
     by false = refl
 
-name_moves : (b : Bool) (name : List ℕ) (place : CorePlace) (t : DslxType) (c : CalleesByName)
+name_moves : (b : Bool) (name : List ℕ) (place : CoreScope) (t : DslxType) (c : CalleesByName)
     → (if b then value_shape (place.known.items.constant name) (with_callee c place) t else shaped shape.Bound (with_local name t (with_callee c place)))
     ≡ moved c (if b then value_shape (place.known.items.constant name) place t else shaped shape.Bound (with_local name t place))
 name_moves true name place t c = value_moves (place.known.items.constant name) place t c
@@ -194,7 +194,7 @@ name_moves false name place t c = refl
 abbrev parts_moved : CalleesByName → Option LoweredShapes → Option LoweredShapes
 parts_moved c o = and_then o (λ r. Some (record { shapes = r.shapes; place = with_callee c r.place }))
 
-parts_move : (ps : List Part.pattern) (ts : List DslxType) (outer place : CorePlace) (c : CalleesByName)
+parts_move : (ps : List Part.pattern) (ts : List DslxType) (outer place : CoreScope) (c : CalleesByName)
     → parts_shaped (patterns_of ps) ts (with_callee c outer) (with_callee c place) ≡ parts_moved c (parts_shaped (patterns_of ps) ts outer place)
 parts_move [] [] outer place c = refl
 parts_move [] (t ∷ ts) outer place c = refl
@@ -209,14 +209,14 @@ parts_move (p ∷ ps) (t ∷ ts) outer place c =
     by_rest s (Some r) = refl
 
     by : (o : Option LoweredShape)
-        → ((here : CorePlace) → parts_shaped (patterns_of ps) ts (with_callee c outer) (with_callee c here) ≡ parts_moved c (parts_shaped (patterns_of ps) ts outer here))
+        → ((here : CoreScope) → parts_shaped (patterns_of ps) ts (with_callee c outer) (with_callee c here) ≡ parts_moved c (parts_shaped (patterns_of ps) ts outer here))
         → and_then (moved c o) (λ s. and_then (parts_shaped (patterns_of ps) ts (with_callee c outer) s.place) (λ r. Some (record { shapes = s.shape ∷ r.shapes; place = r.place })))
         ≡ parts_moved c (and_then o (λ s. and_then (parts_shaped (patterns_of ps) ts outer s.place) (λ r. Some (record { shapes = s.shape ∷ r.shapes; place = r.place }))))
     by None rest = refl
     by (Some s) rest =
         ap (λ o. and_then o (λ (r : LoweredShapes). Some (record { shapes = s.shape ∷ r.shapes; place = r.place }))) (rest s.place) ∙ by_rest s (parts_shaped (patterns_of ps) ts outer s.place)
 
-tuple_moves : (ps : List Part.pattern) (outer place : CorePlace) (x : DslxType-F DslxType) (c : CalleesByName)
+tuple_moves : (ps : List Part.pattern) (outer place : CoreScope) (x : DslxType-F DslxType) (c : CalleesByName)
     → tuple_shape (patterns_of ps) (with_callee c outer) (with_callee c place) x ≡ moved c (tuple_shape (patterns_of ps) outer place x)
 tuple_moves ps outer place (DslxType-F.Tuple ts) c = ap (λ o. and_then o (λ r. shaped (shape.Tuple r.shapes) r.place)) (parts_move ps ts outer place c) ∙ by (parts_shaped (patterns_of ps) ts outer place)
   where
@@ -229,7 +229,7 @@ tuple_moves ps outer place (DslxType-F.Struct name fields ts) c = refl
 tuple_moves ps outer place (DslxType-F.Enum name sign w) c = refl
 tuple_moves ps outer place DslxType-F.Token c = refl
 
-pub shape_steady : (x : ShapeLevel Part) → PatternIsSteady (shape_lowered (map_shape Part become (firsts become alone steady) x))
+pub shape_steady : (x : ShapeLevel Part) → PatternIsSteady (lower_shape (map_shape Part become (firsts become alone steady) x))
 shape_steady Shape-F.Wild = record { grows = λ outer place t s e. as_shaped shape.Wild place place s (not_grown place) e; moves = λ outer place t c. refl }
 shape_steady (Shape-F.Shape::Bool b) = record {
   grows = λ outer place t s e. value_grows (Some (bool_value b)) place t s e;
@@ -272,25 +272,25 @@ keep_steady = record {
   type_expr = λ x. x.node.2;
 }
 
-pub type_anywhere : (t : TypeExpr) (place : CorePlace) (c : CalleesByName) → type_of_text_lowered t (with_callee c place) ≡ type_of_text_lowered t place
+pub type_anywhere : (t : TypeExpr) (place : CoreScope) (c : CalleesByName) → lower_type_of_text t (with_callee c place) ≡ lower_type_of_text t place
 type_anywhere = related_type_expr become alone steady becoming nothing_more keep_steady
 
-pattern_steady : (p : Pattern) → PatternIsSteady (pattern_of_text_lowered p)
+pattern_steady : (p : Pattern) → PatternIsSteady (lower_pattern_of_text p)
 pattern_steady = related_pattern become alone steady becoming nothing_more keep_steady
 
 -- ---- patterns at their places
 
-pub shaped_grows : (p : Pattern) (place : CorePlace) (t : DslxType) (s : LoweredShape) → shaped_at p place t ≡ Some s → Grows place s.place
+pub shaped_grows : (p : Pattern) (place : CoreScope) (t : DslxType) (s : LoweredShape) → shaped_at p place t ≡ Some s → Grows place s.place
 shaped_grows p place t s e = (pattern_steady p).grows place place t s e
 
-pub shaped_anywhere : (p : Pattern) (place : CorePlace) (t : DslxType) (c : CalleesByName) → shaped_at p (with_callee c place) t ≡ moved c (shaped_at p place t)
+pub shaped_anywhere : (p : Pattern) (place : CoreScope) (t : DslxType) (c : CalleesByName) → shaped_at p (with_callee c place) t ≡ moved c (shaped_at p place t)
 shaped_anywhere p place t c = (pattern_steady p).moves place place t c
 
-pub alternatives_anywhere : (ps : List Pattern) (place : CorePlace) (t : DslxType) (c : CalleesByName)
-    → alternatives_shaped (map pattern_of_text_lowered ps) (with_callee c place) t ≡ alternatives_shaped (map pattern_of_text_lowered ps) place t
+pub alternatives_anywhere : (ps : List Pattern) (place : CoreScope) (t : DslxType) (c : CalleesByName)
+    → alternatives_shaped (map lower_pattern_of_text ps) (with_callee c place) t ≡ alternatives_shaped (map lower_pattern_of_text ps) place t
 alternatives_anywhere [] place t c = refl
 alternatives_anywhere (p ∷ ps) place t c =
-    (λ i. with_both (shaped_anywhere p place t c i) (alternatives_anywhere ps place t c i) (λ s ss. Some (s.shape ∷ ss))) ∙ by (shaped_at p place t) (alternatives_shaped (map pattern_of_text_lowered ps) place t)
+    (λ i. with_both (shaped_anywhere p place t c i) (alternatives_anywhere ps place t c i) (λ s ss. Some (s.shape ∷ ss))) ∙ by (shaped_at p place t) (alternatives_shaped (map lower_pattern_of_text ps) place t)
   where
     by : (o : Option LoweredShape) (q : Option (List Shape)) → with_both (moved c o) q (λ s ss. Some (s.shape ∷ ss)) ≡ with_both o q (λ s ss. Some (s.shape ∷ ss))
     by None q = refl

@@ -5,13 +5,13 @@ use Rattle.dslx_meaning.specs.Lists.{and_then}
 use Rattle.dslx_typing.proofs.Lemmas.Typed.{none_some, same_some}
 use Rattle.dslx_core.specs.Lowering.Functions.{CoreInstance, Instantiated, instance_in}
 use Rattle.dslx_core.specs.Lowering.Lowering.{LoweredExpr}
-use Rattle.dslx_core.specs.Lowering.Trees.{expression_lowered}
-use Rattle.dslx_machines.specs.Machine.Bodies.{place_in}
+use Rattle.dslx_core.specs.Lowering.Trees.{lower_expression}
+use Rattle.dslx_machines.specs.Machine.Bodies.{scope_in}
 use Rattle.dslx_machines.specs.Machine.Machines.{after_steps, machine_at, machine_stepped, needing}
 use Rattle.dslx_machines.specs.Machine.Reached.{IsTable, at_table, lowering_alone}
-use Rattle.dslx_machines.specs.Machine.Tasks.{InstanceMachine, InstanceSight, OpenBody}
+use Rattle.dslx_machines.specs.Machine.Tasks.{InstanceMachine, InstanceEnv, OpenBody}
 use Rattle.dslx_machines.proofs.Lemmas.Machine.Options.{from_then, gives_itself}
-use Rattle.dslx_machines.specs.Progress.Missing.{InNoTable, LoweredByNoTable}
+use Rattle.dslx_machines.specs.Progress.Missing.{InNoTable, NoTableLowers}
 use Rattle.dslx_machines.proofs.OnProgress.Machines.{goes_on}
 use Rattle.dslx_machines.proofs.OnProgress.Roots.{expression_runs, needed_runs}
 
@@ -26,19 +26,19 @@ step_more (suc n) m r e =
 stops : {X : Type 0} (n : ℕ) (start m : InstanceMachine) → after_steps n start ≡ Some m → machine_stepped m ≡ None → ((n : ℕ) → (r : InstanceMachine) × (after_steps n start ≡ Some r)) → X
 stops n start m e last goes = let r = goes (suc n) in none_some r.0 (sym last ∙ sym (step_more n start m e) ∙ r.1)
 
-pub in_no_table : (sight : InstanceSight) → IsTable sight.text sight.items sight.table → (limit n : ℕ) (i : Instantiated) (m : InstanceMachine)
-    → after_steps n (machine_at sight limit (needing i)) ≡ Some m → machine_stepped m ≡ None → InNoTable sight limit i
-in_no_table sight is limit n i m e last table is' enough = by (instance_in i.name i.numbers 0 table) refl
+pub in_no_table : (context : InstanceEnv) → IsTable context.text context.items context.table → (limit n : ℕ) (i : Instantiated) (m : InstanceMachine)
+    → after_steps n (machine_at context limit (needing i)) ≡ Some m → machine_stepped m ≡ None → InNoTable context limit i
+in_no_table context is limit n i m e last table is' enough = by (instance_in i.name i.parametric_args 0 table) refl
   where
-    by : (o : Option (ℕ × CoreInstance)) → instance_in i.name i.numbers 0 table ≡ o → o ≡ None
+    by : (o : Option (ℕ × CoreInstance)) → instance_in i.name i.parametric_args 0 table ≡ o → o ≡ None
     by None h = refl
-    by (Some p) h = stops n (machine_at sight limit (needing i)) m e last (λ n. goes_on sight (needing i) table limit n is (needed_runs sight table is' i p h) enough)
+    by (Some p) h = stops n (machine_at context limit (needing i)) m e last (λ n. goes_on context (needing i) table limit n is (needed_runs context table is' i p h) enough)
 
-pub lowered_by_no_table : (sight : InstanceSight) → IsTable sight.text sight.items sight.table → (limit n : ℕ) (e : Expr) (body : OpenBody) (m : InstanceMachine)
-    → after_steps n (machine_at sight limit (lowering_alone e body)) ≡ Some m → machine_stepped m ≡ None → LoweredByNoTable sight limit e body
-lowered_by_no_table sight is limit n e body m h last table is' enough = by (expression_lowered e (place_in (at_table sight table) body)) refl
+pub lowered_by_no_table : (context : InstanceEnv) → IsTable context.text context.items context.table → (limit n : ℕ) (e : Expr) (body : OpenBody) (m : InstanceMachine)
+    → after_steps n (machine_at context limit (lowering_alone e body)) ≡ Some m → machine_stepped m ≡ None → NoTableLowers context limit e body
+lowered_by_no_table context is limit n e body m h last table is' enough = by (lower_expression e (scope_in (at_table context table) body)) refl
   where
-    by : (o : Option LoweredExpr) → expression_lowered e (place_in (at_table sight table) body) ≡ o → o ≡ None
+    by : (o : Option LoweredExpr) → lower_expression e (scope_in (at_table context table) body) ≡ o → o ≡ None
     by None k = refl
     by (Some r) k =
-        stops n (machine_at sight limit (lowering_alone e body)) m h last (λ n. goes_on sight (lowering_alone e body) table limit n is (expression_runs sight table is' e body r k) enough)
+        stops n (machine_at context limit (lowering_alone e body)) m h last (λ n. goes_on context (lowering_alone e body) table limit n is (expression_runs context table is' e body r k) enough)

@@ -3,4 +3,4 @@ use Rattle.dslx_machines.proofs.Lemmas.Machine.{reached_by_steps, reached_instan
 use Rattle.dslx_machines.proofs.machine.needed_instances_are_done.Goals as goal
 
 pub returns : goal.returns
-returns c = λ sight is limit n i m e ended. reached_instance sight i m (reached_by_steps sight (needing i) limit n m is e) ended
+returns c = λ context is limit n i m e ended. reached_instance context i m (reached_by_steps context (needing i) limit n m is e) ended

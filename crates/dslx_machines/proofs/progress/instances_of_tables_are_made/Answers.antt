@@ -5,7 +5,7 @@ use Rattle.dslx_machines.proofs.OnProgress.Roots.{expression_runs, needed_runs}
 use Rattle.dslx_machines.proofs.progress.instances_of_tables_are_made.Goals as goal
 
 pub returns-clause-instance : goal.returns-clause-instance
-returns-clause-instance c = λ sight is table is' limit enough i p e n. goes_on sight (needing i) table limit n is (needed_runs sight table is' i p e) enough
+returns-clause-instance c = λ context is table is' limit enough i p e n. goes_on context (needing i) table limit n is (needed_runs context table is' i p e) enough
 
 pub returns-clause-expression : goal.returns-clause-expression
-returns-clause-expression c = λ sight is table is' limit enough e body r h n. goes_on sight (lowering_alone e body) table limit n is (expression_runs sight table is' e body r h) enough
+returns-clause-expression c = λ context is table is' limit enough e body r h n. goes_on context (lowering_alone e body) table limit n is (expression_runs context table is' e body r h) enough

@@ -4,7 +4,7 @@ use Rattle.dslx_meaning.specs.Lists.{and_then, where_true}
 use Rattle.dslx_machines.specs.Machine.Tasks.{InstanceMachine, LowerTask, OpenBody, OpenInstance}
 
 abbrev pub with_opened : OpenInstance → InstanceMachine → InstanceMachine
-with_opened o m = record { sight = m.sight; limit = m.limit; root = m.root; opened = o ∷ m.opened }
+with_opened o m = record { context = m.context; limit = m.limit; root = m.root; opened = o ∷ m.opened }
 
 abbrev pub before_todo : LowerTask → OpenBody → OpenBody
 before_todo d body = record body { todo = d ∷ body.todo }
@@ -13,7 +13,7 @@ abbrev pub with_task : LowerTask → OpenInstance → OpenInstance
 with_task d o = record { instance = o.instance; arguments = o.arguments; body = before_todo d o.body }
 
 abbrev pub with_root_task : LowerTask → InstanceMachine → InstanceMachine
-with_root_task d m = record { sight = m.sight; limit = m.limit; root = before_todo d m.root; opened = m.opened }
+with_root_task d m = record { context = m.context; limit = m.limit; root = before_todo d m.root; opened = m.opened }
 
 -- an instance, if there is one and not too many are open
 abbrev pub opened_within : Option OpenInstance → InstanceMachine → Option InstanceMachine

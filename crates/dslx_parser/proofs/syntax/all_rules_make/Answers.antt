@@ -1,7 +1,7 @@
 use Rattle.std.proofs.Common.{refl}
 use Rattle.dslx_token.specs.Rules.Dslx.{dslx}
 use Rattle.dslx_token.specs.Rules.Rules.{named_rules}
-use Rattle.dslx_parser.specs.Syntax.Trees.{making_rules}
+use Rattle.dslx_parser.specs.Syntax.Trees.{semantic_actions}
 use Rattle.dslx_parser.specs.Syntax.Atoms as atoms
 use Rattle.dslx_parser.specs.Syntax.Blocks as blocks
 use Rattle.dslx_parser.specs.Syntax.Items as items
@@ -12,5 +12,5 @@ use Rattle.dslx_parser.specs.Syntax.Types as types
 use Rattle.dslx_parser.proofs.syntax.all_rules_make.Goals as goal
 
 pub returns : goal.returns
-unfolding dslx named_rules making_rules atoms.rules blocks.rules items.rules operators.rules procs.rules statements.rules types.rules
+unfolding dslx named_rules semantic_actions atoms.rules blocks.rules items.rules operators.rules procs.rules statements.rules types.rules
 returns c = refl

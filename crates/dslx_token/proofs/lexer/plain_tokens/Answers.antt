@@ -3,7 +3,7 @@ use Rattle.std.proofs.lemmas.Grind.{common_steps}
 use Rattle.std.proofs.lemmas.List.{take-append-drop}
 use Rattle.dslx_token.specs.Blank.{after_blank}
 use Rattle.dslx_token.specs.Kinds.{Fits, plain_kind}
-use Rattle.dslx_token.specs.Tokens.{lexeme_at, place_of}
+use Rattle.dslx_token.specs.Tokens.{lexeme_at, offset_of}
 use Rattle.dslx_token.proofs.FittingTokens.{token_fits}
 use Rattle.dslx_token.proofs.TokensSoFar.{none_so_far, one_more_so_far, all_so_far, odd_so_far, behind_token_lt}
 use Rattle.dslx_token.proofs.lexer.plain_tokens.Goals as goal
@@ -25,8 +25,8 @@ text-smaller c = behind_token_lt c.in-Some.len c.text.rest.now c.split_at.result
 
 pub text-preserved : goal.text-preserved
 text-preserved c =
-    let token : c.plain.result ≡ lexeme_at (place_of c.args.text.now c.text.rest.now) (take c.in-Some.len c.text.rest.now) =
-    c.plain.ensures ∙ ap (lexeme_at (place_of c.args.text.now c.text.rest.now)) c.split_at.ensures.front in
+    let token : c.plain.result ≡ lexeme_at (offset_of c.args.text.now c.text.rest.now) (take c.in-Some.len c.text.rest.now) =
+    c.plain.ensures ∙ ap (lexeme_at (offset_of c.args.text.now c.text.rest.now)) c.split_at.ensures.front in
     rw (c.in_ok-push.ensures {u = tt}).items (rw token (one_more_so_far c.args.text.now c.text.tokens.items c.text.rest.now (take c.in-Some.len c.text.rest.now) (drop c.in-Some.len c.text.rest.now) c.skip_blank-rest-in-text.result.now
     c.text.invariant (sym (take-append-drop c.in-Some.len c.text.rest.now)) c.in-Some.ensures.stands
     (c.skip_blank-rest-in-text.ensures ∙ ap after_blank c.split_at.ensures.back)))

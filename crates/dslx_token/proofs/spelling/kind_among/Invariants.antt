@@ -1,5 +1,5 @@
 use Rattle.std.proofs.Common.{◌≡◌, drop, map}
-use Rattle.dslx_token.specs.Inner.Fronts.{spelling_of}
+use Rattle.dslx_token.specs.Inner.TokenPrefixes.{spelling_of}
 use Rattle.dslx_token.specs.Spelling.{kind_among}
 use Rattle.dslx_token.proofs.spelling.kind_among.Given as goal
 

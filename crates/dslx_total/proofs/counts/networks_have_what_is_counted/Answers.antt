@@ -4,8 +4,8 @@ use Rattle.dslx_tree.specs.declared.item.Module.{Module}
 use Rattle.dslx_tree.specs.declared.process.Proc.{Proc}
 use Rattle.dslx_meaning.specs.Environment.{Meanings}
 use Rattle.dslx_meaning.specs.Items.{instance_env, meanings_of}
-use Rattle.dslx_meaning.specs.Network.{family_of, head_at, net_if, outer_chan, outer_ends, place_within, top_numbers}
-use Rattle.dslx_meaning.specs.Rules.ModuleRules.{instances_of, known_of}
+use Rattle.dslx_meaning.specs.Network.{family_of, head_at, net_if, outer_chan, outer_ends, elaborate_within, top_parametric_args}
+use Rattle.dslx_meaning.specs.Rules.ModuleRules.{instances_of, globals_of}
 use Rattle.dslx_meaning.specs.Rules.NetworkLimits.{count_in, counted_within}
 use Rattle.dslx_typing.proofs.Lemmas.Accepted.{one_of_these}
 use Rattle.dslx_total.proofs.OnConfigs.There.{accepted}
@@ -17,25 +17,25 @@ use Rattle.dslx_total.proofs.counts.networks_have_what_is_counted.Goals as goal
 -- the count of the top proc's instance is the size of its family
 abbrev IsCountedBy : Module → Option (List ℕ) → Proc → Meanings → Type 0
 IsCountedBy m top p items =
-    size_of_family (place_within m items (length m.items) p.name.name p (top_numbers items p) (outer_ends 0 p.config.ends) (length p.config.ends))
-    ≡ count_in (counted_within m items (instances_of m top) (length m.items)) (record { name = p.name.name; numbers = top_numbers items p })
+    size_of_family (elaborate_within m items (length m.items) p.name.name p (top_parametric_args items p) (outer_ends 0 p.config.ends) (length p.config.ends))
+    ≡ count_in (counted_within m items (instances_of m top) (length m.items)) (record { name = p.name.name; parametric_args = top_parametric_args items p })
 
 pub returns : goal.returns
 returns c m top free plain procs faults p e =
-    let fine = c.items_of_accepted_texts_are_fine.ensures.fine m top free plain faults in
-    let meant = c.items_of_accepted_texts_are_fine.ensures.meant m top free plain faults in
-    let complete = c.all_items_are_known.ensures.complete m free plain fine in
-    let typed = c.all_items_are_known.ensures.typed m free plain fine in
+    let well_typed = c.items_of_accepted_texts_are_well_typed.ensures.well_typed m top free plain faults in
+    let denotation = c.items_of_accepted_texts_are_well_typed.ensures.denotation m top free plain faults in
+    let complete = c.all_items_are_known.ensures.complete m free plain well_typed in
+    let typed = c.all_items_are_known.ensures.typed m free plain well_typed in
     let s = accepted m top free plain faults (c.instances_reach_one_another.ensures.text m top free) (c.instances_reach_one_another.ensures.outside m top) in
     let t = top_there m top s procs complete typed p e in
-    let numbers = top_numbers (known_of m).items p in
-    let counted : IsCountedBy m top p (meanings_of m) = subst (IsCountedBy m top p) meant
-    (all_counted m top s procs complete typed (length m.items) p.name.name p numbers (outer_ends 0 p.config.ends) (length p.config.ends)
-    (record { checked = record { named = t.named; among = one_of_these (record { name = p.name.name; numbers = numbers }) (all m top s) t.among }; own = t.own })) in
-    let top_count = count_in (counted_within m (meanings_of m) (instances_of m top) (length m.items)) (record { name = p.name.name; numbers = top_numbers (meanings_of m) p }) in
+    let parametric_args = top_parametric_args (globals_of m).items p in
+    let counted : IsCountedBy m top p (meanings_of m) = subst (IsCountedBy m top p) denotation
+    (all_counted m top s procs complete typed (length m.items) p.name.name p parametric_args (outer_ends 0 p.config.ends) (length p.config.ends)
+    (record { checked = record { named = t.named; among = one_of_these (record { name = p.name.name; parametric_args = parametric_args }) (all m top s) t.among }; own = t.own })) in
+    let top_count = count_in (counted_within m (meanings_of m) (instances_of m top) (length m.items)) (record { name = p.name.name; parametric_args = top_parametric_args (meanings_of m) p }) in
     let none : 0 + top_count.procs ≡ top_count.procs = omega arith in
     let family = family_of m p in
-    let outer = outer_chan (instance_env (meanings_of m) p.parameters (top_numbers (meanings_of m) p)) in
+    let outer = outer_chan (instance_env (meanings_of m) p.parametrics (top_parametric_args (meanings_of m) p)) in
     let heads = sym (length-map family.procs (head_at (meanings_of m))) in
     let chans = sym (length-append (map outer p.config.ends) family.chans ∙ ap (λ k. k + length family.chans) (length-map p.config.ends outer)) in
     (λ i. record { procs = none i; channels = length p.config.ends + top_count.channels })

@@ -3,5 +3,5 @@ use Rattle.dslx_total.proofs.designs.accepted_procs_have_a_table.Goals as goal
 
 pub returns : goal.returns
 returns c m top free plain procs faults functions p e =
-    procs_have_table m top functions.known.table (c.reached_nexts_are_lowered.ensures m top free plain faults functions) (c.accepted_configs_are_lowered.ensures.configs m top free plain procs faults) free p
-    (c.accepted_configs_are_lowered.ensures.tops m top free plain procs faults p e).checked
+    procs_have_table m top functions.known.table (c.lower_total_reached_nexts.ensures m top free plain faults functions) (c.lower_total_configs.ensures.configs m top free plain procs faults) free p
+    (c.lower_total_configs.ensures.tops m top free plain procs faults p e).checked

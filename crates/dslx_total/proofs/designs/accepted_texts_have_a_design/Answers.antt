@@ -2,14 +2,14 @@ use Rattle.std.proofs.Common.{map, refl, ap}
 use Rattle.dslx_meaning.specs.Network.{as_proc}
 use Rattle.dslx_core.specs.declared.design.Design.{Design}
 use Rattle.dslx_core.specs.Lowering.Functions.{core_function}
-use Rattle.dslx_core.specs.Networks.Making.{IsDesignFrom, instances_alone}
+use Rattle.dslx_core.specs.Networks.Assembly.{IsDesignFrom, instances_alone}
 use Rattle.dslx_total.proofs.OnDesigns.Tops.{top_there}
 use Rattle.dslx_total.proofs.designs.accepted_texts_have_a_design.Goals as goal
 
 pub returns : goal.returns
 returns c m top free plain procs faults =
     let p = top_there m top faults in
-    let t = c.accepted_configs_are_lowered.ensures.tops m top free plain procs faults p.0 p.1 in
+    let t = c.lower_total_configs.ensures.tops m top free plain procs faults p.0 p.1 in
     let functions = c.accepted_functions_have_a_table.ensures m top free plain faults in
     let table = c.accepted_procs_have_a_table.ensures m top free plain procs faults functions p.0 p.1 in
     let design : Design = record { name = p.0.name.name; outer = t.outer; functions = map core_function functions.known.table; procs = instances_alone table.table } in
@@ -28,7 +28,7 @@ returns c m top free plain procs faults =
       each_proc = table.lowered;
       is_last = table.is_last;
       of_name = table.of_name;
-      of_numbers = table.of_numbers;
+      of_parametric_args = table.of_parametric_args;
       design_is = refl;
     } in
-    record { design = design; made = made; stands = c.accepted_texts_are_fine.ensures.stands m top design free plain procs faults made }
+    record { design = design; made = made; stands = c.accepted_texts_are_well_typed.ensures.stands m top design free plain procs faults made }

@@ -9,7 +9,7 @@ use Rattle.dslx_tree.specs.declared.item.Module.{Module}
 use Rattle.dslx_tree.specs.declared.item.Item.{Item}
 use Rattle.dslx_tree.specs.declared.item.Definition.{Definition}
 use Rattle.dslx_meaning.specs.Items.{item_named, name_of_definition}
-use Rattle.dslx_meaning.specs.Rules.Mentions.{Use, AsValue, AsPattern, AsType, AsFunction, AsProc, AsEnum, AsStruct, Mention, is_of_use, names_meant, mentions_of, reaches_within, item_reaches, is_cyclic, definition_mentions}
+use Rattle.dslx_meaning.specs.Rules.Mentions.{Use, AsValue, AsPattern, AsType, AsFunction, AsProc, AsEnum, AsStruct, Mention, is_of_use, names_mentioned, mentions_of, reaches_within, item_reaches, is_cyclic, definition_mentions}
 use Rattle.dslx_typing.specs.Laws.Recursion.{HasNoCycle}
 
 -- ---- tests of lists
@@ -76,20 +76,20 @@ item_listed (i ∷ is) name u e = pick (bytes_eq name (name_of_definition i.defi
     pick true e rest = refl
     pick false e rest = rest e
 
-meant_is_item : (m : Module) (ms : List Mention) (name : List ℕ) → IsIn name (names_meant m ms) → IsItem m name
-meant_is_item m [] name e = absurd (true≢false (sym e))
-meant_is_item m (n ∷ ns) name e = pick (is_of_use n.use_as (item_named n.name m.items)) refl e (meant_is_item m ns name)
+denoted_is_item : (m : Module) (ms : List Mention) (name : List ℕ) → IsIn name (names_mentioned m ms) → IsItem m name
+denoted_is_item m [] name e = absurd (true≢false (sym e))
+denoted_is_item m (n ∷ ns) name e = pick (is_of_use n.use_as (item_named n.name m.items)) refl e (denoted_is_item m ns name)
   where
-    pick : (t : Bool) → is_of_use n.use_as (item_named n.name m.items) ≡ t → IsIn name (if t then n.name ∷ names_meant m ns else names_meant m ns)
-        → (IsIn name (names_meant m ns) → IsItem m name) → IsItem m name
+    pick : (t : Bool) → is_of_use n.use_as (item_named n.name m.items) ≡ t → IsIn name (if t then n.name ∷ names_mentioned m ns else names_mentioned m ns)
+        → (IsIn name (names_mentioned m ns) → IsItem m name) → IsItem m name
     pick true q e rest =
-        or_cases (bytes_eq name n.name) (list_any (bytes_eq name) (names_meant m ns)) e
+        or_cases (bytes_eq name n.name) (list_any (bytes_eq name) (names_mentioned m ns)) e
         (λ s. subst (λ z. IsItem m z) (sym (same_name name n.name s)) (item_listed m.items n.name n.use_as q)) rest
     pick false q e rest = rest e
 
 mentioned_is_item : (m : Module) (d : Option Definition) (name : List ℕ) → IsIn name (mentions_of m d) → IsItem m name
 mentioned_is_item m None name e = absurd (true≢false (sym e))
-mentioned_is_item m (Some d) name e = meant_is_item m (definition_mentions d) name e
+mentioned_is_item m (Some d) name e = denoted_is_item m (definition_mentions d) name e
 
 -- ---- reaching
 

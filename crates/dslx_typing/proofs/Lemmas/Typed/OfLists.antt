@@ -4,12 +4,12 @@ use mathlib.Core.Bool.{true≢false}
 use Rattle.dslx_meaning.specs.Lists.{all_some, and_then}
 use Rattle.dslx_meaning.specs.declared.ty.DslxType.{DslxType}
 use Rattle.dslx_meaning.specs.declared.value.DslxValue.{DslxValue}
-use Rattle.dslx_meaning.specs.Rules.Judging.{Sight, ExprPair, alone, types_of}
+use Rattle.dslx_meaning.specs.Rules.TypeEnvs.{TypeEnv, ExprPair, alone, types_of}
 use Rattle.dslx_meaning.specs.Rules.AggregateRules.{element_alone, when_all}
 use Rattle.dslx_typing.specs.Typed.Kinds.{each_of, is_of}
 use Rattle.dslx_typing.specs.Typed.Declared.{Declarations, AllDeclared}
 use Rattle.dslx_typing.specs.Typed.Given.{GivesOf, EachGives}
-use Rattle.dslx_typing.proofs.OnTyped.Judged.{none_some, same_some}
+use Rattle.dslx_typing.proofs.OnTyped.TypingRelations.{none_some, same_some}
 use Rattle.dslx_typing.proofs.OnTyped.OneName.{list_parts}
 
 -- ---- lists of options
@@ -64,10 +64,10 @@ pub none_given : (types : Declarations) → AllGiven types [] []
 none_given types = record { values = []; are = refl; of = refl; declared = tt }
 
 -- parts that stand alone
-pub all_alone_given : (types : Declarations) (sight : Sight) (es : List ExprPair) (os : List (Option DslxValue)) (ts : List DslxType) → EachGives types sight es os
-    → types_of (map (alone sight) es) ≡ map Some ts → AllGiven types ts os
-all_alone_given types sight [] [] [] h e = none_given types
-all_alone_given types sight [] [] (t ∷ ts) h e = no_list (Some t) (map Some ts) e
+pub all_alone_given : (types : Declarations) (context : TypeEnv) (es : List ExprPair) (os : List (Option DslxValue)) (ts : List DslxType) → EachGives types context es os
+    → types_of (map (alone context) es) ≡ map Some ts → AllGiven types ts os
+all_alone_given types context [] [] [] h e = none_given types
+all_alone_given types context [] [] (t ∷ ts) h e = no_list (Some t) (map Some ts) e
   where
     no_list : {R : Type 0} (x : Option DslxType) (xs : List (Option DslxType)) → [] ≡ (x ∷ xs) → R
     no_list x xs e = absurd (true≢false (ap is_none e))
@@ -75,18 +75,18 @@ all_alone_given types sight [] [] (t ∷ ts) h e = no_list (Some t) (map Some ts
         is_none : List (Option DslxType) → Bool
         is_none [] = true
         is_none (y ∷ ys) = false
-all_alone_given types sight [] (o ∷ os) ts h e = absurd h
-all_alone_given types sight (x ∷ es) [] ts h e = absurd h
-all_alone_given types sight (x ∷ es) (o ∷ os) [] h e = absurd (true≢false (ap is_some e))
+all_alone_given types context [] (o ∷ os) ts h e = absurd h
+all_alone_given types context (x ∷ es) [] ts h e = absurd h
+all_alone_given types context (x ∷ es) (o ∷ os) [] h e = absurd (true≢false (ap is_some e))
   where
     is_some : List (Option DslxType) → Bool
     is_some [] = false
     is_some (y ∷ ys) = true
-all_alone_given types sight (x ∷ es) (o ∷ os) (t ∷ ts) h e =
-    let q = list_parts (alone sight x).ty (Some t) (types_of (map (alone sight) es)) (map Some ts) e in
-    one_more_given types t ts o os (h.0 t q.0) (all_alone_given types sight es os ts h.1 q.1)
+all_alone_given types context (x ∷ es) (o ∷ os) (t ∷ ts) h e =
+    let q = list_parts (alone context x).ty (Some t) (types_of (map (alone context) es)) (map Some ts) e in
+    one_more_given types t ts o os (h.0 t q.0) (all_alone_given types context es os ts h.1 q.1)
 
 -- what an element adds to what stands alone is no type
-pub element_types : (sight : Sight) (es : List ExprPair) → types_of (map (element_alone sight) es) ≡ types_of (map (alone sight) es)
-element_types sight [] = refl
-element_types sight (e ∷ es) = λ i. (alone sight e).ty ∷ element_types sight es i
+pub element_types : (context : TypeEnv) (es : List ExprPair) → types_of (map (element_alone context) es) ≡ types_of (map (alone context) es)
+element_types context [] = refl
+element_types context (e ∷ es) = λ i. (alone context e).ty ∷ element_types context es i

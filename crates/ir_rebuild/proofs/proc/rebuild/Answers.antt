@@ -2,7 +2,7 @@ use Rattle.std.proofs.Common.{◌≡◌, sym, ap, subst, ◌∙◌, Some}
 use Rattle.std.specs.Prelude.{slice_get}
 use Rattle.ir_tree.specs.SameBehavior.{SameBehavior}
 use Rattle.ir_verify.specs.Verified.{IsVerified}
-use Rattle.ir_rebuild.specs.Walks.{EachBecomes}
+use Rattle.ir_rebuild.specs.Walks.{EachProcRebuildsTo}
 use Rattle.ir_rebuild.proofs.Packages.{AllRebuilt, with_procs, checked_proc, item_there, read_more, all_procs, all_verified, all_same}
 use Rattle.ir_rebuild.proofs.Walked.{became_more, all_became}
 use Rattle.ir_rebuild.proofs.proc.rebuild.Goals as goal
@@ -41,6 +41,6 @@ pub returns-clause-became : goal.returns-clause-became
 returns-clause-became g c =
     let marks = g.R.Rewrite.marks in
     let gives = g.R.Rewrite.gives in
-    subst (λ qs. EachBecomes marks gives c.args.ir.procs qs) (sym c.from_vec.ensures)
-    (subst (λ ps. EachBecomes marks gives ps c.procs.all.items) c.as_slice-proc-items.ensures
+    subst (λ qs. EachProcRebuildsTo marks gives c.args.ir.procs qs) (sym c.from_vec.ensures)
+    (subst (λ ps. EachProcRebuildsTo marks gives ps c.procs.all.items) c.as_slice-proc-items.ensures
     (all_became marks gives c.as_slice-proc-items.result.now c.procs.all.items c.procs.proc-index c.procs-test.false c.procs.invariant.1))

@@ -1,5 +1,5 @@
 use Rattle.std.proofs.Common.{◌≡◌, ◌+◌, ◌-◌, ◌≤◌, drop, length}
-use Rattle.ir_token.specs.Fronts.{name_len}
+use Rattle.ir_token.specs.TokenPrefixes.{name_len}
 use Rattle.ir_token.proofs.front.name_len.Given as goal
 
 abbrev pub invariant-word : goal.invariant-word

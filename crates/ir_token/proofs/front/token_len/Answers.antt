@@ -1,5 +1,5 @@
-use Rattle.ir_token.proofs.FrontFacts.{front_found}
+use Rattle.ir_token.proofs.PrefixFacts.{prefix_found}
 use Rattle.ir_token.proofs.front.token_len.Goals as goal
 
 pub returns : goal.returns
-returns c = front_found c.args.text.now c.token_front.result c.token_front.ensures.front c.token_front.ensures.within
+returns c = prefix_found c.args.text.now c.token_prefix.result c.token_prefix.ensures.front c.token_prefix.ensures.within

@@ -1,7 +1,7 @@
 use Rattle.std.proofs.Common.{◌≡◌, ◌∙◌, ap, arith, take, length, []}
 use Rattle.std.proofs.lemmas.Grind.{common_steps}
 use Rattle.dslx_token.specs.Blank.{after_blank}
-use Rattle.dslx_token.specs.Tokens.{place_of}
+use Rattle.dslx_token.specs.Tokens.{offset_of}
 use Rattle.ir_token.specs.Tokens.{ir_lexeme_at}
 use Rattle.ir_token.proofs.CutsSoFar.{none_so_far, one_more_so_far, all_so_far, odd_so_far, behind_token_lt}
 use Rattle.ir_token.proofs.lexer.plain_tokens.Goals as goal
@@ -18,8 +18,8 @@ text-smaller c = behind_token_lt c.in-Some.len c.text.rest.now c.skip_blank-rest
 
 pub text-preserved : goal.text-preserved
 text-preserved c =
-    let token : c.plain.result ≡ ir_lexeme_at (place_of c.args.text.now c.text.rest.now) (take c.in-Some.len c.text.rest.now) =
-    c.plain.ensures ∙ ap (ir_lexeme_at (place_of c.args.text.now c.text.rest.now)) c.split_at.ensures.front in
+    let token : c.plain.result ≡ ir_lexeme_at (offset_of c.args.text.now c.text.rest.now) (take c.in-Some.len c.text.rest.now) =
+    c.plain.ensures ∙ ap (ir_lexeme_at (offset_of c.args.text.now c.text.rest.now)) c.split_at.ensures.front in
     rw (c.in_ok-push.ensures {u = tt}).items (rw token (one_more_so_far c.args.text.now c.text.tokens.items c.text.rest.now c.skip_blank-rest-in-text.result.now c.in-Some.len
     c.text.invariant (λ e. grind (arith, common_steps)) c.in-Some.ensures.front
     (c.skip_blank-rest-in-text.ensures ∙ ap after_blank c.split_at.ensures.back)))

@@ -12,7 +12,7 @@ use Rattle.ir_verify.proofs.verified.note_procs.Goals as goal
 pub procs-preserved : goal.procs-preserved
 procs-preserved c =
     let channels = c.args.channels.now in
-    let places = c.args.places.now in
+    let line_spans = c.args.line_spans.now in
     let ps = c.args.procs.now in
     let i = c.procs.i in
     let here = c.index-procs-i.result in
@@ -26,8 +26,8 @@ procs-preserved c =
       seen = proc_seen ps i here (has c.procs.names) (has c.insert.new.self) below c.index-procs-i.is
           (subst (λ n. (q : List ℕ) → has c.insert.new.self q ≡ (bytes_eq n q || has c.procs.names q)) c.as_str.ensures c.in_ok-is_new.ensures.names)
           c.procs.invariant.seen;
-      faults = procs_step channels places ps i here seen (seen_by c.note_proc-held.new.seen) c.procs.held c.note_proc-held.result (noted c.args.held (procs_checks channels places [] 0 (nothing_seen channels) ps)) below c.index-procs-i.is c.note_proc-held.ensures.seen
+      faults = procs_step channels line_spans ps i here seen (seen_by c.note_proc-held.new.seen) c.procs.held c.note_proc-held.result (noted c.args.held (procs_checks channels line_spans [] 0 (nothing_seen channels) ps)) below c.index-procs-i.is c.note_proc-held.ensures.seen
           (c.note_proc-held.ensures.fault names is_new
-          ∙ ap (λ z. noted c.procs.held (proc_checks channels z names seen here)) (c.place_at-place.ensures ∙ ap (λ e. get_or places i e) c.procs.invariant.elsewhere))
+          ∙ ap (λ z. noted c.procs.held (proc_checks channels z names seen here)) (c.spans_at-place.ensures ∙ ap (λ e. get_or line_spans i e) c.procs.invariant.elsewhere))
           c.procs.invariant.faults;
     }

@@ -12,5 +12,5 @@ invariant-procs l =
     record {
       elsewhere : l.elsewhere ≡ nowhere_proc;
       seen : (q : List ℕ) → has l.names q ≡ is_among (proc_names (take l.i l.procs)) q;
-      faults : noted l.held (procs_checks l.channels l.places (proc_names (take l.i l.procs)) l.i (seen_by l.seen) (drop l.i l.procs)) ≡ noted l.fn.held (procs_checks l.channels l.places [] 0 (nothing_seen l.channels) l.procs);
+      faults : noted l.held (procs_checks l.channels l.line_spans (proc_names (take l.i l.procs)) l.i (seen_by l.seen) (drop l.i l.procs)) ≡ noted l.fn.held (procs_checks l.channels l.line_spans [] 0 (nothing_seen l.channels) l.procs);
     }

@@ -2,7 +2,7 @@ use Rattle.std.proofs.Common.{◌≡◌, ◌<◌, ◌+◌, ℕ, List, Some, leng
 use Rattle.std.specs.Prelude.{slice_get}
 use Rattle.std.proofs.lemmas.List.{length-set}
 use Rattle.std.proofs.lemmas.Option.{slice_get_read, slice_get-get_or}
-use Rattle.base.proofs.Lemmas.Lists.Places.{slice_get-set_other}
+use Rattle.base.proofs.Lemmas.Lists.Indices.{slice_get-set_other}
 use Rattle.proc_task.specs.declared.port.Inlet.{Inlet}
 use Rattle.proc_runner.specs.Inner.Ended.{AreInletsOf, IsNewInlet, in_chan}
 use Rattle.proc_runner.proofs.Ends.{ends_more}

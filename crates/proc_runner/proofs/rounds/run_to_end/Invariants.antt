@@ -8,5 +8,5 @@ invariant-loop g l =
     IsTaskPass l.queue l.pass
     × HoldsNone (knows l.pass)
     × ((knows l.pass).parts ≡ 1024)
-    × ((knows l.pass).count ≡ length (g.H.Home.run l.home).procs)
-    × ((knows l.pass).run ≡ Some l.home)
+    × ((knows l.pass).count ≡ length (g.H.Runtime.run l.runtime).procs)
+    × ((knows l.pass).run ≡ Some l.runtime)

@@ -11,5 +11,5 @@ invariant-loop-p g l =
     × ((knows l.pass).parts ≡ 1024)
     × ((knows l.pass).count ≡ l.p)
     × ((knows l.pass).held ≡ [])
-    × ((l.p ≡ 0) ⊎ ((knows l.pass).run ≡ Some l.home))
-    × AreLeft (g.H.Home.run l.home) (g.H.Home.lines l.home) l.p l.ends.senders.items l.ends.receivers.items l.ends.sends.items l.ends.recvs.items
+    × ((l.p ≡ 0) ⊎ ((knows l.pass).run ≡ Some l.runtime))
+    × AreLeft (g.H.Runtime.run l.runtime) (g.H.Runtime.lines l.runtime) l.p l.ends.senders.items l.ends.receivers.items l.ends.sends.items l.ends.recvs.items

@@ -1,4 +1,4 @@
-use Rattle.vlog_token.proofs.FrontFacts.{mark_fits}
+use Rattle.vlog_token.proofs.PrefixFacts.{mark_fits}
 use Rattle.vlog_token.proofs.front.mark_at.Goals as goal
 
 pub returns-clause-within : goal.returns-clause-within

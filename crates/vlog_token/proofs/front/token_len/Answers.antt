@@ -1,5 +1,5 @@
-use Rattle.vlog_token.proofs.FrontFacts.{front_found}
+use Rattle.vlog_token.proofs.PrefixFacts.{prefix_found}
 use Rattle.vlog_token.proofs.front.token_len.Goals as goal
 
 pub returns : goal.returns
-returns c = front_found c.args.text.now c.front_len.result c.front_len.ensures.front c.front_len.ensures.within
+returns c = prefix_found c.args.text.now c.token_prefix_len.result c.token_prefix_len.ensures.front c.token_prefix_len.ensures.within

@@ -1,10 +1,10 @@
 use Rattle.std.proofs.Common.{◌≡◌, ◌∙◌, ap, arith, take, length, []}
 use Rattle.std.proofs.lemmas.Grind.{common_steps}
 use Rattle.dslx_token.specs.Blank.{after_blank}
-use Rattle.dslx_token.specs.Tokens.{place_of}
+use Rattle.dslx_token.specs.Tokens.{offset_of}
 use Rattle.vlog_token.specs.Tokens.{verilog_lexeme_at}
 use Rattle.vlog_token.proofs.CutsSoFar.{none_so_far, one_more_so_far, all_so_far, odd_so_far, behind_token_lt}
-use Rattle.vlog_token.proofs.FrontFacts.{none_of, some_of}
+use Rattle.vlog_token.proofs.PrefixFacts.{none_of, some_of}
 use Rattle.vlog_token.proofs.lexer.found_tokens.Goals as goal
 
 pub text-init : goal.text-init
@@ -23,8 +23,8 @@ text-smaller c =
 pub text-preserved : goal.text-preserved
 text-preserved c =
     let found = some_of c.text.rest.now c.in_ok-len.field-0 c.in-Some.len (c.in_ok-len.ensures {u = tt}) c.in-Some.is in
-    let token : c.new.result ≡ verilog_lexeme_at (place_of c.args.text.now c.text.rest.now) (take c.in-Some.len c.text.rest.now) =
-    c.new.ensures ∙ ap (verilog_lexeme_at (place_of c.args.text.now c.text.rest.now)) c.split_at.ensures.front in
+    let token : c.new.result ≡ verilog_lexeme_at (offset_of c.args.text.now c.text.rest.now) (take c.in-Some.len c.text.rest.now) =
+    c.new.ensures ∙ ap (verilog_lexeme_at (offset_of c.args.text.now c.text.rest.now)) c.split_at.ensures.front in
     rw (c.in_ok-push.ensures {u = tt}).items (rw token (one_more_so_far c.args.text.now c.text.tokens.items c.text.rest.now c.skip_blank-rest-in-text.result.now c.in-Some.len
     c.text.invariant (λ e. grind (arith, common_steps)) found.front
     (c.skip_blank-rest-in-text.ensures ∙ ap after_blank c.split_at.ensures.back)))

@@ -2,11 +2,11 @@
 use Rattle.std.specs.Prelude.{◌≡◌, ℕ, Bool, false, List, get_or, length}
 use Rattle.vlog_tree.specs.declared.verifier.marks.Marks.{Marks}
 use Rattle.vlog_tree.specs.Verifier.Parts.{is_target}
-use Rattle.vlog_tree.specs.declared.verifier.ports.Due.{Due as Held}
+use Rattle.vlog_tree.specs.declared.verifier.ports.Due.{Due as RegisterSignal}
 use Rattle.vlog_tree.specs.declared.verifier.ports.Due.TheVariants as held
 use Rattle.vlog_tree.specs.Verifier.Ports.{Due, Clock, Reset, Data, Valid, Ready}
 
-abbrev pub due_of : Held → Due
+abbrev pub due_of : RegisterSignal → Due
 due_of held.Clock = Clock
 due_of held.Reset = Reset
 due_of held.Data = Data

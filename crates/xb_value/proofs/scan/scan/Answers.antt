@@ -13,11 +13,11 @@ returns-then-not-branch c =
     let t = c.args.text.now in
     let i = c.bytes.byte-index in
     let b = get_or c.args.text.now c.bytes.byte-index 0 in
-    let place = c.bytes.invariant.place in
+    let offset = c.bytes.invariant.offset in
     let answered = subst (λ w. Stepped (step s c.bytes.at c.class_of.result) w (state_of c.step.new.self)) c.if-not-branch.true c.in_ok-step.ensures in
     let refused : step s i (class_of b) ≡ None =
-    ap₂ (λ p k. step s p k) (sym place) (sym c.class_of.ensures.value) ∙ stepped_refused (step s c.bytes.at c.class_of.result) (state_of c.step.new.self) answered in
-    subst (IsFirstFault IsValueText t) (sym place) (fault_at s t i b c.bytes-test.true refl c.bytes.invariant.stands refused)
+    ap₂ (λ p k. step s p k) (sym offset) (sym c.class_of.ensures.value) ∙ stepped_refused (step s c.bytes.at c.class_of.result) (state_of c.step.new.self) answered in
+    subst (IsFirstFault IsValueText t) (sym offset) (fault_at s t i b c.bytes-test.true refl c.bytes.invariant.stands refused)
 
 pub bytes-preserved : goal.bytes-preserved
 bytes-preserved c =
@@ -29,9 +29,9 @@ bytes-preserved c =
     let answered = subst (λ w. Stepped (step s c.bytes.at c.class_of.result) w u) c.if-not-branch.false c.in_ok-step.ensures in
     let went : step s c.bytes.at c.class_of.result ≡ Some u = stepped_went (step s c.bytes.at c.class_of.result) u answered in
     let went_there : step s i (class_of b) ≡ Some u =
-    ap₂ (λ p k. step s p k) (sym c.bytes.invariant.place) (sym c.class_of.ensures.value) ∙ went in
+    ap₂ (λ p k. step s p k) (sym c.bytes.invariant.offset) (sym c.class_of.ensures.value) ∙ went in
     record {
-      place = omega (arith, c.bytes.invariant.place);
+      offset = omega (arith, c.bytes.invariant.offset);
       sound = step_sound s u c.bytes.at c.class_of.result c.bytes.invariant.sound c.class_of.ensures.small went;
       stands = stands_next s u t i b c.bytes-test.true refl c.bytes.invariant.stands went_there;
     }
@@ -49,5 +49,5 @@ returns-in-None c =
     let s = state_of c.bytes.scanner in
     let t = c.args.text.now in
     let end : ended s ≡ None = sym c.in_ok-tokens.ensures ∙ ap (option_map (λ v. v.items)) c.in-None.is in
-    subst (IsFirstFault IsValueText t) (sym c.bytes.invariant.place)
+    subst (IsFirstFault IsValueText t) (sym c.bytes.invariant.offset)
     (fault_at_end s t c.bytes.byte-index c.bytes-test.false c.bytes.auto.byte-index-end c.bytes.invariant.stands end)

@@ -6,7 +6,7 @@ use Rattle.xb_value.proofs.scan.scan.Given as goal
 abbrev pub invariant-bytes : goal.invariant-bytes
 invariant-bytes l =
     record {
-      place : l.at ≡ l.byte-index;
+      offset : l.at ≡ l.byte-index;
       sound : FitsDigits l.scanner.mode;
       stands : StandsBehind (state_of l.scanner) (take l.byte-index l.text);
     }

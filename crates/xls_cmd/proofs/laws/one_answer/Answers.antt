@@ -1,8 +1,8 @@
-use Rattle.xls_cmd.proofs.Answering.{due_is_one, due_agrees}
+use Rattle.xls_cmd.proofs.Answering.{expected_is_one, expected_agrees}
 use Rattle.xls_cmd.proofs.laws.one_answer.Goals as goal
 
 pub returns-clause-one : goal.returns-clause-one
-returns-clause-one c = due_is_one (record {
+returns-clause-one c = expected_is_one (record {
   check = c.one_answer.ensures.check;
   run = c.one_answer.ensures.run;
   run_ir = c.one_answer-2.ensures;
@@ -12,7 +12,7 @@ returns-clause-one c = due_is_one (record {
 })
 
 pub returns-clause-agrees : goal.returns-clause-agrees
-returns-clause-agrees c = due_agrees (record {
+returns-clause-agrees c = expected_agrees (record {
   check = c.one_answer.ensures.check;
   run = c.one_answer.ensures.run;
   run_ir = c.one_answer-2.ensures;

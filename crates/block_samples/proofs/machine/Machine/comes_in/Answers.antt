@@ -2,7 +2,7 @@ use Rattle.std.proofs.Common.{◌∙◌, sym, subst, arith}
 use Rattle.block_stage.specs.Machine.Circuits.{stage_by, moves_by}
 use Rattle.block_stage.specs.Machine.Logic.{circuit_of}
 use Rattle.block_samples.specs.Samples.{pipeline_of, ports_of}
-use Rattle.block_samples.specs.Shows.{ShowsBegun}
+use Rattle.block_samples.specs.Shows.{ShowsStageEntry}
 use Rattle.block_samples.proofs.Machines.{held_stays, held_comes}
 use Rattle.block_samples.proofs.machine.Machine.comes_in.Goals as goal
 
@@ -12,7 +12,7 @@ returns-then-moves c = λ opening now small shows l.
     let q = pipeline_of c.args.sample.now opening in
     let ports = ports_of c.args.ports.now in
     let comes = sym (c.moves.ensures opening now small shows (omega (arith, l))) ∙ c.if-moves.true in
-    subst (ShowsBegun c.in_stage.result.begun) (sym (held_comes now (stage_by x q now ports) (moves_by x q now ports) c.args.stage c.requires comes))
+    subst (ShowsStageEntry c.in_stage.result.stage_entry) (sym (held_comes now (stage_by x q now ports) (moves_by x q now ports) c.args.stage c.requires comes))
     (record { state = c.in_stage.ensures.state now shows (omega (arith, l)); got = (c.in_stage.ensures.shows opening now small shows (omega (arith, l))).got })
 
 pub returns-else-moves : goal.returns-else-moves
@@ -21,5 +21,5 @@ returns-else-moves c = λ opening now small shows l.
     let q = pipeline_of c.args.sample.now opening in
     let ports = ports_of c.args.ports.now in
     let stays = sym (c.moves.ensures opening now small shows (omega (arith, l))) ∙ c.if-moves.false in
-    subst (ShowsBegun c.begun_at.result) (sym (held_stays now (stage_by x q now ports) (moves_by x q now ports) c.args.stage c.requires stays))
-    (let e = c.begun_at.ensures in rw e (shows.held c.args.stage c.requires l))
+    subst (ShowsStageEntry c.stage_entry_at.result) (sym (held_stays now (stage_by x q now ports) (moves_by x q now ports) c.args.stage c.requires stays))
+    (let e = c.stage_entry_at.ensures in rw e (shows.stage_regs c.args.stage c.requires l))

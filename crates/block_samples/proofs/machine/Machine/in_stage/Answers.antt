@@ -30,9 +30,9 @@ walk-requires c =
 
 pub returns-clause-shows : goal.returns-clause-shows
 returns-clause-shows c = λ opening now small shows l.
-    let begun = c.brought-begun.ensures c.args.sample.now now shows l in
+    let stage_entry = c.brought-stage_entry.ensures c.args.sample.now now shows l in
     stage_walks (circuit_of c.args.logic.now) c.args.sample.now opening c.args.ports.now now c.args.stage c.first-from.result c.saturating_sub.result c.walk.result
     (sym (shows.full c.args.stage l) ∙ sym c.flag.ensures ∙ c.if-not-flag.false)
     c.first-from.ensures
     (c.saturating_sub.ensures ∙ ap (λ n. n - c.first-from.result) c.first-until.ensures)
-    (c.walk.ensures.shows now.done now.kept (brought now c.args.stage).state (brought now c.args.stage).got (record { is_done = shows.done; is_kept = shows.kept }) begun.state begun.got)
+    (c.walk.ensures.shows now.done now.kept (brought now c.args.stage).state (brought now c.args.stage).got (record { is_done = shows.done; is_kept = shows.kept }) stage_entry.state stage_entry.got)

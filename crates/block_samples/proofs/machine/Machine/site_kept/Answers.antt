@@ -15,6 +15,6 @@ returns c = λ opening now small shows l.
     let stage = c.stage.ensures in
     let walk = c.in_stage-walk.ensures.shows opening now small shows (rw stage (small.within c.args.place l)) in
     let kept = c.kept_at-kept.ensures ∙ shows.kept c.args.place l in
-    let took = c.offer_at.ensures ∙ walk.took c.args.place (let s = small.sites in omega (arith, l, s)) ∙ ap (λ j. taken_at c.args.place (stage_of j).deeds) stage in
-    let offer = c.offer_at-offer.ensures ∙ ap (λ k. get_or c.args.ports.now.offer k None) (c.chan.ensures ∙ chan_is sites c.args.place) in
-    c.keep.ensures ∙ (rw (kept, took, offer) (keep_is c.args.logic.now.keeps (now.kept c.args.place) _ c.args.place (stage_of (stage_at (slice_get sites c.args.place))).deeds))
+    let took = c.valid_word_at.ensures ∙ walk.took c.args.place (let s = small.sites in omega (arith, l, s)) ∙ ap (λ j. taken_at c.args.place (stage_of j).transfers) stage in
+    let valid_word = c.valid_word_at-valid_word.ensures ∙ ap (λ k. get_or c.args.ports.now.valid_word k None) (c.chan.ensures ∙ chan_is sites c.args.place) in
+    c.keep.ensures ∙ (rw (kept, took, valid_word) (keep_is c.args.logic.now.keeps (now.kept c.args.place) _ c.args.place (stage_of (stage_at (slice_get sites c.args.place))).transfers))

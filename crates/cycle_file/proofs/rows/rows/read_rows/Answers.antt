@@ -1,6 +1,6 @@
 use Rattle.std.proofs.Common.{◌≡◌, ◌<◌, ◌≤◌, ◌+◌, ◌∷◌, ◌++◌, [], length, ap, sym, subst, ◌∙◌, arith, Ok}
 use Rattle.std.specs.Prelude.{min}
-use Rattle.base.specs.Texts.Lines.{lines_of, placed}
+use Rattle.base.specs.Texts.Lines.{lines_of, positioned}
 use Rattle.base.proofs.Lemmas.Texts.Lines.{lines-within}
 use Rattle.vlog_tree.specs.Signals.{channels_of}
 use Rattle.cycle_file.specs.Rows.RowFile.{Reads, SaysRowLine}
@@ -11,7 +11,7 @@ pub lines-init : goal.lines-init
 lines-init c =
     let text = c.args.text.now in
     let channels = channels_of c.args.design.now in
-    let all = placed 0 (lines_of text) in
+    let all = positioned 0 (lines_of text) in
     record {
       so_far = subst (λ rows. AreRead channels all c.new-lines.result (length text) rows 0) (sym c.new-rows.ensures.items)
           (subst (λ lines. AreRead channels all lines (length text) [] 0) (sym c.new-lines.ensures) (none_read channels all (length text) (lines-within 0 (length text) text (omega arith))));
@@ -22,14 +22,14 @@ lines-preserved-in-Nothing c =
     let channels = channels_of c.args.design.now in
     let says = subst (SaysRowLine channels c.in-Some.line.bytes.now) c.in-Nothing.is (c.in_ok-read_line.ensures channels c.in_ok-known.ensures) in
     record {
-      so_far = nothing_more channels (placed 0 (lines_of c.args.text.now)) c.lines.lines c.next.new.self (length c.args.text.now) c.in-Some.line.at c.in-Some.line.bytes.now c.lines.rows.items c.lines.count
+      so_far = nothing_more channels (positioned 0 (lines_of c.args.text.now)) c.lines.lines c.next.new.self (length c.args.text.now) c.in-Some.line.at c.in-Some.line.bytes.now c.lines.rows.items c.lines.count
           c.lines.invariant.so_far c.in-Some.ensures says;
     }
 
 pub lines-preserved : goal.lines-preserved
 lines-preserved c =
     let channels = channels_of c.args.design.now in
-    let all = placed 0 (lines_of c.args.text.now) in
+    let all = positioned 0 (lines_of c.args.text.now) in
     let says = subst (SaysRowLine channels c.in-Some.line.bytes.now) c.in-Repeat.is (c.in_ok-read_line.ensures channels c.in_ok-known.ensures) in
     record {
       so_far = subst (λ rows. AreRead channels all c.next.new.self (length c.args.text.now) rows c.min-count.result) (sym c.in_ok-push-in-Repeat.ensures.items)

@@ -7,8 +7,8 @@ pub invariant_of-result : goal.invariant_of-result
 invariant_of-result c =
     let room : length c.in_ok-before.before.items ≡ length (zero_words c.args.design) =
     ap length c.in_ok-before.ensures.items ∙ ap length c.as_slice.ensures.value ∙ ap length c.in_ok-values.ensures in
-    subst (λ words. IsRunning c.args.design c.in_ok-places.places.items words c.in_ok-before.before.items) (sym c.in_ok-values.ensures)
-    (new_runs c.args.design c.in_ok-places.places.items c.in_ok-before.before.items c.requires c.in_ok-places.ensures room)
+    subst (λ words. IsRunning c.args.design c.in_ok-indices.indices.items words c.in_ok-before.before.items) (sym c.in_ok-values.ensures)
+    (new_runs c.args.design c.in_ok-indices.indices.items c.in_ok-before.before.items c.requires c.in_ok-indices.ensures room)
 
 pub returns-clause-stands : goal.returns-clause-stands
 returns-clause-stands c =

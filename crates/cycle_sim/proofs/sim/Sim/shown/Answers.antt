@@ -12,39 +12,39 @@ use Rattle.cycle_sim.proofs.sim.Sim.shown.Goals as goal
 pub first_port-at-requires : goal.first_port-at-requires
 first_port-at-requires c =
     let known = subst (λ now. c.args.channel < length (channels_of now.design)) (sym c.self.view_is) c.requires in
-    let port = has_port c.self.inside.design c.self.inside.places.items c.self.inside.values.items c.self.inside.before.items c.args.channel c.self.invariant known in
+    let port = has_port c.self.inside.design c.self.inside.indices.items c.self.inside.values.items c.self.inside.before.items c.args.channel c.self.invariant known in
     rw c.deref.ensures.value port.in_words
 
 pub bounds-as_slice-at : goal.bounds-as_slice-at
 bounds-as_slice-at c =
     let known = subst (λ now. c.args.channel < length (channels_of now.design)) (sym c.self.view_is) c.requires in
-    let port = has_port c.self.inside.design c.self.inside.places.items c.self.inside.values.items c.self.inside.before.items c.args.channel c.self.invariant known in
+    let port = has_port c.self.inside.design c.self.inside.indices.items c.self.inside.values.items c.self.inside.before.items c.args.channel c.self.invariant known in
     rw (c.as_slice.ensures, c.first_port-at.ensures) port.in_ports
 
 pub bounds-as_slice-at-2 : goal.bounds-as_slice-at-2
 bounds-as_slice-at-2 c =
     let known = subst (λ now. c.args.channel < length (channels_of now.design)) (sym c.self.view_is) c.requires in
-    let port = has_port c.self.inside.design c.self.inside.places.items c.self.inside.values.items c.self.inside.before.items c.args.channel c.self.invariant known in
+    let port = has_port c.self.inside.design c.self.inside.indices.items c.self.inside.values.items c.self.inside.before.items c.args.channel c.self.invariant known in
     let inside : c.first_port-at.result < length c.as_slice.result.now = rw (c.as_slice.ensures, c.first_port-at.ensures) port.in_ports in
     λ _. inside
 
 pub offset_bounds-as_slice-at : goal.offset_bounds-as_slice-at
 offset_bounds-as_slice-at c =
     let known = subst (λ now. c.args.channel < length (channels_of now.design)) (sym c.self.view_is) c.requires in
-    let port = has_port c.self.inside.design c.self.inside.places.items c.self.inside.values.items c.self.inside.before.items c.args.channel c.self.invariant known in
+    let port = has_port c.self.inside.design c.self.inside.indices.items c.self.inside.values.items c.self.inside.before.items c.args.channel c.self.invariant known in
     let inside : c.first_port-at.result < length c.as_slice.result.now = rw (c.as_slice.ensures, c.first_port-at.ensures) port.in_ports in
     omega (arith, inside, c.as_slice.type_inv)
 
 pub shown_at-requires : goal.shown_at-requires
 shown_at-requires c =
     let known = subst (λ now. c.args.channel < length (channels_of now.design)) (sym c.self.view_is) c.requires in
-    let port = has_port c.self.inside.design c.self.inside.places.items c.self.inside.values.items c.self.inside.before.items c.args.channel c.self.invariant known in
+    let port = has_port c.self.inside.design c.self.inside.indices.items c.self.inside.values.items c.self.inside.before.items c.args.channel c.self.invariant known in
     rw (c.deref-2.ensures.value, c.first_port-at.ensures) port.in_words
 
 pub returns : goal.returns
 returns c =
     let known = subst (λ now. c.args.channel < length (channels_of now.design)) (sym c.self.view_is) c.requires in
-    let port = has_port c.self.inside.design c.self.inside.places.items c.self.inside.values.items c.self.inside.before.items c.args.channel c.self.invariant known in
+    let port = has_port c.self.inside.design c.self.inside.indices.items c.self.inside.values.items c.self.inside.before.items c.args.channel c.self.invariant known in
     let p = c.index-as_slice-at.result in
     let there : slice_get c.self.inside.design.ports (2 + 3 * c.args.channel) ≡ Some p =
     slice_get-get_or c.self.inside.design.ports (2 + 3 * c.args.channel) p port.in_ports

@@ -1,8 +1,8 @@
 use Rattle.std.proofs.Common.{◌≡◌, drop}
-use Rattle.dslx_core.specs.Networks.Configs.{made_lowered}
-use Rattle.dslx_scope_names.specs.Values.Seen.{place_seen}
+use Rattle.dslx_core.specs.Networks.Configs.{lower_made}
+use Rattle.dslx_scope_names.specs.Values.Seen.{scope_seen}
 use Rattle.dslx_scope_patterns.proofs.Lemmas.Numbers.InOrder.{behind}
 use Rattle.dslx_config.proofs.configs.channel.made_there.Given as goal
 
-abbrev pub invariant-makings : goal.invariant-makings
-invariant-makings l = behind l.made.items (made_lowered (place_seen l.sight) (drop l.making-index l.makings)) ≡ made_lowered (place_seen l.sight) l.makings
+abbrev pub invariant-config_statements : goal.invariant-config_statements
+invariant-config_statements l = behind l.made.items (lower_made (scope_seen l.context) (drop l.config_statement-index l.config_statements)) ≡ lower_made (scope_seen l.context) l.config_statements

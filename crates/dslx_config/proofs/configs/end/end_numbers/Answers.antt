@@ -12,15 +12,15 @@ number_at ends i = end_number i.name ends
 
 pub returns-in-None : goal.returns-in-None
 returns-in-None c =
-    next_missing (end_numbers (map held c.args.ends.now)) c.args.names.now c.names.name-index c.name-item.result c.names.numbers.items (omega arith) c.name-item.is
+    next_missing (end_numbers (map held c.args.ends.now)) c.args.names.now c.names.name-index c.name-item.result c.names.parametric_args.items (omega arith) c.name-item.is
     (none_first (number_at (map held c.args.ends.now)) c.name-item.result (sym c.end_number.ensures ∙ c.in-None.is)) ∙ c.names.invariant
 
 pub names-preserved : goal.names-preserved
 names-preserved c =
     ap (λ (ns : List ℕ). behind ns (end_numbers (map held c.args.ends.now) (drop (c.names.name-index + 1) c.args.names.now))) c.in_ok-push-in-Some.ensures.items
-    ∙ next_made (end_numbers (map held c.args.ends.now)) c.args.names.now c.names.name-index c.name-item.result c.names.numbers.items c.in-Some.number (omega arith) c.name-item.is
+    ∙ next_made (end_numbers (map held c.args.ends.now)) c.args.names.now c.names.name-index c.name-item.result c.names.parametric_args.items c.in-Some.number (omega arith) c.name-item.is
     (some_first (number_at (map held c.args.ends.now)) c.name-item.result c.in-Some.number (sym c.end_number.ensures ∙ c.in-Some.is)) ∙ c.names.invariant
 
 pub returns : goal.returns
 returns c =
-    ap Some c.from_vec.ensures ∙ all_made (end_numbers (map held c.args.ends.now)) c.args.names.now c.names.name-index c.names.numbers.items (omega arith) refl ∙ c.names.invariant
+    ap Some c.from_vec.ensures ∙ all_made (end_numbers (map held c.args.ends.now)) c.args.names.now c.names.name-index c.names.parametric_args.items (omega arith) refl ∙ c.names.invariant

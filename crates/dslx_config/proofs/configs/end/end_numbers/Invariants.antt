@@ -5,4 +5,4 @@ use Rattle.dslx_scope_patterns.proofs.Lemmas.Numbers.InOrder.{behind}
 use Rattle.dslx_config.proofs.configs.end.end_numbers.Given as goal
 
 abbrev pub invariant-names : goal.invariant-names
-invariant-names l = behind l.numbers.items (end_numbers (map held l.ends) (drop l.name-index l.names)) ≡ end_numbers (map held l.ends) l.names
+invariant-names l = behind l.parametric_args.items (end_numbers (map held l.ends) (drop l.name-index l.names)) ≡ end_numbers (map held l.ends) l.names

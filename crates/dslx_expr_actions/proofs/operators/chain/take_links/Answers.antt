@@ -6,7 +6,7 @@ pub takes-preserved : goal.takes-preserved
 takes-preserved c =
     let left : c.pop_boxed.new.parts ≡ without_links 1 c.takes.parts =
     c.in_ok-span.ensures.rest
-    ∙ ap (λ signs. record c.takes.parts { operators = signs; places = drop 1 c.takes.parts.places; exprs = drop 1 c.takes.parts.exprs }) c.pop_or-operator.ensures.rest in
+    ∙ ap (λ signs. record c.takes.parts { operators = signs; expr_spans = drop 1 c.takes.parts.expr_spans; exprs = drop 1 c.takes.parts.exprs }) c.pop_or-operator.ensures.rest in
     let one : c.push.new.self.items ≡ c.takes.links.items ++ link_on_top c.takes.parts ∷ [] =
     c.in_ok-push.ensures.items
     ∙ (λ i. c.takes.links.items ++ record { operator = c.pop_or-operator.ensures.top i; operand = record { span = (c.in_ok-span.ensures.top i).0; expr = (c.in_ok-span.ensures.top i).1 } } ∷ []) in

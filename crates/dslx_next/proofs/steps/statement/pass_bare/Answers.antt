@@ -13,7 +13,7 @@ returns-in_ok-push-in-Some c =
     (subst (BodyMakes c.args.known c.args.work (opened_at c.args.known c.args.work (act_of c.args.value.now) c.args.value.now)) c.in-Some.is c.in_ok-opened.ensures)
     (record {
       table = refl;
-      numbers = refl;
+      parametric_args = refl;
       shape = shape.Wild;
       pushed = c.in_ok-push-in-Some.ensures.items ∙ ap (λ (s : Step). c.args.steps.now.items ++ s ∷ []) c.with_shape.ensures;
       bound = λ t. refl;

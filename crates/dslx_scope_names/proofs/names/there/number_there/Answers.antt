@@ -4,16 +4,16 @@ use Rattle.dslx_meaning.specs.Operators.{number_value}
 use Rattle.dslx_const_machine.specs.Layers.{written}
 use Rattle.dslx_machines.specs.Machine.Callees.{CalleesByName}
 use Rattle.dslx_machines.specs.Machine.Steps.{number_at}
-use Rattle.dslx_scope_names.specs.Values.Seen.{place_with}
+use Rattle.dslx_scope_names.specs.Values.Seen.{scope_with}
 use Rattle.dslx_scope_names.proofs.OnNames.Numbers.{number_is}
 use Rattle.dslx_scope_names.proofs.names.there.number_there.Goals as goal
 
 pub returns-in-Some : goal.returns-in-Some
 returns-in-Some c =
     IfOk-weaker c.number_of.result (λ v. v ≡ number_value c.in-Some.ty (written c.args.number.now))
-    (λ v. (callee : CalleesByName) (count : ℕ) → v ≡ number_at (place_with callee count c.args.sight) c.args.number.now)
-    (λ v is. number_is c.args.number.now c.args.sight c.in_ok-ty.field-0 (Some c.in-Some.ty) v c.in_ok-ty.ensures c.in-Some.is is)
+    (λ v. (callee : CalleesByName) (count : ℕ) → v ≡ number_at (scope_with callee count c.args.context) c.args.number.now)
+    (λ v is. number_is c.args.number.now c.args.context c.in_ok-ty.field-0 (Some c.in-Some.ty) v c.in_ok-ty.ensures c.in-Some.is is)
     c.number_of.ensures
 
 pub returns-in-None : goal.returns-in-None
-returns-in-None c = number_is c.args.number.now c.args.sight c.in_ok-ty.field-0 None None c.in_ok-ty.ensures c.in-None.is refl
+returns-in-None c = number_is c.args.number.now c.args.context c.in_ok-ty.field-0 None None c.in_ok-ty.ensures c.in-None.is refl

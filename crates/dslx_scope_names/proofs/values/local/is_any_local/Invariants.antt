@@ -2,7 +2,7 @@ use Rattle.std.proofs.Common.{◌≡◌, List, ℕ, drop, map}
 use denote.Ref.{Bor}
 use Rattle.std.specs.List.{list_any}
 use Rattle.dslx_meaning.specs.Lists.{is_in}
-use Rattle.dslx_core.specs.Lowering.CorePlaces.{slot_names}
+use Rattle.dslx_core.specs.Lowering.CoreScopes.{slot_names}
 use Rattle.dslx_scope_names.proofs.values.local.is_any_local.Given as goal
 
 abbrev pub invariant-names : goal.invariant-names

@@ -1,13 +1,13 @@
-use Rattle.dslx_typing.proofs.OnComplete.OfConstants.{parameter_stands}
-use Rattle.dslx_typing.proofs.OnComplete.OfInstances.{instance_stands}
-use Rattle.dslx_typing.proofs.OnComplete.OfTypes.{own_numbers}
+use Rattle.dslx_typing.proofs.OnComplete.OfConstants.{parametric_has_value}
+use Rattle.dslx_typing.proofs.OnComplete.OfInstances.{instance_has_value}
+use Rattle.dslx_typing.proofs.OnComplete.OfTypes.{own_parametric_args}
 use Rattle.dslx_typing.proofs.complete.functions.functions_are_known.Goals as goal
 
-pub returns-clause-parameter : goal.returns-clause-parameter
-returns-clause-parameter c = parameter_stands
+pub returns-clause-parametric : goal.returns-clause-parametric
+returns-clause-parametric c = parametric_has_value
 
 pub returns-clause-instance : goal.returns-clause-instance
-returns-clause-instance c = instance_stands
+returns-clause-instance c = instance_has_value
 
 pub returns-clause-fits : goal.returns-clause-fits
-returns-clause-fits c = own_numbers
+returns-clause-fits c = own_parametric_args

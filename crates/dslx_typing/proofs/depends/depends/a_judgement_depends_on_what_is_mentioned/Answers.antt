@@ -2,7 +2,7 @@ use Rattle.dslx_typing.proofs.OnDepends.Joined.{block_of_text_alike, expression_
 use Rattle.dslx_typing.proofs.depends.depends.a_judgement_depends_on_what_is_mentioned.Goals as goal
 
 pub returns-clause-expression : goal.returns-clause-expression
-returns-clause-expression c = λ P e. (expression_alike P e).judged
+returns-clause-expression c = λ P e. (expression_alike P e).typing
 
 pub returns-clause-block : goal.returns-clause-block
 returns-clause-block c = block_of_text_alike

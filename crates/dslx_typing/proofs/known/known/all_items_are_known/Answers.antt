@@ -1,4 +1,4 @@
-use Rattle.dslx_typing.proofs.OnKnown.Whole.{all_known, all_typed}
+use Rattle.dslx_typing.proofs.OnGlobals.Whole.{all_known, all_typed}
 use Rattle.dslx_typing.proofs.known.known.all_items_are_known.Goals as goal
 
 pub returns-clause-complete : goal.returns-clause-complete

@@ -7,7 +7,7 @@ use Rattle.ir_passes.proofs.rules.AllRulesRewrite.rewrite.Goals as goal
 
 pub returns-in-Some-clause-rewrites : goal.returns-in-Some-clause-rewrites
 returns-in-Some-clause-rewrites c =
-    choice_rewrites c.args.state.now c.args.nodes.now.items c.args.node c.in-Some.operand c.requires.built c.requires.placed
+    choice_rewrites c.args.state.now c.args.nodes.now.items c.args.node c.in-Some.operand c.requires.built c.requires.fits_at
     (ap (λ ns. choice_of ns c.args.node) (sym c.as_slice.ensures.value) ∙ sym c.in-Some.ensures)
 
 pub returns-in-Some-clause-gives : goal.returns-in-Some-clause-gives
@@ -22,5 +22,5 @@ returns-in-None-clause-gives c = c.simplified.ensures.simplifies (ap (λ ns. cho
 
 pub simplified-requires-clause-undecided : goal.simplified-requires-clause-undecided
 simplified-requires-clause-undecided c =
-    undecided c.args.state.now c.args.nodes.now.items c.args.node c.requires.built c.requires.placed
+    undecided c.args.state.now c.args.nodes.now.items c.args.node c.requires.built c.requires.fits_at
     (ap (λ ns. choice_of ns c.args.node) (sym c.as_slice.ensures.value) ∙ sym c.in-None.ensures)

@@ -1,5 +1,5 @@
 use Rattle.std.proofs.Common.{ap, ◌∙◌}
-use Rattle.base.proofs.Lemmas.Lists.Places.{read_is}
+use Rattle.base.proofs.Lemmas.Lists.Indices.{read_is}
 use Rattle.net_core.specs.declared.progress.Progress.{Progress}
 use Rattle.net_core.specs.Behavior.{chan_at}
 use Rattle.net_core.proofs.Shown.{chan_at-there}

@@ -1,7 +1,7 @@
 use Rattle.std.proofs.Common.{◌≡◌, true, sym, ◌∙◌, ap, subst, Some}
 use Rattle.std.specs.Prelude.{slice_get}
 use Rattle.net_core.specs.Inner.Making.{has_room}
-use Rattle.base.proofs.Lemmas.Lists.Places.{read_is}
+use Rattle.base.proofs.Lemmas.Lists.Indices.{read_is}
 use Rattle.net_core.proofs.config.Config.try_send.Goals as goal
 
 pub send-requires : goal.send-requires

@@ -1,7 +1,7 @@
 use Rattle.std.proofs.Common.{◌≡◌, ◌+◌, drop}
-use Rattle.net_core.specs.Cuts.{place_of}
+use Rattle.net_core.specs.Cuts.{index_of}
 use Rattle.proc_task.specs.Outcome.Places.{head_sends}
 use Rattle.proc_task.proofs.outcome.ends.sender.Given as goal
 
 abbrev pub invariant-loop-place : goal.invariant-loop-place
-invariant-loop-place l = place_of (head_sends l.chan) l.heads ≡ l.place + place_of (head_sends l.chan) (drop l.place l.heads)
+invariant-loop-place l = index_of (head_sends l.chan) l.heads ≡ l.place + index_of (head_sends l.chan) (drop l.place l.heads)

@@ -23,14 +23,14 @@ unreachable-requires g c =
 
 pub loop-p-preserved : goal.loop-p-preserved
 loop-p-preserved g c =
-    let run = g.H.Home.run c.args.home.now in
+    let run = g.H.Runtime.run c.args.runtime.now in
     let f = end_in run (cut_by run c.args.tasks.now) in
     let p = c.loop-p.p in
     let task = c.in-Some.task.now in
-    let at = is g.H.Home.run g.H.Home.lines c.args.home.now c.args.tasks.now c.requires.tasks p task (sym c.in-Some.ensures) in
-    let there = proc_there g.H.Home.run g.H.Home.lines c.args.home.now c.args.tasks.now c.requires.tasks p task (sym c.in-Some.ensures) in
+    let at = is g.H.Runtime.run g.H.Runtime.lines c.args.runtime.now c.args.tasks.now c.requires.tasks p task (sym c.in-Some.ensures) in
+    let there = proc_there g.H.Runtime.run g.H.Runtime.lines c.args.runtime.now c.args.tasks.now c.requires.tasks p task (sym c.in-Some.ensures) in
     let within : p < length run.procs = omega (arith, c.loop-p-test.true, same_count c.args.net.now run c.requires.run) in
-    let made = ends_there g.H.Home.run g.H.Home.lines c.args.home.now c.args.tasks.now c.requires.tasks p task (sym c.in-Some.ensures) c.in_ok-end-in-Some.field-0 c.in_ok-end-in-Some.ensures at.proc there in
+    let made = ends_there g.H.Runtime.run g.H.Runtime.lines c.args.runtime.now c.args.tasks.now c.requires.tasks p task (sym c.in-Some.ensures) c.in_ok-end-in-Some.field-0 c.in_ok-end-in-Some.ensures at.proc there in
     c.in_ok-push-in-Some.ensures.items
     ∙ (ap (λ (x : ProcEnd). c.loop-p.ends.items ++ x ∷ []) made
     ∙ (ap (λ (xs : List ProcEnd). xs ++ f p at.proc ∷ []) c.loop-p.invariant ∙ sym (indexed_more f run.procs p at.proc within (sym (get_or_from_slice_get run.procs p at.proc at.proc there)))))

@@ -6,4 +6,4 @@ use Rattle.proc_task.proofs.outcome.outcomes.ends.Given as goal
 
 abbrev pub invariant-loop-p : goal.invariant-loop-p
 invariant-loop-p g l =
-    l.ends.items ≡ indexed (end_in (g.H.Home.run l.home) (cut_by (g.H.Home.run l.home) l.tasks)) 0 (take l.p (g.H.Home.run l.home).procs)
+    l.ends.items ≡ indexed (end_in (g.H.Runtime.run l.runtime) (cut_by (g.H.Runtime.run l.runtime) l.tasks)) 0 (take l.p (g.H.Runtime.run l.runtime).procs)

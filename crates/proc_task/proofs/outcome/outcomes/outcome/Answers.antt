@@ -15,17 +15,17 @@ use Rattle.proc_task.proofs.outcome.outcomes.outcome.Goals as goal
 
 pub all_fit-requires-clause-streams : goal.all_fit-requires-clause-streams
 all_fit-requires-clause-streams g c =
-    let run = g.H.Home.run c.args.home.now in
+    let run = g.H.Runtime.run c.args.runtime.now in
     ap length (c.as_slice-3.ensures.value ∙ c.in_ok-streams.ensures) ∙ (length-indexed (stream_of run (cut_by run c.args.tasks.now)) 0 c.args.net.now.chans ∙ sym (ap length c.as_slice-2.ensures))
 
 pub all_stay-stopped-requires-clause-streams : goal.all_stay-stopped-requires-clause-streams
 all_stay-stopped-requires-clause-streams g c =
-    let run = g.H.Home.run c.args.home.now in
+    let run = g.H.Runtime.run c.args.runtime.now in
     ap length (c.as_slice-6.ensures.value ∙ c.in_ok-streams.ensures) ∙ (length-indexed (stream_of run (cut_by run c.args.tasks.now)) 0 c.args.net.now.chans ∙ sym (ap length c.as_slice-4.ensures))
 
 pub returns-clause-outcome : goal.returns-clause-outcome
 returns-clause-outcome g c =
-    let run = g.H.Home.run c.args.home.now in
+    let run = g.H.Runtime.run c.args.runtime.now in
     let depths = c.args.depths.now in
     let fit_streams = c.as_slice-3.ensures.value ∙ sym c.from_vec.ensures in
     let stay_streams = c.as_slice-6.ensures.value ∙ sym c.from_vec.ensures in
@@ -34,15 +34,15 @@ returns-clause-outcome g c =
     let stay = subst (λ (x : List Chan × List (List Word) × List Stream × List ProcEnd). AllStay x.0 x.1 depths x.2 c.activations.result x.3)
     (λ i. (c.as_slice-4.ensures i, c.as_slice-5.ensures i, stay_streams i, stay_ends i)) (c.all_stay-stopped.ensures.shown c.if-not-stopped.false) in
     is_over run c.requires.tasks.typed (cut_by run c.args.tasks.now)
-    (within_final _ _ c.args.home.now c.args.tasks.now c.requires.tasks) (opens_there _ _ c.args.home.now c.args.tasks.now c.requires.tasks)
+    (within_final _ _ c.args.runtime.now c.args.tasks.now c.requires.tasks) (opens_there _ _ c.args.runtime.now c.args.tasks.now c.requires.tasks)
     c.args.net.now.chans c.args.inputs.now.words depths c.activations.result c.from_vec.result c.from_vec-2.result
     c.requires.run.chans c.requires.inputs.0 c.requires.depths.0 c.activations.ensures
     (c.from_vec.ensures ∙ c.in_ok-streams.ensures) (c.from_vec-2.ensures ∙ c.in_ok-ends.ensures) fit stay
 
 pub returns-then-not-all_fit-clause-over : goal.returns-then-not-all_fit-clause-over
 returns-then-not-all_fit-clause-over g c ended =
-    let run = g.H.Home.run c.args.home.now in
-    let fit = fits_where_ended run c.requires.tasks.typed (cut_by run c.args.tasks.now) ended (opens_there _ _ c.args.home.now c.args.tasks.now c.requires.tasks)
+    let run = g.H.Runtime.run c.args.runtime.now in
+    let fit = fits_where_ended run c.requires.tasks.typed (cut_by run c.args.tasks.now) ended (opens_there _ _ c.args.runtime.now c.args.tasks.now c.requires.tasks)
     c.as_slice-2.result.now c.args.depths.now c.as_slice-3.result.now
     (c.requires.run.chans ∙ sym c.as_slice-2.ensures) c.requires.depths.0
     (c.as_slice-3.ensures.value ∙ (c.in_ok-streams.ensures ∙ ap (λ (xs : List Chan). indexed (stream_of run (cut_by run c.args.tasks.now)) 0 xs) (sym c.as_slice-2.ensures))) in
@@ -50,8 +50,8 @@ returns-then-not-all_fit-clause-over g c ended =
 
 pub returns-then-not-stopped-clause-over : goal.returns-then-not-stopped-clause-over
 returns-then-not-stopped-clause-over g c ended =
-    let run = g.H.Home.run c.args.home.now in
-    let stay = stays_where_ended run c.requires.tasks.typed (cut_by run c.args.tasks.now) ended (opens_there _ _ c.args.home.now c.args.tasks.now c.requires.tasks)
+    let run = g.H.Runtime.run c.args.runtime.now in
+    let stay = stays_where_ended run c.requires.tasks.typed (cut_by run c.args.tasks.now) ended (opens_there _ _ c.args.runtime.now c.args.tasks.now c.requires.tasks)
     c.as_slice-4.result.now c.args.depths.now c.as_slice-6.result.now
     (c.requires.run.chans ∙ sym c.as_slice-4.ensures) c.requires.depths.0
     (c.as_slice-6.ensures.value ∙ (c.in_ok-streams.ensures ∙ ap (λ (xs : List Chan). indexed (stream_of run (cut_by run c.args.tasks.now)) 0 xs) (sym c.as_slice-4.ensures)))

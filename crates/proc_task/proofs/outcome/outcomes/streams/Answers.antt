@@ -10,7 +10,7 @@ use Rattle.proc_task.proofs.outcome.outcomes.streams.Goals as goal
 
 pub loop-c-preserved : goal.loop-c-preserved
 loop-c-preserved g c =
-    let run = g.H.Home.run c.args.home.now in
+    let run = g.H.Runtime.run c.args.runtime.now in
     let f = stream_of run (cut_by run c.args.tasks.now) in
     let chans = c.args.net.now.chans in
     let chan = c.chan-item.result in

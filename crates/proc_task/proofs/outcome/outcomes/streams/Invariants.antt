@@ -6,4 +6,4 @@ use Rattle.proc_task.proofs.outcome.outcomes.streams.Given as goal
 
 abbrev pub invariant-loop-c : goal.invariant-loop-c
 invariant-loop-c g l =
-    l.streams.items ≡ indexed (stream_of (g.H.Home.run l.home) (cut_by (g.H.Home.run l.home) l.tasks)) 0 (take l.c l.net.chans)
+    l.streams.items ≡ indexed (stream_of (g.H.Runtime.run l.runtime) (cut_by (g.H.Runtime.run l.runtime) l.tasks)) 0 (take l.c l.net.chans)

@@ -4,4 +4,4 @@ use Rattle.proc_task.proofs.task.Task.advance.Given as goal
 
 abbrev pub invariant-loop-made : goal.invariant-loop-made
 invariant-loop-made g l =
-    IsTask (g.H.Home.run l.self.home) (g.H.Home.lines l.self.home) l.self × IsSameTask l.fn.self l.self × (l.self.count ≡ l.fn.self.count + l.made)
+    IsTask (g.H.Runtime.run l.self.runtime) (g.H.Runtime.lines l.self.runtime) l.self × IsSameTask l.fn.self l.self × (l.self.count ≡ l.fn.self.count + l.made)

@@ -1,5 +1,5 @@
 use Rattle.std.proofs.Common.{refl, ap, subst}
-use Rattle.base.proofs.Lemmas.Lists.Places.{slice_get-set, slice_get-set_other}
+use Rattle.base.proofs.Lemmas.Lists.Indices.{slice_get-set, slice_get-set_other}
 use Rattle.proc_task.specs.Ports.{AreEnds}
 use Rattle.proc_task.proofs.Ports.{found}
 use Rattle.proc_task.proofs.Steps.{set_outlet, set_inlet, same_item}
@@ -57,8 +57,8 @@ returns-clause-same g c =
     let ends = c.requires.ends in
     let was = found t.outlets.items c.args.outlet c.index_mut.result.now ends.outlet ends.outlet_is c.index_mut.ensures.value in
     let had = found u.inlets.items c.args.inlet c.index_mut-2.result.now ends.inlet ends.inlet_is c.index_mut-2.ensures.value in (
-      record { home = refl; number = refl; count = refl; stands = refl; outlets = λ j h. slice_get-set_other t.outlets.items c.args.outlet j c.meet.new.outlet h; inlets = refl },
-      record { home = refl; number = refl; count = refl; stands = refl; outlets = refl; inlets = λ j h. slice_get-set_other u.inlets.items c.args.inlet j c.meet.new.inlet h },
+      record { runtime = refl; number = refl; count = refl; stands = refl; outlets = λ j h. slice_get-set_other t.outlets.items c.args.outlet j c.meet.new.outlet h; inlets = refl },
+      record { runtime = refl; number = refl; count = refl; stands = refl; outlets = refl; inlets = λ j h. slice_get-set_other u.inlets.items c.args.inlet j c.meet.new.inlet h },
     )
 
 pub returns-clause-met : goal.returns-clause-met

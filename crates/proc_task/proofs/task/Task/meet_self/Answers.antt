@@ -1,5 +1,5 @@
 use Rattle.std.proofs.Common.{refl, ap, subst}
-use Rattle.base.proofs.Lemmas.Lists.Places.{slice_get-set, slice_get-set_other}
+use Rattle.base.proofs.Lemmas.Lists.Indices.{slice_get-set, slice_get-set_other}
 use Rattle.std.specs.Vec.{with_item}
 use Rattle.proc_task.specs.Ports.{AreEnds}
 use Rattle.proc_task.proofs.Ports.{found}
@@ -51,7 +51,7 @@ returns-clause-same g c =
     let ends = c.requires.ends in
     let was = found t.outlets.items c.args.outlet c.index_mut.result.now ends.outlet ends.outlet_is c.index_mut.ensures.value in
     let had = found u.inlets.items c.args.inlet c.index_mut-2.result.now ends.inlet ends.inlet_is c.index_mut-2.ensures.value in
-    record { home = refl; number = refl; count = refl; stands = refl; outlets = λ j h. slice_get-set_other t.outlets.items c.args.outlet j c.meet.new.outlet h; inlets = λ j h. slice_get-set_other t.inlets.items c.args.inlet j c.meet.new.inlet h }
+    record { runtime = refl; number = refl; count = refl; stands = refl; outlets = λ j h. slice_get-set_other t.outlets.items c.args.outlet j c.meet.new.outlet h; inlets = λ j h. slice_get-set_other t.inlets.items c.args.inlet j c.meet.new.inlet h }
 
 pub returns-clause-met : goal.returns-clause-met
 returns-clause-met g c =

@@ -14,20 +14,20 @@ pub index-requires : goal.index-requires
 index-requires g c =
     let t = c.args.self.now in
     let fit = inlet_there _ _ t c.requires.task c.args.site c.requires.next in
-    omega (arith, slice_get_within t.places.items c.args.site fit.2.place fit.2.place_is, t.places.ok.0)
+    omega (arith, slice_get_within t.indices.items c.args.site fit.2.place fit.2.place_is, t.indices.ok.0)
 
 pub index_mut-requires : goal.index_mut-requires
 index_mut-requires g c =
     let t = c.args.self.now in
     let fit = inlet_there _ _ t c.requires.task c.args.site c.requires.next in
-    let at = place_read t.places.items c.args.site c.index.result.now fit.2.place fit.2.place_is c.index.ensures in
+    let at = place_read t.indices.items c.args.site c.index.result.now fit.2.place fit.2.place_is c.index.ensures in
     omega (arith, at, slice_get_within t.inlets.items fit.2.place fit.2.inlet fit.2.inlet_is, t.inlets.ok.0)
 
 pub take-requires-clause-inlet : goal.take-requires-clause-inlet
 take-requires-clause-inlet g c =
     let t = c.args.self.now in
     let fit = inlet_there _ _ t c.requires.task c.args.site c.requires.next in
-    let at = place_read t.places.items c.args.site c.index.result.now fit.2.place fit.2.place_is c.index.ensures in
+    let at = place_read t.indices.items c.args.site c.index.result.now fit.2.place fit.2.place_is c.index.ensures in
     let was = there_found t.inlets.items fit.2.place c.index.result.now c.index_mut.result.now fit.2.inlet fit.2.inlet_is at c.index_mut.ensures.value in
     c.requires.task.ports.inlet c.index.result.now c.index_mut.result.now was
 
@@ -35,7 +35,7 @@ pub take-requires-clause-word : goal.take-requires-clause-word
 take-requires-clause-word g c =
     let t = c.args.self.now in
     let fit = inlet_there _ _ t c.requires.task c.args.site c.requires.next in
-    let at = place_read t.places.items c.args.site c.index.result.now fit.2.place fit.2.place_is c.index.ensures in
+    let at = place_read t.indices.items c.args.site c.index.result.now fit.2.place fit.2.place_is c.index.ensures in
     let was = there_found t.inlets.items fit.2.place c.index.result.now c.index_mut.result.now fit.2.inlet fit.2.inlet_is at c.index_mut.ensures.value in
     may_take _ _ t c.requires.task c.args.site c.requires.next c.index.result.now c.index_mut.result.now at was
 
@@ -49,7 +49,7 @@ pub returns-in-Some-clause-task : goal.returns-in-Some-clause-task
 returns-in-Some-clause-task g c =
     let t = c.args.self.now in
     let fit = inlet_there _ _ t c.requires.task c.args.site c.requires.next in
-    let at = place_read t.places.items c.args.site c.index.result.now fit.2.place fit.2.place_is c.index.ensures in
+    let at = place_read t.indices.items c.args.site c.index.result.now fit.2.place fit.2.place_is c.index.ensures in
     let was = there_found t.inlets.items fit.2.place c.index.result.now c.index_mut.result.now fit.2.inlet fit.2.inlet_is at c.index_mut.ensures.value in
     after_receive _ _ t c.requires.task c.args.site c.requires.next c.index.result.now c.index_mut.result.now c.take.new.self c.in-Some.word _ at was
     c.take.ensures.inlet (ap (λ x. x.0) c.take.ensures.told) c.in-Some.ensures.taken.0 c.in-Some.ensures.taken.1
@@ -59,15 +59,15 @@ pub returns-in-Some-clause-same : goal.returns-in-Some-clause-same
 returns-in-Some-clause-same g c =
     let t = c.args.self.now in
     let fit = inlet_there _ _ t c.requires.task c.args.site c.requires.next in
-    let at = place_read t.places.items c.args.site c.index.result.now fit.2.place fit.2.place_is c.index.ensures in
+    let at = place_read t.indices.items c.args.site c.index.result.now fit.2.place fit.2.place_is c.index.ensures in
     let was = there_found t.inlets.items fit.2.place c.index.result.now c.index_mut.result.now fit.2.inlet fit.2.inlet_is at c.index_mut.ensures.value in
-    record { home = refl; number = refl; outlets = λ k. refl; inlets = told_set told_in t.inlets.items c.index.result.now c.index_mut.result.now c.take.new.self was c.take.ensures.told }
+    record { runtime = refl; number = refl; outlets = λ k. refl; inlets = told_set told_in t.inlets.items c.index.result.now c.index_mut.result.now c.take.new.self was c.take.ensures.told }
 
 pub returns-in-None-clause-task : goal.returns-in-None-clause-task
 returns-in-None-clause-task g c =
     let t = c.args.self.now in
     let fit = inlet_there _ _ t c.requires.task c.args.site c.requires.next in
-    let at = place_read t.places.items c.args.site c.index.result.now fit.2.place fit.2.place_is c.index.ensures in
+    let at = place_read t.indices.items c.args.site c.index.result.now fit.2.place fit.2.place_is c.index.ensures in
     let was = there_found t.inlets.items fit.2.place c.index.result.now c.index_mut.result.now fit.2.inlet fit.2.inlet_is at c.index_mut.ensures.value in
     set_inlet _ _ t c.requires.task c.index.result.now c.index_mut.result.now c.take.new.self _ was
     c.take.ensures.inlet (ap (λ x. x.0) c.take.ensures.told) c.in-None.ensures.taken.0
@@ -77,15 +77,15 @@ pub returns-in-None-clause-same : goal.returns-in-None-clause-same
 returns-in-None-clause-same g c =
     let t = c.args.self.now in
     let fit = inlet_there _ _ t c.requires.task c.args.site c.requires.next in
-    let at = place_read t.places.items c.args.site c.index.result.now fit.2.place fit.2.place_is c.index.ensures in
+    let at = place_read t.indices.items c.args.site c.index.result.now fit.2.place fit.2.place_is c.index.ensures in
     let was = there_found t.inlets.items fit.2.place c.index.result.now c.index_mut.result.now fit.2.inlet fit.2.inlet_is at c.index_mut.ensures.value in
-    record { home = refl; number = refl; outlets = λ k. refl; inlets = told_set told_in t.inlets.items c.index.result.now c.index_mut.result.now c.take.new.self was c.take.ensures.told }
+    record { runtime = refl; number = refl; outlets = λ k. refl; inlets = told_set told_in t.inlets.items c.index.result.now c.index_mut.result.now c.take.new.self was c.take.ensures.told }
 
 pub returns-in-None-clause-made : goal.returns-in-None-clause-made
 returns-in-None-clause-made g c =
     let t = c.args.self.now in
     let fit = inlet_there _ _ t c.requires.task c.args.site c.requires.next in
-    let at = place_read t.places.items c.args.site c.index.result.now fit.2.place fit.2.place_is c.index.ensures in
+    let at = place_read t.indices.items c.args.site c.index.result.now fit.2.place fit.2.place_is c.index.ensures in
     let was = there_found t.inlets.items fit.2.place c.index.result.now c.index_mut.result.now fit.2.inlet fit.2.inlet_is at c.index_mut.ensures.value in (
       refl,
       held_receive _ _ t c.requires.task c.args.site c.requires.next c.index.result.now c.index_mut.result.now c.take.new.self _ at was

@@ -5,38 +5,38 @@ use Rattle.topo_order.proofs.groups.Groups.leave.Goals as goal
 
 pub close-requires-clause-marks : goal.close-requires-clause-marks
 close-requires-clause-marks c =
-    stack_in_marks c.args.needs.now c.args.self.now.marks.items c.args.self.now.taken.items c.args.self.now.places.items c.args.self.now.path.items c.args.self.now.stack.items c.args.self.now.starts.items c.args.self.now.loops.items c.requires.walk
+    stack_in_marks c.args.needs.now c.args.self.now.marks.items c.args.self.now.taken.items c.args.self.now.positions.items c.args.self.now.path.items c.args.self.now.stack.items c.args.self.now.starts.items c.args.self.now.loops.items c.requires.walk
 
 pub close-requires-clause-loops : goal.close-requires-clause-loops
 close-requires-clause-loops c =
-    stack_in_loops c.args.needs.now c.args.self.now.marks.items c.args.self.now.taken.items c.args.self.now.places.items c.args.self.now.path.items c.args.self.now.stack.items c.args.self.now.starts.items c.args.self.now.loops.items c.requires.walk
+    stack_in_loops c.args.needs.now c.args.self.now.marks.items c.args.self.now.taken.items c.args.self.now.positions.items c.args.self.now.path.items c.args.self.now.stack.items c.args.self.now.starts.items c.args.self.now.loops.items c.requires.walk
 
 pub returns-then-ends_at-clause-walk : goal.returns-then-ends_at-clause-walk
 returns-then-ends_at-clause-walk c =
     let told = c.close.ensures in
-    let top = is_top c.args.needs.now c.args.self.now.marks.items c.args.self.now.taken.items c.args.self.now.places.items c.args.self.now.path.items c.args.self.now.stack.items c.args.self.now.starts.items c.args.self.now.loops.items c.pop_top.new.path.items c.args.top c.requires.walk c.pop_top.ensures in
-    (closed_to c.args.needs.now c.args.self.now.marks.items c.args.self.now.taken.items c.args.self.now.places.items c.args.self.now.path.items c.args.self.now.stack.items c.args.self.now.starts.items c.args.self.now.loops.items
+    let top = is_top c.args.needs.now c.args.self.now.marks.items c.args.self.now.taken.items c.args.self.now.positions.items c.args.self.now.path.items c.args.self.now.stack.items c.args.self.now.starts.items c.args.self.now.loops.items c.pop_top.new.path.items c.args.top c.requires.walk c.pop_top.ensures in
+    (closed_to c.args.needs.now c.args.self.now.marks.items c.args.self.now.taken.items c.args.self.now.positions.items c.args.self.now.path.items c.args.self.now.stack.items c.args.self.now.starts.items c.args.self.now.loops.items
     c.pop_top.new.path.items c.ends_at.new.starts.items c.args.top c.index-at.result.now
-    c.close.new.self.marks.items c.close.new.self.taken.items c.close.new.self.places.items c.close.new.self.path.items c.close.new.self.stack.items c.close.new.self.starts.items c.close.new.self.loops.items
+    c.close.new.self.marks.items c.close.new.self.taken.items c.close.new.self.positions.items c.close.new.self.path.items c.close.new.self.stack.items c.close.new.self.starts.items c.close.new.self.loops.items
     c.requires.walk c.pop_top.ensures c.requires.all c.if-ends_at.ensures
-    (place_read c.args.self.now.places.items c.args.top c.index-at.result.now c.index-at.result.now top.in_places c.index-at.ensures)
-    told.marks told.taken told.places told.path told.stack told.starts told.loops).grouping
+    (place_read c.args.self.now.positions.items c.args.top c.index-at.result.now c.index-at.result.now top.in_places c.index-at.ensures)
+    told.marks told.taken told.positions told.path told.stack told.starts told.loops).grouping
 
 pub returns-then-ends_at-clause-marks : goal.returns-then-ends_at-clause-marks
 returns-then-ends_at-clause-marks c =
     let told = c.close.ensures in
-    let top = is_top c.args.needs.now c.args.self.now.marks.items c.args.self.now.taken.items c.args.self.now.places.items c.args.self.now.path.items c.args.self.now.stack.items c.args.self.now.starts.items c.args.self.now.loops.items c.pop_top.new.path.items c.args.top c.requires.walk c.pop_top.ensures in
-    (closed_to c.args.needs.now c.args.self.now.marks.items c.args.self.now.taken.items c.args.self.now.places.items c.args.self.now.path.items c.args.self.now.stack.items c.args.self.now.starts.items c.args.self.now.loops.items
+    let top = is_top c.args.needs.now c.args.self.now.marks.items c.args.self.now.taken.items c.args.self.now.positions.items c.args.self.now.path.items c.args.self.now.stack.items c.args.self.now.starts.items c.args.self.now.loops.items c.pop_top.new.path.items c.args.top c.requires.walk c.pop_top.ensures in
+    (closed_to c.args.needs.now c.args.self.now.marks.items c.args.self.now.taken.items c.args.self.now.positions.items c.args.self.now.path.items c.args.self.now.stack.items c.args.self.now.starts.items c.args.self.now.loops.items
     c.pop_top.new.path.items c.ends_at.new.starts.items c.args.top c.index-at.result.now
-    c.close.new.self.marks.items c.close.new.self.taken.items c.close.new.self.places.items c.close.new.self.path.items c.close.new.self.stack.items c.close.new.self.starts.items c.close.new.self.loops.items
+    c.close.new.self.marks.items c.close.new.self.taken.items c.close.new.self.positions.items c.close.new.self.path.items c.close.new.self.stack.items c.close.new.self.starts.items c.close.new.self.loops.items
     c.requires.walk c.pop_top.ensures c.requires.all c.if-ends_at.ensures
-    (place_read c.args.self.now.places.items c.args.top c.index-at.result.now c.index-at.result.now top.in_places c.index-at.ensures)
-    told.marks told.taken told.places told.path told.stack told.starts told.loops).on
+    (place_read c.args.self.now.positions.items c.args.top c.index-at.result.now c.index-at.result.now top.in_places c.index-at.ensures)
+    told.marks told.taken told.positions told.path told.stack told.starts told.loops).on
 
 pub returns-else-ends_at-clause-walk : goal.returns-else-ends_at-clause-walk
 returns-else-ends_at-clause-walk c =
-    let top = is_top c.args.needs.now c.args.self.now.marks.items c.args.self.now.taken.items c.args.self.now.places.items c.args.self.now.path.items c.args.self.now.stack.items c.args.self.now.starts.items c.args.self.now.loops.items c.pop_top.new.path.items c.args.top c.requires.walk c.pop_top.ensures in
-    let place = place_read c.args.self.now.places.items c.args.top c.index-at.result.now c.index-at.result.now top.in_places c.index-at.ensures in
-    subst (λ s. IsGrouping c.args.needs.now c.args.self.now.marks.items c.args.self.now.taken.items c.args.self.now.places.items c.pop_top.new.path.items c.args.self.now.stack.items s c.args.self.now.loops.items) (sym c.if-ends_at.ensures.1)
-    (left_plain c.args.needs.now c.args.self.now.marks.items c.args.self.now.taken.items c.args.self.now.places.items c.args.self.now.path.items c.args.self.now.stack.items c.args.self.now.starts.items c.args.self.now.loops.items
+    let top = is_top c.args.needs.now c.args.self.now.marks.items c.args.self.now.taken.items c.args.self.now.positions.items c.args.self.now.path.items c.args.self.now.stack.items c.args.self.now.starts.items c.args.self.now.loops.items c.pop_top.new.path.items c.args.top c.requires.walk c.pop_top.ensures in
+    let place = place_read c.args.self.now.positions.items c.args.top c.index-at.result.now c.index-at.result.now top.in_places c.index-at.ensures in
+    subst (λ s. IsGrouping c.args.needs.now c.args.self.now.marks.items c.args.self.now.taken.items c.args.self.now.positions.items c.pop_top.new.path.items c.args.self.now.stack.items s c.args.self.now.loops.items) (sym c.if-ends_at.ensures.1)
+    (left_plain c.args.needs.now c.args.self.now.marks.items c.args.self.now.taken.items c.args.self.now.positions.items c.args.self.now.path.items c.args.self.now.stack.items c.args.self.now.starts.items c.args.self.now.loops.items
     c.pop_top.new.path.items c.args.top c.requires.walk c.pop_top.ensures c.requires.all (subst (IsNoLast c.args.self.now.starts.items) place c.if-ends_at.ensures.0))

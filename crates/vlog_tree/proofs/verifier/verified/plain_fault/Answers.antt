@@ -14,7 +14,7 @@ pub returns : goal.returns
 unfolding module_checks
 returns c =
     let m = c.args.design.now in
-    let pl = c.args.places.now in
+    let pl = c.args.part_spans.now in
     all_noted (signals_checks m pl) (ports_checks m pl) (assignments_checks m pl) (resets_checks m pl) (clocks_checks m pl) (literals_checks m pl) (end_check m pl)
     None c.in_ok-held.held c.note_ports-held.result c.in_ok-held-2.held c.in_ok-held-3.held c.in_ok-held-4.held
     c.in_ok-held.ensures c.note_ports-held.ensures c.in_ok-held-2.ensures c.in_ok-held-3.ensures c.in_ok-held-4.ensures

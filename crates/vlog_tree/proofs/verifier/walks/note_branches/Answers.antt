@@ -1,5 +1,5 @@
 use Rattle.std.proofs.Common.{◌≡◌, ◌++◌, ℕ, [], length, get_or, sym, ap, ◌∙◌, subst, true, false}
-use Rattle.vlog_tree.specs.Verifier.Placed.{nowhere}
+use Rattle.vlog_tree.specs.Verifier.WithSpans.{nowhere}
 use Rattle.vlog_tree.specs.Verifier.Checks.{noted, walk}
 use Rattle.vlog_tree.specs.Verifier.Parts.{count_of, set_checks, see_set}
 use Rattle.vlog_tree.specs.Verifier.Verified.{set_targets, resets_checks, clocks_checks}
@@ -10,7 +10,7 @@ use Rattle.vlog_tree.proofs.verifier.walks.note_branches.Goals as goal
 pub returns : goal.returns
 returns c =
     let m = c.args.design.now in
-    let pl = c.args.places.now in
+    let pl = c.args.part_spans.now in
     let resets : ShowsMarks (count_of m) c.in_ok-at_reset.at_reset (set_targets m.at_reset) =
     subst (λ n. ShowsMarks n c.in_ok-at_reset.at_reset (set_targets m.at_reset)) c.signal_count-count.ensures
     (subst (λ xs. ShowsMarks c.signal_count-count.result c.in_ok-at_reset.at_reset (set_targets xs)) c.as_slice-resets.ensures c.in_ok-at_reset.ensures) in

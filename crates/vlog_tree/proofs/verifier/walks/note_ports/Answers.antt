@@ -1,6 +1,6 @@
 use Rattle.std.proofs.Common.{◌≡◌, ◌-◌, ◌∷◌, [], length, get_or, sym, ap, ◌∙◌, arith}
 use Rattle.std.specs.Prelude.{not}
-use Rattle.vlog_tree.specs.Verifier.Placed.{nowhere}
+use Rattle.vlog_tree.specs.Verifier.WithSpans.{nowhere}
 use Rattle.vlog_tree.specs.Verifier.Checks.{noted, walk, seen_after, rule_at}
 use Rattle.vlog_tree.specs.Verifier.Ports.{Clock, due_behind, may_end}
 use Rattle.vlog_tree.specs.Verifier.Parts.{port_checks}
@@ -12,7 +12,7 @@ use Rattle.vlog_tree.proofs.verifier.walks.note_ports.Goals as goal
 pub returns : goal.returns
 returns c =
     let m = c.args.design.now in
-    let pl = c.args.places.now in
+    let pl = c.args.part_spans.now in
     let xs = c.as_slice-ports.result.now in
     let ss = c.as_slice-spans.result.now in
     let walked : c.ports.held ≡ noted c.args.held (ports_checks m pl) =

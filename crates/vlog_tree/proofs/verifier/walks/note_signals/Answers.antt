@@ -4,8 +4,8 @@ use Rattle.std.specs.Str.{bytes_eq}
 use Rattle.std.proofs.lemmas.Option.{slice_get-get_or}
 use Rattle.base.specs.NameTable.Found.{found}
 use Rattle.vlog_tree.specs.Signals.{Declared, signals}
-use Rattle.vlog_tree.specs.declared.signal.Role.TheVariants.{Held}
-use Rattle.vlog_tree.specs.Verifier.Placed.{signal_span}
+use Rattle.vlog_tree.specs.declared.signal.Role.TheVariants.{RegisterSignal}
+use Rattle.vlog_tree.specs.Verifier.WithSpans.{signal_span}
 use Rattle.vlog_tree.specs.Verifier.Checks.{noted, walk}
 use Rattle.vlog_tree.specs.Verifier.Parts.{count_of, is_among, signal_checks, see_name}
 use Rattle.vlog_tree.specs.Verifier.Verified.{targets, signals_checks}
@@ -24,11 +24,11 @@ put false v o false e = e
 pub signals-preserved : goal.signals-preserved
 signals-preserved c =
     let m = c.args.design.now in
-    let pl = c.args.places.now in
+    let pl = c.args.part_spans.now in
     let xs = signals m in
     let i = c.signals.s in
     let inv = c.signals.invariant in
-    let none : Declared = record { name = []; role = Held; width = 0 } in
+    let none : Declared = record { name = []; role = RegisterSignal; width = 0 } in
     let d = get_or xs i none in
     let inside : i < length xs = omega (arith, c.signal_count-s-end.ensures) in
     let at : slice_get xs i ≡ Some d = slice_get-get_or xs i none inside in

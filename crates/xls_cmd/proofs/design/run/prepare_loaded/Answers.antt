@@ -12,9 +12,9 @@ use Rattle.xls_cmd.proofs.design.run.prepare_loaded.Goals as goal
 
 pub returns-in_err-design-clause-refused : goal.returns-in_err-design-clause-refused
 returns-in_err-design-clause-refused c =
-    err_handed c.from_residual.result c.in_err-design.field-0.0 (StopsBy (run_texts (named_run c.args.said.now) c.args.bytes.now c.args.file.now)) c.from_residual.ensures.1
-    (stops_in_first (ReadsDesign c.args.said.now.design.now c.args.bytes.now)
-    (λ m. Then (ReadsInputs c.args.said.now.inputs.now c.args.file.now (network_of m top)) (λ words. Gives (Ok (run_text (network_of m top) (behaviors_of m top) words c.args.said.now.how.activations (depths_by c.args.said.now.how.depth (network_of m top))))))
+    err_handed c.from_residual.result c.in_err-design.field-0.0 (StopsBy (run_texts (named_run c.args.arguments.now) c.args.bytes.now c.args.file.now)) c.from_residual.ensures.1
+    (stops_in_first (ReadsDesign c.args.arguments.now.design.now c.args.bytes.now)
+    (λ m. Then (ReadsInputs c.args.arguments.now.inputs.now c.args.file.now (network_of m top)) (λ words. Gives (Ok (run_text (network_of m top) (behaviors_of m top) words c.args.arguments.now.how.activations (depths_by c.args.arguments.now.how.depth (network_of m top))))))
     c.in_err-design.field-0.0 c.in_err-design.ensures.refused)
 
 pub inputs_of-requires-clause-net : goal.inputs_of-requires-clause-net
@@ -24,22 +24,22 @@ pub returns-in_err-inputs-clause-refused : goal.returns-in_err-inputs-clause-ref
 returns-in_err-inputs-clause-refused c =
     let is = c.in_ok-design.ensures.reads in
     let net = network_of is.tree top in
-    err_handed c.from_residual-in_err-inputs.result c.in_err-inputs.field-0.0 (StopsBy (run_texts (named_run c.args.said.now) c.args.bytes.now c.args.file.now)) c.from_residual-in_err-inputs.ensures.1
-    (stops_in_next (ReadsDesign c.args.said.now.design.now c.args.bytes.now)
-    (λ m. Then (ReadsInputs c.args.said.now.inputs.now c.args.file.now (network_of m top)) (λ words. Gives (Ok (run_text (network_of m top) (behaviors_of m top) words c.args.said.now.how.activations (depths_by c.args.said.now.how.depth (network_of m top))))))
+    err_handed c.from_residual-in_err-inputs.result c.in_err-inputs.field-0.0 (StopsBy (run_texts (named_run c.args.arguments.now) c.args.bytes.now c.args.file.now)) c.from_residual-in_err-inputs.ensures.1
+    (stops_in_next (ReadsDesign c.args.arguments.now.design.now c.args.bytes.now)
+    (λ m. Then (ReadsInputs c.args.arguments.now.inputs.now c.args.file.now (network_of m top)) (λ words. Gives (Ok (run_text (network_of m top) (behaviors_of m top) words c.args.arguments.now.how.activations (depths_by c.args.arguments.now.how.depth (network_of m top))))))
     is.tree c.in_err-inputs.field-0.0 is.reads
-    (stops_in_first (ReadsInputs c.args.said.now.inputs.now c.args.file.now net) (λ words. Gives (Ok (run_text net (behaviors_of is.tree top) words c.args.said.now.how.activations (depths_by c.args.said.now.how.depth net))))
-    c.in_err-inputs.field-0.0 (subst (λ n. StopsBy (ReadsInputs c.args.said.now.inputs.now c.args.file.now n) c.in_err-inputs.field-0.0) is.is.network c.in_err-inputs.ensures.refused)))
+    (stops_in_first (ReadsInputs c.args.arguments.now.inputs.now c.args.file.now net) (λ words. Gives (Ok (run_text net (behaviors_of is.tree top) words c.args.arguments.now.how.activations (depths_by c.args.arguments.now.how.depth net))))
+    c.in_err-inputs.field-0.0 (subst (λ n. StopsBy (ReadsInputs c.args.arguments.now.inputs.now c.args.file.now n) c.in_err-inputs.field-0.0) is.is.network c.in_err-inputs.ensures.refused)))
 
 pub returns-clause-gives : goal.returns-clause-gives
 returns-clause-gives c =
     let is = c.in_ok-design.ensures.reads in
     let net = network_of is.tree top in
     let design = c.in_ok-design.design in
-    let how = c.args.said.now.how in
+    let how = c.args.arguments.now.how in
     let text = run_text design.net (behavior_of_core design.core ∷ []) c.in_ok-inputs.inputs how.activations (depths_by how.depth design.net) in
     goes_on is.tree (Ok text) is.reads
-    (goes_on c.in_ok-inputs.inputs (Ok text) (subst (λ n. ReadsInputs c.args.said.now.inputs.now c.args.file.now n (Ok c.in_ok-inputs.inputs)) is.is.network c.in_ok-inputs.ensures.says)
+    (goes_on c.in_ok-inputs.inputs (Ok text) (subst (λ n. ReadsInputs c.args.arguments.now.inputs.now c.args.file.now n (Ok c.in_ok-inputs.inputs)) is.is.network c.in_ok-inputs.ensures.says)
     (ap Ok (same_text design.net net (behavior_of_core design.core ∷ []) (behaviors_of is.tree top) c.in_ok-inputs.inputs how is.is.network is.is.behaviors)))
 
 pub returns-clause-fits : goal.returns-clause-fits

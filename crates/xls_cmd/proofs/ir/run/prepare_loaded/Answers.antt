@@ -14,9 +14,9 @@ use Rattle.xls_cmd.proofs.ir.run.prepare_loaded.Goals as goal
 
 pub returns-in_err-ir-clause-refused : goal.returns-in_err-ir-clause-refused
 returns-in_err-ir-clause-refused c =
-    err_handed c.from_residual.result c.in_err-ir.field-0.0 (StopsBy (run_texts (named_run c.args.said.now) c.args.bytes.now c.args.file.now)) c.from_residual.ensures.1
-    (stops_in_first (ReadsPackage c.args.said.now.design.now c.args.bytes.now)
-    (λ ir. Then (ReadsInputs c.args.said.now.inputs.now c.args.file.now (network_of ir)) (λ words. Gives (shown_by (named_run c.args.said.now) ir words)))
+    err_handed c.from_residual.result c.in_err-ir.field-0.0 (StopsBy (run_texts (named_run c.args.arguments.now) c.args.bytes.now c.args.file.now)) c.from_residual.ensures.1
+    (stops_in_first (ReadsPackage c.args.arguments.now.design.now c.args.bytes.now)
+    (λ ir. Then (ReadsInputs c.args.arguments.now.inputs.now c.args.file.now (network_of ir)) (λ words. Gives (shown_by (named_run c.args.arguments.now) ir words)))
     c.in_err-ir.field-0.0 c.in_err-ir.ensures.refused)
 
 pub inputs_of-requires-clause-net : goal.inputs_of-requires-clause-net
@@ -25,21 +25,21 @@ inputs_of-requires-clause-net c = subst IsNet (sym (c.in_ok-net.ensures {u = tt}
 pub returns-in_err-inputs-clause-refused : goal.returns-in_err-inputs-clause-refused
 returns-in_err-inputs-clause-refused c =
     let ir = c.in_ok-ir.ir in
-    err_handed c.from_residual-in_err-inputs.result c.in_err-inputs.field-0.0 (StopsBy (run_texts (named_run c.args.said.now) c.args.bytes.now c.args.file.now)) c.from_residual-in_err-inputs.ensures.1
-    (stops_in_next (ReadsPackage c.args.said.now.design.now c.args.bytes.now)
-    (λ ir. Then (ReadsInputs c.args.said.now.inputs.now c.args.file.now (network_of ir)) (λ words. Gives (shown_by (named_run c.args.said.now) ir words)))
+    err_handed c.from_residual-in_err-inputs.result c.in_err-inputs.field-0.0 (StopsBy (run_texts (named_run c.args.arguments.now) c.args.bytes.now c.args.file.now)) c.from_residual-in_err-inputs.ensures.1
+    (stops_in_next (ReadsPackage c.args.arguments.now.design.now c.args.bytes.now)
+    (λ ir. Then (ReadsInputs c.args.arguments.now.inputs.now c.args.file.now (network_of ir)) (λ words. Gives (shown_by (named_run c.args.arguments.now) ir words)))
     ir c.in_err-inputs.field-0.0 c.in_ok-ir.ensures.reads
-    (stops_in_first (ReadsInputs c.args.said.now.inputs.now c.args.file.now (network_of ir)) (λ words. Gives (shown_by (named_run c.args.said.now) ir words))
-    c.in_err-inputs.field-0.0 (subst (λ n. StopsBy (ReadsInputs c.args.said.now.inputs.now c.args.file.now n) c.in_err-inputs.field-0.0) (c.in_ok-net.ensures {u = tt}) c.in_err-inputs.ensures.refused)))
+    (stops_in_first (ReadsInputs c.args.arguments.now.inputs.now c.args.file.now (network_of ir)) (λ words. Gives (shown_by (named_run c.args.arguments.now) ir words))
+    c.in_err-inputs.field-0.0 (subst (λ n. StopsBy (ReadsInputs c.args.arguments.now.inputs.now c.args.file.now n) c.in_err-inputs.field-0.0) (c.in_ok-net.ensures {u = tt}) c.in_err-inputs.ensures.refused)))
 
 pub returns-clause-gives : goal.returns-clause-gives
 returns-clause-gives c =
     let ir = c.in_ok-ir.ir in
     let net = c.in_ok-net.net in
-    let how = c.args.said.now.how in
+    let how = c.args.arguments.now.how in
     let text = run_text net (behaviors_of ir) c.in_ok-inputs.inputs how.activations (depths_by how.depth net) in
     goes_on ir (Ok text) c.in_ok-ir.ensures.reads
-    (goes_on c.in_ok-inputs.inputs (Ok text) (subst (λ n. ReadsInputs c.args.said.now.inputs.now c.args.file.now n (Ok c.in_ok-inputs.inputs)) (c.in_ok-net.ensures {u = tt}) c.in_ok-inputs.ensures.says)
+    (goes_on c.in_ok-inputs.inputs (Ok text) (subst (λ n. ReadsInputs c.args.arguments.now.inputs.now c.args.file.now n (Ok c.in_ok-inputs.inputs)) (c.in_ok-net.ensures {u = tt}) c.in_ok-inputs.ensures.says)
     (ap Ok (ap (λ n. run_text n (behaviors_of ir) c.in_ok-inputs.inputs how.activations (depths_by how.depth n)) (c.in_ok-net.ensures {u = tt}))))
 
 pub returns-clause-fits : goal.returns-clause-fits

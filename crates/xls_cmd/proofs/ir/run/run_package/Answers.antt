@@ -1,5 +1,5 @@
 use Rattle.xls_cmd.specs.Shared.Events.{file_events}
-use Rattle.xls_cmd.specs.Shared.Step.{DueBy}
+use Rattle.xls_cmd.specs.Shared.Step.{ExpectedBy}
 use Rattle.cmd_line.specs.Named.{named_run}
 use Rattle.xls_cmd.specs.Ir.Commands.{run, run_files}
 use Rattle.xls_cmd.specs.Ir.Ready.{shown}
@@ -8,10 +8,10 @@ use Rattle.xls_cmd.proofs.ir.run.run_package.Goals as goal
 
 pub returns-in-Ok : goal.returns-in-Ok
 returns-in-Ok g c =
-    done_from (shown c.args.said.how) (λ text. text.items) (DueBy (g.F.Files.told c.args.files.now) (λ holds. run holds (named_run c.args.said))) (run_files (named_run c.args.said))
+    done_from (shown c.args.arguments.how) (λ text. text.items) (ExpectedBy (g.F.Files.known_contents c.args.files.now) (λ holds. run holds (named_run c.args.arguments))) (run_files (named_run c.args.arguments))
     (file_events g.F.Files.asked g.F.Files.faults g.F.Files.taken c.args.files.now c.prepare.new.files) c.in-Ok.ready c.ran.result c.or_no_memory.result c.in-Ok.ensures.done c.ran.ensures c.or_no_memory.ensures
 
 pub returns-in-Err : goal.returns-in-Err
 returns-in-Err g c =
-    done_refused (shown c.args.said.how) (λ text. text.items) (DueBy (g.F.Files.told c.args.files.now) (λ holds. run holds (named_run c.args.said))) (run_files (named_run c.args.said))
+    done_refused (shown c.args.arguments.how) (λ text. text.items) (ExpectedBy (g.F.Files.known_contents c.args.files.now) (λ holds. run holds (named_run c.args.arguments))) (run_files (named_run c.args.arguments))
     (file_events g.F.Files.asked g.F.Files.faults g.F.Files.taken c.args.files.now c.prepare.new.files) c.in-Err.refusal c.in-Err.ensures.done

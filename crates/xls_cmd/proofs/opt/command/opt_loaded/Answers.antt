@@ -9,8 +9,8 @@ use Rattle.xls_cmd.proofs.opt.command.opt_loaded.Goals as goal
 
 pub returns-in_err-ir-clause-refused : goal.returns-in_err-ir-clause-refused
 returns-in_err-ir-clause-refused c =
-    err_handed c.from_residual.result c.in_err-ir.field-0.0 (StopsBy (opt_loaded (named_opt c.args.said.now) c.args.bytes.now)) c.from_residual.ensures.1
-    (stops_in_first (ReadsPackage c.args.said.now.design.now c.args.bytes.now) (λ ir. GivesOptimised ir) c.in_err-ir.field-0.0 c.in_err-ir.ensures.refused)
+    err_handed c.from_residual.result c.in_err-ir.field-0.0 (StopsBy (opt_loaded (named_opt c.args.arguments.now) c.args.bytes.now)) c.from_residual.ensures.1
+    (stops_in_first (ReadsPackage c.args.arguments.now.design.now c.args.bytes.now) (λ ir. GivesOptimised ir) c.in_err-ir.field-0.0 c.in_err-ir.ensures.refused)
 
 pub returns-clause-gives : goal.returns-clause-gives
 returns-clause-gives c = goes_on c.in_ok-ir.ir (Ok c.in_ok-text.text.items) c.in_ok-ir.ensures.reads c.in_ok-text.ensures

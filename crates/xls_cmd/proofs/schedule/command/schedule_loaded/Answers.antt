@@ -10,8 +10,8 @@ use Rattle.xls_cmd.proofs.schedule.command.schedule_loaded.Goals as goal
 
 pub returns-in_err-ir-clause-refused : goal.returns-in_err-ir-clause-refused
 returns-in_err-ir-clause-refused c =
-    err_handed c.from_residual.result c.in_err-ir.field-0.0 (StopsBy (schedule_loaded (named_schedule c.args.said.now) c.args.bytes.now)) c.from_residual.ensures.1
-    (stops_in_first (ReadsPackage c.args.said.now.design.now c.args.bytes.now) (λ ir. GivesSchedules ir (demands_of c.args.said.now.timing)) c.in_err-ir.field-0.0 c.in_err-ir.ensures.refused)
+    err_handed c.from_residual.result c.in_err-ir.field-0.0 (StopsBy (schedule_loaded (named_schedule c.args.arguments.now) c.args.bytes.now)) c.from_residual.ensures.1
+    (stops_in_first (ReadsPackage c.args.arguments.now.design.now c.args.bytes.now) (λ ir. GivesSchedules ir (demands_of c.args.arguments.now.timing)) c.in_err-ir.field-0.0 c.in_err-ir.ensures.refused)
 
 pub returns-clause-gives : goal.returns-clause-gives
 returns-clause-gives c =
@@ -20,5 +20,5 @@ returns-clause-gives c =
 pub returns-clause-refused : goal.returns-clause-refused
 returns-clause-refused c =
     IfErr-weaker c.scheduled.result _ _
-    (λ r stop. stops_in_next (ReadsPackage c.args.said.now.design.now c.args.bytes.now) (λ ir. GivesSchedules ir (demands_of c.args.said.now.timing)) c.in_ok-ir.ir r c.in_ok-ir.ensures.reads stop)
+    (λ r stop. stops_in_next (ReadsPackage c.args.arguments.now.design.now c.args.bytes.now) (λ ir. GivesSchedules ir (demands_of c.args.arguments.now.timing)) c.in_ok-ir.ir r c.in_ok-ir.ensures.reads stop)
     c.scheduled.ensures.refused

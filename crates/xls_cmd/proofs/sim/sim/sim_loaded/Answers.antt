@@ -10,18 +10,18 @@ use Rattle.xls_cmd.proofs.sim.sim.sim_loaded.Goals as goal
 
 pub returns-in_err-design-clause-refused : goal.returns-in_err-design-clause-refused
 returns-in_err-design-clause-refused c =
-    err_handed c.from_residual.result c.in_err-design.field-0.0 (StopsBy (sim_texts (named_sim c.args.said.now) c.args.bytes.now c.args.file.now)) c.from_residual.ensures.1
-    (stops_in_first (ReadsModule c.args.said.now.design.now c.args.bytes.now)
-    (λ m. Then (ReadsRows c.args.said.now.rows.now c.args.file.now m) (λ listed. Simulates m listed))
+    err_handed c.from_residual.result c.in_err-design.field-0.0 (StopsBy (sim_texts (named_sim c.args.arguments.now) c.args.bytes.now c.args.file.now)) c.from_residual.ensures.1
+    (stops_in_first (ReadsModule c.args.arguments.now.design.now c.args.bytes.now)
+    (λ m. Then (ReadsRows c.args.arguments.now.rows.now c.args.file.now m) (λ listed. Simulates m listed))
     c.in_err-design.field-0.0 c.in_err-design.ensures.refused)
 
 pub returns-in_err-rows-clause-refused : goal.returns-in_err-rows-clause-refused
 returns-in_err-rows-clause-refused c =
-    err_handed c.from_residual-in_err-rows.result c.in_err-rows.field-0.0 (StopsBy (sim_texts (named_sim c.args.said.now) c.args.bytes.now c.args.file.now)) c.from_residual-in_err-rows.ensures.1
-    (stops_in_next (ReadsModule c.args.said.now.design.now c.args.bytes.now)
-    (λ m. Then (ReadsRows c.args.said.now.rows.now c.args.file.now m) (λ listed. Simulates m listed))
+    err_handed c.from_residual-in_err-rows.result c.in_err-rows.field-0.0 (StopsBy (sim_texts (named_sim c.args.arguments.now) c.args.bytes.now c.args.file.now)) c.from_residual-in_err-rows.ensures.1
+    (stops_in_next (ReadsModule c.args.arguments.now.design.now c.args.bytes.now)
+    (λ m. Then (ReadsRows c.args.arguments.now.rows.now c.args.file.now m) (λ listed. Simulates m listed))
     c.in_ok-design.design c.in_err-rows.field-0.0 c.in_ok-design.ensures.reads
-    (stops_in_first (ReadsRows c.args.said.now.rows.now c.args.file.now c.in_ok-design.design) (λ listed. Simulates c.in_ok-design.design listed)
+    (stops_in_first (ReadsRows c.args.arguments.now.rows.now c.args.file.now c.in_ok-design.design) (λ listed. Simulates c.in_ok-design.design listed)
     c.in_err-rows.field-0.0 c.in_err-rows.ensures.refused))
 
 pub returns-clause-gives : goal.returns-clause-gives

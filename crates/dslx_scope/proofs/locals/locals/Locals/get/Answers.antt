@@ -1,6 +1,6 @@
 use Rattle.std.proofs.Common.{◌≡◌, ◌∙◌, ◌<◌, ◌+◌, List, true, false, ap, sym, drop, length, arith}
 use Rattle.std.specs.Str.{bytes_eq}
-use Rattle.dslx_core.specs.Lowering.CorePlaces.{BoundSlot, local_in}
+use Rattle.dslx_core.specs.Lowering.CoreScopes.{BoundSlot, local_in}
 use Rattle.dslx_scope.proofs.OnLocals.Ends.{found_here, passed_here}
 use Rattle.dslx_scope.proofs.locals.locals.Locals.get.Goals as goal
 

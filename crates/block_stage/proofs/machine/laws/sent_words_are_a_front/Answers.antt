@@ -1,5 +1,0 @@
-use Rattle.block_stage.proofs.OnMachine.Prefixes.{sent_words_are_a_front}
-use Rattle.block_stage.proofs.machine.laws.sent_words_are_a_front.Goals as goal
-
-pub returns : goal.returns
-returns c = sent_words_are_a_front

@@ -1,5 +1,0 @@
-use Rattle.block_stage.proofs.OnMachine.Offered.{untaken_words_stand}
-use Rattle.block_stage.proofs.machine.laws.untaken_words_stand.Goals as goal
-
-pub returns : goal.returns
-returns c = untaken_words_stand

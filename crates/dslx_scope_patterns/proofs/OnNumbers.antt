@@ -1,6 +1,0 @@
--- which names are constants'
-pub mod Constants
--- arguments at their place, one after the other
-pub mod Located
--- number parameters that stand, in either order
-pub mod Stands

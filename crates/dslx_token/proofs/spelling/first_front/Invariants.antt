@@ -1,7 +1,0 @@
-use Rattle.std.proofs.Common.{◌≡◌, drop, map}
-use Rattle.dslx_token.specs.Inner.Fronts.{first_front, spelling_of}
-use Rattle.dslx_token.proofs.spelling.first_front.Given as goal
-
-abbrev pub invariant-loop-spelled : goal.invariant-loop-spelled
-invariant-loop-spelled l =
-    first_front (map spelling_of (drop l.spelled-index l.spellings)) l.text ≡ first_front (map spelling_of l.spellings) l.text

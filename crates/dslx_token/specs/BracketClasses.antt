@@ -1,0 +1,4 @@
+-- what each token does to the nesting
+pub mod BracketClasses
+-- which rule took each token
+pub mod Takers

@@ -1,5 +1,0 @@
-use Rattle.dslx_total.proofs.OnExpressions.OfTables.{instances_have_table}
-use Rattle.dslx_total.proofs.expressions.instances.instances_in_order_are_lowered.Goals as goal
-
-pub returns : goal.returns
-returns c = instances_have_table

@@ -1,0 +1,60 @@
+-- What is known of items whose names pass a test, with something else in the place of all other items.
+use Rattle.std.specs.Prelude.{ℕ, List, [], ◌∷◌, ◌&&◌, map, Bool, false, Option, Some, None, if◌then◌else◌}
+use Rattle.xb_bits.specs.Word.{word}
+use Rattle.dslx_tree.specs.declared.item.Definition.{Definition}
+use Rattle.dslx_tree.specs.declared.item.Definition.TheVariants as d
+use Rattle.dslx_tree.specs.declared.item.Field.{Field}
+use Rattle.dslx_tree.specs.declared.item.Struct.{Struct as StructItem}
+use Rattle.dslx_meaning.specs.Items.{item_named, name_of_field}
+use Rattle.dslx_meaning.specs.declared.ty.DslxType.{DslxType, Bits, Struct}
+use Rattle.dslx_meaning.specs.declared.value.DslxValue.{DslxValue}
+use Rattle.dslx_meaning.specs.declared.value.DslxValue as value
+use Rattle.dslx_meaning.specs.Rules.ConstantRules.{untyped_typing}
+use Rattle.dslx_meaning.specs.Rules.TypeEnvs.{Judgement, GlobalEnv, breaks}
+use Rattle.dslx_meaning.specs.Rules.ModuleRules.{nowhere}
+
+-- a struct whose fields are bits of one width
+abbrev pub filler_struct : ℕ → StructItem → DslxType
+filler_struct w s = Struct s.name.name (map name_of_field s.fields) (map (λ (f : Field). Bits false w) s.fields)
+
+abbrev pub filler_type : ℕ → Option Definition → Option DslxType
+filler_type w (Some (d.Alias a)) = Some (Bits false w)
+filler_type w (Some (d.Struct s)) = Some (filler_struct w s)
+filler_type w (Some (d.Enum e)) = Some (Bits false w)
+filler_type w _ = None
+
+abbrev pub struct_filler : ℕ → Option Definition → Option DslxType
+struct_filler w (Some (d.Struct s)) = Some (filler_struct w s)
+struct_filler w _ = None
+
+abbrev pub zero_bits : ℕ → DslxValue
+zero_bits w = value.Bits false (word w 0)
+
+abbrev pub constant_filler : ℕ → Option Definition → Option DslxValue
+constant_filler w (Some (d.Constant c)) = Some (zero_bits w)
+constant_filler w _ = None
+
+abbrev pub member_filler : ℕ → Option Definition → Option DslxValue
+member_filler w (Some (d.Enum e)) = Some (zero_bits w)
+member_filler w _ = None
+
+-- what breaks a rule
+abbrev pub refused : Judgement
+refused = record untyped_typing { faults = breaks 1 nowhere ∷ [] }
+
+-- the items whose names pass as they are known; in the place of all others bits of this width, and no sound instances
+abbrev pub filled : ℕ → (List ℕ → Bool) → GlobalEnv → GlobalEnv
+filled w P known = record known {
+  items = record known.items {
+    type_named = λ name. if P name then known.items.type_named name else filler_type w (item_named name known.whole.items);
+    struct_named = λ name. if P name then known.items.struct_named name else struct_filler w (item_named name known.whole.items);
+    constant = λ name. if P name then known.items.constant name else constant_filler w (item_named name known.whole.items);
+    member = λ name member. if P name then known.items.member name member else member_filler w (item_named name known.whole.items);
+    call = λ name parametric_args operands. if P name then known.items.call name parametric_args operands else None;
+  };
+  is_sound = λ i. P i.name && known.is_sound i;
+  is_unbroken = λ i. P i.name && known.is_unbroken i;
+  type_in = λ owner so_far unknown t. if P owner then known.type_in owner so_far unknown t else None;
+  type_seen_in = λ owner so_far t. if P owner then known.type_seen_in owner so_far t else refused;
+  default_in = λ owner so_far e. if P owner then known.default_in owner so_far e else record { judgement = refused; value = None };
+}

@@ -1,5 +1,0 @@
-use Rattle.net_tests.proofs.Idle.{idle_next}
-use Rattle.net_tests.proofs.tasks.IdleHomeNoWords.next.Goals as goal
-
-pub returns : goal.returns
-returns c = idle_next c.args._number c.args.state.now c.in_ok-copy.field-0 c.args._got.now c.args._done c.in_ok-copy.ensures
