@@ -4,3 +4,5 @@ pub mod Resets
 pub mod Prefixes
 pub mod Driven
 pub mod Exact
+-- netlists of pipelined hardware: lists of wires over ports and registers, and what they carry
+pub mod OnNetlist

@@ -2,6 +2,7 @@
 #![tactic(auto)]
 
 pub mod laws;
+pub mod netlist;
 mod ports;
 
-pub use ports::{valid_word, room};
+pub use ports::{room, valid_word};

@@ -5,8 +5,8 @@ ghost use Rattle.dslx_actions.specs.Empty.{empty};
 
 use base::stacks::Stack;
 use dslx_tree::{
-    Arg, Arm, Binary, Block, Config, Definition, Direction, End, Expr, Field, FieldValue, Ident,
-    Item, ConfigStatement, Member, Next, Parametric, Pattern, Stmt, TypeExpr,
+    Arg, Arm, Binary, Block, Config, ConfigStatement, Definition, Direction, End, Expr, Field,
+    FieldValue, Ident, Item, Member, Next, Parametric, Pattern, Stmt, TypeExpr,
 };
 use std::alloc::Global;
 use xb_span::Span;

@@ -1,10 +1,10 @@
 //! What the machine finds.
 
 ghost use Rattle.std.specs.Prelude.{◌≡◌, [], None, length, IfOk};
-ghost use Rattle.dslx_const_machine.specs.States.{count_in_finding, type_in, value_in};
-ghost use Rattle.dslx_const_machine.specs.Steps.{begins};
-ghost use Rattle.dslx_const_machine.specs.Tasks.{ValueFound};
-ghost use Rattle.dslx_const_machine.proofs.Lemmas.{comes_to};
+ghost use Rattle.dslx_names.specs.ConstMachine.States.{count_in_finding, type_in, value_in};
+ghost use Rattle.dslx_names.specs.ConstMachine.Steps.{begins};
+ghost use Rattle.dslx_names.specs.ConstMachine.Tasks.{ValueFound};
+ghost use Rattle.dslx_names.proofs.Lemmas.ConstMachine.{comes_to};
 ghost use Rattle.dslx_const_tasks.specs.Plain.{plain_found, plain_task, shown};
 
 use crate::step::step;

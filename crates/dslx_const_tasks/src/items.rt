@@ -3,6 +3,6 @@ mod ty;
 mod uses;
 mod words;
 
-pub use ty::{untyped_of, step_type};
+pub use ty::{step_type, untyped_of};
 pub use uses::{is_constant, use_constant, use_member, use_name, use_struct};
 pub use words::{binary, cast, number_of, part};

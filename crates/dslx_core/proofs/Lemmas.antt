@@ -3,3 +3,5 @@
 pub mod Lowering
 -- networks
 pub mod Networks
+pub mod Machines
+pub mod Typing

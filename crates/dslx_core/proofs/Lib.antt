@@ -8,3 +8,7 @@ pub mod OnLowering
 pub mod OnNetworks
 -- for other crates' proofs
 pub mod Lemmas
+-- the machine that makes instances of functions, as a definition, and its laws
+pub mod OnMachines
+-- type soundness: what breaks no rule has a type and a value of it, up to whole texts
+pub mod OnTyping

@@ -10,3 +10,7 @@ pub mod Behaviors
 pub mod Lowering
 -- networks
 pub mod Networks
+-- the machine that makes instances of functions, as a definition, and its laws
+pub mod Machines
+-- type soundness: what breaks no rule has a type and a value of it, up to whole texts
+pub mod Typing

@@ -2,7 +2,7 @@
 ghost use Rattle.std.specs.Prelude.{ℕ, List, Option};
 ghost use Rattle.dslx_tree.specs.declared.item.Module.{Module};
 ghost use Rattle.dslx_meaning.specs.Items.{meanings_of};
-ghost use Rattle.dslx_typing.specs.Laws.Recursion.{HasNoCycle};
+ghost use Rattle.dslx_core.specs.Typing.Laws.Recursion.{HasNoCycle};
 ghost use Rattle.dslx_core.specs.CoreOf.{CoreOf};
 ghost use Rattle.dslx_core.specs.declared.design.Design.{Design};
 ghost use Rattle.dslx_core.specs.Lowering.Instances.{ItemsAreOwn};
@@ -16,5 +16,5 @@ ghost use Rattle.dslx_core.specs.Behaviors.WellTypedNexts.{HasWellTypedNexts};
 pub fn lower_preserves_designs()
     ensures { (m : Module) (top : Option (List ℕ)) (design : Design) → HasNoCycle m → ItemsAreOwn (meanings_of m) → IsDesignFrom m top design → HasWellTypedNexts m top → CoreOf m top design }
 {
-    dslx_typing::laws::recursion_ends();
+    crate::typing::laws::recursion_ends();
 }

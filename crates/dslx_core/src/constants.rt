@@ -1,9 +1,9 @@
 //! That constants and members of enums have values of their own types.
 ghost use Rattle.dslx_tree.specs.declared.item.Module.{Module};
 ghost use Rattle.dslx_meaning.specs.Items.{meanings_of};
-ghost use Rattle.dslx_typing.specs.Laws.Recursion.{HasNoCycle};
-ghost use Rattle.dslx_typing.specs.Depends.Settled.{BindsNoConstant};
-ghost use Rattle.dslx_typing.specs.GlobalEnv.WellTypedParts.{EachItemWellTyped};
+ghost use Rattle.dslx_core.specs.Typing.Laws.Recursion.{HasNoCycle};
+ghost use Rattle.dslx_core.specs.Typing.Depends.Settled.{BindsNoConstant};
+ghost use Rattle.dslx_core.specs.Typing.GlobalEnv.WellTypedParts.{EachItemWellTyped};
 ghost use Rattle.dslx_core.specs.Lowering.Instances.{ItemsAreOwn};
 
 /// Where no item reaches itself, no function binds the name of a constant, and nothing is wrong with any constant, alias, struct
@@ -11,7 +11,7 @@ ghost use Rattle.dslx_core.specs.Lowering.Instances.{ItemsAreOwn};
 pub fn items_are_own()
     ensures { (m : Module) → HasNoCycle m → BindsNoConstant m → EachItemWellTyped m → ItemsAreOwn (meanings_of m) }
 {
-    dslx_typing::known::all_items_are_known();
-    dslx_typing::denotation::global_env_is_sound();
-    dslx_typing::laws::recursion_ends();
+    crate::typing::known::all_items_are_known();
+    crate::typing::denotation::global_env_is_sound();
+    crate::typing::laws::recursion_ends();
 }

@@ -8,9 +8,11 @@ pub mod constants;
 mod design;
 mod expr;
 pub mod lowering;
+pub mod machines;
 pub mod networks;
 pub mod preserved;
 mod step;
+pub mod typing;
 
 pub use design::{Child, Design, Function, Instance, MadeChannel, Outer};
 pub use expr::{Arm, CoreBinary, CoreExpr, CoreUnary, Shape, Sign};

@@ -11,8 +11,8 @@ ghost use Rattle.dslx_meaning.specs.declared.value.DslxValue.{DslxValue};
 ghost use Rattle.dslx_meaning.specs.Rules.TypeEnvs.{TypeEnv};
 ghost use Rattle.dslx_meaning.specs.Rules.NodeRules.{expr_pair};
 ghost use Rattle.dslx_tree.specs.declared.expr.Expr.{Expr};
-ghost use Rattle.dslx_typing.specs.Typed.Complete.{IsWellTypedPart};
-ghost use Rattle.dslx_typing.specs.Typed.WellTyped.{IsWellTypedEnv};
+ghost use Rattle.dslx_core.specs.Typing.Typed.Complete.{IsWellTypedPart};
+ghost use Rattle.dslx_core.specs.Typing.Typed.WellTyped.{IsWellTypedEnv};
 
 /// An expression with which nothing is wrong, where the type environment is well typed: if it becomes a core expression at a place
 /// where its names stand at their numbers, it has a value, and the core expression has this value without signs and names.
@@ -22,6 +22,6 @@ pub fn lower_preserves_typed_expressions()
         → (l : LoweredExpr) → lower_expression e place ≡ Some l
         → (v : DslxValue) × (value_of e (env_at place given) ≡ Some v) × HasPlainValue l calls bound v }
 {
-    dslx_typing::sound::an_expression_has_its_value();
+    crate::typing::sound::an_expression_has_its_value();
     crate::lowering::lower_preserves_expressions();
 }

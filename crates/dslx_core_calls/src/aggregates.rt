@@ -8,7 +8,7 @@ mod parts;
 mod tuples;
 
 pub use arrays::lower_array_elements;
-pub use fields::{lower_field, field_of_slot};
+pub use fields::{field_of_slot, lower_field};
 pub use filled::lower_filled;
 pub use parts::{cores_of, types_of};
 pub use tuples::{lower_struct, lower_tuple};

@@ -4,6 +4,5 @@
 mod operators;
 
 pub use operators::{
-    lower_binary, lower_cast, lower_counted, lower_part, lower_prefix, lower_reduced,
-    lower_slice,
+    lower_binary, lower_cast, lower_counted, lower_part, lower_prefix, lower_reduced, lower_slice,
 };

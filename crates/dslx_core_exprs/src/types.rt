@@ -4,5 +4,5 @@
 mod literals;
 mod types;
 
-pub use literals::{literal, plain_value, lower_unit};
+pub use literals::{literal, lower_unit, plain_value};
 pub use types::{bool_type, into_element, into_part, sign_of, unsigned, width_of_type, word_width};

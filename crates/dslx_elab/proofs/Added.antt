@@ -9,10 +9,10 @@ use Rattle.dslx_core.specs.declared.design.Instance.{Instance}
 use Rattle.dslx_core.specs.Lowering.Functions.{CoreInstance, Instantiated}
 use Rattle.dslx_core.specs.Networks.Configs.{ProcInstance}
 use Rattle.dslx_core.specs.Networks.Procs.{next_proc, lower_proc}
-use Rattle.dslx_machines.specs.Extension.Results.{TableResult}
+use Rattle.dslx_core.specs.Machines.Extension.Results.{TableResult}
 use Rattle.dslx_elab.specs.Adding.{AddsMissing, KeepsTable}
 use Rattle.dslx_elab.specs.declared.adding.MadeInstances.{MadeInstances}
-use Rattle.dslx_machines.proofs.Lemmas.Extension.Coming.{comes_as, never_as, never_at_once, never_then, value_comes}
+use Rattle.dslx_core.proofs.Lemmas.Machines.Extension.Coming.{comes_as, never_as, never_at_once, never_then, value_comes}
 
 module _ (m : Module) (limit : ℕ) (table : List CoreInstance) (procs : List ProcInstance) (i : Instantiated) where
   abbrev pub next : List CoreInstance → Option ProcInstance

@@ -9,8 +9,8 @@ use Rattle.dslx_meaning.specs.Environment.{Given}
 use Rattle.dslx_meaning.specs.Items.{meanings_of, parametric_args_bound}
 use Rattle.dslx_meaning.specs.Lists.{and_then, where_true, with_both}
 use Rattle.dslx_meaning.specs.declared.value.DslxValue.{DslxValue}
-use Rattle.dslx_typing.specs.Typed.Kinds.{is_of}
-use Rattle.dslx_typing.proofs.Lemmas.Typed.{none_some, same_some}
+use Rattle.dslx_core.specs.Typing.Typed.Kinds.{is_of}
+use Rattle.dslx_core.proofs.Lemmas.Typing.Typed.{none_some, same_some}
 use Rattle.dslx_core.specs.declared.design.Instance.{Instance}
 use Rattle.dslx_names.specs.Bound.{given}
 use Rattle.dslx_names.specs.declared.scope.Binding.{Binding}
@@ -20,13 +20,13 @@ use Rattle.dslx_core.specs.Lowering.Functions.{CoreInstance, callee_in, parametr
 use Rattle.dslx_core.specs.Lowering.Steps.{LoweredNext, LoweredSteps, is_sized, lower_next, proc_globals, statements_steps, steps_from}
 use Rattle.dslx_core.specs.Lowering.Trees.{lower_type_of_text}
 use Rattle.dslx_core.proofs.Lemmas.Lowering.{from_then, from_where}
-use Rattle.dslx_machines.proofs.Lemmas.Machine.Instances.{begins_itself}
-use Rattle.dslx_machines.proofs.Lemmas.Machine.Steady.{type_anywhere}
+use Rattle.dslx_core.proofs.Lemmas.Machines.Machine.Instances.{begins_itself}
+use Rattle.dslx_core.proofs.Lemmas.Machines.Machine.Steady.{type_anywhere}
 use Rattle.dslx_core.specs.Networks.Configs.{LoweredConfig, ProcInstance, lower_config}
 use Rattle.dslx_core.specs.Networks.Procs.{instance_of, lower_proc}
-use Rattle.dslx_machines.specs.Extension.Results.{TableResult}
+use Rattle.dslx_core.specs.Machines.Extension.Results.{TableResult}
 use Rattle.dslx_next.specs.Steps.GlobalEnv.{parametric_args_known}
-use Rattle.dslx_machines.proofs.Lemmas.Extension.Coming.{comes_as, never_as, never_behind, never_then, value_comes}
+use Rattle.dslx_core.proofs.Lemmas.Machines.Extension.Coming.{comes_as, never_as, never_behind, never_then, value_comes}
 use Rattle.dslx_elab.specs.Behind.{behind_next}
 
 -- two parts, one after the other

@@ -3,10 +3,10 @@ use Rattle.std.specs.Prelude.{◌≡◌, ◌∷◌, ◌++◌, [], ℕ, Option, N
 use Rattle.dslx_tree.specs.declared.item.Module.{Module}
 use Rattle.dslx_meaning.specs.Items.{meanings_of}
 use Rattle.dslx_core.specs.Lowering.Functions.{Instantiated}
-use Rattle.dslx_machines.specs.Machine.Reached.{IsTable}
+use Rattle.dslx_core.specs.Machines.Machine.Reached.{IsTable}
 use Rattle.dslx_core.specs.Networks.Configs.{ProcInstance, proc_instance_in}
 use Rattle.dslx_core.specs.Networks.Procs.{next_proc}
-use Rattle.dslx_machines.specs.Extension.Results.{StableFrom, NoTableGives}
+use Rattle.dslx_core.specs.Machines.Extension.Results.{StableFrom, NoTableGives}
 use Rattle.dslx_elab.specs.declared.adding.MadeInstances.{MadeInstances}
 
 -- the number of the instance of a name and parametric arguments

@@ -1,10 +1,10 @@
 //! Instances of procs that are added to others.
 
 ghost use Rattle.std.specs.Prelude.{◌≡◌, ◌∷◌, ◌++◌, [], IfOk};
-ghost use Rattle.dslx_machines.specs.Machine.Reached.{IsTable};
+ghost use Rattle.dslx_core.specs.Machines.Machine.Reached.{IsTable};
 ghost use Rattle.dslx_meaning.specs.Items.{meanings_of};
 ghost use Rattle.dslx_core.specs.Networks.Procs.{next_proc};
-ghost use Rattle.dslx_machines.specs.Extension.Results.{TableResult};
+ghost use Rattle.dslx_core.specs.Machines.Extension.Results.{TableResult};
 ghost use Rattle.dslx_elab.specs.Adding.{AddsMissing, AddsProc, KeepsTable};
 
 use crate::instance::proc_there;

@@ -1,12 +1,12 @@
 //! One instance of a proc.
 
 ghost use Rattle.std.specs.Prelude.{◌≡◌, IfOk, Some};
-ghost use Rattle.dslx_machines.specs.Machine.Reached.{IsTable};
+ghost use Rattle.dslx_core.specs.Machines.Machine.Reached.{IsTable};
 ghost use Rattle.dslx_meaning.specs.Items.{meanings_of};
 ghost use Rattle.dslx_meaning.specs.Lists.{and_then, where_true};
 ghost use Rattle.dslx_meaning.specs.Activation.{opening_state};
 ghost use Rattle.dslx_core.specs.Networks.Procs.{instance_of as the_instance, lower_proc};
-ghost use Rattle.dslx_machines.specs.Extension.Results.{TableResult};
+ghost use Rattle.dslx_core.specs.Machines.Extension.Results.{TableResult};
 ghost use Rattle.dslx_elab.specs.Behind.{behind_config, behind_next};
 
 use dslx_config::channels::plain_type;

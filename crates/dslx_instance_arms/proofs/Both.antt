@@ -1,9 +1,9 @@
 -- The bounds of a loop, and what is made of both.
 use Rattle.std.proofs.Common.{◌≡◌, Option, Some, None, refl, sym, ap}
-use Rattle.dslx_typing.proofs.Lemmas.Typed.{none_some, same_some}
+use Rattle.dslx_core.proofs.Lemmas.Typing.Typed.{none_some, same_some}
 use Rattle.dslx_meaning.specs.Lists.{with_both}
 use Rattle.dslx_meaning.specs.declared.value.SignedWord.{SignedWord}
-use Rattle.dslx_machines.specs.Machine.Tasks.{OpenBody}
+use Rattle.dslx_core.specs.Machines.Machine.Tasks.{OpenBody}
 
 abbrev pair_of : SignedWord → SignedWord → Option (SignedWord × SignedWord)
 pair_of a b = Some (a, b)

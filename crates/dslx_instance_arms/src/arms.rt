@@ -4,9 +4,9 @@ ghost use Rattle.std.specs.Prelude.{◌≡◌, ◌∷◌, ◌++◌, [], List, So
 ghost use Rattle.dslx_meaning.specs.Lists.{where_true};
 ghost use Rattle.dslx_tree.specs.declared.expr.Arm.{out-Arm};
 ghost use Rattle.dslx_core.specs.Lowering.Functions.{CoreInstance};
-ghost use Rattle.dslx_machines.specs.Machine.Arms.{alternatives_begin, arm_begins, arm_taken, arms_on, binding_begins};
-ghost use Rattle.dslx_machines.specs.Machine.Bodies.{doing, with_last, with_made};
-ghost use Rattle.dslx_machines.specs.Machine.Tasks.{LowersExpr, Restores, TakesArm};
+ghost use Rattle.dslx_core.specs.Machines.Machine.Arms.{alternatives_begin, arm_begins, arm_taken, arms_on, binding_begins};
+ghost use Rattle.dslx_core.specs.Machines.Machine.Bodies.{doing, with_last, with_made};
+ghost use Rattle.dslx_core.specs.Machines.Machine.Tasks.{LowersExpr, Restores, TakesArm};
 ghost use Rattle.dslx_instance.specs.Tasks.Shown.{body_shown, match_shown, instance_env_of};
 
 use crate::held::{Mark, go_back, mark_of, take_boxed};

@@ -3,9 +3,9 @@
 ghost use Rattle.std.specs.Prelude.{◌≡◌, ◌∷◌, [], List, Some, IfOk, OnOk};
 ghost use Rattle.dslx_meaning.specs.Lists.{where_true};
 ghost use Rattle.dslx_core.specs.Lowering.Functions.{CoreInstance};
-ghost use Rattle.dslx_machines.specs.Machine.Bodies.{doing, with_last, with_made};
-ghost use Rattle.dslx_machines.specs.Machine.Steps.{value_bound};
-ghost use Rattle.dslx_machines.specs.Machine.Tasks.{MakesBind};
+ghost use Rattle.dslx_core.specs.Machines.Machine.Bodies.{doing, with_last, with_made};
+ghost use Rattle.dslx_core.specs.Machines.Machine.Steps.{value_bound};
+ghost use Rattle.dslx_core.specs.Machines.Machine.Tasks.{MakesBind};
 ghost use Rattle.dslx_instance.specs.Tasks.Shown.{body_shown, instance_env_of};
 
 use crate::held::{go_back, mark_of, take_boxed};

@@ -1,8 +1,8 @@
 //! What is held while a step is done: it is small, or in a box, so that letting it go is one call.
 
 ghost use Rattle.std.specs.Prelude.{◌≡◌, ◌∷◌, [], IfOk, OnOk, MatchOption};
-ghost use Rattle.dslx_machines.specs.Machine.Bodies.{doing, restores};
-ghost use Rattle.dslx_machines.specs.Machine.Tasks.{Restores};
+ghost use Rattle.dslx_core.specs.Machines.Machine.Bodies.{doing, restores};
+ghost use Rattle.dslx_core.specs.Machines.Machine.Tasks.{Restores};
 ghost use Rattle.dslx_instance.specs.Tasks.Shown.{body_shown};
 
 use base::stacks::Stack;

@@ -6,9 +6,9 @@ ghost use Rattle.dslx_meaning.specs.Lists.{and_then, where_true};
 ghost use Rattle.dslx_meaning.specs.Values.{bits_of as the_bits};
 ghost use Rattle.dslx_core.specs.Lowering.CoreScopes.{constant_at};
 ghost use Rattle.dslx_core.specs.Lowering.Functions.{CoreInstance};
-ghost use Rattle.dslx_machines.specs.Machine.Bodies.{bound_as, doing, gives, scope_in, restores, with_last, with_made};
-ghost use Rattle.dslx_machines.specs.Machine.Steps.{loop_begins, loop_made, turn_shaped};
-ghost use Rattle.dslx_machines.specs.Machine.Tasks.{LowersBlock, MakesLoop};
+ghost use Rattle.dslx_core.specs.Machines.Machine.Bodies.{bound_as, doing, gives, scope_in, restores, with_last, with_made};
+ghost use Rattle.dslx_core.specs.Machines.Machine.Steps.{loop_begins, loop_made, turn_shaped};
+ghost use Rattle.dslx_core.specs.Machines.Machine.Tasks.{LowersBlock, MakesLoop};
 ghost use Rattle.dslx_instance_arms.specs.Inner.Bounds.{bounds_of};
 ghost use Rattle.dslx_instance.specs.Tasks.Shown.{body_shown, instance_env_of};
 

@@ -9,9 +9,9 @@ use Rattle.dslx_meaning.specs.Lists.{all_some, and_then}
 use Rattle.dslx_meaning.specs.declared.value.DslxValue.{DslxValue}
 use Rattle.dslx_core.specs.Lowering.Functions.{CoreInstance, Instantiated}
 use Rattle.dslx_core.specs.Lowering.Lowering.{LoweredExpr, types_of_lowered}
-use Rattle.dslx_machines.specs.Machine.Bodies.{scope_in}
-use Rattle.dslx_machines.specs.Machine.Parts.{calls_by_kind, calls_function, parametric_args_at}
-use Rattle.dslx_machines.specs.Machine.Tasks.{OpenBody}
+use Rattle.dslx_core.specs.Machines.Machine.Bodies.{scope_in}
+use Rattle.dslx_core.specs.Machines.Machine.Parts.{calls_by_kind, calls_function, parametric_args_at}
+use Rattle.dslx_core.specs.Machines.Machine.Tasks.{OpenBody}
 use Rattle.dslx_instance.specs.Tasks.Shown.{instance_env_of}
 use Rattle.dslx_instance_parts.specs.Inner.Calls.{called, function_called, the_instance}
 

@@ -4,9 +4,9 @@ ghost use Rattle.std.specs.Prelude.{◌≡◌, List, [], Some, IfOk, not};
 ghost use Rattle.dslx_meaning.specs.Lists.{where_true};
 ghost use Rattle.dslx_core.specs.Lowering.Functions.{CoreInstance};
 ghost use Rattle.dslx_core.specs.Lowering.Trees.{lower_type_of_text};
-ghost use Rattle.dslx_machines.specs.Machine.Bodies.{scope_in};
-ghost use Rattle.dslx_machines.specs.Machine.Parts.{array_begins, gathers};
-ghost use Rattle.dslx_machines.specs.Machine.Tasks.{MakesArray};
+ghost use Rattle.dslx_core.specs.Machines.Machine.Bodies.{scope_in};
+ghost use Rattle.dslx_core.specs.Machines.Machine.Parts.{array_begins, gathers};
+ghost use Rattle.dslx_core.specs.Machines.Machine.Tasks.{MakesArray};
 ghost use Rattle.dslx_instance_parts.specs.Inner.Arrays.{fills_type};
 ghost use Rattle.dslx_instance.specs.Tasks.Shown.{body_shown, instance_env_of};
 

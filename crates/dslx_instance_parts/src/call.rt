@@ -6,7 +6,7 @@ ghost use Rattle.dslx_meaning.specs.Items.{all_parametric_args, inferred_from, m
 ghost use Rattle.dslx_meaning.specs.Lists.{and_then, where_true};
 ghost use Rattle.dslx_core.specs.Lowering.Functions.{CoreInstance};
 ghost use Rattle.dslx_core.specs.Lowering.Lowering.{types_of_lowered};
-ghost use Rattle.dslx_machines.specs.Machine.Parts.{calls_by_kind};
+ghost use Rattle.dslx_core.specs.Machines.Machine.Parts.{calls_by_kind};
 ghost use Rattle.dslx_instance_parts.specs.Inner.Calls.{function_called, the_instance};
 ghost use Rattle.dslx_instance.specs.Tasks.Shown.{body_shown, instance_env_of};
 

@@ -3,13 +3,13 @@
 ghost use Rattle.std.specs.Prelude.{◌≡◌, ◌∷◌, ◌++◌, [], List, Some, IfOk};
 ghost use Rattle.dslx_meaning.specs.Lists.{and_then, where_true};
 ghost use Rattle.dslx_tree.specs.declared.expr.FieldValue.{out-FieldValue};
-ghost use Rattle.dslx_const_machine.specs.Layers.{field_among};
+ghost use Rattle.dslx_names.specs.ConstMachine.Layers.{field_among};
 ghost use Rattle.dslx_core.specs.Lowering.Functions.{CoreInstance};
 ghost use Rattle.dslx_core.specs.Lowering.Lowering.{lower_field};
 ghost use Rattle.dslx_core.specs.Lowering.Trees.{of_type};
-ghost use Rattle.dslx_machines.specs.Machine.Bodies.{doing, with_last, with_made};
-ghost use Rattle.dslx_machines.specs.Machine.Parts.{field_begins, field_value_begins, fields_on, others_taken};
-ghost use Rattle.dslx_machines.specs.Machine.Tasks.{GathersFields};
+ghost use Rattle.dslx_core.specs.Machines.Machine.Bodies.{doing, with_last, with_made};
+ghost use Rattle.dslx_core.specs.Machines.Machine.Parts.{field_begins, field_value_begins, fields_on, others_taken};
+ghost use Rattle.dslx_core.specs.Machines.Machine.Tasks.{GathersFields};
 ghost use Rattle.dslx_instance.specs.Tasks.Shown.{body_shown, others_shown, instance_env_of, struct_shown};
 
 use crate::order::put_behind;

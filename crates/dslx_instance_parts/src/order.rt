@@ -4,20 +4,20 @@ ghost use Rattle.std.specs.Prelude.{◌≡◌, ◌∷◌, ◌++◌, [], List, So
 ghost use Rattle.dslx_meaning.specs.Lists.{and_then, where_true};
 ghost use Rattle.dslx_core.specs.Lowering.Functions.{CoreInstance};
 ghost use Rattle.dslx_core.specs.Lowering.Lowering.{LoweredExpr};
-ghost use Rattle.dslx_machines.specs.Machine.Bodies.{doing, with_last, with_made};
-ghost use Rattle.dslx_machines.specs.Machine.Parts.{gathers, made_of_parts, part_begins, part_taken};
-ghost use Rattle.dslx_machines.specs.Machine.Tasks.{Gathers};
+ghost use Rattle.dslx_core.specs.Machines.Machine.Bodies.{doing, with_last, with_made};
+ghost use Rattle.dslx_core.specs.Machines.Machine.Parts.{gathers, made_of_parts, part_begins, part_taken};
+ghost use Rattle.dslx_core.specs.Machines.Machine.Tasks.{Gathers};
 ghost use Rattle.dslx_instance.specs.Tasks.Shown.{body_shown, parts_shown, parts_task_shown, instance_env_of};
 ghost use Rattle.dslx_instance_parts.specs.Inner.Elements.{begins_by, element_by, number_by};
 
 use crate::call::begin_call;
-use dslx_const_tasks::items::{untyped_of, number_of};
+use dslx_const_tasks::items::{number_of, untyped_of};
 use dslx_core::lowering::LoweredExpr;
 use dslx_core_calls::aggregates::{lower_array_elements, lower_filled, lower_tuple};
 use dslx_instance::tasks::{LowerTask, OpenBody, PartsMaker, PartsTask};
 use dslx_instance_steps::fits_part;
 use dslx_instance_steps::scopes::literal_if;
-use dslx_meaning::{UntypedLiteral, DslxType};
+use dslx_meaning::{DslxType, UntypedLiteral};
 use dslx_tree::{Expr, Module};
 use std::alloc::{AllocError, Global};
 
@@ -180,6 +180,13 @@ fn make_parts<'a>(
             let array = lower_filled(alloc, body.count, ty, dots, size, exprs)?;
             body.give_if(array)
         }
-        PartsMaker::Call(name, parametric_args) => begin_call(body, alloc, text, name, parametric_args, exprs),
+        PartsMaker::Call(name, parametric_args) => begin_call(
+            body,
+            alloc,
+            text,
+            name,
+            parametric_args,
+            exprs,
+        ),
     }
 }

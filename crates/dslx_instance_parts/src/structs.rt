@@ -6,7 +6,7 @@ ghost use Rattle.std.specs.Option.{option_copied};
 ghost use Rattle.dslx_meaning.specs.Lists.{and_then, is_in, where_true};
 ghost use Rattle.dslx_meaning.specs.declared.ty.DslxType.{Struct as struct_of, out-DslxType};
 ghost use Rattle.dslx_core.specs.Lowering.Functions.{CoreInstance};
-ghost use Rattle.dslx_machines.specs.Machine.Parts.{fields_begin, names_of_fields, struct_begins};
+ghost use Rattle.dslx_core.specs.Machines.Machine.Parts.{fields_begin, names_of_fields, struct_begins};
 ghost use Rattle.dslx_instance.specs.Tasks.Shown.{body_shown, instance_env_of};
 ghost use Rattle.dslx_instance_parts.specs.Inner.Fields.{fields_by, others_needed};
 

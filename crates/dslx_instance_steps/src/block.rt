@@ -3,8 +3,8 @@
 ghost use Rattle.std.specs.Prelude.{◌≡◌, Some, IfOk, OnOk};
 ghost use Rattle.dslx_tree.specs.declared.block.Stmt.{out-Stmt};
 ghost use Rattle.dslx_meaning.specs.Lists.{where_true};
-ghost use Rattle.dslx_machines.specs.Machine.Bodies.{gives, with_last, with_made};
-ghost use Rattle.dslx_machines.specs.Machine.Steps.{bind_made, last_begins, statements_begin, stmt_begins};
+ghost use Rattle.dslx_core.specs.Machines.Machine.Bodies.{gives, with_last, with_made};
+ghost use Rattle.dslx_core.specs.Machines.Machine.Steps.{bind_made, last_begins, statements_begin, stmt_begins};
 ghost use Rattle.dslx_instance.specs.Tasks.Shown.{body_shown};
 
 use dslx_core::Shape;

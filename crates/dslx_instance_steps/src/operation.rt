@@ -3,14 +3,12 @@
 ghost use Rattle.std.specs.Prelude.{◌≡◌, ◌∷◌, Some, IfOk};
 ghost use Rattle.dslx_meaning.specs.Lists.{and_then, where_true};
 ghost use Rattle.dslx_core.specs.Lowering.Lowering as lowering;
-ghost use Rattle.dslx_machines.specs.Machine.Steps.{of_last, of_last_two, of_last_three};
+ghost use Rattle.dslx_core.specs.Machines.Machine.Steps.{of_last, of_last_two, of_last_three};
 
 use base::stacks::Stack;
 use dslx_core::lowering::LoweredExpr;
 use dslx_core_exprs::control::{lower_choice, lower_element, lower_index};
-use dslx_core_exprs::operators::{
-    lower_binary, lower_cast, lower_part, lower_prefix, lower_slice,
-};
+use dslx_core_exprs::operators::{lower_binary, lower_cast, lower_part, lower_prefix, lower_slice};
 use dslx_meaning::DslxType;
 use dslx_tree::{Binary, Prefix};
 use std::alloc::{AllocError, Global};

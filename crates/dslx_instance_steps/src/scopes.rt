@@ -1,10 +1,10 @@
 //! What names, numbers, constants and written types are where a body of an instance stands.
+mod context;
 mod known;
 mod name;
-mod context;
 
 /// Of the crate below, passed on: a crate that stands on this one need not name that one too.
+pub use context::scope_env_in;
 pub use dslx_scope_names::names::{member_named, struct_named};
 pub use known::{bound_in_body, constant_in_body, constants_in_body, type_in_body};
-pub use name::{literal_if, name_in_body, number_in_body, lower_slot};
-pub use context::scope_env_in;
+pub use name::{literal_if, lower_slot, name_in_body, number_in_body};

@@ -4,9 +4,9 @@ ghost use Rattle.std.specs.Prelude.{◌≡◌, ◌∷◌, [], Some, OnOk};
 ghost use Rattle.dslx_tree.specs.declared.expr.For.{out-For};
 ghost use Rattle.dslx_meaning.specs.Lists.{where_true};
 ghost use Rattle.dslx_core.specs.declared.expr.Shape.{Bound as bound_shape};
-ghost use Rattle.dslx_machines.specs.Machine.Bodies.{doing, restores, unnamed};
-ghost use Rattle.dslx_machines.specs.Machine.Parts.{part_taken};
-ghost use Rattle.dslx_machines.specs.Machine.Tasks.{Gathers, LoopBegins, LowersArms, LowersBlock, LowersExpr, Makes, MakesBind, MakesChoice};
+ghost use Rattle.dslx_core.specs.Machines.Machine.Bodies.{doing, restores, unnamed};
+ghost use Rattle.dslx_core.specs.Machines.Machine.Parts.{part_taken};
+ghost use Rattle.dslx_core.specs.Machines.Machine.Tasks.{Gathers, LoopBegins, LowersArms, LowersBlock, LowersExpr, Makes, MakesBind, MakesChoice};
 ghost use Rattle.dslx_instance.specs.Tasks.Shown.{body_shown, parts_shown};
 
 use dslx_core::Shape;

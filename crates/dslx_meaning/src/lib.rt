@@ -8,4 +8,4 @@ mod ty;
 mod value;
 
 pub use ty::{BitKind, DslxType};
-pub use value::{UntypedLiteral, DslxValue, SignedWord};
+pub use value::{DslxValue, SignedWord, UntypedLiteral};

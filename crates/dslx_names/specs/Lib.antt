@@ -4,3 +4,5 @@ pub mod Bound
 pub mod Called
 -- sends and receives
 pub mod Sites
+-- a machine for the values of expressions of a text, and that it finds what they mean
+pub mod ConstMachine

@@ -1,7 +1,7 @@
 ghost use Rattle.std.specs.Prelude.{◌≡◌};
 ghost use Rattle.std.specs.Option.{option_copied};
 ghost use Rattle.dslx_meaning.specs.Items.{name_of_definition, item_named, as_function, as_constant, as_struct, as_enum, member_named};
-ghost use Rattle.dslx_const_machine.specs.Layers.{field_among};
+ghost use Rattle.dslx_names.specs.ConstMachine.Layers.{field_among};
 
 use base::texts::Name;
 use dslx_tree::{Constant, Definition, Enum, FieldValue, Function, Item, Member, Struct};

@@ -2,6 +2,7 @@
 #![tactic(auto)]
 
 mod callee;
+pub mod const_machine;
 mod items;
 mod scope;
 pub mod sites;

@@ -3,11 +3,11 @@ use Rattle.std.proofs.Common.{◌≡◌, ℕ, Bool, true, false, List, [], map, 
 use Rattle.dslx_tree.specs.declared.item.Module.{Module}
 use Rattle.dslx_meaning.specs.Items.{meanings_of}
 use Rattle.dslx_core.specs.Lowering.Functions.{CoreInstance, Instantiated}
-use Rattle.dslx_machines.specs.Machine.Machines.{machine_at, needing}
-use Rattle.dslx_machines.specs.Machine.Reached.{IsTable}
-use Rattle.dslx_machines.specs.Machine.Tasks.{InstanceMachine, OpenBody}
-use Rattle.dslx_machines.proofs.Lemmas.Machine.{reached_by_steps, reached_instance, reached_longer, reached_table}
-use Rattle.dslx_machines.proofs.Lemmas.Progress.Stops.{in_no_table}
+use Rattle.dslx_core.specs.Machines.Machine.Machines.{machine_at, needing}
+use Rattle.dslx_core.specs.Machines.Machine.Reached.{IsTable}
+use Rattle.dslx_core.specs.Machines.Machine.Tasks.{InstanceMachine, OpenBody}
+use Rattle.dslx_core.proofs.Lemmas.Machines.Machine.{reached_by_steps, reached_instance, reached_longer, reached_table}
+use Rattle.dslx_core.proofs.Lemmas.Machines.Progress.Stops.{in_no_table}
 use Rattle.dslx_param.specs.Run.Runs.{MachineRuns, Ends, Lacks}
 use Rattle.dslx_instance.specs.Tasks.Shown.{instance_shown, instance_env_of}
 use Rattle.dslx_instance.specs.declared.tasks.machine.OpenInstance as code

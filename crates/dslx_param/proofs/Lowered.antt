@@ -9,15 +9,15 @@ use Rattle.dslx_meaning.specs.Lists.{and_then}
 use Rattle.dslx_core.specs.Lowering.Functions.{CoreInstance}
 use Rattle.dslx_core.specs.Lowering.Lowering.{LoweredExpr}
 use Rattle.dslx_core.specs.Lowering.Trees.{lower_expression}
-use Rattle.dslx_machines.specs.Machine.Bodies.{scope_in}
-use Rattle.dslx_machines.specs.Machine.Machines.{last_made, machine_at}
-use Rattle.dslx_machines.specs.Machine.Reached.{ExtendsTable, HasEnded, IsTable, at_table, lowering_alone}
-use Rattle.dslx_machines.specs.Machine.Tasks.{InstanceMachine, InstanceEnv, LowersExpr, OpenBody}
-use Rattle.dslx_machines.proofs.Lemmas.Machine.Instances.{MachineStands, begins_itself}
-use Rattle.dslx_machines.proofs.Lemmas.Machine.{reached_by_steps, reached_expression, reached_longer, reached_table}
-use Rattle.dslx_machines.proofs.Lemmas.Machine.Scopes.{Spot, does_all, end_of, having, makes, spot_of}
-use Rattle.dslx_typing.proofs.Lemmas.Typed.{none_some, same_some}
-use Rattle.dslx_machines.proofs.Lemmas.Progress.Stops.{lowered_by_no_table}
+use Rattle.dslx_core.specs.Machines.Machine.Bodies.{scope_in}
+use Rattle.dslx_core.specs.Machines.Machine.Machines.{last_made, machine_at}
+use Rattle.dslx_core.specs.Machines.Machine.Reached.{ExtendsTable, HasEnded, IsTable, at_table, lowering_alone}
+use Rattle.dslx_core.specs.Machines.Machine.Tasks.{InstanceMachine, InstanceEnv, LowersExpr, OpenBody}
+use Rattle.dslx_core.proofs.Lemmas.Machines.Machine.Instances.{MachineStands, begins_itself}
+use Rattle.dslx_core.proofs.Lemmas.Machines.Machine.{reached_by_steps, reached_expression, reached_longer, reached_table}
+use Rattle.dslx_core.proofs.Lemmas.Machines.Machine.Scopes.{Spot, does_all, end_of, having, makes, spot_of}
+use Rattle.dslx_core.proofs.Lemmas.Typing.Typed.{none_some, same_some}
+use Rattle.dslx_core.proofs.Lemmas.Machines.Progress.Stops.{lowered_by_no_table}
 use Rattle.dslx_param.specs.Run.Runs.{MachineRuns, Ends, Lacks}
 use Rattle.dslx_instance.specs.Tasks.Shown.{machine_shown, instance_env_of}
 use Rattle.dslx_instance.specs.declared.tasks.machine.InstanceMachine as code

@@ -3,9 +3,9 @@ use Rattle.std.specs.Prelude.{◌≡◌, ℕ, List, Option, None, Some}
 use Rattle.dslx_tree.specs.declared.item.Module.{Module}
 use Rattle.dslx_meaning.specs.Items.{meanings_of}
 use Rattle.dslx_core.specs.Lowering.Functions.{CoreInstance, Instantiated, instance_in}
-use Rattle.dslx_machines.specs.Machine.Reached.{ExtendsTable, IsTable}
+use Rattle.dslx_core.specs.Machines.Machine.Reached.{ExtendsTable, IsTable}
 use Rattle.dslx_instance.specs.Tasks.Shown.{instance_env_of}
-use Rattle.dslx_machines.specs.Progress.Missing.{InNoTable}
+use Rattle.dslx_core.specs.Machines.Progress.Missing.{InNoTable}
 
 -- a table of a text's instances that begins with another, and has an instance
 pub record HasInstance (m : Module) (before : List CoreInstance) (i : Instantiated) (table : List CoreInstance) : Type 0 where

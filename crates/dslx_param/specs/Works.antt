@@ -7,7 +7,7 @@ use Rattle.dslx_names.specs.Bound.{given}
 use Rattle.dslx_core.specs.Lowering.Functions.{CoreInstance}
 use Rattle.dslx_core.specs.Lowering.Lowering.{LoweredExpr}
 use Rattle.dslx_core.specs.Lowering.Trees.{lower_expression}
-use Rattle.dslx_machines.specs.Machine.Reached.{ExtendsTable, IsTable}
+use Rattle.dslx_core.specs.Machines.Machine.Reached.{ExtendsTable, IsTable}
 use Rattle.dslx_instance.specs.declared.tasks.body.OpenBody.{OpenBody}
 use Rattle.dslx_instance.specs.Tasks.Works.{work_scope}
 use Rattle.dslx_instance.specs.declared.tasks.work.BodyWork.{BodyWork}

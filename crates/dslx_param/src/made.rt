@@ -1,7 +1,7 @@
 ghost use Rattle.std.specs.Prelude.{◌≡◌, ◌∷◌, [], IfOk};
 ghost use Rattle.dslx_meaning.specs.Items.{meanings_of};
-ghost use Rattle.dslx_machines.specs.Machine.Machines.{needing};
-ghost use Rattle.dslx_machines.specs.Machine.Reached.{IsTable};
+ghost use Rattle.dslx_core.specs.Machines.Machine.Machines.{needing};
+ghost use Rattle.dslx_core.specs.Machines.Machine.Reached.{IsTable};
 ghost use Rattle.dslx_instance.specs.Tasks.Shown.{body_shown};
 ghost use Rattle.dslx_param.specs.Made.{Adds};
 

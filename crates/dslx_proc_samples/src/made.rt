@@ -1,7 +1,7 @@
 //! The instances of a text's procs without parametrics, in the order of the text.
 
 ghost use Rattle.std.specs.Prelude.{IfOk};
-ghost use Rattle.dslx_machines.specs.Machine.Reached.{IsTable};
+ghost use Rattle.dslx_core.specs.Machines.Machine.Reached.{IsTable};
 ghost use Rattle.dslx_meaning.specs.Items.{meanings_of};
 ghost use Rattle.dslx_elab.specs.Adding.{KeepsTable};
 

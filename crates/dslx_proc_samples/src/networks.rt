@@ -98,7 +98,11 @@ fn push_children(text: &mut String, children: &[Child]) -> Result<(), AllocError
 }
 
 /// The numbers with a space between two of them, and this before the first one.
-fn push_parametric_args(text: &mut String, before: &str, parametric_args: &[u64]) -> Result<(), AllocError> {
+fn push_parametric_args(
+    text: &mut String,
+    before: &str,
+    parametric_args: &[u64],
+) -> Result<(), AllocError> {
     let mut separator = before;
     for number in parametric_args {
         text.push_str(separator)?;

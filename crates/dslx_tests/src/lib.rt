@@ -5,5 +5,6 @@
 mod nesting;
 #[cfg(test)]
 mod operators;
+pub mod parser;
 #[cfg(test)]
 mod tokens;

@@ -3,7 +3,12 @@ use std::test::Fail;
 use xb_span::nesting::{BracketClass, first_over};
 
 /// The place of the first token past the limit, of so many tokens of one role, with others before and behind them.
-fn place_of(alloc: Global, before: BracketClass, count: usize, role: BracketClass) -> Result<Option<usize>, Fail> {
+fn place_of(
+    alloc: Global,
+    before: BracketClass,
+    count: usize,
+    role: BracketClass,
+) -> Result<Option<usize>, Fail> {
     let mut bracket_classes = vec![in alloc; before]?;
     for _ in 0..count {
         bracket_classes.push(role)?;
@@ -22,8 +27,14 @@ fn limits(rt: HostRuntime) -> Result<(), Fail> {
         assert_eq!(rt; place_of(alloc, BracketClass::Open, 128, role)?, Some(129));
     }
     // each `[` is a bracket and a mark
-    assert_eq!(rt; place_of(alloc, BracketClass::Item, 64, BracketClass::OpenMark)?, None);
-    assert_eq!(rt; place_of(alloc, BracketClass::Item, 65, BracketClass::OpenMark)?, Some(66));
+    assert_eq!(rt;
+        place_of(alloc, BracketClass::Item, 64, BracketClass::OpenMark)?,
+        None
+    );
+    assert_eq!(rt;
+        place_of(alloc, BracketClass::Item, 65, BracketClass::OpenMark)?,
+        Some(66)
+    );
     Ok(())
 }
 

@@ -7,13 +7,13 @@
 #![tactic(auto)]
 
 mod blank;
+pub mod bracket_classes;
 mod characters;
 mod declared;
 mod kinds;
 mod laws;
 mod lexer;
 mod number;
-pub mod bracket_classes;
 pub mod rules;
 mod spelling;
 mod token;

@@ -6,8 +6,8 @@ ghost use Rattle.dslx_meaning.specs.Items.{meanings_of};
 ghost use Rattle.dslx_meaning.specs.Network.{top_proc};
 ghost use Rattle.dslx_meaning.specs.declared.value.DslxValue.{DslxValue};
 ghost use Rattle.dslx_meaning.specs.Rules.ModuleRules.{faults_of};
-ghost use Rattle.dslx_typing.specs.Laws.Recursion.{HasNoCycle};
-ghost use Rattle.dslx_typing.specs.Depends.Settled.{BindsNoConstant};
+ghost use Rattle.dslx_core.specs.Typing.Laws.Recursion.{HasNoCycle};
+ghost use Rattle.dslx_core.specs.Typing.Depends.Settled.{BindsNoConstant};
 ghost use Rattle.dslx_total.specs.Families.Plain.{ProcsBindNoConstant};
 ghost use Rattle.dslx_total.specs.Configs.ReachedProcs.{IsReachedProc};
 ghost use Rattle.dslx_total.specs.Configs.LowersTotally.{ConfigLowers, TopLowers};
@@ -23,8 +23,8 @@ pub fn lower_total_configs()
     ensures tops { (m : Module) (top : Option (List ℕ)) → HasNoCycle m → BindsNoConstant m → ProcsBindNoConstant m → faults_of m top ≡ []
         → (p : Proc) → top_proc m top ≡ Some p → TopLowers m (meanings_of m) top p }
 {
-    dslx_typing::typing::instances_reach_one_another();
-    dslx_typing::known::all_items_are_known();
-    dslx_typing::accepted::items_of_accepted_texts_are_well_typed();
+    dslx_core::typing::typing::instances_reach_one_another();
+    dslx_core::typing::known::all_items_are_known();
+    dslx_core::typing::accepted::items_of_accepted_texts_are_well_typed();
     dslx_scope::written_types::lower_total_written_types();
 }

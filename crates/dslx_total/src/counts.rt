@@ -5,8 +5,8 @@ ghost use Rattle.dslx_tree.specs.declared.process.Proc.{Proc};
 ghost use Rattle.dslx_meaning.specs.Network.{network_of, top_proc};
 ghost use Rattle.dslx_meaning.specs.Rules.ModuleRules.{faults_of};
 ghost use Rattle.dslx_meaning.specs.Rules.NetworkLimits.{network_count, refusal_of};
-ghost use Rattle.dslx_typing.specs.Laws.Recursion.{HasNoCycle};
-ghost use Rattle.dslx_typing.specs.Depends.Settled.{BindsNoConstant};
+ghost use Rattle.dslx_core.specs.Typing.Laws.Recursion.{HasNoCycle};
+ghost use Rattle.dslx_core.specs.Typing.Depends.Settled.{BindsNoConstant};
 ghost use Rattle.dslx_total.specs.Families.Plain.{ProcsBindNoConstant};
 
 /// Where no part of a text breaks a rule or passes a limit, the procs and channels that are counted, instance by instance, are as
@@ -16,9 +16,9 @@ pub fn networks_have_what_is_counted()
     ensures { (m : Module) (top : Option (List ℕ)) → HasNoCycle m → BindsNoConstant m → ProcsBindNoConstant m → faults_of m top ≡ [] → (p : Proc) → top_proc m top ≡ Some p
         → network_count m top p ≡ record { procs = length (network_of m top).procs; channels = length (network_of m top).chans } }
 {
-    dslx_typing::typing::instances_reach_one_another();
-    dslx_typing::known::all_items_are_known();
-    dslx_typing::accepted::items_of_accepted_texts_are_well_typed();
+    dslx_core::typing::typing::instances_reach_one_another();
+    dslx_core::typing::known::all_items_are_known();
+    dslx_core::typing::accepted::items_of_accepted_texts_are_well_typed();
 }
 
 /// So a text that isn't refused has no fault, and a network of at most 256 procs and 1,024 channels.

@@ -6,10 +6,10 @@ ghost use Rattle.dslx_meaning.specs.Items.{meanings_of};
 ghost use Rattle.dslx_meaning.specs.Network.{top_proc};
 ghost use Rattle.dslx_meaning.specs.declared.value.DslxValue.{DslxValue};
 ghost use Rattle.dslx_meaning.specs.Rules.ModuleRules.{faults_of, instances_of};
-ghost use Rattle.dslx_typing.specs.Laws.Recursion.{HasNoCycle};
-ghost use Rattle.dslx_typing.specs.Depends.Settled.{BindsNoConstant};
+ghost use Rattle.dslx_core.specs.Typing.Laws.Recursion.{HasNoCycle};
+ghost use Rattle.dslx_core.specs.Typing.Depends.Settled.{BindsNoConstant};
 ghost use Rattle.dslx_core.specs.Lowering.Steps.{lower_next, proc_globals};
-ghost use Rattle.dslx_machines.specs.Extension.Results.{NoTableGives};
+ghost use Rattle.dslx_core.specs.Machines.Extension.Results.{NoTableGives};
 ghost use Rattle.dslx_total.specs.Tables.Tables.{FunctionsHaveTable};
 ghost use Rattle.dslx_total.specs.Families.EachElaborated.{NextLowers};
 ghost use Rattle.dslx_total.specs.Families.Plain.{ProcsBindNoConstant};
@@ -24,9 +24,9 @@ pub fn lower_total_reached_nexts()
     ensures { (m : Module) (top : Option (List ℕ)) → HasNoCycle m → BindsNoConstant m → faults_of m top ≡ [] → (functions : FunctionsHaveTable m top)
         → (p : Proc) (parametric_args : List DslxValue) → IsReachedProc m (meanings_of m) top p parametric_args → NextLowers m functions.known.table p parametric_args }
 {
-    dslx_typing::typing::instances_reach_one_another();
-    dslx_typing::known::all_items_are_known();
-    dslx_typing::accepted::items_of_accepted_texts_are_well_typed();
+    dslx_core::typing::typing::instances_reach_one_another();
+    dslx_core::typing::known::all_items_are_known();
+    dslx_core::typing::accepted::items_of_accepted_texts_are_well_typed();
     crate::expressions::lower_total_expression();
     crate::expressions::members_stand();
     crate::expressions::lower_total_next();

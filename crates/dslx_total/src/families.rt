@@ -4,8 +4,8 @@ ghost use Rattle.dslx_tree.specs.declared.item.Module.{Module};
 ghost use Rattle.dslx_tree.specs.declared.process.Proc.{Proc};
 ghost use Rattle.dslx_meaning.specs.Network.{family_of, top_proc};
 ghost use Rattle.dslx_meaning.specs.Rules.ModuleRules.{faults_of};
-ghost use Rattle.dslx_typing.specs.Laws.Recursion.{HasNoCycle};
-ghost use Rattle.dslx_typing.specs.Depends.Settled.{BindsNoConstant};
+ghost use Rattle.dslx_core.specs.Typing.Laws.Recursion.{HasNoCycle};
+ghost use Rattle.dslx_core.specs.Typing.Depends.Settled.{BindsNoConstant};
 ghost use Rattle.dslx_core.specs.CoreOf.{CoreOf};
 ghost use Rattle.dslx_core.specs.declared.design.Design.{Design};
 ghost use Rattle.dslx_core.specs.Networks.Assembly.{IsDesignFrom};
@@ -23,9 +23,9 @@ pub fn accepted_texts_are_well_typed()
     ensures stands { (m : Module) (top : Option (List ℕ)) (design : Design) → HasNoCycle m → BindsNoConstant m → ProcsBindNoConstant m → faults_of m top ≡ []
         → IsDesignFrom m top design → CoreOf m top design }
 {
-    dslx_typing::typing::instances_reach_one_another();
-    dslx_typing::known::all_items_are_known();
-    dslx_typing::accepted::items_of_accepted_texts_are_well_typed();
+    dslx_core::typing::typing::instances_reach_one_another();
+    dslx_core::typing::known::all_items_are_known();
+    dslx_core::typing::accepted::items_of_accepted_texts_are_well_typed();
     crate::expressions::lower_total_expression();
     crate::words::words_of_ends_have_widths();
     crate::texts::well_typed_texts_simulate();
@@ -37,9 +37,9 @@ pub fn lower_total_nexts()
     ensures { (m : Module) (top : Option (List ℕ)) → HasNoCycle m → BindsNoConstant m → ProcsBindNoConstant m → faults_of m top ≡ [] → (functions : FunctionsHaveTable m top)
         → (p : Proc) → top_proc m top ≡ Some p → EachElaborated (NextLowers m functions.known.table) (family_of m p).procs }
 {
-    dslx_typing::typing::instances_reach_one_another();
-    dslx_typing::known::all_items_are_known();
-    dslx_typing::accepted::items_of_accepted_texts_are_well_typed();
+    dslx_core::typing::typing::instances_reach_one_another();
+    dslx_core::typing::known::all_items_are_known();
+    dslx_core::typing::accepted::items_of_accepted_texts_are_well_typed();
     crate::expressions::lower_total_expression();
     crate::expressions::members_stand();
     crate::expressions::lower_total_next();

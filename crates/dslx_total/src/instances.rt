@@ -4,12 +4,12 @@ ghost use Rattle.std.specs.Prelude.{◌≡◌, ◌≤◌, ℕ, List, [], Option,
 ghost use Rattle.dslx_tree.specs.declared.item.Module.{Module};
 ghost use Rattle.dslx_meaning.specs.Items.{meanings_of};
 ghost use Rattle.dslx_meaning.specs.Rules.ModuleRules.{faults_of, instances_of};
-ghost use Rattle.dslx_typing.specs.Laws.Recursion.{HasNoCycle};
-ghost use Rattle.dslx_typing.specs.Depends.Settled.{BindsNoConstant};
+ghost use Rattle.dslx_core.specs.Typing.Laws.Recursion.{HasNoCycle};
+ghost use Rattle.dslx_core.specs.Typing.Depends.Settled.{BindsNoConstant};
 ghost use Rattle.dslx_core.specs.Lowering.Functions.{CoreInstance, Instantiated};
 ghost use Rattle.dslx_core.specs.Lowering.Instances.{InstancesSimulate};
-ghost use Rattle.dslx_machines.specs.Machine.Reached.{IsTable};
-ghost use Rattle.dslx_machines.specs.Progress.Missing.{InNoTable};
+ghost use Rattle.dslx_core.specs.Machines.Machine.Reached.{IsTable};
+ghost use Rattle.dslx_core.specs.Machines.Progress.Missing.{InNoTable};
 ghost use Rattle.dslx_total.specs.Instances.Reached.{IsReachedInstance, ExistsInTable};
 
 /// Where no part of a text breaks a rule or passes a limit, each instance of a table of its instances stands for the text's
@@ -19,9 +19,9 @@ pub fn instances_have_their_values()
     ensures { (m : Module) (top : Option (List ℕ)) → HasNoCycle m → BindsNoConstant m → faults_of m top ≡ []
         → (table : List CoreInstance) → IsTable m (meanings_of m) table → InstancesSimulate m (meanings_of m) table }
 {
-    dslx_typing::accepted::items_of_accepted_texts_are_well_typed();
+    dslx_core::typing::accepted::items_of_accepted_texts_are_well_typed();
     dslx_core::constants::items_are_own();
-    dslx_typing::laws::recursion_ends();
+    dslx_core::typing::laws::recursion_ends();
     dslx_core::lowering::lower_preserves_instances();
 }
 
@@ -36,6 +36,6 @@ pub fn accepted_instances_are_in_a_table()
         → (before : List CoreInstance) → InNoTable (record { text = m; items = meanings_of m; table = before }) limit i → ⊥ }
     ensures few { (m : Module) (top : Option (List ℕ)) → faults_of m top ≡ [] → length (instances_of m top) ≤ 4096 }
 {
-    dslx_typing::accepted::items_of_accepted_texts_are_well_typed();
+    dslx_core::typing::accepted::items_of_accepted_texts_are_well_typed();
     crate::tables::accepted_functions_have_a_table();
 }

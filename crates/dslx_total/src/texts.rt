@@ -11,9 +11,9 @@ ghost use Rattle.dslx_total.specs.Texts.WellTypedTexts.{IsWellTypedText};
 pub fn well_typed_texts_simulate()
     ensures { (m : Module) (top : Option (List ℕ)) (design : Design) → IsWellTypedText m top → IsDesignFrom m top design → CoreOf m top design }
 {
-    dslx_typing::known::all_items_are_known();
-    dslx_typing::denotation::global_env_is_sound();
+    dslx_core::typing::known::all_items_are_known();
+    dslx_core::typing::denotation::global_env_is_sound();
     dslx_core::constants::items_are_own();
-    dslx_typing::procs::well_typed_procs_have_well_typed_nexts();
+    dslx_core::typing::procs::well_typed_procs_have_well_typed_nexts();
     dslx_core::behaviors::lower_preserves_designs();
 }

@@ -4,10 +4,10 @@ ghost use Rattle.dslx_tree.specs.declared.process.End.{End};
 ghost use Rattle.dslx_meaning.specs.Environment.{Env};
 ghost use Rattle.dslx_meaning.specs.Rules.TypeEnvs.{TypeEnv};
 ghost use Rattle.dslx_meaning.specs.Rules.ProcRules.{ends_found};
-ghost use Rattle.dslx_typing.specs.Typed.WellTyped.{IsWellTypedEnv};
+ghost use Rattle.dslx_core.specs.Typing.Typed.WellTyped.{IsWellTypedEnv};
 ghost use Rattle.dslx_total.specs.Expressions.Beside.{NamesHaveWidths};
 ghost use Rattle.dslx_total.specs.Expressions.Members.{EachHasWords};
-ghost use Rattle.dslx_typing.specs.Procs.WordsOfEnds.{WordsAreValues};
+ghost use Rattle.dslx_core.specs.Typing.Procs.WordsOfEnds.{WordsAreValues};
 
 /// Ends of channels with which nothing is wrong, where the type environment is well typed and all bits of named types have a width:
 /// all bits in their words are 1 to 128 wide, and whatever a word has, it is a value of the type of the end's words.

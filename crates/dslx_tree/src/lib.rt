@@ -25,5 +25,5 @@ pub use item::{
 };
 pub use operator::{Binary, LEVELS, Prefix};
 pub use pattern::{Pattern, Shape};
-pub use process::{Channel, Config, Direction, End, ConfigStatement, Next, Proc, Spawn};
+pub use process::{Channel, Config, ConfigStatement, Direction, End, Next, Proc, Spawn};
 pub use type_expr::{TypeExpr, TypeNode};

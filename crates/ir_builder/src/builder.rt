@@ -8,8 +8,8 @@ ghost use Rattle.ir_builder.specs.Empty.{empty};
 
 use crate::lines::name_of;
 use crate::rule::rule_of;
-use base::stacks::Stack;
 use crate::state::{NOWHERE, State};
+use base::stacks::Stack;
 use grammar::Step;
 use ir_token::Token;
 use ir_tree::Package;

@@ -5,10 +5,10 @@ ghost use Rattle.ir_token.specs.Inner.Entries.{HasTokenPrefix};
 ghost use Rattle.ir_token.specs.TokenPrefixes.{word_goes_on, name_len, number_prefix, token_prefix};
 
 use crate::characters::mark_kind;
-use dslx_token::byte_at;
 use crate::number::{digits_len, value_of_number};
 use crate::rules::kind::END;
 use base::texts::{begins_word, is_word_byte};
+use dslx_token::byte_at;
 
 fn word_goes_on(byte: u8, behind: u8) -> bool
     ensures { result ≡ word_goes_on byte behind }

@@ -5,9 +5,9 @@
 
 mod checks;
 mod fitting;
+mod line_spans;
 mod lines;
 mod names;
-mod line_spans;
 pub mod same;
 pub mod typed;
 mod verified;

@@ -13,11 +13,11 @@ ghost use Rattle.ir_verify.specs.Verified.{IsVerified, nowhere, nowhere_proc, no
 
 use crate::checks::note;
 use crate::fitting::Scope;
+use crate::line_spans::{LineSpans, ProcSpans};
 use crate::lines::{
     Seen, is_after_all, note_channel, note_head, note_next, note_node, note_package,
 };
 use crate::names::Names;
-use crate::line_spans::{LineSpans, ProcSpans};
 use ir_tree::{Channel, IrType, Node, Package, Proc, Role};
 use std::alloc::{AllocError, Global};
 use xb_span::{Fault, Limit, ReadError, Span, What};
@@ -68,7 +68,11 @@ fn span_at(spans: &[Span], place: usize) -> Span
 }
 
 /// The fault that is named, if there is one.
-fn first_fault(alloc: Global, ir: &Package, line_spans: &LineSpans) -> Result<Option<Fault>, AllocError>
+fn first_fault(
+    alloc: Global,
+    ir: &Package,
+    line_spans: &LineSpans,
+) -> Result<Option<Fault>, AllocError>
     ensures { IfOk result (λ fault. fault ≡ first_fault ir.now line_spans.now) }
 {
     let channels = ir.channels.as_slice();

@@ -2,6 +2,7 @@
 #![tactic(auto)]
 
 mod asking;
+pub mod blocks;
 mod body;
 mod checks;
 mod sample;

@@ -1,6 +1,6 @@
-use block_samples::{Action, Asserted, Machine, Next, Ports, Sample, SampleSite, word};
 use block_stage::fifo::RowFifo;
 use block_stage::machine::{Handling, Logic, Table2, Table3, pipeline_logic};
+use net_samples::blocks::{Action, Asserted, Machine, Next, Ports, Sample, SampleSite, word};
 use xb_bits::Bits;
 
 /// What stands at the ports of channels 0 and 1.
@@ -163,7 +163,12 @@ fn between(machine: &mut Machine, sample: &Sample, from: &RowFifo<1>, to: &RowFi
     machine.cycle(
         &pipeline_logic(),
         sample,
-        &ports(from.valid_word(), from.valid_word(), to.has_room(), to.has_room()),
+        &ports(
+            from.valid_word(),
+            from.valid_word(),
+            to.has_room(),
+            to.has_room(),
+        ),
     )
 }
 

@@ -33,7 +33,13 @@ pub fn replacement_for(state: &IrType, nodes: &[Node], node: &Node) -> Option<No
 {
     let operands = node.operands.as_slice();
     match &node.attributes {
-        Attributes::None => plain_replacement(state, nodes, node.op, bits_width(&node.ty), operands),
+        Attributes::None => plain_replacement(
+            state,
+            nodes,
+            node.op,
+            bits_width(&node.ty),
+            operands,
+        ),
         Attributes::StartAndWidth(start, width) => {
             slice_of_one(state, nodes, *start, *width, operands)
         }
@@ -240,7 +246,12 @@ fn extension_of(
     }
 }
 
-fn longer_of(state: &IrType, nodes: &[Node], kind: Extend, operand: Operand) -> Option<NodeReplacement>
+fn longer_of(
+    state: &IrType,
+    nodes: &[Node],
+    kind: Extend,
+    operand: Operand,
+) -> Option<NodeReplacement>
     ensures { result ≡ longer_of state.now nodes.now kind operand }
 {
     match extended(nodes, kind, operand) {

@@ -106,7 +106,12 @@ fn zero_of(alloc: Global, total: u128) -> Result<RewrittenNode, AllocError>
     Ok(RewrittenNode::Node(zero(alloc, total)?))
 }
 
-fn extension_of(alloc: Global, kind: Extend, a: Operand, total: u128) -> Result<RewrittenNode, AllocError>
+fn extension_of(
+    alloc: Global,
+    kind: Extend,
+    a: Operand,
+    total: u128,
+) -> Result<RewrittenNode, AllocError>
     ensures { IfOk result (λ x. x ≡ rewritten_node.Node (extension_node kind a total)) }
 {
     Ok(RewrittenNode::Node(extension(alloc, kind, a, total)?))

@@ -9,7 +9,7 @@ ghost use Rattle.task_queue.specs.Round.Shares.{HoldsNone};
 ghost use Rattle.proc_task.specs.Outcome.Places.{head_sends, head_receives};
 ghost use Rattle.proc_runner.specs.Inner.Started.{AreHeads, IsHead, AreLeft};
 
-use crate::ports::{inlets, outlets, indices};
+use crate::ports::{indices, inlets, outlets};
 use chan_queue::{RecvPass, SendPass, Streams};
 use net_core::{Net, ProcHead};
 use proc_task::outcome::{receiver, sender};

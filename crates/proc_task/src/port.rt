@@ -103,7 +103,11 @@ impl<S: Streams> Inlet<S> {
 }
 
 /// The two ends of a channel tell each other how many words they sent and received.
-pub(crate) fn meet<S: Streams, H: Runtime<S>>(runtime: &H, outlet: &mut Outlet<S>, inlet: &mut Inlet<S>)
+pub(crate) fn meet<S: Streams, H: Runtime<S>>(
+    runtime: &H,
+    outlet: &mut Outlet<S>,
+    inlet: &mut Inlet<S>,
+)
     requires outlet { IsOutlet (H.run runtime.now) (H.lines runtime.now) outlet.old }
     requires inlet { IsInlet (H.run runtime.now) (H.lines runtime.now) inlet.old }
     requires ends { AreEnds outlet.old inlet.old }

@@ -6,8 +6,8 @@ ghost use Rattle.net_core.specs.Outcomes.{stall_for};
 ghost use Rattle.chan_queue.specs.Streams.Moves.{sent_first, received_first};
 ghost use Rattle.proc_task.specs.Moving.{IsTask, IsNewTask, IsBefore, IsHeldAt, Waits, IsSameTask, IsSameButOutlet, IsSameButInlet, IsSameButPorts, MeetAt, HasMetAt, IsAtSiteIn, HasSiteOn, end_at, position_of};
 
-use crate::runtime::Runtime;
 use crate::port::{Inlet, Outlet, inlet_on, meet, outlet_on};
+use crate::runtime::Runtime;
 use chan_queue::Streams;
 use net_core::{Event, ProcEnd, Site, Stall};
 use std::alloc::{AllocError, Global};

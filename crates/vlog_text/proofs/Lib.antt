@@ -6,3 +6,5 @@ pub mod OnPrinter
 pub mod OnReader
 -- what is printed reads back
 pub mod OnRoundTrip
+-- building the module of a text of the Verilog subset, from the bottom up
+pub mod OnBuilder

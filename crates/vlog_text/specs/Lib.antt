@@ -6,3 +6,5 @@ pub mod Printer
 pub mod Reader
 -- what is printed reads back
 pub mod RoundTrip
+-- building the module of a text of the Verilog subset, from the bottom up
+pub mod Builder

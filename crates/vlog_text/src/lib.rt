@@ -1,6 +1,7 @@
 //! Verilog texts: their printer, their reader, and that what is printed reads back.
 #![tactic(auto)]
 
+pub mod builder;
 pub mod parser;
 pub mod printer;
 pub mod reader;

@@ -8,6 +8,6 @@
 mod laws;
 mod reader;
 
+pub use crate::builder::Parsed;
 pub use laws::one_parsing;
 pub use reader::parse;
-pub use vlog_builder::Parsed;

@@ -6,10 +6,10 @@ ghost use Rattle.vlog_token.specs.Inner.Entries.{HasTokenOf};
 ghost use Rattle.vlog_token.specs.TokenPrefixes.{digit_run, prefix_digits, value_digits, begins_value, begins_literal, is_in_range, number_len, mark_len, signed_len, word_run, token_prefix_len};
 
 use crate::characters::{double_kind, is_triple, single_kind};
-use dslx_token::byte_at;
 use crate::power::is_below;
 use crate::rules::kind::END;
 use base::texts::{begins_word, is_word_byte};
+use dslx_token::byte_at;
 use std::alloc::{AllocError, Global};
 
 /// How far the digits at the front of a text go.

@@ -6,13 +6,13 @@ ghost use Rattle.vlog_token.specs.Inner.Entries.{entry_of};
 ghost use Rattle.vlog_token.specs.Kinds.{verilog_words, digits_kind, mark_kind, verilog_kind};
 
 use crate::characters::{double_kind, single_kind};
-use dslx_token::byte_at;
 use crate::front::{begins_literal, prefix_digits};
 use crate::rules::kind::{
     ALWAYS, ASHR, ASSIGN, BEGIN, CLK, ELSE, END, ENDBLOCK, ENDMODULE, IF, INPUT, LITERAL, MODULE,
     NAME, NUMBER, OUTPUT, POSEDGE, REG, RST, SIGNED, WIRE, ZERO,
 };
 use base::texts::begins_word;
+use dslx_token::byte_at;
 
 const WORDS: [(&[u8], u8); 15] = [
     (b"assign", ASSIGN),

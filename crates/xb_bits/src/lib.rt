@@ -6,18 +6,18 @@
 #![tactic(auto)]
 
 mod arithmetic;
+mod bit_positions;
 mod bits;
 mod logic;
 mod numbers;
 mod order;
 mod parts;
-mod bit_positions;
 mod shifts;
 
 pub use arithmetic::{add, mul, neg, sub, udiv, umod};
+pub use bit_positions::{clz, ctz, rev};
 pub use bits::Bits;
 pub use logic::{and, and_reduce, not, or, or_reduce, xor, xor_reduce};
 pub use order::{cmp_s, cmp_u};
 pub use parts::{concat, dyn_slice, sext, slice, zext};
-pub use bit_positions::{clz, ctz, rev};
 pub use shifts::{shll, shra, shrl};

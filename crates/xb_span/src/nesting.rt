@@ -3,8 +3,8 @@
 //! The limit on it bounds how high a tree is, and so each recursion over trees: by about half of its square, since the
 //! marks in a bracket count no more where it closes (`dslx_parser::depths`). What a token does to the nesting of those behind it
 //! is its [`BracketClass`].
-mod depth;
 mod bracket_class;
+mod depth;
 
-pub use depth::{MOST, first_over};
 pub use bracket_class::BracketClass;
+pub use depth::{MOST, first_over};

@@ -38,7 +38,11 @@ pub enum PatternAction {
 }
 
 /// Does what is done where a tree of a rule of types is complete.
-pub fn reduce_type(parts: &mut SemanticStacks, alloc: Global, rule: TypeAction) -> Result<(), AllocError>
+pub fn reduce_type(
+    parts: &mut SemanticStacks,
+    alloc: Global,
+    rule: TypeAction,
+) -> Result<(), AllocError>
     ensures { OnOk result (parts.new ≡ reduced_type rule parts.old) }
 {
     match rule {
@@ -55,7 +59,11 @@ pub fn reduce_type(parts: &mut SemanticStacks, alloc: Global, rule: TypeAction) 
 }
 
 /// Does what is done where a tree of a rule of patterns is complete.
-pub fn reduce_pattern(parts: &mut SemanticStacks, alloc: Global, rule: PatternAction) -> Result<(), AllocError>
+pub fn reduce_pattern(
+    parts: &mut SemanticStacks,
+    alloc: Global,
+    rule: PatternAction,
+) -> Result<(), AllocError>
     ensures { OnOk result (parts.new ≡ reduced_pattern rule parts.old) }
 {
     match rule {

@@ -11,7 +11,7 @@ use Rattle.dslx_meaning.specs.declared.ty.DslxType.TheOpen.{DslxType-F}
 use Rattle.dslx_meaning.specs.declared.ty.DslxType.TheVariants as type_rolls
 use Rattle.dslx_meaning.specs.declared.ty.DslxType.TheFolds.{fold-roll-DslxType, map-DslxType}
 use Rattle.dslx_meaning.specs.declared.ty.DslxType.TheViews as type_views
-use Rattle.dslx_typing.proofs.Lemmas.Typed.{type_induction}
+use Rattle.dslx_core.proofs.Lemmas.Typing.Typed.{type_induction}
 use Rattle.dslx_core.specs.Lowering.Steps.{can_travel, is_sized}
 use Rattle.dslx_config.specs.Channels.Widths.{has_word_widths, word_widths_step}
 

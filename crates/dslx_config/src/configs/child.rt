@@ -34,7 +34,9 @@ pub(crate) fn children_there<'a>(
     let mut children = Vec::new(alloc);
     'config_statements: for config_statement in config_statements {
         match config_statement {
-            ConfigStatement::Spawn(spawn) => match child_there(alloc, context, ends, procs, spawn)? {
+            ConfigStatement::Spawn(spawn) => match child_there(
+                alloc, context, ends, procs, spawn,
+            )? {
                 Some(child) => children.push(child)?,
                 None => return Ok(None),
             },
@@ -54,8 +56,20 @@ fn child_there<'a>(
     ensures { IfOk result (λ child. child ≡ lower_child context.entry.text.now (scope_seen context.entry) (map held ends.now) procs.now spawn.now) }
 {
     match find_proc(context.text.items.as_slice(), &spawn.target.name) {
-        Some(target) => match spawn_parametric_args(alloc, context, target, spawn.arguments.as_slice())? {
-            Some(parametric_args) => child_of(alloc, ends, procs, spawn, parametric_args.as_slice(), target),
+        Some(target) => match spawn_parametric_args(
+            alloc,
+            context,
+            target,
+            spawn.arguments.as_slice(),
+        )? {
+            Some(parametric_args) => child_of(
+                alloc,
+                ends,
+                procs,
+                spawn,
+                parametric_args.as_slice(),
+                target,
+            ),
             None => Ok(None),
         },
         None => Ok(None),
@@ -87,7 +101,11 @@ fn child_of(
 }
 
 /// The number of the first instance of a name and parametric arguments. It looks at the instances up to that one.
-pub fn instance_number(procs: &[ProcInstance], name: &Name, parametric_args: &[DslxValue]) -> Option<u64>
+pub fn instance_number(
+    procs: &[ProcInstance],
+    name: &Name,
+    parametric_args: &[DslxValue],
+) -> Option<u64>
     ensures { result ≡ instance_of_proc name.now parametric_args.now 0 procs.now }
 {
     'procs: for i in 0..procs.len() {

@@ -8,7 +8,7 @@ ghost use Rattle.dslx_core.specs.Networks.Ends.{end_number as number_of_end, end
 ghost use Rattle.dslx_config.specs.Configs.Shown.{held};
 
 use base::texts::Name;
-use dslx_tree::{Channel, End, Ident, ConfigStatement, Proc};
+use dslx_tree::{Channel, ConfigStatement, End, Ident, Proc};
 use std::alloc::{AllocError, Global};
 use xb_value::Seq;
 
@@ -30,7 +30,11 @@ pub(crate) fn numbered_ends<'a>(
     let mut ends = Vec::new(alloc);
     number_given(&mut ends, process.config.ends.as_slice())?;
     let given = process.config.ends.len() as u64;
-    number_made(&mut ends, given, process.config.config_statements.as_slice())?;
+    number_made(
+        &mut ends,
+        given,
+        process.config.config_statements.as_slice(),
+    )?;
     Ok(ends)
 }
 

@@ -27,7 +27,12 @@ pub(crate) fn spawn_parametric_args<'a>(
     ensures { IfOk result (λ parametric_args. parametric_args ≡ lower_spawn_parametrics (scope_seen context.entry) target.now arguments.now) }
 {
     match given_parametric_args(alloc, context, arguments)? {
-        Some(given) => all_parametric_args(alloc, context.text, target.parametrics.as_slice(), given),
+        Some(given) => all_parametric_args(
+            alloc,
+            context.text,
+            target.parametrics.as_slice(),
+            given,
+        ),
         None => Ok(None),
     }
 }

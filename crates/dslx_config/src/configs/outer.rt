@@ -29,7 +29,11 @@ pub fn outers_there<'a>(
     ensures { IfOk result (λ outers. outers ≡ lower_outers (meanings_of text.now) top.now) }
 {
     let parametric_args = top_parametric_args(alloc, text, top)?;
-    let bound = bindings_of(alloc, top.parametrics.as_slice(), parametric_args.as_slice())?;
+    let bound = bindings_of(
+        alloc,
+        top.parametrics.as_slice(),
+        parametric_args.as_slice(),
+    )?;
     let locals = Locals::new(alloc);
     let context = ScopeEnv {
         text,

@@ -1,7 +1,7 @@
 //! Members by their names.
 
 ghost use Rattle.std.specs.Prelude.{◌≡◌, [], Some, IfOk};
-ghost use Rattle.dslx_machines.specs.Machine.Callees.{CalleesByName};
+ghost use Rattle.dslx_core.specs.Machines.Machine.Callees.{CalleesByName};
 ghost use Rattle.dslx_core.specs.Lowering.Steps.{can_travel as travels, member_in};
 ghost use Rattle.dslx_meaning.specs.Lists.{where_true};
 ghost use Rattle.dslx_scope_patterns.specs.Patterns.Behind.{body_scope};

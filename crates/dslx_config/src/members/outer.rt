@@ -1,7 +1,7 @@
 //! Written types where nothing is bound but parametrics.
 
 ghost use Rattle.std.specs.Prelude.{◌≡◌, [], IfOk};
-ghost use Rattle.dslx_machines.specs.Machine.Callees.{CalleesByName};
+ghost use Rattle.dslx_core.specs.Machines.Machine.Callees.{CalleesByName};
 ghost use Rattle.dslx_core.specs.Lowering.Trees.{lower_type_of_text};
 ghost use Rattle.dslx_scope_patterns.specs.Patterns.Behind.{body_scope};
 

@@ -3,17 +3,17 @@
 ghost use Rattle.dslx_meaning.specs.Inference.{inferred_for as number_for};
 ghost use Rattle.dslx_meaning.specs.Values.{type_of_value as the_type};
 ghost use Rattle.std.specs.Prelude.{◌≡◌, ◌∷◌, ◌==◌, [], Some, OnOk, IfOk, map, length, nat_lt};
-ghost use Rattle.dslx_const_machine.specs.Items.{uses_function, at_function, call_fails, body_begins, operands_on, call_begins, default_begins, parametric_begins, parametrics_on, parametric_given};
-ghost use Rattle.dslx_const_machine.specs.States.{back_at};
-ghost use Rattle.dslx_const_machine.specs.Steps.{stepped};
-ghost use Rattle.dslx_const_machine.specs.Tasks.{GivesParametric, GivesOperands, FindsParametrics};
+ghost use Rattle.dslx_names.specs.ConstMachine.Items.{uses_function, at_function, call_fails, body_begins, operands_on, call_begins, default_begins, parametric_begins, parametrics_on, parametric_given};
+ghost use Rattle.dslx_names.specs.ConstMachine.States.{back_at};
+ghost use Rattle.dslx_names.specs.ConstMachine.Steps.{stepped};
+ghost use Rattle.dslx_names.specs.ConstMachine.Tasks.{GivesParametric, GivesOperands, FindsParametrics};
 ghost use Rattle.dslx_values.specs.Inference.Inferences.{inferred};
 ghost use Rattle.dslx_const.specs.Calls.Inner.Inferred.{inferred_past};
 ghost use Rattle.dslx_const_tasks.specs.Plain.{shown, plain_call_task, plain_call};
 
 use base::texts::Name;
 use dslx_const_tasks::{Call, CallTask, Machine, ValueTask, in_order, one_left};
-use dslx_meaning::{UntypedLiteral, DslxType, DslxValue};
+use dslx_meaning::{DslxType, DslxValue, UntypedLiteral};
 use dslx_names::{Binding, Scope, find_function};
 use dslx_tree::{Field, Function, Parametric};
 use dslx_values::inference::{Inference, inferred_for, inferred_from};
@@ -31,7 +31,10 @@ pub fn step_call<'a>(
 {
     match task {
         CallTask::FindParametrics(call, parametrics) => find_parametrics(
-            machine, alloc, call, parametrics,
+            machine,
+            alloc,
+            call,
+            parametrics,
         ),
         CallTask::GiveParametric(call, parametric, rest) => {
             give_parametric(machine, alloc, call, parametric, rest)

@@ -2,9 +2,9 @@
 
 ghost use Rattle.std.specs.Prelude.{◌≡◌, OnOk};
 ghost use Rattle.dslx_meaning.specs.Callees.{kind_of_call};
-ghost use Rattle.dslx_const_machine.specs.Lists.{builtin_value, calls, gathers_parametric_args};
-ghost use Rattle.dslx_const_machine.specs.Steps.{stepped};
-ghost use Rattle.dslx_const_machine.specs.Tasks.{GathersParametricArgs};
+ghost use Rattle.dslx_names.specs.ConstMachine.Lists.{builtin_value, calls, gathers_parametric_args};
+ghost use Rattle.dslx_names.specs.ConstMachine.Steps.{stepped};
+ghost use Rattle.dslx_names.specs.ConstMachine.Tasks.{GathersParametricArgs};
 ghost use Rattle.dslx_names.specs.Called.{kind_of};
 ghost use Rattle.dslx_const_tasks.specs.Plain.{shown};
 

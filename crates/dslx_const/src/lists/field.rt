@@ -3,9 +3,9 @@
 ghost use Rattle.std.specs.Prelude.{◌≡◌, [], Some, None, OnOk, IfOk};
 ghost use Rattle.dslx_meaning.specs.Meaning.{field_from as the_field};
 ghost use Rattle.dslx_meaning.specs.declared.ty.DslxType.{out-DslxType};
-ghost use Rattle.dslx_const_machine.specs.Lists.{field_begins, fields_on, gathers_fields, rest_begins, fields_of_type};
-ghost use Rattle.dslx_const_machine.specs.Steps.{stepped};
-ghost use Rattle.dslx_const_machine.specs.Tasks.{FindsFields, TakesRest};
+ghost use Rattle.dslx_names.specs.ConstMachine.Lists.{field_begins, fields_on, gathers_fields, rest_begins, fields_of_type};
+ghost use Rattle.dslx_names.specs.ConstMachine.Steps.{stepped};
+ghost use Rattle.dslx_names.specs.ConstMachine.Tasks.{FindsFields, TakesRest};
 ghost use Rattle.dslx_const_tasks.specs.Plain.{shown, plain_fields};
 
 use base::texts::Name;

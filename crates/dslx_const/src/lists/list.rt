@@ -2,18 +2,18 @@
 
 ghost use Rattle.std.specs.Prelude.{◌≡◌, ◌∷◌, ◌++◌, [], OnOk, IfOk};
 ghost use Rattle.dslx_meaning.specs.declared.ty.DslxType.{out-DslxType};
-ghost use Rattle.dslx_const_machine.specs.Lists.{made_of, gathers, fills};
-ghost use Rattle.dslx_const_machine.specs.States.{doing};
-ghost use Rattle.dslx_const_machine.specs.Steps.{stepped};
-ghost use Rattle.dslx_const_machine.specs.Tasks.{FindsElements, Gathers};
+ghost use Rattle.dslx_names.specs.ConstMachine.Lists.{made_of, gathers, fills};
+ghost use Rattle.dslx_names.specs.ConstMachine.States.{doing};
+ghost use Rattle.dslx_names.specs.ConstMachine.Steps.{stepped};
+ghost use Rattle.dslx_names.specs.ConstMachine.Tasks.{FindsElements, Gathers};
 ghost use Rattle.dslx_const.specs.Lists.Inner.Elements.{begins_by, element_by, number_by};
 ghost use Rattle.dslx_const_tasks.specs.Plain.{shown, plain_list, plain_list_task};
 
 use crate::lists::call::{call_named, gather_next_number};
 use crate::lists::field::{begin_fields, gather_next_field, take_rest};
-use dslx_const_tasks::items::{untyped_of, number_of};
+use dslx_const_tasks::items::{number_of, untyped_of};
 use dslx_const_tasks::{ListMaker, ListTask, Machine};
-use dslx_meaning::{UntypedLiteral, DslxType, DslxValue};
+use dslx_meaning::{DslxType, DslxValue, UntypedLiteral};
 use dslx_tree::Expr;
 use dslx_values::filled;
 use std::alloc::{AllocError, Global};
@@ -127,7 +127,13 @@ fn make_list<'a>(
             let array = filled(alloc, dots, count, Seq::from_vec(values))?;
             machine.give(array)
         }
-        ListMaker::Call(name, parametric_args) => call_named(machine, alloc, name, parametric_args, values),
+        ListMaker::Call(name, parametric_args) => call_named(
+            machine,
+            alloc,
+            name,
+            parametric_args,
+            values,
+        ),
     }
 }
 
@@ -189,7 +195,10 @@ fn element_number(maker: &ListMaker, expr: &Expr) -> Result<Option<Option<DslxVa
 }
 
 /// The number of a type.
-fn number_in(ty: &DslxType, number: Option<UntypedLiteral>) -> Result<Option<Option<DslxValue>>, AllocError>
+fn number_in(
+    ty: &DslxType,
+    number: Option<UntypedLiteral>,
+) -> Result<Option<Option<DslxValue>>, AllocError>
     ensures { IfOk result (λ o. o ≡ number_by ty.now number) }
 {
     match number {

@@ -2,14 +2,14 @@
 
 ghost use Rattle.std.specs.Prelude.{◌≡◌, OnOk, IfOk};
 ghost use Rattle.dslx_tree.specs.declared.block.Stmt.{out-Stmt};
-ghost use Rattle.dslx_const_machine.specs.Steps.{stepped, made_of_one, made_of_pair, part_begins, chooses, stmt_begins, last_begins, statements_begin};
-ghost use Rattle.dslx_const_machine.specs.Tasks.{Binds, Passes, Numbers, MakesOne, FindsRight, MakesPair, TakesPart, Casts, FindsEnd, Slices, Chooses};
+ghost use Rattle.dslx_names.specs.ConstMachine.Steps.{stepped, made_of_one, made_of_pair, part_begins, chooses, stmt_begins, last_begins, statements_begin};
+ghost use Rattle.dslx_names.specs.ConstMachine.Tasks.{Binds, Passes, Numbers, MakesOne, FindsRight, MakesPair, TakesPart, Casts, FindsEnd, Slices, Chooses};
 ghost use Rattle.dslx_const_tasks.specs.Plain.{shown, plain_value_task, plain_one, plain_pair};
 
 use crate::fit_one;
 use dslx_const_tasks::items::{binary, cast, number_of, part};
 use dslx_const_tasks::{Fitting, Machine, OneMaker, PairMaker, Sequel, Task, ValueTask};
-use dslx_meaning::{UntypedLiteral, BitKind, DslxValue};
+use dslx_meaning::{BitKind, DslxValue, UntypedLiteral};
 use dslx_tree::{Block, Expr, Pattern, Stmt};
 use dslx_values::operators::{element_value, index_value, prefix_value, slice_value, truth};
 use dslx_values::{bits_in, field_of, unit_value};

@@ -4,20 +4,20 @@ ghost use Rattle.dslx_meaning.specs.Items.{name_of_field, enum_member as the_mem
 ghost use Rattle.dslx_meaning.specs.Lists.{and_then};
 ghost use Rattle.dslx_meaning.specs.Types.{bits_in as kind_of};
 ghost use Rattle.dslx_meaning.specs.declared.ty.DslxType as forms;
-ghost use Rattle.dslx_const_machine.specs.States.{type_in, without_finding};
+ghost use Rattle.dslx_names.specs.ConstMachine.States.{type_in, without_finding};
 ghost use Rattle.std.specs.Prelude.{◌≡◌, ◌∷◌, ◌++◌, [], Some, None, OnOk, IfOk, map};
 ghost use Rattle.dslx_meaning.specs.Meaning.{some_count, count_in};
-ghost use Rattle.dslx_const_machine.specs.Layers.{type_of, untyped_of as number_of_expr, count_of};
-ghost use Rattle.dslx_const_machine.specs.Items.{field_types_on};
-ghost use Rattle.dslx_const_machine.specs.Steps.{stepped, types_on, type_begins, member_begins, of_base};
-ghost use Rattle.dslx_const_machine.specs.Tasks.{MakesBits, FindsSize, MakesArrayType, GathersTypes, GathersFieldTypes, MakesEnumType, FindsMember, MakesMember, CountsSize, IsSize, CountsBound, IsBound};
+ghost use Rattle.dslx_names.specs.ConstMachine.Layers.{type_of, untyped_of as number_of_expr, count_of};
+ghost use Rattle.dslx_names.specs.ConstMachine.Items.{field_types_on};
+ghost use Rattle.dslx_names.specs.ConstMachine.Steps.{stepped, types_on, type_begins, member_begins, of_base};
+ghost use Rattle.dslx_names.specs.ConstMachine.Tasks.{MakesBits, FindsSize, MakesArrayType, GathersTypes, GathersFieldTypes, MakesEnumType, FindsMember, MakesMember, CountsSize, IsSize, CountsBound, IsBound};
 ghost use Rattle.dslx_const_tasks.specs.Plain.{shown, plain_type_task};
 
 use crate::items::uses::use_type;
 use crate::items::words::number_of;
 use crate::{Machine, TypeTask};
 use base::texts::Name;
-use dslx_meaning::{UntypedLiteral, BitKind, DslxType, DslxValue};
+use dslx_meaning::{BitKind, DslxType, DslxValue, UntypedLiteral};
 use dslx_tree::{Expr, Field, Node, Struct, TypeExpr, TypeNode};
 use dslx_values::operators::index_number;
 use dslx_values::{bits_in, copy_name, enum_member, same_type, type_of_value, unsigned_of};

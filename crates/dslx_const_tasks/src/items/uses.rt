@@ -3,8 +3,8 @@
 ghost use Rattle.std.specs.Prelude.{◌≡◌, [], Some, OnOk, IfOk};
 ghost use Rattle.dslx_meaning.specs.Environment.{given_in};
 ghost use Rattle.dslx_meaning.specs.Items.{item_named, is_constant_item, member_named};
-ghost use Rattle.dslx_const_machine.specs.States.{at_item};
-ghost use Rattle.dslx_const_machine.specs.Items.{is_constant_within, uses_constant, uses_name, uses_member, at_member, uses_struct, uses_type, at_type_item, at_struct};
+ghost use Rattle.dslx_names.specs.ConstMachine.States.{at_item};
+ghost use Rattle.dslx_names.specs.ConstMachine.Items.{is_constant_within, uses_constant, uses_name, uses_member, at_member, uses_struct, uses_type, at_type_item, at_struct};
 ghost use Rattle.dslx_const_tasks.specs.Plain.{shown};
 
 use crate::items::ty::gather_field_types;

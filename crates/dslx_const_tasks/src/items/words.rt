@@ -4,7 +4,7 @@
 ghost use Rattle.std.specs.Prelude.{◌≡◌, IfOk};
 ghost use Rattle.dslx_meaning.specs.Operators as the;
 
-use dslx_meaning::{UntypedLiteral, DslxType, DslxValue};
+use dslx_meaning::{DslxType, DslxValue, UntypedLiteral};
 use dslx_tree::Binary;
 use dslx_values::operators::{binary_value, cast_value, number_value, part_value};
 use std::alloc::AllocError;

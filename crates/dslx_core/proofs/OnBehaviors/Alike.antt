@@ -18,8 +18,8 @@ use Rattle.dslx_meaning.specs.Types.{plain_type}
 use Rattle.dslx_meaning.specs.declared.ty.DslxType.{DslxType}
 use Rattle.dslx_meaning.specs.declared.value.DslxValue.{DslxValue}
 use Rattle.dslx_meaning.specs.Rules.TypeEnvs.{GlobalEnv}
-use Rattle.dslx_typing.specs.Laws.Recursion.{HasNoCycle}
-use Rattle.dslx_typing.proofs.Lemmas.Typed.{same_some}
+use Rattle.dslx_core.specs.Typing.Laws.Recursion.{HasNoCycle}
+use Rattle.dslx_core.proofs.Lemmas.Typing.Typed.{same_some}
 use Rattle.dslx_core.specs.CoreOf.{BehavesAlike, CoreOf, EachBehavesAlike}
 use Rattle.dslx_core.specs.Designs.{CoreActivity, CoreElaborated, core_activation, core_behavior, core_behaviors, core_chans, core_family, core_head, do_steps, functions_of, token}
 use Rattle.dslx_core.specs.declared.design.Design.{Design}
@@ -32,9 +32,9 @@ use Rattle.dslx_core.specs.Lowering.Instances.{ItemsAreOwn, functions_of_instanc
 use Rattle.dslx_core.specs.Lowering.Steps.{LoweredNext, is_sized, lower_next, proc_globals, statements_steps, steps_from}
 use Rattle.dslx_core.specs.Lowering.Trees.{lower_type_of_text}
 use Rattle.dslx_core.proofs.Lemmas.Lowering.{from_plain, from_then, from_where, next_of_instances, state_of_instances}
-use Rattle.dslx_typing.specs.Activities.ActivityGoesOn.{ActivityGoesOn, Ends, Waits}
-use Rattle.dslx_typing.specs.Activities.Members.{IsWellTypedNext}
-use Rattle.dslx_typing.proofs.Lemmas.Activities.{activation_goes}
+use Rattle.dslx_core.specs.Typing.Activities.ActivityGoesOn.{ActivityGoesOn, Ends, Waits}
+use Rattle.dslx_core.specs.Typing.Activities.Members.{IsWellTypedNext}
+use Rattle.dslx_core.proofs.Lemmas.Typing.Activities.{activation_goes}
 use Rattle.dslx_core.specs.Networks.Assembly.{IsDesignFrom}
 use Rattle.dslx_core.proofs.Lemmas.Networks.{AllSimulate, LowersTo, CoreSimulates, chans_alike, design_made, family_simulates, head_alike, networks_alike}
 use Rattle.dslx_core.specs.Behaviors.WellTypedNexts.{EachNextIsWellTyped, HasWellTypedNexts, NextIsWellTyped}

@@ -9,7 +9,7 @@ use Rattle.xb_value.specs.declared.ty.Ty.{Ty}
 use Rattle.xb_value.specs.declared.value.Value.{Value}
 use Rattle.net_core.specs.Behavior.{Turn, Skip, Receive, Give}
 use Rattle.dslx_meaning.specs.Lists.{and_then}
-use Rattle.dslx_typing.proofs.Lemmas.Typed.{none_some, same_some}
+use Rattle.dslx_core.proofs.Lemmas.Typing.Typed.{none_some, same_some}
 use Rattle.dslx_core.specs.CoreValues.{Bindings, Functions, core_value, taken_apart}
 use Rattle.dslx_core.specs.Designs as d
 use Rattle.dslx_core.specs.Designs.{Behind, CoreActivity, apart_then, condition_at, do_step, do_steps, go_behind, no_activity, on_or_off, receive_if, receive_on, send_if, send_on, turn_before, with_token}
@@ -17,7 +17,7 @@ use Rattle.dslx_core.specs.declared.expr.CoreExpr.{CoreExpr}
 use Rattle.dslx_core.specs.declared.expr.Shape.{Shape}
 use Rattle.dslx_core.specs.declared.step.Step.{Step}
 use Rattle.dslx_core.specs.declared.step.Step.TheVariants as step
-use Rattle.dslx_typing.specs.Activities.ActivityGoesOn.{words_taken}
+use Rattle.dslx_core.specs.Typing.Activities.ActivityGoesOn.{words_taken}
 
 -- each turn of the first list is that of the second one at its place
 abbrev pub StandsAtPrefix : List Turn → List Turn → Type 0

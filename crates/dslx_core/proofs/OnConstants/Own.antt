@@ -14,12 +14,12 @@ use Rattle.dslx_meaning.specs.declared.ty.DslxType.{DslxType}
 use Rattle.dslx_meaning.specs.declared.value.DslxValue.{DslxValue}
 use Rattle.dslx_meaning.specs.Rules.TypeEnvs.{GlobalEnv}
 use Rattle.dslx_meaning.specs.Rules.Mentions.{AsType, is_of_use}
-use Rattle.dslx_typing.specs.Typed.Complete.{IsComplete}
-use Rattle.dslx_typing.specs.Typed.Declared.{Declarations}
-use Rattle.dslx_typing.specs.Typed.Given.{GivesOf}
-use Rattle.dslx_typing.specs.Typed.Kinds.{is_of}
-use Rattle.dslx_typing.proofs.Lemmas.Typed.{none_some, one_type, same_some}
-use Rattle.dslx_typing.specs.Complete.HasValue.{AreTyped}
+use Rattle.dslx_core.specs.Typing.Typed.Complete.{IsComplete}
+use Rattle.dslx_core.specs.Typing.Typed.Declared.{Declarations}
+use Rattle.dslx_core.specs.Typing.Typed.Given.{GivesOf}
+use Rattle.dslx_core.specs.Typing.Typed.Kinds.{is_of}
+use Rattle.dslx_core.proofs.Lemmas.Typing.Typed.{none_some, one_type, same_some}
+use Rattle.dslx_core.specs.Typing.Complete.HasValue.{AreTyped}
 use Rattle.dslx_core.specs.Lowering.Correspondence.{IsOwn}
 use Rattle.dslx_core.specs.Lowering.Instances.{ItemsAreOwn}
 use Rattle.dslx_core.proofs.Lemmas.Lowering.{from_then}

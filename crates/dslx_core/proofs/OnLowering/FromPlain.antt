@@ -25,9 +25,9 @@ use Rattle.dslx_meaning.specs.declared.value.DslxValue as value
 use Rattle.dslx_meaning.specs.declared.value.DslxValue.TheOpen.{DslxValue-F}
 use Rattle.dslx_meaning.specs.declared.value.DslxValue.TheViews as views
 use Rattle.dslx_meaning.specs.Rules.ConstantRules.{is_zero}
-use Rattle.dslx_typing.proofs.Lemmas.Laws.{and_true}
-use Rattle.dslx_typing.specs.Typed.Kinds.{each_of, elements_all_of, enum_of_kind, is_of, is_of_step, same_names, struct_of, tuple_of}
-use Rattle.dslx_typing.proofs.Lemmas.Typed.{bits_of_width, lies, of_array, of_struct, of_token, of_tuple, type_induction}
+use Rattle.dslx_core.proofs.Lemmas.Typing.Laws.{and_true}
+use Rattle.dslx_core.specs.Typing.Typed.Kinds.{each_of, elements_all_of, enum_of_kind, is_of, is_of_step, same_names, struct_of, tuple_of}
+use Rattle.dslx_core.proofs.Lemmas.Typing.Typed.{bits_of_width, lies, of_array, of_struct, of_token, of_tuple, type_induction}
 use Rattle.dslx_core.specs.Lowering.Steps.{is_sized, sized_step}
 use Rattle.dslx_core.proofs.OnLowering.Openings.{plain_array, plain_bits, plain_level, plain_struct, plain_token, plain_tuple}
 

@@ -14,8 +14,8 @@ use Rattle.dslx_meaning.specs.declared.value.DslxValue.TheOpen.{DslxValue-F}
 use Rattle.dslx_meaning.specs.declared.value.DslxValue.TheVariants as rolls
 use Rattle.dslx_meaning.specs.declared.value.DslxValue.TheViews as views
 use Rattle.dslx_meaning.specs.declared.value.SignedWord.{SignedWord}
-use Rattle.dslx_typing.specs.Typed.Kinds.{is_of, lies_in}
-use Rattle.dslx_typing.proofs.Lemmas.Typed.{MadeBits, bits_level, bits_lie, bits_of_width, lies, none_some, one_type, same_some, typed_level}
+use Rattle.dslx_core.specs.Typing.Typed.Kinds.{is_of, lies_in}
+use Rattle.dslx_core.proofs.Lemmas.Typing.Typed.{MadeBits, bits_level, bits_lie, bits_of_width, lies, none_some, one_type, same_some, typed_level}
 use Rattle.dslx_core.specs.CoreValues.{Bindings, Functions, core_value, word_in, word_of_value, word_step}
 use Rattle.dslx_core.specs.Lowering.Lowering.{LoweredExpr}
 use Rattle.dslx_core.specs.Lowering.Correspondence.{HasPlainValue}

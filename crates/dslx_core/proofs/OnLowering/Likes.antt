@@ -22,9 +22,9 @@ use Rattle.dslx_meaning.specs.declared.value.DslxValue.{DslxValue, out-DslxValue
 use Rattle.dslx_meaning.specs.declared.value.DslxValue.TheOpen.{DslxValue-F}
 use Rattle.dslx_meaning.specs.declared.value.DslxValue.TheViews as views
 use Rattle.dslx_meaning.specs.declared.value.DslxValue.TheFolds.{fold-roll-DslxValue, map-DslxValue}
-use Rattle.dslx_typing.proofs.Lemmas.Laws.{and_true}
-use Rattle.dslx_typing.specs.Typed.Kinds.{is_of, each_of}
-use Rattle.dslx_typing.proofs.Lemmas.Typed.{is_array_of, is_bits_of, is_enum_of, is_struct_of, is_token_of, is_tuple_of, type_induction}
+use Rattle.dslx_core.proofs.Lemmas.Typing.Laws.{and_true}
+use Rattle.dslx_core.specs.Typing.Typed.Kinds.{is_of, each_of}
+use Rattle.dslx_core.proofs.Lemmas.Typing.Typed.{is_array_of, is_bits_of, is_enum_of, is_struct_of, is_token_of, is_tuple_of, type_induction}
 use Rattle.dslx_core.specs.CoreValues.{array_like, bits_like, is_like, like_step, tuple_like}
 use Rattle.dslx_core.proofs.OnLowering.Openings.{plain_level}
 

@@ -4,8 +4,8 @@ use mathlib.Core.Bool.{true≢false}
 use Rattle.dslx_meaning.specs.Lists.{all_some}
 use Rattle.dslx_meaning.specs.Values.{plain_value}
 use Rattle.dslx_meaning.specs.declared.value.DslxValue.{DslxValue}
-use Rattle.dslx_typing.specs.Typed.Kinds.{is_of, each_of}
-use Rattle.dslx_typing.proofs.Lemmas.Typed.{all_are, all_there, list_parts}
+use Rattle.dslx_core.specs.Typing.Typed.Kinds.{is_of, each_of}
+use Rattle.dslx_core.proofs.Lemmas.Typing.Typed.{all_are, all_there, list_parts}
 use Rattle.dslx_core.specs.CoreValues.{Bindings, CoreDen, Functions, core_value, values_in}
 use Rattle.dslx_core.specs.Lowering.Lowering.{LoweredExpr, cores_of, types_of_lowered}
 use Rattle.dslx_core.specs.Lowering.Correspondence.{HasPlainValue, KeepsValue}

@@ -15,8 +15,8 @@ use Rattle.dslx_meaning.specs.declared.ty.DslxType.{DslxType}
 use Rattle.dslx_meaning.specs.declared.ty.DslxType as ty
 use Rattle.dslx_meaning.specs.declared.value.DslxValue.{DslxValue}
 use Rattle.dslx_meaning.specs.declared.value.SignedWord.{SignedWord}
-use Rattle.dslx_typing.specs.Typed.Kinds.{is_of, lies_in}
-use Rattle.dslx_typing.proofs.Lemmas.Typed.{none_some, same_some}
+use Rattle.dslx_core.specs.Typing.Typed.Kinds.{is_of, lies_in}
+use Rattle.dslx_core.proofs.Lemmas.Typing.Typed.{none_some, same_some}
 use Rattle.dslx_core.specs.CoreValues.{Bindings, Functions, binary_words, bits_like, core_value, is_like, one_bit, word_in}
 use Rattle.dslx_core.specs.declared.expr.CoreExpr as core
 use Rattle.dslx_core.specs.Lowering.Lowering.{LoweredExpr, binary_core, lower_binary, fits_operands, lowered, result_of_binary, sign_of}

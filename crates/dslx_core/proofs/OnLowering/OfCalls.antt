@@ -22,9 +22,9 @@ use Rattle.dslx_meaning.specs.declared.value.DslxValue.TheViews as views
 use Rattle.dslx_meaning.specs.declared.value.SignedWord.{SignedWord}
 use Rattle.dslx_meaning.specs.Rules.AggregateRules.{array_in}
 use Rattle.dslx_meaning.specs.Rules.ConstantRules.{is_zero}
-use Rattle.dslx_typing.proofs.Lemmas.Laws.{and_true}
-use Rattle.dslx_typing.specs.Typed.Kinds.{elements_all_of, is_of, lies_in}
-use Rattle.dslx_typing.proofs.Lemmas.Typed.{and_reduce_lies, clz_lies, ctz_lies, none_some, of_array, of_token, or_reduce_lies, rev_lies, same_some, xor_reduce_lies}
+use Rattle.dslx_core.proofs.Lemmas.Typing.Laws.{and_true}
+use Rattle.dslx_core.specs.Typing.Typed.Kinds.{elements_all_of, is_of, lies_in}
+use Rattle.dslx_core.proofs.Lemmas.Typing.Typed.{and_reduce_lies, clz_lies, ctz_lies, none_some, of_array, of_token, or_reduce_lies, rev_lies, same_some, xor_reduce_lies}
 use Rattle.dslx_core.specs.CoreValues as meaning
 use Rattle.dslx_core.specs.CoreValues.{Bindings, Functions, core_value, unary_word, word_in}
 use Rattle.dslx_core.specs.declared.expr.CoreUnary.{CoreUnary}

@@ -20,9 +20,9 @@ use Rattle.dslx_meaning.specs.declared.value.DslxValue as value
 use Rattle.dslx_meaning.specs.declared.value.DslxValue.TheOpen.{DslxValue-F}
 use Rattle.dslx_meaning.specs.declared.value.SignedWord.{SignedWord}
 use Rattle.dslx_meaning.specs.Rules.PatternRules.{is_there}
-use Rattle.dslx_typing.proofs.Lemmas.Laws.{and_true, is_bits_type}
-use Rattle.dslx_typing.specs.Typed.Kinds.{is_of}
-use Rattle.dslx_typing.proofs.Lemmas.Typed.{base_lies, cast_made, dyn_slice_lies, in_range, none_some, one_type, same_some, slice_lies, typed_level}
+use Rattle.dslx_core.proofs.Lemmas.Typing.Laws.{and_true, is_bits_type}
+use Rattle.dslx_core.specs.Typing.Typed.Kinds.{is_of}
+use Rattle.dslx_core.proofs.Lemmas.Typing.Typed.{base_lies, cast_made, dyn_slice_lies, in_range, none_some, one_type, same_some, slice_lies, typed_level}
 use Rattle.dslx_core.specs.CoreValues.{Bindings, Functions, core_value, is_signed_read, is_width, word_in}
 use Rattle.dslx_core.specs.declared.expr.CoreExpr as core
 use Rattle.dslx_core.specs.Lowering.Lowering.{LoweredExpr, lower_cast, lowered, lower_part, sign_in, sign_of, lower_slice}

@@ -15,9 +15,9 @@ use Rattle.dslx_meaning.specs.declared.ty.DslxType as ty
 use Rattle.dslx_meaning.specs.declared.value.DslxValue.{DslxValue}
 use Rattle.dslx_meaning.specs.declared.value.DslxValue as value
 use Rattle.dslx_meaning.specs.declared.value.SignedWord.{SignedWord}
-use Rattle.dslx_typing.proofs.Lemmas.Laws.{and_true}
-use Rattle.dslx_typing.specs.Typed.Kinds.{is_of, lies_in}
-use Rattle.dslx_typing.proofs.Lemmas.Typed.{bits_of_width, next_lies, none_some, of_tuple, same_some}
+use Rattle.dslx_core.proofs.Lemmas.Typing.Laws.{and_true}
+use Rattle.dslx_core.specs.Typing.Typed.Kinds.{is_of, lies_in}
+use Rattle.dslx_core.proofs.Lemmas.Typing.Typed.{bits_of_width, next_lies, none_some, of_tuple, same_some}
 use Rattle.dslx_core.specs.CoreValues.{Bindings, Functions, chosen, core_value, is_one, one_turn, taken_apart, turns, word_in}
 use Rattle.dslx_core.specs.declared.expr.CoreExpr as core
 use Rattle.dslx_core.specs.Lowering.CoreScopes.{CoreScope}

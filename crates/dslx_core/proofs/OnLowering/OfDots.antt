@@ -14,9 +14,9 @@ use Rattle.dslx_meaning.specs.declared.ty.DslxType as ty
 use Rattle.dslx_meaning.specs.declared.value.DslxValue.{DslxValue}
 use Rattle.dslx_meaning.specs.declared.value.DslxValue as value
 use Rattle.dslx_meaning.specs.Rules.ConstantRules.{is_zero}
-use Rattle.dslx_typing.specs.Typed.Kinds.{is_of}
-use Rattle.dslx_typing.proofs.Lemmas.Typed.{all_are, none_some, same_some}
-use Rattle.dslx_typing.proofs.Lemmas.Laws.{and_true}
+use Rattle.dslx_core.specs.Typing.Typed.Kinds.{is_of}
+use Rattle.dslx_core.proofs.Lemmas.Typing.Typed.{all_are, none_some, same_some}
+use Rattle.dslx_core.proofs.Lemmas.Typing.Laws.{and_true}
 use Rattle.dslx_core.specs.CoreValues.{Bindings, CoreDen, Functions, TakesApart, apart_each, core_value, taken_apart, tuple_values_step}
 use Rattle.dslx_core.specs.declared.expr.CoreExpr.{CoreExpr}
 use Rattle.dslx_core.specs.declared.expr.CoreExpr as core

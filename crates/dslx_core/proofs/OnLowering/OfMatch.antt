@@ -8,9 +8,9 @@ use Rattle.dslx_meaning.specs.Environment.{Given, Env}
 use Rattle.dslx_meaning.specs.Meaning.{ArmDen, PatternDen, all_names, first_fit, fits_in_scope, match_arms, take_arm, value_without}
 use Rattle.dslx_meaning.specs.declared.ty.DslxType.{DslxType}
 use Rattle.dslx_meaning.specs.declared.value.DslxValue.{DslxValue}
-use Rattle.dslx_typing.proofs.Lemmas.Laws.{and_true}
-use Rattle.dslx_typing.specs.Typed.Kinds.{is_of}
-use Rattle.dslx_typing.proofs.Lemmas.Typed.{none_some, same_some}
+use Rattle.dslx_core.proofs.Lemmas.Typing.Laws.{and_true}
+use Rattle.dslx_core.specs.Typing.Typed.Kinds.{is_of}
+use Rattle.dslx_core.proofs.Lemmas.Typing.Typed.{none_some, same_some}
 use Rattle.dslx_core.specs.CoreValues.{CoreArmDen, Bindings, Functions, arm_or, core_value, first_apart, select, taken_apart}
 use Rattle.dslx_core.specs.declared.expr.Arm.{roll-Arm}
 use Rattle.dslx_core.specs.declared.expr.CoreExpr.{CoreExpr}

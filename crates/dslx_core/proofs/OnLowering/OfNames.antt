@@ -13,8 +13,8 @@ use Rattle.dslx_meaning.specs.declared.value.DslxValue as value
 use Rattle.dslx_meaning.specs.declared.value.DslxValue.TheOpen.{DslxValue-F}
 use Rattle.dslx_meaning.specs.declared.value.DslxValue.TheViews as views
 use Rattle.xb_bits.specs.Word.{Word}
-use Rattle.dslx_typing.specs.Typed.Kinds.{is_of, lies_in}
-use Rattle.dslx_typing.proofs.Lemmas.Typed.{bits_of_width, none_some, number_lies, same_some, typed_level}
+use Rattle.dslx_core.specs.Typing.Typed.Kinds.{is_of, lies_in}
+use Rattle.dslx_core.proofs.Lemmas.Typing.Typed.{bits_of_width, none_some, number_lies, same_some, typed_level}
 use Rattle.dslx_core.specs.CoreValues.{Bindings, Functions}
 use Rattle.dslx_core.specs.declared.expr.CoreExpr as core
 use Rattle.dslx_core.specs.Lowering.CoreScopes.{BoundSlot, CoreScope, local_in}

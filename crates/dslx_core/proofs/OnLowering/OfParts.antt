@@ -23,9 +23,9 @@ use Rattle.dslx_meaning.specs.declared.value.DslxValue.TheViews as views
 use Rattle.dslx_meaning.specs.declared.value.SignedWord.{SignedWord}
 use Rattle.dslx_meaning.specs.Rules.AggregateRules.{array_in, array_parts, part_type, tuple_parts}
 use Rattle.dslx_meaning.specs.Rules.ConstantRules.{is_zero}
-use Rattle.dslx_typing.proofs.Lemmas.Laws.{and_true}
-use Rattle.dslx_typing.specs.Typed.Kinds.{each_of, is_of, tuple_of}
-use Rattle.dslx_typing.proofs.Lemmas.Typed.{is_array_of, is_struct_of, is_tuple_of, none_some, of_tuple, same_some}
+use Rattle.dslx_core.proofs.Lemmas.Typing.Laws.{and_true}
+use Rattle.dslx_core.specs.Typing.Typed.Kinds.{each_of, is_of, tuple_of}
+use Rattle.dslx_core.proofs.Lemmas.Typing.Typed.{is_array_of, is_struct_of, is_tuple_of, none_some, of_tuple, same_some}
 use Rattle.dslx_core.specs.CoreValues as meaning
 use Rattle.dslx_core.specs.CoreValues.{Bindings, Functions, array_values_step, core_value, tuple_values_step, word_in}
 use Rattle.dslx_core.specs.declared.expr.CoreExpr.{CoreExpr}

@@ -16,9 +16,9 @@ use Rattle.dslx_meaning.specs.declared.ty.DslxType.TheVariants as type_rolls
 use Rattle.dslx_meaning.specs.declared.ty.DslxType.TheViews as type_views
 use Rattle.dslx_meaning.specs.declared.value.DslxValue.{DslxValue}
 use Rattle.dslx_meaning.specs.declared.value.DslxValue.TheOpen.{DslxValue-F}
-use Rattle.dslx_typing.proofs.Lemmas.Laws.{and_true}
-use Rattle.dslx_typing.specs.Typed.Kinds.{is_of, each_of}
-use Rattle.dslx_typing.proofs.Lemmas.Typed.{is_tuple_of, none_some, same_some}
+use Rattle.dslx_core.proofs.Lemmas.Typing.Laws.{and_true}
+use Rattle.dslx_core.specs.Typing.Typed.Kinds.{is_of, each_of}
+use Rattle.dslx_core.proofs.Lemmas.Typing.Typed.{is_tuple_of, none_some, same_some}
 use Rattle.dslx_core.specs.CoreValues.{Bindings, Functions, apart_each, is_like, taken_apart, tuple_values_step}
 use Rattle.dslx_core.specs.declared.expr.Shape.{Shape}
 use Rattle.dslx_core.specs.declared.expr.Shape as shape

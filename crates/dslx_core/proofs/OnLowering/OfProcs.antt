@@ -7,7 +7,7 @@ use Rattle.dslx_meaning.specs.Environment.{Meanings}
 use Rattle.dslx_meaning.specs.Items.{meanings_over}
 use Rattle.dslx_meaning.specs.Lists.{and_then, where_true}
 use Rattle.dslx_meaning.specs.declared.value.DslxValue.{DslxValue}
-use Rattle.dslx_typing.proofs.Lemmas.Laws.{and_true}
+use Rattle.dslx_core.proofs.Lemmas.Typing.Laws.{and_true}
 use Rattle.dslx_core.specs.Lowering.Activities.{NextSimulates}
 use Rattle.dslx_core.specs.Lowering.Correspondence.{BodyEnvSimulates}
 use Rattle.dslx_core.specs.Lowering.Functions.{CoreInstance, Instantiated, instances_from, parametric_args_are_well_typed, outer_scope}

@@ -33,9 +33,9 @@ use Rattle.dslx_meaning.specs.declared.ty.DslxType as ty
 use Rattle.dslx_meaning.specs.declared.value.DslxValue.{DslxValue}
 use Rattle.dslx_meaning.specs.declared.value.DslxValue as value
 use Rattle.dslx_meaning.specs.declared.value.DslxValue.TheViews as views
-use Rattle.dslx_typing.proofs.Lemmas.Laws.{and_true}
-use Rattle.dslx_typing.specs.Typed.Kinds.{is_of, tuple_of}
-use Rattle.dslx_typing.proofs.Lemmas.Typed.{none_some, of_token, of_tuple, same_some}
+use Rattle.dslx_core.proofs.Lemmas.Typing.Laws.{and_true}
+use Rattle.dslx_core.specs.Typing.Typed.Kinds.{is_of, tuple_of}
+use Rattle.dslx_core.proofs.Lemmas.Typing.Typed.{none_some, of_token, of_tuple, same_some}
 use Rattle.dslx_core.specs.CoreValues.{Bindings, Functions, core_value, is_one, taken_apart}
 use Rattle.dslx_core.specs.Designs.{Behind, CoreActivity, apart_then, condition_at, do_steps, go_behind, on_or_off, receive_on, send_on, token, turn_before, with_token}
 use Rattle.dslx_core.specs.declared.expr.Shape.{Shape}

@@ -11,9 +11,9 @@ use Rattle.dslx_meaning.specs.declared.ty.DslxType.TheVariants as rolls
 use Rattle.dslx_meaning.specs.declared.ty.DslxType.TheOpen.{DslxType-F}
 use Rattle.dslx_meaning.specs.declared.ty.DslxType.TheViews as views
 use Rattle.dslx_meaning.specs.declared.ty.DslxType.TheFolds.{fold-roll-DslxType, map-DslxType}
-use Rattle.dslx_typing.proofs.Lemmas.Laws.{and_true}
-use Rattle.dslx_typing.specs.Typed.Kinds.{same_names}
-use Rattle.dslx_typing.proofs.Lemmas.Typed.{one_bool, one_list, one_name, type_induction}
+use Rattle.dslx_core.proofs.Lemmas.Typing.Laws.{and_true}
+use Rattle.dslx_core.specs.Typing.Typed.Kinds.{same_names}
+use Rattle.dslx_core.proofs.Lemmas.Typing.Typed.{one_bool, one_list, one_name, type_induction}
 use Rattle.dslx_core.specs.Lowering.EqualTypes.{equal_type, equal_type_step, struct_equal, enum_equal}
 
 equal_as : (l : DslxType-F DslxType) (u : DslxType) → equal_type (views.roll-DslxType l) u ≡ equal_type_step (map-DslxType DslxType (DslxType → Bool) equal_type l) u

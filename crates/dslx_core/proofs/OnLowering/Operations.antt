@@ -14,7 +14,7 @@ use Rattle.dslx_meaning.specs.declared.ty.DslxType as ty
 use Rattle.dslx_meaning.specs.declared.value.DslxValue.{DslxValue}
 use Rattle.dslx_meaning.specs.declared.value.DslxValue as value
 use Rattle.dslx_meaning.specs.declared.value.SignedWord.{SignedWord}
-use Rattle.dslx_typing.proofs.Lemmas.Typed.{in_range, bits_lie, prefix_made, binary_made, same_some}
+use Rattle.dslx_core.proofs.Lemmas.Typing.Typed.{in_range, bits_lie, prefix_made, binary_made, same_some}
 use Rattle.dslx_core.specs.CoreValues.{Bindings, Functions, core_value, word_in, unary_word, binary_words}
 use Rattle.dslx_core.specs.declared.expr.CoreExpr as core
 use Rattle.dslx_core.specs.Lowering.Lowering.{LoweredExpr, lowered, prefix_core, lower_prefix, binary_core, result_of_binary, fits_operands, sign_of}

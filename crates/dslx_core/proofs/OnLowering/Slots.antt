@@ -15,10 +15,10 @@ use Rattle.dslx_meaning.specs.Lists.{and_then}
 use Rattle.dslx_meaning.specs.declared.ty.DslxType.{DslxType}
 use Rattle.dslx_meaning.specs.declared.value.DslxValue.{DslxValue}
 use Rattle.dslx_meaning.specs.Rules.Mentions.{mentioned, free_names}
-use Rattle.dslx_typing.specs.Laws.Agreement.{AreBoundAlike}
-use Rattle.dslx_typing.proofs.Lemmas.Laws.{value_depends, bound_alike}
-use Rattle.dslx_typing.specs.Typed.Kinds.{is_of}
-use Rattle.dslx_typing.proofs.Lemmas.Typed.{none_some, or_false, same_some}
+use Rattle.dslx_core.specs.Typing.Laws.Agreement.{AreBoundAlike}
+use Rattle.dslx_core.proofs.Lemmas.Typing.Laws.{value_depends, bound_alike}
+use Rattle.dslx_core.specs.Typing.Typed.Kinds.{is_of}
+use Rattle.dslx_core.proofs.Lemmas.Typing.Typed.{none_some, or_false, same_some}
 use Rattle.dslx_core.specs.CoreValues.{Bindings, Functions}
 use Rattle.dslx_core.specs.Lowering.CoreScopes.{BoundSlot, CoreScope, bound_at, constant_at, globals_env, local_in, sees_a_local, size_at, slot_names, unless_local, with_local, with_unnamed}
 use Rattle.dslx_core.specs.Lowering.Correspondence.{SlotsSimulate, SimulatesInScope, env_at}

@@ -17,9 +17,9 @@ use Rattle.dslx_meaning.specs.Meaning.{value_of_block}
 use Rattle.dslx_meaning.specs.Items.{all_parametric_args, as_function, call_of, function_value, inferred_from, item_named, meanings_over, parametric_args_bound, operands_bound}
 use Rattle.dslx_meaning.specs.declared.ty.DslxType.{DslxType}
 use Rattle.dslx_meaning.specs.declared.value.DslxValue.{DslxValue}
-use Rattle.dslx_typing.proofs.Lemmas.Laws.{and_true, one_value_by_test}
-use Rattle.dslx_typing.specs.Typed.Kinds.{each_of, is_of}
-use Rattle.dslx_typing.proofs.Lemmas.Typed.{none_some, one_type, same_some}
+use Rattle.dslx_core.proofs.Lemmas.Typing.Laws.{and_true, one_value_by_test}
+use Rattle.dslx_core.specs.Typing.Typed.Kinds.{each_of, is_of}
+use Rattle.dslx_core.proofs.Lemmas.Typing.Typed.{none_some, one_type, same_some}
 use Rattle.dslx_core.specs.CoreValues.{Bindings, Functions, core_value}
 use Rattle.dslx_core.specs.Designs.{and_function, functions_from, no_function}
 use Rattle.dslx_core.specs.declared.design.Function as core

@@ -24,8 +24,8 @@ use Rattle.dslx_meaning.specs.declared.value.DslxValue.{DslxValue}
 use Rattle.dslx_meaning.specs.declared.value.DslxValue as value
 use Rattle.dslx_meaning.specs.declared.value.SignedWord.{SignedWord}
 use Rattle.dslx_meaning.specs.Rules.OperatorRules.{width_of_type}
-use Rattle.dslx_typing.proofs.Lemmas.Laws.{and_true}
-use Rattle.dslx_typing.proofs.Lemmas.Typed.{InRange, none_some, same_some}
+use Rattle.dslx_core.proofs.Lemmas.Typing.Laws.{and_true}
+use Rattle.dslx_core.proofs.Lemmas.Typing.Typed.{InRange, none_some, same_some}
 use Rattle.dslx_core.specs.CoreValues.{binary_words, where_alike, one_bit, order_read, shift_read}
 use Rattle.dslx_core.specs.declared.expr.Sign.{Sign}
 use Rattle.dslx_core.specs.declared.expr.Sign.TheVariants.{Unsigned, Signed}

@@ -9,7 +9,7 @@ use Rattle.dslx_tree.specs.declared.process.End.{End}
 use Rattle.dslx_tree.specs.declared.process.ConfigStatement.{ConfigStatement}
 use Rattle.dslx_tree.specs.declared.process.ConfigStatement.TheVariants as config_statement
 use Rattle.dslx_meaning.specs.Network.{Held, channel_held, channels_of_ends, handed_over, made_ends, outer_ends}
-use Rattle.dslx_typing.proofs.Lemmas.Typed.{all_there, list_parts, none_some, same_some}
+use Rattle.dslx_core.proofs.Lemmas.Typing.Typed.{all_there, list_parts, none_some, same_some}
 use Rattle.dslx_core.specs.Designs.{channel_of_end}
 use Rattle.dslx_core.specs.Networks.Ends.{end_number, end_numbers, numbered_ends}
 

@@ -15,8 +15,8 @@ use Rattle.dslx_meaning.specs.Items.{item_named}
 use Rattle.dslx_meaning.specs.Lists.{and_then, pairwise, where_true, with_both}
 use Rattle.dslx_meaning.specs.Network.{Family, Held, Elaborated, Elaboration, and_family, as_proc, channels_of_ends, child_path, children, handed_over, made_chans, made_ends, no_family, elaborate_over, spawn_parametric_args, spawned, spawned_at}
 use Rattle.dslx_meaning.specs.declared.value.DslxValue.{DslxValue}
-use Rattle.dslx_typing.proofs.Lemmas.Laws.{and_true}
-use Rattle.dslx_typing.proofs.Lemmas.Typed.{none_some, same_some}
+use Rattle.dslx_core.proofs.Lemmas.Typing.Laws.{and_true}
+use Rattle.dslx_core.proofs.Lemmas.Typing.Typed.{none_some, same_some}
 use Rattle.dslx_core.specs.Designs.{CoreFamily, CoreElaborated, CoreElaboration, and_core_family, channel_of_end, core_children, core_elaborate, made_of, no_core_family, no_function}
 use Rattle.dslx_core.specs.declared.design.Child.{Child}
 use Rattle.dslx_core.specs.declared.design.Instance.{Instance}

@@ -10,9 +10,9 @@ use Rattle.dslx_meaning.specs.Items.{item_named, meanings_of, meanings_over, par
 use Rattle.dslx_meaning.specs.Network.{Elaborated, as_proc, chans_of_top, family_of, handed_over, head_at, kind_of_end, net_if, network_of, outer_chan, outer_ends, elaborate_within, plain_or_unit, top_parametric_args}
 use Rattle.dslx_meaning.specs.Types.{plain_type}
 use Rattle.dslx_meaning.specs.Rules.Mentions.{AsProc}
-use Rattle.dslx_typing.specs.Laws.Recursion.{HasNoCycle}
-use Rattle.dslx_typing.proofs.Lemmas.Laws.Chains.{item_ends}
-use Rattle.dslx_typing.proofs.Lemmas.Typed.{all_there, list_parts, none_some, same_some}
+use Rattle.dslx_core.specs.Typing.Laws.Recursion.{HasNoCycle}
+use Rattle.dslx_core.proofs.Lemmas.Typing.Laws.Chains.{item_ends}
+use Rattle.dslx_core.proofs.Lemmas.Typing.Typed.{all_there, list_parts, none_some, same_some}
 use Rattle.dslx_core.specs.Designs.{CoreElaborated, chan_of_outer, core_chans, core_family, core_head, core_network, last_index, no_function, numbers_from, sites_of_steps}
 use Rattle.dslx_core.specs.declared.design.Design.{Design}
 use Rattle.dslx_core.specs.declared.design.Instance.{Instance}

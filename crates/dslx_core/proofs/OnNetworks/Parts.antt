@@ -15,7 +15,7 @@ use Rattle.dslx_meaning.specs.Meaning.{StmtDen, ExprDen, PatternDen, TypeDen, Va
 use Rattle.dslx_meaning.specs.Network.{depth_of, made_chan, made_chans, plain_or_unit, spawn_parametric_args}
 use Rattle.dslx_meaning.specs.Types.{plain_type}
 use Rattle.dslx_meaning.specs.declared.value.DslxValue.{DslxValue}
-use Rattle.dslx_typing.proofs.Lemmas.Typed.{all_are, all_there, list_parts, same_some}
+use Rattle.dslx_core.proofs.Lemmas.Typing.Typed.{all_are, all_there, list_parts, same_some}
 use Rattle.dslx_core.specs.Designs.{made_of, no_function}
 use Rattle.dslx_core.specs.declared.design.MadeChannel.{MadeChannel}
 use Rattle.dslx_core.specs.Lowering.CoreScopes.{CoreScope, constant_at, size_at}

@@ -15,7 +15,7 @@ use Rattle.dslx_meaning.specs.Lists.{and_then, beside, index_in, where_true, wit
 use Rattle.dslx_meaning.specs.Types.{plain_type, received}
 use Rattle.dslx_meaning.specs.declared.ty.DslxType as ty
 use Rattle.dslx_meaning.specs.declared.ty.DslxType.{DslxType}
-use Rattle.dslx_typing.proofs.Lemmas.Typed.{same_some}
+use Rattle.dslx_core.proofs.Lemmas.Typing.Typed.{same_some}
 use Rattle.dslx_core.specs.Designs.{site_of_step, sites_of_steps}
 use Rattle.dslx_core.specs.declared.step.Step.{Step}
 use Rattle.dslx_core.specs.declared.step.Step.TheVariants as step

@@ -17,10 +17,10 @@ use Rattle.dslx_meaning.specs.Lists.{and_then, where_true}
 use Rattle.dslx_meaning.specs.Network.{as_proc, handed_over, elaborate_within}
 use Rattle.dslx_meaning.specs.declared.value.DslxValue.{DslxValue}
 use Rattle.dslx_meaning.specs.Rules.Mentions.{AsProc, Mention, ends_mentions, is_of_use, config_statement_mentions, mention, mentioned_in_arg, mentioned_in_block, mentioned_in_type, mentions_of, names_mentioned, parametric_names, parametrics_mentions, proc_mentions}
-use Rattle.dslx_typing.proofs.Lemmas.Laws.Chains.{Ends, OfEach}
-use Rattle.dslx_typing.proofs.Lemmas.Laws.{and_true}
-use Rattle.dslx_typing.specs.Typed.Kinds.{is_of}
-use Rattle.dslx_typing.proofs.Lemmas.Typed.{none_some, same_some}
+use Rattle.dslx_core.proofs.Lemmas.Typing.Laws.Chains.{Ends, OfEach}
+use Rattle.dslx_core.proofs.Lemmas.Typing.Laws.{and_true}
+use Rattle.dslx_core.specs.Typing.Typed.Kinds.{is_of}
+use Rattle.dslx_core.proofs.Lemmas.Typing.Typed.{none_some, same_some}
 use Rattle.dslx_core.specs.Designs.{CoreElaboration, and_instance, core_elaborate, no_function, no_elaboration, elaborations_from}
 use Rattle.dslx_core.specs.declared.design.Instance.{Instance}
 use Rattle.dslx_core.specs.Lowering.Correspondence.{SimulatesInScope}

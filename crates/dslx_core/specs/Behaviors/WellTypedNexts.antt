@@ -9,7 +9,7 @@ use Rattle.dslx_meaning.specs.Items.{meanings_of}
 use Rattle.dslx_meaning.specs.Network.{Elaborated, family_of, top_proc}
 use Rattle.dslx_meaning.specs.declared.ty.DslxType.{DslxType}
 use Rattle.dslx_meaning.specs.Rules.TypeEnvs.{GlobalEnv}
-use Rattle.dslx_typing.specs.Activities.Members.{IsWellTypedNext}
+use Rattle.dslx_core.specs.Typing.Activities.Members.{IsWellTypedNext}
 
 -- nothing is wrong with the `next` of a proc, and what it does by what is known of items, it does by what they mean
 pub record NextIsWellTyped (m : Module) (known : GlobalEnv) (a : Elaborated) : Type 0 where

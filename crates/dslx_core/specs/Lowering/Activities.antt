@@ -10,7 +10,7 @@ use Rattle.dslx_meaning.specs.Values.{plain_value}
 use Rattle.dslx_meaning.specs.Activation.{Activity, activation_of}
 use Rattle.dslx_meaning.specs.declared.ty.DslxType.{DslxType}
 use Rattle.dslx_meaning.specs.declared.value.DslxValue.{DslxValue}
-use Rattle.dslx_typing.specs.Typed.Kinds.{is_of}
+use Rattle.dslx_core.specs.Typing.Typed.Kinds.{is_of}
 use Rattle.dslx_core.specs.CoreValues.{Functions}
 use Rattle.dslx_core.specs.Designs.{CoreActivity, do_steps}
 use Rattle.dslx_core.specs.Lowering.CoreScopes.{BodyEnv}

@@ -8,7 +8,7 @@ use Rattle.dslx_meaning.specs.Environment.{Given, Env, Meanings, given_in}
 use Rattle.dslx_meaning.specs.Meaning.{ValueDen, TypeDen, PatternDen}
 use Rattle.dslx_meaning.specs.declared.ty.DslxType.{DslxType}
 use Rattle.dslx_meaning.specs.declared.value.DslxValue.{DslxValue}
-use Rattle.dslx_typing.specs.Typed.Kinds.{is_of, each_of}
+use Rattle.dslx_core.specs.Typing.Typed.Kinds.{is_of, each_of}
 use Rattle.dslx_core.specs.CoreValues.{Bindings, Functions, core_value, taken_apart}
 use Rattle.dslx_core.specs.Lowering.CoreScopes.{CoreCallee, BodyEnv, BoundSlot, CoreScope}
 use Rattle.dslx_core.specs.Lowering.Lowering.{LoweredExpr}

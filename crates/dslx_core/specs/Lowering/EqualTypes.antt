@@ -4,7 +4,7 @@ use Rattle.std.specs.Str.{bytes_eq}
 use Rattle.dslx_meaning.specs.Types.{same_bool, each_is, bits_are, tuple_is, array_is, token_is}
 use Rattle.dslx_meaning.specs.declared.ty.DslxType.{DslxType, out-DslxType, fold-DslxType}
 use Rattle.dslx_meaning.specs.declared.ty.DslxType.TheOpen.{DslxType-F}
-use Rattle.dslx_typing.specs.Typed.Kinds.{same_names}
+use Rattle.dslx_core.specs.Typing.Typed.Kinds.{same_names}
 
 abbrev pub struct_equal : List ℕ → List (List ℕ) → List (DslxType → Bool) → DslxType-F DslxType → Bool
 struct_equal name fields ps (DslxType-F.Struct name' fields' ts) = (bytes_eq name name' && same_names fields fields') && each_is ps ts

@@ -11,7 +11,7 @@ use Rattle.dslx_meaning.specs.Environment.{Meanings, Given}
 use Rattle.dslx_meaning.specs.Items.{all_parametric_args, as_function, inferred_from, item_named, parametric_args_bound}
 use Rattle.dslx_meaning.specs.declared.ty.DslxType.{DslxType}
 use Rattle.dslx_meaning.specs.declared.value.DslxValue.{DslxValue}
-use Rattle.dslx_typing.specs.Typed.Kinds.{is_of}
+use Rattle.dslx_core.specs.Typing.Typed.Kinds.{is_of}
 use Rattle.dslx_core.specs.declared.design.Function as core
 use Rattle.dslx_core.specs.Lowering.CoreScopes.{CoreCallee, BodyEnv, CoreScope, with_local}
 use Rattle.dslx_core.specs.Lowering.EqualTypes.{equal_type}

@@ -6,7 +6,7 @@ use Rattle.dslx_meaning.specs.Values.{plain_value}
 use Rattle.dslx_meaning.specs.Environment.{Meanings}
 use Rattle.dslx_meaning.specs.Items.{as_function, function_value, item_named}
 use Rattle.dslx_meaning.specs.declared.value.DslxValue.{DslxValue}
-use Rattle.dslx_typing.specs.Typed.Kinds.{each_of, is_of}
+use Rattle.dslx_core.specs.Typing.Typed.Kinds.{each_of, is_of}
 use Rattle.dslx_core.specs.CoreValues.{Functions}
 use Rattle.dslx_core.specs.Designs.{functions_from, no_function}
 use Rattle.dslx_core.specs.Lowering.Correspondence.{IsOwn}

@@ -5,7 +5,7 @@ use Rattle.dslx_meaning.specs.Lists.{all_some, and_then, where_true}
 use Rattle.dslx_meaning.specs.Types.{bool_type}
 use Rattle.dslx_meaning.specs.declared.ty.DslxType.{DslxType}
 use Rattle.dslx_meaning.specs.declared.ty.DslxType as ty
-use Rattle.dslx_typing.proofs.Lemmas.Typed.OfLists.{all_are}
+use Rattle.dslx_core.proofs.Lemmas.Typing.Typed.OfLists.{all_are}
 use Rattle.dslx_meaning.specs.Rules.AggregateRules.{array_in}
 use Rattle.dslx_core.specs.declared.expr.CoreUnary.{CoreUnary}
 use Rattle.dslx_core.specs.declared.expr.CoreExpr as core

@@ -7,7 +7,7 @@ use Rattle.dslx_core.specs.declared.expr.CoreExpr as core
 use Rattle.dslx_core.specs.declared.expr.Shape.{Shape}
 use Rattle.dslx_core.specs.Lowering.EqualTypes.{equal_type}
 use Rattle.dslx_core.specs.Lowering.Lowering.{LoweredExpr, lowered}
-use Rattle.dslx_machines.specs.Machine.Steps.{loop_made}
+use Rattle.dslx_core.specs.Machines.Machine.Steps.{loop_made}
 use Rattle.dslx_core_calls.specs.Calls.Inner.Turns.{few_turns, turns_of}
 
 pub turns_alike : (same : Bool) (start : LoweredExpr) (a b : SignedWord) (body : LoweredExpr) (o : Option ℕ) → same ≡ equal_type start.ty body.ty → same ≡ true → o ≡ few_turns a b → o ≡ turns_of start a b body

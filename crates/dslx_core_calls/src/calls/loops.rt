@@ -2,7 +2,7 @@
 
 ghost use Rattle.std.specs.Prelude.{◌≡◌, IfOk};
 ghost use Rattle.dslx_core.specs.declared.expr.CoreExpr.{Loop as loop_core};
-ghost use Rattle.dslx_machines.specs.Machine.Steps.{loop_made};
+ghost use Rattle.dslx_core.specs.Machines.Machine.Steps.{loop_made};
 ghost use Rattle.dslx_core_calls.specs.Calls.Inner.Turns.{turns_of as the_turns};
 
 use crate::calls::held::with_both;

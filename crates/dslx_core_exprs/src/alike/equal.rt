@@ -4,7 +4,7 @@ ghost use Rattle.std.specs.Prelude.{◌≡◌, map};
 ghost use Rattle.dslx_core.specs.Lowering.EqualTypes.{equal_type as is_equal_type};
 ghost use Rattle.dslx_meaning.specs.Lists.{pairwise};
 ghost use Rattle.dslx_meaning.specs.Types.{same_bool};
-ghost use Rattle.dslx_typing.specs.Typed.Kinds.{same_names as are_same_names};
+ghost use Rattle.dslx_core.specs.Typing.Typed.Kinds.{same_names as are_same_names};
 
 use base::texts::Name;
 use dslx_meaning::DslxType;

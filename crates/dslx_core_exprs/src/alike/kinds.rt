@@ -3,7 +3,7 @@
 ghost use Rattle.std.specs.Prelude.{◌≡◌, ◌==◌, ◌&&◌, map};
 ghost use Rattle.std.specs.List.{list_all};
 ghost use Rattle.dslx_meaning.specs.Types.{same_bool};
-ghost use Rattle.dslx_typing.specs.Typed.Kinds.{each_of, is_of as the_value_is_of, lies_in};
+ghost use Rattle.dslx_core.specs.Typing.Typed.Kinds.{each_of, is_of as the_value_is_of, lies_in};
 
 use crate::alike::equal::{same_names, same_sign};
 use dslx_meaning::{DslxType, DslxValue};

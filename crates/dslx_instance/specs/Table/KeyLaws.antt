@@ -8,7 +8,7 @@ use Rattle.std.proofs.lemmas.Slice.Eq.{bytes_eq-Decides}
 use Rattle.dslx_meaning.specs.Lists.{pairwise}
 use Rattle.dslx_meaning.specs.declared.value.DslxValue.{DslxValue}
 use Rattle.dslx_meaning.specs.Rules.EqualValues.{equal_value}
-use Rattle.dslx_typing.proofs.Lemmas.Laws.{and_true, one_value_by_test, value_equals_itself}
+use Rattle.dslx_core.proofs.Lemmas.Typing.Laws.{and_true, one_value_by_test, value_equals_itself}
 use Rattle.dslx_instance.specs.Table.Keys.{fed_of, same_key}
 use Rattle.dslx_instance.specs.declared.table.key.InstanceKey.{InstanceKey}
 

@@ -28,7 +28,7 @@ use Rattle.dslx_instance.specs.declared.tasks.task.CallTask.TheVariants as call
 use Rattle.dslx_instance.specs.declared.tasks.body.OpenBody.{OpenBody}
 use Rattle.dslx_instance.specs.declared.tasks.machine.OpenInstance.{OpenInstance}
 use Rattle.dslx_instance.specs.declared.tasks.machine.InstanceMachine.{InstanceMachine}
-use Rattle.dslx_machines.specs.Machine.Tasks as m
+use Rattle.dslx_core.specs.Machines.Machine.Tasks as m
 
 -- ---- what is to be done
 

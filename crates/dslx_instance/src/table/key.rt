@@ -35,7 +35,11 @@ impl PartialEq for InstanceKey {
     ghost laws = { partial_equiv_from_equiv keys_equivalence };
 
     fn eq(&self, other: &InstanceKey) -> bool {
-        self.name == other.name && equal_values(self.parametric_args.as_slice(), other.parametric_args.as_slice())
+        self.name == other.name
+            && equal_values(
+                self.parametric_args.as_slice(),
+                other.parametric_args.as_slice(),
+            )
     }
 }
 

@@ -63,16 +63,26 @@ impl InstanceTable {
     pub fn has(&self, name: &Name, parametric_args: &[DslxValue]) -> bool
         ensures { result ≡ is_some (instance_in name.now parametric_args.now 0 self.now) }
     {
-        self.functions.contains_key(SoughtKey { name, parametric_args })
+        self.functions.contains_key(SoughtKey {
+            name,
+            parametric_args,
+        })
     }
 
     /// The one of this name and these parametric arguments: its number and its function.
     #[tactic(auto, using(crate::proofs::OnTable::Found::number_found, crate::proofs::OnTable::Found::function_found))]
-    pub fn find(&self, name: &Name, parametric_args: &[DslxValue]) -> Option<(usize, &LoweredFunction)>
+    pub fn find(
+        &self,
+        name: &Name,
+        parametric_args: &[DslxValue],
+    ) -> Option<(usize, &LoweredFunction)>
         ensures number { option_map (λ p. p.0) result ≡ option_map (λ p. p.0) (instance_in name.now parametric_args.now 0 self.now) }
         ensures function { option_map (λ p. p.1.now) result ≡ option_map (λ p. p.1.function) (instance_in name.now parametric_args.now 0 self.now) }
     {
-        match self.functions.get_full(SoughtKey { name, parametric_args }) {
+        match self.functions.get_full(SoughtKey {
+            name,
+            parametric_args,
+        }) {
             Some((number, _, function)) => Some((number, function)),
             None => None,
         }

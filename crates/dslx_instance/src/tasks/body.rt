@@ -1,7 +1,7 @@
 ghost use Rattle.std.specs.Prelude.{◌≡◌, ◌∷◌, [], Some, IfOk, OnOk};
 ghost use Rattle.dslx_meaning.specs.Lists.{where_true};
-ghost use Rattle.dslx_machines.specs.Machine.Bodies.{doing, gives as given_last, restored, restores, unnamed as with_one_unnamed, with_made};
-ghost use Rattle.dslx_machines.specs.Machine.Tasks.{LowersExpr};
+ghost use Rattle.dslx_core.specs.Machines.Machine.Bodies.{doing, gives as given_last, restored, restores, unnamed as with_one_unnamed, with_made};
+ghost use Rattle.dslx_core.specs.Machines.Machine.Tasks.{LowersExpr};
 ghost use Rattle.dslx_instance.specs.Tasks.Shown.{arms_task_shown, block_task_shown, body_shown, call_task_shown, loop_task_shown, parts_task_shown, task_shown};
 
 use crate::tasks::task::{ArmsTask, BlockTask, CallTask, LoopTask, LowerTask, PartsTask};

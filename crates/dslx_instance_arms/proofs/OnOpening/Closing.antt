@@ -4,9 +4,9 @@ use Rattle.std.specs.Prelude.{is_some}
 use Rattle.dslx_meaning.specs.Lists.{and_then, where_true}
 use Rattle.dslx_core.specs.Lowering.Functions.{CoreInstance, instance_in}
 use Rattle.dslx_core.specs.Lowering.Lowering.{LoweredExpr}
-use Rattle.dslx_typing.proofs.Lemmas.Typed.{none_some, same_some}
-use Rattle.dslx_machines.specs.Machine.Machines.{closes, instance_done, is_done, last_made}
-use Rattle.dslx_machines.specs.Machine.Tasks.{InstanceMachine, InstanceEnv, OpenInstance}
+use Rattle.dslx_core.proofs.Lemmas.Typing.Typed.{none_some, same_some}
+use Rattle.dslx_core.specs.Machines.Machine.Machines.{closes, instance_done, is_done, last_made}
+use Rattle.dslx_core.specs.Machines.Machine.Tasks.{InstanceMachine, InstanceEnv, OpenInstance}
 
 -- a machine with another table and these instances open
 abbrev pub moved_on : List CoreInstance → List OpenInstance → InstanceMachine → InstanceMachine

@@ -2,7 +2,7 @@
 use Rattle.std.proofs.Common.{◌≡◌, ℕ, Bool, true, false, List, Option, Some, None, refl, sym, ap, ◌∙◌}
 use Rattle.std.specs.Prelude.{is_some}
 use Rattle.dslx_core.specs.Lowering.Functions.{CoreInstance, Instantiated, instance_in}
-use Rattle.dslx_machines.specs.Machine.Machines.{unless_done}
+use Rattle.dslx_core.specs.Machines.Machine.Machines.{unless_done}
 use Rattle.dslx_instance_arms.specs.Opening.Done.{done_in, missing_in}
 
 abbrev left : Bool → Instantiated → Option Instantiated

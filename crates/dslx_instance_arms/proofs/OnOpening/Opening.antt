@@ -7,8 +7,8 @@ use Rattle.dslx_meaning.specs.declared.ty.DslxType.{DslxType}
 use Rattle.dslx_core.specs.Lowering.CoreScopes.{BodyEnv, CoreScope}
 use Rattle.dslx_core.specs.Lowering.Functions.{Instantiated, argument_types, arguments_in_scope, parametric_args_are_well_typed, outer_scope}
 use Rattle.dslx_scope_patterns.specs.Numbers.Placed.{arguments_of}
-use Rattle.dslx_machines.specs.Machine.Machines.{body_open, function_open}
-use Rattle.dslx_machines.specs.Machine.Tasks.{OpenInstance}
+use Rattle.dslx_core.specs.Machines.Machine.Machines.{body_open, function_open}
+use Rattle.dslx_core.specs.Machines.Machine.Tasks.{OpenInstance}
 
 -- an instance from the types of its arguments and the place where they are bound
 abbrev pub open_from : Function → Instantiated → List DslxType × CoreScope → Option OpenInstance

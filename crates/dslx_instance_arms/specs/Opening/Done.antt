@@ -4,8 +4,8 @@ use Rattle.dslx_meaning.specs.Lists.{and_then}
 use Rattle.dslx_core.specs.declared.expr.CoreExpr as core
 use Rattle.dslx_core.specs.Lowering.Functions.{CoreInstance, Instantiated, callee_of, instance_in}
 use Rattle.dslx_core.specs.Lowering.Lowering.{LoweredExpr, cores_of, lowered, types_of_lowered}
-use Rattle.dslx_machines.specs.Machine.Machines.{needed_for, unless_done}
-use Rattle.dslx_machines.specs.Machine.Tasks.{LowerTask}
+use Rattle.dslx_core.specs.Machines.Machine.Machines.{needed_for, unless_done}
+use Rattle.dslx_core.specs.Machines.Machine.Tasks.{LowerTask}
 
 -- whether one is done
 abbrev pub done_in : List CoreInstance → Instantiated → Bool

@@ -2,7 +2,7 @@
 
 ghost use Rattle.std.specs.Prelude.{◌≡◌, Some, IfOk};
 ghost use Rattle.dslx_meaning.specs.Lists.{where_true};
-ghost use Rattle.dslx_machines.specs.Machine.Bodies.{gives};
+ghost use Rattle.dslx_core.specs.Machines.Machine.Bodies.{gives};
 ghost use Rattle.dslx_instance_arms.specs.Opening.Done.{call_in, done_in, missing_for_task, missing_in};
 ghost use Rattle.dslx_instance.specs.Tasks.Shown.{body_shown, task_shown};
 

@@ -2,7 +2,7 @@
 
 ghost use Rattle.std.specs.Prelude.{◌≡◌, map, Some, IfOk};
 ghost use Rattle.dslx_meaning.specs.Lists.{and_then, where_true};
-ghost use Rattle.dslx_machines.specs.Machine.Machines.{closes, instance_done, last_made};
+ghost use Rattle.dslx_core.specs.Machines.Machine.Machines.{closes, instance_done, last_made};
 ghost use Rattle.dslx_instance.specs.Tasks.Shown.{instance_shown, machine_shown};
 
 use dslx_core::lowering::{CoreInstance, LoweredExpr, LoweredFunction};

@@ -4,8 +4,8 @@ use Rattle.dslx_tree.specs.declared.expr.Expr.{Expr}
 use Rattle.dslx_meaning.specs.Lists.{and_then}
 use Rattle.dslx_meaning.specs.declared.ty.DslxType.{DslxType}
 use Rattle.dslx_meaning.specs.Rules.AggregateRules.{array_in}
-use Rattle.dslx_machines.specs.Machine.Parts.{gathers}
-use Rattle.dslx_machines.specs.Machine.Tasks.{Fills, InstanceEnv, OpenBody}
+use Rattle.dslx_core.specs.Machines.Machine.Parts.{gathers}
+use Rattle.dslx_core.specs.Machines.Machine.Tasks.{Fills, InstanceEnv, OpenBody}
 
 -- the elements, if the type is an array's
 abbrev pub fills_type : Option DslxType → InstanceEnv → List Expr → Bool → OpenBody → Option OpenBody

@@ -7,9 +7,9 @@ use Rattle.dslx_meaning.specs.Lists.{all_some, and_then}
 use Rattle.dslx_meaning.specs.declared.value.DslxValue.{DslxValue}
 use Rattle.dslx_core.specs.Lowering.Functions.{Instantiated}
 use Rattle.dslx_core.specs.Lowering.Lowering.{LoweredExpr, types_of_lowered}
-use Rattle.dslx_machines.specs.Machine.Bodies.{doing, scope_in}
-use Rattle.dslx_machines.specs.Machine.Parts.{parametric_args_at}
-use Rattle.dslx_machines.specs.Machine.Tasks.{CallsInstance, InstanceEnv, OpenBody}
+use Rattle.dslx_core.specs.Machines.Machine.Bodies.{doing, scope_in}
+use Rattle.dslx_core.specs.Machines.Machine.Parts.{parametric_args_at}
+use Rattle.dslx_core.specs.Machines.Machine.Tasks.{CallsInstance, InstanceEnv, OpenBody}
 
 -- the instance that a call with these parametric arguments and operands comes to
 abbrev pub the_instance : Module → List ℕ → List DslxValue → List LoweredExpr → Option Instantiated

@@ -5,9 +5,9 @@ use Rattle.dslx_tree.specs.declared.expr.Expr.{Expr}
 use Rattle.dslx_tree.specs.declared.expr.FieldValue.{FieldValue}
 use Rattle.dslx_meaning.specs.Lists.{is_in}
 use Rattle.dslx_meaning.specs.declared.ty.DslxType.{DslxType}
-use Rattle.dslx_machines.specs.Machine.Bodies.{doing}
-use Rattle.dslx_machines.specs.Machine.Parts.{fields_on, names_of_fields}
-use Rattle.dslx_machines.specs.Machine.Tasks.{InstanceEnv, LowersExpr, OpenBody, TakesOthers}
+use Rattle.dslx_core.specs.Machines.Machine.Bodies.{doing}
+use Rattle.dslx_core.specs.Machines.Machine.Parts.{fields_on, names_of_fields}
+use Rattle.dslx_core.specs.Machines.Machine.Tasks.{InstanceEnv, LowersExpr, OpenBody, TakesOthers}
 
 -- what has the fields that aren't written, if there is such a field
 abbrev pub others_needed : List (List ℕ) → List FieldValue → Option Expr → Option Expr

@@ -6,8 +6,8 @@ ghost use Rattle.dslx_meaning.specs.Lists.{all_some};
 ghost use Rattle.dslx_core.specs.Lowering.CoreScopes.{bound_at, constant_at};
 ghost use Rattle.dslx_core.specs.Lowering.Functions.{CoreInstance};
 ghost use Rattle.dslx_core.specs.Lowering.Trees.{lower_type_of_text};
-ghost use Rattle.dslx_machines.specs.Machine.Bodies.{scope_in};
-ghost use Rattle.dslx_machines.specs.Machine.Parts.{parametric_args_at};
+ghost use Rattle.dslx_core.specs.Machines.Machine.Bodies.{scope_in};
+ghost use Rattle.dslx_core.specs.Machines.Machine.Parts.{parametric_args_at};
 ghost use Rattle.dslx_instance.specs.Tasks.Shown.{body_shown, instance_env_of};
 
 use crate::scopes::context::scope_env_in;

@@ -5,8 +5,8 @@ ghost use Rattle.dslx_core.specs.declared.expr.CoreExpr.{Slot as slot_of};
 ghost use Rattle.dslx_meaning.specs.Lists.{and_then};
 ghost use Rattle.dslx_core.specs.Lowering.Functions.{CoreInstance};
 ghost use Rattle.dslx_core.specs.Lowering.Lowering.{literal as the_literal, lowered, lower_name};
-ghost use Rattle.dslx_machines.specs.Machine.Bodies.{scope_in};
-ghost use Rattle.dslx_machines.specs.Machine.Steps.{number_at};
+ghost use Rattle.dslx_core.specs.Machines.Machine.Bodies.{scope_in};
+ghost use Rattle.dslx_core.specs.Machines.Machine.Steps.{number_at};
 ghost use Rattle.dslx_instance.specs.Tasks.Shown.{body_shown, instance_env_of};
 
 use crate::scopes::context::scope_env_in;

@@ -10,12 +10,12 @@ use Rattle.dslx_core.specs.Lowering.Functions.{CoreInstance, callee_in}
 use Rattle.dslx_core.specs.Lowering.Lowering.{LoweredExpr}
 use Rattle.dslx_core.specs.Lowering.Steps.{CoreMember}
 use Rattle.dslx_core.specs.Lowering.Trees.{lower_expression, of_type}
-use Rattle.dslx_machines.specs.Machine.Reached.{IsTable}
-use Rattle.dslx_machines.proofs.Lemmas.Machine.Instances.{begins_further, begins_itself}
+use Rattle.dslx_core.specs.Machines.Machine.Reached.{IsTable}
+use Rattle.dslx_core.proofs.Lemmas.Machines.Machine.Instances.{begins_further, begins_itself}
 use Rattle.dslx_instance.specs.declared.tasks.work.BodyWork.{BodyWork}
-use Rattle.dslx_machines.proofs.Lemmas.Extension.Coming.{never_as, never_at_once, never_behind, never_then}
-use Rattle.dslx_machines.proofs.Lemmas.Extension.Growing.{grows_itself, grows_on}
-use Rattle.dslx_machines.proofs.Lemmas.Extension.OneType.{one_type}
+use Rattle.dslx_core.proofs.Lemmas.Machines.Extension.Coming.{never_as, never_at_once, never_behind, never_then}
+use Rattle.dslx_core.proofs.Lemmas.Machines.Extension.Growing.{grows_itself, grows_on}
+use Rattle.dslx_core.proofs.Lemmas.Machines.Extension.OneType.{one_type}
 use Rattle.dslx_param.specs.Works.{IsLowered, IsNone, LowerResult}
 use Rattle.dslx_next.specs.Opening.Works.{HasTable, IsThere, BodyMakes, scope_at}
 use Rattle.dslx_next.specs.Opening.Opened.{conditional}

@@ -9,17 +9,17 @@ use Rattle.dslx_meaning.specs.Lists.{and_then, index_in, where_true}
 use Rattle.dslx_meaning.specs.Types.{received}
 use Rattle.dslx_meaning.specs.declared.ty.DslxType.{DslxType}
 use Rattle.dslx_meaning.specs.declared.ty.DslxType as ty
-use Rattle.dslx_typing.proofs.Lemmas.Typed.{same_some}
+use Rattle.dslx_core.proofs.Lemmas.Typing.Typed.{same_some}
 use Rattle.dslx_core.specs.declared.step.Step.{Step}
 use Rattle.dslx_core.specs.Lowering.Functions.{CoreInstance, callee_in}
 use Rattle.dslx_core.specs.Lowering.Lowering.{LoweredExpr}
 use Rattle.dslx_core.specs.Lowering.Steps.{CoreMember, can_travel, end_names, member_in}
 use Rattle.dslx_core.specs.Lowering.Trees.{lower_expression, of_type, lower_type_of_text}
 use Rattle.dslx_core.proofs.Lemmas.Lowering.{from_then}
-use Rattle.dslx_machines.specs.Machine.Reached.{IsTable}
-use Rattle.dslx_machines.proofs.Lemmas.Machine.Steady.{type_anywhere}
+use Rattle.dslx_core.specs.Machines.Machine.Reached.{IsTable}
+use Rattle.dslx_core.proofs.Lemmas.Machines.Machine.Steady.{type_anywhere}
 use Rattle.dslx_instance.specs.declared.tasks.work.BodyWork.{BodyWork}
-use Rattle.dslx_machines.proofs.Lemmas.Extension.OneType.{one_type}
+use Rattle.dslx_core.proofs.Lemmas.Machines.Extension.OneType.{one_type}
 use Rattle.dslx_next.specs.Opening.Opened.{computing, conditional, opened, receiving, sending}
 use Rattle.dslx_next.specs.Opening.Works.{opened_at, outer_at, scope_at}
 use Rattle.dslx_next.specs.declared.opening.opened.OpenStep.{OpenStep}

@@ -12,7 +12,7 @@ use Rattle.dslx_meaning.specs.Items.{meanings_of}
 use Rattle.dslx_meaning.specs.Lists.{and_then, where_true}
 use Rattle.dslx_meaning.specs.declared.ty.DslxType.{DslxType}
 use Rattle.dslx_core.specs.declared.step.Step.{Step}
-use Rattle.dslx_typing.proofs.Lemmas.Typed.{same_some}
+use Rattle.dslx_core.proofs.Lemmas.Typing.Typed.{same_some}
 use Rattle.dslx_core.specs.Lowering.CoreScopes.{CoreScope, with_local}
 use Rattle.dslx_core.specs.Lowering.EqualTypes.{equal_type}
 use Rattle.dslx_core.specs.Lowering.Functions.{CoreInstance, parametric_args_are_well_typed, outer_scope}
@@ -20,15 +20,15 @@ use Rattle.dslx_core.specs.Lowering.Lowering.{LoweredExpr}
 use Rattle.dslx_core.specs.Lowering.Steps.{LoweredNext, LoweredSteps, StepsLowering, is_sized, last_of_steps, lower_next, statement_steps, statements_steps, steps_from}
 use Rattle.dslx_core.specs.Lowering.Trees.{lower_type_of_text}
 use Rattle.dslx_core.proofs.Lemmas.Lowering.{from_then}
-use Rattle.dslx_machines.specs.Machine.Reached.{IsTable}
-use Rattle.dslx_machines.proofs.Lemmas.Machine.Instances.{begins_further, begins_itself}
+use Rattle.dslx_core.specs.Machines.Machine.Reached.{IsTable}
+use Rattle.dslx_core.proofs.Lemmas.Machines.Machine.Instances.{begins_further, begins_itself}
 use Rattle.dslx_instance.specs.declared.tasks.work.BodyWork.{BodyWork}
-use Rattle.dslx_machines.specs.Extension.Results.{TableResult}
+use Rattle.dslx_core.specs.Machines.Extension.Results.{TableResult}
 use Rattle.dslx_next.specs.Opening.Works.{BodyMakes, parametric_args_known, outer_at, scope_at}
 use Rattle.dslx_next.specs.Steps.Passing.{HasOneState, HasState, IsPassed, BodyPasses, behind_steps, body_at, last_at, statements_at, statements_then}
 use Rattle.dslx_next.specs.declared.opening.work.NextScope.{NextScope}
-use Rattle.dslx_machines.proofs.Lemmas.Extension.Coming.{comes_as, never_as, never_behind, never_then, value_comes}
-use Rattle.dslx_machines.proofs.Lemmas.Extension.Growing.{grows_on}
+use Rattle.dslx_core.proofs.Lemmas.Machines.Extension.Coming.{comes_as, never_as, never_behind, never_then, value_comes}
+use Rattle.dslx_core.proofs.Lemmas.Machines.Extension.Growing.{grows_on}
 use Rattle.dslx_next.proofs.OnOpening.Sequels.{lowered_types}
 use Rattle.dslx_next.proofs.OnSteps.Passed.{no_state}
 

@@ -9,25 +9,25 @@ use Rattle.dslx_tree.specs.declared.expr.Expr.{Expr}
 use Rattle.dslx_meaning.specs.Activation.{StmtLayer, act_of}
 use Rattle.dslx_meaning.specs.Items.{meanings_of}
 use Rattle.dslx_meaning.specs.Lists.{and_then}
-use Rattle.dslx_typing.proofs.Lemmas.Typed.{none_some, same_some}
+use Rattle.dslx_core.proofs.Lemmas.Typing.Typed.{none_some, same_some}
 use Rattle.dslx_core.specs.declared.step.Step.{Step}
 use Rattle.dslx_names.specs.Bound.{given}
 use Rattle.dslx_core.specs.Lowering.Functions.{CoreInstance, callee_in, outer_scope}
 use Rattle.dslx_core.specs.Lowering.Patterns.{LoweredShape}
 use Rattle.dslx_core.proofs.Lemmas.Lowering.{from_then}
 use Rattle.dslx_core.specs.Lowering.Steps.{BindsInScope, LoweredSteps, StepsLowering, binds_nothing, statement_steps, step_then}
-use Rattle.dslx_machines.specs.Machine.Arms.{shaped_at}
-use Rattle.dslx_machines.specs.Machine.Reached.{ExtendsTable, IsTable}
-use Rattle.dslx_machines.proofs.Lemmas.Machine.Instances.{begins_further, begins_itself}
+use Rattle.dslx_core.specs.Machines.Machine.Arms.{shaped_at}
+use Rattle.dslx_core.specs.Machines.Machine.Reached.{ExtendsTable, IsTable}
+use Rattle.dslx_core.proofs.Lemmas.Machines.Machine.Instances.{begins_further, begins_itself}
 use Rattle.dslx_instance.specs.declared.tasks.work.BodyWork.{BodyWork}
-use Rattle.dslx_machines.specs.Extension.Results.{TableExtends}
+use Rattle.dslx_core.specs.Machines.Extension.Results.{TableExtends}
 use Rattle.dslx_next.specs.Opening.Opened.{binds_then, with_shape}
 use Rattle.dslx_next.specs.Opening.Works.{HasTable, BodyMakes, opened_at, outer_at, scope_at}
 use Rattle.dslx_next.specs.Steps.Passing.{HasState, IsBound, StepBinds, IsPassed, BodyPasses, act_at, behind_steps, statement_at, statements_at, statements_then}
 use Rattle.dslx_next.specs.declared.opening.opened.OpenStep.{OpenStep}
 use Rattle.dslx_next.specs.declared.opening.work.NextScope.{NextScope}
-use Rattle.dslx_machines.proofs.Lemmas.Extension.Coming.{never_as, never_behind}
-use Rattle.dslx_machines.proofs.Lemmas.Extension.Growing.{grows_itself, grows_on}
+use Rattle.dslx_core.proofs.Lemmas.Machines.Extension.Coming.{never_as, never_behind}
+use Rattle.dslx_core.proofs.Lemmas.Machines.Extension.Growing.{grows_itself, grows_on}
 use Rattle.dslx_next.proofs.OnSteps.Opens.{act_opens, pushed_behind}
 use Rattle.dslx_next.proofs.OnOpening.Sequels.{same_scope}
 use Rattle.dslx_next.proofs.OnOpening.Types.{opens_one_type}

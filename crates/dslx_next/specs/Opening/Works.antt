@@ -8,10 +8,10 @@ use Rattle.dslx_names.specs.Bound.{given}
 use Rattle.dslx_names.specs.declared.scope.Binding.{Binding}
 use Rattle.dslx_core.specs.Lowering.CoreScopes.{BodyEnv, CoreScope}
 use Rattle.dslx_core.specs.Lowering.Functions.{CoreInstance, callee_in, outer_scope}
-use Rattle.dslx_machines.specs.Machine.Reached.{IsTable}
+use Rattle.dslx_core.specs.Machines.Machine.Reached.{IsTable}
 use Rattle.dslx_instance.specs.Tasks.Works.{work_scope}
 use Rattle.dslx_instance.specs.declared.tasks.work.BodyWork.{BodyWork}
-use Rattle.dslx_machines.specs.Extension.Results.{StableFrom, NoTableGives}
+use Rattle.dslx_core.specs.Machines.Extension.Results.{StableFrom, NoTableGives}
 use Rattle.dslx_next.specs.Opening.Opened.{act_opened}
 use Rattle.dslx_next.specs.declared.opening.opened.OpenStep.{OpenStep}
 use Rattle.dslx_next.specs.declared.opening.work.NextScope.{NextScope}

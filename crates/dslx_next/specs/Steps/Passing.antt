@@ -14,9 +14,9 @@ use Rattle.dslx_core.specs.Lowering.Functions.{CoreInstance}
 use Rattle.dslx_core.specs.Lowering.Lowering.{LoweredExpr}
 use Rattle.dslx_core.specs.Lowering.Patterns.{shaped}
 use Rattle.dslx_core.specs.Lowering.Steps.{BindsInScope, LoweredSteps, StepsLowering, lower_act, last_of_steps, statement_steps, statements_steps}
-use Rattle.dslx_machines.specs.Machine.Reached.{ExtendsTable, IsTable}
+use Rattle.dslx_core.specs.Machines.Machine.Reached.{ExtendsTable, IsTable}
 use Rattle.dslx_instance.specs.declared.tasks.work.BodyWork.{BodyWork}
-use Rattle.dslx_machines.specs.Extension.Results.{TableExtends, NoTableGives}
+use Rattle.dslx_core.specs.Machines.Extension.Results.{TableExtends, NoTableGives}
 use Rattle.dslx_next.specs.Opening.Opened.{with_shape}
 use Rattle.dslx_next.specs.declared.opening.opened.OpenStep.{OpenStep}
 use Rattle.dslx_next.specs.declared.opening.work.NextScope.{NextScope}

@@ -1,7 +1,7 @@
 //! The body of a `next`.
 
 ghost use Rattle.std.specs.Prelude.{IfOk};
-ghost use Rattle.dslx_machines.specs.Extension.Results.{TableResult};
+ghost use Rattle.dslx_core.specs.Machines.Extension.Results.{TableResult};
 ghost use Rattle.dslx_next.specs.Opening.Works.{HasTable, BodyMakes};
 ghost use Rattle.dslx_next.specs.Steps.Passing.{BodyPasses, HasOneState, body_at, last_at, statements_at};
 

@@ -1,8 +1,8 @@
 //! The `next` of an instance of a proc.
 
 ghost use Rattle.std.specs.Prelude.{◌≡◌, ◌∷◌, ◌&&◌, [], not, map, reverse, Some, IfOk};
-ghost use Rattle.dslx_machines.specs.Machine.Callees.{CalleesByName};
-ghost use Rattle.dslx_machines.specs.Machine.Reached.{IsTable};
+ghost use Rattle.dslx_core.specs.Machines.Machine.Callees.{CalleesByName};
+ghost use Rattle.dslx_core.specs.Machines.Machine.Reached.{IsTable};
 ghost use Rattle.dslx_core.specs.Lowering.Functions.{parametric_args_are_well_typed as all_stand, outer_scope};
 ghost use Rattle.dslx_core.specs.Lowering.Steps.{is_sized as has_elements, lower_next, steps_from};
 ghost use Rattle.dslx_core.specs.Lowering.Trees.{lower_type_of_text};
@@ -10,7 +10,7 @@ ghost use Rattle.dslx_meaning.specs.Items.{meanings_of};
 ghost use Rattle.dslx_meaning.specs.Lists.{and_then, where_true};
 ghost use Rattle.dslx_names.specs.Bound.{given};
 ghost use Rattle.dslx_scope_patterns.specs.Patterns.Behind.{body_scope};
-ghost use Rattle.dslx_machines.specs.Extension.Results.{TableResult};
+ghost use Rattle.dslx_core.specs.Machines.Extension.Results.{TableResult};
 ghost use Rattle.dslx_next.specs.Opening.Works.{parametric_args_known};
 
 use crate::opening::{NextScope, outer_type};
@@ -43,7 +43,12 @@ pub fn next_there<'a>(
     requires is_table { IsTable text.now (meanings_of text.now) table }
     ensures { IfOk result (λ o. TableResult text.now limit table (λ instances. lower_next (parametric_args_known text.now parametric_args.entry.items instances) proc.now) o) }
 {
-    if !names_are_well_typed(alloc, text, parametric_args.as_slice(), &proc.next.state.name)? {
+    if !names_are_well_typed(
+        alloc,
+        text,
+        parametric_args.as_slice(),
+        &proc.next.state.name,
+    )? {
         return Ok(None);
     }
     let known = BodyScope {
@@ -65,7 +70,10 @@ fn names_are_well_typed(
 ) -> Result<bool, AllocError>
     ensures { IfOk result (λ stand. stand ≡ (all_stand (meanings_of text.now) (reverse (map given parametric_args.now)) && not ((meanings_of text.now).is_constant state.now))) }
 {
-    Ok(parametric_args_are_well_typed(alloc, text, parametric_args)? && !is_constant_named(text, state))
+    Ok(
+        parametric_args_are_well_typed(alloc, text, parametric_args)?
+            && !is_constant_named(text, state),
+    )
 }
 
 /// The type of the state, if each array in it has an element.

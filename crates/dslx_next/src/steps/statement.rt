@@ -1,7 +1,7 @@
 //! Statements.
 
 ghost use Rattle.std.specs.Prelude.{◌≡◌, List, map, IfOk};
-ghost use Rattle.dslx_machines.specs.Machine.Arms.{shaped_at};
+ghost use Rattle.dslx_core.specs.Machines.Machine.Arms.{shaped_at};
 ghost use Rattle.dslx_core.specs.Lowering.Functions.{CoreInstance};
 ghost use Rattle.dslx_core.specs.Lowering.Patterns.{shaped};
 ghost use Rattle.dslx_core.specs.Lowering.Steps.{binds_nothing};

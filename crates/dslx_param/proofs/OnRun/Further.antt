@@ -1,10 +1,10 @@
 -- Several steps of the machine, and one more.
 use Rattle.std.proofs.Common.{◌≡◌, ℕ, zero, suc, Bool, true, false, Option, Some, None, refl, sym, ap, ◌∙◌}
 use Rattle.dslx_meaning.specs.Lists.{and_then, where_true}
-use Rattle.dslx_machines.specs.Machine.Machines.{after_steps, machine_stepped}
-use Rattle.dslx_machines.specs.Machine.Tasks.{InstanceMachine}
-use Rattle.dslx_machines.specs.Machine.Reached.{HasEnded}
-use Rattle.dslx_typing.proofs.Lemmas.Typed.{none_some}
+use Rattle.dslx_core.specs.Machines.Machine.Machines.{after_steps, machine_stepped}
+use Rattle.dslx_core.specs.Machines.Machine.Tasks.{InstanceMachine}
+use Rattle.dslx_core.specs.Machines.Machine.Reached.{HasEnded}
+use Rattle.dslx_core.proofs.Lemmas.Typing.Typed.{none_some}
 use Rattle.dslx_param.specs.Run.Runs.{MachineRuns, Ends, Lacks}
 
 -- where it stands after so many steps

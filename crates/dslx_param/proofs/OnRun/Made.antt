@@ -2,8 +2,8 @@
 use Rattle.std.proofs.Common.{◌≡◌, Bool, true, false, List, Option, Some, ap}
 use Rattle.dslx_meaning.specs.Lists.{and_then, where_true}
 use Rattle.dslx_core.specs.Lowering.Lowering.{LoweredExpr}
-use Rattle.dslx_machines.specs.Machine.Bodies.{with_made}
-use Rattle.dslx_machines.specs.Machine.Tasks.{OpenBody}
+use Rattle.dslx_core.specs.Machines.Machine.Bodies.{with_made}
+use Rattle.dslx_core.specs.Machines.Machine.Tasks.{OpenBody}
 
 -- it takes the place of what it is made of, if there is such
 pub made_is : (is : Bool) (new : List LoweredExpr) (o : Option (List LoweredExpr)) (body : OpenBody) → where_true is (Some new) ≡ o

@@ -4,8 +4,8 @@ use Rattle.std.specs.Prelude.{is_some}
 use Rattle.dslx_tree.specs.declared.item.Module.{Module}
 use Rattle.dslx_meaning.specs.Lists.{and_then, where_true}
 use Rattle.dslx_core.specs.Lowering.Functions.{CoreInstance, Instantiated}
-use Rattle.dslx_machines.specs.Machine.Steps.{instance_of}
-use Rattle.dslx_machines.specs.Machine.Tasks.{OpenBody}
+use Rattle.dslx_core.specs.Machines.Machine.Steps.{instance_of}
+use Rattle.dslx_core.specs.Machines.Machine.Tasks.{OpenBody}
 use Rattle.dslx_instance_arms.specs.Opening.Done.{done_in}
 use Rattle.dslx_instance.specs.Tasks.Shown.{instance_env_of}
 

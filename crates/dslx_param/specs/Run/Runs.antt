@@ -1,8 +1,8 @@
 -- What comes of all steps of the machine.
 use Rattle.std.specs.Prelude.{◌≡◌, ℕ, Bool, true, false, None, Some}
-use Rattle.dslx_machines.specs.Machine.Machines.{after_steps, machine_stepped}
-use Rattle.dslx_machines.specs.Machine.Reached.{HasEnded}
-use Rattle.dslx_machines.specs.Machine.Tasks.{InstanceMachine}
+use Rattle.dslx_core.specs.Machines.Machine.Machines.{after_steps, machine_stepped}
+use Rattle.dslx_core.specs.Machines.Machine.Reached.{HasEnded}
+use Rattle.dslx_core.specs.Machines.Machine.Tasks.{InstanceMachine}
 
 -- nothing is left to do, or there is no step
 pub data MachineRuns (start end : InstanceMachine) : Bool → Type 0 where

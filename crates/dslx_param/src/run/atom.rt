@@ -6,8 +6,8 @@ ghost use Rattle.dslx_meaning.specs.Lists.{and_then, where_true};
 ghost use Rattle.dslx_meaning.specs.Values.{bool_value as truth_value};
 ghost use Rattle.dslx_core.specs.Lowering.Functions.{CoreInstance};
 ghost use Rattle.dslx_core.specs.Lowering.Lowering.{literal as the_literal, lower_name};
-ghost use Rattle.dslx_machines.specs.Machine.Bodies.{gives, scope_in};
-ghost use Rattle.dslx_machines.specs.Machine.Steps.{number_at};
+ghost use Rattle.dslx_core.specs.Machines.Machine.Bodies.{gives, scope_in};
+ghost use Rattle.dslx_core.specs.Machines.Machine.Steps.{number_at};
 ghost use Rattle.dslx_instance.specs.Tasks.Shown.{body_shown, instance_env_of};
 
 use base::texts::Name;

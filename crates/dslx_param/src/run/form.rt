@@ -4,8 +4,8 @@ ghost use Rattle.std.specs.Prelude.{◌≡◌, ◌∷◌, [], List, Some, IfOk};
 ghost use Rattle.dslx_tree.specs.declared.expr.For.{out-For};
 ghost use Rattle.dslx_meaning.specs.Lists.{where_true};
 ghost use Rattle.dslx_core.specs.Lowering.Functions.{CoreInstance};
-ghost use Rattle.dslx_machines.specs.Machine.Bodies.{doing};
-ghost use Rattle.dslx_machines.specs.Machine.Tasks.{LoopBegins, LowersArms, LowersBlock, LowersExpr, Makes, MakesChoice};
+ghost use Rattle.dslx_core.specs.Machines.Machine.Bodies.{doing};
+ghost use Rattle.dslx_core.specs.Machines.Machine.Tasks.{LoopBegins, LowersArms, LowersBlock, LowersExpr, Makes, MakesChoice};
 ghost use Rattle.dslx_param.specs.Run.Inner.Structs.{struct_named_begins};
 ghost use Rattle.dslx_instance.specs.Tasks.Shown.{body_shown, last_shown, instance_env_of};
 

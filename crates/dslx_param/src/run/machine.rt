@@ -4,7 +4,7 @@
 ghost use Rattle.std.specs.Prelude.{◌≡◌, Some, IfOk};
 ghost use Rattle.std.specs.Option.{option_map};
 ghost use Rattle.dslx_meaning.specs.Lists.{where_true};
-ghost use Rattle.dslx_machines.specs.Machine.Machines.{in_instance, in_root, instance_stepped, machine_stepped, missing_for as the_missing, opens, root_stepped};
+ghost use Rattle.dslx_core.specs.Machines.Machine.Machines.{in_instance, in_root, instance_stepped, machine_stepped, missing_for as the_missing, opens, root_stepped};
 ghost use Rattle.dslx_instance.specs.Tasks.Shown.{instance_shown, machine_shown, task_shown};
 ghost use Rattle.dslx_param.specs.Run.Inner.Opened.{opened_within, with_opened, with_root_task, with_task};
 

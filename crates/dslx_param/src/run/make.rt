@@ -6,8 +6,8 @@ ghost use Rattle.dslx_core.specs.Lowering.Functions.{CoreInstance};
 ghost use Rattle.dslx_core.specs.Lowering.Lowering.{LoweredExpr, lower_cast, lower_field as the_field, lower_part, lower_slice};
 ghost use Rattle.dslx_core.specs.Lowering.CoreScopes.{bound_at};
 ghost use Rattle.dslx_core.specs.Lowering.Trees.{lower_type_of_text};
-ghost use Rattle.dslx_machines.specs.Machine.Bodies.{scope_in, with_made};
-ghost use Rattle.dslx_machines.specs.Machine.Steps.{made_of_last, of_last, of_last_two};
+ghost use Rattle.dslx_core.specs.Machines.Machine.Bodies.{scope_in, with_made};
+ghost use Rattle.dslx_core.specs.Machines.Machine.Steps.{made_of_last, of_last, of_last_two};
 ghost use Rattle.dslx_instance.specs.Tasks.Shown.{body_shown, last_shown, instance_env_of};
 
 use base::stacks::Stack;

@@ -4,7 +4,7 @@ ghost use Rattle.std.specs.Prelude.{◌≡◌, List, Some, IfOk};
 ghost use Rattle.dslx_meaning.specs.Activation.{node_of};
 ghost use Rattle.dslx_meaning.specs.Lists.{where_true};
 ghost use Rattle.dslx_core.specs.Lowering.Functions.{CoreInstance};
-ghost use Rattle.dslx_machines.specs.Machine.Steps.{node_begins};
+ghost use Rattle.dslx_core.specs.Machines.Machine.Steps.{node_begins};
 ghost use Rattle.dslx_instance.specs.Tasks.Shown.{body_shown, instance_env_of};
 
 use crate::run::atom::{give_bool, give_member, give_name, give_number};

@@ -3,7 +3,7 @@
 ghost use Rattle.std.specs.Prelude.{◌≡◌, List, Some, IfOk};
 ghost use Rattle.dslx_meaning.specs.Lists.{where_true};
 ghost use Rattle.dslx_core.specs.Lowering.Functions.{CoreInstance};
-ghost use Rattle.dslx_machines.specs.Machine.Steps.{statements_begin, stepped};
+ghost use Rattle.dslx_core.specs.Machines.Machine.Steps.{statements_begin, stepped};
 ghost use Rattle.dslx_instance.specs.Tasks.Shown.{arms_task_shown, block_task_shown, body_shown, loop_task_shown, parts_task_shown, instance_env_of, task_shown};
 
 use crate::run::make::make_last;

@@ -1,7 +1,7 @@
 //! All steps of the machine.
 
 ghost use Rattle.std.specs.Prelude.{◌≡◌, IfOk, true};
-ghost use Rattle.dslx_machines.specs.Machine.Reached.{HasEnded};
+ghost use Rattle.dslx_core.specs.Machines.Machine.Reached.{HasEnded};
 ghost use Rattle.dslx_instance.specs.Tasks.Shown.{machine_shown};
 ghost use Rattle.dslx_param.specs.Run.Runs.{MachineRuns};
 

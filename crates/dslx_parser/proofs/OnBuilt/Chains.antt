@@ -7,7 +7,7 @@ use Rattle.dslx_tree.specs.declared.operator.Binary.{Binary}
 use Rattle.dslx_tree.specs.declared.operators.chain.Link.{Link}
 use Rattle.dslx_tree.specs.Operators.Levels.{tree_of}
 use Rattle.dslx_actions.specs.declared.parts.SemanticStacks.{SemanticStacks}
-use Rattle.dslx_expr_actions.specs.Operators.Operators.{links_of, operand_of}
+use Rattle.dslx_node_actions.specs.Exprs.Operators.Operators.{links_of, operand_of}
 use Rattle.dslx_parser.proofs.OnBuilt.Onto.{onto}
 
 abbrev pub operator_of : Link → Binary

@@ -7,10 +7,10 @@ use Rattle.dslx_token.specs.Lexeme.{Lexeme}
 use Rattle.dslx_actions.specs.declared.parts.SemanticStacks.{SemanticStacks}
 use Rattle.dslx_actions.specs.Tokens.{shifted}
 use Rattle.dslx_actions.specs.Types.Rules.{reduced_pattern, reduced_type}
-use Rattle.dslx_expr_actions.specs.Atoms.Rules.{reduced_arg, reduced_atom}
-use Rattle.dslx_expr_actions.specs.Operators.Rules.{reduced_operator}
-use Rattle.dslx_expr_actions.specs.Braces.Rules.{reduced_brace}
-use Rattle.dslx_item_actions.specs.Rules.{reduced_item, reduced_proc}
+use Rattle.dslx_node_actions.specs.Exprs.Atoms.Rules.{reduced_arg, reduced_atom}
+use Rattle.dslx_node_actions.specs.Exprs.Operators.Rules.{reduced_operator}
+use Rattle.dslx_node_actions.specs.Exprs.Braces.Rules.{reduced_brace}
+use Rattle.dslx_node_actions.specs.Items.Rules.{reduced_item, reduced_proc}
 use Rattle.dslx_parser.specs.declared.builder.rule.Rule.{Rule}
 use Rattle.dslx_parser.specs.declared.builder.rule.Rule.TheVariants.{Keep, Common, TypeExpr, Pattern, Atom, Arg, Operator, Brace, Item, Proc}
 use Rattle.dslx_parser.specs.Builder.Common.{reduced_common}

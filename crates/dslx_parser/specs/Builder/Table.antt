@@ -6,12 +6,12 @@ use Rattle.dslx_tree.specs.declared.operator.Prefix.TheVariants as prefix
 use Rattle.dslx_tree.specs.declared.process.Direction.TheVariants as direction
 use Rattle.dslx_actions.specs.declared.types.rule.TypeAction.TheVariants as types
 use Rattle.dslx_actions.specs.declared.types.rule.PatternAction.TheVariants as patterns
-use Rattle.dslx_expr_actions.specs.declared.atoms.rule.ArgAction.TheVariants as args
-use Rattle.dslx_expr_actions.specs.declared.atoms.rule.AtomAction.TheVariants as atoms
-use Rattle.dslx_expr_actions.specs.declared.operators.rule.OperatorAction.TheVariants as operators
-use Rattle.dslx_expr_actions.specs.declared.braces.rule.BraceAction.TheVariants as braces
-use Rattle.dslx_item_actions.specs.declared.rule.ItemAction.TheVariants as items
-use Rattle.dslx_item_actions.specs.declared.rule.ProcAction.TheVariants as procs
+use Rattle.dslx_node_actions.specs.declared.exprs.atoms.rule.ArgAction.TheVariants as args
+use Rattle.dslx_node_actions.specs.declared.exprs.atoms.rule.AtomAction.TheVariants as atoms
+use Rattle.dslx_node_actions.specs.declared.exprs.operators.rule.OperatorAction.TheVariants as operators
+use Rattle.dslx_node_actions.specs.declared.exprs.braces.rule.BraceAction.TheVariants as braces
+use Rattle.dslx_node_actions.specs.declared.items.rule.ItemAction.TheVariants as items
+use Rattle.dslx_node_actions.specs.declared.items.rule.ProcAction.TheVariants as procs
 use Rattle.dslx_parser.specs.declared.builder.rule.CommonAction.TheVariants as common
 use Rattle.dslx_parser.specs.declared.builder.rule.Rule.{Rule}
 use Rattle.dslx_parser.specs.declared.builder.rule.Rule.TheVariants.{Keep, Common, TypeExpr, Pattern, Atom, Arg, Operator, Brace, Item, Proc}

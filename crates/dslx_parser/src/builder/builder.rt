@@ -25,7 +25,12 @@ pub fn build(alloc: Global, steps: &[Step], tokens: &[Token]) -> Result<Module, 
 }
 
 /// Goes through the steps.
-fn run(alloc: Global, steps: &[Step], tokens: &[Token], parts: &mut SemanticStacks) -> Result<(), AllocError>
+fn run(
+    alloc: Global,
+    steps: &[Step],
+    tokens: &[Token],
+    parts: &mut SemanticStacks,
+) -> Result<(), AllocError>
     ensures { OnOk result (parts.new ≡ built steps.now tokens.now parts.old) }
 {
     let mut next = 0usize;

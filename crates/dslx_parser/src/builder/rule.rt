@@ -6,10 +6,10 @@ ghost use Rattle.dslx_parser.specs.Builder.Common.{reduced_common};
 
 use dslx_actions::SemanticStacks;
 use dslx_actions::types::{PatternAction, TypeAction, reduce_pattern, reduce_type};
-use dslx_expr_actions::atoms::{ArgAction, AtomAction, reduce_arg, reduce_atom};
-use dslx_expr_actions::braces::{BraceAction, reduce_brace};
-use dslx_expr_actions::operators::{OperatorAction, reduce_operator};
-use dslx_item_actions::{ItemAction, ProcAction, reduce_item, reduce_proc};
+use dslx_node_actions::exprs::atoms::{ArgAction, AtomAction, reduce_arg, reduce_atom};
+use dslx_node_actions::exprs::braces::{BraceAction, reduce_brace};
+use dslx_node_actions::exprs::operators::{OperatorAction, reduce_operator};
+use dslx_node_actions::items::{ItemAction, ProcAction, reduce_item, reduce_proc};
 use std::alloc::{AllocError, Global};
 
 /// What is done where a tree of a rule is complete.

@@ -7,10 +7,10 @@ ghost use Rattle.dslx_parser.specs.Builder.Table.{table};
 
 use crate::builder::rule::{CommonAction, Rule};
 use dslx_actions::types::{PatternAction, TypeAction};
-use dslx_expr_actions::atoms::{ArgAction, AtomAction};
-use dslx_expr_actions::braces::BraceAction;
-use dslx_expr_actions::operators::OperatorAction;
-use dslx_item_actions::{ItemAction, ProcAction};
+use dslx_node_actions::exprs::atoms::{ArgAction, AtomAction};
+use dslx_node_actions::exprs::braces::BraceAction;
+use dslx_node_actions::exprs::operators::OperatorAction;
+use dslx_node_actions::items::{ItemAction, ProcAction};
 use dslx_token::rules::production::*;
 use dslx_tree::{Binary, Direction, Prefix};
 
@@ -109,7 +109,10 @@ pub const RULES: [(u16, Rule); 260] = [
     // constant_type = COLON type
     (CONSTANT_TYPE__COLON, Rule::Common(CommonAction::Annotation)),
     // constant_type = (nothing)
-    (CONSTANT_TYPE__NONE, Rule::Common(CommonAction::NoAnnotation)),
+    (
+        CONSTANT_TYPE__NONE,
+        Rule::Common(CommonAction::NoAnnotation),
+    ),
     // alias = TYPE any_name ASSIGN type SEMI
     (ALIAS, Rule::Item(ItemAction::Alias)),
     // structure = STRUCT any_name open_brace arguments_declared RBRACE
@@ -314,7 +317,10 @@ pub const RULES: [(u16, Rule); 260] = [
     // plain_pattern = WILD
     (PLAIN_PATTERN__WILD, Rule::Pattern(PatternAction::Wild)),
     // plain_pattern = TRUE
-    (PLAIN_PATTERN__TRUE, Rule::Pattern(PatternAction::Bool(true))),
+    (
+        PLAIN_PATTERN__TRUE,
+        Rule::Pattern(PatternAction::Bool(true)),
+    ),
     // plain_pattern = FALSE
     (
         PLAIN_PATTERN__FALSE,
@@ -330,7 +336,10 @@ pub const RULES: [(u16, Rule); 260] = [
     // pattern_name = PATH any_name
     (PATTERN_NAME__PATH, Rule::Pattern(PatternAction::Member)),
     // pattern_name = COLON signed
-    (PATTERN_NAME__COLON, Rule::Pattern(PatternAction::NamedTyped)),
+    (
+        PATTERN_NAME__COLON,
+        Rule::Pattern(PatternAction::NamedTyped),
+    ),
     // pattern_name = name_size type_tail COLON signed
     (PATTERN_NAME__NAME_SIZE, Rule::Pattern(PatternAction::Typed)),
     // pattern_name = (nothing)
@@ -380,18 +389,30 @@ pub const RULES: [(u16, Rule); 260] = [
         Rule::Operator(OperatorAction::Sign(Binary::Concat)),
     ),
     // binary = SHL
-    (BINARY__SHL, Rule::Operator(OperatorAction::Sign(Binary::Shl))),
+    (
+        BINARY__SHL,
+        Rule::Operator(OperatorAction::Sign(Binary::Shl)),
+    ),
     // binary = SHR
-    (BINARY__SHR, Rule::Operator(OperatorAction::Sign(Binary::Shr))),
+    (
+        BINARY__SHR,
+        Rule::Operator(OperatorAction::Sign(Binary::Shr)),
+    ),
     // binary = AMP
-    (BINARY__AMP, Rule::Operator(OperatorAction::Sign(Binary::And))),
+    (
+        BINARY__AMP,
+        Rule::Operator(OperatorAction::Sign(Binary::And)),
+    ),
     // binary = CARET
     (
         BINARY__CARET,
         Rule::Operator(OperatorAction::Sign(Binary::Xor)),
     ),
     // binary = PIPE
-    (BINARY__PIPE, Rule::Operator(OperatorAction::Sign(Binary::Or))),
+    (
+        BINARY__PIPE,
+        Rule::Operator(OperatorAction::Sign(Binary::Or)),
+    ),
     // binary = EQ
     (BINARY__EQ, Rule::Operator(OperatorAction::Sign(Binary::Eq))),
     // binary = NE

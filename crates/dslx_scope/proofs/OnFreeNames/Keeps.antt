@@ -17,7 +17,7 @@ use Rattle.dslx_meaning.specs.Activation.{NodeLayer, StmtLayer, node_of}
 use Rattle.dslx_meaning.specs.Callees.{is_text_function, kind_of_call}
 use Rattle.dslx_meaning.specs.Lists.{is_in}
 use Rattle.dslx_meaning.specs.Rules.Mentions.{AsFunction, Mention, Mentions, NamesBound, all_mentions, binders_mentions, binders_names, bound_behind, mention, mentioned, mentioned_in_arg, mentioned_in_block, mentioned_in_type, value_mention, value_names}
-use Rattle.dslx_const_machine.specs.Layers.{PatternLayer, TypeLayer, shape_of, type_of}
+use Rattle.dslx_names.specs.ConstMachine.Layers.{PatternLayer, TypeLayer, shape_of, type_of}
 use Rattle.dslx_scope.specs.FreeNames.Found.{all_found, bound_by, bound_by_statements, mentioned_by, names_of_tasks}
 use Rattle.dslx_scope.specs.FreeNames.Mentioned.{in_arm, in_field, in_pattern, in_statements, in_stmt}
 use Rattle.dslx_scope.specs.FreeNames.Steps as s

@@ -27,7 +27,7 @@ use Rattle.dslx_meaning.specs.Rules.Mentions as k
 use Rattle.dslx_meaning.specs.Rules.Mentions.{Mentions, NamesBound, all_mentions, mentioned, mentioned_in_type, mentions_if}
 use Rattle.dslx_core.specs.Lowering.CoreScopes.{CoreScope, globals_env, sees_a_local, size_at, unless_local}
 use Rattle.dslx_core.specs.Lowering.Trees.{TypeLowering, lower_type, lower_type_of_text}
-use Rattle.dslx_machines.proofs.Lemmas.Machine.Rebuilt.{become, becoming, each_lowers_to, rebuilt_expr}
+use Rattle.dslx_core.proofs.Lemmas.Machines.Machine.Rebuilt.{become, becoming, each_lowers_to, rebuilt_expr}
 use Rattle.dslx_scope.specs.WrittenTypes.Seen.{type_sees_a_local}
 use Rattle.dslx_scope.proofs.OnWrittenTypes.Unless.{all_unless, both_unless, sees, sees_both, then_unless}
 

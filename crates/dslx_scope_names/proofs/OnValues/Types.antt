@@ -8,7 +8,7 @@ use Rattle.dslx_names.specs.Bound.{given}
 use Rattle.dslx_core.specs.Lowering.CoreScopes.{CoreScope, globals_env, unless_local}
 use Rattle.dslx_core.specs.Lowering.Trees.{lower_type_of_text}
 use Rattle.dslx_scope.specs.WrittenTypes.Seen.{type_sees_a_local}
-use Rattle.dslx_machines.specs.Machine.Callees.{CalleesByName}
+use Rattle.dslx_core.specs.Machines.Machine.Callees.{CalleesByName}
 use Rattle.dslx_scope_names.specs.Values.Seen.{scope_seen, scope_with}
 use Rattle.dslx_scope_names.specs.declared.values.context.ScopeEnv.{ScopeEnv}
 

@@ -4,15 +4,15 @@ ghost use Rattle.std.specs.Prelude.{◌≡◌, ℕ, IfOk};
 ghost use Rattle.dslx_meaning.specs.Environment.{given_in};
 ghost use Rattle.dslx_meaning.specs.Lists.{and_then, or_else};
 ghost use Rattle.dslx_core.specs.Lowering.Trees.{lower_type_of_text};
-ghost use Rattle.dslx_machines.specs.Machine.Callees.{CalleesByName};
-ghost use Rattle.dslx_machines.specs.Machine.Steps.{number_at};
+ghost use Rattle.dslx_core.specs.Machines.Machine.Callees.{CalleesByName};
+ghost use Rattle.dslx_core.specs.Machines.Machine.Steps.{number_at};
 ghost use Rattle.dslx_scope_names.specs.Values.Seen.{scope_seen, scope_with};
 
 use crate::names::named::value_named;
 use crate::values::{ScopeEnv, bind_parametric_args, type_there};
 use base::texts::Name;
 use dslx_const_tasks::items::number_of;
-use dslx_meaning::{UntypedLiteral, DslxType, DslxValue};
+use dslx_meaning::{DslxType, DslxValue, UntypedLiteral};
 use dslx_tree::{Number, TypeExpr};
 use std::alloc::{AllocError, Global};
 use xb_value::Boxed;

@@ -16,7 +16,10 @@ pub struct ScopeEnv<'a> {
 }
 
 /// The parametrics with copies of their values.
-pub fn bind_parametric_args<'a>(alloc: Global, parametric_args: &'a [Binding<'a>]) -> Result<Scope<'a>, AllocError>
+pub fn bind_parametric_args<'a>(
+    alloc: Global,
+    parametric_args: &'a [Binding<'a>],
+) -> Result<Scope<'a>, AllocError>
     ensures { IfOk result (λ bound. bound ≡ reverse (map given parametric_args.now)) }
 {
     let mut bound = Scope::new(alloc);

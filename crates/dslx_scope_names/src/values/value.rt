@@ -1,11 +1,11 @@
 ghost use Rattle.std.specs.Prelude.{◌≡◌, ℕ, IfOk};
 ghost use Rattle.dslx_core.specs.Lowering.CoreScopes.{bound_at, constant_at, size_at};
 ghost use Rattle.dslx_core.specs.Lowering.Trees.{lower_type_of_text};
-ghost use Rattle.dslx_machines.specs.Machine.Callees.{CalleesByName};
+ghost use Rattle.dslx_core.specs.Machines.Machine.Callees.{CalleesByName};
 ghost use Rattle.dslx_scope_names.specs.Values.Seen.{scope_seen, scope_with};
 
-use crate::values::local::{sees_local, type_sees_local};
 use crate::values::context::{ScopeEnv, bind_parametric_args};
+use crate::values::local::{sees_local, type_sees_local};
 use dslx_const::{bound_eval, const_eval, size_eval, type_eval};
 use dslx_meaning::{DslxType, DslxValue};
 use dslx_tree::{Expr, TypeExpr};
@@ -22,7 +22,12 @@ pub fn constant_there<'a>(
     if sees_local(alloc, context, expr)? {
         return Ok(None);
     }
-    const_eval(alloc, context.text, bind_parametric_args(alloc, context.parametric_args)?, expr)
+    const_eval(
+        alloc,
+        context.text,
+        bind_parametric_args(alloc, context.parametric_args)?,
+        expr,
+    )
 }
 
 /// A size, as of an array or the width of a type.
@@ -36,7 +41,12 @@ pub fn size_there<'a>(
     if sees_local(alloc, context, size)? {
         return Ok(None);
     }
-    size_eval(alloc, context.text, bind_parametric_args(alloc, context.parametric_args)?, size)
+    size_eval(
+        alloc,
+        context.text,
+        bind_parametric_args(alloc, context.parametric_args)?,
+        size,
+    )
 }
 
 /// A bound of a slice.
@@ -50,7 +60,12 @@ pub fn bound_there<'a>(
     if sees_local(alloc, context, end)? {
         return Ok(None);
     }
-    bound_eval(alloc, context.text, bind_parametric_args(alloc, context.parametric_args)?, end)
+    bound_eval(
+        alloc,
+        context.text,
+        bind_parametric_args(alloc, context.parametric_args)?,
+        end,
+    )
 }
 
 /// What a written type becomes, whatever calls come to there and however many values are bound.
@@ -65,5 +80,10 @@ pub fn type_there<'a>(
     if type_sees_local(alloc, context, ty)? {
         return Ok(None);
     }
-    type_eval(alloc, context.text, bind_parametric_args(alloc, context.parametric_args)?, ty)
+    type_eval(
+        alloc,
+        context.text,
+        bind_parametric_args(alloc, context.parametric_args)?,
+        ty,
+    )
 }

@@ -13,7 +13,7 @@ use Rattle.dslx_names.specs.declared.scope.Binding.{Binding}
 use Rattle.dslx_core.specs.Lowering.CoreScopes.{BoundSlot, BodyEnv, CoreScope}
 use Rattle.dslx_core.specs.Lowering.Functions.{argument_types, arguments_in_scope, outer_scope}
 use Rattle.dslx_core.specs.Lowering.Trees.{lower_type_of_text}
-use Rattle.dslx_machines.specs.Machine.Callees.{CalleesByName}
+use Rattle.dslx_core.specs.Machines.Machine.Callees.{CalleesByName}
 use Rattle.dslx_scope_patterns.specs.Numbers.Placed.{arguments_of, arguments_shown, globals_with, locals_in_scope}
 use Rattle.dslx_scope_patterns.specs.declared.parametric_args.arguments.Arguments.{Arguments}
 use Rattle.dslx_scope_patterns.proofs.Lemmas.Numbers.InOrder.{behind, behind_all, behind_more, behind_none}

@@ -5,7 +5,7 @@ use Rattle.std.proofs.lemmas.List.{reverse-append}
 use Rattle.std.proofs.lemmas.List.Folds.{list_all-append}
 use Rattle.dslx_meaning.specs.Environment.{Given, Meanings}
 use Rattle.dslx_meaning.specs.Values.{type_of_value}
-use Rattle.dslx_typing.specs.Typed.Kinds.{is_of}
+use Rattle.dslx_core.specs.Typing.Typed.Kinds.{is_of}
 
 -- it has no constant's name, and a value of its own type
 abbrev pub stands : Meanings → Given → Bool

@@ -12,13 +12,13 @@ use Rattle.dslx_tree.proofs.Lemmas.Folds.Folds.{fold_number, fold_pattern, fold_
 use Rattle.dslx_meaning.specs.Lists.{and_then}
 use Rattle.dslx_meaning.specs.Operators.{number_value}
 use Rattle.dslx_meaning.specs.declared.ty.DslxType.{DslxType, out-DslxType}
-use Rattle.dslx_const_machine.specs.Layers.{PatternLayer, shape_of}
+use Rattle.dslx_names.specs.ConstMachine.Layers.{PatternLayer, shape_of}
 use Rattle.dslx_core.specs.Lowering.CoreScopes.{CoreScope}
 use Rattle.dslx_core.specs.Lowering.Patterns.{PatternLowering, names_of_all, tuple_shape, value_shape}
 use Rattle.dslx_core.specs.Lowering.Steps.{lower_pattern_of_text}
 use Rattle.dslx_core.specs.Lowering.Trees.{number_meaning, shape_at, lower_shape, lower_shape_names, lower_type_of_text}
-use Rattle.dslx_machines.specs.Machine.Steps.{number_at}
-use Rattle.dslx_machines.proofs.Lemmas.Machine.Rebuilt.{become, becoming, each_lowers_to}
+use Rattle.dslx_core.specs.Machines.Machine.Steps.{number_at}
+use Rattle.dslx_core.proofs.Lemmas.Machines.Machine.Rebuilt.{become, becoming, each_lowers_to}
 use Rattle.dslx_scope_patterns.specs.Patterns.Tops.{top_names, top_shape}
 
 -- ---- what stands at the top

@@ -7,8 +7,8 @@ use Rattle.dslx_core.specs.declared.expr.Shape.{Shape}
 use Rattle.dslx_core.specs.Lowering.CoreScopes.{CoreScope}
 use Rattle.dslx_core.specs.Lowering.Patterns.{LoweredShape, shaped}
 use Rattle.dslx_core.specs.Lowering.Steps.{lower_pattern_of_text}
-use Rattle.dslx_machines.specs.Machine.Arms.{shaped_at}
-use Rattle.dslx_machines.specs.Machine.Callees.{CalleesByName, moved, with_callee}
+use Rattle.dslx_core.specs.Machines.Machine.Arms.{shaped_at}
+use Rattle.dslx_core.specs.Machines.Machine.Callees.{CalleesByName, moved, with_callee}
 use Rattle.dslx_scope_names.specs.Names.Seen.{scope_with}
 use Rattle.dslx_scope_patterns.specs.Patterns.Behind.{behind, fresh_scope, outer_scope, shaped_to}
 use Rattle.dslx_scope_patterns.specs.declared.patterns.fresh.Fresh.{Fresh}

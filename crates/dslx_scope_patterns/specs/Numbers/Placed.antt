@@ -11,7 +11,7 @@ use Rattle.dslx_names.specs.Bound.{given}
 use Rattle.dslx_names.specs.declared.scope.Binding.{Binding}
 use Rattle.dslx_core.specs.Lowering.CoreScopes.{BoundSlot, BodyEnv, CoreScope}
 use Rattle.dslx_core.specs.Lowering.Functions.{argument_types, arguments_in_scope, outer_scope}
-use Rattle.dslx_machines.specs.Machine.Callees.{CalleesByName}
+use Rattle.dslx_core.specs.Machines.Machine.Callees.{CalleesByName}
 use Rattle.dslx_scope_patterns.specs.declared.parametric_args.arguments.Arguments.{Arguments}
 
 -- what is known where these parametrics are bound, the last one last

@@ -6,7 +6,7 @@ use Rattle.dslx_names.specs.Bound.{given}
 use Rattle.dslx_core.specs.declared.expr.Shape.{Shape}
 use Rattle.dslx_core.specs.Lowering.CoreScopes.{BoundSlot, CoreScope}
 use Rattle.dslx_core.specs.Lowering.Patterns.{LoweredShape, LoweredShapes, shaped}
-use Rattle.dslx_machines.specs.Machine.Callees.{CalleesByName}
+use Rattle.dslx_core.specs.Machines.Machine.Callees.{CalleesByName}
 use Rattle.dslx_scope_names.specs.Names.Seen.{scope_with}
 use Rattle.dslx_scope_patterns.specs.declared.patterns.bind.BodyScope.{BodyScope}
 use Rattle.dslx_scope_patterns.specs.declared.patterns.bind.BoundShape.{BoundShape}

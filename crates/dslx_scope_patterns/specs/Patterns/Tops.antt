@@ -5,14 +5,14 @@ use Rattle.dslx_meaning.specs.Lists.{and_then, where_true}
 use Rattle.dslx_meaning.specs.Values.{bool_value, plain_value, type_of_value}
 use Rattle.dslx_meaning.specs.declared.ty.DslxType.{DslxType, out-DslxType}
 use Rattle.dslx_meaning.specs.declared.value.DslxValue.{DslxValue}
-use Rattle.dslx_const_machine.specs.Layers.{PatternLayer}
+use Rattle.dslx_names.specs.ConstMachine.Layers.{PatternLayer}
 use Rattle.dslx_core.specs.declared.expr.Shape.{Shape}
 use Rattle.dslx_core.specs.declared.expr.Shape as shape
 use Rattle.dslx_core.specs.Lowering.CoreScopes.{CoreScope}
 use Rattle.dslx_core.specs.Lowering.EqualTypes.{equal_type}
 use Rattle.dslx_core.specs.Lowering.Patterns.{LoweredShape, name_shape, names_of_all, shaped, tuple_shape, value_shape}
 use Rattle.dslx_core.specs.Lowering.Steps.{lower_pattern_of_text}
-use Rattle.dslx_machines.specs.Machine.Steps.{number_at}
+use Rattle.dslx_core.specs.Machines.Machine.Steps.{number_at}
 
 abbrev pub top_shape : PatternLayer → CoreScope → CoreScope → DslxType → Option LoweredShape
 top_shape Shape-F.Wild outer place t = shaped shape.Wild place

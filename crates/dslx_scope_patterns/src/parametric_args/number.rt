@@ -9,7 +9,7 @@ ghost use Rattle.dslx_meaning.specs.Operators.{number_value};
 ghost use Rattle.dslx_values.specs.Inference.Inferences.{inferred};
 
 use dslx_const_tasks::items::number_of;
-use dslx_meaning::{UntypedLiteral, DslxValue};
+use dslx_meaning::{DslxValue, UntypedLiteral};
 use dslx_names::Scope;
 use dslx_scope_names::values::{const_eval, type_eval};
 use dslx_tree::{Module, Parametric, TypeExpr};

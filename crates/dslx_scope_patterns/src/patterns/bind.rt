@@ -1,9 +1,9 @@
 //! Patterns whose names are bound in a body.
 
 ghost use Rattle.std.specs.Prelude.{◌≡◌, IfOk};
-ghost use Rattle.dslx_machines.specs.Machine.Arms.{shaped_at};
-ghost use Rattle.dslx_machines.specs.Machine.Callees.{CalleesByName};
-ghost use Rattle.dslx_machines.specs.Machine.Steps.{turn_shaped};
+ghost use Rattle.dslx_core.specs.Machines.Machine.Arms.{shaped_at};
+ghost use Rattle.dslx_core.specs.Machines.Machine.Callees.{CalleesByName};
+ghost use Rattle.dslx_core.specs.Machines.Machine.Steps.{turn_shaped};
 ghost use Rattle.dslx_scope_patterns.specs.Patterns.Behind.{body_scope, shown_bound, shown_turn};
 
 use crate::patterns::there::shape_there;

@@ -3,7 +3,7 @@
 ghost use Rattle.std.specs.Prelude.{◌≡◌, map, IfOk};
 ghost use Rattle.dslx_core.specs.Lowering.Patterns.{alternatives_shaped};
 ghost use Rattle.dslx_core.specs.Lowering.Steps.{lower_pattern_of_text};
-ghost use Rattle.dslx_machines.specs.Machine.Callees.{CalleesByName};
+ghost use Rattle.dslx_core.specs.Machines.Machine.Callees.{CalleesByName};
 ghost use Rattle.dslx_scope_names.specs.Names.Seen.{scope_with};
 
 use crate::patterns::there::shape_there;

@@ -7,7 +7,7 @@ ghost use Rattle.dslx_meaning.specs.declared.ty.DslxType.{out-DslxType};
 ghost use Rattle.dslx_core.specs.Lowering.CoreScopes.{CoreScope};
 ghost use Rattle.dslx_core.specs.Lowering.Patterns.{name_shape as the_name_shape, parts_shaped, tuple_shape as the_tuple_shape, value_shape as the_value_shape};
 ghost use Rattle.dslx_core.specs.Lowering.Steps.{lower_pattern_of_text};
-ghost use Rattle.dslx_machines.specs.Machine.Steps.{number_at};
+ghost use Rattle.dslx_core.specs.Machines.Machine.Steps.{number_at};
 ghost use Rattle.dslx_scope_patterns.specs.Patterns.Behind.{fresh_scope, outer_scope, parts_to, shaped_to};
 ghost use Rattle.dslx_scope_patterns.specs.Patterns.Tops.{top_shape};
 

@@ -1,8 +1,8 @@
 //! What a pattern becomes at a place.
 
 ghost use Rattle.std.specs.Prelude.{◌≡◌, IfOk};
-ghost use Rattle.dslx_machines.specs.Machine.Arms.{shaped_at};
-ghost use Rattle.dslx_machines.specs.Machine.Callees.{CalleesByName};
+ghost use Rattle.dslx_core.specs.Machines.Machine.Arms.{shaped_at};
+ghost use Rattle.dslx_core.specs.Machines.Machine.Callees.{CalleesByName};
 ghost use Rattle.dslx_scope_names.specs.Names.Seen.{scope_with};
 ghost use Rattle.dslx_scope_patterns.specs.Patterns.Behind.{shown_behind};
 
@@ -35,7 +35,7 @@ pub fn shape_there<'a>(
 ) -> Result<Option<Shaped>, AllocError>
     ensures { IfOk result (λ o. (callee : CalleesByName) → shaped_at pattern.now (scope_with callee count context.entry) ty.now ≡ shown_behind o (scope_with callee count context.entry)) }
 {
-    dslx_machines::machine::types_and_patterns_know_no_calls();
+    dslx_core::machines::machine::types_and_patterns_know_no_calls();
     let mut fresh = Fresh::new(alloc, count);
     match pattern_shape(alloc, Outer { context, count }, pattern, ty, &mut fresh)? {
         Some(shape) => Ok(Some(Shaped {

@@ -16,7 +16,11 @@ use xb_span::nesting::BracketClass;
 /// What each of the tokens does to the nesting of those behind it, where the productions lead to them.
 ///
 /// The work is linear in the productions and tokens.
-pub fn bracket_classes(alloc: Global, productions: &[u16], kinds: &[u8]) -> Result<Vec<BracketClass>, AllocError>
+pub fn bracket_classes(
+    alloc: Global,
+    productions: &[u16],
+    kinds: &[u8],
+) -> Result<Vec<BracketClass>, AllocError>
     ensures { IfOk result (λ bracket_classes. bracket_classes.items ≡ bracket_classes_of productions.now kinds.now) }
 {
     let takers = takers(alloc, productions)?;
@@ -24,7 +28,11 @@ pub fn bracket_classes(alloc: Global, productions: &[u16], kinds: &[u8]) -> Resu
 }
 
 /// What each token does, with the rule whose body has it.
-fn bracket_classes_by(alloc: Global, rules: &[u16], kinds: &[u8]) -> Result<Vec<BracketClass>, AllocError>
+fn bracket_classes_by(
+    alloc: Global,
+    rules: &[u16],
+    kinds: &[u8],
+) -> Result<Vec<BracketClass>, AllocError>
     ensures { IfOk result (λ bracket_classes. bracket_classes.items ≡ bracket_classes_by rules.now kinds.now) }
 {
     let count = rules.len().min(kinds.len());

@@ -22,18 +22,18 @@ use Rattle.dslx_meaning.specs.Rules.Mentions.{arg_if, config_statement_mentions,
 use Rattle.dslx_meaning.specs.Rules.ModuleRules.{is_reached}
 use Rattle.dslx_meaning.specs.Rules.NodeRules.{arg_pair}
 use Rattle.dslx_meaning.specs.Rules.ProcRules.{Made, behind_ends, channel_found, channel_type, depth_found, ends_found, made_at_end, made_at_start, made_with, config_statements_found, proc_type_env, spawn_found, spawn_of, unknown_ends, use_faults}
-use Rattle.dslx_typing.specs.TypingRelations.Closed.{ends_within}
-use Rattle.dslx_typing.specs.TypingRelations.Reached.{AllNamed, MentionsReach}
-use Rattle.dslx_typing.proofs.Lemmas.TypingRelations.{argument_reaches, join, unmarked, written_type_reaches}
+use Rattle.dslx_core.specs.Typing.TypingRelations.Closed.{ends_within}
+use Rattle.dslx_core.specs.Typing.TypingRelations.Reached.{AllNamed, MentionsReach}
+use Rattle.dslx_core.proofs.Lemmas.Typing.TypingRelations.{argument_reaches, join, unmarked, written_type_reaches}
 use Rattle.dslx_core.specs.declared.design.Child.{Child}
 use Rattle.dslx_core.specs.declared.design.MadeChannel.{MadeChannel}
-use Rattle.dslx_typing.proofs.Lemmas.Depends.{NoProcs, den_parts, no_proc_in_arg, no_proc_in_type}
-use Rattle.dslx_typing.proofs.Lemmas.Sound.{all_in, none_in}
-use Rattle.dslx_typing.specs.Typed.Complete.{IsComplete}
-use Rattle.dslx_typing.specs.Typed.WellTyped.{IsWellTypedEnv}
-use Rattle.dslx_typing.specs.Complete.HasValue.{AreTyped}
-use Rattle.dslx_typing.proofs.Lemmas.Complete.{item_env}
-use Rattle.dslx_typing.proofs.Lemmas.Accepted.{IsAccepted}
+use Rattle.dslx_core.proofs.Lemmas.Typing.Depends.{NoProcs, den_parts, no_proc_in_arg, no_proc_in_type}
+use Rattle.dslx_core.proofs.Lemmas.Typing.Sound.{all_in, none_in}
+use Rattle.dslx_core.specs.Typing.Typed.Complete.{IsComplete}
+use Rattle.dslx_core.specs.Typing.Typed.WellTyped.{IsWellTypedEnv}
+use Rattle.dslx_core.specs.Typing.Complete.HasValue.{AreTyped}
+use Rattle.dslx_core.proofs.Lemmas.Typing.Complete.{item_env}
+use Rattle.dslx_core.proofs.Lemmas.Typing.Accepted.{IsAccepted}
 use Rattle.dslx_core.specs.Lowering.CoreScopes.{CoreScope}
 use Rattle.dslx_core.specs.Networks.Configs.{ProcInstance, lower_channel, lower_child, lower_children, config_scope, lower_made, proc_instance_in, lower_spawn_parametrics}
 use Rattle.dslx_core.specs.Networks.Ends.{end_numbers, numbered_ends}

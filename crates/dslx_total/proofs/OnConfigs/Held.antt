@@ -12,8 +12,8 @@ use Rattle.dslx_meaning.specs.Lists.{is_in}
 use Rattle.dslx_meaning.specs.Network.{Held, made_ends, outer_ends}
 use Rattle.dslx_meaning.specs.Rules.TypeEnvs.{TypeEnv, breaks_if}
 use Rattle.dslx_meaning.specs.Rules.ProcRules.{Made, end_names, made_at_end, made_at_start, made_with, unknown_ends}
-use Rattle.dslx_typing.proofs.Lemmas.Sound.{none_in, passed}
-use Rattle.dslx_typing.proofs.Lemmas.Typed.{all_are}
+use Rattle.dslx_core.proofs.Lemmas.Typing.Sound.{none_in, passed}
+use Rattle.dslx_core.proofs.Lemmas.Typing.Typed.{all_are}
 use Rattle.dslx_meaning.specs.Lists.{all_some}
 use Rattle.dslx_core.specs.Networks.Ends.{end_number, end_numbers, numbered_ends}
 

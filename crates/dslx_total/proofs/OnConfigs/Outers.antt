@@ -14,15 +14,15 @@ use Rattle.dslx_meaning.specs.Rules.Mentions.{ends_mentions, parametric_names}
 use Rattle.dslx_meaning.specs.Rules.ModuleRules.{is_reached}
 use Rattle.dslx_meaning.specs.Rules.NameRules.{local_name}
 use Rattle.dslx_meaning.specs.Rules.ProcRules.{channel_type, ends_found, made_at_end, made_at_start, config_statements_found, proc_type_env, unknown_ends, use_faults}
-use Rattle.dslx_typing.proofs.Lemmas.TypingRelations.{found_ends}
+use Rattle.dslx_core.proofs.Lemmas.Typing.TypingRelations.{found_ends}
 use Rattle.dslx_core.specs.declared.design.Outer.{Outer}
-use Rattle.dslx_typing.proofs.Lemmas.Sound.{all_in, none_in}
-use Rattle.dslx_typing.specs.Typed.Complete.{IsComplete}
-use Rattle.dslx_typing.specs.Typed.WellTyped.{IsWellTypedEnv}
-use Rattle.dslx_typing.proofs.Lemmas.Typed.{all_are}
-use Rattle.dslx_typing.specs.Complete.HasValue.{AreTyped}
-use Rattle.dslx_typing.proofs.Lemmas.Complete.{item_env}
-use Rattle.dslx_typing.proofs.Lemmas.Accepted.{IsAccepted, one_of_these}
+use Rattle.dslx_core.proofs.Lemmas.Typing.Sound.{all_in, none_in}
+use Rattle.dslx_core.specs.Typing.Typed.Complete.{IsComplete}
+use Rattle.dslx_core.specs.Typing.Typed.WellTyped.{IsWellTypedEnv}
+use Rattle.dslx_core.proofs.Lemmas.Typing.Typed.{all_are}
+use Rattle.dslx_core.specs.Typing.Complete.HasValue.{AreTyped}
+use Rattle.dslx_core.proofs.Lemmas.Typing.Complete.{item_env}
+use Rattle.dslx_core.proofs.Lemmas.Typing.Accepted.{IsAccepted, one_of_these}
 use Rattle.dslx_core.specs.Networks.Configs.{config_scope}
 use Rattle.dslx_core.specs.Networks.Assembly.{lower_outer}
 use Rattle.dslx_total.specs.Families.Plain.{ProcsBindNoConstant}

@@ -29,11 +29,11 @@ use Rattle.dslx_meaning.specs.Rules.NodeRules.{arg_pair, type_pair}
 use Rattle.dslx_meaning.specs.Rules.ProcRules.{Made, behind_ends, channel_found, channel_type, depth_found, depth_limit, proc_type_env, string_faults, word_limit}
 use Rattle.dslx_meaning.specs.Rules.TypeRules.{span_of_type, unit_faults}
 use Rattle.dslx_core.specs.declared.design.MadeChannel.{MadeChannel}
-use Rattle.dslx_typing.specs.Typed.Complete.{IsWellTypedPart}
-use Rattle.dslx_typing.specs.Typed.WellTyped.{IsWellTypedEnv}
-use Rattle.dslx_typing.proofs.Lemmas.Typed.{size_is_denoted}
-use Rattle.dslx_typing.proofs.Lemmas.Sound.{all_in, argument_gives, count_has, none_in, some_fault, type_has_den}
-use Rattle.dslx_typing.proofs.Lemmas.Complete.{item_env}
+use Rattle.dslx_core.specs.Typing.Typed.Complete.{IsWellTypedPart}
+use Rattle.dslx_core.specs.Typing.Typed.WellTyped.{IsWellTypedEnv}
+use Rattle.dslx_core.proofs.Lemmas.Typing.Typed.{size_is_denoted}
+use Rattle.dslx_core.proofs.Lemmas.Typing.Sound.{all_in, argument_gives, count_has, none_in, some_fault, type_has_den}
+use Rattle.dslx_core.proofs.Lemmas.Typing.Complete.{item_env}
 use Rattle.dslx_core.specs.Lowering.CoreScopes.{CoreScope, constant_at, globals_env, size_at, unless_local}
 use Rattle.dslx_core.specs.Lowering.Trees.{lower_type_of_text}
 use Rattle.dslx_core.specs.Networks.Configs.{lower_channel, config_scope, lower_depth, lower_spawn_parametrics}

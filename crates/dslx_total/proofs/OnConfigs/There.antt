@@ -6,11 +6,11 @@ use Rattle.dslx_meaning.specs.Environment.{Meanings}
 use Rattle.dslx_meaning.specs.declared.value.DslxValue.{DslxValue}
 use Rattle.dslx_meaning.specs.Rules.TypeEnvs.{Instance}
 use Rattle.dslx_meaning.specs.Rules.ModuleRules.{faults_of, instances_of, is_reached, globals_of, outside_instances}
-use Rattle.dslx_typing.specs.Laws.Recursion.{HasNoCycle}
-use Rattle.dslx_typing.specs.TypingRelations.Closed.{IsOneOf, ReachOneAnother}
-use Rattle.dslx_typing.specs.Depends.Settled.{BindsNoConstant}
-use Rattle.dslx_typing.specs.Typed.Numbers.{AllOwn}
-use Rattle.dslx_typing.proofs.Lemmas.Accepted.{IsAccepted, one_of_these}
+use Rattle.dslx_core.specs.Typing.Laws.Recursion.{HasNoCycle}
+use Rattle.dslx_core.specs.Typing.TypingRelations.Closed.{IsOneOf, ReachOneAnother}
+use Rattle.dslx_core.specs.Typing.Depends.Settled.{BindsNoConstant}
+use Rattle.dslx_core.specs.Typing.Typed.Numbers.{AllOwn}
+use Rattle.dslx_core.proofs.Lemmas.Typing.Accepted.{IsAccepted, one_of_these}
 use Rattle.dslx_total.proofs.OnFamilies.Reached.{K, all}
 use Rattle.dslx_total.proofs.OnFamilies.There.{IsThere}
 use Rattle.dslx_total.specs.Configs.ReachedProcs.{IsReachedProc}

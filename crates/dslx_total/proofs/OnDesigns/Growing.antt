@@ -13,11 +13,11 @@ use Rattle.dslx_meaning.specs.Lists.{and_then, where_true, with_both}
 use Rattle.dslx_meaning.specs.Network.{as_proc}
 use Rattle.dslx_meaning.specs.declared.value.DslxValue.{DslxValue}
 use Rattle.dslx_meaning.specs.Rules.TypeEnvs.{Instance}
-use Rattle.dslx_typing.specs.TypingRelations.Closed.{IsOneOf}
+use Rattle.dslx_core.specs.Typing.TypingRelations.Closed.{IsOneOf}
 use Rattle.dslx_core.specs.Designs.{last_index}
 use Rattle.dslx_core.specs.declared.design.Instance as core
-use Rattle.dslx_typing.specs.Typed.Kinds.{is_of}
-use Rattle.dslx_typing.proofs.Lemmas.Typed.{same_some}
+use Rattle.dslx_core.specs.Typing.Typed.Kinds.{is_of}
+use Rattle.dslx_core.proofs.Lemmas.Typing.Typed.{same_some}
 use Rattle.dslx_core.specs.Lowering.Functions.{CoreInstance, Instantiated}
 use Rattle.dslx_core.specs.Lowering.Steps.{LoweredNext}
 use Rattle.dslx_core.proofs.Lemmas.Lowering.{from_then}

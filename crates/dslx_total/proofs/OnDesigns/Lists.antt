@@ -3,7 +3,7 @@ use Rattle.std.proofs.Common.{◌≡◌, ◌≤◌, ◌||◌, suc, inl, inr, len
 use mathlib.Core.Bool.{true≢false}
 use Rattle.dslx_meaning.specs.Rules.TypeEnvs.{Instance, same_instance}
 use Rattle.dslx_meaning.specs.Rules.ModuleRules.{is_reached}
-use Rattle.dslx_typing.specs.TypingRelations.Closed.{IsOneOf}
+use Rattle.dslx_core.specs.Typing.TypingRelations.Closed.{IsOneOf}
 use Rattle.dslx_total.proofs.OnTables.Lists.{as_named, chosen, equal_itself, no_more, or_second}
 
 pub or_first : (p q : Bool) → p ≡ true → (p || q) ≡ true

@@ -19,12 +19,12 @@ use Rattle.dslx_meaning.specs.declared.value.DslxValue.{DslxValue}
 use Rattle.dslx_meaning.specs.Rules.TypeEnvs.{Instance}
 use Rattle.dslx_meaning.specs.Rules.Mentions.{AsProc, is_of_use, config_statement_mentions, mention, mentioned_in_arg, mentions_of, parametric_names}
 use Rattle.dslx_meaning.specs.Rules.ModuleRules.{instances_of, is_reached}
-use Rattle.dslx_typing.proofs.Lemmas.Laws.{and_true}
-use Rattle.dslx_typing.specs.TypingRelations.Closed.{IsOneOf, ends_within}
-use Rattle.dslx_typing.proofs.Lemmas.TypingRelations.{item_so_named, longer}
-use Rattle.dslx_typing.proofs.Lemmas.Depends.{den_parts}
-use Rattle.dslx_typing.proofs.Lemmas.Typed.{same_some}
-use Rattle.dslx_typing.proofs.Lemmas.Accepted.{one_of_these}
+use Rattle.dslx_core.proofs.Lemmas.Typing.Laws.{and_true}
+use Rattle.dslx_core.specs.Typing.TypingRelations.Closed.{IsOneOf, ends_within}
+use Rattle.dslx_core.proofs.Lemmas.Typing.TypingRelations.{item_so_named, longer}
+use Rattle.dslx_core.proofs.Lemmas.Typing.Depends.{den_parts}
+use Rattle.dslx_core.proofs.Lemmas.Typing.Typed.{same_some}
+use Rattle.dslx_core.proofs.Lemmas.Typing.Accepted.{one_of_these}
 use Rattle.dslx_core.specs.Lowering.CoreScopes.{CoreScope}
 use Rattle.dslx_core.specs.Lowering.Functions.{CoreInstance, Instantiated}
 use Rattle.dslx_core.specs.Networks.Configs.{ProcInstance, config_scope, lower_spawn_parametrics}

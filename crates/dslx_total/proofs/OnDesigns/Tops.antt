@@ -12,11 +12,11 @@ use Rattle.dslx_meaning.specs.Network.{top_parametric_args, top_proc}
 use Rattle.dslx_meaning.specs.declared.value.DslxValue.{DslxValue}
 use Rattle.dslx_meaning.specs.Rules.TypeEnvs.{Instance, breaks}
 use Rattle.dslx_meaning.specs.Rules.ModuleRules.{faults_of, ident_of, instance_limit, instances_faults, instances_of, items_found, globals_of, not_a_proc, nowhere, outside_instances, top_faults, top_found}
-use Rattle.dslx_typing.specs.Laws.Recursion.{HasNoCycle}
-use Rattle.dslx_typing.specs.TypingRelations.Closed.{ends_within}
-use Rattle.dslx_typing.proofs.Lemmas.TypingRelations.{every_item}
-use Rattle.dslx_typing.proofs.Lemmas.Sound.{none_in, some_fault}
-use Rattle.dslx_typing.proofs.Lemmas.Accepted.{one_of_these, own_faults}
+use Rattle.dslx_core.specs.Typing.Laws.Recursion.{HasNoCycle}
+use Rattle.dslx_core.specs.Typing.TypingRelations.Closed.{ends_within}
+use Rattle.dslx_core.proofs.Lemmas.Typing.TypingRelations.{every_item}
+use Rattle.dslx_core.proofs.Lemmas.Typing.Sound.{none_in, some_fault}
+use Rattle.dslx_core.proofs.Lemmas.Typing.Accepted.{one_of_these, own_faults}
 use Rattle.dslx_core.specs.Lowering.Functions.{CoreInstance}
 use Rattle.dslx_core.specs.Networks.Procs.{procs_from}
 use Rattle.dslx_total.specs.Families.EachElaborated.{NextLowers}

@@ -10,7 +10,7 @@ use Rattle.dslx_meaning.specs.Meaning.{ArmDen, ValueDen, FieldDen, StmtDen, Expr
 use Rattle.dslx_meaning.specs.declared.value.UntypedLiteral.{UntypedLiteral}
 use Rattle.dslx_meaning.specs.Rules.Mentions as n
 use Rattle.dslx_meaning.specs.Rules.Mentions.{Mentions, NamesBound, free_names, mentioned, mentions_if, value_names}
-use Rattle.dslx_typing.proofs.Lemmas.Typed.{none_some}
+use Rattle.dslx_core.proofs.Lemmas.Typing.Typed.{none_some}
 
 -- ---- what trees mean and mention
 

@@ -11,14 +11,14 @@ use Rattle.dslx_meaning.specs.Rules.ConstantRules.{ConstantSeen, untyped_typing,
 use Rattle.dslx_meaning.specs.Rules.TypeEnvs.{ExprPair, Instance, TypeEnv, Typed, alone, untyped_of, breaks_if, span_of}
 use Rattle.dslx_meaning.specs.Rules.Mentions.{free_names, mentioned}
 use Rattle.dslx_meaning.specs.Rules.OperatorRules.{bound_number, is_negative_bound}
-use Rattle.dslx_typing.specs.Laws.Agreement.{AreBoundAlike}
-use Rattle.dslx_typing.proofs.Lemmas.Laws.{bound_alike, value_depends}
-use Rattle.dslx_typing.specs.Typed.Complete.{IsWellTypedPart}
-use Rattle.dslx_typing.specs.Typed.InTypeEnv.{local_names, env_there}
-use Rattle.dslx_typing.specs.Typed.WellTyped.{IsWellTypedEnv}
-use Rattle.dslx_typing.proofs.Lemmas.Typed.{bound_is_denoted, constant_is_denoted, or_false, size_is_denoted}
-use Rattle.dslx_typing.specs.Sound.Sound.{ExprGives}
-use Rattle.dslx_typing.proofs.Lemmas.Sound.{bound_has, count_has, none_in_three, not_broken}
+use Rattle.dslx_core.specs.Typing.Laws.Agreement.{AreBoundAlike}
+use Rattle.dslx_core.proofs.Lemmas.Typing.Laws.{bound_alike, value_depends}
+use Rattle.dslx_core.specs.Typing.Typed.Complete.{IsWellTypedPart}
+use Rattle.dslx_core.specs.Typing.Typed.InTypeEnv.{local_names, env_there}
+use Rattle.dslx_core.specs.Typing.Typed.WellTyped.{IsWellTypedEnv}
+use Rattle.dslx_core.proofs.Lemmas.Typing.Typed.{bound_is_denoted, constant_is_denoted, or_false, size_is_denoted}
+use Rattle.dslx_core.specs.Typing.Sound.Sound.{ExprGives}
+use Rattle.dslx_core.proofs.Lemmas.Typing.Sound.{bound_has, count_has, none_in_three, not_broken}
 use Rattle.dslx_core.specs.Lowering.CoreScopes.{BoundSlot, CoreScope, bound_at, constant_at, globals_env, sees_a_local, size_at, slot_names, unless_local}
 use Rattle.dslx_total.specs.Expressions.Beside.{ScopeMatchesEnv, typed_slots}
 use Rattle.dslx_total.specs.Expressions.ExprLowering.{reaching}

@@ -10,7 +10,7 @@ use Rattle.dslx_meaning.specs.declared.ty.DslxType.TheFolds.{fold-roll-DslxType}
 use Rattle.dslx_meaning.specs.declared.ty.DslxType.TheOpen.{DslxType-F}
 use Rattle.dslx_meaning.specs.declared.ty.DslxType.TheVariants as rolls
 use Rattle.dslx_meaning.specs.declared.ty.DslxType.TheViews as views
-use Rattle.dslx_typing.proofs.Lemmas.Typed.{none_some, same_some, type_induction}
+use Rattle.dslx_core.proofs.Lemmas.Typing.Typed.{none_some, same_some, type_induction}
 use Rattle.dslx_total.specs.Expressions.Beside.{has_widths, has_widths_step}
 
 pub in_bits : (s : Bool) (w : ℕ) → has_widths (ty.Bits s w) ≡ nat_lt 0 w

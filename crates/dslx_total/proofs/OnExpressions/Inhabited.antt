@@ -10,10 +10,10 @@ use Rattle.dslx_meaning.specs.declared.ty.DslxType.{DslxType}
 use Rattle.dslx_meaning.specs.declared.value.DslxValue.{DslxValue}
 use Rattle.dslx_meaning.specs.declared.value.DslxValue as value
 use Rattle.dslx_meaning.specs.declared.value.DslxValue.TheViews as views
-use Rattle.dslx_typing.specs.Typed.Declared.{AllDeclared, Declarations, DeclaresParts, IsDeclared}
-use Rattle.dslx_typing.specs.Typed.Given.{GivesOf}
-use Rattle.dslx_typing.specs.Typed.Kinds.{each_of, elements_all_of, enum_of_kind, is_of, is_some_token, lies_in, struct_of, tuple_of}
-use Rattle.dslx_typing.proofs.Lemmas.Typed.{bits_of_width, element_declared, of_array, of_enum, of_struct, of_token, of_tuple, parts_declared, struct_declared, type_induction}
+use Rattle.dslx_core.specs.Typing.Typed.Declared.{AllDeclared, Declarations, DeclaresParts, IsDeclared}
+use Rattle.dslx_core.specs.Typing.Typed.Given.{GivesOf}
+use Rattle.dslx_core.specs.Typing.Typed.Kinds.{each_of, elements_all_of, enum_of_kind, is_of, is_some_token, lies_in, struct_of, tuple_of}
+use Rattle.dslx_core.proofs.Lemmas.Typing.Typed.{bits_of_width, element_declared, of_array, of_enum, of_struct, of_token, of_tuple, parts_declared, struct_declared, type_induction}
 use Rattle.dslx_total.proofs.OnExpressions.Equal.{bits_itself, name_itself, names_themselves}
 
 abbrev HasValue : Declarations → DslxType → Type 0

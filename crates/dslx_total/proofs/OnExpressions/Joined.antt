@@ -23,8 +23,8 @@ use Rattle.dslx_tree.specs.declared.expr.Arm.{Arm}
 use Rattle.dslx_tree.specs.declared.block.Stmt.TheOpen.{Node-F, Shape-F, TypeNode-F, Stmt-F}
 use Rattle.dslx_tree.specs.declared.block.Stmt.{Stmt}
 use Rattle.dslx_tree.specs.declared.block.Block.{Block}
-use Rattle.dslx_typing.specs.Sound.Sound.{EachPatternGives, TypeHasDenIf, loop_at}
-use Rattle.dslx_typing.proofs.Lemmas.Sound.{alone_well_typed, block_of_text_has, expression_gives, name_has, none_in, pattern_gives, some_fault, type_has_den, HoldOn, TreeClaims, holds_block, holds_expr, holds_pattern, holds_type_expr, own_expr, held, held_tree, paired, pairing, limited_well_typed, unlimited_type}
+use Rattle.dslx_core.specs.Typing.Sound.Sound.{EachPatternGives, TypeHasDenIf, loop_at}
+use Rattle.dslx_core.proofs.Lemmas.Typing.Sound.{alone_well_typed, block_of_text_has, expression_gives, name_has, none_in, pattern_gives, some_fault, type_has_den, HoldOn, TreeClaims, holds_block, holds_expr, holds_pattern, holds_type_expr, own_expr, held, held_tree, paired, pairing, limited_well_typed, unlimited_type}
 use Rattle.dslx_meaning.specs.Rules.TypeRules.{array_of, counted_type, inner_type}
 use Rattle.dslx_meaning.specs.Rules.OperatorRules.{slice_typing}
 use Rattle.dslx_meaning.specs.Rules.Mentions.{AsType, is_of_use}
@@ -42,7 +42,7 @@ use Rattle.dslx_total.proofs.OnExpressions.Lists.{EachExprLowers}
 use Rattle.dslx_total.proofs.OnExpressions.Limits.{limited_keeps}
 use Rattle.dslx_total.proofs.OnExpressions.Limited.{binary_limited, bool_limited, call_limited, cast_limited, element_limited, field_limited, if_limited, index_limited, match_limited, name_limited, part_limited, prefix_limited, slice_limited, struct_limited, tuple_limited, typed_limited, untyped_limited, block_limited, loop_limited}
 use Rattle.dslx_core.specs.Lowering.Lowering.{lower_slice, lower_name}
-use Rattle.dslx_typing.specs.Typed.WellTyped.{types_at, IsWellTypedEnv}
+use Rattle.dslx_core.specs.Typing.Typed.WellTyped.{types_at, IsWellTypedEnv}
 use Rattle.dslx_tree.specs.declared.type_expr.TypeExpr.{TypeExpr}
 use Rattle.dslx_meaning.specs.Rules.NameRules.{name_typing, member_typing}
 use Rattle.dslx_meaning.specs.Rules.ControlRules.{same_ends, span_of_block}
@@ -52,7 +52,7 @@ use Rattle.dslx_meaning.specs.Values.{bits_of}
 use Rattle.dslx_meaning.specs.Environment.{value_of_name, Env}
 use Rattle.dslx_total.proofs.OnExpressions.Parts.{alone_lowers_to, becomes, well_typed_there, type_lowers_to, within_lowers_to, LowersTo, LowersToType}
 use Rattle.dslx_total.proofs.OnExpressions.OfLoops.{lower_total_loop}
-use Rattle.dslx_typing.specs.Typed.Complete.{IsWellTypedPart}
+use Rattle.dslx_core.specs.Typing.Typed.Complete.{IsWellTypedPart}
 use Rattle.dslx_total.specs.Expressions.Beside.{ScopeMatchesEnv}
 
 -- ---- what parts come to, and what they become

@@ -18,7 +18,7 @@ use Rattle.dslx_meaning.specs.Rules.TypeEnvs.{ExprPair, Judgement, TypeEnv, all_
 use Rattle.dslx_meaning.specs.Rules.Typings.{ArgPair, FieldSeen, ArmSeen, BlockPair, TypeExprTyping, StatementTyping}
 use Rattle.dslx_meaning.specs.Rules.NameRules.{item_value, local_or_other, name_typing, parametric_or_item, end_or_other}
 use Rattle.dslx_meaning.specs.Rules.OperatorRules.{binary_faults, binary_typing, binary_type, bound_number, cast_typing, is_bits, is_bits_or_enum, is_bool, part_typing, prefix_typing, slice_faults, slice_typing, unless_type, unless_types}
-use Rattle.dslx_typing.proofs.Lemmas.Typed.{none_some}
+use Rattle.dslx_core.proofs.Lemmas.Typing.Typed.{none_some}
 use Rattle.dslx_total.specs.Expressions.ExprLowering.{IsLimited, KeepsLimits}
 use Rattle.dslx_total.proofs.OnExpressions.Limits.{settled_keeps}
 use Rattle.xb_span.specs.declared.fault.Fault.{Fault}

@@ -15,7 +15,7 @@ use Rattle.dslx_meaning.specs.declared.ty.DslxType.TheViews as views
 use Rattle.dslx_meaning.specs.declared.ty.DslxType.TheFolds.{fold-roll-DslxType, map-DslxType}
 use Rattle.dslx_meaning.specs.Rules.TypeEnvs.{Instance, Judgement, found_number, leaf_widths, passes, passes_widths, settled, type_limits, unless_broken, unlimited, widths_in}
 use Rattle.dslx_meaning.specs.Rules.OperatorRules.{width_of_type}
-use Rattle.dslx_typing.proofs.Lemmas.Sound.{none_in, none_in_three, some_fault}
+use Rattle.dslx_core.proofs.Lemmas.Typing.Sound.{none_in, none_in_three, some_fault}
 use Rattle.dslx_total.specs.Expressions.ExprLowering.{KeepsLimits}
 
 leaves_at : (t : DslxType) (l : DslxType-F DslxType) → out-DslxType t ≡ l → leaf_widths t ≡ widths_in (map-DslxType DslxType (List ℕ) leaf_widths l)

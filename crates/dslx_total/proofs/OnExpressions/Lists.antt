@@ -7,10 +7,10 @@ use Rattle.dslx_meaning.specs.declared.ty.DslxType.{DslxType}
 use Rattle.dslx_meaning.specs.Rules.AggregateRules.{element_alone}
 use Rattle.dslx_meaning.specs.Rules.TypeEnvs.{ExprPair, Instance, Judgement, TypeEnv, alone, all_alone, faults_of_all, reached_of_all, span_of, types_of}
 use Rattle.dslx_meaning.specs.Rules.TypeRules.{unit_faults}
-use Rattle.dslx_typing.specs.Typed.Declared.{AllDeclared, Declarations}
-use Rattle.dslx_typing.specs.Typed.WellTyped.{IsWellTypedEnv, types_at}
-use Rattle.dslx_typing.proofs.Lemmas.Typed.{all_are}
-use Rattle.dslx_typing.proofs.Lemmas.Sound.{all_in, none_in}
+use Rattle.dslx_core.specs.Typing.Typed.Declared.{AllDeclared, Declarations}
+use Rattle.dslx_core.specs.Typing.Typed.WellTyped.{IsWellTypedEnv, types_at}
+use Rattle.dslx_core.proofs.Lemmas.Typing.Typed.{all_are}
+use Rattle.dslx_core.proofs.Lemmas.Typing.Sound.{all_in, none_in}
 use Rattle.dslx_core.specs.Lowering.CoreScopes.{CoreScope}
 use Rattle.dslx_core.specs.Lowering.Lowering.{LoweredExpr, types_of_lowered}
 use Rattle.dslx_core.specs.Lowering.Trees.{LoweredPair, lower_all}

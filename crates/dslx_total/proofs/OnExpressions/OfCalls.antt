@@ -26,14 +26,14 @@ use Rattle.dslx_meaning.specs.Rules.TypeEnvs.{ExprPair, Instance, Judgement, Typ
 use Rattle.dslx_meaning.specs.Rules.Typings.{ArgPair}
 use Rattle.dslx_meaning.specs.Rules.Mentions.{is_cyclic}
 use Rattle.dslx_meaning.specs.Rules.OperatorRules.{is_bits, unless_type}
-use Rattle.dslx_typing.proofs.Lemmas.Laws.{and_true}
-use Rattle.dslx_typing.specs.Typed.Complete.{EachArgumentDeclared, IsWellTypedPart}
-use Rattle.dslx_typing.specs.Typed.Declared.{AllDeclared, IsDeclared}
-use Rattle.dslx_typing.specs.Typed.WellTyped.{IsWellTypedEnv, types_at}
-use Rattle.dslx_typing.proofs.Lemmas.Typed.{all_are, declared_is, element_declared, list_parts, one_of_text}
-use Rattle.dslx_typing.proofs.Lemmas.Complete.{own_parametric_args}
-use Rattle.dslx_typing.specs.Sound.Sound.{EachExprGives, ExprGives}
-use Rattle.dslx_typing.proofs.Lemmas.Sound.{CallFound, all_in, all_in_three, call_found, none_in, none_in_three, passed, right_well_typed, settled_well_typed, some_fault, wrongly_called}
+use Rattle.dslx_core.proofs.Lemmas.Typing.Laws.{and_true}
+use Rattle.dslx_core.specs.Typing.Typed.Complete.{EachArgumentDeclared, IsWellTypedPart}
+use Rattle.dslx_core.specs.Typing.Typed.Declared.{AllDeclared, IsDeclared}
+use Rattle.dslx_core.specs.Typing.Typed.WellTyped.{IsWellTypedEnv, types_at}
+use Rattle.dslx_core.proofs.Lemmas.Typing.Typed.{all_are, declared_is, element_declared, list_parts, one_of_text}
+use Rattle.dslx_core.proofs.Lemmas.Typing.Complete.{own_parametric_args}
+use Rattle.dslx_core.specs.Typing.Sound.Sound.{EachExprGives, ExprGives}
+use Rattle.dslx_core.proofs.Lemmas.Typing.Sound.{CallFound, all_in, all_in_three, call_found, none_in, none_in_three, passed, right_well_typed, settled_well_typed, some_fault, wrongly_called}
 use Rattle.dslx_core.specs.declared.expr.CoreExpr as core
 use Rattle.dslx_core.specs.declared.expr.CoreUnary.{CoreUnary}
 use Rattle.dslx_core.specs.declared.expr.CoreUnary.TheVariants as u

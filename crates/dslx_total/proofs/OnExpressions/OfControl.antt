@@ -14,10 +14,10 @@ use Rattle.dslx_meaning.specs.Rules.TypeEnvs.{ExprPair, Instance, ExprTyping, Ty
 use Rattle.dslx_meaning.specs.Rules.Typings.{BlockPair, PatternPair, PatternSeen, StatementTyping, TypePair}
 use Rattle.dslx_meaning.specs.Rules.OperatorRules.{is_bool, unless_type, unless_types}
 use Rattle.dslx_meaning.specs.Rules.PatternRules.{pattern_alone}
-use Rattle.dslx_typing.specs.Typed.Complete.{IsWellTypedPart}
-use Rattle.dslx_typing.specs.Typed.WellTyped.{IsWellTypedEnv, types_at}
-use Rattle.dslx_typing.specs.Sound.Sound.{BlockGives, PatternGives, TypeHasDenIf}
-use Rattle.dslx_typing.proofs.Lemmas.Sound.{all_in, all_in_three, none_in, none_in_three, passed, settled_well_typed}
+use Rattle.dslx_core.specs.Typing.Typed.Complete.{IsWellTypedPart}
+use Rattle.dslx_core.specs.Typing.Typed.WellTyped.{IsWellTypedEnv, types_at}
+use Rattle.dslx_core.specs.Typing.Sound.Sound.{BlockGives, PatternGives, TypeHasDenIf}
+use Rattle.dslx_core.proofs.Lemmas.Typing.Sound.{all_in, all_in_three, none_in, none_in_three, passed, settled_well_typed}
 use Rattle.dslx_core.specs.declared.expr.CoreExpr.{CoreExpr}
 use Rattle.dslx_core.specs.declared.expr.CoreExpr as core
 use Rattle.dslx_core.specs.Lowering.CoreScopes.{CoreScope}

@@ -10,16 +10,16 @@ use Rattle.dslx_core.specs.declared.step.Step.TheVariants as step
 use Rattle.xb_span.specs.declared.span.Span.{Span}
 use Rattle.std.specs.List.{list_all}
 use Rattle.std.proofs.Common.{Bool, List, None, Option, Some, [], ap, false, not, refl, sym, true, ℕ, ◌||◌, ◌∙◌, ◌∷◌, ◌≡◌, subst, ◌++◌}
-use Rattle.dslx_typing.specs.Typed.WellTyped.{IsWellTypedEnv, types_at}
-use Rattle.dslx_typing.specs.Typed.Declared.{Declarations, IsDeclared, as_declared, declared_step}
-use Rattle.dslx_typing.specs.Typed.Complete.{IsWellTypedPart}
-use Rattle.dslx_typing.proofs.Lemmas.Typed.{or_false, tuple_declared}
+use Rattle.dslx_core.specs.Typing.Typed.WellTyped.{IsWellTypedEnv, types_at}
+use Rattle.dslx_core.specs.Typing.Typed.Declared.{Declarations, IsDeclared, as_declared, declared_step}
+use Rattle.dslx_core.specs.Typing.Typed.Complete.{IsWellTypedPart}
+use Rattle.dslx_core.proofs.Lemmas.Typing.Typed.{or_false, tuple_declared}
 use Rattle.dslx_tree.proofs.Lemmas.Folds.Levels.{NodeLevel, map_node, trees}
 use Rattle.dslx_tree.proofs.Lemmas.Folds.Folds.{folds}
 use Rattle.dslx_tree.specs.declared.process.End.{End}
 use Rattle.dslx_tree.specs.declared.process.Direction.{Direction}
 use Rattle.dslx_tree.specs.declared.expr.Expr.{Expr, out-Expr}
-use Rattle.dslx_typing.proofs.Lemmas.Sound.{none_in, not_broken, passed, all_in, all_in_three, none_in_three, settled_well_typed, own_expr}
+use Rattle.dslx_core.proofs.Lemmas.Typing.Sound.{none_in, not_broken, passed, all_in, all_in_three, none_in_three, settled_well_typed, own_expr}
 use Rattle.dslx_meaning.specs.Rules.NodeRules.{expr_pair, typing_steps, node_typing}
 use Rattle.dslx_meaning.specs.Rules.Typings.{typing_sorts}
 use Rattle.dslx_meaning.specs.Rules.TypeEnvs.{ExprPair, Instance, Judgement, ChannelEnd, TypeEnv, alone, span_of, typed_in, within, GlobalEnv, faults_of_all, name_of_expr, one_and, plus_size, reached_of_all, size_of_all, types_of}

@@ -3,11 +3,11 @@ use Rattle.dslx_meaning.specs.declared.ty.DslxType.{DslxType}
 use mathlib.Core.Bool.{true≢false}
 use Rattle.std.specs.List.{list_all}
 use Rattle.std.proofs.Common.{Bool, List, None, Option, Some, [], ap, false, if◌then◌else◌, map, not, refl, subst, sym, true, ℕ, ◌&&◌, ◌++◌, ◌||◌, ◌∙◌, ◌∷◌, ◌≡◌}
-use Rattle.dslx_typing.specs.Typed.WellTyped.{IsWellTypedEnv, types_at}
-use Rattle.dslx_typing.specs.Typed.Numbers.{AllOwn}
-use Rattle.dslx_typing.specs.Typed.Declared.{Declarations, IsDeclared}
-use Rattle.dslx_typing.specs.Typed.Complete.{IsComplete, IsWellTypedPart}
-use Rattle.dslx_typing.proofs.Lemmas.Typed.{all_are, bound_keeps, one_of_text, or_false, tuple_declared, same_some}
+use Rattle.dslx_core.specs.Typing.Typed.WellTyped.{IsWellTypedEnv, types_at}
+use Rattle.dslx_core.specs.Typing.Typed.Numbers.{AllOwn}
+use Rattle.dslx_core.specs.Typing.Typed.Declared.{Declarations, IsDeclared}
+use Rattle.dslx_core.specs.Typing.Typed.Complete.{IsComplete, IsWellTypedPart}
+use Rattle.dslx_core.proofs.Lemmas.Typing.Typed.{all_are, bound_keeps, one_of_text, or_false, tuple_declared, same_some}
 use Rattle.dslx_tree.specs.declared.type_expr.TypeExpr.{TypeExpr}
 use Rattle.dslx_tree.specs.declared.item.Parametric.{Parametric}
 use Rattle.dslx_tree.specs.declared.item.Function.{Function}
@@ -15,7 +15,7 @@ use Rattle.dslx_tree.specs.declared.item.Field.{Field}
 use Rattle.dslx_tree.specs.declared.item.Definition.{Definition}
 use Rattle.dslx_tree.specs.declared.ident.Ident.{Ident}
 use Rattle.dslx_tree.specs.declared.block.Block.{out-Block}
-use Rattle.dslx_typing.proofs.Lemmas.Sound.{all_in, none_in, not_broken, passed, type_has_den}
+use Rattle.dslx_core.proofs.Lemmas.Typing.Sound.{all_in, none_in, not_broken, passed, type_has_den}
 use Rattle.dslx_meaning.specs.Rules.TypeRules.{span_of_type, unit_faults}
 use Rattle.dslx_meaning.specs.Rules.NodeRules.{block_pair, type_pair}
 use Rattle.dslx_meaning.specs.Rules.NameRules.{local_name}
@@ -39,7 +39,7 @@ use Rattle.dslx_total.proofs.OnExpressions.Inhabited.{some_value}
 use Rattle.dslx_core.specs.Lowering.Trees.{lower_block_of_text, lower_type_of_text}
 use Rattle.dslx_core.specs.Lowering.Functions.{LoweredFunction, argument_types, arguments_in_scope, lower_function_body, lower_instance, parametric_args_are_well_typed, outer_scope}
 use Rattle.dslx_core.specs.Lowering.CoreScopes.{BodyEnv, CoreScope, with_local}
-use Rattle.dslx_typing.specs.Typed.Kinds.{is_of}
+use Rattle.dslx_core.specs.Typing.Typed.Kinds.{is_of}
 use Rattle.dslx_meaning.specs.Values.{type_of_value}
 
 -- ---- names

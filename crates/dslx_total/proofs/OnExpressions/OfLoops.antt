@@ -26,14 +26,14 @@ use Rattle.dslx_meaning.specs.Rules.ControlRules.{annotated_type, annotation_rea
 use Rattle.dslx_meaning.specs.Rules.TypeEnvs.{ExprPair, Instance, Judgement, TypeEnv, alone, breaks_if, found_number, has_broken, passes, span_of, with_typed}
 use Rattle.dslx_meaning.specs.Rules.Typings.{BlockPair, PatternPair, PatternSeen, TypePair}
 use Rattle.dslx_meaning.specs.Rules.OperatorRules.{is_bits, one_bit_type, unless_types}
-use Rattle.dslx_typing.proofs.Lemmas.Laws.{and_true}
-use Rattle.dslx_typing.specs.Typed.Complete.{IsWellTypedPart}
-use Rattle.dslx_typing.specs.Typed.Declared.{Declarations, IsDeclared}
-use Rattle.dslx_typing.specs.Typed.Given.{GivesOf}
-use Rattle.dslx_typing.specs.Typed.WellTyped.{IsWellTypedEnv, types_at}
-use Rattle.dslx_typing.proofs.Lemmas.Typed.{bits_given, one_of_text, same_some}
-use Rattle.dslx_typing.specs.Sound.Sound.{PatternGives, TypeHasDenIf, acc_seen, body_seen, index_seen, loop_at}
-use Rattle.dslx_typing.proofs.Lemmas.Sound.{all_in, all_in_three, constant_has, none_in, none_in_three, passed, settled_well_typed, some_fault}
+use Rattle.dslx_core.proofs.Lemmas.Typing.Laws.{and_true}
+use Rattle.dslx_core.specs.Typing.Typed.Complete.{IsWellTypedPart}
+use Rattle.dslx_core.specs.Typing.Typed.Declared.{Declarations, IsDeclared}
+use Rattle.dslx_core.specs.Typing.Typed.Given.{GivesOf}
+use Rattle.dslx_core.specs.Typing.Typed.WellTyped.{IsWellTypedEnv, types_at}
+use Rattle.dslx_core.proofs.Lemmas.Typing.Typed.{bits_given, one_of_text, same_some}
+use Rattle.dslx_core.specs.Typing.Sound.Sound.{PatternGives, TypeHasDenIf, acc_seen, body_seen, index_seen, loop_at}
+use Rattle.dslx_core.proofs.Lemmas.Typing.Sound.{all_in, all_in_three, constant_has, none_in, none_in_three, passed, settled_well_typed, some_fault}
 use Rattle.dslx_core.specs.declared.expr.CoreExpr as core
 use Rattle.dslx_core.specs.Lowering.CoreScopes.{CoreScope, constant_at}
 use Rattle.dslx_core.specs.Lowering.EqualTypes.{equal_type}

@@ -14,14 +14,14 @@ use Rattle.dslx_meaning.specs.Rules.ConstantRules.{is_empty}
 use Rattle.dslx_meaning.specs.Rules.ControlRules.{AlternativesSeen, ArmTyping, all_known, all_like, alternatives_seen, arm_typing, arm_values, arms_faults, arms_reached, arms_size, differ, first_of_types, has_several, match_faults, match_typing, not_exhaustive, some_binds, one_alternative}
 use Rattle.dslx_meaning.specs.Rules.TypeEnvs.{ExprPair, Instance, Judgement, TypeEnv, alone, has_broken, one_and, plus_size, types_of, with_typed}
 use Rattle.dslx_meaning.specs.Rules.Typings.{ArmSeen, PatternPair}
-use Rattle.dslx_typing.proofs.Lemmas.Laws.{and_true}
-use Rattle.dslx_typing.specs.Typed.Declared.{AllDeclared, Declarations, IsDeclared}
-use Rattle.dslx_typing.specs.Typed.Given.{GivesOf}
-use Rattle.dslx_typing.specs.Typed.WellTyped.{IsWellTypedEnv, types_at}
-use Rattle.dslx_typing.proofs.Lemmas.Typed.{all_are, not_false, or_false}
-use Rattle.dslx_typing.specs.Sound.Scopes.{IsWellTypedPattern}
-use Rattle.dslx_typing.specs.Sound.Sound.{EachPatternGives}
-use Rattle.dslx_typing.proofs.Lemmas.Sound.{IsSettled, all_in, all_in_three, none_in, none_in_three, not_broken, settled_well_typed, some_fault}
+use Rattle.dslx_core.proofs.Lemmas.Typing.Laws.{and_true}
+use Rattle.dslx_core.specs.Typing.Typed.Declared.{AllDeclared, Declarations, IsDeclared}
+use Rattle.dslx_core.specs.Typing.Typed.Given.{GivesOf}
+use Rattle.dslx_core.specs.Typing.Typed.WellTyped.{IsWellTypedEnv, types_at}
+use Rattle.dslx_core.proofs.Lemmas.Typing.Typed.{all_are, not_false, or_false}
+use Rattle.dslx_core.specs.Typing.Sound.Scopes.{IsWellTypedPattern}
+use Rattle.dslx_core.specs.Typing.Sound.Sound.{EachPatternGives}
+use Rattle.dslx_core.proofs.Lemmas.Typing.Sound.{IsSettled, all_in, all_in_three, none_in, none_in_three, not_broken, settled_well_typed, some_fault}
 use Rattle.dslx_core.specs.declared.expr.CoreExpr as core
 use Rattle.dslx_core.specs.declared.expr.Shape.{Shape}
 use Rattle.dslx_core.specs.declared.expr.Arm.{roll-Arm}

@@ -16,9 +16,9 @@ use Rattle.dslx_meaning.specs.Rules.NameRules.{local_name}
 use Rattle.dslx_meaning.specs.Rules.NodeRules.{type_pair}
 use Rattle.dslx_meaning.specs.Rules.ProcRules.{channel_type, ends_found, channel_end_of, word_limit}
 use Rattle.dslx_meaning.specs.Rules.TypeRules.{span_of_type, unit_faults}
-use Rattle.dslx_typing.specs.Typed.Complete.{IsWellTypedPart}
-use Rattle.dslx_typing.specs.Typed.WellTyped.{IsWellTypedEnv, types_at}
-use Rattle.dslx_typing.proofs.Lemmas.Sound.{all_in, none_in}
+use Rattle.dslx_core.specs.Typing.Typed.Complete.{IsWellTypedPart}
+use Rattle.dslx_core.specs.Typing.Typed.WellTyped.{IsWellTypedEnv, types_at}
+use Rattle.dslx_core.proofs.Lemmas.Typing.Sound.{all_in, none_in}
 use Rattle.dslx_core.specs.Lowering.CoreScopes.{CoreScope}
 use Rattle.dslx_core.specs.Lowering.Steps.{can_travel, end_names}
 use Rattle.dslx_core.specs.Lowering.Trees.{lower_type_of_text}

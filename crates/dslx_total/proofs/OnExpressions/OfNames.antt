@@ -18,12 +18,12 @@ use Rattle.dslx_meaning.specs.Rules.TypeEnvs.{Instance, TypeEnv, breaks, breaks_
 use Rattle.dslx_meaning.specs.Rules.Typings.{TypeExprTyping}
 use Rattle.dslx_meaning.specs.Rules.Mentions.{is_cyclic}
 use Rattle.dslx_meaning.specs.Rules.NameRules.{item_value, local_or_other, member_typing, name_typing, parametric_or_item, end_or_other}
-use Rattle.dslx_typing.specs.Typed.Complete.{IsWellTypedPart}
-use Rattle.dslx_typing.specs.Typed.Given.{GivesOf}
-use Rattle.dslx_typing.specs.Typed.Kinds.{is_of}
-use Rattle.dslx_typing.specs.Typed.WellTyped.{IsWellTypedEnv, types_at}
-use Rattle.dslx_typing.proofs.Lemmas.Typed.{bool_gives, member_gives, number_gives, one_type, same_some}
-use Rattle.dslx_typing.proofs.Lemmas.Sound.{limited_well_typed, member_known, none_in, settled_well_typed, some_fault, unlimited_type}
+use Rattle.dslx_core.specs.Typing.Typed.Complete.{IsWellTypedPart}
+use Rattle.dslx_core.specs.Typing.Typed.Given.{GivesOf}
+use Rattle.dslx_core.specs.Typing.Typed.Kinds.{is_of}
+use Rattle.dslx_core.specs.Typing.Typed.WellTyped.{IsWellTypedEnv, types_at}
+use Rattle.dslx_core.proofs.Lemmas.Typing.Typed.{bool_gives, member_gives, number_gives, one_type, same_some}
+use Rattle.dslx_core.proofs.Lemmas.Typing.Sound.{limited_well_typed, member_known, none_in, settled_well_typed, some_fault, unlimited_type}
 use Rattle.dslx_core.specs.Lowering.CoreScopes.{BoundSlot, local_in}
 use Rattle.dslx_core.specs.Lowering.Lowering.{literal, lower_name, slot_or_literal}
 use Rattle.dslx_core.specs.Lowering.Trees.{TypeLowering}

@@ -4,10 +4,10 @@ use Rattle.dslx_core.specs.declared.expr.Shape as shape
 use mathlib.Core.Bool.{true≢false}
 use Rattle.xb_span.specs.declared.span.Span.{Span}
 use Rattle.std.proofs.Common.{Bool, List, [], false, if◌then◌else◌, map, subst, sym, true, ◌∙◌, ◌∷◌, ◌≡◌, None, Option, Some, ap, refl, ◌++◌}
-use Rattle.dslx_typing.specs.Typed.WellTyped.{IsWellTypedEnv, types_at}
-use Rattle.dslx_typing.specs.Typed.Complete.{IsWellTypedPart}
-use Rattle.dslx_typing.specs.Typed.Declared.{Declarations, IsDeclared}
-use Rattle.dslx_typing.proofs.Lemmas.Typed.{same_some, tuple_declared}
+use Rattle.dslx_core.specs.Typing.Typed.WellTyped.{IsWellTypedEnv, types_at}
+use Rattle.dslx_core.specs.Typing.Typed.Complete.{IsWellTypedPart}
+use Rattle.dslx_core.specs.Typing.Typed.Declared.{Declarations, IsDeclared}
+use Rattle.dslx_core.proofs.Lemmas.Typing.Typed.{same_some, tuple_declared}
 use Rattle.dslx_tree.proofs.Lemmas.Folds.Levels.{map_node, trees, BlockLevel, Carriers, LetLevel, StmtLevel, map_bind, map_block, map_stmt}
 use Rattle.dslx_tree.proofs.Lemmas.Folds.Folds.{fold_arg, folds, Steps, fold_bind, fold_block, fold_pattern, fold_stmt, fold_type_expr}
 use Rattle.dslx_tree.specs.declared.process.End.{End}
@@ -17,7 +17,7 @@ use Rattle.dslx_tree.specs.declared.expr.Arg.{Arg}
 use Rattle.dslx_tree.specs.declared.block.Stmt.TheOpen.{Node-F, Stmt-F}
 use Rattle.dslx_tree.specs.declared.block.Stmt.TheFolds.{fold_out-Stmt, fold_out-Let, fold_out-Block}
 use Rattle.dslx_tree.specs.declared.block.Block.{Block, out-Block}
-use Rattle.dslx_typing.proofs.Lemmas.Sound.{wrongly_called, all_in, all_in_three, alone_well_typed, none_in, none_in_three, pattern_gives, settled_well_typed, type_has_den}
+use Rattle.dslx_core.proofs.Lemmas.Typing.Sound.{wrongly_called, all_in, all_in_three, alone_well_typed, none_in, none_in_three, pattern_gives, settled_well_typed, type_has_den}
 use Rattle.dslx_meaning.specs.Rules.NodeRules.{expr_pair, node_typing, block_pair}
 use Rattle.dslx_meaning.specs.Rules.TypeEnvs.{ExprPair, Instance, Judgement, GlobalEnv, TypeEnv, all_alone, alone, has_broken, no_token, one_and, plus_size, settled, span_of}
 use Rattle.dslx_meaning.specs.Rules.CallRules.{ParametricArgument, call_typing, channel_seen, given_parametric_args, held_typing, receiving, receiving_if, sending, sending_if, wrong_effect}
@@ -35,7 +35,7 @@ use Rattle.dslx_tree.specs.declared.type_expr.TypeExpr.{TypeExpr}
 use Rattle.dslx_tree.specs.declared.pattern.Pattern.{Pattern}
 use Rattle.dslx_tree.specs.declared.block.Stmt.{Stmt, out-Stmt}
 use Rattle.dslx_tree.specs.declared.block.Let.{Let, out-Let}
-use Rattle.dslx_typing.specs.Sound.Sound.{TypeHasDenIf}
+use Rattle.dslx_core.specs.Typing.Sound.Sound.{TypeHasDenIf}
 use Rattle.dslx_meaning.specs.Rules.PatternRules.{pattern_alone}
 use Rattle.dslx_meaning.specs.Rules.Typings.{PatternSeen, StatementTyping, StatementSeen, TypePair}
 use Rattle.dslx_meaning.specs.Rules.EffectNames.{is_effect}

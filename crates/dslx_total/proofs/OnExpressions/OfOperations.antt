@@ -19,11 +19,11 @@ use Rattle.dslx_meaning.specs.Rules.TypeEnvs.{ExprPair, alone, one_and, plus_siz
 use Rattle.dslx_meaning.specs.Rules.Typings.{TypeExprTyping}
 use Rattle.dslx_meaning.specs.Rules.OperatorRules.{binary_faults, binary_typing, binary_type, cast_typing, is_bits, is_bits_or_enum, one_comparable_type, part_typing, prefix_typing, unless_type, unless_types, width_of_type}
 use Rattle.dslx_meaning.specs.Rules.PatternRules.{is_there}
-use Rattle.dslx_typing.proofs.Lemmas.Laws.{and_true, is_bits_type}
-use Rattle.dslx_typing.specs.Typed.Declared.{Declarations, IsDeclared}
-use Rattle.dslx_typing.specs.Typed.WellTyped.{types_at}
-use Rattle.dslx_typing.proofs.Lemmas.Typed.{none_some, same_some}
-use Rattle.dslx_typing.proofs.Lemmas.Sound.{all_in, all_in_three, none_in, none_in_three, passed, settled_well_typed}
+use Rattle.dslx_core.proofs.Lemmas.Typing.Laws.{and_true, is_bits_type}
+use Rattle.dslx_core.specs.Typing.Typed.Declared.{Declarations, IsDeclared}
+use Rattle.dslx_core.specs.Typing.Typed.WellTyped.{types_at}
+use Rattle.dslx_core.proofs.Lemmas.Typing.Typed.{none_some, same_some}
+use Rattle.dslx_core.proofs.Lemmas.Typing.Sound.{all_in, all_in_three, none_in, none_in_three, passed, settled_well_typed}
 use Rattle.dslx_core.specs.CoreValues.{is_width}
 use Rattle.dslx_core.specs.declared.expr.CoreExpr.{CoreExpr}
 use Rattle.dslx_core.specs.declared.expr.CoreExpr as core

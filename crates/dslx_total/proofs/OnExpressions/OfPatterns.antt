@@ -18,12 +18,12 @@ use Rattle.dslx_meaning.specs.Rules.Typings.{PatternPair, PatternSeen, TypeExprT
 use Rattle.dslx_meaning.specs.Rules.Mentions.{is_cyclic}
 use Rattle.dslx_meaning.specs.Rules.NameRules.{member_typing}
 use Rattle.dslx_meaning.specs.Rules.PatternRules.{constant_pattern, first_part_type, is_there, name_pattern, nothing_bound, one_value, other_part_types, part_types, parts_typing, shape_faults, tuple_pattern}
-use Rattle.dslx_typing.proofs.Lemmas.Laws.{and_true}
-use Rattle.dslx_typing.specs.Typed.Complete.{IsWellTypedPart}
-use Rattle.dslx_typing.specs.Typed.Declared.{AllDeclared, Declarations, IsDeclared}
-use Rattle.dslx_typing.specs.Typed.WellTyped.{IsWellTypedEnv, types_at}
-use Rattle.dslx_typing.proofs.Lemmas.Typed.{bool_gives, none_some, one_type, parts_declared, parts_of_type, same_some}
-use Rattle.dslx_typing.proofs.Lemmas.Sound.{all_in, none_in, none_in_three, passed, some_fault, unlimited_type}
+use Rattle.dslx_core.proofs.Lemmas.Typing.Laws.{and_true}
+use Rattle.dslx_core.specs.Typing.Typed.Complete.{IsWellTypedPart}
+use Rattle.dslx_core.specs.Typing.Typed.Declared.{AllDeclared, Declarations, IsDeclared}
+use Rattle.dslx_core.specs.Typing.Typed.WellTyped.{IsWellTypedEnv, types_at}
+use Rattle.dslx_core.proofs.Lemmas.Typing.Typed.{bool_gives, none_some, one_type, parts_declared, parts_of_type, same_some}
+use Rattle.dslx_core.proofs.Lemmas.Typing.Sound.{all_in, none_in, none_in_three, passed, some_fault, unlimited_type}
 use Rattle.dslx_core.specs.declared.expr.Shape as shape
 use Rattle.dslx_core.specs.Lowering.CoreScopes.{CoreScope, with_local}
 use Rattle.dslx_core.specs.Lowering.Patterns.{LoweredShapes, PatternLowering, name_shape, names_of_all, parts_shaped, shaped, tuple_shape, value_shape}

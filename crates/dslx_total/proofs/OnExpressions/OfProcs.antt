@@ -19,12 +19,12 @@ use Rattle.dslx_meaning.specs.Rules.TypeEnvs.{Instance, GlobalEnv, ChannelEnd, T
 use Rattle.dslx_meaning.specs.Rules.NameRules.{local_name}
 use Rattle.dslx_meaning.specs.Rules.NodeRules.{block_pair}
 use Rattle.dslx_meaning.specs.Rules.ProcRules.{count_sites, ends_found, proc_type_env}
-use Rattle.dslx_typing.specs.Typed.WellTyped.{IsWellTypedEnv, types_at}
-use Rattle.dslx_typing.specs.Typed.Numbers.{AllOwn}
-use Rattle.dslx_typing.specs.Typed.Declared.{AllDeclared, Declarations, DeclaresParts, IsDeclared}
-use Rattle.dslx_typing.proofs.Lemmas.Typed.{bound_keeps, element_declared, parts_declared, struct_declared, type_induction}
-use Rattle.dslx_typing.specs.Complete.Acts.{acts_found}
-use Rattle.dslx_typing.proofs.Lemmas.Sound.{all_in, none_in, passed}
+use Rattle.dslx_core.specs.Typing.Typed.WellTyped.{IsWellTypedEnv, types_at}
+use Rattle.dslx_core.specs.Typing.Typed.Numbers.{AllOwn}
+use Rattle.dslx_core.specs.Typing.Typed.Declared.{AllDeclared, Declarations, DeclaresParts, IsDeclared}
+use Rattle.dslx_core.proofs.Lemmas.Typing.Typed.{bound_keeps, element_declared, parts_declared, struct_declared, type_induction}
+use Rattle.dslx_core.specs.Typing.Complete.Acts.{acts_found}
+use Rattle.dslx_core.proofs.Lemmas.Typing.Sound.{all_in, none_in, passed}
 use Rattle.dslx_core.specs.Lowering.CoreScopes.{BodyEnv, CoreScope, with_local}
 use Rattle.dslx_core.specs.Lowering.EqualTypes.{equal_type}
 use Rattle.dslx_core.specs.Lowering.Functions.{parametric_args_are_well_typed, outer_scope}

@@ -8,10 +8,10 @@ use Rattle.dslx_meaning.specs.Types.{unsigned}
 use Rattle.dslx_meaning.specs.Rules.ConstantRules.{constant_or_untyped}
 use Rattle.dslx_meaning.specs.Rules.TypeEnvs.{ExprPair, alone, breaks_if, one_and, plus_size}
 use Rattle.dslx_meaning.specs.Rules.OperatorRules.{bound_number, bounds_fall, is_bits, is_negative_bound, is_past, is_wrong_bound, slice_faults, slice_typing, unless_type, width_of_type}
-use Rattle.dslx_typing.proofs.Lemmas.Laws.{and_true}
-use Rattle.dslx_typing.specs.Typed.Complete.{IsWellTypedPart}
-use Rattle.dslx_typing.proofs.Lemmas.Typed.{bounds_within, or_false}
-use Rattle.dslx_typing.proofs.Lemmas.Sound.{all_in_three, bound_has, none_in, none_in_three, not_broken, settled_well_typed}
+use Rattle.dslx_core.proofs.Lemmas.Typing.Laws.{and_true}
+use Rattle.dslx_core.specs.Typing.Typed.Complete.{IsWellTypedPart}
+use Rattle.dslx_core.proofs.Lemmas.Typing.Typed.{bounds_within, or_false}
+use Rattle.dslx_core.proofs.Lemmas.Typing.Sound.{all_in_three, bound_has, none_in, none_in_three, not_broken, settled_well_typed}
 use Rattle.dslx_core.specs.declared.expr.CoreExpr as core
 use Rattle.dslx_core.specs.Lowering.CoreScopes.{bound_at}
 use Rattle.dslx_core.specs.Lowering.Lowering.{lowered, lower_slice}

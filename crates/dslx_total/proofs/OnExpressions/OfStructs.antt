@@ -21,13 +21,13 @@ use Rattle.dslx_meaning.specs.Rules.Typings.{FieldSeen}
 use Rattle.dslx_meaning.specs.Rules.Mentions.{is_cyclic}
 use Rattle.dslx_meaning.specs.Rules.NameRules.{name_typing}
 use Rattle.dslx_meaning.specs.Rules.PatternRules.{is_there}
-use Rattle.dslx_typing.proofs.Lemmas.Laws.{and_true}
-use Rattle.dslx_typing.specs.Typed.Complete.{IsWellTypedPart, IsStructKnown}
-use Rattle.dslx_typing.specs.Typed.Declared.{AllDeclared, IsDeclared}
-use Rattle.dslx_typing.specs.Typed.Given.{OwnTypes}
-use Rattle.dslx_typing.specs.Typed.WellTyped.{IsWellTypedEnv, types_at}
-use Rattle.dslx_typing.proofs.Lemmas.Typed.{all_are, not_false, one_of_text, or_false, struct_declared}
-use Rattle.dslx_typing.proofs.Lemmas.Sound.{all_in, none_in, none_in_three, not_broken, passed, settled_well_typed, some_fault}
+use Rattle.dslx_core.proofs.Lemmas.Typing.Laws.{and_true}
+use Rattle.dslx_core.specs.Typing.Typed.Complete.{IsWellTypedPart, IsStructKnown}
+use Rattle.dslx_core.specs.Typing.Typed.Declared.{AllDeclared, IsDeclared}
+use Rattle.dslx_core.specs.Typing.Typed.Given.{OwnTypes}
+use Rattle.dslx_core.specs.Typing.Typed.WellTyped.{IsWellTypedEnv, types_at}
+use Rattle.dslx_core.proofs.Lemmas.Typing.Typed.{all_are, not_false, one_of_text, or_false, struct_declared}
+use Rattle.dslx_core.proofs.Lemmas.Typing.Sound.{all_in, none_in, none_in_three, not_broken, passed, settled_well_typed, some_fault}
 use Rattle.dslx_core.specs.declared.expr.CoreExpr as core
 use Rattle.dslx_core.specs.declared.expr.Shape as shape
 use Rattle.dslx_core.specs.Lowering.CoreScopes.{CoreScope, with_unnamed}

@@ -7,13 +7,13 @@ use Rattle.std.specs.List.{list_all}
 use Rattle.std.proofs.lemmas.List.{append-nil, append_assoc}
 use Rattle.std.proofs.lemmas.Slice.Eq.{bytes_eq-Decides}
 use Rattle.std.proofs.Common.{Bool, List, None, Some, [], ap, false, if◌then◌else◌, length, map, not, refl, subst, suc, sym, true, ℕ, ◌&&◌, ◌++◌, ◌||◌, ◌∙◌, ◌∷◌, ◌≡◌}
-use Rattle.dslx_typing.proofs.Lemmas.Typed.{list_parts, none_some, own_bound, same_some}
+use Rattle.dslx_core.proofs.Lemmas.Typing.Typed.{list_parts, none_some, own_bound, same_some}
 use Rattle.dslx_tree.specs.declared.item.Item.{Item}
 use Rattle.dslx_tree.specs.declared.item.Function.{Function}
 use Rattle.dslx_tree.specs.declared.item.Field.{Field}
 use Rattle.dslx_tree.specs.declared.item.Definition.{Definition}
-use Rattle.dslx_typing.proofs.Lemmas.Complete.{item_typed, none_own}
-use Rattle.dslx_typing.proofs.Lemmas.Sound.{some_fault}
+use Rattle.dslx_core.proofs.Lemmas.Typing.Complete.{item_typed, none_own}
+use Rattle.dslx_core.proofs.Lemmas.Typing.Sound.{some_fault}
 use Rattle.dslx_meaning.specs.Rules.TypeEnvs.{Instance, GlobalEnv}
 use Rattle.dslx_meaning.specs.Rules.ItemRules.{function_type_env, item_type_env, typing_of_inner}
 use Rattle.dslx_meaning.specs.Rules.CallRules.{declared_type, known_before}
@@ -30,7 +30,7 @@ use Rattle.dslx_total.proofs.OnExpressions.Equal.{equal_itself}
 use Rattle.dslx_core.specs.Lowering.Functions.{CoreInstance, Instantiated, LoweredFunction, callee_in, callee_of, instance_in, instance_globals, lower_instance, instances_from, is_instance, next_instance, outer_scope}
 use Rattle.dslx_meaning.specs.Rules.EqualValues.{equal_value}
 use Rattle.dslx_core.specs.Lowering.EqualTypes.{equal_type}
-use Rattle.dslx_typing.proofs.Lemmas.Laws.{and_true}
+use Rattle.dslx_core.proofs.Lemmas.Typing.Laws.{and_true}
 use Rattle.dslx_core.proofs.Lemmas.Lowering.{all_one_number}
 
 -- ---- names

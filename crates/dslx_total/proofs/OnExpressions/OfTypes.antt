@@ -15,11 +15,11 @@ use Rattle.dslx_meaning.specs.Rules.TypeEnvs.{ExprPair, Instance, TypeEnv, break
 use Rattle.dslx_meaning.specs.Rules.Typings.{TypePair}
 use Rattle.dslx_meaning.specs.Rules.Mentions.{is_cyclic}
 use Rattle.dslx_meaning.specs.Rules.TypeRules.{array_of, counted_type, inner_type, inner_types, named_bits, named_type, span_of_type, unit_faults}
-use Rattle.dslx_typing.specs.Typed.Complete.{IsWellTypedPart}
-use Rattle.dslx_typing.specs.Typed.WellTyped.{IsWellTypedEnv}
-use Rattle.dslx_typing.proofs.Lemmas.Typed.{all_there, list_parts, none_some, same_some, settled_type}
-use Rattle.dslx_typing.specs.Sound.Sound.{ExprGives}
-use Rattle.dslx_typing.proofs.Lemmas.Sound.{all_in, none_in, settled_well_typed, some_fault}
+use Rattle.dslx_core.specs.Typing.Typed.Complete.{IsWellTypedPart}
+use Rattle.dslx_core.specs.Typing.Typed.WellTyped.{IsWellTypedEnv}
+use Rattle.dslx_core.proofs.Lemmas.Typing.Typed.{all_there, list_parts, none_some, same_some, settled_type}
+use Rattle.dslx_core.specs.Typing.Sound.Sound.{ExprGives}
+use Rattle.dslx_core.proofs.Lemmas.Typing.Sound.{all_in, none_in, settled_well_typed, some_fault}
 use Rattle.dslx_core.specs.Lowering.CoreScopes.{CoreScope, size_at}
 use Rattle.dslx_core.specs.Lowering.Trees.{TypeLowering}
 use Rattle.dslx_total.specs.Expressions.Beside.{NamesHaveWidths, ScopeMatchesEnv, has_widths}

@@ -13,15 +13,15 @@ use Rattle.dslx_meaning.specs.Rules.Mentions.{ends_mentions, mentioned_in_block,
 use Rattle.dslx_meaning.specs.Rules.ModuleRules.{found_of_instance, found_of_item, is_reached}
 use Rattle.dslx_meaning.specs.Rules.NameRules.{local_name}
 use Rattle.dslx_meaning.specs.Rules.ProcRules.{config_found, count_sites, ends_found, channel_end_of, proc_seen, proc_type_env}
-use Rattle.dslx_typing.proofs.Lemmas.Laws.{and_true}
-use Rattle.dslx_typing.specs.TypingRelations.Closed.{IsOneOf}
-use Rattle.dslx_typing.specs.TypingRelations.Reached.{AllNamed}
-use Rattle.dslx_typing.proofs.Lemmas.TypingRelations.{block_of_text_reaches, found_ends, found_parametrics, join, whole_is, written_type_reaches}
-use Rattle.dslx_typing.proofs.Lemmas.Sound.{all_in, none_in}
-use Rattle.dslx_typing.proofs.Lemmas.Depends.{no_proc_in_block, no_proc_in_type, parametrics_none}
-use Rattle.dslx_typing.specs.Complete.HasValue.{IsWellTypedFound}
-use Rattle.dslx_typing.specs.Complete.Acts.{acts_found}
-use Rattle.dslx_typing.proofs.Lemmas.Accepted.{IsAccepted, all_empty, instance_faults}
+use Rattle.dslx_core.proofs.Lemmas.Typing.Laws.{and_true}
+use Rattle.dslx_core.specs.Typing.TypingRelations.Closed.{IsOneOf}
+use Rattle.dslx_core.specs.Typing.TypingRelations.Reached.{AllNamed}
+use Rattle.dslx_core.proofs.Lemmas.Typing.TypingRelations.{block_of_text_reaches, found_ends, found_parametrics, join, whole_is, written_type_reaches}
+use Rattle.dslx_core.proofs.Lemmas.Typing.Sound.{all_in, none_in}
+use Rattle.dslx_core.proofs.Lemmas.Typing.Depends.{no_proc_in_block, no_proc_in_type, parametrics_none}
+use Rattle.dslx_core.specs.Typing.Complete.HasValue.{IsWellTypedFound}
+use Rattle.dslx_core.specs.Typing.Complete.Acts.{acts_found}
+use Rattle.dslx_core.proofs.Lemmas.Typing.Accepted.{IsAccepted, all_empty, instance_faults}
 use Rattle.dslx_total.proofs.OnFamilies.Reached.{IsProcOf, K, Listed, Passing, all, all_listed, all_sound, ends_none, proc_there, reaching}
 
 -- two lists that pass a test pass it in one

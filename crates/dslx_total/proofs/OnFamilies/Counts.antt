@@ -19,14 +19,14 @@ use Rattle.dslx_meaning.specs.Rules.Mentions.{config_statement_mentions, paramet
 use Rattle.dslx_meaning.specs.Rules.ModuleRules.{is_reached}
 use Rattle.dslx_meaning.specs.Rules.NetworkLimits.{Count, Counted, and_count, count_in, count_of_parametric_args, count_of_proc, counted_within, instance_count, config_statements_count, proc_count, spawn_count}
 use Rattle.dslx_meaning.specs.Rules.ProcRules.{Made, channel_found, ends_found, made_at_start, made_with, config_statements_found, proc_type_env, spawn_found}
-use Rattle.dslx_typing.specs.TypingRelations.Closed.{IsOneOf, ends_within}
-use Rattle.dslx_typing.proofs.Lemmas.TypingRelations.{itself}
-use Rattle.dslx_typing.proofs.Lemmas.Sound.{all_in, none_in}
-use Rattle.dslx_typing.proofs.Lemmas.Depends.{den_parts}
-use Rattle.dslx_typing.specs.Typed.Complete.{IsComplete}
-use Rattle.dslx_typing.specs.Complete.HasValue.{AreTyped}
-use Rattle.dslx_typing.proofs.Lemmas.Complete.{item_env}
-use Rattle.dslx_typing.proofs.Lemmas.Accepted.{IsAccepted, one_instance, one_of_these}
+use Rattle.dslx_core.specs.Typing.TypingRelations.Closed.{IsOneOf, ends_within}
+use Rattle.dslx_core.proofs.Lemmas.Typing.TypingRelations.{itself}
+use Rattle.dslx_core.proofs.Lemmas.Typing.Sound.{all_in, none_in}
+use Rattle.dslx_core.proofs.Lemmas.Typing.Depends.{den_parts}
+use Rattle.dslx_core.specs.Typing.Typed.Complete.{IsComplete}
+use Rattle.dslx_core.specs.Typing.Complete.HasValue.{AreTyped}
+use Rattle.dslx_core.proofs.Lemmas.Typing.Complete.{item_env}
+use Rattle.dslx_core.proofs.Lemmas.Typing.Accepted.{IsAccepted, one_instance, one_of_these}
 use Rattle.dslx_total.specs.Families.Plain.{ProcsBindNoConstant}
 use Rattle.dslx_total.proofs.OnFamilies.Acts.{parts_well_typed}
 use Rattle.dslx_total.proofs.OnFamilies.Reached.{K, Listed, Within, all, most, proc_there}

@@ -17,17 +17,17 @@ use Rattle.dslx_meaning.specs.Rules.TypeEnvs.{GlobalEnv, TypeEnv}
 use Rattle.dslx_meaning.specs.Rules.Mentions.{config_statement_mentions, parametric_names}
 use Rattle.dslx_meaning.specs.Rules.ModuleRules.{is_reached}
 use Rattle.dslx_meaning.specs.Rules.ProcRules.{Made, channel_found, ends_found, made_at_start, made_with, config_statements_found, proc_type_env, spawn_found}
-use Rattle.dslx_typing.specs.TypingRelations.Closed.{ends_within}
-use Rattle.dslx_typing.proofs.Lemmas.Sound.{all_in, none_in}
-use Rattle.dslx_typing.proofs.Lemmas.Depends.{den_parts}
-use Rattle.dslx_typing.specs.Typed.Complete.{IsComplete}
-use Rattle.dslx_typing.specs.Typed.WellTyped.{IsWellTypedEnv}
-use Rattle.dslx_typing.specs.Complete.HasValue.{AreTyped}
-use Rattle.dslx_typing.proofs.Lemmas.Complete.{item_env}
+use Rattle.dslx_core.specs.Typing.TypingRelations.Closed.{ends_within}
+use Rattle.dslx_core.proofs.Lemmas.Typing.Sound.{all_in, none_in}
+use Rattle.dslx_core.proofs.Lemmas.Typing.Depends.{den_parts}
+use Rattle.dslx_core.specs.Typing.Typed.Complete.{IsComplete}
+use Rattle.dslx_core.specs.Typing.Typed.WellTyped.{IsWellTypedEnv}
+use Rattle.dslx_core.specs.Typing.Complete.HasValue.{AreTyped}
+use Rattle.dslx_core.proofs.Lemmas.Typing.Complete.{item_env}
 use Rattle.dslx_total.specs.Expressions.Beside.{NamesHaveWidths}
-use Rattle.dslx_typing.specs.Procs.WordsOfEnds.{WordsAreValues}
+use Rattle.dslx_core.specs.Typing.Procs.WordsOfEnds.{WordsAreValues}
 use Rattle.dslx_total.specs.Texts.WellTypedTexts.{EachProcIsWellTyped, IsWellTypedProc}
-use Rattle.dslx_typing.proofs.Lemmas.Accepted.{IsAccepted, one_of_these}
+use Rattle.dslx_core.proofs.Lemmas.Typing.Accepted.{IsAccepted, one_of_these}
 use Rattle.dslx_total.specs.Families.EachElaborated.{EachElaborated}
 use Rattle.dslx_total.specs.Families.Plain.{ProcsBindNoConstant}
 use Rattle.dslx_total.proofs.OnFamilies.Acts.{parts_well_typed}

@@ -13,8 +13,8 @@ use Rattle.dslx_meaning.specs.Lists.{is_in}
 use Rattle.dslx_meaning.specs.Network.{last_proc_of}
 use Rattle.dslx_meaning.specs.Rules.ModuleRules.{ident_of, item_names}
 use Rattle.dslx_meaning.specs.Rules.NameRules.{listed_name}
-use Rattle.dslx_typing.proofs.Lemmas.Sound.{none_in, not_broken}
-use Rattle.dslx_typing.proofs.Lemmas.Typed.{or_false, same_some}
+use Rattle.dslx_core.proofs.Lemmas.Typing.Sound.{none_in, not_broken}
+use Rattle.dslx_core.proofs.Lemmas.Typing.Typed.{or_false, same_some}
 
 names_agree : (x : Definition) → (ident_of x).name ≡ name_of_definition x
 names_agree (d.Function f) = refl

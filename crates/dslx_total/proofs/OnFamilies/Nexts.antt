@@ -19,18 +19,18 @@ use Rattle.dslx_meaning.specs.Rules.TypeEnvs.{Instance, GlobalEnv, TypeEnv}
 use Rattle.dslx_meaning.specs.Rules.ModuleRules.{is_reached}
 use Rattle.dslx_meaning.specs.Rules.NodeRules.{block_pair}
 use Rattle.dslx_meaning.specs.Rules.ProcRules.{ends_found, channel_end_of, proc_type_env}
-use Rattle.dslx_typing.proofs.Lemmas.Laws.{and_true}
-use Rattle.dslx_typing.specs.TypingRelations.Reached.{AllNamed}
-use Rattle.dslx_typing.proofs.Lemmas.TypingRelations.{whole_is}
-use Rattle.dslx_typing.proofs.Lemmas.Sound.{all_in, block_of_text_has, none_in, passed, type_has_den}
-use Rattle.dslx_typing.specs.Typed.Complete.{IsComplete}
-use Rattle.dslx_typing.specs.Typed.Numbers.{AllOwn}
-use Rattle.dslx_typing.specs.Typed.Kinds.{is_of}
-use Rattle.dslx_typing.specs.Typed.WellTyped.{IsWellTypedEnv, types_at}
-use Rattle.dslx_typing.proofs.Lemmas.Typed.{one_of_text}
-use Rattle.dslx_typing.specs.Complete.Acts.{acts_found}
-use Rattle.dslx_typing.specs.Complete.HasValue.{AreTyped, IsWellTypedFound}
-use Rattle.dslx_typing.proofs.Lemmas.Complete.{item_env}
+use Rattle.dslx_core.proofs.Lemmas.Typing.Laws.{and_true}
+use Rattle.dslx_core.specs.Typing.TypingRelations.Reached.{AllNamed}
+use Rattle.dslx_core.proofs.Lemmas.Typing.TypingRelations.{whole_is}
+use Rattle.dslx_core.proofs.Lemmas.Typing.Sound.{all_in, block_of_text_has, none_in, passed, type_has_den}
+use Rattle.dslx_core.specs.Typing.Typed.Complete.{IsComplete}
+use Rattle.dslx_core.specs.Typing.Typed.Numbers.{AllOwn}
+use Rattle.dslx_core.specs.Typing.Typed.Kinds.{is_of}
+use Rattle.dslx_core.specs.Typing.Typed.WellTyped.{IsWellTypedEnv, types_at}
+use Rattle.dslx_core.proofs.Lemmas.Typing.Typed.{one_of_text}
+use Rattle.dslx_core.specs.Typing.Complete.Acts.{acts_found}
+use Rattle.dslx_core.specs.Typing.Complete.HasValue.{AreTyped, IsWellTypedFound}
+use Rattle.dslx_core.proofs.Lemmas.Typing.Complete.{item_env}
 use Rattle.dslx_core.specs.Lowering.CoreScopes.{BodyEnv, CoreScope}
 use Rattle.dslx_core.specs.Lowering.Functions.{callee_in, outer_scope}
 use Rattle.dslx_core.specs.Lowering.Steps.{lower_next}
@@ -40,7 +40,7 @@ use Rattle.dslx_total.specs.Expressions.ExprLowering.{IsClean}
 use Rattle.dslx_total.specs.Expressions.Members.{EachHasWords}
 use Rattle.dslx_total.specs.Expressions.NextSteps.{MembersExist}
 use Rattle.dslx_total.specs.Expressions.Nexts.{NextLowersAsTyped, members_type_env}
-use Rattle.dslx_typing.proofs.Lemmas.Accepted.{IsAccepted, one_of_these, sound}
+use Rattle.dslx_core.proofs.Lemmas.Typing.Accepted.{IsAccepted, one_of_these, sound}
 use Rattle.dslx_total.specs.Tables.Tables.{FunctionsHaveTable}
 use Rattle.dslx_total.specs.Families.EachElaborated.{NextLowers}
 use Rattle.dslx_total.proofs.OnFamilies.Acts.{parts_well_typed}

@@ -14,17 +14,17 @@ use Rattle.dslx_meaning.specs.Rules.TypeEnvs.{DefaultSeen, Judgement, GlobalEnv,
 use Rattle.dslx_meaning.specs.Rules.Mentions.{AsEnum, Mention, expr_if, is_of_use, item_reaches, mentioned, mentioned_in_type, mentions_of, names_mentioned, parametric_names, parametrics_mentions}
 use Rattle.dslx_meaning.specs.Rules.ModuleRules.{globals_of, globals_over, globals_within}
 use Rattle.dslx_meaning.specs.Rules.NodeRules.{expr_pair, type_pair}
-use Rattle.dslx_typing.specs.TypingRelations.Closed.{ends_within}
-use Rattle.dslx_typing.specs.TypingRelations.Reached.{EachParametricReaches}
-use Rattle.dslx_typing.proofs.Lemmas.TypingRelations.{closed, den_reach, parametrics_reach}
-use Rattle.dslx_typing.specs.Depends.Alike.{EachParametricAlike, NamesAlike, SeesAlike}
-use Rattle.dslx_typing.specs.Depends.Settled.{AreNoConstants, BindsNoConstant}
-use Rattle.dslx_typing.proofs.Lemmas.Depends.{Stage, constant_alike, constant_same, expression_alike, inner_same, is_proc_item, den_parts, names_no_procs, parametrics_none, passes, passes_closed, plain_alike, reached_in, sees_where, stage, written_type_alike}
-use Rattle.dslx_typing.specs.Typed.Complete.{EachParametricKnown, IsComplete, IsDefaultKnown, IsWellTypedPart, IsTypeKnown}
-use Rattle.dslx_typing.specs.Typed.Numbers.{AreOwn, ParametricsMean}
-use Rattle.dslx_typing.proofs.Lemmas.Typed.{own_more, own_value}
-use Rattle.dslx_typing.specs.Complete.HasValue.{AreTyped}
-use Rattle.dslx_typing.proofs.Lemmas.Complete.{parametric_has_value}
+use Rattle.dslx_core.specs.Typing.TypingRelations.Closed.{ends_within}
+use Rattle.dslx_core.specs.Typing.TypingRelations.Reached.{EachParametricReaches}
+use Rattle.dslx_core.proofs.Lemmas.Typing.TypingRelations.{closed, den_reach, parametrics_reach}
+use Rattle.dslx_core.specs.Typing.Depends.Alike.{EachParametricAlike, NamesAlike, SeesAlike}
+use Rattle.dslx_core.specs.Typing.Depends.Settled.{AreNoConstants, BindsNoConstant}
+use Rattle.dslx_core.proofs.Lemmas.Typing.Depends.{Stage, constant_alike, constant_same, expression_alike, inner_same, is_proc_item, den_parts, names_no_procs, parametrics_none, passes, passes_closed, plain_alike, reached_in, sees_where, stage, written_type_alike}
+use Rattle.dslx_core.specs.Typing.Typed.Complete.{EachParametricKnown, IsComplete, IsDefaultKnown, IsWellTypedPart, IsTypeKnown}
+use Rattle.dslx_core.specs.Typing.Typed.Numbers.{AreOwn, ParametricsMean}
+use Rattle.dslx_core.proofs.Lemmas.Typing.Typed.{own_more, own_value}
+use Rattle.dslx_core.specs.Typing.Complete.HasValue.{AreTyped}
+use Rattle.dslx_core.proofs.Lemmas.Typing.Complete.{parametric_has_value}
 use Rattle.dslx_total.proofs.OnFamilies.Reached.{IsProcOf, proc_within}
 
 -- ---- by one item more in chains

@@ -12,12 +12,12 @@ use Rattle.dslx_meaning.specs.Items.{item_named}
 use Rattle.dslx_meaning.specs.Rules.TypeEnvs.{Instance, GlobalEnv}
 use Rattle.dslx_meaning.specs.Rules.Mentions.{Mention, ends_mentions, config_statement_mentions, mentioned_in_arg, mentioned_in_block, mentioned_in_type, mentions_of, names_mentioned, parametric_names, parametrics_mentions, proc_mentions}
 use Rattle.dslx_meaning.specs.Rules.ModuleRules.{instances_of, is_reached, globals_of}
-use Rattle.dslx_typing.proofs.Lemmas.Laws.{and_true}
-use Rattle.dslx_typing.specs.TypingRelations.Closed.{IsOneOf, ends_within}
-use Rattle.dslx_typing.specs.TypingRelations.Reached.{AllNamed, MentionsReach}
-use Rattle.dslx_typing.proofs.Lemmas.TypingRelations.{closed, every_item, den_reach}
-use Rattle.dslx_typing.proofs.Lemmas.Depends.{NoProcs, den_parts, names_no_procs, no_proc_in_arg, no_proc_in_type, no_procs_join, passes, passes_closed}
-use Rattle.dslx_typing.proofs.Lemmas.Accepted.{IsAccepted, one_of_these, sound}
+use Rattle.dslx_core.proofs.Lemmas.Typing.Laws.{and_true}
+use Rattle.dslx_core.specs.Typing.TypingRelations.Closed.{IsOneOf, ends_within}
+use Rattle.dslx_core.specs.Typing.TypingRelations.Reached.{AllNamed, MentionsReach}
+use Rattle.dslx_core.proofs.Lemmas.Typing.TypingRelations.{closed, every_item, den_reach}
+use Rattle.dslx_core.proofs.Lemmas.Typing.Depends.{NoProcs, den_parts, names_no_procs, no_proc_in_arg, no_proc_in_type, no_procs_join, passes, passes_closed}
+use Rattle.dslx_core.proofs.Lemmas.Typing.Accepted.{IsAccepted, one_of_these, sound}
 
 -- a proc of the text, by its name
 abbrev pub IsProcOf : Module → Proc → Type 0

@@ -26,19 +26,19 @@ use Rattle.dslx_meaning.specs.Rules.Mentions.{AsProc, is_cyclic, config_statemen
 use Rattle.dslx_meaning.specs.Rules.ModuleRules.{is_reached}
 use Rattle.dslx_meaning.specs.Rules.NodeRules.{arg_pair}
 use Rattle.dslx_meaning.specs.Rules.ProcRules.{Made, behind_ends, handed_faults, proc_parametric_args, proc_type_env, right_spawn, spawn_found, spawn_of, unknown_ends}
-use Rattle.dslx_typing.proofs.Lemmas.Laws.{and_true}
-use Rattle.dslx_typing.specs.TypingRelations.Closed.{ends_within}
-use Rattle.dslx_typing.proofs.Lemmas.TypingRelations.{arguments_reach, every_item, given_reach, item_so_named, parametric_args_reach, whole_is}
-use Rattle.dslx_typing.specs.Sound.Sound.{EachExprGives}
-use Rattle.dslx_typing.proofs.Lemmas.Sound.{AreGiven, EachGiven, all_in, argument_gives, typing_right, none_in, not_broken, parametric_args_given, parametric_args_known, some_fault}
-use Rattle.dslx_typing.proofs.Lemmas.Depends.{den_parts}
-use Rattle.dslx_typing.specs.Typed.Complete.{IsComplete}
-use Rattle.dslx_typing.specs.Typed.Numbers.{AllOwn, GivenMean}
-use Rattle.dslx_typing.specs.Typed.WellTyped.{IsWellTypedEnv}
-use Rattle.dslx_typing.proofs.Lemmas.Typed.{all_are, parametric_args_found}
-use Rattle.dslx_typing.specs.Complete.HasValue.{AreTyped}
-use Rattle.dslx_typing.proofs.Lemmas.Complete.{item_env, none_own, own_parametric_args}
-use Rattle.dslx_typing.proofs.Lemmas.Accepted.{IsAccepted}
+use Rattle.dslx_core.proofs.Lemmas.Typing.Laws.{and_true}
+use Rattle.dslx_core.specs.Typing.TypingRelations.Closed.{ends_within}
+use Rattle.dslx_core.proofs.Lemmas.Typing.TypingRelations.{arguments_reach, every_item, given_reach, item_so_named, parametric_args_reach, whole_is}
+use Rattle.dslx_core.specs.Typing.Sound.Sound.{EachExprGives}
+use Rattle.dslx_core.proofs.Lemmas.Typing.Sound.{AreGiven, EachGiven, all_in, argument_gives, typing_right, none_in, not_broken, parametric_args_given, parametric_args_known, some_fault}
+use Rattle.dslx_core.proofs.Lemmas.Typing.Depends.{den_parts}
+use Rattle.dslx_core.specs.Typing.Typed.Complete.{IsComplete}
+use Rattle.dslx_core.specs.Typing.Typed.Numbers.{AllOwn, GivenMean}
+use Rattle.dslx_core.specs.Typing.Typed.WellTyped.{IsWellTypedEnv}
+use Rattle.dslx_core.proofs.Lemmas.Typing.Typed.{all_are, parametric_args_found}
+use Rattle.dslx_core.specs.Typing.Complete.HasValue.{AreTyped}
+use Rattle.dslx_core.proofs.Lemmas.Typing.Complete.{item_env, none_own, own_parametric_args}
+use Rattle.dslx_core.proofs.Lemmas.Typing.Accepted.{IsAccepted}
 use Rattle.dslx_total.specs.Families.Plain.{ProcsBindNoConstant}
 use Rattle.dslx_total.proofs.OnFamilies.Parametrics.{globals_alike, parametrics_known, parametrics_mean, parametrics_pass}
 use Rattle.dslx_total.proofs.OnFamilies.Reached.{IsProcOf, K, Listed, Passing, Within, all, all_sound, arguments_none, most, reaching}

@@ -6,13 +6,13 @@ use Rattle.dslx_meaning.specs.Items.{parametric_args_bound}
 use Rattle.dslx_meaning.specs.declared.value.DslxValue.{DslxValue}
 use Rattle.dslx_meaning.specs.Rules.TypeEnvs.{GlobalEnv}
 use Rattle.dslx_meaning.specs.Rules.ProcRules.{proc_type_env}
-use Rattle.dslx_typing.specs.Typed.Complete.{IsComplete}
-use Rattle.dslx_typing.specs.Typed.Numbers.{AllOwn}
-use Rattle.dslx_typing.specs.Typed.WellTyped.{IsWellTypedEnv}
-use Rattle.dslx_typing.proofs.Lemmas.Typed.{own_bound}
-use Rattle.dslx_typing.specs.Complete.HasValue.{AreTyped}
-use Rattle.dslx_typing.proofs.Lemmas.Complete.{item_env, item_typed, none_own}
-use Rattle.dslx_typing.proofs.Lemmas.Accepted.{IsAccepted}
+use Rattle.dslx_core.specs.Typing.Typed.Complete.{IsComplete}
+use Rattle.dslx_core.specs.Typing.Typed.Numbers.{AllOwn}
+use Rattle.dslx_core.specs.Typing.Typed.WellTyped.{IsWellTypedEnv}
+use Rattle.dslx_core.proofs.Lemmas.Typing.Typed.{own_bound}
+use Rattle.dslx_core.specs.Typing.Complete.HasValue.{AreTyped}
+use Rattle.dslx_core.proofs.Lemmas.Typing.Complete.{item_env, item_typed, none_own}
+use Rattle.dslx_core.proofs.Lemmas.Typing.Accepted.{IsAccepted}
 use Rattle.dslx_total.proofs.OnFamilies.Acts.{IsChecked}
 use Rattle.dslx_total.proofs.OnFamilies.Reached.{K}
 

@@ -17,13 +17,13 @@ use Rattle.dslx_meaning.specs.Rules.TypeEnvs.{Instance, GlobalEnv, breaks}
 use Rattle.dslx_meaning.specs.Rules.PatternRules.{is_there}
 use Rattle.dslx_meaning.specs.Rules.ModuleRules.{is_reached, items_found, lacks_default, outside_instances, top_faults, top_found}
 use Rattle.dslx_meaning.specs.Rules.ProcRules.{proc_parametric_args}
-use Rattle.dslx_typing.proofs.Lemmas.Laws.{and_true}
-use Rattle.dslx_typing.proofs.Lemmas.Sound.{all_in, typing_right, none_in, some_fault}
-use Rattle.dslx_typing.specs.Typed.Complete.{IsComplete}
-use Rattle.dslx_typing.specs.Typed.Numbers.{AllOwn}
-use Rattle.dslx_typing.proofs.Lemmas.Typed.{none_some, or_false}
-use Rattle.dslx_typing.specs.Complete.HasValue.{AreTyped}
-use Rattle.dslx_typing.proofs.Lemmas.Accepted.{IsAccepted, all_empty, names_apart}
+use Rattle.dslx_core.proofs.Lemmas.Typing.Laws.{and_true}
+use Rattle.dslx_core.proofs.Lemmas.Typing.Sound.{all_in, typing_right, none_in, some_fault}
+use Rattle.dslx_core.specs.Typing.Typed.Complete.{IsComplete}
+use Rattle.dslx_core.specs.Typing.Typed.Numbers.{AllOwn}
+use Rattle.dslx_core.proofs.Lemmas.Typing.Typed.{none_some, or_false}
+use Rattle.dslx_core.specs.Typing.Complete.HasValue.{AreTyped}
+use Rattle.dslx_core.proofs.Lemmas.Typing.Accepted.{IsAccepted, all_empty, names_apart}
 use Rattle.dslx_total.specs.Families.Plain.{ProcsBindNoConstant}
 use Rattle.dslx_total.proofs.OnFamilies.LastProc.{last_named}
 use Rattle.dslx_total.proofs.OnFamilies.Reached.{IsProcOf, K, Listed, all, all_listed}

@@ -6,7 +6,7 @@ use Rattle.xb_span.specs.declared.fault.Fault.TheVariants.{Whole}
 use Rattle.xb_span.specs.declared.limit.What.TheVariants as what
 use Rattle.dslx_tree.specs.declared.item.Module.{Module}
 use Rattle.dslx_meaning.specs.Rules.ModuleRules.{faults_of, instances_faults, instances_of, globals_of, outside_instances}
-use Rattle.dslx_typing.proofs.Lemmas.Accepted.{own_faults}
+use Rattle.dslx_core.proofs.Lemmas.Typing.Accepted.{own_faults}
 
 abbrev is_empty : {A : Type 0} → List A → Bool
 is_empty [] = true

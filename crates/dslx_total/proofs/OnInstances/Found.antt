@@ -9,11 +9,11 @@ use Rattle.dslx_meaning.specs.Lists.{and_then, pairwise}
 use Rattle.dslx_meaning.specs.declared.value.DslxValue.{DslxValue}
 use Rattle.dslx_meaning.specs.Rules.EqualValues.{equal_value}
 use Rattle.dslx_meaning.specs.Rules.TypeEnvs.{Instance}
-use Rattle.dslx_typing.proofs.Lemmas.Typed.{same_some}
+use Rattle.dslx_core.proofs.Lemmas.Typing.Typed.{same_some}
 use Rattle.dslx_core.specs.Lowering.Functions.{CoreInstance, Instantiated, instance_in, instance_globals, lower_instance, instances_from, is_instance, next_instance}
 use Rattle.dslx_total.specs.Expressions.InstanceLists.{is_among}
-use Rattle.dslx_machines.proofs.Lemmas.Machine.Keeps.{found_longer}
-use Rattle.dslx_machines.proofs.Lemmas.Machine.Options.{from_then}
+use Rattle.dslx_core.proofs.Lemmas.Machines.Machine.Keeps.{found_longer}
+use Rattle.dslx_core.proofs.Lemmas.Machines.Machine.Options.{from_then}
 
 abbrev pub IsFound : Instance → List CoreInstance → Type 0
 IsFound i table = (p : ℕ × CoreInstance) × (instance_in i.name i.parametric_args 0 table ≡ Some p)

@@ -5,12 +5,12 @@ use Rattle.dslx_meaning.specs.Environment.{Meanings}
 use Rattle.dslx_meaning.specs.Items.{as_function, item_named, meanings_of}
 use Rattle.dslx_meaning.specs.Rules.TypeEnvs.{Instance}
 use Rattle.dslx_meaning.specs.Rules.ModuleRules.{instances_of, globals_of}
-use Rattle.dslx_typing.proofs.Lemmas.TypingRelations.{whole_is}
-use Rattle.dslx_typing.specs.Typed.Numbers.{AllOwn}
-use Rattle.dslx_typing.proofs.Lemmas.Typed.{none_some}
+use Rattle.dslx_core.proofs.Lemmas.Typing.TypingRelations.{whole_is}
+use Rattle.dslx_core.specs.Typing.Typed.Numbers.{AllOwn}
+use Rattle.dslx_core.proofs.Lemmas.Typing.Typed.{none_some}
 use Rattle.dslx_core.specs.Lowering.Functions.{CoreInstance, Instantiated}
 use Rattle.dslx_total.specs.Tables.Tables.{FunctionsHaveTable}
-use Rattle.dslx_machines.specs.Progress.Missing.{InNoTable}
+use Rattle.dslx_core.specs.Machines.Progress.Missing.{InNoTable}
 use Rattle.dslx_total.specs.Instances.Reached.{IsReachedInstance, ExistsInTable}
 use Rattle.dslx_total.proofs.OnInstances.Found.{found_among}
 

@@ -8,7 +8,7 @@ use Rattle.dslx_meaning.specs.Rules.CallRules.{known_before, result_type}
 use Rattle.dslx_meaning.specs.Rules.ItemRules.{item_type_env, result_typing}
 use Rattle.dslx_meaning.specs.Rules.TypeEnvs.{GlobalEnv}
 use Rattle.dslx_meaning.specs.Rules.ModuleRules.{globals_over}
-use Rattle.dslx_typing.specs.Depends.Alike.{EachArgumentAlike, FunctionAlike}
+use Rattle.dslx_core.specs.Typing.Depends.Alike.{EachArgumentAlike, FunctionAlike}
 use Rattle.dslx_total.specs.Expressions.InstanceLists.{AreAsTyped, TypesAreAsTyped}
 
 arguments_typing : (known : GlobalEnv) (owner : List ℕ) (fs : List Field) → EachArgumentAlike known (globals_over known) owner fs → AreAsTyped known owner fs

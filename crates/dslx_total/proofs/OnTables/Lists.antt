@@ -7,8 +7,8 @@ use Rattle.dslx_meaning.specs.Lists.{pairwise}
 use Rattle.dslx_meaning.specs.declared.value.DslxValue.{DslxValue}
 use Rattle.dslx_meaning.specs.Rules.EqualValues.{equal_value}
 use Rattle.dslx_meaning.specs.Rules.TypeEnvs.{Instance, GlobalEnv, same_instance}
-use Rattle.dslx_typing.proofs.Lemmas.Laws.{value_equals_itself}
-use Rattle.dslx_typing.specs.TypingRelations.Closed.{IsOneOf}
+use Rattle.dslx_core.proofs.Lemmas.Typing.Laws.{value_equals_itself}
+use Rattle.dslx_core.specs.Typing.TypingRelations.Closed.{IsOneOf}
 use Rattle.dslx_core.specs.Lowering.Functions.{Instantiated}
 use Rattle.dslx_total.specs.Expressions.InstanceLists.{EachReachesThoseBefore, ReachesThese, is_among}
 

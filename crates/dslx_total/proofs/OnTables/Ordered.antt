@@ -12,12 +12,12 @@ use Rattle.dslx_meaning.specs.Rules.ItemRules.{Found, function_seen}
 use Rattle.dslx_meaning.specs.Rules.TypeEnvs.{Instance, GlobalEnv}
 use Rattle.dslx_meaning.specs.Rules.Mentions.{AsFunction, is_of_use}
 use Rattle.dslx_meaning.specs.Rules.ModuleRules.{found_of_instance, found_of_item, instances_of, is_reached, globals_of}
-use Rattle.dslx_typing.proofs.Lemmas.Laws.{and_true}
-use Rattle.dslx_typing.specs.Typed.Numbers.{AllOwn}
-use Rattle.dslx_typing.specs.TypingRelations.Closed.{IsOneOf, ends_within}
-use Rattle.dslx_typing.proofs.Lemmas.TypingRelations.{function_is, instances_reach, longer, whole_is}
-use Rattle.dslx_typing.proofs.Lemmas.Depends.{every_item_passes, is_proc_item, passes, passes_closed, passes_next}
-use Rattle.dslx_typing.proofs.Lemmas.Accepted.{IsAccepted, all_empty, all_so, instance_faults, one_of_these, sound}
+use Rattle.dslx_core.proofs.Lemmas.Typing.Laws.{and_true}
+use Rattle.dslx_core.specs.Typing.Typed.Numbers.{AllOwn}
+use Rattle.dslx_core.specs.Typing.TypingRelations.Closed.{IsOneOf, ends_within}
+use Rattle.dslx_core.proofs.Lemmas.Typing.TypingRelations.{function_is, instances_reach, longer, whole_is}
+use Rattle.dslx_core.proofs.Lemmas.Typing.Depends.{every_item_passes, is_proc_item, passes, passes_closed, passes_next}
+use Rattle.dslx_core.proofs.Lemmas.Typing.Accepted.{IsAccepted, all_empty, all_so, instance_faults, one_of_these, sound}
 use Rattle.dslx_core.specs.Lowering.Functions.{Instantiated}
 use Rattle.dslx_total.specs.Expressions.InstanceLists.{AreThere, EachReachesThoseBefore, ReachesThese, is_among}
 use Rattle.dslx_total.proofs.OnTables.Lists.{AreApart, among_first, among_second, as_named, both_chosen, chosen, chosen_among, each_behind, each_chosen, no_more}

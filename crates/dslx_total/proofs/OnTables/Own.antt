@@ -3,12 +3,12 @@ use Rattle.std.proofs.Common.{◌≡◌, ◌&&◌, Bool, true, List, [], ◌∷�
 use Rattle.std.specs.List.{list_all}
 use Rattle.dslx_meaning.specs.Values.{type_of_value}
 use Rattle.dslx_meaning.specs.declared.value.DslxValue.{DslxValue}
-use Rattle.dslx_typing.proofs.Lemmas.Laws.{and_true}
-use Rattle.dslx_typing.specs.Typed.Declared.{Declarations, as_declared}
-use Rattle.dslx_typing.specs.Typed.Given.{GivesOf}
-use Rattle.dslx_typing.specs.Typed.Kinds.{is_of}
-use Rattle.dslx_typing.specs.Typed.Numbers.{AllOwn}
-use Rattle.dslx_typing.proofs.Lemmas.Typed.{one_type, same_some}
+use Rattle.dslx_core.proofs.Lemmas.Typing.Laws.{and_true}
+use Rattle.dslx_core.specs.Typing.Typed.Declared.{Declarations, as_declared}
+use Rattle.dslx_core.specs.Typing.Typed.Given.{GivesOf}
+use Rattle.dslx_core.specs.Typing.Typed.Kinds.{is_of}
+use Rattle.dslx_core.specs.Typing.Typed.Numbers.{AllOwn}
+use Rattle.dslx_core.proofs.Lemmas.Typing.Typed.{one_type, same_some}
 
 -- it is of its type with each struct and each enum replaced by what its name stands for: so nothing was to be replaced
 abbrev pub is_own : Declarations → DslxValue → Bool

@@ -20,9 +20,9 @@ use Rattle.dslx_meaning.specs.Rules.TypeEnvs.{GlobalEnv, TypeEnv, breaks_if, has
 use Rattle.dslx_meaning.specs.Rules.ModuleRules.{globals_within, type_known}
 use Rattle.dslx_meaning.specs.Rules.NodeRules.{type_pair}
 use Rattle.dslx_meaning.specs.Rules.OperatorRules.{is_bits, unless_type}
-use Rattle.dslx_typing.proofs.Lemmas.Typed.{all_there, list_parts, none_some, same_some}
-use Rattle.dslx_typing.proofs.Lemmas.Sound.{some_fault}
-use Rattle.dslx_typing.proofs.Lemmas.TypingRelations.{whole_is}
+use Rattle.dslx_core.proofs.Lemmas.Typing.Typed.{all_there, list_parts, none_some, same_some}
+use Rattle.dslx_core.proofs.Lemmas.Typing.Sound.{some_fault}
+use Rattle.dslx_core.proofs.Lemmas.Typing.TypingRelations.{whole_is}
 use Rattle.dslx_total.specs.Expressions.Beside.{NamesHaveWidths, has_widths}
 use Rattle.dslx_total.specs.Expressions.ExprLowering.{IsWide}
 use Rattle.dslx_total.proofs.Lemmas.Expressions.{in_enum, in_struct, own_width}

@@ -20,16 +20,16 @@ use Rattle.dslx_meaning.specs.Rules.TypeEnvs.{TypeEnv, found_number, passes}
 use Rattle.dslx_meaning.specs.Rules.NameRules.{local_name}
 use Rattle.dslx_meaning.specs.Rules.NodeRules.{type_pair}
 use Rattle.dslx_meaning.specs.Rules.ProcRules.{channel_type, ends_found, word_limit}
-use Rattle.dslx_typing.specs.Typed.Kinds.{is_of}
-use Rattle.dslx_typing.specs.Typed.WellTyped.{IsWellTypedEnv, types_at}
-use Rattle.dslx_typing.proofs.Lemmas.Sound.{none_in, some_fault, type_has_den}
+use Rattle.dslx_core.specs.Typing.Typed.Kinds.{is_of}
+use Rattle.dslx_core.specs.Typing.Typed.WellTyped.{IsWellTypedEnv, types_at}
+use Rattle.dslx_core.proofs.Lemmas.Typing.Sound.{none_in, some_fault, type_has_den}
 use Rattle.dslx_core.specs.Lowering.Steps.{is_sized}
 use Rattle.dslx_core.proofs.Lemmas.Lowering.{from_plain}
 use Rattle.dslx_total.specs.Expressions.Beside.{NamesHaveWidths}
 use Rattle.dslx_total.specs.Expressions.ExprLowering.{IsWide}
 use Rattle.dslx_total.specs.Expressions.Members.{EachHasWords, HasWords}
 use Rattle.dslx_total.proofs.Lemmas.Expressions.{sized_there}
-use Rattle.dslx_typing.specs.Procs.WordsOfEnds.{WordsAreValues}
+use Rattle.dslx_core.specs.Typing.Procs.WordsOfEnds.{WordsAreValues}
 use Rattle.dslx_total.proofs.OnWords.Narrow.{narrow}
 
 abbrev pub TypesAreWide : Type 0

@@ -19,8 +19,8 @@ use Rattle.dslx_meaning.specs.declared.ty.DslxType.TheFolds.{fold-roll-DslxType,
 use Rattle.dslx_meaning.specs.declared.ty.DslxType.TheVariants as rolls
 use Rattle.dslx_meaning.specs.declared.ty.DslxType.TheViews as views
 use Rattle.dslx_meaning.specs.Rules.ConstantRules.{is_zero}
-use Rattle.dslx_typing.proofs.Lemmas.Laws.{and_true}
-use Rattle.dslx_typing.proofs.Lemmas.Typed.{type_induction}
+use Rattle.dslx_core.proofs.Lemmas.Typing.Laws.{and_true}
+use Rattle.dslx_core.proofs.Lemmas.Typing.Typed.{type_induction}
 use Rattle.dslx_core.specs.Lowering.Steps.{is_sized, sized_step}
 use Rattle.dslx_total.specs.Expressions.Beside.{has_widths}
 use Rattle.dslx_total.proofs.Lemmas.Expressions.{in_array, in_bits, in_enum, in_struct, in_tuple}

@@ -7,7 +7,7 @@ use Rattle.dslx_meaning.specs.Environment.{Meanings}
 use Rattle.dslx_meaning.specs.Items.{item_named}
 use Rattle.dslx_meaning.specs.declared.value.DslxValue.{DslxValue}
 use Rattle.dslx_meaning.specs.Rules.ModuleRules.{instances_of, is_reached}
-use Rattle.dslx_typing.specs.Typed.Numbers.{AllOwn}
+use Rattle.dslx_core.specs.Typing.Typed.Numbers.{AllOwn}
 
 -- a proc of the text with parametric arguments: its instance is checked, and each parametric argument is of its own type, where names of types
 -- stand for these

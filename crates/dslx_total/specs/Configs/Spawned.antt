@@ -9,7 +9,7 @@ use Rattle.dslx_meaning.specs.Environment.{Meanings}
 use Rattle.dslx_meaning.specs.Items.{item_named}
 use Rattle.dslx_meaning.specs.Network.{as_proc}
 use Rattle.dslx_meaning.specs.declared.value.DslxValue.{DslxValue}
-use Rattle.dslx_typing.specs.Typed.Numbers.{AllOwn}
+use Rattle.dslx_core.specs.Typing.Typed.Numbers.{AllOwn}
 use Rattle.dslx_core.specs.Lowering.CoreScopes.{CoreScope}
 use Rattle.dslx_core.specs.Networks.Configs.{ProcInstance, proc_instance_in, lower_spawn_parametrics}
 use Rattle.dslx_total.specs.Configs.ReachedProcs.{IsReachedProc}

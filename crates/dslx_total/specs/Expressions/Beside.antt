@@ -11,8 +11,8 @@ use Rattle.dslx_meaning.specs.declared.ty.DslxType.TheOpen.{DslxType-F}
 use Rattle.dslx_meaning.specs.declared.value.DslxValue.{DslxValue}
 use Rattle.dslx_meaning.specs.Rules.CallRules.{declared_type, known_before, result_type}
 use Rattle.dslx_meaning.specs.Rules.TypeEnvs.{Instance, GlobalEnv, TypeEnv, Typed}
-use Rattle.dslx_typing.specs.Typed.Declared.{IsDeclared}
-use Rattle.dslx_typing.specs.Typed.Numbers.{AllOwn}
+use Rattle.dslx_core.specs.Typing.Typed.Declared.{IsDeclared}
+use Rattle.dslx_core.specs.Typing.Typed.Numbers.{AllOwn}
 use Rattle.dslx_core.specs.Lowering.CoreScopes.{BoundSlot, CoreCallee, BodyEnv, CoreScope}
 
 -- ---- calls

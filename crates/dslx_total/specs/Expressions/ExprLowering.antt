@@ -14,10 +14,10 @@ use Rattle.dslx_meaning.specs.Rules.ConstantRules.{is_empty}
 use Rattle.dslx_meaning.specs.Rules.TypeEnvs.{ExprPair, Instance, Judgement, GlobalEnv, TypeEnv, Typed, with_typed}
 use Rattle.dslx_meaning.specs.Rules.Typings.{PatternTyping, TypeExprTyping}
 use Rattle.dslx_meaning.specs.Rules.OperatorRules.{width_of_type}
-use Rattle.dslx_typing.specs.Typed.Complete.{IsWellTypedPart}
-use Rattle.dslx_typing.specs.Typed.Declared.{IsDeclared}
-use Rattle.dslx_typing.specs.Typed.WellTyped.{IsWellTypedEnv, types_at}
-use Rattle.dslx_typing.specs.Sound.Sound.{ExprGives, TypeHasDen}
+use Rattle.dslx_core.specs.Typing.Typed.Complete.{IsWellTypedPart}
+use Rattle.dslx_core.specs.Typing.Typed.Declared.{IsDeclared}
+use Rattle.dslx_core.specs.Typing.Typed.WellTyped.{IsWellTypedEnv, types_at}
+use Rattle.dslx_core.specs.Typing.Sound.Sound.{ExprGives, TypeHasDen}
 use Rattle.dslx_core.specs.Lowering.CoreScopes.{CoreScope}
 use Rattle.dslx_core.specs.Lowering.Lowering.{LoweredExpr}
 use Rattle.dslx_core.specs.Lowering.Patterns.{LoweredShape, ExprLowering, PatternLowering}

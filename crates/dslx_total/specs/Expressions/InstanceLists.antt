@@ -10,9 +10,9 @@ use Rattle.dslx_meaning.specs.Lists.{pairwise}
 use Rattle.dslx_meaning.specs.Rules.CallRules.{known_before, result_type}
 use Rattle.dslx_meaning.specs.Rules.ItemRules.{function_seen, item_type_env, typing_of_type, result_typing}
 use Rattle.dslx_meaning.specs.Rules.TypeEnvs.{Instance, GlobalEnv}
-use Rattle.dslx_typing.specs.Typed.Complete.{IsComplete}
-use Rattle.dslx_typing.specs.Typed.Numbers.{AllOwn}
-use Rattle.dslx_typing.specs.Complete.HasValue.{AreTyped}
+use Rattle.dslx_core.specs.Typing.Typed.Complete.{IsComplete}
+use Rattle.dslx_core.specs.Typing.Typed.Numbers.{AllOwn}
+use Rattle.dslx_core.specs.Typing.Complete.HasValue.{AreTyped}
 use Rattle.dslx_meaning.specs.Rules.EqualValues.{equal_value}
 use Rattle.dslx_core.specs.Lowering.Functions.{CoreInstance, Instantiated, callee_in, instances_from}
 use Rattle.dslx_total.specs.Expressions.Beside.{CallsAreKnown, NamesHaveWidths}

@@ -3,8 +3,8 @@ use Rattle.std.specs.Prelude.{◌≡◌, ℕ, List, Option, Some}
 use Rattle.dslx_tree.specs.declared.process.End.{End}
 use Rattle.dslx_meaning.specs.Rules.CallRules.{channel_end_in}
 use Rattle.dslx_meaning.specs.Rules.TypeEnvs.{Judgement, ChannelEnd, TypeEnv}
-use Rattle.dslx_typing.specs.Typed.Declared.{Declarations, IsDeclared}
-use Rattle.dslx_typing.specs.Typed.WellTyped.{types_at}
+use Rattle.dslx_core.specs.Typing.Typed.Declared.{Declarations, IsDeclared}
+use Rattle.dslx_core.specs.Typing.Typed.WellTyped.{types_at}
 use Rattle.dslx_core.specs.Lowering.CoreScopes.{CoreScope}
 use Rattle.dslx_core.specs.Lowering.Steps.{CoreMember, LoweredSteps, member_in}
 

@@ -6,7 +6,7 @@ use Rattle.dslx_meaning.specs.Activation.{opening_state}
 use Rattle.dslx_meaning.specs.Items.{meanings_of}
 use Rattle.dslx_meaning.specs.Network.{Elaborated}
 use Rattle.dslx_meaning.specs.declared.value.DslxValue.{DslxValue}
-use Rattle.dslx_typing.specs.Typed.Kinds.{is_of}
+use Rattle.dslx_core.specs.Typing.Typed.Kinds.{is_of}
 use Rattle.dslx_core.specs.Lowering.Functions.{CoreInstance}
 use Rattle.dslx_core.specs.Lowering.Steps.{LoweredNext, lower_next, proc_globals}
 

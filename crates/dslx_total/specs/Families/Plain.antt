@@ -5,7 +5,7 @@ use Rattle.dslx_tree.specs.declared.process.Proc.{Proc}
 use Rattle.dslx_meaning.specs.Items.{item_named}
 use Rattle.dslx_meaning.specs.Network.{as_proc}
 use Rattle.dslx_meaning.specs.Rules.Mentions.{parametric_names}
-use Rattle.dslx_typing.specs.Depends.Settled.{AreNoConstants}
+use Rattle.dslx_core.specs.Typing.Depends.Settled.{AreNoConstants}
 
 -- no parametric of a proc has the name of a constant, as rule 2 asks of each proc that is checked
 abbrev pub ProcsBindNoConstant : Module → Type 0

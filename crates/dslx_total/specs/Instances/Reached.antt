@@ -4,9 +4,9 @@ use Rattle.dslx_tree.specs.declared.item.Function.{Function}
 use Rattle.dslx_tree.specs.declared.item.Module.{Module}
 use Rattle.dslx_meaning.specs.Items.{as_function, item_named, meanings_of}
 use Rattle.dslx_meaning.specs.Rules.ModuleRules.{instances_of, is_reached}
-use Rattle.dslx_typing.specs.Typed.Numbers.{AllOwn}
+use Rattle.dslx_core.specs.Typing.Typed.Numbers.{AllOwn}
 use Rattle.dslx_core.specs.Lowering.Functions.{CoreInstance, Instantiated, instance_in}
-use Rattle.dslx_machines.specs.Machine.Reached.{IsTable}
+use Rattle.dslx_core.specs.Machines.Machine.Reached.{IsTable}
 
 -- an instance of a function that is checked, and whose parametrics have values of their own types
 pub record IsReachedInstance (m : Module) (top : Option (List ℕ)) (i : Instantiated) : Type 0 where

@@ -7,13 +7,13 @@ use Rattle.dslx_meaning.specs.declared.value.DslxValue.{DslxValue}
 use Rattle.dslx_meaning.specs.Rules.TypeEnvs.{GlobalEnv}
 use Rattle.dslx_meaning.specs.Rules.ModuleRules.{globals_of}
 use Rattle.dslx_meaning.specs.Rules.ProcRules.{proc_type_env}
-use Rattle.dslx_typing.specs.Laws.Recursion.{HasNoCycle}
-use Rattle.dslx_typing.specs.Depends.Settled.{BindsNoConstant}
-use Rattle.dslx_typing.specs.Typed.Numbers.{AllOwn}
-use Rattle.dslx_typing.specs.Complete.HasValue.{IsWellTypedFound}
-use Rattle.dslx_typing.specs.GlobalEnv.WellTypedParts.{EachItemWellTyped}
-use Rattle.dslx_typing.specs.Complete.Acts.{acts_found}
-use Rattle.dslx_typing.specs.Procs.WordsOfEnds.{WordsAreValues}
+use Rattle.dslx_core.specs.Typing.Laws.Recursion.{HasNoCycle}
+use Rattle.dslx_core.specs.Typing.Depends.Settled.{BindsNoConstant}
+use Rattle.dslx_core.specs.Typing.Typed.Numbers.{AllOwn}
+use Rattle.dslx_core.specs.Typing.Complete.HasValue.{IsWellTypedFound}
+use Rattle.dslx_core.specs.Typing.GlobalEnv.WellTypedParts.{EachItemWellTyped}
+use Rattle.dslx_core.specs.Typing.Complete.Acts.{acts_found}
+use Rattle.dslx_core.specs.Typing.Procs.WordsOfEnds.{WordsAreValues}
 
 -- nothing is wrong with the text of an instance of a proc outside its `config`, its parametrics have values of their own types, and each word of its
 -- channels is a value

@@ -10,8 +10,8 @@ ghost use Rattle.dslx_meaning.specs.declared.value.DslxValue.{DslxValue};
 ghost use Rattle.dslx_meaning.specs.Rules.ItemRules.{function_seen, function_type_env};
 ghost use Rattle.dslx_meaning.specs.Rules.TypeEnvs.{Instance, GlobalEnv};
 ghost use Rattle.dslx_tree.specs.declared.item.Function.{Function};
-ghost use Rattle.dslx_typing.specs.Typed.Numbers.{AllOwn};
-ghost use Rattle.dslx_typing.specs.Typed.WellTyped.{IsWellTypedEnv};
+ghost use Rattle.dslx_core.specs.Typing.Typed.Numbers.{AllOwn};
+ghost use Rattle.dslx_core.specs.Typing.Typed.WellTyped.{IsWellTypedEnv};
 
 /// An instance of a function with whose text nothing is wrong: where its parametrics have values of their own types, and
 /// all instances that it calls are known with the types of their results, it becomes a function of the types that are

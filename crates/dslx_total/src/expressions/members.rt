@@ -8,7 +8,7 @@ ghost use Rattle.dslx_meaning.specs.Environment.{Env};
 ghost use Rattle.dslx_meaning.specs.Rules.TypeEnvs.{Instance, TypeEnv};
 ghost use Rattle.dslx_meaning.specs.Rules.ProcRules.{ends_found, channel_end_of};
 ghost use Rattle.dslx_tree.specs.declared.process.End.{End};
-ghost use Rattle.dslx_typing.specs.Typed.WellTyped.{IsWellTypedEnv};
+ghost use Rattle.dslx_core.specs.Typing.Typed.WellTyped.{IsWellTypedEnv};
 
 /// Ends with which nothing is wrong, in whose words all bits are 1 to 128 wide: where they are the members in sight, each
 /// member is an end whose words a channel holds.

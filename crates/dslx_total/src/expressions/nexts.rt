@@ -1,5 +1,5 @@
 ghost use Rattle.std.specs.Prelude.{Bool, List, true};
-ghost use Rattle.dslx_typing.specs.Complete.Acts.{acts_found};
+ghost use Rattle.dslx_core.specs.Typing.Complete.Acts.{acts_found};
 ghost use Rattle.dslx_core.specs.Lowering.CoreScopes.{BodyEnv, CoreScope};
 ghost use Rattle.dslx_core.specs.Lowering.Functions.{outer_scope};
 ghost use Rattle.dslx_core.specs.Lowering.Steps.{lower_next, statements_steps};
@@ -15,9 +15,9 @@ ghost use Rattle.dslx_meaning.specs.Rules.ProcRules.{proc_type_env};
 ghost use Rattle.dslx_tree.specs.declared.block.Block.{Block, out-Block};
 ghost use Rattle.dslx_tree.specs.declared.process.End.{End};
 ghost use Rattle.dslx_tree.specs.declared.process.Proc.{Proc};
-ghost use Rattle.dslx_typing.specs.Typed.Complete.{IsWellTypedPart};
-ghost use Rattle.dslx_typing.specs.Typed.Numbers.{AllOwn};
-ghost use Rattle.dslx_typing.specs.Typed.WellTyped.{IsWellTypedEnv, types_at};
+ghost use Rattle.dslx_core.specs.Typing.Typed.Complete.{IsWellTypedPart};
+ghost use Rattle.dslx_core.specs.Typing.Typed.Numbers.{AllOwn};
+ghost use Rattle.dslx_core.specs.Typing.Typed.WellTyped.{IsWellTypedEnv, types_at};
 
 /// The block of `next`, in which effects may stand, with which nothing is wrong, where each member in sight is an end of the
 /// proc whose words a channel holds: it becomes steps, and the next state has the type that the block has.

@@ -46,7 +46,11 @@ fn enum_binary(op: Binary, left: &DslxValue, right: &DslxValue) -> Option<DslxVa
 }
 
 /// What an operator gives for bits.
-fn bits_binary(op: Binary, x: &SignedWord, y: &SignedWord) -> Result<Option<DslxValue>, WidthOutOfRange>
+fn bits_binary(
+    op: Binary,
+    x: &SignedWord,
+    y: &SignedWord,
+) -> Result<Option<DslxValue>, WidthOutOfRange>
     ensures { MatchResult result (λ v. v ≡ of_bits op x.now y.now) (λ e. is_held (of_bits op x.now y.now) ≡ false) }
 {
     match op {

@@ -7,11 +7,14 @@ ghost use Rattle.dslx_values.specs.Operators.Inner.Ranges.{digits_of, is_small_b
 
 use crate::bits_in;
 use crate::operators::width::{WidthOutOfRange, word_width};
-use dslx_meaning::{UntypedLiteral, BitKind, DslxType, DslxValue};
+use dslx_meaning::{BitKind, DslxType, DslxValue, UntypedLiteral};
 use xb_bits::{Bits, neg};
 
 /// A number with its type, if that is bits and the number lies in their range.
-pub fn number_value(ty: &DslxType, number: UntypedLiteral) -> Result<Option<DslxValue>, WidthOutOfRange>
+pub fn number_value(
+    ty: &DslxType,
+    number: UntypedLiteral,
+) -> Result<Option<DslxValue>, WidthOutOfRange>
     ensures { MatchResult result (λ v. v ≡ the_number ty.now number) (λ e. is_held (the_number ty.now number) ≡ false) }
 {
     match bits_in(ty) {

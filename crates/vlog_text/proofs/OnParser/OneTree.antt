@@ -13,9 +13,9 @@ use Rattle.vlog_token.specs.Rules.Verilog.{verilog}
 use Rattle.dslx_token.specs.Lexeme.{Lexeme}
 use Rattle.xb_span.specs.declared.read_error.ReadError.{ReadError}
 use Rattle.xb_span.specs.declared.read_error.ReadError.TheVariants.{Syntax, Broken, Over, OutOfMemory}
-use Rattle.vlog_builder.specs.declared.parsed.Parsed.{Parsed}
-use Rattle.vlog_builder.specs.Building.{built, parsed_of}
-use Rattle.vlog_builder.specs.Empty.{empty}
+use Rattle.vlog_text.specs.declared.builder.parsed.Parsed.{Parsed}
+use Rattle.vlog_text.specs.Builder.Building.{built, parsed_of}
+use Rattle.vlog_text.specs.Builder.Empty.{empty}
 use Rattle.vlog_text.specs.Parser.Reads.{IsUnexpectedToken, IsParsing, IsRefusal, Reads, kinds_of, misplaced, whole}
 
 -- what the laws of grammars say

@@ -13,7 +13,7 @@ use Rattle.xb_span.specs.declared.read_error.ReadError.TheVariants.{Syntax, Brok
 use Rattle.dslx_token.specs.Lexeme.{Lexeme}
 use Rattle.vlog_tree.specs.declared.module.VModule.{VModule}
 use Rattle.vlog_token.specs.Tokens.{BreaksAt, HasTokens, IsBroken, ends, goes, verilog_lexeme_at}
-use Rattle.vlog_builder.specs.declared.parsed.Parsed.{Parsed}
+use Rattle.vlog_text.specs.declared.builder.parsed.Parsed.{Parsed}
 use Rattle.vlog_text.specs.Parser.Reads.{IsParsing, kinds_of, misplaced, whole}
 use Rattle.vlog_text.specs.Parser.Reads as parses
 use Rattle.vlog_tree.specs.declared.verifier.part_spans.PartSpans.{PartSpans}

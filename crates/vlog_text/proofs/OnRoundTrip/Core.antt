@@ -30,15 +30,15 @@ use Rattle.vlog_tree.specs.declared.expression.Expr.TheVariants as expr
 use Rattle.vlog_token.specs.TokenPrefixes.{width_said}
 use Rattle.vlog_token.specs.Kinds.{verilog_kind}
 use Rattle.vlog_token.specs.Tokens.{verilog_lexeme_at}
-use Rattle.vlog_builder.specs.declared.rule.Rule.{Rule}
-use Rattle.vlog_builder.specs.declared.rule.Rule.TheVariants.{Keep, RangeOf, NoRange, PortOf, DirectionOf, DeclarationOf, StorageOf, AssignmentOf, SkipIdent, ResetsOf, ClocksOf, SetOf, NameAtom, LiteralAtom, NameExpr, LiteralExpr, SimpleExpr, SignedExpr, NameSimple, LiteralSimple, UnaryOf, ConcatOf, More, Start, BinaryTail, NoTail, ChoiceTail, SliceTail, OrderTail, ShiftTail, UnaryIs, BinaryIs, OrderedBinary, OrderIs}
-use Rattle.vlog_builder.specs.declared.state.State.{State}
-use Rattle.vlog_builder.specs.declared.tail.Tail.{Tail}
-use Rattle.vlog_builder.specs.declared.tail.Tail.TheVariants as tail
-use Rattle.vlog_builder.specs.Building.{is_name, is_number, parsed_of, reduced, shifted}
-use Rattle.vlog_builder.specs.Empty.{no_atom, no_expr, no_literal, no_simple}
-use Rattle.vlog_builder.specs.Parts.{Named, literal_of, most, name_text, signal_of}
-use Rattle.vlog_builder.specs.Rules.{declaration_by, expr_of, port_by, signed_of, simple_of}
+use Rattle.vlog_text.specs.declared.builder.rule.Rule.{Rule}
+use Rattle.vlog_text.specs.declared.builder.rule.Rule.TheVariants.{Keep, RangeOf, NoRange, PortOf, DirectionOf, DeclarationOf, StorageOf, AssignmentOf, SkipIdent, ResetsOf, ClocksOf, SetOf, NameAtom, LiteralAtom, NameExpr, LiteralExpr, SimpleExpr, SignedExpr, NameSimple, LiteralSimple, UnaryOf, ConcatOf, More, Start, BinaryTail, NoTail, ChoiceTail, SliceTail, OrderTail, ShiftTail, UnaryIs, BinaryIs, OrderedBinary, OrderIs}
+use Rattle.vlog_text.specs.declared.builder.state.State.{State}
+use Rattle.vlog_text.specs.declared.builder.tail.Tail.{Tail}
+use Rattle.vlog_text.specs.declared.builder.tail.Tail.TheVariants as tail
+use Rattle.vlog_text.specs.Builder.Building.{is_name, is_number, parsed_of, reduced, shifted}
+use Rattle.vlog_text.specs.Builder.Empty.{no_atom, no_expr, no_literal, no_simple}
+use Rattle.vlog_text.specs.Builder.Parts.{Named, literal_of, most, name_text, signal_of}
+use Rattle.vlog_text.specs.Builder.Rules.{declaration_by, expr_of, port_by, signed_of, simple_of}
 
 pub record Core : Type 0 where
   pub names : List (List ℕ)

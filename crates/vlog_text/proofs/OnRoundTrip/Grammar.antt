@@ -14,7 +14,7 @@ use Rattle.vlog_tree.specs.declared.expression.Binary.TheVariants as binary
 use Rattle.vlog_tree.specs.declared.expression.Order.TheVariants as order
 use Rattle.vlog_tree.specs.declared.expression.Unary.TheVariants as unary
 use Rattle.vlog_token.specs.Kinds.{mark_kind}
-use Rattle.vlog_builder.specs.declared.rule.Rule.TheVariants.{Keep, RangeOf, NoRange, PortOf, DirectionOf, DeclarationOf, StorageOf, AssignmentOf, SkipIdent, ResetsOf, ClocksOf, SetOf, NameAtom, LiteralAtom, NameExpr, LiteralExpr, SimpleExpr, SignedExpr, NameSimple, LiteralSimple, UnaryOf, ConcatOf, More, Start, BinaryTail, NoTail, ChoiceTail, SliceTail, OrderTail, ShiftTail, UnaryIs, BinaryIs, OrderedBinary, OrderIs}
+use Rattle.vlog_text.specs.declared.builder.rule.Rule.TheVariants.{Keep, RangeOf, NoRange, PortOf, DirectionOf, DeclarationOf, StorageOf, AssignmentOf, SkipIdent, ResetsOf, ClocksOf, SetOf, NameAtom, LiteralAtom, NameExpr, LiteralExpr, SimpleExpr, SignedExpr, NameSimple, LiteralSimple, UnaryOf, ConcatOf, More, Start, BinaryTail, NoTail, ChoiceTail, SliceTail, OrderTail, ShiftTail, UnaryIs, BinaryIs, OrderedBinary, OrderIs}
 use Rattle.vlog_text.proofs.OnRoundTrip.Core.{Core, reduced_core}
 use Rattle.vlog_text.proofs.OnRoundTrip.Says.{Says, says_is, says_rule, says_token}
 

@@ -33,9 +33,9 @@ use Rattle.vlog_tree.specs.Signals.{signals}
 use Rattle.vlog_tree.specs.Sound.{IsKnown, IsKnownAtom, IsKnownSimple}
 use Rattle.vlog_token.specs.TokenPrefixes.{width_said}
 use Rattle.vlog_token.specs.Kinds.{digits_kind, verilog_kind}
-use Rattle.vlog_builder.specs.Building.{is_name, is_number}
-use Rattle.vlog_builder.specs.Parts.{literal_of, most, name_text}
-use Rattle.vlog_builder.specs.declared.tail.Tail.TheVariants as tail
+use Rattle.vlog_text.specs.Builder.Building.{is_name, is_number}
+use Rattle.vlog_text.specs.Builder.Parts.{literal_of, most, name_text}
+use Rattle.vlog_text.specs.declared.builder.tail.Tail.TheVariants as tail
 use Rattle.vlog_text.specs.Printer.Parts.{atom_text, literal_text, signal_text, unary_text}
 use Rattle.vlog_text.proofs.OnRoundTrip.Core.{Core, kept_by, shifted_core}
 use Rattle.vlog_text.proofs.OnRoundTrip.Says.{Says, says_is, says_next, says_nothing, says_token}

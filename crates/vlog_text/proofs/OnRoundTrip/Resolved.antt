@@ -23,8 +23,8 @@ use Rattle.vlog_tree.specs.declared.expression.Expr.TheVariants as expr
 use Rattle.vlog_tree.specs.Signals.{Declared, declared_own, declared_port, signals}
 use Rattle.vlog_tree.specs.Sound.{IsKnown, IsKnownAtom, IsKnownSimple}
 use Rattle.vlog_tree.specs.Verifier.Parts.{is_among}
-use Rattle.vlog_builder.specs.Parts.{most, name_text, index_from, range_width, signal_of, undeclared}
-use Rattle.vlog_builder.specs.Rules.{declaration_by, port_by}
+use Rattle.vlog_text.specs.Builder.Parts.{most, name_text, index_from, range_width, signal_of, undeclared}
+use Rattle.vlog_text.specs.Builder.Rules.{declaration_by, port_by}
 use Rattle.vlog_text.specs.Printer.Parts.{signal_text}
 use Rattle.vlog_text.proofs.OnRoundTrip.WithSpans.{AreApart}
 use Rattle.vlog_text.proofs.OnRoundTrip.Spelling.{if_false, if_true, literal-said, name-said, number-said}

@@ -22,11 +22,11 @@ use Rattle.vlog_tree.specs.declared.verifier.part_spans.PartSpans.{PartSpans}
 use Rattle.vlog_tree.specs.Verifier.WithSpans.{no_spans}
 use Rattle.vlog_tree.specs.Verifier.Verified.{IsVerdict}
 use Rattle.vlog_token.specs.Tokens.{HasTokens, ends, verilog_lexeme_at}
-use Rattle.vlog_builder.specs.Building.{built, parsed_of}
-use Rattle.vlog_builder.specs.Empty.{empty}
+use Rattle.vlog_text.specs.Builder.Building.{built, parsed_of}
+use Rattle.vlog_text.specs.Builder.Empty.{empty}
 use Rattle.vlog_text.specs.Parser.Reads.{Reads, whole}
-use Rattle.vlog_builder.specs.declared.parsed.Parsed.{Parsed}
-use Rattle.vlog_builder.specs.declared.state.State.{State}
+use Rattle.vlog_text.specs.declared.builder.parsed.Parsed.{Parsed}
+use Rattle.vlog_text.specs.declared.builder.state.State.{State}
 use Rattle.vlog_text.specs.Printer.Parts.{expr_text, signal_text}
 use Rattle.vlog_text.specs.Printer.ModuleText.{assignment_start, assignment_text, clocked_text, declaration_text, direction_text, module_start, module_text, port_text, storage_text}
 use Rattle.vlog_text.specs.Reader.Given.{GivesModule, sound}

@@ -14,9 +14,9 @@ use Rattle.dslx_token.specs.Lexeme.{Lexeme}
 use Rattle.vlog_token.specs.Rules.Verilog.{verilog}
 use Rattle.vlog_token.specs.Kinds.{verilog_kind}
 use Rattle.vlog_token.specs.Tokens.{verilog_lexeme_at}
-use Rattle.vlog_builder.specs.Building.{built, reduced, rule_of, shifted}
-use Rattle.vlog_builder.specs.declared.rule.Rule.{Rule}
-use Rattle.vlog_builder.specs.declared.state.State.{State}
+use Rattle.vlog_text.specs.Builder.Building.{built, reduced, rule_of, shifted}
+use Rattle.vlog_text.specs.declared.builder.rule.Rule.{Rule}
+use Rattle.vlog_text.specs.declared.builder.state.State.{State}
 use Rattle.vlog_text.proofs.OnRoundTrip.Core.{Core, core, core-reduced, core-shifted, reduced_core, shifted_core}
 
 -- ---- trees side by side

@@ -9,8 +9,8 @@ use Rattle.vlog_token.specs.declared.rules.generated.nonterminal.TheConstants as
 use Rattle.vlog_tree.specs.declared.module.VModule.{VModule}
 use Rattle.vlog_tree.specs.declared.module.Port.{Port}
 use Rattle.vlog_tree.specs.declared.module.Set.{Set}
-use Rattle.vlog_builder.specs.Empty.{empty}
-use Rattle.vlog_builder.specs.Parts.{name_text}
+use Rattle.vlog_text.specs.Builder.Empty.{empty}
+use Rattle.vlog_text.specs.Builder.Parts.{name_text}
 use Rattle.vlog_text.proofs.OnRoundTrip.Core.{Core, core, design_of}
 use Rattle.vlog_text.proofs.OnRoundTrip.Grammar as g
 use Rattle.vlog_text.proofs.OnRoundTrip.Phrases.{says_always, says_assignments, says_declarations, says_name, says_port, says_ports}

@@ -25,8 +25,8 @@ use Rattle.vlog_tree.specs.declared.expression.Expr.TheVariants as expr
 use Rattle.vlog_tree.specs.Signals.{signals}
 use Rattle.vlog_tree.specs.Sound.{IsKnown, IsKnownAtom}
 use Rattle.vlog_token.specs.TokenPrefixes.{width_said}
-use Rattle.vlog_builder.specs.Parts.{literal_of, most, name_text, signal_of}
-use Rattle.vlog_builder.specs.Rules.{declaration_by, port_by}
+use Rattle.vlog_text.specs.Builder.Parts.{literal_of, most, name_text, signal_of}
+use Rattle.vlog_text.specs.Builder.Rules.{declaration_by, port_by}
 use Rattle.vlog_text.specs.RoundTrip.Names.{IsTextName}
 use Rattle.vlog_text.specs.Printer.Parts.{atom_text, literal_text, signal_text, unary_text}
 

@@ -8,9 +8,9 @@ use Rattle.vlog_token.specs.Rules.Verilog.{verilog}
 use Rattle.dslx_token.specs.Lexeme.{Lexeme}
 use Rattle.xb_span.specs.declared.read_error.ReadError.{ReadError}
 use Rattle.xb_span.specs.declared.read_error.ReadError.TheVariants.{Syntax, Broken, Over, OutOfMemory}
-use Rattle.vlog_builder.specs.Building.{built, parsed_of}
-use Rattle.vlog_builder.specs.Empty.{empty}
-use Rattle.vlog_builder.specs.declared.parsed.Parsed.{Parsed}
+use Rattle.vlog_text.specs.Builder.Building.{built, parsed_of}
+use Rattle.vlog_text.specs.Builder.Empty.{empty}
+use Rattle.vlog_text.specs.declared.builder.parsed.Parsed.{Parsed}
 
 abbrev pub kinds_of : List Lexeme → List ℕ
 kinds_of ls = map (λ l. l.kind) ls

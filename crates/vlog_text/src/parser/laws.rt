@@ -2,7 +2,7 @@
 
 ghost use Rattle.std.specs.Prelude.{◌≡◌, List, Result};
 ghost use Rattle.dslx_token.specs.Lexeme.{Lexeme};
-ghost use Rattle.vlog_builder.specs.declared.parsed.Parsed.{Parsed};
+ghost use Rattle.vlog_text.specs.declared.builder.parsed.Parsed.{Parsed};
 ghost use Rattle.vlog_text.specs.Parser.Reads.{IsParsing};
 ghost use Rattle.xb_span.specs.declared.read_error.ReadError.{ReadError};
 

@@ -5,13 +5,13 @@ ghost use Rattle.grammar.specs.Answer.{EndsWith, IfFault};
 ghost use Rattle.grammar.specs.Derivation.{IsDerivation, IsSentence};
 ghost use Rattle.base.specs.Lists.Fault.{IsFirstFault};
 ghost use Rattle.vlog_token.specs.Rules.Verilog.{verilog};
-ghost use Rattle.vlog_builder.specs.declared.parsed.Parsed.{Parsed as AnyParsed};
+ghost use Rattle.vlog_text.specs.declared.builder.parsed.Parsed.{Parsed as AnyParsed};
 ghost use Rattle.vlog_text.specs.Parser.Reads.{IsRefusal, Reads, kinds_of};
 ghost use Rattle.xb_span.specs.declared.read_error.ReadError.TheVariants.{OutOfMemory};
 
+use crate::builder::{Parsed, build};
 use grammar::ParseError;
 use std::alloc::{AllocError, Global};
-use vlog_builder::{Parsed, build};
 use vlog_token::Token;
 use vlog_token::rules::kind::END;
 use xb_span::ReadError;

@@ -10,8 +10,8 @@ ghost use Rattle.vlog_tree.specs.Verifier.Inner.Seen.{ShowsMarks};
 
 use crate::verifier::checks::{note_rule, note_width};
 use crate::verifier::marks::Marks;
-use crate::verifier::parts::{note_assignment, note_port, note_set, note_signal};
 use crate::verifier::part_spans::{PartSpans, end_at, signal_span, span_at};
+use crate::verifier::parts::{note_assignment, note_port, note_set, note_signal};
 use crate::verifier::ports::{Due, due_behind, may_end};
 use crate::{Set, VModule};
 use base::name_table::Table;

@@ -11,7 +11,10 @@ pub const MOST: u64 = 128;
 /// The place of the first token whose nesting passes [`MOST`], if there is one.
 ///
 /// The work is linear, and the memory is bounded by `MOST`.
-pub fn first_over(alloc: Global, bracket_classes: &[BracketClass]) -> Result<Option<usize>, AllocError>
+pub fn first_over(
+    alloc: Global,
+    bracket_classes: &[BracketClass],
+) -> Result<Option<usize>, AllocError>
     ensures { IfOk result (λ index. index ≡ first_past bracket_classes.now) }
 {
     let mut around = Around::new(alloc);

@@ -27,7 +27,11 @@ pub fn opt_ir<'a, F: Files>(
 }
 
 /// What `opt` gives once the file is loaded.
-fn opt_loaded<'a>(alloc: Global, arguments: &Opt<&'a str>, bytes: &[u8]) -> Result<Vec<u8>, Refusal<'a>>
+fn opt_loaded<'a>(
+    alloc: Global,
+    arguments: &Opt<&'a str>,
+    bytes: &[u8],
+) -> Result<Vec<u8>, Refusal<'a>>
     requires { length bytes.now < 2 ^ 32 }
     ensures gives { IfOk result (λ text. opt_loaded (named_opt arguments.now) bytes.now (Ok text.items)) }
     ensures refused { IfErr result (StopsBy (opt_loaded (named_opt arguments.now) bytes.now)) }

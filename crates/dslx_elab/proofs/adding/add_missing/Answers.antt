@@ -2,7 +2,7 @@ use Rattle.std.proofs.Common.{List, subst}
 use Rattle.dslx_meaning.specs.Items.{meanings_of}
 use Rattle.dslx_core.specs.Networks.Configs.{ProcInstance}
 use Rattle.dslx_core.specs.Networks.Procs.{next_proc}
-use Rattle.dslx_machines.specs.Extension.Results.{TableResult, StableFrom, NoTableGives}
+use Rattle.dslx_core.specs.Machines.Extension.Results.{TableResult, StableFrom, NoTableGives}
 use Rattle.dslx_elab.proofs.adding.add_missing.Goals as goal
 
 pub returns-in-None : goal.returns-in-None

@@ -4,7 +4,7 @@ use Rattle.dslx_meaning.specs.Items.{item_named, meanings_of}
 use Rattle.dslx_meaning.specs.Network.{as_proc}
 use Rattle.dslx_meaning.specs.declared.value.DslxValue.{DslxValue}
 use Rattle.dslx_core.specs.Networks.Procs.{lower_proc}
-use Rattle.dslx_machines.specs.Extension.Results.{TableResult}
+use Rattle.dslx_core.specs.Machines.Extension.Results.{TableResult}
 use Rattle.dslx_elab.proofs.Added.{found_comes, found_nothing, not_found}
 use Rattle.dslx_elab.proofs.adding.next_instance.Goals as goal
 

@@ -4,7 +4,7 @@ use Rattle.dslx_tree.specs.declared.expr.For.{out-For}
 use Rattle.dslx_meaning.specs.Lists.{and_then}
 use Rattle.dslx_meaning.specs.Values.{bits_of}
 use Rattle.dslx_core.specs.Lowering.CoreScopes.{constant_at}
-use Rattle.dslx_machines.specs.Machine.Bodies.{scope_in}
+use Rattle.dslx_core.specs.Machines.Machine.Bodies.{scope_in}
 use Rattle.dslx_instance.specs.Tasks.Shown.{body_shown, instance_env_of}
 use Rattle.dslx_instance_arms.proofs.Both.{both_missing, both_there}
 use Rattle.dslx_instance_arms.proofs.turns.begin_between.Goals as goal

@@ -3,8 +3,8 @@ use Rattle.std.proofs.lemmas.Result.{IfOk-weaker}
 use Rattle.dslx_core.specs.declared.expr.CoreExpr as core
 use Rattle.dslx_core.specs.Lowering.Lowering.{LoweredExpr, lowered}
 use Rattle.dslx_meaning.specs.declared.ty.DslxType.{DslxType}
-use Rattle.dslx_machines.specs.Machine.Parts.{fields_on}
-use Rattle.dslx_machines.specs.Machine.Tasks.{OpenBody, StructWork}
+use Rattle.dslx_core.specs.Machines.Machine.Parts.{fields_on}
+use Rattle.dslx_core.specs.Machines.Machine.Tasks.{OpenBody, StructWork}
 use Rattle.dslx_instance.specs.Tasks.Shown.{body_shown, instance_env_of}
 use Rattle.dslx_instance_parts.proofs.fields.bind_others.Goals as goal
 

@@ -1,5 +1,5 @@
 use Rattle.std.proofs.Common.{◌≡◌, drop}
-use Rattle.dslx_const_machine.specs.Layers.{field_among}
+use Rattle.dslx_names.specs.ConstMachine.Layers.{field_among}
 use Rattle.dslx_names.proofs.items.find_field.Given as goal
 
 abbrev pub invariant-fields : goal.invariant-fields

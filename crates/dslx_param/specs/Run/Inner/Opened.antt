@@ -1,7 +1,7 @@
 -- Machines from which an instance or a task was taken, with it.
 use Rattle.std.specs.Prelude.{◌∷◌, length, nat_lt, Option, Some}
 use Rattle.dslx_meaning.specs.Lists.{and_then, where_true}
-use Rattle.dslx_machines.specs.Machine.Tasks.{InstanceMachine, LowerTask, OpenBody, OpenInstance}
+use Rattle.dslx_core.specs.Machines.Machine.Tasks.{InstanceMachine, LowerTask, OpenBody, OpenInstance}
 
 abbrev pub with_opened : OpenInstance → InstanceMachine → InstanceMachine
 with_opened o m = record { context = m.context; limit = m.limit; root = m.root; opened = o ∷ m.opened }

@@ -1,4 +1,4 @@
-use Rattle.dslx_machines.specs.Machine.Reached.{IsTable}
+use Rattle.dslx_core.specs.Machines.Machine.Reached.{IsTable}
 use Rattle.dslx_meaning.specs.Items.{meanings_of}
 use Rattle.dslx_proc_samples.proofs.made.all_of.Given as goal
 

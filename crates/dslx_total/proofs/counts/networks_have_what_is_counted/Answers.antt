@@ -7,7 +7,7 @@ use Rattle.dslx_meaning.specs.Items.{instance_env, meanings_of}
 use Rattle.dslx_meaning.specs.Network.{family_of, head_at, net_if, outer_chan, outer_ends, elaborate_within, top_parametric_args}
 use Rattle.dslx_meaning.specs.Rules.ModuleRules.{instances_of, globals_of}
 use Rattle.dslx_meaning.specs.Rules.NetworkLimits.{count_in, counted_within}
-use Rattle.dslx_typing.proofs.Lemmas.Accepted.{one_of_these}
+use Rattle.dslx_core.proofs.Lemmas.Typing.Accepted.{one_of_these}
 use Rattle.dslx_total.proofs.OnConfigs.There.{accepted}
 use Rattle.dslx_total.proofs.OnFamilies.Counts.{all_counted, size_of_family}
 use Rattle.dslx_total.proofs.OnFamilies.Reached.{all}

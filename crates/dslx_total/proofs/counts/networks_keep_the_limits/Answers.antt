@@ -10,9 +10,9 @@ use Rattle.dslx_meaning.specs.Lists.{or_else}
 use Rattle.dslx_meaning.specs.Network.{top_proc}
 use Rattle.dslx_meaning.specs.Rules.ModuleRules.{faults_of, first_fault}
 use Rattle.dslx_meaning.specs.Rules.NetworkLimits.{Count, network_count, network_faults, refusal_of, whole_count}
-use Rattle.dslx_typing.proofs.Lemmas.Laws.{none_without_faults}
-use Rattle.dslx_typing.proofs.Lemmas.Sound.{none_in, some_fault}
-use Rattle.dslx_typing.proofs.Lemmas.Typed.{none_some}
+use Rattle.dslx_core.proofs.Lemmas.Typing.Laws.{none_without_faults}
+use Rattle.dslx_core.proofs.Lemmas.Typing.Sound.{none_in, some_fault}
+use Rattle.dslx_core.proofs.Lemmas.Typing.Typed.{none_some}
 use Rattle.dslx_total.proofs.OnDesigns.Tops.{top_there}
 use Rattle.dslx_total.proofs.counts.networks_keep_the_limits.Goals as goal
 

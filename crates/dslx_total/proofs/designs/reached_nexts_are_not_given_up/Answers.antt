@@ -1,5 +1,5 @@
 use Rattle.std.proofs.Common.{◌∙◌, arith, sym}
-use Rattle.dslx_typing.proofs.Lemmas.Typed.{none_some}
+use Rattle.dslx_core.proofs.Lemmas.Typing.Typed.{none_some}
 use Rattle.dslx_total.proofs.designs.reached_nexts_are_not_given_up.Goals as goal
 
 pub returns : goal.returns

@@ -2,7 +2,7 @@ use Rattle.std.proofs.Common.{length, subst}
 use Rattle.dslx_meaning.specs.Environment.{Meanings}
 use Rattle.dslx_meaning.specs.Network.{outer_ends, elaborate_within, top_parametric_args}
 use Rattle.dslx_meaning.specs.Rules.ModuleRules.{globals_of}
-use Rattle.dslx_typing.proofs.Lemmas.Accepted.{IsAccepted, one_of_these}
+use Rattle.dslx_core.proofs.Lemmas.Typing.Accepted.{IsAccepted, one_of_these}
 use Rattle.dslx_total.proofs.Lemmas.Tables.{names_have_widths}
 use Rattle.dslx_total.specs.Families.EachElaborated.{EachElaborated, NextLowers}
 use Rattle.dslx_total.proofs.OnFamilies.Families.{all_elaborated}

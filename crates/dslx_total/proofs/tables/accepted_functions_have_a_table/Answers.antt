@@ -1,8 +1,8 @@
 use Rattle.std.proofs.Common.{◌≤◌, suc, length, [], arith, sym, ◌∙◌}
 use Rattle.dslx_meaning.specs.Rules.Mentions.{AsFunction}
 use Rattle.dslx_meaning.specs.Rules.ModuleRules.{globals_of}
-use Rattle.dslx_typing.proofs.Lemmas.TypingRelations.{whole_is}
-use Rattle.dslx_typing.proofs.Lemmas.Accepted.{IsAccepted}
+use Rattle.dslx_core.proofs.Lemmas.Typing.TypingRelations.{whole_is}
+use Rattle.dslx_core.proofs.Lemmas.Typing.Accepted.{IsAccepted}
 use Rattle.dslx_core.specs.Lowering.Functions.{instances_from}
 use Rattle.dslx_total.specs.Expressions.InstanceLists.{CanLower}
 use Rattle.dslx_total.proofs.OnTables.Knowing.{types_typing}

@@ -7,7 +7,7 @@ use Rattle.dslx_meaning.specs.Network.{Elaborated}
 use Rattle.dslx_meaning.specs.declared.ty.DslxType.{DslxType}
 use Rattle.dslx_meaning.specs.Rules.ModuleRules.{globals_of}
 use Rattle.dslx_core.specs.Behaviors.WellTypedNexts.{EachNextIsWellTyped}
-use Rattle.dslx_typing.specs.Activities.Members.{IsWellTypedNext}
+use Rattle.dslx_core.specs.Typing.Activities.Members.{IsWellTypedNext}
 use Rattle.dslx_total.specs.Texts.WellTypedTexts.{EachProcIsWellTyped, IsWellTypedProc}
 use Rattle.dslx_total.proofs.texts.well_typed_texts_simulate.Goals as goal
 

@@ -1,5 +1,5 @@
 use Rattle.std.proofs.Common.{◌≡◌, length, drop}
-use Rattle.dslx_typing.specs.Typed.Kinds.{same_names}
+use Rattle.dslx_core.specs.Typing.Typed.Kinds.{same_names}
 use Rattle.dslx_core_exprs.proofs.alike.equal.same_names.Given as goal
 
 abbrev pub invariant-names : goal.invariant-names

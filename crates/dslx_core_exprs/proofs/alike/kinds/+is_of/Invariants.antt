@@ -1,6 +1,6 @@
 use Rattle.std.proofs.Common.{◌≡◌, length, drop, map}
 use Rattle.std.specs.List.{list_all}
-use Rattle.dslx_typing.specs.Typed.Kinds.{each_of, is_of}
+use Rattle.dslx_core.specs.Typing.Typed.Kinds.{each_of, is_of}
 use Rattle.dslx_core_exprs.proofs.alike.kinds.+is_of.Given as goal
 
 abbrev pub invariant-all_of-values : goal.invariant-all_of-values

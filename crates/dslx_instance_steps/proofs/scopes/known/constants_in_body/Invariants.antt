@@ -1,8 +1,8 @@
 use Rattle.std.proofs.Common.{◌≡◌, List, drop}
 use Rattle.dslx_meaning.specs.Lists.{all_some}
 use Rattle.dslx_core.specs.Lowering.Functions.{CoreInstance}
-use Rattle.dslx_machines.specs.Machine.Bodies.{scope_in}
-use Rattle.dslx_machines.specs.Machine.Parts.{parametric_args_at}
+use Rattle.dslx_core.specs.Machines.Machine.Bodies.{scope_in}
+use Rattle.dslx_core.specs.Machines.Machine.Parts.{parametric_args_at}
 use Rattle.dslx_instance.specs.Tasks.Shown.{body_shown, instance_env_of}
 use Rattle.dslx_instance_steps.proofs.OnScopes.Constants.{behind}
 use Rattle.dslx_instance_steps.proofs.scopes.known.constants_in_body.Given as goal

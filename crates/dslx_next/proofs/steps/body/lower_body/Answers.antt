@@ -1,7 +1,7 @@
 use Rattle.std.proofs.Common.{[], List, Some, subst, sym}
 use Rattle.dslx_tree.specs.declared.block.Block.{out-Block}
 use Rattle.dslx_core.specs.declared.step.Step.{Step}
-use Rattle.dslx_machines.specs.Extension.Results.{TableResult}
+use Rattle.dslx_core.specs.Machines.Extension.Results.{TableResult}
 use Rattle.dslx_next.specs.Opening.Works.{BodyMakes}
 use Rattle.dslx_next.specs.Steps.Passing.{BodyPasses, body_at, last_at, statements_at}
 use Rattle.dslx_next.proofs.OnSteps.Ends.{body_ended, body_endless, body_of_one_type, body_stopped, passes_all}

@@ -2,7 +2,7 @@ use Rattle.std.proofs.Common.{◌∙◌, List, Some, refl, subst, sym}
 use Rattle.dslx_core.specs.declared.expr.CoreExpr.{CoreExpr}
 use Rattle.dslx_core.specs.Lowering.Functions.{CoreInstance}
 use Rattle.dslx_core.specs.Lowering.Steps.{steps_from}
-use Rattle.dslx_machines.specs.Extension.Results.{TableResult}
+use Rattle.dslx_core.specs.Machines.Extension.Results.{TableResult}
 use Rattle.dslx_next.specs.Opening.Works.{outer_at}
 use Rattle.dslx_next.specs.Steps.Passing.{HasOneState, body_at}
 use Rattle.dslx_next.proofs.OnSteps.Ends.{with_body, with_other, without_body}

@@ -7,7 +7,7 @@ use Rattle.dslx_core.specs.Lowering.Steps.{is_sized, lower_next, steps_from}
 use Rattle.dslx_core.specs.Lowering.Trees.{lower_type_of_text}
 use Rattle.dslx_meaning.specs.Items.{meanings_of}
 use Rattle.dslx_meaning.specs.Lists.{and_then, where_true}
-use Rattle.dslx_machines.specs.Extension.Results.{TableResult}
+use Rattle.dslx_core.specs.Machines.Extension.Results.{TableResult}
 use Rattle.dslx_next.specs.Opening.Works.{parametric_args_known}
 use Rattle.dslx_next.proofs.OnSteps.Ends.{with_state, without_names, without_state}
 use Rattle.dslx_next.proofs.steps.next.next_there.Goals as goal

@@ -1,7 +1,7 @@
 use Rattle.std.proofs.Common.{subst}
 use Rattle.std.proofs.lemmas.Result.{IfOk-weaker}
 use Rattle.dslx_meaning.specs.Activation.{act_of}
-use Rattle.dslx_machines.specs.Machine.Arms.{shaped_at}
+use Rattle.dslx_core.specs.Machines.Machine.Arms.{shaped_at}
 use Rattle.dslx_next.specs.Opening.Works.{BodyMakes, opened_at}
 use Rattle.dslx_next.specs.Steps.Passing.{StepBinds, BodyPasses, act_at}
 use Rattle.dslx_next.proofs.OnSteps.Passed.{bound_passed, never_passed}

@@ -3,7 +3,7 @@ use Rattle.std.proofs.lemmas.Result.{IfOk-weaker}
 use Rattle.dslx_tree.specs.declared.block.Let.{out-Let}
 use Rattle.dslx_tree.specs.declared.block.Stmt.{out-Stmt}
 use Rattle.dslx_core.specs.Lowering.Steps.{binds_nothing}
-use Rattle.dslx_machines.specs.Machine.Arms.{shaped_at}
+use Rattle.dslx_core.specs.Machines.Machine.Arms.{shaped_at}
 use Rattle.dslx_next.specs.Steps.Passing.{BodyPasses, act_at, statement_at}
 use Rattle.dslx_next.proofs.OnSteps.Passed.{bare_passed, let_passed}
 use Rattle.dslx_next.proofs.steps.statement.pass_statement.Goals as goal

@@ -2,7 +2,7 @@ use Rattle.std.proofs.Common.{◌≡◌, ◌∙◌, ap}
 use Rattle.std.proofs.lemmas.Result.{IfOk-weaker}
 use Rattle.dslx_meaning.specs.Lists.{and_then}
 use Rattle.dslx_meaning.specs.declared.ty.DslxType.{out-DslxType}
-use Rattle.dslx_machines.specs.Machine.Parts.{struct_begins}
+use Rattle.dslx_core.specs.Machines.Machine.Parts.{struct_begins}
 use Rattle.dslx_instance.specs.Tasks.Shown.{body_shown, instance_env_of}
 use Rattle.dslx_param.proofs.run.form.first_struct.Goals as goal
 

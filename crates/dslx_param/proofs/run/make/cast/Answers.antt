@@ -1,7 +1,7 @@
 use Rattle.std.proofs.Common.{◌≡◌, ◌∙◌, ap, Some}
 use Rattle.std.proofs.lemmas.Result.{IfOk-weaker}
 use Rattle.dslx_core.specs.Lowering.Lowering.{lower_cast}
-use Rattle.dslx_machines.specs.Machine.Steps.{of_last}
+use Rattle.dslx_core.specs.Machines.Machine.Steps.{of_last}
 use Rattle.dslx_instance.specs.Tasks.Shown.{body_shown}
 use Rattle.dslx_param.proofs.OnRun.Made.{made_is}
 use Rattle.dslx_param.proofs.run.make.cast.Goals as goal

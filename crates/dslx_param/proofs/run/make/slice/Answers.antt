@@ -1,9 +1,9 @@
 use Rattle.std.proofs.Common.{◌≡◌, ◌∙◌, ap, Some}
 use Rattle.std.proofs.lemmas.Result.{IfOk-weaker}
 use Rattle.dslx_core.specs.Lowering.Lowering.{lower_slice}
-use Rattle.dslx_machines.specs.Machine.Steps.{of_last}
+use Rattle.dslx_core.specs.Machines.Machine.Steps.{of_last}
 use Rattle.dslx_core.specs.Lowering.CoreScopes.{bound_at}
-use Rattle.dslx_machines.specs.Machine.Bodies.{scope_in}
+use Rattle.dslx_core.specs.Machines.Machine.Bodies.{scope_in}
 use Rattle.dslx_instance.specs.Tasks.Shown.{body_shown, instance_env_of}
 use Rattle.dslx_param.proofs.OnRun.Made.{made_is}
 use Rattle.dslx_param.proofs.run.make.slice.Goals as goal

@@ -1,9 +1,9 @@
 use Rattle.std.proofs.Common.{◌≡◌, ℕ, Some, None, refl}
 use Rattle.std.proofs.lemmas.Result.{IfOk-weaker}
 use Rattle.dslx_meaning.specs.Operators.{number_value}
-use Rattle.dslx_const_machine.specs.Layers.{written}
-use Rattle.dslx_machines.specs.Machine.Callees.{CalleesByName}
-use Rattle.dslx_machines.specs.Machine.Steps.{number_at}
+use Rattle.dslx_names.specs.ConstMachine.Layers.{written}
+use Rattle.dslx_core.specs.Machines.Machine.Callees.{CalleesByName}
+use Rattle.dslx_core.specs.Machines.Machine.Steps.{number_at}
 use Rattle.dslx_scope_names.specs.Values.Seen.{scope_with}
 use Rattle.dslx_scope_names.proofs.OnNames.Numbers.{number_is}
 use Rattle.dslx_scope_names.proofs.names.there.number_there.Goals as goal

@@ -3,7 +3,7 @@ use Rattle.std.proofs.lemmas.Result.{IfOk-weaker}
 use Rattle.dslx_meaning.specs.Items.{meanings_of}
 use Rattle.dslx_meaning.specs.Meaning.{written_type}
 use Rattle.dslx_core.specs.Lowering.Trees.{lower_type_of_text}
-use Rattle.dslx_machines.specs.Machine.Callees.{CalleesByName}
+use Rattle.dslx_core.specs.Machines.Machine.Callees.{CalleesByName}
 use Rattle.dslx_scope_names.specs.Values.Seen.{scope_with}
 use Rattle.dslx_scope_names.proofs.OnValues.Types.{means_the_same}
 use Rattle.dslx_scope_names.proofs.values.value.type_there.Goals as goal

@@ -3,7 +3,7 @@ use Rattle.dslx_tree.specs.declared.item.Field.{Field}
 use Rattle.dslx_meaning.specs.Lists.{all_some}
 use Rattle.dslx_meaning.specs.declared.ty.DslxType.{DslxType}
 use Rattle.dslx_core.specs.Lowering.Trees.{lower_type_of_text}
-use Rattle.dslx_machines.specs.Machine.Callees.{CalleesByName}
+use Rattle.dslx_core.specs.Machines.Machine.Callees.{CalleesByName}
 use Rattle.dslx_scope_names.specs.Values.Seen.{scope_with}
 use Rattle.dslx_scope_names.specs.declared.values.context.ScopeEnv.{ScopeEnv}
 use Rattle.dslx_scope_patterns.proofs.Lemmas.Numbers.InOrder.{behind}

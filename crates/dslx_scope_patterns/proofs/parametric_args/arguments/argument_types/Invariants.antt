@@ -2,7 +2,7 @@ use Rattle.std.proofs.Common.{◌≡◌, drop, map}
 use Rattle.dslx_tree.specs.declared.item.Field.{Field}
 use Rattle.dslx_meaning.specs.Lists.{all_some}
 use Rattle.dslx_core.specs.Lowering.Trees.{lower_type_of_text}
-use Rattle.dslx_machines.specs.Machine.Callees.{CalleesByName}
+use Rattle.dslx_core.specs.Machines.Machine.Callees.{CalleesByName}
 use Rattle.dslx_scope_names.specs.Values.Seen.{scope_with}
 use Rattle.dslx_scope_patterns.proofs.Lemmas.Numbers.InOrder.{behind}
 use Rattle.dslx_scope_patterns.proofs.parametric_args.arguments.argument_types.Given as goal

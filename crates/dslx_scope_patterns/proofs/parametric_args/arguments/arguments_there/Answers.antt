@@ -2,7 +2,7 @@ use Rattle.std.proofs.Common.{◌≡◌, ◌∙◌, [], length, sym}
 use Rattle.std.specs.Option.{option_map}
 use Rattle.std.proofs.lemmas.Result.{IfOk-weaker}
 use Rattle.dslx_meaning.specs.Items.{meanings_of}
-use Rattle.dslx_machines.specs.Machine.Callees.{CalleesByName}
+use Rattle.dslx_core.specs.Machines.Machine.Callees.{CalleesByName}
 use Rattle.dslx_scope_patterns.specs.Numbers.Placed.{arguments_of, arguments_shown, globals_with, locals_in_scope}
 use Rattle.dslx_scope_patterns.proofs.OnParametricArgs.Located.{are_not_placed, are_placed, arguments_with, types_there}
 use Rattle.dslx_scope_patterns.proofs.parametric_args.arguments.arguments_there.Goals as goal

@@ -3,7 +3,7 @@ use Rattle.dslx_meaning.specs.Lists.{and_then}
 use Rattle.dslx_core.specs.declared.expr.Shape.{Shape}
 use Rattle.dslx_core.specs.Lowering.Patterns.{alternatives_shaped}
 use Rattle.dslx_core.specs.Lowering.Steps.{lower_pattern_of_text}
-use Rattle.dslx_machines.specs.Machine.Callees.{CalleesByName}
+use Rattle.dslx_core.specs.Machines.Machine.Callees.{CalleesByName}
 use Rattle.dslx_scope_names.specs.Names.Seen.{scope_with}
 use Rattle.dslx_scope_patterns.proofs.patterns.several.alternatives_there.Given as goal
 

@@ -1,0 +1,2 @@
+//! Netlists of pipelined hardware: lists of wires over ports and registers, and what they carry.
+pub mod laws;

@@ -1,5 +1,0 @@
-mod Tables
-mod Walks
-mod Steps
-mod Registers
-mod Machines

@@ -1,4 +1,0 @@
-use Rattle.block_samples.proofs.machine.Machine.+asserted_from.Given as goal
-
-abbrev pub decreases-asserted_from : goal.decreases-asserted_from
-decreases-asserted_from l = l.left

@@ -1,4 +1,0 @@
-use Rattle.block_samples.proofs.machine.Machine.+moves_before.Given as goal
-
-abbrev pub decreases-moves_before : goal.decreases-moves_before
-decreases-moves_before l = l.behind

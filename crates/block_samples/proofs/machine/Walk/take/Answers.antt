@@ -1,9 +1,0 @@
-use Rattle.block_samples.proofs.Walks.{walk_taken}
-use Rattle.block_samples.proofs.machine.Walk.take.Goals as goal
-
-pub returns-clause-shows : goal.returns-clause-shows
-returns-clause-shows c = λ sites of at shows.
-    let went = c.set.ensures in
-    let took = c.set_word.ensures in
-    let ready = c.set-2.ensures in
-    rw (went, took, ready) (walk_taken sites c.args.self.now of c.args.place c.args.chan c.args.word at shows)

@@ -1,0 +1,263 @@
+-- Calls by what is known in two ways.
+use Rattle.std.proofs.Common.{◌≡◌, ◌++◌, ℕ, Bool, true, false, if◌then◌else◌, List, [], ◌∷◌, map, Option, Some, None, refl, ap, ◌∙◌}
+use Rattle.xb_span.specs.declared.fault.Fault.{Fault}
+use Rattle.xb_span.specs.declared.span.Span.{Span}
+use Rattle.dslx_tree.specs.declared.expr.Expr.{Expr, out-Expr}
+use Rattle.dslx_tree.specs.declared.ident.Ident.{Ident}
+use Rattle.dslx_tree.specs.declared.item.Field.{Field}
+use Rattle.dslx_tree.specs.declared.item.Function.{Function}
+use Rattle.dslx_tree.specs.declared.item.Parametric.{Parametric}
+use Rattle.dslx_meaning.specs.Callees.{AllOnes, CallKind, Calls, CountsLeading, CountsTrailing, Joins, Parity, Receives, ReceivesIf, Reverses, Sends, SendsIf, SomeOne, Updates}
+use Rattle.dslx_meaning.specs.Inference.{Inferred}
+use Rattle.dslx_meaning.specs.Items.{as_function, item_named}
+use Rattle.dslx_meaning.specs.Lists.{and_then, is_in}
+use Rattle.dslx_meaning.specs.Types.{bool_type, is_unit}
+use Rattle.dslx_meaning.specs.declared.ty.DslxType.{DslxType}
+use Rattle.dslx_meaning.specs.declared.ty.DslxType as ty
+use Rattle.dslx_meaning.specs.declared.value.DslxValue.{DslxValue}
+use Rattle.dslx_meaning.specs.Rules.AggregateRules.{wanted_faults, when_all}
+use Rattle.dslx_meaning.specs.Rules.CallRules as c
+use Rattle.dslx_meaning.specs.Rules.CallRules.{Before, ParametricArgument, NotGiven, ParametricArgsSeen, Resolved, Unknown, and_parametric, and_there, builtin_typing, call_typing, call_parametric_args, call_parts_faults, call_parts_reached, callee_size, channel_seen, declared_type, default_value, function_call, given_parametric_args, has_right_count, inferred_by, is_refused, typing_there, known_before, maybe_inferred, not_given, nothing_there, number_before, parametric_args_for, parametric_args_seen, of_type, operand_faults, reached_by, resolved_value, right_call, token_typing, type_there, without_default, without_parametric_args, wrong_call}
+use Rattle.dslx_meaning.specs.Rules.ConstantRules.{constant_of, is_empty}
+use Rattle.dslx_meaning.specs.Rules.TypeEnvs.{ExprPair, Judgement, GlobalEnv, TypeEnv, all_alone, breaks_if, faults_of_all, name_of_expr, one_and, plus_size, reached_of_all, settled, size_of_all, span_of, types_of}
+use Rattle.dslx_meaning.specs.Rules.Typings.{ArgPair}
+use Rattle.dslx_meaning.specs.Rules.Mentions.{is_cyclic}
+use Rattle.dslx_core.specs.Typing.Depends.Alike.{EachArgumentAlike, EachParametricAlike, FunctionAlike, GlobalsAgree, ParametricAlike, in_globals}
+use Rattle.dslx_core.proofs.OnTyping.OnDepends.Same.{EachSame, PartSame, all_alone_same, alone_same, frozen}
+
+-- ---- parametrics
+
+declared_same : (a b : GlobalEnv) (owner : List ℕ) (p : Parametric) → ParametricAlike a b owner p → (before : Before) → declared_type a owner before p.ty ≡ declared_type b owner before p.ty
+declared_same a b owner p h before = ap (λ o. and_then o (λ t. if is_unit t then None else Some t)) (h.ty before.values before.unknown)
+
+default_same : (a b : GlobalEnv) (owner : List ℕ) (p : Parametric) → ParametricAlike a b owner p → (before : Before) (t : Option DslxType) (o : Option Expr) → p.default ≡ o → default_value a owner before t o ≡ default_value b owner before t o
+default_same a b owner p h before t None q = refl
+default_same a b owner p h before t (Some e) q = λ i.
+    if is_empty before.unknown
+    then record {
+      value = resolved_value (of_type t (h.default before.values e q i).value);
+      typing = record {
+        faults = (h.default before.values e q i).judgement.faults ++ wanted_faults (out-Expr e).span t (h.default before.values e q i).judgement.ty;
+        reached = (h.default before.values e q i).judgement.reached;
+      };
+    }
+    else without_default Unknown
+
+not_given_same : (a b : GlobalEnv) (owner : List ℕ) (p : Parametric) → ParametricAlike a b owner p → (before : Before) (t : Option DslxType) (maybe : Bool) (ns : List ℕ) → not_given a owner before p t maybe ns ≡ not_given b owner before p t maybe ns
+not_given_same a b owner p h before t true [] = refl
+not_given_same a b owner p h before t false [] = default_same a b owner p h before t p.default refl
+not_given_same a b owner p h before t maybe (n ∷ ns) = refl
+
+type_same : (a b : GlobalEnv) (owner : List ℕ) (p : Parametric) → ParametricAlike a b owner p → (before : Before) → type_there a owner before p ≡ type_there b owner before p
+type_same a b owner p h before = λ i. if is_empty before.unknown then record { faults = (h.seen before.values i).faults; reached = (h.seen before.values i).reached } else nothing_there
+
+-- a parameter with its argument, by its type and those behind it
+abbrev with_given : GlobalEnv → List ℕ → List Inferred → List (List ℕ) → Before → Parametric → List Parametric → ParametricArgument → List ParametricArgument → Option DslxType → ParametricArgsSeen
+with_given known owner inferred maybe before p ps g gs t =
+    let r = resolved_value (of_type t g.seen.value) in
+    number_before r (wanted_faults g.span t g.seen.judgement.ty) (type_there known owner before p) (parametric_args_seen known owner inferred maybe (and_parametric before p r) ps gs)
+
+abbrev without_given : GlobalEnv → List ℕ → List Inferred → List (List ℕ) → Before → Parametric → List Parametric → NotGiven → ParametricArgsSeen
+without_given known owner inferred maybe before p ps r =
+    number_before r.value [] (and_there (type_there known owner before p) r.typing) (parametric_args_seen known owner inferred maybe (and_parametric before p r.value) ps [])
+
+parametric_args_same : (a b : GlobalEnv) (owner : List ℕ) (inferred : List Inferred) (maybe : List (List ℕ)) (before : Before) (ps : List Parametric) (gs : List ParametricArgument)
+    → EachParametricAlike a b owner ps → parametric_args_seen a owner inferred maybe before ps gs ≡ parametric_args_seen b owner inferred maybe before ps gs
+parametric_args_same a b owner inferred maybe before [] [] h = refl
+parametric_args_same a b owner inferred maybe before [] (g ∷ gs) h = refl
+parametric_args_same a b owner inferred maybe before (p ∷ ps) (g ∷ gs) h =
+    by_type (declared_type a owner before p.ty) (λ r. parametric_args_same a b owner inferred maybe (and_parametric before p r) ps gs h.1) ∙ ap (with_given b owner inferred maybe before p ps g gs) (declared_same a b owner p h.0 before)
+  where
+    by_type : (t : Option DslxType) → ((r : Resolved) → parametric_args_seen a owner inferred maybe (and_parametric before p r) ps gs ≡ parametric_args_seen b owner inferred maybe (and_parametric before p r) ps gs)
+        → with_given a owner inferred maybe before p ps g gs t ≡ with_given b owner inferred maybe before p ps g gs t
+    by_type t rest =
+        let r = resolved_value (of_type t g.seen.value) in
+        λ i. number_before r (wanted_faults g.span t g.seen.judgement.ty) (type_same a b owner p h.0 before i) (rest r i)
+parametric_args_same a b owner inferred maybe before (p ∷ ps) [] h =
+    by_value (not_given a owner before p (declared_type a owner before p.ty) (is_in p.name.name maybe) (parametric_args_for p.name.name inferred))
+    (λ r. parametric_args_same a b owner inferred maybe (and_parametric before p r) ps [] h.1)
+    ∙ ap (without_given b owner inferred maybe before p ps)
+    (not_given_same a b owner p h.0 before (declared_type a owner before p.ty) (is_in p.name.name maybe) (parametric_args_for p.name.name inferred)
+    ∙ ap (λ t. not_given b owner before p t (is_in p.name.name maybe) (parametric_args_for p.name.name inferred)) (declared_same a b owner p h.0 before))
+  where
+    by_value : (r : NotGiven) → ((r : Resolved) → parametric_args_seen a owner inferred maybe (and_parametric before p r) ps [] ≡ parametric_args_seen b owner inferred maybe (and_parametric before p r) ps [])
+        → without_given a owner inferred maybe before p ps r ≡ without_given b owner inferred maybe before p ps r
+    by_value r rest = λ i. number_before r.value [] (and_there (type_same a b owner p h.0 before i) r.typing) (rest r.value i)
+
+-- ---- calls of functions
+
+operands_same : (a b : GlobalEnv) (owner : List ℕ) (bound : Before) (fs : List Field) (es : List ExprPair) (js : List Judgement) → EachArgumentAlike a b owner fs → operand_faults a owner bound fs es js ≡ operand_faults b owner bound fs es js
+operands_same a b owner bound (f ∷ fs) (e ∷ es) (j ∷ js) h = λ i.
+    wanted_faults (span_of e) (and_then (h.0 bound.values bound.unknown i) (λ t. if is_unit t then None else Some t)) j.ty ++ operands_same a b owner bound fs es js h.1 i
+operands_same a b owner bound [] es js h = refl
+operands_same a b owner bound (f ∷ fs) [] js h = refl
+operands_same a b owner bound (f ∷ fs) (e ∷ es) [] h = refl
+
+size_same : (a b : GlobalEnv) (f : Function) → FunctionAlike a b f → (o : Option (List DslxValue)) → callee_size a f.name.name o ≡ callee_size b f.name.name o
+size_same a b f h None = refl
+size_same a b f h (Some vs) = h.size vs
+
+abbrev right_by : Span → Function → List ParametricArgument → List Judgement → List Fault → ParametricArgsSeen → Option DslxType → List Fault → Option ℕ → Judgement
+right_by span f given js cyclic parametric_args result operands size =
+    settled span (and_then parametric_args.values (λ vs. when_all (types_of js) result))
+    (call_parts_faults given js ++ cyclic ++ parametric_args.faults ++ (typing_there cyclic parametric_args).faults ++ breaks_if parametric_args.is_wrong 10 span ++ (if parametric_args.is_wrong then [] else operands))
+    (call_parts_reached given js ++ (typing_there cyclic parametric_args).reached ++ reached_by (is_refused cyclic parametric_args) f.name.name parametric_args.values)
+    (one_and (plus_size (size_of_all js) size))
+
+right_same : (span : Span) (context : TypeEnv) (other : GlobalEnv) (f : Function) (given : List ParametricArgument) (es : List ExprPair) (js : List Judgement) (cyclic : List Fault) (parametric_args : ParametricArgsSeen) → FunctionAlike context.known other f
+    → right_call span context f given es js cyclic parametric_args ≡ right_call span (in_globals context other) f given es js cyclic parametric_args
+right_same span context other f given es js cyclic parametric_args h = λ i.
+    right_by span f given js cyclic parametric_args (h.result parametric_args.bound i) (operands_same context.known other f.name.name parametric_args.bound f.arguments es js h.arguments i) (size_same context.known other f h parametric_args.values i)
+
+abbrev cyclic_call : Bool → Span → List Fault
+cyclic_call cyclic span = breaks_if cyclic 3 span
+
+-- a call of a function, with what its parts come to
+function_same : (P : List ℕ → Bool) (span : Span) (context : TypeEnv) (other : GlobalEnv) (name : Ident) (given : List ParametricArgument) (es : List ExprPair) (js : List Judgement) → GlobalsAgree P context.known other
+    → ((f : Function) → as_function (item_named name.name context.known.whole.items) ≡ Some f → FunctionAlike context.known other f)
+    → function_call span context name given es js (as_function (item_named name.name context.known.whole.items))
+    ≡ function_call span (in_globals context other) name given es js (as_function (item_named name.name other.whole.items))
+function_same P span context other name given es js k h =
+    by_function (as_function (item_named name.name context.known.whole.items)) refl
+    ∙ ap (function_call span (in_globals context other) name given es js) (λ i. as_function (item_named name.name (k.whole i).items))
+  where
+    seen : GlobalEnv → Function → ParametricArgsSeen
+    seen known f = call_parametric_args known f given (types_of js)
+
+    cyclic : GlobalEnv → List Fault
+    cyclic known = breaks_if (is_cyclic known.whole context.owner name.name) 3 span
+
+    cyclic_same : cyclic context.known ≡ cyclic other
+    cyclic_same = λ i. breaks_if (is_cyclic (k.whole i) context.owner name.name) 3 span
+
+    by_count : (f : Function) → FunctionAlike context.known other f → (b : Bool)
+        → (if b then right_call span context f given es js (cyclic context.known) (seen context.known f) else wrong_call span given js (cyclic context.known))
+        ≡ (if b then right_call span (in_globals context other) f given es js (cyclic other) (seen other f) else wrong_call span given js (cyclic other))
+    by_count f q false = ap (wrong_call span given js) cyclic_same
+    by_count f q true =
+        right_same span context other f given es js (cyclic context.known) (seen context.known f) q
+        ∙ (λ i. right_call span (in_globals context other) f given es js (cyclic_same i) (parametric_args_same context.known other f.name.name (inferred_by f.arguments (types_of js)) (maybe_inferred f.arguments (types_of js)) (known_before []) f.parametrics given q.parametrics i))
+
+    by_function : (o : Option Function) → as_function (item_named name.name context.known.whole.items) ≡ o → function_call span context name given es js o ≡ function_call span (in_globals context other) name given es js o
+    by_function None q = refl
+    by_function (Some f) q = by_count f (h f q) (has_right_count f given es)
+
+-- ---- parametric arguments
+
+-- each is judged alike as a constant
+abbrev pub EachGivenSame : TypeEnv → GlobalEnv → List ArgPair → Type 0
+EachGivenSame context other [] = Unit {0}
+EachGivenSame context other (a ∷ as') = (constant_of context a.1 ≡ constant_of (in_globals context other) a.1) × EachGivenSame context other as'
+
+given_same : (context : TypeEnv) (other : GlobalEnv) (as' : List ArgPair) → EachGivenSame context other as' → given_parametric_args context as' ≡ given_parametric_args (in_globals context other) as'
+given_same context other [] h = refl
+given_same context other (a ∷ as') h = λ i. record { span = span_of a.1; seen = h.0 i } ∷ given_same context other as' h.1 i
+
+-- ---- builtins and effects
+
+tokens_same : (context : TypeEnv) (other : GlobalEnv) (es : List ExprPair) → EachSame context other es → map (token_typing context) es ≡ map (token_typing (in_globals context other)) es
+tokens_same context other [] h = refl
+tokens_same context other (e ∷ es) h = λ i. token_typing context (frozen e (h.0 i)) ∷ tokens_same context other es h.1 i
+
+joining_same : (span : Span) (context : TypeEnv) (other : GlobalEnv) (es : List ExprPair) → EachSame context other es → c.joining span context es ≡ c.joining span (in_globals context other) es
+joining_same span context other es h =
+    ap (λ js. settled span (when_all (types_of js) (Some ty.Token)) (faults_of_all js) (reached_of_all js) (one_and (size_of_all js))) (tokens_same context other es h)
+
+builtin_same : (kind : CallKind) (span : Span) (context : TypeEnv) (other : GlobalEnv) (es : List ExprPair) → EachSame context other es → builtin_typing kind span es context ≡ builtin_typing kind span es (in_globals context other)
+builtin_same Joins span context other es h = joining_same span context other es h
+builtin_same CountsLeading span context other es h = ap (λ js. c.counting span es js (c.first_operand_type js)) (all_alone_same context other es h)
+builtin_same CountsTrailing span context other es h = ap (λ js. c.counting span es js (c.first_operand_type js)) (all_alone_same context other es h)
+builtin_same Reverses span context other es h = ap (λ js. c.counting span es js (c.first_operand_type js)) (all_alone_same context other es h)
+builtin_same Updates span context other es h = ap (c.updating span es) (all_alone_same context other es h)
+builtin_same AllOnes span context other es h = ap (λ js. c.counting span es js (Some bool_type)) (all_alone_same context other es h)
+builtin_same SomeOne span context other es h = ap (λ js. c.counting span es js (Some bool_type)) (all_alone_same context other es h)
+builtin_same Parity span context other es h = ap (λ js. c.counting span es js (Some bool_type)) (all_alone_same context other es h)
+builtin_same Calls span context other es h = ap (λ js. c.counting span es js (Some bool_type)) (all_alone_same context other es h)
+builtin_same Receives span context other es h = ap (λ js. c.counting span es js (Some bool_type)) (all_alone_same context other es h)
+builtin_same ReceivesIf span context other es h = ap (λ js. c.counting span es js (Some bool_type)) (all_alone_same context other es h)
+builtin_same Sends span context other es h = ap (λ js. c.counting span es js (Some bool_type)) (all_alone_same context other es h)
+builtin_same SendsIf span context other es h = ap (λ js. c.counting span es js (Some bool_type)) (all_alone_same context other es h)
+
+channel_same : (context : TypeEnv) (other : GlobalEnv) (e : ExprPair) → PartSame context other e → channel_seen context e ≡ channel_seen (in_globals context other) e
+channel_same context other e h = by_name (name_of_expr e)
+  where
+    by_name : (o : Option (List ℕ)) → c.channel_named context e o ≡ c.channel_named (in_globals context other) e o
+    by_name None = λ i. record { judgement = alone_same context other e h i; channel_end = None; name = None }
+    by_name (Some name) = refl
+
+held_same : (context : TypeEnv) (other : GlobalEnv) (e : ExprPair) → PartSame context other e → c.held_typing context e ≡ c.held_typing (in_globals context other) e
+held_same context other e h = λ i. c.held_typing context (frozen e (h i))
+
+token_same : (context : TypeEnv) (other : GlobalEnv) (e : ExprPair) → PartSame context other e → token_typing context e ≡ token_typing (in_globals context other) e
+token_same context other e h = λ i. token_typing context (frozen e (h i))
+
+wrong_effect_same : (span : Span) (context : TypeEnv) (other : GlobalEnv) (given : List ParametricArgument) (es : List ExprPair) → EachSame context other es → c.wrong_effect span context given es ≡ c.wrong_effect span (in_globals context other) given es
+wrong_effect_same span context other given [] h = refl
+wrong_effect_same span context other given (t ∷ []) h = λ i. wrong_call span given (held_same context other t h.0 i ∷ []) []
+wrong_effect_same span context other given (t ∷ x ∷ es) h = λ i. wrong_call span given (held_same context other t h.0 i ∷ (channel_same context other x h.1.0 i).judgement ∷ all_alone_same context other es h.1.1 i) []
+
+receiving_same : (span : Span) (context : TypeEnv) (other : GlobalEnv) (es : List ExprPair) → EachSame context other es → c.receiving span context es ≡ c.receiving span (in_globals context other) es
+receiving_same span context other [] h = wrong_effect_same span context other [] [] h
+receiving_same span context other (t ∷ []) h = wrong_effect_same span context other [] (t ∷ []) h
+receiving_same span context other (t ∷ x ∷ []) h = λ i. c.receiving span context (frozen t (h.0 i) ∷ frozen x (h.1.0 i) ∷ [])
+receiving_same span context other (t ∷ x ∷ e ∷ es) h = wrong_effect_same span context other [] (t ∷ x ∷ e ∷ es) h
+
+sending_same : (span : Span) (context : TypeEnv) (other : GlobalEnv) (es : List ExprPair) → EachSame context other es → c.sending span context es ≡ c.sending span (in_globals context other) es
+sending_same span context other [] h = wrong_effect_same span context other [] [] h
+sending_same span context other (t ∷ []) h = wrong_effect_same span context other [] (t ∷ []) h
+sending_same span context other (t ∷ x ∷ []) h = wrong_effect_same span context other [] (t ∷ x ∷ []) h
+sending_same span context other (t ∷ x ∷ e ∷ []) h = λ i. c.sending span context (frozen t (h.0 i) ∷ frozen x (h.1.0 i) ∷ frozen e (h.1.1.0 i) ∷ [])
+sending_same span context other (t ∷ x ∷ e ∷ f ∷ es) h = wrong_effect_same span context other [] (t ∷ x ∷ e ∷ f ∷ es) h
+
+receiving_if_same : (span : Span) (context : TypeEnv) (other : GlobalEnv) (es : List ExprPair) → EachSame context other es → c.receiving_if span context es ≡ c.receiving_if span (in_globals context other) es
+receiving_if_same span context other [] h = wrong_effect_same span context other [] [] h
+receiving_if_same span context other (t ∷ []) h = wrong_effect_same span context other [] (t ∷ []) h
+receiving_if_same span context other (t ∷ x ∷ []) h = wrong_effect_same span context other [] (t ∷ x ∷ []) h
+receiving_if_same span context other (t ∷ x ∷ p ∷ []) h = wrong_effect_same span context other [] (t ∷ x ∷ p ∷ []) h
+receiving_if_same span context other (t ∷ x ∷ p ∷ e ∷ []) h = λ i. c.receiving_if span context (frozen t (h.0 i) ∷ frozen x (h.1.0 i) ∷ frozen p (h.1.1.0 i) ∷ frozen e (h.1.1.1.0 i) ∷ [])
+receiving_if_same span context other (t ∷ x ∷ p ∷ e ∷ f ∷ es) h = wrong_effect_same span context other [] (t ∷ x ∷ p ∷ e ∷ f ∷ es) h
+
+sending_if_same : (span : Span) (context : TypeEnv) (other : GlobalEnv) (es : List ExprPair) → EachSame context other es → c.sending_if span context es ≡ c.sending_if span (in_globals context other) es
+sending_if_same span context other [] h = wrong_effect_same span context other [] [] h
+sending_if_same span context other (t ∷ []) h = wrong_effect_same span context other [] (t ∷ []) h
+sending_if_same span context other (t ∷ x ∷ []) h = wrong_effect_same span context other [] (t ∷ x ∷ []) h
+sending_if_same span context other (t ∷ x ∷ p ∷ []) h = wrong_effect_same span context other [] (t ∷ x ∷ p ∷ []) h
+sending_if_same span context other (t ∷ x ∷ p ∷ e ∷ []) h = λ i. c.sending_if span context (frozen t (h.0 i) ∷ frozen x (h.1.0 i) ∷ frozen p (h.1.1.0 i) ∷ frozen e (h.1.1.1.0 i) ∷ [])
+sending_if_same span context other (t ∷ x ∷ p ∷ e ∷ f ∷ es) h = wrong_effect_same span context other [] (t ∷ x ∷ p ∷ e ∷ f ∷ es) h
+
+-- ---- any call
+
+unnumbered : (span : Span) (context : TypeEnv) (other : GlobalEnv) (as' : List ArgPair) (es : List ExprPair) (j k : Judgement) → EachGivenSame context other as' → EachSame context other es → j ≡ k
+    → without_parametric_args span context as' es j ≡ without_parametric_args span (in_globals context other) as' es k
+unnumbered span context other [] es j k h g e = e
+unnumbered span context other (a ∷ as') es j k h g e = λ i. wrong_call span (given_same context other (a ∷ as') h i) (all_alone_same context other es g i) []
+
+effect_unnumbered : (span : Span) (context : TypeEnv) (other : GlobalEnv) (as' : List ArgPair) (es : List ExprPair) (j k : Judgement) → EachGivenSame context other as' → EachSame context other es → j ≡ k
+    → c.unnumbered_effect span context as' es j ≡ c.unnumbered_effect span (in_globals context other) as' es k
+effect_unnumbered span context other [] es j k h g e = e
+effect_unnumbered span context other (a ∷ as') es j k h g e =
+    ap (λ given. c.wrong_effect span context given es) (given_same context other (a ∷ as') h) ∙ wrong_effect_same span context other (given_parametric_args (in_globals context other) (a ∷ as')) es g
+
+-- the kind is a function of the text, and then the same is known of it
+abbrev pub IfCalled : CallKind → Type 0 → Type 0
+IfCalled Calls X = X
+IfCalled _ X = Unit {0}
+
+pub call_same : (P : List ℕ → Bool) (kind : CallKind) (span : Span) (name : Ident) (as' : List ArgPair) (es : List ExprPair) (on_top : Bool) (context : TypeEnv) (other : GlobalEnv) → GlobalsAgree P context.known other
+    → EachGivenSame context other as' → EachSame context other es → IfCalled kind ((f : Function) → as_function (item_named name.name context.known.whole.items) ≡ Some f → FunctionAlike context.known other f)
+    → call_typing kind span name as' es on_top context ≡ call_typing kind span name as' es on_top (in_globals context other)
+call_same P Calls span name as' es on_top context other k g h f =
+    function_same P span context other name (given_parametric_args context as') es (all_alone context es) k f
+    ∙ (λ i. function_call span (in_globals context other) name (given_same context other as' g i) es (all_alone_same context other es h i) (as_function (item_named name.name other.whole.items)))
+call_same P Receives span name as' es on_top context other k g h f = ap (c.only_on_top on_top span) (effect_unnumbered span context other as' es _ _ g h (receiving_same span context other es h))
+call_same P ReceivesIf span name as' es on_top context other k g h f = ap (c.only_on_top on_top span) (effect_unnumbered span context other as' es _ _ g h (receiving_if_same span context other es h))
+call_same P Sends span name as' es on_top context other k g h f = ap (c.only_on_top on_top span) (effect_unnumbered span context other as' es _ _ g h (sending_same span context other es h))
+call_same P SendsIf span name as' es on_top context other k g h f = ap (c.only_on_top on_top span) (effect_unnumbered span context other as' es _ _ g h (sending_if_same span context other es h))
+call_same P Joins span name as' es on_top context other k g h f = unnumbered span context other as' es _ _ g h (builtin_same Joins span context other es h)
+call_same P CountsLeading span name as' es on_top context other k g h f = unnumbered span context other as' es _ _ g h (builtin_same CountsLeading span context other es h)
+call_same P CountsTrailing span name as' es on_top context other k g h f = unnumbered span context other as' es _ _ g h (builtin_same CountsTrailing span context other es h)
+call_same P Reverses span name as' es on_top context other k g h f = unnumbered span context other as' es _ _ g h (builtin_same Reverses span context other es h)
+call_same P AllOnes span name as' es on_top context other k g h f = unnumbered span context other as' es _ _ g h (builtin_same AllOnes span context other es h)
+call_same P SomeOne span name as' es on_top context other k g h f = unnumbered span context other as' es _ _ g h (builtin_same SomeOne span context other es h)
+call_same P Parity span name as' es on_top context other k g h f = unnumbered span context other as' es _ _ g h (builtin_same Parity span context other es h)
+call_same P Updates span name as' es on_top context other k g h f = unnumbered span context other as' es _ _ g h (builtin_same Updates span context other es h)

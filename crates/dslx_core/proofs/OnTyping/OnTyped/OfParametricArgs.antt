@@ -1,0 +1,194 @@
+-- A call finds the parametrics that the rules find.
+use Rattle.std.proofs.Common.{◌≡◌, ◌==◌, ◌++◌, ℕ, Bool, true, false, if◌then◌else◌, List, [], ◌∷◌, map, Option, Some, None, refl, sym, ap, subst, ◌∙◌}
+use Rattle.std.specs.Str.{bytes_eq}
+use Rattle.std.specs.List.{list_all}
+use Rattle.dslx_tree.specs.declared.expr.Expr.{Expr}
+use Rattle.dslx_tree.specs.declared.item.Field.{Field}
+use Rattle.dslx_tree.specs.declared.item.Parametric.{Parametric}
+use Rattle.dslx_tree.specs.declared.type_expr.TypeExpr.{TypeExpr}
+use Rattle.dslx_meaning.specs.Lists.{and_then, is_in}
+use Rattle.dslx_meaning.specs.Types.{same_type, is_unit}
+use Rattle.dslx_meaning.specs.Values.{type_of_value}
+use Rattle.dslx_meaning.specs.Operators.{number_value}
+use Rattle.dslx_meaning.specs.Environment.{Meanings, Given, given_in}
+use Rattle.dslx_meaning.specs.Meaning.{value_of, written_type}
+use Rattle.dslx_meaning.specs.Inference.{Inferred, inferred_in, inferred_for}
+use Rattle.dslx_meaning.specs.Items.{with_number, parametric_args_bound, inferred_value, put_first, all_parametric_args, inferred_from}
+use Rattle.dslx_meaning.specs.declared.ty.DslxType.{DslxType}
+use Rattle.dslx_meaning.specs.declared.value.DslxValue.{DslxValue}
+use Rattle.dslx_meaning.specs.Rules.TypeEnvs.{GlobalEnv}
+use Rattle.dslx_meaning.specs.Rules.CallRules.{ParametricArgument, Resolved, Number, Unknown, Wrong, resolved_value, in_type, of_type, declared_type, default_value, not_given, parametric_args_for, inferred_by, known_before, and_parametric, value_before, parametric_args_seen}
+use Rattle.dslx_core.specs.Typing.Typed.Declared.{Declarations, IsDeclared}
+use Rattle.dslx_core.specs.Typing.Typed.Given.{GivesOf}
+use Rattle.dslx_core.specs.Typing.Typed.Kinds.{is_of}
+use Rattle.dslx_core.specs.Typing.Typed.Numbers.{FitParametricArgs, ParametricMeans, ParametricsMean, GivenMean, AllOwn, AreOwn}
+use Rattle.dslx_core.proofs.OnTyping.OnTyped.TypingRelations.{none_some, same_some}
+use Rattle.dslx_core.proofs.OnTyping.OnTyped.OfAggregates.{and_then_type}
+use Rattle.dslx_core.proofs.OnTyping.OnTyped.OfTypes.{one_type}
+
+-- ---- what is resolved
+
+-- the value that is known of a parameter
+abbrev number_of : Resolved → Option DslxValue
+number_of (Number v) = Some v
+number_of Unknown = None
+number_of Wrong = None
+
+of_resolved : (o : Option DslxValue) → number_of (resolved_value o) ≡ o
+of_resolved None = refl
+of_resolved (Some v) = refl
+
+-- a parameter and those behind it
+record AllParametricArgs (r : Resolved) (o : Option (List DslxValue)) (ws : List DslxValue) : Type 0 where
+  first : DslxValue
+  rest : List DslxValue
+  known : r ≡ Number first
+  others : o ≡ Some rest
+  all : (first ∷ rest) ≡ ws
+
+taken_apart : (r : Resolved) (o : Option (List DslxValue)) (ws : List DslxValue) → value_before r o ≡ Some ws → AllParametricArgs r o ws
+taken_apart (Number v) (Some vs) ws e = record { first = v; rest = vs; known = refl; others = refl; all = same_some (v ∷ vs) ws e }
+taken_apart (Number v) None ws e = none_some ws e
+taken_apart Unknown o ws e = none_some ws e
+taken_apart Wrong o ws e = none_some ws e
+
+of_its_type : (t : Option DslxType) (o : Option DslxValue) (v : DslxValue) → of_type t o ≡ Some v → o ≡ Some v
+of_its_type None o v e = none_some v e
+of_its_type (Some t) None v e = none_some v e
+of_its_type (Some t) (Some w) v e = by_test (same_type t (type_of_value w)) e
+  where
+    by_test : (b : Bool) → (if b then Some w else None) ≡ Some v → Some w ≡ Some v
+    by_test true h = h
+    by_test false h = none_some v h
+
+pub declared_is : (known : GlobalEnv) (owner : List ℕ) (so_far : List Given) (p : TypeExpr) (t : DslxType) → declared_type known owner (known_before so_far) p ≡ Some t → known.type_in owner so_far [] p ≡ Some t
+declared_is known owner so_far p t e =
+    let q = and_then_type (known.type_in owner so_far [] p) (λ t. if is_unit t then None else Some t) t e in
+    q.1 ∙ by_test q.0 (is_unit q.0) q.2
+  where
+    by_test : (u : DslxType) (b : Bool) → (if b then None else Some u) ≡ Some t → Some u ≡ Some t
+    by_test u true h = none_some t h
+    by_test u false h = h
+
+-- ---- what is inferred
+
+abbrev first_of : List ℕ → Option ℕ
+first_of [] = None
+first_of (n ∷ ns) = Some n
+
+-- the first number for a name
+first_for : (name : List ℕ) (is : List Inferred) (ns : List ℕ) → parametric_args_for name is ≡ ns → inferred_for name is ≡ first_of ns
+first_for name [] ns e = ap first_of e
+first_for name (i ∷ is) ns e = by_name (bytes_eq name i.name) e (first_for name is)
+  where
+    by_name : (b : Bool) → (if b then i.number ∷ parametric_args_for name is else parametric_args_for name is) ≡ ns → ((ms : List ℕ) → parametric_args_for name is ≡ ms → inferred_for name is ≡ first_of ms)
+        → (if b then Some i.number else inferred_for name is) ≡ first_of ns
+    by_name true h rest = ap first_of h
+    by_name false h rest = rest ns h
+
+-- operands that all have types
+pub inferred_alike : (fs : List Field) (ts : List DslxType) → inferred_by fs (map Some ts) ≡ inferred_from fs ts
+inferred_alike [] ts = by_types ts
+  where
+    by_types : (ts : List DslxType) → inferred_by [] (map Some ts) ≡ inferred_from [] ts
+    by_types [] = refl
+    by_types (t ∷ ts) = refl
+inferred_alike (f ∷ fs) [] = refl
+inferred_alike (f ∷ fs) (t ∷ ts) = ap (λ is. inferred_in f.ty t ++ is) (inferred_alike fs ts)
+
+-- a number in the type of a parameter
+abbrev or_wrong : Option DslxValue → Resolved
+or_wrong None = Wrong
+or_wrong (Some v) = Number v
+
+in_its_type : (t : DslxType) (n : ℕ) → in_type (Some t) n ≡ or_wrong (number_value t (record { is_negative = false; value = n }))
+in_its_type t n = refl
+
+number_or_wrong : (o : Option DslxValue) → number_of (or_wrong o) ≡ o
+number_or_wrong None = refl
+number_or_wrong (Some v) = refl
+
+-- a parameter that isn't given
+found_otherwise : (known : GlobalEnv) (items : Meanings) (owner : List ℕ) (inferred : List Inferred) (so_far : List Given) (p : Parametric) (maybe : Bool) (v : DslxValue) → ParametricMeans known items owner so_far p
+    → number_of (not_given known owner (known_before so_far) p (declared_type known owner (known_before so_far) p.ty) maybe (parametric_args_for p.name.name inferred)).value ≡ Some v
+    → inferred_value (record { items = items; bound = so_far }) p (inferred_for p.name.name inferred) ≡ Some v
+found_otherwise known items owner inferred so_far p maybe v means e =
+    ap (inferred_value (record { items = items; bound = so_far }) p) (first_for p.name.name inferred (parametric_args_for p.name.name inferred) refl) ∙ by_parametric_args (parametric_args_for p.name.name inferred) e
+  where
+    by_default : (o : Option Expr) → p.default ≡ o → number_of (default_value known owner (known_before so_far) (declared_type known owner (known_before so_far) p.ty) o).value ≡ Some v
+        → and_then o (λ e. value_of e (record { items = items; bound = so_far })) ≡ Some v
+    by_default None d h = none_some v h
+    by_default (Some x) d h = means.defaults x v d (of_its_type (declared_type known owner (known_before so_far) p.ty) (known.default_in owner so_far x).value v (sym (of_resolved (of_type (declared_type known owner (known_before so_far) p.ty) (known.default_in owner so_far x).value)) ∙ h))
+
+    by_maybe : (b : Bool) → number_of (not_given known owner (known_before so_far) p (declared_type known owner (known_before so_far) p.ty) b []).value ≡ Some v
+        → and_then p.default (λ e. value_of e (record { items = items; bound = so_far })) ≡ Some v
+    by_maybe true h = none_some v h
+    by_maybe false h = by_default p.default refl h
+
+    by_type : (n : ℕ) (t : Option DslxType) → declared_type known owner (known_before so_far) p.ty ≡ t → number_of (in_type t n) ≡ Some v
+        → and_then (written_type p.ty (record { items = items; bound = so_far })) (λ t. number_value t (record { is_negative = false; value = n })) ≡ Some v
+    by_type n None q h = none_some v h
+    by_type n (Some t) q h =
+        ap (λ o. and_then o (λ t. number_value t (record { is_negative = false; value = n }))) (means.types t (declared_is known owner so_far p.ty t q))
+        ∙ sym (number_or_wrong (number_value t (record { is_negative = false; value = n }))) ∙ h
+
+    by_one : (n : ℕ) (b : Bool) → number_of (if b then in_type (declared_type known owner (known_before so_far) p.ty) n else Wrong) ≡ Some v
+        → and_then (written_type p.ty (record { items = items; bound = so_far })) (λ t. number_value t (record { is_negative = false; value = n })) ≡ Some v
+    by_one n true h = by_type n (declared_type known owner (known_before so_far) p.ty) refl h
+    by_one n false h = none_some v h
+
+    by_parametric_args : (ns : List ℕ) → number_of (not_given known owner (known_before so_far) p (declared_type known owner (known_before so_far) p.ty) maybe ns).value ≡ Some v
+        → inferred_value (record { items = items; bound = so_far }) p (first_of ns) ≡ Some v
+    by_parametric_args [] h = by_maybe maybe h
+    by_parametric_args (n ∷ ns) h = by_one n (list_all (λ k. k == n) ns) h
+
+-- ---- values of their own types
+
+-- a value of a type is of its own
+pub own_value : (types : Declarations) (t : DslxType) (o : Option DslxValue) (v : DslxValue) → o ≡ Some v → GivesOf types t o → GivesOf types (type_of_value v) (Some v)
+own_value types t o v q g =
+    let same : g.value ≡ v = same_some g.value v (sym g.is ∙ q) in
+    let of : is_of t v ≡ true = ap (is_of t) (sym same) ∙ g.of in
+    let one : type_of_value v ≡ t = one_type t v of in
+    record { value = v; is = refl; of = ap (λ u. is_of u v) one ∙ of; declared = subst (IsDeclared types) (sym one) g.declared }
+
+pub own_more : (types : Declarations) (so_far : List Given) (p : Parametric) (v : DslxValue) → AreOwn types so_far → GivesOf types (type_of_value v) (Some v) → AreOwn types (with_number so_far p v)
+own_more types so_far p v h g name w e = by_name (bytes_eq name p.name.name) e
+  where
+    by_name : (b : Bool) → (if b then Some v else given_in name so_far) ≡ Some w → GivesOf types (type_of_value w) (Some w)
+    by_name true q = subst (λ x. GivesOf types (type_of_value x) (Some x)) (same_some v w q) g
+    by_name false q = h name w q
+
+-- all parameters with their values
+pub own_bound : (types : Declarations) (so_far : List Given) (ps : List Parametric) (vs : List DslxValue) → AreOwn types so_far → AllOwn types vs → AreOwn types (parametric_args_bound so_far ps vs)
+own_bound types so_far [] vs h k = h
+own_bound types so_far (p ∷ ps) [] h k = h
+own_bound types so_far (p ∷ ps) (v ∷ vs) h k = own_bound types (with_number so_far p v) ps vs (own_more types so_far p v h k.0) k.1
+
+-- ---- all parameters
+
+pub parametric_args_found : (known : GlobalEnv) (items : Meanings) (owner : List ℕ) (inferred : List Inferred) (maybe : List (List ℕ)) (so_far : List Given) (ps : List Parametric)
+    (gs : List ParametricArgument) (vs ws : List DslxValue) → ParametricsMean known items owner so_far ps → FitParametricArgs known owner so_far ps ws → GivenMean gs vs → (parametric_args_seen known owner inferred maybe (known_before so_far) ps gs).values ≡ Some ws → all_parametric_args items inferred so_far ps vs ≡ Some ws
+parametric_args_found known items owner inferred maybe so_far [] [] [] ws means fit h e = e
+parametric_args_found known items owner inferred maybe so_far [] [] (v ∷ vs) ws means fit h e = absurd h
+parametric_args_found known items owner inferred maybe so_far [] (g ∷ gs) vs ws means fit h e = none_some ws e
+parametric_args_found known items owner inferred maybe so_far (p ∷ ps) (g ∷ gs) [] ws means fit h e = absurd h
+parametric_args_found known items owner inferred maybe so_far (p ∷ ps) [] (v ∷ vs) ws means fit h e = absurd h
+parametric_args_found known items owner inferred maybe so_far (p ∷ ps) (g ∷ gs) (v ∷ vs) ws means fit h e =
+    let t = declared_type known owner (known_before so_far) p.ty in
+    let r = resolved_value (of_type t g.seen.value) in
+    let a = taken_apart r (parametric_args_seen known owner inferred maybe (and_parametric (known_before so_far) p r) ps gs).values ws e in
+    let one = of_its_type t g.seen.value a.first (sym (of_resolved (of_type t g.seen.value)) ∙ ap number_of a.known) in
+    let same = h.0 a.first one in
+    let fits = subst (FitParametricArgs known owner so_far (p ∷ ps)) (sym a.all) fit in
+    let more = parametric_args_found known items owner inferred maybe (with_number so_far p a.first) ps gs vs a.rest (means.1 fits.0.0 a.first fits.0.1 fits.0.2) fits.1 h.1
+    (ap (λ r. (parametric_args_seen known owner inferred maybe (and_parametric (known_before so_far) p r) ps gs).values) (sym a.known) ∙ a.others) in
+    (λ i. put_first (same i) (all_parametric_args items inferred (with_number so_far p (same i)) ps vs)) ∙ ap (put_first a.first) more ∙ ap Some a.all
+parametric_args_found known items owner inferred maybe so_far (p ∷ ps) [] [] ws means fit h e =
+    let r = not_given known owner (known_before so_far) p (declared_type known owner (known_before so_far) p.ty) (is_in p.name.name maybe) (parametric_args_for p.name.name inferred) in
+    let a = taken_apart r.value (parametric_args_seen known owner inferred maybe (and_parametric (known_before so_far) p r.value) ps []).values ws e in
+    let one = found_otherwise known items owner inferred so_far p (is_in p.name.name maybe) a.first means.0 (ap number_of a.known) in
+    let fits = subst (FitParametricArgs known owner so_far (p ∷ ps)) (sym a.all) fit in
+    let more = parametric_args_found known items owner inferred maybe (with_number so_far p a.first) ps [] [] a.rest (means.1 fits.0.0 a.first fits.0.1 fits.0.2) fits.1 tt
+    (ap (λ r. (parametric_args_seen known owner inferred maybe (and_parametric (known_before so_far) p r) ps []).values) (sym a.known) ∙ a.others) in
+    ap (λ o. and_then o (λ v. put_first v (all_parametric_args items inferred (with_number so_far p v) ps []))) one ∙ ap (put_first a.first) more ∙ ap Some a.all

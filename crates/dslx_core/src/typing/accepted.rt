@@ -1,0 +1,19 @@
+//! That nothing is wrong with the items of an accepted text, nor with the instances that they reach.
+ghost use Rattle.std.specs.Prelude.{◌≡◌, ℕ, List, [], Option};
+ghost use Rattle.dslx_tree.specs.declared.item.Module.{Module};
+ghost use Rattle.dslx_meaning.specs.Items.{meanings_of};
+ghost use Rattle.dslx_meaning.specs.Rules.ModuleRules.{faults_of, globals_of};
+ghost use Rattle.dslx_core.specs.Typing.Laws.Recursion.{HasNoCycle};
+ghost use Rattle.dslx_core.specs.Typing.Depends.Settled.{BindsNoConstant};
+ghost use Rattle.dslx_core.specs.Typing.GlobalEnv.WellTypedParts.{EachItemWellTyped};
+
+/// Where no part of a text breaks a rule or passes a limit, nothing is wrong with any constant, alias, struct or enum, nor with
+/// any instance that these reach; so what is known of the text's items is what they mean. No item may reach itself and no
+/// function bind the name of a constant, also where nothing calls a function and so nothing is checked of it.
+pub fn items_of_accepted_texts_are_well_typed()
+    ensures well_typed { (m : Module) (top : Option (List ℕ)) → HasNoCycle m → BindsNoConstant m → faults_of m top ≡ [] → EachItemWellTyped m }
+    ensures denotation { (m : Module) (top : Option (List ℕ)) → HasNoCycle m → BindsNoConstant m → faults_of m top ≡ [] → (globals_of m).items ≡ meanings_of m }
+{
+    crate::typing::typing::instances_reach_one_another();
+    crate::typing::denotation::global_env_is_sound();
+}

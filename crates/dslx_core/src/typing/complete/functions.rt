@@ -1,0 +1,20 @@
+ghost use Rattle.dslx_core.specs.Typing.Complete.HasValue.{AreTyped, InstanceHasValue, IsWellTypedFound, ParametricHasValue};
+ghost use Rattle.dslx_meaning.specs.Environment.{Given};
+ghost use Rattle.dslx_meaning.specs.declared.value.DslxValue.{DslxValue};
+ghost use Rattle.dslx_meaning.specs.Rules.ItemRules.{function_seen};
+ghost use Rattle.dslx_meaning.specs.Rules.TypeEnvs.{GlobalEnv};
+ghost use Rattle.dslx_tree.specs.declared.item.Function.{Function};
+ghost use Rattle.dslx_tree.specs.declared.item.Parametric.{Parametric};
+ghost use Rattle.dslx_core.specs.Typing.Typed.Complete.{IsComplete};
+ghost use Rattle.dslx_core.specs.Typing.Typed.Numbers.{AllOwn, FitParametricArgs};
+ghost use Rattle.std.specs.Prelude.{List, ℕ};
+
+/// A parametric of any function: its type and its default are known where nothing is wrong with them, and are those that
+/// are meant. An instance with whose text nothing is wrong gives values of the type of its result, where its parametrics
+/// have values of their own types, as those have that fit.
+pub fn functions_are_known()
+    ensures parametric { (known : GlobalEnv) → IsComplete known → AreTyped known → (owner : List ℕ) (p : Parametric) → ParametricHasValue known owner p }
+    ensures instance { (known : GlobalEnv) → IsComplete known → AreTyped known → (f : Function) (parametric_args : List DslxValue) → AllOwn known.items.type_named parametric_args
+        → IsWellTypedFound known (function_seen known f parametric_args).found → InstanceHasValue known f parametric_args }
+    ensures fits { (known : GlobalEnv) (owner : List ℕ) (so_far : List Given) (ps : List Parametric) (parametric_args : List DslxValue) → FitParametricArgs known owner so_far ps parametric_args → AllOwn known.items.type_named parametric_args }
+{}

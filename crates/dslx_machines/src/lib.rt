@@ -1,8 +1,0 @@
-//! The machine that makes instances of functions, as a definition, and its laws.
-#![tactic(auto)]
-
-pub mod alike;
-pub mod extension;
-pub mod machine;
-pub mod once;
-pub mod progress;

@@ -1,8 +1,0 @@
-use Rattle.dslx_typing.proofs.OnGlobals.Whole.{all_known, all_typed}
-use Rattle.dslx_typing.proofs.known.known.all_items_are_known.Goals as goal
-
-pub returns-clause-complete : goal.returns-clause-complete
-returns-clause-complete c = all_known
-
-pub returns-clause-typed : goal.returns-clause-typed
-returns-clause-typed c = all_typed

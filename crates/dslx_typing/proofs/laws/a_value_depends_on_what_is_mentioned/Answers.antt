@@ -1,6 +1,0 @@
-use Rattle.std.proofs.Common.{[]}
-use Rattle.dslx_typing.proofs.OnLaws.Free.{value_depends}
-use Rattle.dslx_typing.proofs.laws.a_value_depends_on_what_is_mentioned.Goals as goal
-
-pub returns : goal.returns
-returns c = λ e a b h. value_depends e [] a b tt h

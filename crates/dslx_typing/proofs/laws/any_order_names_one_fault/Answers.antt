@@ -1,5 +1,0 @@
-use Rattle.dslx_typing.proofs.OnLaws.Orders.{one_fault}
-use Rattle.dslx_typing.proofs.laws.any_order_names_one_fault.Goals as goal
-
-pub returns : goal.returns
-returns c = one_fault

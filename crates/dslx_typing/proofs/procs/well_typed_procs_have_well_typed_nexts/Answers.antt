@@ -1,5 +1,0 @@
-use Rattle.dslx_typing.proofs.OnProcs.Instances.{next_is_well_typed}
-use Rattle.dslx_typing.proofs.procs.well_typed_procs_have_well_typed_nexts.Goals as goal
-
-pub returns : goal.returns
-returns c = next_is_well_typed

@@ -1,5 +1,0 @@
-use Rattle.dslx_typing.proofs.OnTyped.OfControl.{if_gives}
-use Rattle.dslx_typing.proofs.typed.control.branches_give_values_of_their_types.Goals as goal
-
-pub returns : goal.returns
-returns c = if_gives

@@ -1,8 +1,0 @@
-use Rattle.dslx_typing.proofs.OnTyped.OfParametricArgs.{parametric_args_found, inferred_alike}
-use Rattle.dslx_typing.proofs.typed.functions.calls_find_their_parametrics.Goals as goal
-
-pub returns-clause-found : goal.returns-clause-found
-returns-clause-found c = parametric_args_found
-
-pub returns-clause-inferred : goal.returns-clause-inferred
-returns-clause-inferred c = inferred_alike

@@ -1,5 +1,0 @@
-use Rattle.dslx_typing.proofs.OnTyped.OfFunctions.{function_gives}
-use Rattle.dslx_typing.proofs.typed.functions.functions_give_values_of_their_types.Goals as goal
-
-pub returns : goal.returns
-returns c = function_gives

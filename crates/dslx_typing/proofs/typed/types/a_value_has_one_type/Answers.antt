@@ -1,5 +1,0 @@
-use Rattle.dslx_typing.proofs.OnTyped.OfTypes.{one_type}
-use Rattle.dslx_typing.proofs.typed.types.a_value_has_one_type.Goals as goal
-
-pub returns : goal.returns
-returns c = one_type

@@ -1,0 +1,5 @@
+pub mod Tables
+pub mod Walks
+pub mod Steps
+pub mod Registers
+pub mod Machines

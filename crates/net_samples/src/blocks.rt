@@ -1,0 +1,7 @@
+//! Small pipelines that run cycle by cycle, by a logic that is given, and what they do is what the laws of pipelined
+//! hardware speak of.
+mod machine;
+mod sample;
+
+pub use machine::{Asserted, Machine, Ports};
+pub use sample::{Action, Next, Sample, SampleSite, StageEntry, word};

@@ -1,0 +1,47 @@
+-- Step by step.
+use Rattle.std.proofs.Common.{◌≡◌, ◌<◌, ◌≤◌, ◌+◌, ℕ, suc, List, [], ◌∷◌, drop, length, get_or, ap, sym, ◌∙◌, add-one, refl}
+use Rattle.std.proofs.Math.Seq.{drop-cons}
+use Rattle.std.proofs.Math.ListN.{drop_of_length-le}
+use Rattle.grammar.specs.declared.bottom_up.Step.{Step}
+use Rattle.grammar.specs.declared.bottom_up.Step.TheVariants.{Shift, Reduce}
+use Rattle.dslx_token.specs.Lexeme.{Lexeme}
+use Rattle.vlog_tree.specs.declared.module.VModule.{VModule}
+use Rattle.vlog_tree.specs.declared.verifier.part_spans.PartSpans.{PartSpans}
+use Rattle.vlog_text.specs.Builder.Building.{built, design_by, parsed_of, spans_by, reduced, rule_of, shifted}
+use Rattle.vlog_text.specs.Builder.Empty.{no_ident}
+use Rattle.base.specs.Stacks.Tops.{top_or}
+use Rattle.vlog_text.specs.declared.builder.parsed.Parsed.{Parsed}
+use Rattle.vlog_text.specs.declared.builder.state.State.{State}
+
+-- a token is added
+pub shift_some : (rest : List Step) (ls : List Lexeme) (next : ℕ) (l : Lexeme) (old new : State) → next < length ls → l ≡ get_or ls next l → new ≡ shifted l old → built (Shift ∷ rest) (drop next ls) old ≡ built rest (drop (next + 1) ls) new
+unfolding built
+shift_some rest ls next l old new within item is =
+    let split : drop next ls ≡ l ∷ drop (suc next) ls = drop-cons ls next l within ∙ ap (λ x. x ∷ drop (suc next) ls) (sym item) in
+    ap (λ t. built (Shift ∷ rest) t old) split ∙ ap (λ s. built rest (drop (suc next) ls) s) (sym is) ∙ ap (λ j. built rest (drop j ls) new) (sym (add-one next))
+
+-- there is none
+pub shift_none : (rest : List Step) (ls : List Lexeme) (next : ℕ) (old : State) → length ls ≤ next → built (Shift ∷ rest) (drop next ls) old ≡ built rest (drop next ls) old
+unfolding built
+shift_none rest ls next old past =
+    let none = drop_of_length-le ls past in
+    ap (λ t. built (Shift ∷ rest) t old) none ∙ ap (λ t. built rest t old) (sym none)
+
+-- a tree is complete
+pub reduce_one : (rest : List Step) (ls : List Lexeme) (p : ℕ) (old new : State) → new ≡ reduced (rule_of p) old → built (Reduce p ∷ rest) ls old ≡ built rest ls new
+unfolding built
+reduce_one rest ls p old new is = ap (λ s. built rest ls s) (sym is)
+
+-- no step is left
+pub nothing_left : (ls : List Lexeme) (s : State) → built [] ls s ≡ s
+unfolding built
+nothing_left ls s = refl
+
+-- all steps are taken
+pub all_done : (steps : List Step) (i : ℕ) (ls : List Lexeme) (s whole : State) → length steps ≤ i → built (drop i steps) ls s ≡ whole → s ≡ whole
+all_done steps i ls s whole past so_far = sym (nothing_left ls s) ∙ ap (λ ss. built ss ls s) (sym (drop_of_length-le steps past)) ∙ so_far
+
+-- what is taken of the state is what was built
+pub parsed_parts : (s left : State) (name : List ℕ) (d : VModule) (p : PartSpans) → d ≡ design_by name left → ((n : List ℕ) → design_by n left ≡ design_by n s)
+    → name ≡ (top_or no_ident s.idents).name → p ≡ spans_by s → ◌≡◌ {A = Parsed} (record { design = d; part_spans = p }) (parsed_of s)
+parsed_parts s left name d p is same named placed i = record { design = (is ∙ same name ∙ ap (λ n. design_by n s) named) i; part_spans = placed i }
