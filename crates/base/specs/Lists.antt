@@ -1,6 +1,6 @@
--- one list stands at the front of another
+-- one list is a prefix of another
 pub mod Prefix
--- the first place at which a list leaves a language
+-- the first offset at which a list leaves a language
 pub mod Fault
--- a function of each element and its place
+-- a function of each element and its index
 pub mod Indexed

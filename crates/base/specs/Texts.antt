@@ -1,4 +1,4 @@
--- the lines of a text, and their places
+-- the lines of a text, and their positions
 pub mod Lines
 -- a number in a given count of hexadecimal digits
 pub mod Hexadecimal

@@ -1,5 +1,5 @@
-//! What readers and writers of texts share: names, lines and their places, digits both ways, and words of letters and
-//! digits.
+//! What readers and writers of texts share: names, lines and their positions, digits both ways, and words of letters
+//! and digits.
 //!
 //! Each call takes time and memory as the text that it reads or writes is long.
 mod lines;

@@ -1,5 +1,5 @@
 //! Vectors from outside: the formulas worked by another program, at the widths where code goes wrong. Each row of a test's
-//! table is a width, what is given, and the number that is wanted; `tools/bits_vectors.py` works them again.
+//! table is a width, the arguments, and the number that is expected; `tools/bits_vectors.py` works them again.
 
 ghost use Rattle.std.specs.Prelude.{◌≡◌, ◌≤◌};
 

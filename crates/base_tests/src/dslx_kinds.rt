@@ -1,4 +1,4 @@
-//! The grammar of DSLX: derivations of constants, functions, procs and operators, and places of faults.
+//! The grammar of DSLX: derivations of constants, functions, procs and operators, and indices of faults.
 
 use dslx_token::rules::kind::*;
 use dslx_token::rules::{parse, parse_tree, production};
@@ -6,7 +6,7 @@ use grammar::ParseError;
 use std::alloc::Global;
 use std::test::Fail;
 
-/// The place of the fault, or the length where there is none.
+/// The index of the fault, or the length where there is none.
 fn place_of(alloc: Global, kinds: &[u8]) -> Result<usize, Fail> {
     let Some(&last) = kinds.last() else {
         return Err("no end mark".into());

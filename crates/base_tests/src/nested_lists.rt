@@ -110,7 +110,7 @@ fn lists() -> Grammar<'static>
     }
 }
 
-/// The place of the fault, or the length where there is none, and the productions.
+/// The index of the fault, or the length where there is none, and the productions.
 fn outcome(alloc: Global, kinds: &[u8]) -> Result<(usize, Vec<u16>), Fail> {
     let Some(&last) = kinds.last() else {
         return Err("no end mark".into());
@@ -144,7 +144,7 @@ fn derivations(rt: HostRuntime) -> Result<(), Fail> {
 
 #[test]
 fn faults(rt: HostRuntime) -> Result<(), Fail> {
-    // `(a, ())` with one token that can't stand there, at each place in turn: the place, and how many
+    // `(a, ())` with one token that can't stand there, at each index in turn: the index, and how many
     // productions lead to the tokens before it
     let derivation = [0, 1, 5, 3, 1, 6, 0, 2, 4];
     let cases = [

@@ -1,4 +1,4 @@
-//! Texts that are no values, and the places that were worked by hand.
+//! Texts that are no values, with the positions of their faults, which were worked by hand.
 
 use crate::value_types::mixed;
 use std::alloc::Global;

@@ -1,4 +1,4 @@
-//! A type that several tests share, and what is said of types and values as such.
+//! A type that several tests share, and tests of types and values as such.
 
 use std::alloc::{AllocError, Global};
 use std::test::Fail;

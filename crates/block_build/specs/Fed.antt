@@ -1,4 +1,4 @@
--- A block of which each input always offers a word, and each output is always ready.
+-- A block of which each input always has a valid word, and each output is always ready.
 use Rattle.std.specs.Prelude.{◌≡◌, ℕ, true, List, [], ◌∷◌, slice_get, if◌then◌else◌, Some}
 use Rattle.xb_bits.specs.Word.{Word}
 use Rattle.net_core.specs.declared.net.Site.{Site}

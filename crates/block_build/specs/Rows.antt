@@ -108,11 +108,11 @@ abbrev pub asks_if : Bool → Option Machine → Ports → List Event
 asks_if rst None ports = []
 asks_if rst (Some machine) ports = asserted_in machine.pipeline (acting rst machine.since.contents) ports
 
--- what a proc asks in a row
+-- what a proc asserts in a row
 abbrev pub asserted_in_row : Block → State → InputRow → ℕ → List Event
 asserted_in_row block state row p = asks_if row.rst (slice_get state.machines p) (ports_in block state row.ports)
 
--- what the block drives: whether it is ready for a word of an input, and the word that it offers at an output
+-- what the block drives: whether it is ready for a word of an input, and its valid word at an output
 abbrev pub is_ready : Block → State → InputRow → ℕ → Bool
 is_ready block state row c =
     not (count_received (sites_at (run_of block [] 0) (receiver_of block c)) c (asserted_in_row block state row (receiver_of block c)) == 0)

@@ -15,7 +15,7 @@ ghost use Rattle.block_build.specs.Rows.{State, InputRow, sender_of, HasReset, s
 
 /// Whatever stands at a block's ports in each row since the last reset: take the words that its inputs received as all that
 /// the outside ever sends, and let the network run on them with channels of any depth, each proc for as many activations as
-/// there were rows, or more. Then each output has sent a front of its words there, and each input has received its
+/// there were rows, or more. Then each output has sent a prefix of its words there, and each input has received its
 /// words there.
 pub fn block_words_are_the_networks()
     ensures outputs { (block : Block) → IsBlock block → (power : State) (rows : List InputRow) → HasReset rows →
@@ -50,7 +50,7 @@ pub fn words_move_where_both_sides_are_ready()
         ≡ moved_in block state c ++ (if is_ready block state row c then option_to_list (row.ports.valid_word c) else []) }
 {}
 
-/// A word that is valid at an output and not taken stands offered, unchanged, in the next row, unless that resets.
+/// A word that is valid at an output and not taken is still valid, unchanged, in the next row, unless that resets.
 pub fn offers_stand()
     ensures { (block : Block) → IsBlock block → (power : State) (rows : List InputRow) → HasReset rows →
         let state = state_after block power rows in
@@ -59,14 +59,14 @@ pub fn offers_stand()
         offers block (after_row block state row) next c ≡ Some w }
 {}
 
-/// In a row with reset the block is ready for nothing and offers nothing, whatever stands in its registers.
+/// In a row with reset the block is ready for nothing and has no valid word, whatever stands in its registers.
 pub fn nothing_is_driven_in_reset()
     ensures inputs { (block : Block) (state : State) (row : InputRow) (c : ℕ) → row.rst ≡ true → is_ready block state row c ≡ false }
     ensures outputs { (block : Block) (state : State) (row : InputRow) (c : ℕ) → row.rst ≡ true → offers block state row c ≡ None }
 {}
 
 /// The words of a pipeline that keeps its turn in stage 0 and has no inner channel, where in each row since the last reset every
-/// input offers a word and every output is ready: where each activation sends one word on a channel, word `i` moves exactly in
+/// input has a valid word and every output is ready: where each activation sends one word on a channel, word `i` moves exactly in
 /// row `i + s` since the reset, `s` the stage of the sending site.
 pub fn always_fed_words_move_in_their_row()
     ensures { (block : Block) → IsBlock block → (chan place : ℕ) (q : Pipeline) → slice_get block.pipelines (sender_of block chan) ≡ Some q →

@@ -73,7 +73,7 @@ pub data SaysLine (net : Net) (named line : List ℕ) : Said → Type 0 where
 
 -- ---- the lines of a file
 
--- words with the numbers of their channels, or the first fault and the place of its line
+-- words with the numbers of their channels, or the first fault and the position of its line
 abbrev pub Words : Type 0
 Words = Result (List (ℕ × Word)) (Cause × ℕ)
 
@@ -109,7 +109,7 @@ abbrev pub with_inputs : Net → Words → Result Inputs (Cause × ℕ)
 with_inputs net (Ok xs) = Ok (inputs_by net xs)
 with_inputs net (Err e) = Err e
 
--- the text says these inputs, or its first line at fault has this cause and begins at this place
+-- the text says these inputs, or its first line at fault has this cause and begins at this position
 pub record Reads (net : Net) (text : List ℕ) (r : Result Inputs (Cause × ℕ)) : Type 0 where
   pub words : Words
   pub says : SaysLines net [] (positioned 0 (lines_of text)) words

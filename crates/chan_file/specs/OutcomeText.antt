@@ -57,7 +57,7 @@ proc_line chans head end = codes "proc " ++ head.path ++ codes " state " ++ text
 
 -- ---- the text
 
--- a line for each two at one place
+-- a line for each two at one index
 abbrev pub lines_by : {A B : Type 0} → (A → B → List ℕ) → List A → List B → List ℕ
 lines_by line (x ∷ xs) (y ∷ ys) = line x y ++ lines_by line xs ys
 lines_by line _ _ = []

@@ -7,7 +7,7 @@ ghost use Rattle.net_core.specs.WellFormed.{IsNet, IsInputs};
 ghost use Rattle.chan_file.specs.declared.refusal.Cause.{Cause};
 ghost use Rattle.chan_file.specs.ChannelFile.{Reads};
 
-/// A text says one thing of a network's inputs: their words, or one cause and one place.
+/// A text says one thing of a network's inputs: their words, or one cause and one position.
 pub fn one_reading()
     ensures { (net : Net) (text : List ℕ) (a b : Result Inputs (Cause × ℕ)) → Reads net text a → Reads net text b → a ≡ b }
 {}

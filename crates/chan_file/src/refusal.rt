@@ -36,7 +36,7 @@ impl Cause {
 /// Why a file of inputs is refused.
 #[derive(Clone, Copy, Debug, PartialEq, Eq)]
 pub enum InputError {
-    /// The first line at fault: what is wrong with it, and the place of its first byte.
+    /// The first line at fault: what is wrong with it, and the position of its first byte.
     Input(Cause, u32),
     /// There was no memory to answer.
     OutOfMemory,

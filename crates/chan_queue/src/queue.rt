@@ -17,7 +17,7 @@ pub struct ChanQueue<S> {
     chan: u32,
 }
 
-/// A new channel of a run, with a place for `depth` words, and the passes of its two ends.
+/// A new channel of a run, with room for `depth` words, and the passes of its two ends.
 ///
 /// It takes all the memory that the channel ever needs.
 pub fn make<S: Streams, R: Wait>(

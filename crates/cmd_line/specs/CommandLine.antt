@@ -19,7 +19,7 @@ use Rattle.cmd_line.specs.declared.request.Timing.{Timing}
 
 -- ---- the command line
 
--- the name of a file, which stands at its place
+-- the name of a file, a positional argument
 abbrev pub file : Text → Rule
 file id = record (new_rule id) { required = true }
 
@@ -112,7 +112,7 @@ abbrev pub workers_in : Option Text → Option ℕ
 workers_in None = Some 1
 workers_in (Some text) = number_in 1 16 text
 
--- the depth of inner channels, which need not be said
+-- the depth of inner channels, which may be left out
 abbrev pub depth_in : Option Text → Option (Option ℕ)
 depth_in None = Some None
 depth_in (Some text) = option_map Some (number_in 1 4096 text)

@@ -1,4 +1,4 @@
--- What is said, without where the names of files lie in memory.
+-- The arguments of a request, without where the names of files lie in memory.
 use Rattle.std.specs.Prelude.{ℕ, List}
 use Rattle.std.specs.Borrow.{Bor}
 use Rattle.cmd_line.specs.declared.request.Request.{Request}

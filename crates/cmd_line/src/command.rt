@@ -126,7 +126,7 @@ fn of_design<'a>(alloc: Global, name: &'a str) -> Result<Command<'a>, AllocError
     Command::new(alloc, name).arg(file(alloc, "design"))
 }
 
-/// The name of a file, which stands at its place.
+/// The name of a file, a positional argument.
 fn file<'a>(alloc: Global, id: &'a str) -> Arg<'a>
     ensures rule { rule_of result ≡ file id.entry.now }
     ensures local { result.global ≡ false }

@@ -209,7 +209,7 @@ fn most(text: Option<&str>) -> Option<u32>
     }
 }
 
-/// The text that was given for an argument.
+/// The text of an argument.
 fn text<'a>(matches: &ArgMatches<'a>, id: &str) -> Option<&'a str>
     ensures { option_map (λ text. text.now) result ≡ first_of id.now (rows_of (found_of matches.now)) }
 {

@@ -3,7 +3,7 @@ use Rattle.std.specs.Prelude.{◌≡◌, ◌≢◌, ℕ, List, slice_get, Option
 use Rattle.vlog_tree.specs.declared.module.Assignment.{Assignment}
 use Rattle.vlog_tree.specs.Forms.{reads}
 
--- a list with the place of the assignment that drives it, for each signal that one drives
+-- a list with the index of the assignment that drives it, for each signal that one drives
 pub record AreDrivers (assignments : List Assignment) (drivers : List (Option ℕ)) : Type 0 where
   pub found : (s i : ℕ) → slice_get drivers s ≡ Some (Some i) → (a : Assignment) × (slice_get assignments i ≡ Some a) × (a.target.0 ≡ s)
   pub missed : (s i : ℕ) (a : Assignment) → slice_get drivers s ≡ Some None → slice_get assignments i ≡ Some a → a.target.0 ≢ s

@@ -3,6 +3,6 @@ use Rattle.std.specs.Prelude.{◌≡◌, ℕ, ◌<◌, List, [], ◌∷◌, leng
 use Rattle.std.specs.List.{AllByRecursion}
 use Rattle.vlog_tree.specs.declared.module.Assignment.{Assignment}
 
--- the assignments at these places, in this order
+-- the assignments at these indices, in this order
 abbrev pub taken : List Assignment → List ℕ → List Assignment
 taken assignments indices = filter_map (slice_get assignments) indices

@@ -20,7 +20,7 @@ pub record SimState : Type 0 where
   pub design : VModule
   pub words : List Word
 
--- these places are an order in which each assignment reads only what is there before it, and all of them
+-- these are the indices of all assignments, in an order in which each reads only what is there before it
 pub record IsOrder (m : VModule) (indices : List ℕ) : Type 0 where
   pub within : All (λ place. place < length m.assignments) indices
   pub ordered : IsOrdered (taken m.assignments indices)

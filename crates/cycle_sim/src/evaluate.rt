@@ -33,7 +33,7 @@ pub fn atom(values: &[Bits], atom: Atom) -> Bits
     }
 }
 
-/// Whether two numbers that are so ordered stand to one another as asked.
+/// Whether the comparison holds of two numbers that are so ordered.
 fn stands(order: Order, ordering: Ordering) -> bool
     ensures { result ≡ holds order ordering }
 {
@@ -99,7 +99,7 @@ pub fn unary(operator: Unary, a: Bits) -> Bits
     }
 }
 
-/// The numbers of atoms side by side, the first in the high places. It recurses once an atom, and each has a bit.
+/// The numbers of atoms side by side, the first in the high bits. It recurses once an atom, and each has a bit.
 fn joined(values: &[Bits], first: Atom, rest: &[Atom]) -> Bits
     requires known { AllByRecursion (IsKnownAtom (length values.now)) (first ∷ rest.now) }
     requires most_width { joined_width (widths_of values.now) (first ∷ rest.now) ≤ 128 }
@@ -113,7 +113,7 @@ fn joined(values: &[Bits], first: Atom, rest: &[Atom]) -> Bits
     }
 }
 
-/// The numbers of one atom or more side by side, the first in the high places.
+/// The numbers of one atom or more side by side, the first in the high bits.
 fn concat(values: &[Bits], atoms: &[Atom]) -> Bits
     requires known { AllByRecursion (IsKnownAtom (length values.now)) atoms.now }
     requires some_width { 1 ≤ joined_width (widths_of values.now) atoms.now }

@@ -11,7 +11,7 @@ use std::alloc::{AllocError, Global};
 use topo_order::{Sorted, sort};
 use vlog_tree::{Assignment, VModule};
 
-/// The places of a module's assignments in an order in which each reads only what is there before it.
+/// The indices of a module's assignments in an order in which each reads only what is there before it.
 pub fn order_of(alloc: Global, design: &VModule, signals: usize) -> Result<Vec<u32>, AllocError>
     requires runs { CanRun design.now }
     requires signals { signals ≡ length (module_signals design.now) }

@@ -8,7 +8,7 @@ use crate::evaluate::expr;
 use vlog_tree::Assignment;
 use xb_bits::Bits;
 
-/// Gives the target of each assignment its driver's value, in the order of the places.
+/// Gives the target of each assignment its driver's value, in the order of the indices.
 pub fn settle(values: &mut [Bits], assignments: &[Assignment], indices: &[u32])
     requires indices { All (λ place. place < length assignments.now) indices.now }
     requires sound { All (IsSoundAssignment (length values.old) (widths_of values.old)) assignments.now }

@@ -23,7 +23,7 @@ use xb_bits::Bits;
 #[derive(Drop)]
 pub struct Sim {
     design: VModule,
-    /// The assignments' places in an order in which each reads only what is there before it.
+    /// The assignments' indices in an order in which each reads only what is there before it.
     indices: Vec<u32>,
     /// A number for each signal.
     values: Vec<Bits>,
@@ -62,7 +62,7 @@ impl Sim {
         })
     }
 
-    /// What the module drove at a channel, by its place among the channels, in the last cycle.
+    /// What the module drove at a channel, by its index among the channels, in the last cycle.
     pub fn shown(&self, channel: usize) -> Shown
         requires { channel < length (channels_of self.now.design) }
         ensures { slice_get (outs_of self.now.design (values_of self.now.words)).channels channel ≡ Some result }

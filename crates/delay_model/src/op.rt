@@ -13,11 +13,11 @@ pub enum Op {
     Reduce(Reduce),
     /// A number, and one of as many bits or more.
     Extend(Extend),
-    /// Numbers side by side, the first in the high places.
+    /// Numbers side by side, the first in the high bits.
     Concat,
-    /// Bits of a number from a place that is written.
+    /// Bits of a number from a bit index that is written out.
     BitSlice,
-    /// Bits of a number from a place that is a number itself.
+    /// Bits of a number from a bit index that is an operand.
     DynamicBitSlice,
     /// One of several values, by a number.
     Sel,

@@ -5,7 +5,7 @@ use Rattle.dslx_actions.specs.declared.parts.SemanticStacks.{SemanticStacks}
 use Rattle.dslx_actions.specs.Empty.{join, no_expr, no_type, nowhere}
 use Rattle.base.specs.Stacks.Tops.{top_or}
 
--- the place of the last so many tokens
+-- the span of the last so many tokens
 abbrev pub across : ℕ → List Span → Span
 across count token_spans = join (top_or nowhere (drop (count - 1) token_spans)) (top_or nowhere (drop 0 token_spans))
 
@@ -13,7 +13,7 @@ across count token_spans = join (top_or nowhere (drop (count - 1) token_spans)) 
 abbrev pub skip : ℕ → SemanticStacks → SemanticStacks
 skip count s = record s { token_spans = drop count s.token_spans }
 
--- of so many tokens only the place of the last one matters
+-- of so many tokens only the span of the last one matters
 abbrev pub last_mark : ℕ → SemanticStacks → SemanticStacks
 last_mark count s = record s { token_spans = top_or nowhere (drop 0 s.token_spans) ∷ drop count s.token_spans }
 

@@ -13,7 +13,7 @@ use std::alloc::Global;
 use xb_span::Span;
 use xb_value::Seq;
 
-/// The place of what isn't there.
+/// The span of what isn't there.
 pub const NOWHERE: Span = Span { from: 0, to: 0 };
 
 /// The number that isn't there.

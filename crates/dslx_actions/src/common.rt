@@ -9,7 +9,7 @@ use std::alloc::AllocError;
 use xb_span::Span;
 
 impl SemanticStacks {
-    /// Takes so many places of tokens, and gives the place of all of them.
+    /// Takes so many token spans, and gives the span of all of them.
     pub fn take_token_spans(&mut self, count: usize) -> Span
         ensures span { result ≡ across count self.old.token_spans }
         ensures rest { self.new ≡ record self.old { token_spans = drop count self.old.token_spans } }
@@ -27,7 +27,7 @@ impl SemanticStacks {
         self.token_spans.drop_top(count);
     }
 
-    /// Of so many tokens only the place of the last one matters.
+    /// Of so many tokens only the span of the last one matters.
     pub fn last_mark(&mut self, count: usize) -> Result<(), AllocError>
         ensures { OnOk result (self.new ≡ last_mark count self.old) }
     {

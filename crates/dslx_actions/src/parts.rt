@@ -13,7 +13,7 @@ use xb_span::Span;
 
 /// The parts that have been built and not been used, a stack for each sort.
 pub struct SemanticStacks {
-    /// The places of tokens that say nothing but where they are.
+    /// The spans of tokens that say nothing but where they are.
     pub token_spans: Stack<Span>,
     pub idents: Stack<Ident>,
     pub numbers: Stack<Digits>,
@@ -27,7 +27,7 @@ pub struct SemanticStacks {
     /// Types that may be left out.
     pub annotations: Stack<Option<TypeExpr>>,
     pub patterns: Stack<Pattern>,
-    /// The places of the expressions, each with the parentheses round it.
+    /// The spans of the expressions, each with the parentheses round it.
     pub expr_spans: Stack<Span>,
     pub exprs: Stack<Expr>,
     /// Expressions that may be left out.

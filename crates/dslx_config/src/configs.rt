@@ -1,4 +1,4 @@
-//! What becomes of a proc without what its `next` does: what its `config` makes and starts, the outer channels of the top, and the
+//! What a proc is lowered to without its `next`: what its `config` makes and spawns, the outer channels of the top, and the
 //! state in which it opens.
 mod channel;
 mod child;

@@ -1,4 +1,4 @@
-//! What a proc's `config` becomes: its channels, its members, and the procs that it spawns.
+//! What a proc's `config` is lowered to: its channels, its members, and the procs that it spawns.
 #![tactic(auto)]
 
 pub mod channels;

@@ -1,5 +1,5 @@
 -- For other crates' proofs; nothing else of this folder is.
--- what becomes of expressions, statements and procs
+-- lowering of expressions, statements and procs
 pub mod Lowering
 -- networks
 pub mod Networks

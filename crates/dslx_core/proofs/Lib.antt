@@ -2,7 +2,7 @@
 pub mod OnBehaviors
 -- constants have values of their types
 pub mod OnConstants
--- what becomes of expressions, statements and procs
+-- lowering of expressions, statements and procs
 pub mod OnLowering
 -- networks
 pub mod OnNetworks

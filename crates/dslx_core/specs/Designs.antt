@@ -134,7 +134,7 @@ no_core_family = record { procs = []; chans = [] }
 abbrev pub and_core_family : CoreFamily → CoreFamily → CoreFamily
 and_core_family a c = record { procs = a.procs ++ c.procs; chans = a.chans ++ c.chans }
 
--- the channels of ends: those that are given, and behind them the channels that are made, whose first has this number
+-- the channel of an end by its index: one of the arguments, or behind them a channel that is made; the first of those has this number
 abbrev pub channel_of_end : List ℕ → ℕ → ℕ → ℕ
 channel_of_end given number end = get_or given end (number + (end - length given))
 

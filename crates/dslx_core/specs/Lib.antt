@@ -1,4 +1,4 @@
--- which checked text stands for a text
+-- which checked text simulates a text
 pub mod CoreOf
 -- the value of an expression of a checked text
 pub mod CoreValues
@@ -6,7 +6,7 @@ pub mod CoreValues
 pub mod Designs
 -- behaviors of procs
 pub mod Behaviors
--- what becomes of expressions, statements and procs
+-- lowering of expressions, statements and procs
 pub mod Lowering
 -- networks
 pub mod Networks

@@ -1,6 +1,6 @@
--- places in bodies, and which bound values names stand for
+-- scopes in bodies, and which bound values names stand for
 pub mod CoreScopes
--- what it means that a core expression stands for an expression of a text
+-- what it means that a core expression simulates an expression of a text
 pub mod Correspondence
 -- types that are equal in all their parts
 pub mod EqualTypes
@@ -12,9 +12,9 @@ pub mod Patterns
 pub mod Trees
 -- instances of functions
 pub mod Functions
--- what it means that instances stand for those of a text
+-- what it means that instances simulate those of a text
 pub mod Instances
 -- the steps of `next`
 pub mod Steps
--- what it means that steps stand for statements
+-- what it means that steps simulate statements
 pub mod Activities

@@ -4,7 +4,7 @@ pub mod Alike
 pub mod Extension
 -- the machine
 pub mod Machine
--- each instance stands once
+-- each instance is in a table once
 pub mod Once
 -- instances that are needed are made
 pub mod Progress

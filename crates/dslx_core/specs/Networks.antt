@@ -1,6 +1,6 @@
 -- ends by their numbers
 pub mod Ends
--- what a `config` becomes
+-- what a `config` is lowered to
 pub mod Configs
 -- instances of procs
 pub mod Procs

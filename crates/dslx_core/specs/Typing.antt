@@ -6,7 +6,7 @@ pub mod Complete
 pub mod Depends
 -- what judgements depend on
 pub mod TypingRelations
--- what is known of items
+-- global environments
 pub mod GlobalEnv
 -- laws
 pub mod Laws

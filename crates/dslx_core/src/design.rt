@@ -39,9 +39,9 @@ pub struct Instance {
     pub made: Seq<MadeChannel>,
     /// The procs that it starts, in the order of the text.
     pub children: Seq<Child>,
-    /// The end of each member: a number of those that `config` is given, and behind these of the channels that it makes.
+    /// The end of each member: a number of those that `config` takes, and behind these of the channels that it makes.
     pub members: Seq<u64>,
-    /// How many ends `config` is given.
+    /// How many ends `config` takes.
     pub ends: u64,
     pub state: Ty,
     pub opening: Value,
@@ -59,7 +59,7 @@ pub struct MadeChannel {
     pub depth: u32,
 }
 
-/// A proc that a `config` starts: the number of its instance, and the ends that it is given.
+/// A proc that a `config` starts: the number of its instance, and the ends that are its arguments.
 #[derive(Drop)]
 pub struct Child {
     pub instance: u64,

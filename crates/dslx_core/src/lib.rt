@@ -1,5 +1,6 @@
 //! A checked text: each instance with its types, and nothing left to look up.
 //!
+//! [`typing`] has type soundness, which it stands on, [`machines`] the machine that makes instances, as a definition.
 //! Its values are plain: a struct is a tuple, an enum is bits, a token is `()`. `specs/` has its meaning.
 #![tactic(auto)]
 

@@ -1,7 +1,7 @@
-//! Which core expression an expression of a text becomes, and that the two mean the same.
+//! Which core expression an expression of a text is lowered to, and that lowering preserves its value.
 //!
-//! `specs/Trees` has what each tree becomes at a place, with the type of its values; `specs/Functions` has it of the instances
-//! of functions. The laws say that, wherever the text's expression has a value, what it becomes has the same one without
+//! `specs/Lowering/Trees` has what each tree is lowered to in a scope, with the type of its values; `specs/Lowering/Functions` has it of the instances
+//! of functions. The laws say that, wherever the text's expression has a value, what it is lowered to has the same one without
 //! signs and names. They don't ask whether the text breaks a rule.
 mod expr;
 mod expressions;

@@ -1,4 +1,4 @@
-//! Which instances of a checked text the instances of a text's procs become, and that the two have one network.
+//! Which instances of a checked text the instances of a text's procs are lowered to, and that the two have one network.
 mod config;
 mod instance;
 mod network;

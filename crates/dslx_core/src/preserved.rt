@@ -1,4 +1,4 @@
-//! What breaks no rule has the value that it means in what it becomes in a checked text.
+//! What breaks no rule has the value that it denotes, and what it is lowered to in a checked text has the same one.
 ghost use Rattle.std.specs.Prelude.{◌≡◌, List, Some, false};
 ghost use Rattle.dslx_core.specs.CoreValues.{Bindings, Functions};
 ghost use Rattle.dslx_core.specs.Lowering.CoreScopes.{CoreScope};
@@ -14,8 +14,8 @@ ghost use Rattle.dslx_tree.specs.declared.expr.Expr.{Expr};
 ghost use Rattle.dslx_core.specs.Typing.Typed.Complete.{IsWellTypedPart};
 ghost use Rattle.dslx_core.specs.Typing.Typed.WellTyped.{IsWellTypedEnv};
 
-/// An expression with which nothing is wrong, where the type environment is well typed: if it becomes a core expression at a place
-/// where its names stand at their numbers, it has a value, and the core expression has this value without signs and names.
+/// A well-typed expression, where the type environment is well typed: if it is lowered to a core expression in a scope
+/// where its names are bound at their indices, it has a value, and the core expression has this value without signs and names.
 pub fn lower_preserves_typed_expressions()
     ensures { (e : Expr) (context : TypeEnv) (place : CoreScope) (calls : Functions) (given : List Given) (bound : Bindings)
         → IsWellTypedEnv context (env_at place given) → IsWellTypedPart context.known ((expr_pair e).1 false context) → SimulatesInScope place calls given bound

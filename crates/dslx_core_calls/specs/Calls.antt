@@ -1,4 +1,4 @@
--- what builtins become
+-- what builtins are lowered to
 pub mod Builtins
 -- what functions of this crate promise to one another, and nobody else needs
 pub mod Inner

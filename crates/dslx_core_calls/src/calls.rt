@@ -1,4 +1,4 @@
-//! The core expressions that builtins, calls, matches and loops become, made of those that their parts became.
+//! The core expressions that builtins, calls, matches and loops are lowered to, made of those of their parts.
 //!
 //! Each call is its definition in `dslx_core::lowering`; `None` where types don't fit.
 mod builtins;

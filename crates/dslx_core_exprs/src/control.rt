@@ -1,4 +1,4 @@
-//! The core expressions that choices, bindings and parts of values become, made of those that their parts became.
+//! The core expressions that choices, bindings and parts of values are lowered to, made of those of their parts.
 //!
 //! Each call is its definition in `dslx_core::lowering`; `None` where types don't fit.
 mod control;

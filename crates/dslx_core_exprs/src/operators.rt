@@ -1,4 +1,4 @@
-//! The core expressions that operators, casts and parts of bits become, made of those that their operands became.
+//! The core expressions that operators, casts and parts of bits are lowered to, made of those of their operands.
 //!
 //! Each call is its definition in `dslx_core::lowering`; `None` where types don't fit.
 mod operators;

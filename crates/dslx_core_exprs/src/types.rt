@@ -1,4 +1,4 @@
-//! What is asked of the types of what is lowered, and what known values become.
+//! What is asked of the types of what is lowered, and values as literals.
 //!
 //! Each call is its definition in `dslx_core::lowering`.
 mod literals;

@@ -25,7 +25,7 @@ use Rattle.dslx_core.proofs.Lemmas.Machines.Machine.Steady.{type_anywhere}
 use Rattle.dslx_core.specs.Networks.Configs.{LoweredConfig, ProcInstance, lower_config}
 use Rattle.dslx_core.specs.Networks.Procs.{instance_of, lower_proc}
 use Rattle.dslx_core.specs.Machines.Extension.Results.{TableResult}
-use Rattle.dslx_next.specs.Steps.GlobalEnv.{parametric_args_known}
+use Rattle.dslx_next.specs.Steps.BodyEnvs.{parametric_args_known}
 use Rattle.dslx_core.proofs.Lemmas.Machines.Extension.Coming.{comes_as, never_as, never_behind, never_then, value_comes}
 use Rattle.dslx_elab.specs.Behind.{behind_next}
 

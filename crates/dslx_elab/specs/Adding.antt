@@ -19,12 +19,12 @@ pub record IsOneMore (m : Module) (before : MadeInstances) (i : Instantiated) (a
   pub comes : StableFrom m before.functions after.functions (λ functions. next_proc m (meanings_of m) functions before.procs.items i) made
   pub procs : after.procs.items ≡ before.procs.items ++ made ∷ []
 
--- what comes of an instance that isn't there yet
+-- the result for an instance that isn't there yet
 abbrev pub AddsMissing : Module → ℕ → MadeInstances → Instantiated → Option MadeInstances → Type 0
 AddsMissing m limit before i None = NoTableGives m limit (λ functions. next_proc m (meanings_of m) functions before.procs.items i)
 AddsMissing m limit before i (Some after) = IsOneMore m before i after
 
--- what comes of an instance that is asked for: it stays the one that is there, or is made behind the others, or it becomes nothing by
+-- the result for an instance that is asked for: it stays the one that is there, or is made behind the others, or it has no lowering by
 -- any table of at most so many instances of functions
 pub data AddsProc (m : Module) (limit : ℕ) (before : MadeInstances) (i : Instantiated) : Option MadeInstances → Type 0 where
   IsAmong : (k : ℕ) → number_in before i ≡ Some k → AddsProc m limit before i (Some before)

@@ -1,4 +1,4 @@
--- What an instance of a proc becomes, where parts of it are made.
+-- What an instance of a proc is lowered to, where parts of it are made.
 use Rattle.std.specs.Prelude.{List, Option, Some}
 use Rattle.dslx_tree.specs.declared.item.Module.{Module}
 use Rattle.dslx_tree.specs.declared.process.Proc.{Proc}

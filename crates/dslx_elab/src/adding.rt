@@ -23,7 +23,7 @@ pub struct MadeInstances {
     pub procs: Vec<ProcInstance>,
 }
 
-/// The instances with one of a proc, which is made where it isn't there yet; `None` only where it becomes nothing by any table of at
+/// The instances with one of a proc, which is made where it isn't there yet; `None` only where it has no lowering by any table of at
 /// most `limit` instances of functions, as where a proc that it spawns isn't there.
 ///
 /// It looks at all procs that are there, and takes the time of `instance` and of the constants for what is made.

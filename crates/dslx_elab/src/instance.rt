@@ -24,8 +24,8 @@ use dslx_tree::{Module, Proc};
 use std::alloc::{AllocError, Global};
 use xb_value::Boxed;
 
-/// What a proc with these parametric arguments becomes where these instances of procs are there to be spawned, with the instances of
-/// functions that it needs behind those that are made; `None` only where it becomes nothing by any table of at most `limit` of those.
+/// What a proc with these parametric arguments is lowered to where these instances of procs are there to be spawned, with the instances of
+/// functions that it needs behind those that are made; `None` only where it has no lowering by any table of at most `limit` of those.
 pub fn proc_there<'a>(
     alloc: Global,
     text: &'a Module,
@@ -51,7 +51,7 @@ pub fn proc_there<'a>(
     }
 }
 
-/// The whole of it, where its `next` becomes this.
+/// The whole of it, where its `next` is lowered to this.
 fn instance_with<'a>(
     alloc: Global,
     text: &'a Module,
@@ -68,7 +68,7 @@ fn instance_with<'a>(
     }
 }
 
-/// The same where its `config` becomes this.
+/// The same where its `config` is lowered to this.
 fn instance_opening<'a>(
     alloc: Global,
     text: &'a Module,

@@ -1,4 +1,4 @@
--- what instances are known by
+-- keys of instances
 pub mod Keys
 -- keys that pass the test of equality are one
 pub mod KeyLaws

@@ -1,4 +1,4 @@
-//! What is to be done where instances of functions are lowered, and where the machine that does it stands.
+//! What is to be done where instances of functions are lowered, and the state of the machine that does it.
 mod body;
 mod machine;
 mod maker;

@@ -24,7 +24,7 @@ use dslx_values::copy_name;
 use std::alloc::{AllocError, Global};
 use xb_value::Seq;
 
-/// An instance of the text's function is to be called, or this is what a builtin becomes; whether there is such.
+/// An instance of the text's function is to be called, or this is what a builtin is lowered to; whether there is such.
 #[tactic(auto, using(crate::proofs::Calls::calls_are))]
 pub(crate) fn begin_call<'a>(
     body: &mut OpenBody<'a>,
@@ -69,7 +69,7 @@ fn begin_function<'a>(
     }
 }
 
-/// The instance that a call with these parametric arguments and operands comes to.
+/// The instance that a call with these parametric arguments and operands resolves to.
 fn instance_called(
     alloc: Global,
     text: &Module,

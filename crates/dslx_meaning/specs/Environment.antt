@@ -1,4 +1,4 @@
--- What names stand for at a place of a text.
+-- What names stand for in a scope of a text.
 use Rattle.std.specs.Prelude.{ℕ, List, [], ◌∷◌, Bool, Option, Some, None, if◌then◌else◌}
 use Rattle.std.specs.Str.{bytes_eq}
 use Rattle.dslx_meaning.specs.Lists.{or_else}
@@ -43,6 +43,6 @@ with_bound env bound = record { items = env.items; bound = bound }
 abbrev pub bind : List ℕ → DslxValue → Env → Env
 bind name v env = with_bound env (record { name = name; value = v } ∷ env.bound)
 
--- where items alone are in sight
+-- where items alone are in scope
 abbrev pub outside : Meanings → Env
 outside items = record { items = items; bound = [] }

@@ -7,7 +7,7 @@ use Rattle.dslx_meaning.specs.Types.{same_bool}
 use Rattle.dslx_meaning.specs.declared.ty.DslxType.{DslxType, out-DslxType}
 use Rattle.dslx_meaning.specs.declared.ty.DslxType.TheOpen.{DslxType-F}
 
--- a name, and the number that stands at its place
+-- a name, and the number that is inferred for it
 pub record Inferred : Type 0 where
   pub name : List ℕ
   pub number : ℕ

@@ -59,11 +59,11 @@ as_enum _ = None
 
 -- ---- parametrics
 
--- what is bound, and a parameter with its value
+-- what is bound, and a parametric with its value
 abbrev pub with_number : List Given → Parametric → DslxValue → List Given
 with_number so_far p v = record { name = p.name.name; value = v } ∷ so_far
 
--- what a parameter is where it isn't given: what the arguments infer, or else its default, which sees the parameters before it
+-- what a parametric is where it isn't given: what the arguments infer, or else its default, which sees the parametrics before it
 abbrev pub inferred_value : Env → Parametric → Option ℕ → Option DslxValue
 inferred_value env p None = and_then p.default (λ e. value_of e env)
 inferred_value env p (Some n) = and_then (written_type p.ty env) (λ t. number_value t (record { is_negative = false; value = n }))
@@ -72,7 +72,7 @@ abbrev pub put_first : {A : Type 0} → A → Option (List A) → Option (List A
 put_first a None = None
 put_first a (Some as') = Some (a ∷ as')
 
--- the values of all parameters, from those that are given, where arguments infer these numbers
+-- the values of all parametrics, from those that are given, where arguments infer these numbers
 abbrev pub all_parametric_args : Meanings → List Inferred → List Given → List Parametric → List DslxValue → Option (List DslxValue)
 all_parametric_args items inferred so_far [] [] = Some []
 all_parametric_args items inferred so_far [] (v ∷ vs) = None
@@ -81,7 +81,7 @@ all_parametric_args items inferred so_far (p ∷ ps) [] =
     and_then (inferred_value (record { items = items; bound = so_far }) p (inferred_for p.name.name inferred))
     (λ v. put_first v (all_parametric_args items inferred (with_number so_far p v) ps []))
 
--- the parameters with their values, the last one first
+-- the parametrics with their values, the last one first
 abbrev pub parametric_args_bound : List Given → List Parametric → List DslxValue → List Given
 parametric_args_bound so_far [] vs = so_far
 parametric_args_bound so_far (p ∷ ps) [] = so_far
@@ -92,7 +92,7 @@ operands_bound so_far [] vs = so_far
 operands_bound so_far (f ∷ fs) [] = so_far
 operands_bound so_far (f ∷ fs) (v ∷ vs) = operands_bound (record { name = f.name.name; value = v } ∷ so_far) fs vs
 
--- the type environment in an instance
+-- the environment in an instance
 abbrev pub instance_env : Meanings → List Parametric → List DslxValue → Env
 instance_env items parametrics parametric_args = record { items = items; bound = parametric_args_bound [] parametrics parametric_args }
 

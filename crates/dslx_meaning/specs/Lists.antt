@@ -42,7 +42,7 @@ abbrev pub times_in : List ℕ → List (List ℕ) → ℕ
 times_in name [] = 0
 times_in name (n ∷ ns) = if bytes_eq name n then suc (times_in name ns) else times_in name ns
 
--- the place of the first name that is this one
+-- the index of the first name that is this one
 abbrev pub index_in : List ℕ → List (List ℕ) → Option ℕ
 index_in name [] = None
 index_in name (n ∷ ns) = if bytes_eq name n then Some 0 else one_more (index_in name ns)

@@ -41,7 +41,7 @@ pub record ExprDen : Type 0 where
   pub bare : Option UntypedLiteral
   pub value : ValueDen
 
--- what is bound behind a pattern, if a value fits: by the type environment at the place of the whole pattern, where its numbers are
+-- what is bound behind a pattern, if a value fits: by the environment of the whole pattern, where its numbers are
 -- evaluated, and what is bound so far
 abbrev pub MatchDen : Type 0
 MatchDen = Env → DslxValue → Env → Option Env
@@ -185,7 +185,7 @@ shape_names _ = []
 abbrev pub shape_den : ShapeMeanings → PatternDen
 shape_den s = record { names = shape_names s; fits = shape_fits s }
 
--- at its own place
+-- in its own scope
 abbrev pub fits_in_scope : PatternDen → DslxValue → Env → Option Env
 fits_in_scope p v env = p.fits env v env
 

@@ -182,14 +182,14 @@ part_value v start w = with_both (bits_of v) (unsigned_of start) (λ x k. Some (
 
 -- ---- arrays, tuples and structs
 
--- the element of a place, the last one past the end
+-- the element at an index, the last one past the end
 abbrev pub element_or_last : List DslxValue → ℕ → Option DslxValue
 element_or_last vs k = slice_get vs (min k (pred (length vs)))
 
 abbrev pub index_value : DslxValue → DslxValue → Option DslxValue
 index_value v i = with_both (items_of v) (unsigned_of i) (λ vs k. element_or_last vs k.value)
 
--- the array with another value at a place; past the end it stays as it is
+-- the array with another value at an index; past the end it stays as it is
 abbrev pub update_value : DslxValue → DslxValue → DslxValue → Option DslxValue
 update_value v i new = with_both (items_of v) (unsigned_of i) (λ vs k. Some (Array (if nat_lt k.value (length vs) then set vs k.value new else vs)))
 

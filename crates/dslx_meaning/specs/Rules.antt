@@ -36,5 +36,7 @@ pub mod Paired
 pub mod PatternRules
 -- procs
 pub mod ProcRules
+-- the rules by name
+pub mod RuleNumbers
 -- written types
 pub mod TypeRules

@@ -1,4 +1,4 @@
-//! What names stand for in a text: what is bound at a place, its items, and what is called.
+//! What names stand for in a text: what is bound in a scope, its items, and what is called.
 #![tactic(auto)]
 
 mod callee;

@@ -15,7 +15,7 @@ pub struct Binding<'a> {
     pub value: DslxValue,
 }
 
-/// What is bound at a place. Contracts see the list, the last name first.
+/// What is bound in a scope. Contracts see the list, the last name first.
 #[derive(Drop)]
 pub struct Scope<'a> {
     bindings: Vec<Binding<'a>>,

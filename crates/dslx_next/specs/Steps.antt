@@ -1,4 +1,4 @@
 -- what comes of statements, with the body behind them
 pub mod Passing
--- what is known in a body, as the crate below defines it
-pub mod GlobalEnv
+-- the environment of a body, as the crate below defines it
+pub mod BodyEnvs

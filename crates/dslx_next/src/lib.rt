@@ -1,4 +1,4 @@
-//! What a proc's `next` becomes: its steps, and its next state.
+//! What a proc's `next` is lowered to: its steps, and its next state.
 #![tactic(auto)]
 
 pub mod opening;

@@ -1,4 +1,4 @@
-//! What the `next` of a proc becomes: a step for each statement, and then the next state, with the instances of functions that they
+//! What the `next` of a proc is lowered to: a step for each statement, and then the next state, with the instances of functions that they
 //! need.
 mod body;
 mod next;

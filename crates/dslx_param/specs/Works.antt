@@ -12,8 +12,8 @@ use Rattle.dslx_instance.specs.declared.tasks.body.OpenBody.{OpenBody}
 use Rattle.dslx_instance.specs.Tasks.Works.{work_scope}
 use Rattle.dslx_instance.specs.declared.tasks.work.BodyWork.{BodyWork}
 
--- what an expression becomes, with the instances that are made then: it becomes nothing by any table of at most so many instances,
--- or this by each that begins with theirs, and what is bound stays as it is
+-- what an expression is lowered to, with the instances that are made then: nothing by any table of at most so many instances,
+-- or this by each that extends theirs, and what is bound stays as it is
 pub data LowerResult (m : Module) (limit : ℕ) (w : BodyWork) (e : Expr) : Option (LoweredExpr × BodyWork) → Type 0 where
   IsNone : ((table : List CoreInstance) → IsTable m (meanings_of m) table → length table ≤ limit → lower_expression e (work_scope m table w) ≡ None) → LowerResult m limit w e None
   IsLowered : (r : LoweredExpr) (after : BodyWork) → IsTable m (meanings_of m) after.table → ExtendsTable after.table w.table

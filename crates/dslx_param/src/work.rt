@@ -13,7 +13,7 @@ use dslx_instance::tasks::{BodyWork, InstanceMachine, LowerTask, OpenBody};
 use dslx_tree::{Expr, Module};
 use std::alloc::{AllocError, Global};
 
-/// What an expression becomes, with the instances that it needs; `None` only where it becomes nothing by any table of at most so many
+/// What an expression is lowered to, with the instances that it needs; `None` only where it has no lowering by any table of at most so many
 /// instances.
 #[tactic(auto, using(crate::proofs::Lowered::lowers_made, crate::proofs::Lowered::lowers_none))]
 pub fn lower_in<'a>(

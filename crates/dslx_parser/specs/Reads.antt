@@ -22,11 +22,11 @@ kinds_of ls = map (λ l. l.kind) ls
 abbrev pub Reads : List Lexeme → Module → Type 0
 Reads ls m = IsTextOf ls m
 
--- This is the place of the first token with which no text of the grammar goes on.
+-- This is the index of the first token with which no text of the grammar goes on.
 abbrev pub FaultsAt : List Lexeme → ℕ → Type 0
 FaultsAt ls place = IsFirstFault (IsSentence dslx) (kinds_of ls) place
 
--- the tokens before a place
+-- the kinds of the tokens before an index
 abbrev pub before : ℕ → List Lexeme → List ℕ
 before place ls = take place (kinds_of ls)
 

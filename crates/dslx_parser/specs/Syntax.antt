@@ -4,7 +4,7 @@ pub mod Atoms
 pub mod Blocks
 -- what the rules of modules, functions, constants and named types make
 pub mod Items
--- the nodes that the rules make, and their places
+-- the nodes that the rules make, and their spans
 pub mod Nodes
 -- what the rules of operators, and of what stands behind an atom, make
 pub mod Operators

@@ -1,4 +1,4 @@
-//! How high the tree of a DSLX text is: how many of its parts stand one in another.
+//! The depth of the tree of a DSLX text: how many of its parts stand one in another.
 //!
 //! What recurses along a tree takes at most a fixed number of calls for each part of a path from its root, so this bounds
 //! each recursion over trees. The nesting of tokens alone doesn't: the marks in a bracket count no more where it closes, so
@@ -10,7 +10,7 @@ ghost use Rattle.dslx_parser.specs.Syntax.Trees.{IsTextOf};
 ghost use Rattle.dslx_token.specs.Lexeme.{Lexeme};
 ghost use Rattle.dslx_tree.specs.declared.item.Module.{Module};
 
-/// The tree of a text in which no token is nested deeper than the limit is no higher than 8,906.
+/// The tree of a text in which no token is nested deeper than the limit is no deeper than 8,906.
 pub fn trees_are_shallow()
     ensures high { (ls : List Lexeme) (m : Module) → IsTextOf ls m → NestWithin ls → tree_depth m ≤ most_high }
     ensures number { most_high ≡ 8906 }

@@ -94,7 +94,7 @@ fn sentence(
     nested(alloc, tokens, kinds, productions, deep)
 }
 
-/// [`sentence`], with the place of the first token that is nested too deep.
+/// [`sentence`], with the index of the first token that is nested too deep.
 fn nested(
     alloc: Global,
     tokens: &[Token],
@@ -162,7 +162,7 @@ const NESTING: Limit = Limit {
     most: 128,
 };
 
-/// Why tokens are refused with a fault at this place, where these productions lead to those before it.
+/// Why tokens are refused with a fault at this index, where these productions lead to those before it.
 fn refusal(
     alloc: Global,
     tokens: &[Token],
@@ -194,7 +194,7 @@ fn front(kinds: &[u8], count: usize) -> &[u8]
     }
 }
 
-/// [`refusal`], with the kinds before the fault, and the place of the first token there that is nested too deep.
+/// [`refusal`], with the kinds before the fault, and the index of the first token there that is nested too deep.
 fn first_fault(
     tokens: &[Token],
     kinds: &[u8],
@@ -257,7 +257,7 @@ fn depth_fault_before(
     ReadError::Over(NESTING)
 }
 
-/// The refusal of tokens with a fault at this place, where none before it is nested too deep.
+/// The refusal of tokens with a fault at this index, where none before it is nested too deep.
 fn syntax_fault(tokens: &[Token], kinds: &[u8], place: usize) -> ReadError
     requires same { kinds.now ≡ kinds_of tokens.now }
     requires inside { place < length kinds.now }
@@ -268,7 +268,7 @@ fn syntax_fault(tokens: &[Token], kinds: &[u8], place: usize) -> ReadError
     ReadError::Syntax(start_of(tokens, place))
 }
 
-/// Where the token at a place begins.
+/// Where the token at an index begins.
 fn start_of(tokens: &[Token], place: usize) -> u32
     requires { place < length tokens.now }
     ensures { IfSome (slice_get tokens.now place) (λ token. result ≡ token.span.from) }
@@ -282,7 +282,7 @@ fn kinds(alloc: Global, tokens: &[Token]) -> Result<Vec<u8>, AllocError>
     tokens.iter().map(|token| token.kind()).collect(alloc)
 }
 
-/// The place of the first token that is nested too deep, of those to which the productions lead.
+/// The index of the first token that is nested too deep, of those to which the productions lead.
 fn too_deep(alloc: Global, productions: &[u16], kinds: &[u8]) -> Result<Option<usize>, AllocError>
     ensures { IfOk result (λ place. place ≡ first_past (bracket_classes_of productions.now kinds.now)) }
 {

@@ -44,7 +44,7 @@ fn f<N: u32>(x: u8) -> u32 { N + u32:1 } proc P<N: u32> { config() { () } init {
 proc P { a: chan<u8> in; config(a: chan<u8> in) { (a,) } init { u8:0 } next(s: u8) { let (t, x) = recv(join(), a); let y = { let x = x + u8:1; x }; x + y } } // 0<0x05 0x0b
 ";
 
-/// Procs that become nothing.
+/// Procs that have no lowering.
 const NOTHING: &str = "
 proc P { config() { () } init { u8:0 } next(s: u8) { u4:1 } } //
 proc P { config() { () } init { u4:0 } next(s: u8) { s } } //

@@ -22,8 +22,8 @@ use xb_value::Seq;
 /// More instances than any text here comes to.
 const LIMIT: usize = 1024;
 
-/// All instances of the text's procs: a proc with parametrics has one with a 3 for each of them. `None` where one of them becomes
-/// nothing.
+/// All instances of the text's procs: a proc with parametrics has one with a 3 for each of them. `None` where one of them has
+/// no lowering.
 pub fn instances(alloc: Global, text: &str) -> Result<Option<MadeInstances>, Fail> {
     if text.len() >= 4_294_967_296 {
         return Err(Fail::from("long"));

@@ -1,4 +1,4 @@
-//! What is in scope at a place of a body: its locals, free names, and written types.
+//! What is in scope at a point of a body: its locals, free names, and written types.
 #![tactic(auto)]
 
 pub mod free_names;

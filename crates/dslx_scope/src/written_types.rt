@@ -1,6 +1,6 @@
-//! What written types become at a place, by what they mean.
+//! What written types are lowered to in a scope, by what they denote.
 //!
-//! There is no code here: code that lowers types asks what they mean among the parametrics, and whether they see a local.
+//! There is no code here: code that lowers types asks what they denote among the parametrics, and whether they see a local.
 ghost use Rattle.std.specs.Prelude.{◌≡◌};
 ghost use Rattle.dslx_tree.specs.declared.type_expr.TypeExpr.{TypeExpr};
 ghost use Rattle.dslx_meaning.specs.Meaning.{written_type};
@@ -8,7 +8,7 @@ ghost use Rattle.dslx_core.specs.Lowering.CoreScopes.{CoreScope, globals_env, un
 ghost use Rattle.dslx_core.specs.Lowering.Trees.{lower_type_of_text};
 ghost use Rattle.dslx_scope.specs.WrittenTypes.Seen.{type_sees_a_local};
 
-/// A written type becomes what it means where items and parametrics alone are in sight; nothing if a size in it sees a
+/// A written type is lowered to what it denotes where items and parametrics alone are in scope; to nothing if a size in it sees a
 /// local.
 pub fn lower_total_written_types()
     ensures { (t : TypeExpr) (place : CoreScope) → lower_type_of_text t place ≡ unless_local (type_sees_a_local place t) (written_type t (globals_env place.known)) }

@@ -1,2 +1,2 @@
--- a place by what code has of it
+-- a scope by what code has of it
 pub mod Seen

@@ -1,4 +1,4 @@
-//! Names and constants at a place of a body.
+//! Names and constants in a scope of a body.
 #![tactic(auto)]
 
 pub mod names;

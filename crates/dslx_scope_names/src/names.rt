@@ -1,5 +1,5 @@
-//! What names and numbers of a text stand for: constants, members and structs by their names alone, and a name or a number at a
-//! place where something is lowered.
+//! What names and numbers of a text stand for: constants, members and structs by their names alone, and a name or a number in a
+//! scope where something is lowered.
 mod item;
 mod named;
 mod there;

@@ -1,4 +1,4 @@
-//! The values of constants, sizes, bounds and written types at a place where something is lowered: none where they see a name
+//! The values of constants, sizes, bounds and written types in a scope where something is lowered: none where they see a name
 //! that is bound there.
 mod context;
 mod local;

@@ -1,4 +1,4 @@
--- places behind names that patterns bind
+-- scopes behind names that patterns bind
 pub mod Behind
 -- what stands at the top of a pattern
 pub mod Tops

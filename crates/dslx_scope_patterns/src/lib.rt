@@ -1,4 +1,4 @@
-//! Patterns and parametric values at a place of a body.
+//! Patterns and parametric arguments in a scope of a body.
 #![tactic(auto)]
 
 pub mod parametric_args;

@@ -1,4 +1,4 @@
-//! What patterns become at a place where something is lowered, and which names they bind.
+//! What patterns are lowered to in a scope, and which names they bind.
 mod bind;
 mod fresh;
 mod names;

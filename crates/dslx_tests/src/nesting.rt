@@ -2,7 +2,7 @@ use std::alloc::Global;
 use std::test::Fail;
 use xb_span::nesting::{BracketClass, first_over};
 
-/// The place of the first token past the limit, of so many tokens of one role, with others before and behind them.
+/// The index of the first token past the limit, of so many tokens of one bracket class, with others before and behind them.
 fn place_of(
     alloc: Global,
     before: BracketClass,

@@ -5,7 +5,7 @@ use std::test::Fail;
 use xb_span::Span;
 use xb_value::Boxed;
 
-/// The number, at its place in a text of digits and operators.
+/// The number, with its span in a text of digits and operators.
 fn number(alloc: Global, value: u32) -> Result<Operand, AllocError> {
     let span = Span {
         from: value,

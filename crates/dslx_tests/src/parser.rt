@@ -1,4 +1,4 @@
-//! Tests of the reader of DSLX texts: texts of each rule of the grammar and their trees, refusals with places, and nesting
+//! Tests of the reader of DSLX texts: texts of each rule of the grammar and their trees, refusals with positions, and nesting
 //! at its limit. All were worked by hand.
 #[cfg(test)]
 mod answers;

@@ -2,7 +2,7 @@
 use Rattle.std.specs.Prelude.{ℕ, List}
 use Rattle.xb_span.specs.declared.span.Span.{Span}
 
--- a kind of the grammar, the place in the text, and the bytes that stand there
+-- a kind of the grammar, the span in the text, and the bytes that stand there
 pub record Lexeme : Type 0 where
   pub kind : ℕ
   pub span : Span

@@ -1,4 +1,4 @@
--- The tokens of a DSLX text: the longest ones, each with its kind and its place.
+-- The tokens of a DSLX text: the longest ones, each with its kind and its span.
 use Rattle.std.specs.Prelude.{◌≡◌, ◌≢◌, ◌+◌, ◌-◌, ◌<◌, ◌^◌, ℕ, true, false, List, [], ◌∷◌, ◌++◌, length, slice_index}
 use Rattle.std.specs.Char.{is_ascii_alphabetic}
 use Rattle.dslx_token.specs.declared.rules.generated.kind.TheConstants.{END}
@@ -23,7 +23,7 @@ pub record IsNextToken (token rest : List ℕ) : Type 0 where
 abbrev pub BeginsNoToken : List ℕ → Type 0
 BeginsNoToken text = (token rest : List ℕ) → text ≡ token ++ rest → ¬ IsNextToken token rest
 
--- the bytes that stand at this place, with their kind by themselves
+-- the bytes that stand at this position, with their kind by themselves
 abbrev pub lexeme_at : ℕ → List ℕ → Lexeme
 lexeme_at from bytes = record { kind = plain_kind bytes; span = record { from = from; to = from + length bytes }; bytes = bytes }
 
@@ -47,6 +47,6 @@ pub data OddAt (text : List ℕ) : List ℕ → ℕ → Type 0 where
   here : (rest : List ℕ) → after_blank rest ≢ [] → BeginsNoToken (after_blank rest) → OddAt text rest (offset_of text (after_blank rest))
   later : (rest token behind : List ℕ) (at : ℕ) → after_blank rest ≡ token ++ behind → IsNextToken token behind → OddAt text behind at → OddAt text rest at
 
--- the place of the text's first character that begins no token
+-- the position of the text's first character that begins no token
 abbrev pub IsFirstOdd : List ℕ → ℕ → Type 0
 IsFirstOdd text at = OddAt text text at

@@ -15,7 +15,7 @@ pub fn is_binary_digit(byte: u8) -> bool
     byte == b'0' || byte == b'1'
 }
 
-/// The byte at that place, or 0 past the end: no token has that byte.
+/// The byte at that index, or 0 past the end: no token has that byte.
 pub fn byte_at(text: &[u8], at: usize) -> u8
     ensures { result ≡ slice_index text.now at }
 {

@@ -1,6 +1,6 @@
 //! The tokens of a DSLX text.
 //!
-//! [`tokens`] cuts a text into its longest tokens. Each [`Token`] has its place, its bytes and a kind of
+//! [`tokens`] cuts a text into its longest tokens. Each [`Token`] has its span, its bytes and a kind of
 //! `crate::rules::kind`, which for a name says what the text declares under it.
 //!
 //! Cost: linear in the text's length.

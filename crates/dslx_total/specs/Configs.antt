@@ -2,5 +2,5 @@
 pub mod ReachedProcs
 -- what their spawns come to
 pub mod Spawned
--- what their `config` becomes
+-- what their `config` is lowered to
 pub mod LowersTotally

@@ -1,6 +1,6 @@
--- the place that stands beside the type environment
+-- the scope that matches the type environment
 pub mod Beside
--- what each part becomes
+-- what each part is lowered to
 pub mod ExprLowering
 -- instances of functions
 pub mod Instances

@@ -1,4 +1,4 @@
-//! That the `config` of each proc of a text without faults becomes something, wherever what it spawns is at hand.
+//! That the `config` of each proc of a text without faults is lowered, wherever what it spawns is at hand.
 ghost use Rattle.std.specs.Prelude.{◌≡◌, ℕ, List, [], Option, Some};
 ghost use Rattle.dslx_tree.specs.declared.item.Module.{Module};
 ghost use Rattle.dslx_tree.specs.declared.process.Proc.{Proc};
@@ -13,8 +13,8 @@ ghost use Rattle.dslx_total.specs.Configs.ReachedProcs.{IsReachedProc};
 ghost use Rattle.dslx_total.specs.Configs.LowersTotally.{ConfigLowers, TopLowers};
 
 /// Where no part of a text breaks a rule or passes a limit, each instance of a proc that is checked, and whose parametric arguments
-/// are of their own types, spawns such instances alone; and wherever all of these are at hand, its `config` becomes channels,
-/// children and members. The instance of the top proc is such a one, and the ends of its `config` become outer channels. No
+/// are of their own types, spawns such instances alone; and wherever all of these are at hand, its `config` is lowered to channels,
+/// children and members. The instance of the top proc is such a one, and the ends of its `config` are lowered to outer channels. No
 /// item may reach itself, no function bind the name of a constant and no proc by its parametrics, also where nothing
 /// calls or spawns it.
 pub fn lower_total_configs()

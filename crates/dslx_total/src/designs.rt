@@ -1,4 +1,4 @@
-//! That each text without faults has a design: a checked text that is made of its instances and stands for it.
+//! That each text without faults has a design: a checked text that is made of its instances and simulates it.
 ghost use Rattle.std.specs.Prelude.{◌≡◌, ◌≤◌, ℕ, List, [], Option, Some, length};
 ghost use Rattle.dslx_tree.specs.declared.item.Module.{Module};
 ghost use Rattle.dslx_tree.specs.declared.process.Proc.{Proc};
@@ -17,7 +17,7 @@ ghost use Rattle.dslx_total.specs.Configs.ReachedProcs.{IsReachedProc};
 ghost use Rattle.dslx_total.specs.Designs.Designs.{HasDesign, ProcsHaveTable};
 
 /// Where no part of a text breaks a rule or passes a limit, the `next` of each instance of a proc that is checked, and whose parametric
-/// arguments are of their own types, becomes steps and a next state where the functions of its table are at hand; and its
+/// arguments are of their own types, is lowered to steps and a next state where the functions of its table are at hand; and its
 /// `init` has a value of the type of its state. So it is also where nothing in the top's network spawns it. No item may reach
 /// itself and no function bind the name of a constant.
 pub fn lower_total_reached_nexts()
@@ -33,8 +33,8 @@ pub fn lower_total_reached_nexts()
     crate::words::words_of_ends_have_widths();
 }
 
-/// So none of these is given up where as many instances of functions are allowed as are checked: that it becomes nothing by any table
-/// of at most so many (`NoTableGives`) isn't so.
+/// So none of these is given up where as many instances of functions are allowed as are checked: that no table of at most so many
+/// lowers it (`NoTableGives`) isn't so.
 pub fn reached_nexts_are_not_given_up()
     ensures { (m : Module) (top : Option (List ℕ)) → HasNoCycle m → BindsNoConstant m → faults_of m top ≡ []
         → (p : Proc) (parametric_args : List DslxValue) → IsReachedProc m (meanings_of m) top p parametric_args → (limit : ℕ) → length (instances_of m top) ≤ limit
@@ -45,7 +45,7 @@ pub fn reached_nexts_are_not_given_up()
 }
 
 /// And the procs have an order in which each spawns only those before it: those with shorter chains of items first. So they
-/// become a table, in which the top's instance is the last one. It is no longer than the list of instances that are checked.
+/// are lowered to a table, in which the top's instance is the last one. It is no longer than the list of instances that are checked.
 /// No proc may bind the name of a constant by its parametrics.
 pub fn accepted_procs_have_a_table()
     ensures { (m : Module) (top : Option (List ℕ)) → HasNoCycle m → BindsNoConstant m → ProcsBindNoConstant m → faults_of m top ≡ [] → (functions : FunctionsHaveTable m top)
@@ -55,7 +55,7 @@ pub fn accepted_procs_have_a_table()
     crate::configs::lower_total_configs();
 }
 
-/// So each text without faults has a checked text that is made of its instances, and that stands for it.
+/// So each text without faults has a checked text that is made of its instances, and that simulates it.
 pub fn accepted_texts_have_a_design()
     ensures { (m : Module) (top : Option (List ℕ)) → HasNoCycle m → BindsNoConstant m → ProcsBindNoConstant m → faults_of m top ≡ [] → HasDesign m top }
 {

@@ -1,7 +1,7 @@
-//! Whatever breaks no rule becomes something in a checked text: nothing that is accepted is left out.
+//! Whatever breaks no rule is lowered to a part of a checked text: nothing that is accepted is left out.
 //!
-//! `specs/Expressions/Beside.antt` says which place stands beside the type environment, `specs/Expressions/ExprLowering.antt` what it means that a part becomes
-//! something of its type there.
+//! `specs/Expressions/Beside.antt` says which scope matches the type environment, `specs/Expressions/ExprLowering.antt` what it means
+//! that a part is lowered to something of its type there.
 mod expressions;
 mod instances;
 mod members;

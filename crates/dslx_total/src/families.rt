@@ -1,4 +1,4 @@
-//! That a text without faults is one with which nothing is wrong: what is made of its instances stands for it.
+//! That a text without faults is well-typed: what is made of its instances simulates it.
 ghost use Rattle.std.specs.Prelude.{◌≡◌, ℕ, List, [], Option, Some};
 ghost use Rattle.dslx_tree.specs.declared.item.Module.{Module};
 ghost use Rattle.dslx_tree.specs.declared.process.Proc.{Proc};
@@ -14,9 +14,9 @@ ghost use Rattle.dslx_total.specs.Texts.WellTypedTexts.{IsWellTypedText};
 ghost use Rattle.dslx_total.specs.Families.EachElaborated.{EachElaborated, NextLowers};
 ghost use Rattle.dslx_total.specs.Families.Plain.{ProcsBindNoConstant};
 
-/// Where no part of a text breaks a rule or passes a limit, nothing is wrong with its constants and types, nor with any proc in
-/// its network: its parametrics have values of their own types, nothing is wrong with what it does, and each word of its
-/// channels is a value. So a checked text that is made of its instances stands for it. No item may reach itself, no function bind
+/// Where no part of a text breaks a rule or passes a limit, its constants and types are well-typed, and so is each proc in
+/// its network: its parametrics have values of their own types, what it does is well-typed, and each word of its
+/// channels is a value. So a checked text that is made of its instances simulates it. No item may reach itself, no function bind
 /// the name of a constant and no proc by its parametrics, also where nothing calls or spawns it.
 pub fn accepted_texts_are_well_typed()
     ensures well_typed { (m : Module) (top : Option (List ℕ)) → HasNoCycle m → BindsNoConstant m → ProcsBindNoConstant m → faults_of m top ≡ [] → IsWellTypedText m top }
@@ -31,7 +31,7 @@ pub fn accepted_texts_are_well_typed()
     crate::texts::well_typed_texts_simulate();
 }
 
-/// And the `next` of each proc in its network becomes steps and a next state, where the functions of its table are at hand; and
+/// And the `next` of each proc in its network is lowered to steps and a next state, where the functions of its table are at hand; and
 /// its `init` has a value of the type of its state.
 pub fn lower_total_nexts()
     ensures { (m : Module) (top : Option (List ℕ)) → HasNoCycle m → BindsNoConstant m → ProcsBindNoConstant m → faults_of m top ≡ [] → (functions : FunctionsHaveTable m top)

@@ -1,4 +1,4 @@
-//! Each accepted text becomes a checked text: of all that it reaches there is an image.
+//! Each accepted text is lowered to a checked text, with all that it reaches.
 #![tactic(auto)]
 
 pub mod configs;

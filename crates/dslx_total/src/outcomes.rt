@@ -1,4 +1,4 @@
-//! That runs of a text's network and of a checked text that stands for it have the same outcome.
+//! That runs of a text's network and of a checked text that simulates it have the same outcome.
 ghost use Rattle.std.specs.Prelude.{◌≡◌, ◌<◌, ◌^◌, ℕ, List, Option};
 ghost use Rattle.xb_bits.specs.Word.{Word};
 ghost use Rattle.net_core.specs.Cuts.{final_cut};
@@ -10,7 +10,7 @@ ghost use Rattle.dslx_core.specs.CoreOf.{CoreOf};
 ghost use Rattle.dslx_core.specs.Designs.{core_behaviors, core_network};
 ghost use Rattle.dslx_core.specs.declared.design.Design.{Design};
 
-/// Where a checked text stands for a text, and its network is one whose procs keep types, runs of the two have the same outcome,
+/// Where a checked text simulates a text, and its network is one whose procs keep types, runs of the two have the same outcome,
 /// for all inputs, numbers of activations and depths: each channel carries the same words, and each proc ends in the same state
 /// or waits at the same site.
 pub fn made_designs_have_the_same_outcomes()

@@ -1,4 +1,4 @@
-//! That the functions of an accepted text have an order in which each calls those before it, and so become a table.
+//! That the functions of an accepted text have an order in which each calls those before it, and so are lowered to a table.
 ghost use Rattle.std.specs.Prelude.{◌≡◌, ℕ, List, [], Option};
 ghost use Rattle.dslx_tree.specs.declared.item.Module.{Module};
 ghost use Rattle.dslx_meaning.specs.Rules.ModuleRules.{faults_of};
@@ -6,7 +6,7 @@ ghost use Rattle.dslx_core.specs.Typing.Laws.Recursion.{HasNoCycle};
 ghost use Rattle.dslx_core.specs.Typing.Depends.Settled.{BindsNoConstant};
 ghost use Rattle.dslx_total.specs.Tables.Tables.{FunctionsHaveTable};
 
-/// Where no part of a text breaks a rule or passes a limit, the instances of its functions become a table in which each calls
+/// Where no part of a text breaks a rule or passes a limit, the instances of its functions are lowered to a table in which each calls
 /// those before it. All that the text reaches stand in it whose parametrics have values of their own types, and it is
 /// no longer than the list of instances that are checked.
 pub fn accepted_functions_have_a_table()

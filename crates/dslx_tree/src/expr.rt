@@ -51,7 +51,7 @@ pub enum Node {
     Part(Boxed<Expr>, Boxed<Expr>, Boxed<TypeExpr>),
     /// `e.x`
     Field(Boxed<Expr>, Ident),
-    /// `e.0`: the value, and the number with its place.
+    /// `e.0`: the value, and the number with its span.
     Element(Boxed<Expr>, Span, u128),
     /// `-e` or `!e`
     Prefix(Prefix, Boxed<Expr>),

@@ -1,7 +1,7 @@
 //! The tree of a DSLX text: modules, items, types, patterns, statements and expressions.
 //!
 //! A tree is plain data to contracts: each list is a list, and a name is its bytes. Every part that a message can name
-//! has its place in the text: a span is that of all its tokens, from the first one to the last. Parentheses round an
+//! has its span in the text: that of all its tokens, from the first one to the last. Parentheses round an
 //! expression are no part of their own, but a bigger part's span takes them in.
 #![tactic(auto)]
 

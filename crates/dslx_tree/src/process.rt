@@ -62,7 +62,7 @@ pub struct Channel {
     pub word: TypeExpr,
     /// Without it the depth is 1.
     pub depth: Option<Arg>,
-    /// What stands between the quotes, with the place of the quotes.
+    /// What stands between the quotes, with the span of the quotes.
     pub name: Ident,
 }
 

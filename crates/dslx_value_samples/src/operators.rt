@@ -25,17 +25,17 @@ fn worked<R: Abort>(
     given(binary_value(op, left.get(), right.get()))
 }
 
-/// What is given, but for an odd width.
+/// The result, but for an odd width.
 fn given(answer: Result<Option<DslxValue>, WidthOutOfRange>) -> Option<DslxValue> {
     answer.unwrap_or(None)
 }
 
-/// Nothing is given.
+/// There is no result.
 fn is_none<R: Abort>(rt: &R, got: Option<DslxValue>, what: &str) {
     assert!(rt; got.map(Kept::new).is_none(), "a value: {what}");
 }
 
-/// Nothing can be given, for its width.
+/// There can be no result, for its width.
 fn is_odd<R: Abort>(rt: &R, got: Result<Option<DslxValue>, WidthOutOfRange>) {
     assert!(rt; got.map(|value| value.map(Kept::new)).is_err());
 }

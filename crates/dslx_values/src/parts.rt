@@ -101,7 +101,7 @@ pub fn field_of(
     }
 }
 
-/// The place of the first of the names that is this one.
+/// The index of the first of the names that is this one.
 fn index_of(name: &str, names: &[Name]) -> Option<usize>
     ensures { result ≡ index_in name.now names.now }
 {
@@ -113,7 +113,7 @@ fn index_of(name: &str, names: &[Name]) -> Option<usize>
     None
 }
 
-/// A copy of the value at a place, if there is one.
+/// A copy of the value at an index, if there is one.
 pub fn value_at(
     alloc: Global,
     values: &[DslxValue],

@@ -38,7 +38,7 @@ pub data ReadsTo (rules : List Rule) : List Symbol → List ℕ → List ℕ →
 abbrev pub IsBeginning : Syntax → List ℕ → List ℕ → Type 0
 IsBeginning y ps ts = (left : List Symbol) × ReadsTo y.rules (start_of y) ps ts left
 
--- The list begins with the front.
+-- The list has the prefix.
 abbrev pub StartsWith : List ℕ → List ℕ → Type 0
 StartsWith xs front = (rest : List ℕ) × (xs ≡ front ++ rest)
 

@@ -1,6 +1,6 @@
 -- rules, grammars as lists of rules, and what a table means
 pub mod Syntax
--- derivations, sentences, fronts and the first fault, of any context-free grammar
+-- derivations, sentences, prefixes and the first fault, of any context-free grammar
 pub mod Derivation
 -- the computed test that one token of lookahead decides a grammar
 pub mod Ll1

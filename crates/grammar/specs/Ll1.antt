@@ -115,7 +115,7 @@ all_apart [] cs = true
 all_apart (r ∷ rs) [] = false
 all_apart (r ∷ rs) (c ∷ cs) = is_apart_from r.head c rs cs && all_apart rs cs
 
--- the place is in the span
+-- the index is in the span
 abbrev pub is_in_span : Span → ℕ → Bool
 is_in_span span place = nat_le span.first place && nat_lt place span.end
 

@@ -10,7 +10,7 @@ pub record Rule : Type 0 where
   pub head : ℕ
   pub body : List Symbol
 
--- A context-free grammar: its rules, of which each has its place in the list as its number, and the kind of the
+-- A context-free grammar: its rules, of which each has its index in the list as its number, and the kind of the
 -- mark that ends each list of tokens. Its start symbol is the nonterminal 0.
 pub record Syntax : Type 0 where
   pub rules : List Rule
@@ -26,7 +26,7 @@ rules_of g = map (rule_of g.symbols.now) g.productions.now
 abbrev pub syntax_of : Grammar → Syntax
 syntax_of g = record { rules = rules_of g; end = g.end }
 
--- A rule, and the number that a name was given for it.
+-- A rule, and the number that its name stands for.
 pub record NamedRule : Type 0 where
   pub number : ℕ
   pub rule : Rule
@@ -34,7 +34,7 @@ pub record NamedRule : Type 0 where
 abbrev pub named : ℕ → ℕ → List Symbol → NamedRule
 named number head body = record { number = number; rule = record { head = head; body = body } }
 
--- The numbers are the places in the list: 0, 1, 2 and so on. So names that stand for them in this order stand for
--- different numbers, and a rule's name for the rule's place.
+-- The numbers are the indices in the list: 0, 1, 2 and so on. So names that stand for them in this order stand for
+-- different numbers, and a rule's name for the rule's index.
 abbrev pub AreInOrder : List ℕ → Type 0
 AreInOrder numbers = numbers ≡ range_with_len 0 (length numbers)

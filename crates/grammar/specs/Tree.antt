@@ -30,8 +30,8 @@ leaves_of nothing = []
 leaves_of (token t right) = t ∷ leaves_of right
 leaves_of (node p below right) = leaves_of below ++ leaves_of right
 
--- From this place on the productions begin with those of a tree. The node says where they end, and how many tokens
--- the tree has.
+-- From this index on the productions have those of a tree as a prefix. The node says where they end, and how many
+-- tokens the tree has.
 pub record IsNode (rules : List Rule) (productions : List ℕ) (place : ℕ) (n : Node) : Type 0 where
   pub number : ℕ
   pub head : ℕ
@@ -44,7 +44,7 @@ pub record IsNode (rules : List Rule) (productions : List ℕ) (place : ℕ) (n 
   pub ends : n.end ≡ place + suc (length (productions_of below))
   pub counts : n.tokens ≡ length (leaves_of below)
 
--- There is a node for each production, at its place.
+-- There is a node for each production, at its index.
 pub record AreNodes (rules : List Rule) (productions : List ℕ) (nodes : List Node) : Type 0 where
   pub all : length nodes ≡ length productions
   pub each : (place : ℕ) (n : Node) → slice_get nodes place ≡ Some n → IsNode rules productions place n
@@ -61,7 +61,7 @@ pub record Derived : Type 0 where
   pub productions : List ℕ
   pub tokens : List ℕ
 
--- A place in it: so many productions, and so many tokens, are before it.
+-- A position in it: so many productions, and so many tokens, are before it.
 pub record TreePosition : Type 0 where
   pub production : ℕ
   pub token : ℕ
@@ -75,19 +75,19 @@ pub record Tree : Type 0 where
 abbrev pub beginning : TreePosition
 beginning = record { production = 0; token = 0 }
 
--- where the trees below the one at this place begin
+-- where the trees below the one at this position begin
 abbrev pub below_of : TreePosition → TreePosition
 below_of at = record { production = at.production + 1; token = at.token }
 
--- the place behind the token at this one
+-- the position behind the token at this one
 abbrev pub behind_token : TreePosition → TreePosition
 behind_token at = record { production = at.production; token = at.token + 1 }
 
--- the place behind the tree at this one, of which this is the node
+-- the position behind the tree at this one, of which this is the node
 abbrev pub behind : Node → TreePosition → TreePosition
 behind n at = record { production = n.end; token = at.token + n.tokens }
 
--- At this place stands a tree of the nonterminal.
+-- At this position stands a tree of the nonterminal.
 pub record IsTreeAt (d : Derived) (at : TreePosition) (head : ℕ) (t : Tree) : Type 0 where
   pub body : List Symbol
   pub rule : IsRule d.rules t.number head body
@@ -98,13 +98,13 @@ pub record IsTreeAt (d : Derived) (at : TreePosition) (head : ℕ) (t : Tree) : 
   pub reads : drop at.token d.tokens ≡ leaves_of t.below ++ more
   pub within : at.token ≤ length d.tokens
 
--- A tree at this place, of which this is the node, has a production, and ends within the derivation.
+-- A tree at this position, of which this is the node, has a production, and ends within the derivation.
 pub record IsExtent (d : Derived) (at : TreePosition) (n : Node) : Type 0 where
   pub some : at.production < n.end
   pub end : n.end ≤ length d.productions
   pub stop : at.token + n.tokens ≤ length d.tokens
 
--- Where the trees of the symbols stand, side by side from the one place up to the other: each token where the one
+-- Where the trees of the symbols stand, side by side from the one position up to the other: each token where the one
 -- before ends, and each tree where the nodes say that the one before ends. At symbols that are written out it computes
 -- to a fact for each.
 abbrev pub AreLaid : Derived → List Node → List Symbol → Forest → TreePosition → TreePosition → Type 0

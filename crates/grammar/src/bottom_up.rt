@@ -16,8 +16,8 @@ use std::alloc::{AllocError, Global};
 pub enum Step {
     /// The next token comes on the stack.
     Shift,
-    /// What stands on top for the symbols of this production's body, the last one topmost, becomes what stands for its
-    /// nonterminal.
+    /// What stands on top for the symbols of this production's body, the last one topmost, is replaced by what stands
+    /// for its nonterminal.
     Reduce(u16),
 }
 

@@ -18,7 +18,7 @@ pub fn one_derivation(grammar: &Grammar)
         → IsDerivation (syntax_of grammar.now) qs ts → ps ≡ qs }
 {}
 
-/// One list of productions leads to a front.
+/// At most one list of productions leads to a prefix.
 pub fn one_beginning(grammar: &Grammar)
     requires { IsLl1 grammar.now }
     ensures { (ps qs ts : List ℕ) → IsBeginning (syntax_of grammar.now) ps ts
@@ -45,7 +45,7 @@ pub fn one_tree()
         → productions_of f ++ xs ≡ productions_of g ++ ys → (f ≡ g) × (xs ≡ ys) }
 {}
 
-/// What a builder of trees goes by, which takes the places of a tree among the productions and the tokens:
+/// What a builder of trees goes by, which takes the positions of a tree among the productions and the tokens:
 /// where the tree of a derivation stands, which production it begins with, how far it goes, and where each
 /// symbol of its body stands.
 pub fn children()

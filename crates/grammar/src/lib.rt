@@ -3,7 +3,7 @@
 //! A [`Grammar`] is a context-free grammar as tables, in a form that one token of lookahead decides.
 //! [`parse`] gives the derivation of a list of kinds of token, or the first token with which no
 //! sentence goes on. Both are exact, for each grammar that passes the test `IsLl1`. [`parse_tree`] says
-//! which stretch of a derivation each nonterminal took. What else holds of derivations, fronts and trees
+//! which stretch of a derivation each nonterminal took. What else holds of derivations, prefixes and trees
 //! are laws, as [`one_derivation`].
 #![tactic(auto)]
 

@@ -24,10 +24,10 @@ pub enum ParseError {
     Fault(Fault),
 }
 
-/// Where a list of tokens stops being the front of a sentence.
+/// Where a list of tokens stops being a prefix of a sentence.
 #[derive(Debug, Drop)]
 pub struct Fault {
-    /// The place of the first token with which no sentence goes on.
+    /// The index of the first token with which no sentence goes on.
     pub place: usize,
     /// The productions that lead to the tokens before it.
     pub productions: Vec<u16>,
@@ -85,7 +85,7 @@ pub fn parse(alloc: Global, grammar: &Grammar, kinds: &[u8]) -> Result<Vec<u16>,
     ensures so_far { IfFault result
         (λ fault. IsBeginning (syntax_of grammar.now) fault.productions.items (take fault.place kinds.now)) }
 
-    // with which each derivation of a sentence with this front begins.
+    // with which each derivation of a sentence with this prefix begins.
     ensures forced { IfFault result (λ fault. (more ps : List ℕ)
         → IsDerivation (syntax_of grammar.now) ps (take fault.place kinds.now ++ more)
         → StartsWith ps fault.productions.items) }

@@ -16,7 +16,7 @@ use std::alloc::{AllocError, Global};
 /// from the end of the one before.
 #[derive(Clone, Copy, PartialEq, Eq)]
 pub struct Node {
-    /// The place in the derivation behind the last production of this tree.
+    /// The index in the derivation behind the last production of this tree.
     pub end: usize,
     /// How many tokens the tree has.
     pub tokens: usize,
@@ -42,7 +42,7 @@ pub fn parse_tree(
     Ok(nodes)
 }
 
-/// The node of the production at a place, from those of the productions behind it.
+/// The node of the production at an index, from those of the productions behind it.
 fn node_at(grammar: &Grammar, productions: &[u16], nodes: &[Node], place: usize) -> Node
     requires valid { IsLl1 grammar.now }
     requires tree { HasTree (rules_of grammar.now) productions.now place }

@@ -5,7 +5,7 @@ use base::name_table::Table;
 use std::alloc::{AllocError, Global};
 use std::marker::Model;
 
-/// Names, each of which stands for its place. Contracts see their list, the last one first.
+/// Names, each of which stands for its index. Contracts see their list, the last one first.
 #[derive(Drop)]
 pub struct Names<'a> {
     names: Vec<&'a str>,
@@ -34,7 +34,7 @@ impl<'a> Names<'a> {
         }
     }
 
-    /// The place of the last one that is spelled so.
+    /// The index of the last one that is spelled so.
     pub fn place(&self, name: &str) -> Option<usize>
         ensures { result ≡ index_in self.now name.now }
     {

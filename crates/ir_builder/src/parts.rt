@@ -10,7 +10,7 @@ use ir_tree::{Constant, IrType, Operand};
 use std::alloc::{AllocError, Global};
 use xb_value::Seq;
 
-/// A place as a number; what is nowhere, and what is past 2^32 - 1, as no text has, is named by that.
+/// An index as a number of 32 bits: 2^32 - 1 where there is none, and for one past that, as no text has.
 pub fn numbered(place: Option<usize>) -> u32
     ensures { result ≡ numbered place }
 {

@@ -196,7 +196,7 @@ fn select(
     }
 }
 
-/// A copy of the value at a place.
+/// A copy of the value at an index.
 fn element_at(alloc: Global, index: u128, values: &[Value]) -> Result<Value, AllocError>
     ensures { IfOk result (λ v. v ≡ element_at index values.now) }
 {
@@ -234,7 +234,7 @@ fn array_index(alloc: Global, array: &Value, index: &Value) -> Result<Value, All
     }
 }
 
-/// Copies of the values, with another at a place.
+/// Copies of the values, with another at an index.
 fn updated(alloc: Global, values: &[Value], place: u128, value: &Value) -> Result<Value, AllocError>
     ensures { IfOk result (λ v. v ≡ Array (slice_set values.now place value.now)) }
 {

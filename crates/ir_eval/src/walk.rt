@@ -204,14 +204,14 @@ impl Walk {
     }
 }
 
-/// Whether a site of this place that is on comes to its event.
+/// Whether the site of this index is on, and its event not done.
 fn asks(on: bool, done: u32, site: usize) -> bool
     ensures { result ≡ (on && nat_le done site) }
 {
     on && done as usize <= site
 }
 
-/// The word at a place.
+/// The word at an index.
 fn word_at(words: &[Bits], place: usize) -> Option<Bits>
     ensures { word_or result ≡ first_word (drop place words.now) }
 {

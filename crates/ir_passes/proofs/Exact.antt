@@ -19,7 +19,7 @@ use Rattle.pass_narrow.specs.Views.{width_in}
 use Rattle.pass_narrow.specs.Replacements.{replacement_of}
 use Rattle.pass_narrow.specs.Narrowings.{Grown, and_node, made_longer, narrowing_by, narrowing_of, IsNarrowing}
 use Rattle.pass_select.specs.Choices.{choice_of}
-use Rattle.ir_passes.specs.Simplified.{settle, settle_answer, simplify_by, simplify, IsGrown, needed_by, needed_of, live}
+use Rattle.ir_passes.specs.Simplified.{settle, settle_answer, simplify_by, simplify, IsGrown, needed_by, needed_of, nodes_needed}
 use Rattle.ir_passes.specs.Simplifies.{Simplifies}
 
 -- ---- how many nodes
@@ -96,7 +96,7 @@ pub simplifies : (state : IrType) (old new : List Node) (n : Node) (o : Operand)
 simplifies state old new n o is normal = record {
   is = is;
   normal = normal;
-  few = subst (λ ns. length ns ≤ length old + live state old n) (sym is.0) (choice_count state old n (choice_of old n));
+  few = subst (λ ns. length ns ≤ length old + nodes_needed state old n) (sym is.0) (choice_count state old n (choice_of old n));
 }
 
 -- a node that chooses no operand

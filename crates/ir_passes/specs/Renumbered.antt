@@ -5,7 +5,7 @@ use Rattle.ir_tree.specs.declared.package.Proc.{Proc}
 use Rattle.ir_tree.specs.declared.package.Package.{Package}
 use Rattle.ir_rebuild.specs.Built.{numbered}
 
--- the same nodes, whose ids count on from that of a place
+-- the same nodes, whose ids count on from that of an index
 abbrev pub numbered_from : ℕ → List Node → List Node
 numbered_from place [] = []
 numbered_from place (n ∷ ns) = numbered place n ∷ numbered_from (suc place) ns

@@ -41,7 +41,7 @@ IsGrown nodes o g = (nodes ≡ g.nodes) × (o ≡ g.operand)
 
 -- ---- how many nodes that takes
 
--- a node that has no pattern is one; what stands for one that has is by its right side
+-- one for a node that has no pattern; for one that has, by its replacement
 abbrev pub needed_by : Option NodeReplacement → ℕ
 needed_by None = 1
 needed_by (Some (right.Operand o)) = 0
@@ -56,6 +56,6 @@ abbrev pub needed_of : Option Operand → Option NodeReplacement → ℕ
 needed_of (Some o) r = 0
 needed_of None r = needed_by r
 
--- at most: none for a select of one operand, else what its right side needs
-abbrev pub live : IrType → List Node → Node → ℕ
-live state nodes n = needed_of (choice_of nodes n) (replacement_of state nodes n)
+-- at most: none for a select of one operand, else what its replacement takes
+abbrev pub nodes_needed : IrType → List Node → Node → ℕ
+nodes_needed state nodes n = needed_of (choice_of nodes n) (replacement_of state nodes n)

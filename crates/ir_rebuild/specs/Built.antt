@@ -24,7 +24,7 @@ is_plain_op op.Receive = false
 is_plain_op op.Send = false
 is_plain_op _ = true
 
--- the node can stand at a place: its operands stand before, and it fits the table, the types and the limits
+-- the node can stand at an index: its operands stand before, and it fits the table, the types and the limits
 pub record FitsAt (state : IrType) (nodes : List Node) (place : ℕ) (n : Node) : Type 0 where
   pub operands : IsTrue (are_there place n.operands)
   pub attributes : IsTrue (attributes_there place n.attributes)
@@ -65,6 +65,6 @@ pub record Rewrites (state : IrType) (old new : List Node) (n : Node) (o : Opera
   pub extends : Extends old new
   pub stands : OperandSimulates state new n o
 
--- the node with the id of a place
+-- the node with the id of this index: ids count from 1
 abbrev pub numbered : ℕ → Node → Node
 numbered place n = record n { id = suc place }

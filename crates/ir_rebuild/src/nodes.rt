@@ -11,7 +11,7 @@ ghost use Rattle.ir_rebuild.specs.Built.{numbered};
 use ir_tree::{IrType, Node, Operand};
 use std::alloc::AllocError;
 
-/// Appends a node under the id of its place, counted from 1, and answers the operand that names it.
+/// Appends a node under the id of its index, counted from 1, and answers the operand that names it.
 ///
 /// No list is longer than there are ids: that counts as want of memory.
 pub fn append(nodes: &mut Vec<Node>, node: Node) -> Result<Operand, AllocError>

@@ -89,7 +89,7 @@ fn is_kept(kept: &[bool], place: usize) -> bool
 }
 
 /// What stands for a node that is read, over what stands for the nodes before. For one that isn't kept nothing is appended, and
-/// the state is answered, for which nobody asks.
+/// the state is answered, which nothing reads.
 fn read_one<R: Rewrite>(
     alloc: Global,
     pass: &R,

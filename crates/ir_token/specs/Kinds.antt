@@ -65,7 +65,7 @@ ir_plain_kind (c ∷ cs) =
 
 -- ---- kinds in a text
 
--- the class of an operation, by the attributes that are due
+-- the class of an operation, by the kind of its attributes
 abbrev pub class_by : AttributeKind → ℕ
 class_by attributes.None = PLAIN
 class_by attributes.StartAndWidth = SLICE

@@ -14,7 +14,7 @@ use dslx_token::skip_blank;
 use std::alloc::Global;
 use xb_span::ReadError;
 
-/// The tokens of a text, with the mark at its end, or the place of the first character that begins no token.
+/// The tokens of a text, with the mark at its end, or the position of the first character that begins no token.
 ///
 /// The work and the memory are linear in the text's length.
 pub fn tokens(alloc: Global, text: &[u8]) -> Result<Vec<Token<'_>>, ReadError>

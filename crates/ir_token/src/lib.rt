@@ -1,6 +1,6 @@
 //! The tokens of an IR text.
 //!
-//! [`tokens`] cuts a text into words, numbers and marks. Each [`Token`] has its place, its bytes and a kind of
+//! [`tokens`] cuts a text into words, numbers and marks. Each [`Token`] has its span, its bytes and a kind of
 //! `crate::rules::kind`, which for a node's operation and its id depends on the node that they stand in.
 //!
 //! Cost: linear in the text's length.

@@ -34,7 +34,7 @@ impl<'a> Model for Token<'a> {
 }
 
 impl<'a> Token<'a> {
-    /// The bytes at this place, with the kind that they have by themselves.
+    /// The token of the bytes from this position on, with the kind that they have by themselves.
     pub(crate) fn plain(from: u32, bytes: &'a [u8]) -> Token<'a>
         requires within { from + length bytes.now < 2 ^ 32 }
         requires ascii { IsAscii bytes.now }

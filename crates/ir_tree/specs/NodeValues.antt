@@ -96,7 +96,7 @@ received channels c on x = Tuple (no_value ∷ heard (channel_type channels c) (
 
 -- ---- all nodes
 
--- an activation: the channels, the state that it began with, and each site's word, by the site's place
+-- an activation: the channels, the state that it began with, and each site's word, by the site's index
 pub record Setting : Type 0 where
   pub channels : List Channel
   pub state : Value
@@ -125,7 +125,7 @@ values_from m values i (n ∷ ns) = values_from m (values ++ value_by m values i
 abbrev pub node_values : Setting → List Node → List Value
 node_values m nodes = values_from m [] 0 nodes
 
--- the value of the node of a place
+-- the value of the node of an index
 abbrev pub node_value : Setting → List Node → ℕ → Value
 node_value m nodes n = get_or (node_values m nodes) n no_value
 

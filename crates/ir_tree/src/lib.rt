@@ -1,6 +1,6 @@
 //! Packages of the intermediate language: what their text says, and what it means.
 //!
-//! A package is a tree without places: channels, and procs of nodes in line order, each named by its place. `specs/` says what
+//! A package is a tree without spans: channels, and procs of nodes in line order, each named by its index. `specs/` says what
 //! each node's value is (`NodeValues`), what a proc does in an activation (`Activations`), which network a package is
 //! (`Networks`), and when two mean the same (`SameBehavior`).
 #![tactic(auto)]

@@ -3,7 +3,7 @@ use crate::ir_type::IrType;
 use crate::operands::Operands;
 use delay_model::Op;
 
-/// What a node takes: the state with which the activation began, or the value of the node at a place in the proc's list.
+/// What a node takes: the state with which the activation began, or the value of the node at an index in the proc's list.
 #[derive(Clone, Copy, Default, PartialEq, Eq)]
 pub enum Operand {
     #[default]

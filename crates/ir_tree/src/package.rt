@@ -4,7 +4,7 @@ use crate::node::{Node, Operand};
 use net_core::Name;
 use xb_value::Seq;
 
-/// A package: channels and procs, each named by its place in its list.
+/// A package: channels and procs, each named by its index in its list.
 ///
 /// It holds what its text says and no more, so that it and its text determine each other. It means something only where it
 /// breaks no rule and passes no limit.

@@ -144,7 +144,7 @@ see_role i (role.Send predicate c) seen = record { after_all = seen.after_all; s
 abbrev pub see_op : Op → Seen → Seen
 see_op o seen = record { after_all = is_after_all o || seen.after_all; site = seen.site; received = seen.received; sent = seen.sent }
 
--- what the nodes up to the one of place i leave
+-- what the nodes up to the one of index i leave
 abbrev pub see : ℕ → Node → Seen → Seen
 see i n seen = see_op n.op (see_role i (role_of n) seen)
 
@@ -194,7 +194,7 @@ abbrev pub is_first_part : Attributes → Bool
 is_first_part (attributes.Index i) = nat_eq i 0
 is_first_part _ = false
 
--- the node is the token of the receive of place i
+-- the node is the token of the receive of index i
 abbrev pub is_token_of : ℕ → Option Node → Bool
 is_token_of i None = false
 is_token_of i (Some n) = is_first_part n.attributes && are_only i n.operands
@@ -203,7 +203,7 @@ abbrev pub is_start : Option Node → Bool
 is_start None = false
 is_start (Some n) = is_after_all n.op
 
--- whether the token of a site is that of the last site, which stands at this place
+-- whether the token of a site is that of the last site, which has this index
 abbrev pub follows : List Node → ℕ → Role → ℕ → Bool
 follows before last role.Pure j = false
 follows before last (role.Receive predicate c) j = is_token_of last (slice_get before j)
@@ -278,7 +278,7 @@ own_levels role.Pure = 0
 own_levels (role.Receive predicate c) = 1
 own_levels (role.Send predicate c) = 0
 
--- the node of place i, behind these, where so much was seen
+-- the checks of the node of index i, behind these, with what was seen before it
 abbrev pub node_checks : List Channel → IrType → List Node → Span → ℕ → Seen → Node → List Check
 node_checks channels state before span i seen n =
     rule_at span 51 (not (is_named (slice_get before (i - 1)) i n))

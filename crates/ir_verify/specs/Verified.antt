@@ -29,13 +29,13 @@ nowhere_at_all = record { name = nowhere; channels = []; procs = [] }
 abbrev pub count_check : Fault → ℕ → ℕ → Check
 count_check fault most count = record { broken = nat_lt most count; fault = fault }
 
--- the channels from place i on, behind those of these names
+-- the channels from index i on, behind those of these names
 abbrev pub channels_checks : List Span → List (List ℕ) → ℕ → List Channel → List Check
 channels_checks spans names i [] = []
 channels_checks spans names i (c ∷ cs) =
     channel_checks (get_or spans i nowhere) names i c ++ channels_checks spans (names ++ c.name ∷ []) (suc i) cs
 
--- the nodes from place i on, behind those before
+-- the nodes from index i on, behind those before
 abbrev pub nodes_checks : List Channel → IrType → List Span → List Node → ℕ → Seen → List Node → List Check
 nodes_checks channels state spans before i seen [] = []
 nodes_checks channels state spans before i seen (n ∷ ns) =
@@ -58,7 +58,7 @@ proc_checks channels line_spans names seen p =
     ++ (next_checks line_spans.next p
     ++ count_check (Passed line_spans.end (record { what = what.Sites; found = 33; most = 32 })) 32 (length (sites_of p.nodes)) ∷ []))
 
--- the procs from place i on, behind those of these names
+-- the procs from index i on, behind those of these names
 abbrev pub procs_checks : List Channel → List ProcSpans → List (List ℕ) → ℕ → Seen → List Proc → List Check
 procs_checks channels line_spans names i seen [] = []
 procs_checks channels line_spans names i seen (p ∷ ps) =
@@ -77,7 +77,7 @@ abbrev pub nothing_seen : List Channel → Seen
 nothing_seen channels =
     record { after_all = false; site = None; received = replicate (length channels) false; sent = replicate (length channels) false }
 
--- each rule and limit of a package, whose lines stand at these places
+-- each rule and limit of a package, whose lines have these spans
 abbrev pub checks_of : Package → LineSpans → List Check
 checks_of ir line_spans =
     package_checks line_spans.name ir.name ir.procs

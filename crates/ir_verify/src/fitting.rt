@@ -302,7 +302,7 @@ fn sel_fits(
         && (all_same(scope, cases, result_type) && is_like(scope, result_type, default))
 }
 
-/// Whether the type is a tuple with this one at a place.
+/// Whether the type is a tuple with this one at an index.
 fn has_part(index: u128, part: &IrType, ty: &IrType) -> bool
     ensures { result ≡ is_tuple_where (part_is index part.now) ty.now }
 {

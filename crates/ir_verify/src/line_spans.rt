@@ -1,7 +1,7 @@
 use xb_span::Span;
 use xb_value::Seq;
 
-/// Where the lines of a package stand in its text. A line that has no place here counts as standing at 0..0.
+/// Where the lines of a package stand in its text. A line that has no span here counts as standing at 0..0.
 #[derive(Drop)]
 pub struct LineSpans {
     /// `package NAME`

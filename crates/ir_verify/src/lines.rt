@@ -175,7 +175,7 @@ fn is_id_after(previous: Option<&Node>, id: u32) -> bool
     }
 }
 
-/// Whether an operand of the node of a place is there.
+/// Whether an operand of the node of an index is there.
 fn is_there(place: usize, operand: Operand) -> bool
     ensures { result ≡ is_there place operand }
 {
@@ -246,7 +246,7 @@ fn is_first_part(attributes: &Attributes) -> bool
     }
 }
 
-/// Whether the node of a place is the token of the receive of another.
+/// Whether the node of an index is the token of the receive of another.
 fn is_token_of(receive: usize, before: &[Node], place: u32) -> bool
     ensures { result ≡ is_token_of receive (slice_get before.now place) }
 {
@@ -406,7 +406,7 @@ fn own_levels(role: Role) -> u64
     }
 }
 
-/// The node of a place, behind those before, of which so much was seen.
+/// The checks of a node, behind those before, with what was seen of them.
 pub fn note_node(
     held: Option<Fault>,
     span: Span,

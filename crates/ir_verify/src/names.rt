@@ -35,7 +35,7 @@ fn name_goes_on(byte: u8, behind: u8) -> bool
     is_word_byte(byte) || byte == b'.' || byte == b'/' && behind != b'/'
 }
 
-/// The byte at a place, and 0 behind the last one.
+/// The byte at an index, and 0 behind the last one.
 fn byte_at(bytes: &[u8], place: usize) -> u8
     ensures { result ≡ slice_index bytes.now place }
 {

@@ -39,7 +39,7 @@ pub fn verify(alloc: Global, ir: &Package) -> Result<(), ReadError>
     check(alloc, ir, &line_spans)
 }
 
-/// The same for a package that stands in a text, its lines at these places.
+/// The same for a package that stands in a text, whose lines have these spans.
 pub fn check(alloc: Global, ir: &Package, line_spans: &LineSpans) -> Result<(), ReadError>
     ensures ok { OnOk result (first_fault ir.now line_spans.now ≡ None) }
     ensures refused { IfErr result (λ error. (error ≡ OutOfMemory) ⊎ (option_map error_of (first_fault ir.now line_spans.now) ≡ Some error)) }
@@ -57,7 +57,7 @@ fn nowhere() -> Span
     Span { from: 0, to: 0 }
 }
 
-/// The place of a line.
+/// The span of a line.
 fn span_at(spans: &[Span], place: usize) -> Span
     ensures { result ≡ get_or spans.now place nowhere }
 {
@@ -157,7 +157,7 @@ impl Seen {
         self.site = None;
     }
 
-    /// Sees the node of a place.
+    /// Sees the node of an index.
     fn see(&mut self, place: usize, node: &Node)
         ensures { seen_by self.new ≡ see place node.now (seen_by self.old) }
     {
@@ -188,7 +188,7 @@ fn take_end(taken: &mut Vec<bool>, channel: u32)
     }
 }
 
-/// The nodes before a place.
+/// The nodes before an index.
 fn nodes_before(nodes: &[Node], place: usize) -> &[Node]
     requires { place ≤ length nodes.now }
     ensures nodes { result.now ≡ take place nodes.now }
@@ -289,7 +289,7 @@ fn nowhere_proc(alloc: Global) -> ProcSpans
     }
 }
 
-/// The places of the lines of a proc.
+/// The spans of the lines of a proc.
 fn spans_at<'a>(line_spans: &'a [ProcSpans], proc: usize, elsewhere: &'a ProcSpans) -> &'a ProcSpans
     ensures { result.now ≡ get_or line_spans.now proc elsewhere.now }
 {

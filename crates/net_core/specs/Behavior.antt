@@ -22,18 +22,18 @@ pub record Behavior : Type 0 where
   pub sites : List Site
   -- the width of a channel's words, at the channels of its sites
   pub width : ℕ → ℕ
-  -- what it does at the site of a place, in an activation from a state in which it has received these words
+  -- what it does at the site with an index, in an activation from a state in which it has received these words
   pub turn : Value → List Word → ℕ → Turn
   -- the state after an activation from a state in which it received these words
   pub next_state : Value → List Word → Value
 
--- the channel of the site of a place
+-- the channel of the site with an index
 abbrev pub chan_at : List Site → ℕ → ℕ
 chan_at [] i = 0
 chan_at (site ∷ sites) zero = site.chan
 chan_at (site ∷ sites) (suc i) = chan_at sites i
 
--- the first event at the sites from place i on, which are given: that of the first site that is on, else the end
+-- the first event at these sites, whose indices start at i: that of the first site that is on, else the end
 unfoldable pub event_from : Behavior → Value → List Word → ℕ → List Site → Event
 event_from b s got i [] = End (b.next_state s got)
 event_from b s got i (site ∷ sites) =
@@ -52,7 +52,7 @@ pub record IsWordOf (width : ℕ) (w : Word) : Type 0 where
   pub word : IsWord w
   pub fits : w.width ≡ width
 
--- the sites from place i on, which are given, receive exactly these words after those that were received before
+-- these sites, whose indices start at i, receive exactly these words after those that were received before
 abbrev pub Takes : Behavior → Value → List Word → ℕ → List Site → List Word → Type 0
 Takes b s got i [] words = words ≡ []
 Takes b s got i (site ∷ sites) words =

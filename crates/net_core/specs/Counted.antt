@@ -6,7 +6,7 @@ use Rattle.net_core.specs.Cuts.{Run, Cut, sites_at, words_sent, count_received, 
 use Rattle.base.specs.Lists.Prefix.{IsPrefix}
 
 pub record IsCounted (run : Run) (cut : Cut) : Type 0 where
-  -- each proc has made a front of its trace over the words of the final cut
+  -- each proc has made a prefix of its trace over the words of the final cut
   pub made : (p : ℕ) → IsPrefix (cut p) (trace_of run.activations (words_at run (final_cut run)) (slice_get run.procs p))
   -- and has sent on no inner channel more than in the final cut
   pub sent : (p c : ℕ) (chan : Chan) → slice_get run.chans c ≡ Some chan → chan.kind ≡ Inner → length (words_sent (sites_at run p) c (cut p)) ≤ length (words_sent (sites_at run p) c (final_cut run p))

@@ -45,7 +45,7 @@ Cut = ℕ → List Event
 abbrev pub empty_cut : Cut
 empty_cut p = []
 
--- the place of the first element that passes the test, or the length
+-- the index of the first element that passes the test, or the length
 abbrev pub index_of : {A : Type 0} → (A → Bool) → List A → ℕ
 index_of test [] = 0
 index_of test (x ∷ xs) = if test x then 0 else suc (index_of test xs)
@@ -120,7 +120,7 @@ fits_after sites room before (Recv i) = true
 fits_after sites room before (Send i w) = room (chan_at sites i) (length (words_sent sites (chan_at sites i) before))
 fits_after sites room before (End s) = true
 
--- the longest front of the events, behind those before them, in which each event has room
+-- the longest prefix of the events, behind those before them, in which each event has room
 unfoldable pub longest_fit : List Site → (ℕ → ℕ → Bool) → List Event → List Event → List Event
 longest_fit sites room before [] = []
 longest_fit sites room before (e ∷ es) =
@@ -131,7 +131,7 @@ unfoldable pub trace_of : ℕ → Histories → Option Proc → List Event
 trace_of n words None = []
 trace_of n words (Some proc) = trace proc.behavior n proc.opening words
 
--- how far a proc can come by itself from a cut: the longest front of its trace over the words that were sent, in
+-- how far a proc can come by itself from a cut: the longest prefix of its trace over the words that were sent, in
 -- which each send has room by what was received
 unfoldable pub reach : Run → Cut → ℕ → List Event
 reach run cut p =

@@ -15,7 +15,7 @@ Histories = ℕ → List Word
 abbrev pub without_first : Histories → ℕ → Histories
 without_first words c = λ d. if c == d then drop 1 (words d) else words d
 
--- the events of an activation at the sites from place i on, which are given, then its end, and then what comes
+-- the events of an activation at these sites, whose indices start at i, then its end, and then what comes
 -- `after` it, from the next state and the words that are left. A receive that finds no word is where it stops
 unfoldable pub events_from : Behavior → (Value → Histories → List Event) → Value → List Word → Histories → ℕ → List Site → List Event
 events_from b after s got words i [] = End (b.next_state s got) ∷ after (b.next_state s got) words

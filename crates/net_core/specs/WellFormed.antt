@@ -15,7 +15,7 @@ use Rattle.net_core.specs.declared.outcome.Stall.{Stall}
 use Rattle.net_core.specs.Behavior.{Behavior, KeepsTypes, IsWordOf}
 use Rattle.net_core.specs.Cuts.{Proc, Run, sender, receiver}
 
--- the site of place i of proc p
+-- the site with index i of proc p
 pub record IsSiteOf (net : Net) (p i : ℕ) (site : Site) : Type 0 where
   pub head : ProcHead
   pub proc : slice_get net.procs p ≡ Some head
@@ -92,7 +92,7 @@ abbrev pub run_of : Net → List Behavior → List (List Word) → ℕ → List 
 run_of net behaviors inputs n depths =
     record { procs = procs_of net.procs behaviors; chans = net.chans; inputs = inputs; activations = n; depths = depths }
 
--- the site of place i of proc p, whose channel is this one
+-- the site with index i of proc p, whose channel is this one
 pub record IsSiteIn (run : Run) (p : ℕ) (proc : Proc) (i : ℕ) (site : Site) : Type 0 where
   pub proc_is : slice_get run.procs p ≡ Some proc
   pub place : slice_get proc.behavior.sites i ≡ Some site

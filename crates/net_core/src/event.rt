@@ -1,7 +1,7 @@
 use xb_bits::Bits;
 use xb_value::Value;
 
-/// What a proc does next. A site is named by its place among the proc's sites.
+/// What a proc does next. A site is named by its index among the proc's sites.
 #[derive(Drop)]
 pub enum Event {
     /// It receives a word at a site.

@@ -20,20 +20,20 @@ ghost use Rattle.net_core.specs.Shows.{Shows};
 ghost use Rattle.net_core.specs.Counted.{IsCounted};
 ghost use Rattle.net_core.specs.Nexts.{EventFits, WaitsForAWord};
 
-/// Longer histories give a longer trace, which begins with the shorter one.
+/// Longer histories give a longer trace, which has the shorter one as a prefix.
 pub fn traces_grow()
     ensures { (b : Behavior) (n : ℕ) (state : Value) (words more : Histories) →
         ((c : ℕ) → IsPrefix (words c) (more c)) →
         IsPrefix (trace b n state words) (trace b n state more) }
 {}
 
-/// More activations give a longer trace, which begins with the shorter one.
+/// More activations give a longer trace, which has the shorter one as a prefix.
 pub fn more_activations_go_on()
     ensures { (b : Behavior) (m n : ℕ) (state : Value) (words : Histories) → m ≤ n →
         IsPrefix (trace b m state words) (trace b n state words) }
 {}
 
-/// A trace, and each front of it, receives no more words than there are.
+/// A trace, and each prefix of it, receives no more words than there are.
 pub fn only_words_are_received()
     ensures { (proc : Proc) (n : ℕ) (words : Histories) (made : List Event) →
         IsPrefix made (trace proc.behavior n proc.opening words) →
@@ -93,7 +93,7 @@ pub fn stuck_shows_the_final_cut()
 {}
 
 /// A cut of which no order of the events is known stays within the final cut where only this is so: each proc has made
-/// a front of its trace over the words of the final cut, has sent no more than there on inner channels, has received
+/// a prefix of its trace over the words of the final cut, has sent no more than there on inner channels, has received
 /// only what was sent, and has sent only what had room.
 pub fn counted_cuts_stay_within()
     ensures { (run : Run) (cut : Cut) → IsCounted run cut → IsWithin cut (final_cut run) }

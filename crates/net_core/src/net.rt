@@ -2,7 +2,7 @@ use base::texts::Name;
 use xb_bits::Bits;
 use xb_value::{Seq, Ty, Value};
 
-/// A network of procs that speak over channels. Procs and channels are named by their place in the two lists.
+/// A network of procs that speak over channels. Procs and channels are named by their index in the two lists.
 #[derive(Drop)]
 pub struct Net {
     pub name: Name,

@@ -6,5 +6,5 @@ pub mod Behaviors
 pub mod Checks
 -- contracts of private functions
 pub mod Inner
--- small pipelines that run cycle by cycle, by a logic that is given, and what they do is what the laws of pipelined
+-- small pipelines that run cycle by cycle, by a logic that is given, and do what the laws of pipelined hardware say
 pub mod Blocks

@@ -1,5 +1,4 @@
-//! Small pipelines that run cycle by cycle, by a logic that is given, and what they do is what the laws of pipelined
-//! hardware speak of.
+//! Small pipelines that run cycle by cycle, by a logic that is given, and do what the laws of pipelined hardware say.
 mod machine;
 mod sample;
 

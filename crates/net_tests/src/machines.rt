@@ -33,7 +33,7 @@ const ADDING: [SampleSite; 2] = [
     },
 ];
 
-/// One cycle of it with this word at its input: whether it asks for it, and the word that it offers.
+/// One cycle of it with this word at its input: whether it is ready for it, and its valid word.
 fn add(machine: &mut Machine, input: u128, ready: bool) -> (bool, u128) {
     let sample = Sample {
         sites: &ADDING,
@@ -123,7 +123,7 @@ const TWICE: [SampleSite; 2] = [
     },
 ];
 
-/// The word that it offers in a cycle in which there is room.
+/// Its valid word in a cycle in which there is room.
 fn send_twice(machine: &mut Machine) -> u128 {
     let sample = Sample {
         sites: &TWICE,

@@ -19,7 +19,7 @@ use xb_bits::Bits;
 use xb_io::{Gate, OpenGate};
 use xb_value::{Seq, Ty, Value};
 
-/// A network, what its procs do, and what it is given.
+/// A network, what its procs do, its inputs, and the depths of its channels.
 #[derive(Drop)]
 struct Fixture {
     net: Net,

@@ -10,7 +10,7 @@ ghost use Rattle.pass_dead.specs.Inner.Marks.{marked, marked_all, visited};
 use ir_tree::{Attributes, Node, Operand, Proc, Role};
 use std::alloc::{AllocError, Global};
 
-/// For each node whether it is needed: by a site, by the next state, or by a node that is. It takes time as there are operands.
+/// For each node whether it is live: read by a site, by the next state, or by a node that is live. It takes time linear in the operands.
 pub fn live(alloc: Global, proc: &Proc) -> Result<Vec<bool>, AllocError>
     requires { StandBefore proc.now }
     ensures kept { IfOk result (λ kept. AreKept proc.now kept.items) }
@@ -32,7 +32,7 @@ fn none_marked(alloc: Global, count: usize) -> Result<Vec<bool>, AllocError>
     vec![in alloc; false; count]
 }
 
-/// Marks a node that is a site, and what a marked node needs.
+/// Marks a node that is a site, and the operands of a marked node.
 fn visit(kept: &mut Vec<bool>, place: usize, node: &Node)
     requires { place < length kept.old.items }
     ensures { kept.new.items ≡ visited kept.old.items place node.now }

@@ -10,7 +10,7 @@ use ir_rebuild::{Rewrite, append, rebuild};
 use ir_tree::{IrType, Node, Operand, Package, Proc};
 use std::alloc::{AllocError, Global};
 
-/// The pass: what is needed is kept, as it is.
+/// The pass: what is live is kept, as it is.
 #[derive(Clone, Copy)]
 pub struct Dead;
 

@@ -75,7 +75,7 @@ value_there (Some n) = value_in n
 abbrev pub literal_value : List Node → Operand → Value
 literal_value nodes o = value_there (node_of nodes o)
 
--- ---- the node over values at the first places: those of its operands, and behind them that of an index
+-- ---- the node over values at the first indices: those of its operands, and behind them that of an index operand
 
 abbrev pub places_from : ℕ → ℕ → List Operand
 places_from place zero = []

@@ -12,7 +12,7 @@ use ir_tree::{Attributes, IrType, Node, Operand, Operands};
 use std::alloc::{AllocError, Global};
 use xb_value::{Seq, Value};
 
-/// The first places, so many.
+/// So many operands, which name the nodes of the first indices.
 #[tactic(auto, using(crate::proofs::Places::places_more))]
 fn places_to(alloc: Global, count: usize) -> Result<Operands, AllocError>
     ensures { IfOk result (λ os. os ≡ places_to count) }
@@ -46,7 +46,7 @@ fn shown_attributes(attributes: &Attributes, count: usize) -> Result<Attributes,
     }
 }
 
-/// The node over the first places.
+/// The node over the nodes of the first indices.
 fn shown_node(alloc: Global, node: &Node) -> Result<Node, AllocError>
     ensures { IfOk result (λ n. n ≡ shown_node node.now) }
 {
@@ -60,7 +60,7 @@ fn shown_node(alloc: Global, node: &Node) -> Result<Node, AllocError>
     })
 }
 
-/// The value of a node over values at the first places.
+/// The value of a node over values at the first indices.
 fn value_over(alloc: Global, node: &Node, values: &[Value]) -> Result<Value, AllocError>
     ensures { IfOk result (λ v. v ≡ pure_value node.now no_value values.now) }
 {

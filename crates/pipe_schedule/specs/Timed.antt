@@ -20,7 +20,7 @@ use Rattle.ir_verify.specs.Verified.{IsVerified}
 
 -- ---- sources
 
--- the places of the nodes among operands. The state is none
+-- the indices of the nodes among operands. The state has none
 abbrev pub nodes_among : List Operand → List ℕ
 nodes_among [] = []
 nodes_among (operand.State ∷ os) = nodes_among os
@@ -42,7 +42,7 @@ operands_in (attributes.Indices o) = o ∷ []
 operands_in (attributes.Value c) = []
 operands_in (attributes.Channel predicate c) = if_there predicate
 
--- the places of the nodes that are operands of a node
+-- the indices of the nodes that are operands of a node
 abbrev pub sources_of : Node → List ℕ
 sources_of n = nodes_among (n.operands ++ operands_in n.attributes)
 
@@ -98,7 +98,7 @@ timed_proc p = record { nodes = timed_nodes p; next = p.next }
 abbrev pub no_node : TimedNode
 no_node = record { delay = 0; sources = []; role = role.Pure }
 
--- the node of a place
+-- the node of an index
 abbrev pub node_at : List TimedNode → ℕ → TimedNode
 node_at nodes i = get_or nodes i no_node
 

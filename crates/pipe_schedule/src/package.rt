@@ -12,7 +12,7 @@ use ir_tree::{Package, Proc};
 use std::alloc::Global;
 use xb_value::Seq;
 
-/// The first proc of a package that has no legal schedule, by its place, and the cause.
+/// The first proc of a package that has no legal schedule, by its index, and the cause.
 #[derive(Clone, Copy, PartialEq, Eq)]
 pub struct Infeasible {
     pub proc: usize,

@@ -34,7 +34,7 @@ pub struct Schedule {
     pub interval: u32,
 }
 
-/// Why a proc has no legal schedule. Nodes are named by their places.
+/// Why a proc has no legal schedule. Nodes are named by their indices.
 #[derive(Clone, Copy, PartialEq, Eq)]
 pub enum NoSchedule {
     /// The first node that takes longer than the clock, and how long.

@@ -6,7 +6,7 @@ use net_core::Site;
 use proc_task::{Inlet, Outlet};
 use std::alloc::{AllocError, Global};
 
-/// The outlets of proc `p`: one for each channel that it sends on. Its rights to send are taken from their places.
+/// The outlets of proc `p`: one for each channel that it sends on. Its rights to send are taken out of the list.
 pub(crate) fn outlets<S>(
     alloc: Global,
     p: usize,
@@ -60,7 +60,7 @@ pub(crate) fn inlets<S>(
     Ok(inlets)
 }
 
-/// The place of each site's outlet, or inlet.
+/// The index of each site's outlet, or inlet.
 pub(crate) fn indices<S>(
     alloc: Global,
     sites: &[Site],
@@ -77,7 +77,7 @@ pub(crate) fn indices<S>(
     Ok(indices)
 }
 
-/// The place of a site's outlet, or inlet.
+/// The index of a site's outlet, or inlet.
 fn index_of<S>(site: &Site, outlets: &[Outlet<S>], inlets: &[Inlet<S>]) -> u32
     requires end { MatchBool site.now.sends (HasEndOn out_chan outlets.now site.now.chan) (HasEndOn in_chan inlets.now site.now.chan) }
     requires few { (length outlets.now < 2 ^ 32) × (length inlets.now < 2 ^ 32) }
@@ -90,7 +90,7 @@ fn index_of<S>(site: &Site, outlets: &[Outlet<S>], inlets: &[Inlet<S>]) -> u32
     }
 }
 
-/// The place of a channel's outlet.
+/// The index of a channel's outlet.
 fn outlet_index<S>(outlets: &[Outlet<S>], chan: u32) -> usize
     requires { HasEndOn out_chan outlets.now chan }
     ensures end { IsEndAt out_chan outlets.now chan result }
@@ -104,7 +104,7 @@ fn outlet_index<S>(outlets: &[Outlet<S>], chan: u32) -> usize
     unreachable!()
 }
 
-/// The place of a channel's inlet.
+/// The index of a channel's inlet.
 fn inlet_index<S>(inlets: &[Inlet<S>], chan: u32) -> usize
     requires { HasEndOn in_chan inlets.now chan }
     ensures end { IsEndAt in_chan inlets.now chan result }

@@ -41,7 +41,7 @@ module _ {S : Type 0} where
     pub one_outlet : (j k : ℕ) (a b : Outlet S) → slice_get outlets j ≡ Some a → slice_get outlets k ≡ Some b → a.chan ≡ b.chan → j ≡ k
     pub one_inlet : (j k : ℕ) (a b : Inlet S) → slice_get inlets j ≡ Some a → slice_get inlets k ≡ Some b → a.chan ≡ b.chan → j ≡ k
 
-  -- the outlet and the inlet of these places are the ends of one channel
+  -- the outlet and the inlet with these indices are the ends of one channel
   pub record MeetAt (outlets : List (Outlet S)) (k : ℕ) (inlets : List (Inlet S)) (j : ℕ) : Type 0 where
     pub outlet : Outlet S
     pub inlet : Inlet S
@@ -78,7 +78,7 @@ HasSiteOn proc c sends = (i : ℕ) × (site : Site) × (slice_get proc.behavior.
 abbrev pub end_at : Run → Proc → Position → ProcEnd
 end_at run proc at = record { state = at.state; ends = at.ends; stall = if nat_lt at.ends run.activations then stall_for proc.behavior.sites at.ends (next_of proc.behavior at) else None }
 
--- the place of an event's site is one of these
+-- an event's site is one of these
 abbrev pub IsAtSiteIn : List Site → Event → Type 0
 IsAtSiteIn sites (Recv i) = i < length sites
 IsAtSiteIn sites (Send i w) = i < length sites

@@ -124,7 +124,7 @@ module _ {S : Type 0} where
     pub sends : (pass : SendPass S) × (outlet.pass ≡ Some pass)
     pub receives : (pass : RecvPass S) × (inlet.pass ≡ Some pass)
 
-  -- an outlet of this channel stands in the list, or an inlet; or none does
+  -- an outlet of this channel is in the list, or an inlet; or none is
   abbrev pub IsOutletOn : List (Outlet S) → ℕ → Outlet S → Type 0
   IsOutletOn outlets c outlet = (k : ℕ) × (slice_get outlets k ≡ Some outlet) × (outlet.chan ≡ c)
 

@@ -20,7 +20,7 @@ pub trait Runtime<S: Streams>: Copy + Drop {
     fn activations(&self) -> u32
         ensures { result ≡ (run self.now).activations };
 
-    /// The word of a place that the outside sends on a channel.
+    /// The word with an index that the outside sends on a channel.
     fn input_word(&self, chan: u32, place: u64) -> Option<Bits>
         ensures { result ≡ slice_get (get_or (run self.now).inputs chan []) place };
 

@@ -69,7 +69,7 @@ impl<S: Streams, H: Runtime<S>> Steps<H> for Task<S, H> {
 }
 
 impl<S: Streams, H: Runtime<S>> Task<S, H> {
-    /// A proc that has made no event, with one outlet or inlet for each end of a channel that has a site, and the place
+    /// A proc that has made no event, with one outlet or inlet for each end of a channel that has a site, and the index
     /// of its outlet or inlet for each site.
     pub fn new(
         alloc: Global,

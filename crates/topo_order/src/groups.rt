@@ -175,7 +175,7 @@ impl Groups {
         }
     }
 
-    /// Has done with the things from this place of the stack on. Where there are two or more, each needs itself.
+    /// Has done with the things from this position of the stack on. Where there are two or more, each needs itself.
     fn close(&mut self, from: usize)
         requires within { from ≤ length self.old.stack.items }
         requires marks { All (λ i. i < length self.old.marks.items) self.old.stack.items }
@@ -278,7 +278,7 @@ fn pop_start(starts: &mut Vec<usize>, start: usize)
     let _start = starts.pop();
 }
 
-/// Takes the last start, if it is at this place, and says whether it is.
+/// Takes the last start, if it is at this position, and says whether it is.
 fn ends_at(starts: &mut Vec<usize>, at: usize) -> bool
     ensures { MatchBool result (starts.old.items ≡ starts.new.items ++ at ∷ []) (IsNoLast starts.old.items at × (starts.new.items ≡ starts.old.items)) }
 {
@@ -293,7 +293,7 @@ fn ends_at(starts: &mut Vec<usize>, at: usize) -> bool
     }
 }
 
-/// Makes one group of those that begin behind this place and the last one before.
+/// Makes one group of those that begin behind this position and the last one before.
 fn join(starts: &mut Vec<usize>, at: usize)
     ensures { Rises starts.old.items → AreJoined starts.old.items starts.new.items at }
 {

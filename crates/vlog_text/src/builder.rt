@@ -2,7 +2,7 @@
 //!
 //! [`build`] goes through the steps of a derivation: a token is added, or the tree of a production is complete. There is a stack
 //! for each sort of part, and names become numbers of signals as they are read. What each step makes stands in
-//! `specs/Building` and `specs/Rules`.
+//! `specs/Builder/Building` and `specs/Builder/Rules`.
 //!
 //! Cost: linear in the steps. Nothing recurses.
 mod builder;

@@ -1,4 +1,4 @@
--- The tokens of a Verilog text, each with its kind and its place, and the first character that begins none.
+-- The tokens of a Verilog text, each with its kind and its span, and the first character that begins none.
 use Rattle.std.specs.Prelude.{◌≡◌, ◌≢◌, ◌+◌, ℕ, List, [], ◌∷◌, length, take, drop, Some, None}
 use Rattle.xb_span.specs.declared.read_error.ReadError.{ReadError}
 use Rattle.xb_span.specs.declared.read_error.ReadError.TheVariants.{Syntax, Broken, Over, OutOfMemory}
@@ -8,7 +8,7 @@ use Rattle.dslx_token.specs.Tokens.{offset_of}
 use Rattle.vlog_token.specs.TokenPrefixes.{token_prefix_len}
 use Rattle.vlog_token.specs.Kinds.{verilog_kind}
 
--- the bytes that stand at this place, with their kind
+-- the token of the bytes from this position on, with their kind
 abbrev pub verilog_lexeme_at : ℕ → List ℕ → Lexeme
 verilog_lexeme_at from bytes = record { kind = verilog_kind bytes; span = record { from = from; to = from + length bytes }; bytes = bytes }
 

@@ -1,6 +1,6 @@
 //! The tokens of a text of the Verilog subset.
 //!
-//! [`tokens`] cuts a text into words, numbers, literals and marks. Each [`Token`] has its place, its bytes and a kind of
+//! [`tokens`] cuts a text into words, numbers, literals and marks. Each [`Token`] has its span, its bytes and a kind of
 //! `crate::rules::kind`, which its own text says.
 //!
 //! Cost: linear in the text's length, but for a literal of more than 38 digits whose width is near what it needs: that costs

@@ -26,7 +26,7 @@ impl<'a> Model for Token<'a> {
 }
 
 impl<'a> Token<'a> {
-    /// The bytes at this place.
+    /// The token of the bytes from this position on.
     pub(crate) fn new(from: u32, bytes: &'a [u8]) -> Token<'a>
         requires { from + length bytes.now < 2 ^ 32 }
         ensures { result ≡ verilog_lexeme_at from bytes.now }

@@ -13,9 +13,8 @@ use Rattle.vlog_tree.specs.Value.{Values, atom_value, expr_value}
 abbrev pub AreDriven : Values → List Assignment → Type 0
 AreDriven values assignments = AllByRecursion (λ a. values a.target.0 ≡ expr_value values a.value) assignments
 
--- the signals have these values in a cycle in which the registers hold and the outside gives those: an input has what
--- is given, a register what it holds, a wire its driver's value. Where no wire depends on itself there is exactly one
--- such assignment of values; no order of evaluation is spoken of
+-- the signals have these values in a cycle: an input that of `given`, a register that of `held`, a wire its driver's value.
+-- Where no wire depends on itself there is exactly one such assignment of values; no order of evaluation is spoken of
 pub record IsNow (m : VModule) (held given values : Values) : Type 0 where
   pub inputs : (s : ℕ) (d : Declared) → IsSignal m s d → d.role ≡ InputSignal → values s ≡ given s
   pub registers : (s : ℕ) (d : Declared) → IsSignal m s d → d.role ≡ RegisterSignal → values s ≡ held s
@@ -27,7 +26,7 @@ taken_by [] values held s = held s
 taken_by (set ∷ sets) values held s =
     taken_by sets values (λ r. if set.target.0 == r then atom_value values set.value else held r) s
 
--- the place of the port `rst`
+-- the index of the port `rst`
 abbrev pub reset_port : ℕ
 reset_port = 1
 

@@ -31,7 +31,7 @@ abbrev pub settled : List Assignment → List Word → List Word
 settled [] words = words
 settled (a ∷ later) words = settled later (slice_set words a.target.0 (expr_value (values_of words) a.value))
 
--- numbers for all signals of a module, in which inputs and registers have those that are given and held
+-- words for all signals of a module, in which inputs have the values of `given` and registers those of `held`
 pub record AreReady (m : VModule) (held given : Values) (words : List Word) : Type 0 where
   pub covers : length words ≡ length (signals m)
   pub inputs : (s : ℕ) (d : Declared) → IsSignal m s d → d.role ≡ InputSignal → values_of words s ≡ given s

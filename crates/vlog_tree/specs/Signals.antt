@@ -30,7 +30,7 @@ declared_port p = record { name = p.name; role = port_role p.direction; width = 
 abbrev pub declared_own : Declaration → Declared
 declared_own d = record { name = d.name; role = storage_role d.storage; width = d.width }
 
--- the signals of a module, each at its place
+-- the signals of a module, each at its index
 abbrev pub signals : VModule → List Declared
 signals m = map declared_port m.ports ++ map declared_own m.declarations
 
@@ -42,7 +42,7 @@ IsSignal m s d = slice_get (signals m) s ≡ Some d
 abbrev pub declared_widths : VModule → Widths
 declared_widths m s = unwrap_or (option_map (λ d. d.width) (slice_get (signals m) s)) 1
 
--- a channel of the module: its ports are `NAME_data`, `NAME_vld` and `NAME_rdy`. The outside offers words at an input and
+-- a channel of the module: its ports are `NAME_data`, `NAME_vld` and `NAME_rdy`. The outside puts words at an input and
 -- takes them at an output; its direction is that of the first two ports, and its width that of the first
 pub record Channel : Type 0 where
   pub name : List ℕ

@@ -27,7 +27,7 @@ Values = ℕ → Word
 abbrev pub bit : Bool → Word
 bit b = word 1 (if b then 1 else 0)
 
--- whether two numbers that are so ordered stand to one another as asked
+-- whether the comparison holds of two numbers that are so ordered
 abbrev pub holds : Order → Ordering → Bool
 holds order.Less ordering.Less = true
 holds order.Less _ = false
@@ -64,7 +64,7 @@ unary_value unary.AllOnes a = op.and_reduce a
 unary_value unary.SomeOne a = op.or_reduce a
 unary_value unary.Parity a = op.xor_reduce a
 
--- the numbers of atoms side by side, the first in the high places
+-- the numbers of atoms side by side, the first in the high bits
 abbrev pub joined_value : Values → List Atom → Word
 joined_value values [] = word 0 0
 joined_value values (a ∷ rest) = op.concat (atom_value values a) (joined_value values rest)

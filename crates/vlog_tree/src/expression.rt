@@ -23,7 +23,7 @@ pub enum Simple {
     Unary(Unary, Atom),
     /// `x[high:low]`, both included. Bit 0 is the lowest.
     Slice { of: Signal, high: u64, low: u64 },
-    /// `{a, b, ..}`, the first in the high places.
+    /// `{a, b, ..}`, the first in the high bits.
     Concat(Items<Atom>),
 }
 

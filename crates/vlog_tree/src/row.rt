@@ -13,7 +13,7 @@ pub struct Row {
 /// What the outside does at a channel in one cycle.
 #[derive(Clone, Copy, Debug, PartialEq, Eq)]
 pub enum Drive {
-    /// At an input: the word that it offers, `vld` being 1 with it.
+    /// At an input: the valid word, if there is one: `vld` is 1 with it.
     Offer(Option<Bits>),
     /// At an output: its `rdy`.
     Ready(bool),

@@ -3,7 +3,7 @@ ghost use Rattle.vlog_tree.specs.Signals.{signals, declared_widths, port_role, s
 
 use crate::module::{Declaration, Direction, Port, Storage, VModule};
 
-/// A port or a declaration of a module by its place: the ports in order, then the declarations.
+/// A port or a declaration of a module by its index: the ports in order, then the declarations.
 ///
 /// A number past both names nothing; a module with such a mention breaks the rule on undeclared names.
 #[derive(Clone, Copy, PartialEq, Eq)]

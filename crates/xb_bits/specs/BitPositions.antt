@@ -1,4 +1,4 @@
--- Numbers by the places of their bits.
+-- Numbers by the positions of their bits.
 use Rattle.std.specs.Prelude.{ℕ, zero, suc, ◌+◌, ◌*◌, ◌/◌, ◌^◌, if◌then◌else◌, ◌==◌}
 use Rattle.std.specs.Int.{bit_at}
 

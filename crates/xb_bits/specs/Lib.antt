@@ -6,7 +6,7 @@ pub mod Operations
 pub mod Order
 -- numbers side by side, parts of a number, numbers made longer
 pub mod Parts
--- the places of bits
+-- the positions of bits
 pub mod BitPositions
 -- one bit of all bits
 pub mod Reduction

@@ -1,4 +1,4 @@
-//! Bits by their places.
+//! Bits by their positions.
 
 ghost use Rattle.std.specs.Prelude.{◌≡◌, ◌≤◌, ◌<◌, ◌-◌, ◌^◌, ℕ};
 ghost use Rattle.std.specs.Int.{bit_at};

@@ -48,11 +48,11 @@ impl From<AllocError> for LoadError {
 
 /// Files by name.
 ///
-/// The contract has four members for proofs alone: what the files hold, where that is told, the names
+/// The contract has four members for proofs alone: the contents of the files, where they are known, the names
 /// that were asked for, and two counts, of faults and of bytes taken. A count never falls, and one that
 /// has reached `u64::MAX` stands still and counts as risen ever after.
 pub trait Files {
-    // What each name holds, where this is told. It never changes.
+    // The contents of the files, where they are known. They never change.
     ghost told: { Self → Option Contents };
 
     // The names of all loads so far, in their order.

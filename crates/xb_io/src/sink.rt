@@ -20,7 +20,7 @@ impl fmt::Display for Failed {
 
 impl Error for Failed {}
 
-/// A place that takes bytes, in order.
+/// Something that takes bytes, in order.
 ///
 /// The contract has two members for proofs alone: what was written so far, where that is known, and a
 /// count of faults, which never falls; one that has reached `u64::MAX` stands still and counts as
@@ -32,7 +32,7 @@ pub trait Sink {
     // The faults so far.
     ghost faults: { Self → ℕ };
 
-    /// Writes the piece at the end, or after an `Err` a front of it. Taking nothing of a piece that
+    /// Writes the piece at the end, or after an `Err` a prefix of it. Taking nothing of a piece that
     /// isn't empty is a fault.
     fn put(&mut self, piece: &[u8]) -> Result<(), Failed>
         ensures faults_never_fall { faults self.old ≤ faults self.new }

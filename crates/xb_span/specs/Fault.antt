@@ -8,8 +8,8 @@ use Rattle.xb_span.specs.declared.fault.Fault.TheVariants.{Whole, Broken, Passed
 use Rattle.xb_span.specs.declared.read_error.ReadError.{ReadError}
 use Rattle.xb_span.specs.declared.read_error.ReadError.TheVariants as error
 
--- what decides a fault's place: limits on the whole come first, then the end of the part; at one end rules before
--- limits, rules by their number and limits by their place; then the start, or what was found
+-- what decides a fault's place in the order: limits on the whole come first, then the end of the part; at one end rules
+-- before limits, rules by their number and limits by their index; then the start, or what was found
 abbrev pub key_of : Fault → List ℕ
 key_of (Whole l) = 0 ∷ 0 ∷ 0 ∷ index_of l.what ∷ l.found ∷ l.most ∷ []
 key_of (Broken rule span) = 1 ∷ span.to ∷ 0 ∷ rule.0 ∷ span.from ∷ 0 ∷ []

@@ -1,4 +1,4 @@
--- The limits: their places, and the words that messages name them by.
+-- The limits: their indices, and the words that messages name them by.
 use Rattle.std.specs.Prelude.{ℕ, List, [], ◌∷◌, codes}
 use Rattle.xb_span.specs.declared.limit.What.{What}
 use Rattle.xb_span.specs.declared.limit.What.TheVariants.{File, Nesting, Width, Leaves, Levels, Word, Turns, Size, Sites, Depth, Instances, Procs, Channels, Cycles}
@@ -19,7 +19,7 @@ word_of Procs = codes "procs"
 word_of Channels = codes "channels"
 word_of Cycles = codes "cycles"
 
--- the place of a limit in the table of limits: of those that one end passes, the first is named
+-- the index of a limit in the table of limits: of those that one end passes, the first is named
 abbrev pub index_of : What → ℕ
 index_of File = 0
 index_of Nesting = 1

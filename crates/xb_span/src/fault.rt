@@ -8,9 +8,9 @@ use crate::span::{Rule, Span};
 /// What is wrong with a text that was read: a rule that a part breaks, or a quantity past its limit.
 #[derive(Clone, Copy, PartialEq, Eq)]
 pub enum Fault {
-    /// A limit on the text as a whole. It is named before all that stands at a place.
+    /// A limit on the text as a whole. It is named before all faults that have a position.
     Whole(Limit),
-    /// A rule that the part at a place breaks.
+    /// A rule that the part at a span breaks.
     Broken(Rule, Span),
     /// A limit that the part which ends at this byte passes.
     Passed(u32, Limit),
@@ -43,7 +43,7 @@ impl Fault {
     }
 
     /// Whether it is named before the other: the one whose part ends earlier is, at one end a rule before a limit, and
-    /// the rule of the lower number, or the limit of the earlier place.
+    /// the rule of the lower number, or the limit of the lower index.
     #[tactic(auto, unfolding(crate::specs::Fault::precedes))]
     pub fn precedes(&self, other: &Fault) -> bool
         ensures { result ≡ precedes self.now other.now }

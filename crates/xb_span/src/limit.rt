@@ -3,7 +3,7 @@ ghost use Rattle.xb_span.specs.Limit.{index_of, word_of};
 
 use std::fmt;
 
-/// What a limit counts, in the order in which limits at one place are looked at.
+/// What a limit counts, in the order in which limits at one position are looked at.
 #[derive(Clone, Copy, Debug, PartialEq, Eq, Hash)]
 pub enum What {
     /// Bytes of a file.
@@ -37,7 +37,7 @@ pub enum What {
 }
 
 impl What {
-    /// Its place among the limits: of those that one end passes, the first is named.
+    /// Its index among the limits: of those that one end passes, the first is named.
     pub fn index(self) -> u8
         ensures { result ≡ index_of self }
     {

@@ -13,9 +13,9 @@ use std::fmt;
 /// Why a text is refused.
 #[derive(Clone, Copy, Debug, PartialEq, Eq)]
 pub enum ReadError {
-    /// The byte with which the text is no longer the front of any text of its grammar.
+    /// The byte with which the text is no longer a prefix of any text of its grammar.
     Syntax(u32),
-    /// A rule that the part at a place breaks.
+    /// A rule that the part at a span breaks.
     Broken(Rule, Span),
     /// A quantity past its limit.
     Over(Limit),

@@ -1,10 +1,10 @@
--- The flat word of a value: its first element in the high places.
+-- The flat word of a value: its first element in the high bits.
 use Rattle.std.specs.Prelude.{◌+◌, ◌*◌, ◌^◌, List, [], ◌∷◌}
 use Rattle.xb_bits.specs.Word.{Word, word}
 use Rattle.xb_value.specs.declared.value.Value.{Value, fold-Value}
 use Rattle.xb_value.specs.declared.value.Value.TheOpen.{Value-F}
 
--- words side by side, the first in the high places
+-- words side by side, the first in the high bits
 abbrev pub joined : List Word → Word
 joined [] = word 0 0
 joined (x ∷ xs) =

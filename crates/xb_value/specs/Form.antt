@@ -56,7 +56,7 @@ abbrev mutual
   are_forms (last k f m) = is_form f
   are_forms (next k f m is) = is_form f && are_forms is
 
--- ---- numbers and brackets, with their places
+-- ---- numbers and brackets, with their positions
 
 abbrev mutual
   pub form_tokens : ℕ → Form → List Token

@@ -15,7 +15,7 @@ use Rattle.xb_value.specs.Typing.{is_word_of}
 
 -- ---- the items in brackets
 
--- items with the places of their first bytes, where what stands before the first item's spaces ends at `at`
+-- items with the positions of their first bytes, where what stands before the first item's spaces ends at `at`
 abbrev pub positioned_items : ℕ → Items → List (ℕ × Form)
 positioned_items at (last k f m) = (at + k, f) ∷ []
 positioned_items at (next k f m is) = (at + k, f) ∷ positioned_items (at + k + length (form_text f) + m + 1) is
@@ -46,11 +46,11 @@ brackets_fit b n (group c is) = is_bracket b c && (length (positioned_items 0 is
 
 -- ---- the parts of a text
 
--- the place of a part, and whether it fits
+-- the position of a part, and whether it fits
 abbrev pub Part : Type 0
 Part = ℕ × Bool
 
--- the parts of a form whose first byte has the place, in text order
+-- the parts of a form whose first byte has the position, in text order
 abbrev pub Parts : Type 0
 Parts = ℕ → Form → List Part
 
@@ -75,13 +75,13 @@ parts_step (Ty-F.Array p n) at f = with_parts (brackets_fit Square n f) at (all_
 abbrev pub parts_of : Ty → Parts
 parts_of = fold-Ty Parts parts_step
 
--- the place of the first part that doesn't fit
+-- the position of the first part that doesn't fit
 abbrev pub first_misfit : List Part → Option ℕ
 first_misfit [] = None
 first_misfit ((at, true) ∷ ps) = first_misfit ps
 first_misfit ((at, false) ∷ ps) = Some at
 
--- the text is a value text, and its first part that doesn't fit the type begins at the place
+-- the text is a value text, and its first part that doesn't fit the type begins at the position
 pub record Misfits (text : List ℕ) (t : Ty) (at : ℕ) : Type 0 where
   pub form : Form
   pub formed : IsTrue (is_form form)

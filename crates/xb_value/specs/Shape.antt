@@ -1,4 +1,4 @@
--- The numbers and brackets of a value, and those of a text without their places.
+-- The numbers and brackets of a value, and those of a text without their positions.
 use Rattle.std.specs.Prelude.{◌≡◌, List, [], ◌∷◌, ◌++◌, map}
 use Rattle.xb_value.specs.declared.token.Bracket.TheVariants.{Round, Square}
 use Rattle.xb_value.specs.declared.token.Token.{Token}

@@ -1,4 +1,4 @@
-//! The flat word of a value: the first element has the high places.
+//! The flat word of a value: the first element has the high bits.
 
 ghost use Rattle.std.specs.Prelude.{◌≡◌, ◌+◌, ◌*◌, ◌^◌, ◌<◌, ◌≤◌, map};
 ghost use Rattle.xb_value.specs.Flat.{flat_of, joined};

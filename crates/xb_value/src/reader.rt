@@ -23,10 +23,10 @@ use xb_bits::Bits;
 /// Why a text is not read as a value of a type.
 #[derive(Clone, Copy, Debug, PartialEq, Eq)]
 pub enum ValueError {
-    /// The first byte with which the text is the front of no value text, or its length where it ends too early.
+    /// The first byte with which the text is a prefix of no value text, or its length where it ends too early.
     Syntax(u32),
-    /// The place of the first number or opening bracket that is no value of its part of the type: another kind, a number
-    /// past its width, or another count of elements.
+    /// The position of the first number or opening bracket that is no value of its part of the type: another kind, a
+    /// number past its width, or another count of elements.
     Shape(u32),
     /// There was no memory to answer.
     OutOfMemory,
@@ -68,7 +68,7 @@ struct TakenAll<'a> {
     rest: &'a [Token],
 }
 
-/// The numbers and brackets inside a bracket, and the place where it opens.
+/// The numbers and brackets inside a bracket, and the position where it opens.
 #[derive(Clone, Copy)]
 struct Inside<'a> {
     at: u32,

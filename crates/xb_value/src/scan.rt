@@ -31,11 +31,11 @@ pub enum Mode {
     First,
     /// A value.
     Next,
-    /// The `x` of the number from this place.
+    /// The `x` of the number from this position.
     Zero(u32),
     /// Its first digit.
     Hex(u32),
-    /// More digits, or what follows a value. It has the place, the count of digits and the number so far.
+    /// More digits, or what follows a value. It has the position, the count of digits and the number so far.
     Digits(u32, u8, u128),
     /// What follows a value.
     After,
@@ -101,7 +101,7 @@ impl Scanner {
         }
     }
 
-    /// Takes a byte at its place, or answers that no value text goes on so.
+    /// Takes a byte at its position, or answers that no value text goes on so.
     fn step(&mut self, at: u32, class: Class) -> Result<bool, AllocError>
         requires sound { FitsDigits self.old.mode }
         requires small { IsSmall class }
@@ -245,14 +245,14 @@ impl Scanner {
     }
 }
 
-/// The numbers and brackets of a text, or the place of its first fault.
+/// The numbers and brackets of a text, or the position of its first fault.
 #[derive(Drop)]
 pub enum Scanned {
     Tokens(Seq<Token>),
     Fault(u32),
 }
 
-/// Reads the numbers and brackets of a value's text, or finds the first byte with which it is the front of none.
+/// Reads the numbers and brackets of a value's text, or finds the first byte with which it is a prefix of none.
 /// It takes time and memory as the text is long.
 pub fn scan(alloc: Global, text: &[u8]) -> Result<Scanned, AllocError>
     requires { length text.now < 2 ^ 32 }

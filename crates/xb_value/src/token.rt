@@ -5,7 +5,7 @@ pub enum Bracket {
     Square,
 }
 
-/// A number or a bracket of a value's text. Numbers and opening brackets have the place of their first byte.
+/// A number or a bracket of a value's text. Numbers and opening brackets have the position of their first byte.
 #[derive(Clone, Copy)]
 pub enum Token {
     Number(u32, u128),

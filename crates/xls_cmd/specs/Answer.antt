@@ -81,8 +81,8 @@ abbrev pub expected_for : Option (Request (List ℕ)) → Option Contents → St
 expected_for None known_contents given = given ≡ Err Usage
 expected_for (Some arguments) known_contents given = expected_of arguments known_contents given
 
--- What is expected for these words: the refusal `usage` where they say nothing; else what is expected for their command, by what the files
--- hold, where that is told.
+-- What is expected for these words: the refusal `usage` where they say nothing; else what is expected for their command, by the
+-- contents of the files, where these are known.
 abbrev pub expected : List (List ℕ) → Option Contents → Step (List ℕ)
 expected words known_contents = expected_for (arguments_of words) known_contents
 

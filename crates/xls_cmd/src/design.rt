@@ -1,6 +1,6 @@
 //! The commands of a design: `check` and `run`.
 //!
-//! What each gives stands in `specs/Commands`, and what is written in `specs/Written`. [`run_text`] writes what a run of any
+//! What each gives stands in `specs/Design/Commands`, and what is written in `specs/Design/Written`. [`run_text`] writes what a run of any
 //! network shows, whatever its procs are made of and however many workers make it.
 //!
 //! Cost: linear in the files, and in the events of a run.

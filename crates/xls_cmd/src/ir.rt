@@ -1,6 +1,6 @@
 //! The commands of IR texts: `run --from ir`.
 //!
-//! What each gives stands in `specs/Commands`.
+//! What each gives stands in `specs/Ir/Commands`.
 //!
 //! Cost: linear in the files; each event of a run costs the nodes up to it.
 pub mod laws;

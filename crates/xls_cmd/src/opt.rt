@@ -1,6 +1,6 @@
 //! The command `opt` of IR texts.
 //!
-//! What it gives stands in `specs/Commands`.
+//! What it gives stands in `specs/Opt/Commands`.
 //!
 //! Cost: that of the passes over the package, and linear in the file.
 mod command;

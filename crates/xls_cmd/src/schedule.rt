@@ -1,6 +1,6 @@
 //! The command `schedule` of IR texts.
 //!
-//! What it gives stands in `specs/Commands`.
+//! What it gives stands in `specs/Schedule/Commands`.
 //!
 //! Cost: linear in the file.
 mod command;

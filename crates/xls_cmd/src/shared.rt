@@ -2,9 +2,9 @@
 //! words name, and putting its output or the line that says why there is none.
 //!
 //! A command is a list of steps, each of which gives something or a fault. Its meaning in `specs/` is that list, read
-//! from top to bottom, so the order of the steps is the order of the causes ([`Fault`], `specs/Step`). A crate of
-//! commands has a function for each, whose contract says that it did what is expected (`specs/Done`); what the program then
-//! puts and answers is stated once (`specs/Answered`).
+//! from top to bottom, so the order of the steps is the order of the causes ([`Fault`], `specs/Shared/Step`). A crate of
+//! commands has a function for each, whose contract says that it did what is expected (`specs/Shared/Done`); what the program then
+//! puts and answers is stated once (`specs/Shared/Answered`).
 //!
 //! Cost: linear in the bytes that are loaded and put.
 mod fault;

@@ -1,6 +1,6 @@
 //! The command `sim`: what a module of the Verilog subset does over rows.
 //!
-//! What it gives stands in `specs/Simulation`.
+//! What it gives stands in `specs/Sim/Simulation`.
 //!
 //! Cost: linear in the files, and for each cycle linear in the module.
 pub mod laws;

@@ -11,7 +11,7 @@ abbrev pub lines_of : List ℕ → List (List ℕ)
 lines_of [] = []
 lines_of (c ∷ cs) = if c == 10 then ([] ∷ lines_of cs) else before_lines c (lines_of cs)
 
--- lines with the places of their first bytes, where the first line's is `at`
+-- lines with the positions of their first bytes, where the first line's is `at`
 abbrev pub positioned : ℕ → List (List ℕ) → List (ℕ × List ℕ)
 positioned at [] = []
 positioned at (line ∷ lines) = (at, line) ∷ positioned (at + length line + 1) lines

@@ -6,14 +6,14 @@ ghost use Rattle.base.specs.Texts.Inner.Split.{IsSplit};
 
 use std::marker::Model;
 
-/// A line of a text, without its LF, and the place of its first byte in the text.
+/// A line of a text, without its LF, and the position of its first byte in the text.
 #[derive(Clone, Copy)]
 pub struct Line<'a> {
     pub at: usize,
     pub bytes: &'a [u8],
 }
 
-/// The lines of a text that are left to read. Contracts see them as their list, each with its place.
+/// The lines of a text that are left to read. Contracts see them as their list, each with its position.
 #[derive(Drop)]
 pub struct Lines<'a> {
     at: usize,

@@ -27,7 +27,7 @@ pub fn push_hex(text: &mut String, count: u32, number: u128) -> Result<(), Alloc
     Ok(())
 }
 
-/// Appends the hexadecimal digit of a number at a place, which is 0 for the lowest.
+/// Appends the hexadecimal digit of a number at an offset, which is 0 for the lowest.
 fn push_digit(text: &mut String, offset: u32, number: u128) -> Result<(), AllocError>
     requires { offset < 32 }
     ensures { OnOk result (string_bytes text.new ≡ string_bytes text.old ++ digit_char (number / 2 ^ (4 * offset) % 16) ∷ []) }

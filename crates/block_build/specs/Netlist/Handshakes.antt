@@ -1,4 +1,4 @@
--- The wires of a stage's sites: which of them are asked in a cycle, which go, and whether the stage waits.
+-- The wires of a stage's sites: which of them are asserted in a cycle, which go, and whether the stage stalls.
 use Rattle.std.specs.Prelude.{ℕ, suc, List, [], ◌∷◌}
 use Rattle.vlog_tree.specs.declared.expression.Atom.{Atom}
 use Rattle.vlog_tree.specs.Value.{Values}
@@ -14,9 +14,9 @@ pub record SiteNets : Type 0 where
   pub first : ℕ
   pub next : ℕ
 
--- its wires, numbered from k on, where `ready` says that the stage holds an activation which waits at no earlier site: the
--- site isn't done; it is on and not done; it is asked; it goes; there is nothing to be done; it isn't waited for; and the stage
--- waits at no site so far
+-- its wires, numbered from k on, where `ready` says that the stage holds an activation which stalls at no earlier site: the
+-- site isn't done; it is on and not done; it is asserted; it goes; nothing is to be done; it isn't stalled at; and the stage
+-- stalls at no site so far
 abbrev pub site_wires : ℕ → Atom → SiteNets → List Wire
 site_wires k ready site =
     not_gate site.done
@@ -42,7 +42,7 @@ abbrev pub AreSites : Values → Atom → List SiteNets → Type 0
 AreSites v ready [] = Unit {0}
 AreSites v ready (site ∷ sites) = AreWired v site.first (site_wires site.first ready site) × AreSites v (net (ready_net site)) sites
 
--- and what says that the stage waits at none of them
+-- and what says that the stage stalls at none of them
 abbrev pub chain_ready : Atom → List SiteNets → Atom
 chain_ready ready [] = ready
 chain_ready ready (site ∷ sites) = chain_ready (net (ready_net site)) sites

@@ -16,7 +16,7 @@ setting_by channels s words = record { channels = channels; state = s; words = w
 abbrev pub turns_by_words : List Channel → List Node → Value → (ℕ → Word) → ℕ → Turn
 turns_by_words channels nodes s words i = get_or (turns_from (setting_by channels s words) [] 0 nodes) i Skip
 
--- the words that are received at the sites before a place
+-- the words that are received at the sites before an index
 abbrev pub gathered : (ℕ → Turn) → (ℕ → Word) → ℕ → List Word
 gathered turns words zero = []
 gathered turns words (suc i) = grown (turns i) (words i) (gathered turns words i)

@@ -20,7 +20,7 @@ pub record StageNets : Type 0 where
   pub moving : ℕ
   pub next : ℕ
 
--- it holds an activation that waits for nothing
+-- it holds an activation that stalls at no site
 abbrev pub passed : StageNets → Atom
 passed stage = chain_ready (net stage.first) stage.sites
 
@@ -102,7 +102,7 @@ AreAllDoneBits v q c j (stage ∷ more) = AreDoneBits v c (first q j) stage.site
 
 -- ---- what it shows of the machine
 
--- which sites are asked and which go, and which stages move
+-- which sites are asserted and which go, and which stages move
 abbrev pub ShowStages : Values → Pipeline → Registers → Ports → ℕ → List StageNets → Type 0
 ShowStages v q c ports j [] = Unit {0}
 ShowStages v q c ports j (stage ∷ more) =

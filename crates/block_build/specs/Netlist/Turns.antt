@@ -17,12 +17,12 @@ grown Skip w got = got
 grown Receive w got = got ++ w ∷ []
 grown (Give u) w got = got
 
--- at so many sites from place i on a proc does what these turns say, where those that receive get these words
+-- at so many sites from index i on a proc does what these turns say, where those that receive get these words
 abbrev pub DoesTurns : Behavior → Value → (ℕ → Turn) → (ℕ → Word) → List Word → ℕ → ℕ → Type 0
 DoesTurns b s turns words got i zero = Unit {0}
 DoesTurns b s turns words got i (suc n) = (b.turn s got i ≡ turns i) × DoesTurns b s turns words (grown (turns i) (words i) got) (suc i) n
 
--- the signals of the sites from place i on say what these turns are; and the word of one that receives is what the machine
+-- the signals of the sites from index i on say what these turns are; and the word of one that receives is what the machine
 -- receives there where it goes past it
 abbrev pub AreTurns : Values → List Site → (ℕ → Turn) → (ℕ → Word) → (ℕ → Bool) → (ℕ → Word) → Ports → ℕ → List SiteNets → Type 0
 AreTurns v all turns words done kept ports i [] = Unit {0}

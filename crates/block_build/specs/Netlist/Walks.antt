@@ -12,13 +12,13 @@ use Rattle.block_stage.specs.Machine.Cycle.{Ports, Walk, is_at, asserted_by, ste
 use Rattle.vlog_tree.specs.Value.{Values, bit, atom_value}
 use Rattle.block_build.specs.Netlist.Handshakes.{SiteNets, assert_net, go_net}
 
--- an event at the site of a place
+-- an event at the site with an index
 abbrev pub event_at : ℕ → Event → Bool
 event_at i (Recv k) = k == i
 event_at i (Send k w) = k == i
 event_at i (End s) = false
 
--- a walk asks the site of a place, and its word goes
+-- a walk asserts the site with an index, and its word goes
 abbrev pub asserts_at : ℕ → Walk → Bool
 asserts_at i walk = list_any (event_at i) (asserted_by walk)
 
@@ -41,8 +41,8 @@ AfterStep (Put w) got P = P got
 AfterStep AwaitWord got P = Unit {0}
 AfterStep (AwaitRoom w) got P = Unit {0}
 
--- the signals that the wires of the sites from place i on read are right as far as an activation comes; nothing is said of those
--- behind the site at which it waits
+-- the signals that the wires of the sites from index i on read are right as far as an activation comes; nothing is said of those
+-- behind the site at which it stalls
 abbrev pub AreRead : Values → Behavior → (ℕ → Bool) → (ℕ → Word) → Ports → Value → List Word → ℕ → List SiteNets → Type 0
 AreRead v b done kept ports s got i [] = Unit {0}
 AreRead v b done kept ports s got i (site ∷ sites) =
@@ -51,7 +51,7 @@ AreRead v b done kept ports s got i (site ∷ sites) =
     × AfterStep (step_of (b.turn s got i) (done i) (kept i) (ports.valid_word (chan_at b.sites i)) (ports.room (chan_at b.sites i))) got
     (λ got'. AreRead v b done kept ports s got' (suc i) sites)
 
--- the wires of the sites from place i on show which of them a walk asks and which go
+-- the wires of the sites from index i on show which of them a walk asserts and which go
 abbrev pub ShowWalk : Values → ℕ → List SiteNets → Walk → Type 0
 ShowWalk v i [] walk = Unit {0}
 ShowWalk v i (site ∷ sites) walk = (v (assert_net site) ≡ bit (asserts_at i walk)) × (v (go_net site) ≡ bit (goes_at i walk)) × ShowWalk v (suc i) sites walk

@@ -33,7 +33,7 @@ ReadEarlier n (wire ∷ wires) = AllByRecursion (λ s. s < n) (reads wire.driver
 abbrev pub with_signal : ℕ → Word → Values → Values
 with_signal n w values s = if n == s then w else values s
 
--- what all signals carry: the others, which are ports and registers, what they are given, and each wire in turn what drives it
+-- what all signals carry: ports and registers carry these values, and each wire in turn the value of what drives it
 abbrev pub carried : ℕ → List Wire → Values → Values
 carried n [] values = values
 carried n (wire ∷ wires) values = carried (suc n) wires (with_signal n (expr_value values wire.driver) values)

@@ -38,7 +38,7 @@ pub fn wires_carry_what_drives_them()
 
 /// The wires of a pipeline's stages show what the machine does in a cycle without reset, where the registers hold what the
 /// machine's do, and the signals that say which sites are on and whether their partners are there are right as far as
-/// each activation comes: which sites are asked, which go, which stages move, and the bits that registers hold next.
+/// each activation comes: which sites are asserted, which go, which stages move, and the bits that registers hold next.
 pub fn control_is_the_machines()
     ensures now { (v : Values) (run : Atom) (q : Pipeline) (stages : List StageNets) (c : Registers) (ports : Ports) → IsControl v run q stages →
         atom_value v run ≡ bit true → AreHeld v q c ports 0 stages →
@@ -69,7 +69,7 @@ pub fn words_are_the_machines()
 
 /// Where a stage's signals say, of each of its sites, what the proc does there by the words that stand on the signals of
 /// receives, they are right as far as an activation comes. So a netlist's nodes need only be right by the words on its
-/// signals, wherever the activation waits.
+/// signals, wherever the activation stalls.
 pub fn signals_are_right_as_far_as_an_activation_comes()
     ensures { (v : Values) (b : Behavior) (turns : ℕ → Turn) (words : ℕ → Word) (done : ℕ → Bool) (kept : ℕ → Word) (ports : Ports) (s : Value) (sites : List SiteNets) (got : List Word) (i : ℕ) →
         AreTurns v b.sites turns words done kept ports i sites → DoesTurns b s turns words got i (length sites) →
@@ -84,8 +84,8 @@ pub fn procs_do_what_their_words_say()
         DoesTurns (activation channels proc) s turns words (gathered turns words i) i n }
 {}
 
-/// Each part of a pipeline's control is wires of one bit that read bits with smaller numbers alone, where what it is given does
-/// so: a site's wires, those that say that a stage moves, and those by which full, turn and done bits go on.
+/// Each part of a pipeline's control is wires of one bit that read bits with smaller numbers alone, where its inputs are
+/// such bits: a site's wires, those that say that a stage moves, and those by which full, turn and done bits go on.
 pub fn control_wires_are_sound()
     ensures site { (widths : Widths) (n : ℕ) (ready : Atom) (site : SiteNets) → AreSized widths n (site_wires n ready site) →
         SiteReads widths n ready site → AreSound widths n (site_wires n ready site) }
@@ -105,7 +105,7 @@ pub fn control_wires_are_sound()
 /// A stage of an IR proc's pipeline, by the words on its receives' signals and those kept of earlier stages. Where the
 /// activation came with what those gathered, and the signals of its sites say what the proc's nodes do by these words, they
 /// are right as far as it comes; where it passes it has gathered the words of this stage too; and words that agree at the sites
-/// before a place gather the same up to there.
+/// before an index gather the same up to there.
 pub fn stages_go_by_the_words_on_their_signals()
     ensures read { (v : Values) (q : Pipeline) (channels : List Channel) (proc : Proc) → activation channels proc ≡ q.proc.behavior →
         (c : Registers) (ports : Ports) (j : ℕ) (words : ℕ → Word) (sites : List SiteNets) →
@@ -143,7 +143,7 @@ pub fn fifo_wires_are_the_rows()
         atom_value v fifo.asserted ≡ bit asserted → (x : ℕ) → x < fifo.depth → v (slot_net fifo x) ≡ (row_after fifo.depth row asserted valid_data).slot x }
 {}
 
-/// The wires of a channel's end say whether one of its sites is asked, and have the word of the last that is.
+/// The wires of a channel's end say whether one of its sites is asserted, and have the word of the last that is.
 pub fn ends_say_what_is_asked()
     ensures some { (v : Values) (asserts : List RequestNets) (said : List RequestValues) (k : ℕ) (so_far : Atom) (t : Bool) → AreWired v k (some_wires k so_far asserts) →
         atom_value v so_far ≡ bit t → RequestsAre v asserts said → atom_value v (some_net k so_far asserts) ≡ bit (some_asserted t said) }

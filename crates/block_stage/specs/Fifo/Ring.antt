@@ -37,7 +37,7 @@ ring_after depth ring ready valid_data = record {
   slot = λ x. if takes depth ring valid_data && (place depth ring.write == x) then unwrap_or valid_data (ring.slot x) else ring.slot x;
 }
 
--- a pointer so many places further on
+-- a pointer so many positions further on
 abbrev pub on_by : ℕ → ℕ → ℕ → ℕ
 on_by depth p k = if nat_lt (p + k) (depth + depth) then p + k else p + k - (depth + depth)
 

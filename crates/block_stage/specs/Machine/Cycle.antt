@@ -49,7 +49,7 @@ abbrev pub brought : Registers → ℕ → StageEntry
 brought c zero = record { state = c.state; got = [] }
 brought c (suc j) = c.stage_regs (suc j)
 
--- a word that goes through a port at the site of a place: it is received, or sent
+-- a word that goes through a port at the site with an index: it is received, or sent
 pub data Transfer : Type 0 where
   Takes : ℕ → Word → Transfer
   Gives : ℕ → Word → Transfer
@@ -58,7 +58,7 @@ abbrev pub event_of : Transfer → Event
 event_of (Takes i w) = Recv i
 event_of (Gives i w) = Send i w
 
--- how far an activation comes along the sites of a stage in a cycle: to which place, with which words received by then,
+-- how far an activation comes along the sites of a stage in a cycle: to which index, with which words received by then,
 -- what goes through ports on the way, and for what it stalls there, if it does
 pub record Walk : Type 0 where
   pub place : ℕ
@@ -120,7 +120,7 @@ abbrev pub is_at : ℕ → Transfer → Bool
 is_at i (Takes k w) = k == i
 is_at i (Gives k w) = k == i
 
--- the word that a receive of a place receives now, or the one kept
+-- the word that the receive with an index receives now, or the one kept
 abbrev pub kept_after : Word → ℕ → List Transfer → Word
 kept_after kept i [] = kept
 kept_after kept i (Takes k w ∷ transfers) = if k == i then w else kept_after kept i transfers
@@ -134,7 +134,7 @@ pub record Circuit : Type 0 where
   pub full_next : Bool → Bool → Bool → Bool
   pub turn_next : Bool → Bool → Bool → Bool
   pub done_next : Bool → Bool → Bool → Bool
-  -- the word that a receive keeps, by the one that it has, the one that is there, its place, and what goes through ports
+  -- the word that a receive keeps, by the one that it has, the one that is there, its index, and what goes through ports
   pub keep : Word → Option Word → ℕ → List Transfer → Word
 
 abbrev pub circuit : Circuit
@@ -148,7 +148,7 @@ circuit = record {
   keep = λ kept valid_word i transfers. kept_after kept i transfers;
 }
 
--- along so many sites from place i on, in an activation from a state that received these words before
+-- along so many sites from index i on, in an activation from a state that received these words before
 abbrev pub walk_by : Circuit → Behavior → (ℕ → Bool) → (ℕ → Word) → Ports → Value → List Word → ℕ → ℕ → Walk
 walk_by x b done kept ports s got i zero = stopped i got None
 walk_by x b done kept ports s got i (suc n) =

@@ -56,7 +56,7 @@ handled handling.Recall w kept valid_word room = step.Recall kept
 handled handling.Take w kept valid_word room = take_step valid_word
 handled handling.Put w kept valid_word room = if room then step.Put w else step.AwaitRoom w
 
--- a receive goes at a place
+-- the receive with an index goes
 abbrev pub takes_at : ℕ → Transfer → Bool
 takes_at i (Takes k w) = k == i
 takes_at i (Gives k w) = false

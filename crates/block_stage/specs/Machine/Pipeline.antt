@@ -19,7 +19,7 @@ abbrev pub count_before : (ℕ → ℕ) → ℕ → ℕ → ℕ
 count_before stage j zero = 0
 count_before stage j (suc n) = if nat_lt (stage n) j then suc (count_before stage j n) else count_before stage j n
 
--- the place of the first site of stage j, and of those behind it: stage j has the places from first j to before first (j + 1)
+-- the index of the first site in stage j or behind it: stage j has the indices from first j to before first (j + 1)
 unfoldable pub first : Pipeline → ℕ → ℕ
 first q j = count_before q.stage j (length q.proc.behavior.sites)
 

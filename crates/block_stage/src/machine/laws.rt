@@ -35,7 +35,7 @@ pub fn what_stalls_stays_asserted()
         (others : List Event) × (asserted_by (in_stage q (after_cycle q now ports) next j) ≡ event ∷ others) }
 {}
 
-/// So a word that is valid on a channel and not taken stands offered in the next cycle.
+/// So a word that is valid on a channel and not taken is still valid in the next cycle.
 pub fn untaken_words_stay_valid()
     ensures { (q : Pipeline) → IsPipeline q → (cycles : List Ports) (ports next : Ports) (chan : ℕ) (w : Word) →
         let now = (after_cycles q (at_reset q) cycles).contents in
@@ -53,7 +53,7 @@ pub fn one_site_asserts()
 {}
 
 /// A word goes through a port in a cycle where both sides are ready: a word that is valid on a channel is sent where
-/// there is room, and where a word is asked for, the one that is there is received.
+/// there is room, and where the pipeline is ready for a word, a valid one is received.
 pub fn words_go_where_both_sides_are_ready()
     ensures sent { (q : Pipeline) → IsPipeline q → (cycles : List Ports) (ports : Ports) (chan : ℕ) →
         let now = (after_cycles q (at_reset q) cycles).contents in
@@ -87,7 +87,7 @@ pub fn moved_activations_go_on()
     ensures turn { (q : Pipeline) (now : Registers) (ports : Ports) → moves q now ports q.last ≡ true → (after_cycle q now ports).full 0 ≡ true }
 {}
 
-/// A stage in which no activation stands asks for nothing.
+/// A pipeline in which no stage holds an activation asserts nothing.
 pub fn nothing_is_asked_without_an_activation()
     ensures { (q : Pipeline) (now : Registers) (ports : Ports) → ((j : ℕ) → now.full j ≡ false) → asserted_in q now ports ≡ [] }
 {}

@@ -29,9 +29,9 @@ pub enum Step {
     Take(Bits),
     /// This word is sent.
     Put(Bits),
-    /// The activation waits for a word.
+    /// The activation stalls for a word.
     AwaitWord,
-    /// It waits for room for this word.
+    /// It stalls for room for this word.
     AwaitRoom(Bits),
 }
 
@@ -42,9 +42,9 @@ pub enum Handling {
     Pass,
     /// It goes past with the word that is kept.
     Recall,
-    /// It asks for a word.
+    /// It is ready for a word.
     Take,
-    /// It offers its word.
+    /// Its word is valid.
     Put,
 }
 
@@ -59,7 +59,7 @@ pub struct Logic {
     /// One that is to send, and one that has.
     pub send: Handling,
     pub sent: Handling,
-    /// Whether the activation of a stage may leave it, by whether there is one, and whether it waits.
+    /// Whether the activation of a stage may leave it, by whether there is one, and whether it stalls.
     pub leaves: Table2,
     /// Whether it may come into the next stage, by whether that holds one, and whether that moves.
     pub frees: Table2,

@@ -24,7 +24,7 @@ pub record StandsBefore (run : Run) (p : ℕ) (proc : Proc) (made : List Event) 
   pub active : (stands run proc made).ends < run.activations
   pub next : next_of proc.behavior (stands run proc made) ≡ event
 
--- the site of place i is on an inner channel, in this direction
+-- the site with index i is on an inner channel, in this direction
 pub record IsSiteOn (run : Run) (proc : Proc) (i : ℕ) (site : Site) (sends : Bool) : Type 0 where
   pub place : slice_get proc.behavior.sites i ≡ Some site
   pub direction : site.sends ≡ sends

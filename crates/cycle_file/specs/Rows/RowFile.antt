@@ -41,7 +41,7 @@ pub data SaysRowLine (channels : List Channel) (line : List ℕ) : LineSaid → 
 
 -- ---- the lines of a file
 
--- rows, or the first fault and the place of its line
+-- rows, or the first fault and the position at which its line begins
 abbrev pub RowLines : Type 0
 RowLines = Result (List Repeated) (Cause × ℕ)
 

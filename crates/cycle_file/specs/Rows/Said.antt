@@ -25,7 +25,7 @@ use Rattle.cycle_file.specs.Rows.Forms.{item_form, no_item, offers, readies}
 
 -- ---- channels by their names
 
--- the place of the first of these names that is q, where the first one has place i
+-- the index of the first of these names that is q, where the first one has index i
 abbrev pub named_from : ℕ → List (List ℕ) → List ℕ → Option ℕ
 named_from i [] q = None
 named_from i (name ∷ names) q = if bytes_eq name q then Some i else named_from (suc i) names q

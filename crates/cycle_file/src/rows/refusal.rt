@@ -10,7 +10,7 @@ use xb_span::Limit;
 /// Why a row file is refused.
 #[derive(Clone, Copy, Debug, PartialEq, Eq)]
 pub enum RowError {
-    /// The first line at fault: what is wrong with it, and the place of its first byte.
+    /// The first line at fault: what is wrong with it, and the position of its first byte.
     Input(Cause, u32),
     /// The rows, repeats counted, are more than a file may have.
     Over(Limit),

@@ -19,7 +19,7 @@ pattern_at span shape = roll-Pattern (record { span = span; shape = shape })
 abbrev pub number_of : TypeExpr → Digits → Number
 number_of ty number = roll-Number (record { ty = Some ty; is_negative = number.is_negative; value = number.value })
 
--- the place of a number with a type
+-- the span of a number with its type before it
 abbrev pub number_span : TypeExpr → Digits → Span
 number_span ty number = join (out-TypeExpr ty).span number.span
 

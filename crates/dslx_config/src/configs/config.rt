@@ -1,4 +1,4 @@
-//! What a `config` becomes.
+//! What a `config` is lowered to.
 
 ghost use Rattle.std.specs.Prelude.{◌≡◌, IfOk, Some};
 ghost use Rattle.dslx_meaning.specs.Items.{meanings_of};
@@ -20,8 +20,8 @@ use dslx_tree::{Module, Proc};
 use std::alloc::{AllocError, Global};
 use xb_value::Seq;
 
-/// What the `config` of a proc becomes in an instance with these parametric arguments, where these instances of procs are there to be
-/// spawned; `None` where a part of it becomes nothing.
+/// What the `config` of a proc is lowered to in an instance with these parametric arguments, where these instances of procs are there to be
+/// spawned; `None` where a part of it has no lowering.
 pub fn config_there<'a>(
     alloc: Global,
     text: &'a Module,

@@ -17,7 +17,7 @@ use dslx_tree::{Arg, Module, Proc};
 use std::alloc::{AllocError, Global};
 use xb_value::Seq;
 
-/// The parametric arguments of a proc that is spawned with these, and those of its parameters that aren't given.
+/// The parametric arguments of a proc that is spawned with these, and those of its parametrics that aren't given.
 pub(crate) fn spawn_parametric_args<'a>(
     alloc: Global,
     context: ScopeEnv<'a>,
@@ -55,7 +55,7 @@ fn given_parametric_args<'a>(
     Ok(Some(given))
 }
 
-/// The parametric arguments of the top, the defaults of its parameters; none where one has no value.
+/// The parametric arguments of the top, the defaults of its parametrics; none where one has no value.
 pub fn top_parametric_args<'a>(
     alloc: Global,
     text: &'a Module,

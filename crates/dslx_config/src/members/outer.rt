@@ -12,7 +12,7 @@ use dslx_scope_patterns::patterns::BodyScope;
 use dslx_tree::TypeExpr;
 use std::alloc::{AllocError, Global};
 
-/// What a written type becomes where nothing is bound but parametrics.
+/// What a written type is lowered to where nothing is bound but parametrics.
 pub fn outer_type<'a>(
     alloc: Global,
     known: BodyScope<'a>,

@@ -95,7 +95,7 @@ fn begin_call<'a>(
     )
 }
 
-/// Goes on with the first parameter that is left, which may be given.
+/// Goes on with the first parametric that is left, which may be given.
 fn find_parametrics<'a>(
     machine: &mut Machine<'a>,
     alloc: Global,
@@ -113,7 +113,7 @@ fn find_parametrics<'a>(
     }
 }
 
-/// Binds a parameter, and goes on with those behind it.
+/// Binds a parametric, and goes on with those behind it.
 fn bind_parametric<'a>(
     machine: &mut Machine<'a>,
     alloc: Global,
@@ -131,7 +131,7 @@ fn bind_parametric<'a>(
     machine.first_call(alloc, CallTask::FindParametrics(call, rest))
 }
 
-/// Goes on with the first parameter that isn't given, or with the operands.
+/// Goes on with the first parametric that isn't given, or with the operands.
 fn find_missing<'a>(
     machine: &mut Machine<'a>,
     alloc: Global,
@@ -146,7 +146,7 @@ fn find_missing<'a>(
     }
 }
 
-/// Finds a parameter: the number that the operands infer, or else its default.
+/// Finds a parametric: the number that the operands infer, or else its default.
 fn begin_parametric<'a>(
     machine: &mut Machine<'a>,
     alloc: Global,
@@ -270,7 +270,7 @@ fn begin_body<'a>(
     machine.first_value(alloc, ValueTask::Block(body))
 }
 
-/// The call comes to nothing.
+/// The call has no value.
 fn fail_call<'a>(machine: &mut Machine<'a>, call: Call<'a>) -> Result<(), AllocError>
     ensures { OnOk result (shown machine.new ≡ call_fails (plain_call call.entry) (shown machine.old)) }
 {

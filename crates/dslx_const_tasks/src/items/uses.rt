@@ -16,7 +16,7 @@ use dslx_tree::{Definition, Enum, Item, Struct};
 use dslx_values::copy_value;
 use std::alloc::{AllocError, Global};
 
-/// Goes to an item, where only items are in sight and a chain of uses may go through so many others.
+/// Goes to an item, where only items are in scope and a chain of uses may go through so many others.
 fn go_to_item<'a>(machine: &mut Machine<'a>, alloc: Global, left: u64) -> Result<(), AllocError>
     ensures { OnOk result (shown machine.new ≡ at_item left [] (shown machine.old)) }
 {

@@ -1,4 +1,4 @@
--- Networks of procs with whose `next` nothing is wrong.
+-- Networks of procs whose `next` is well-typed.
 use Rattle.std.specs.Prelude.{◌≡◌, ℕ, List, [], ◌∷◌, Option, Some}
 use Rattle.xb_bits.specs.Word.{Word}
 use Rattle.xb_value.specs.declared.value.Value.{Value}
@@ -11,7 +11,7 @@ use Rattle.dslx_meaning.specs.declared.ty.DslxType.{DslxType}
 use Rattle.dslx_meaning.specs.Rules.TypeEnvs.{GlobalEnv}
 use Rattle.dslx_core.specs.Typing.Activities.Members.{IsWellTypedNext}
 
--- nothing is wrong with the `next` of a proc, and what it does by what is known of items, it does by what they mean
+-- the `next` of a proc is well-typed, and it does by the global environment what it does by what the items denote
 pub record NextIsWellTyped (m : Module) (known : GlobalEnv) (a : Elaborated) : Type 0 where
   pub well_typed : (t : DslxType) → state_type_of known.items a.proc a.parametric_args ≡ Some t → IsWellTypedNext known a.proc a.parametric_args t
   pub state : state_type_of known.items a.proc a.parametric_args ≡ state_type_of (meanings_of m) a.proc a.parametric_args

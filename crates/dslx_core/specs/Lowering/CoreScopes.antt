@@ -1,4 +1,4 @@
--- Where an expression is lowered: what is known there, and which of the bound values each name stands for.
+-- Where an expression is lowered: what is in scope there, and which of the bound values each name stands for.
 use Rattle.std.specs.Prelude.{ℕ, suc, List, [], ◌∷◌, map, Bool, true, false, Option, Some, None, if◌then◌else◌}
 use Rattle.std.specs.Str.{bytes_eq}
 use Rattle.std.specs.List.{list_any}
@@ -12,24 +12,24 @@ use Rattle.dslx_meaning.specs.Rules.Mentions.{free_names}
 use Rattle.dslx_core.specs.declared.lowering.instance.CoreCallee as callee_data
 use Rattle.dslx_core.specs.declared.lowering.expr.BoundSlot as slot_data
 
--- the instance that a call comes to: its number, and the type of its result
+-- the instance that a call resolves to: its number, and the type of its result
 abbrev pub CoreCallee : Type 0
 CoreCallee = callee_data.CoreCallee
 
--- what is known in all of a body
+-- the environment of a body: what is visible in all of it
 pub record BodyEnv : Type 0 where
   -- what the items mean
   pub items : Meanings
   -- parametrics, the last one first
   pub parametric_args : List Given
-  -- what a call comes to, by the function's name, the parametric arguments that are written, and the types of the operands
+  -- what a call resolves to, by the function's name, the parametric arguments that are written, and the types of the operands
   pub callee : List ℕ → List DslxValue → List DslxType → Option CoreCallee
 
--- a name that is bound: the number of its value among those that are bound, and its type
+-- a name that is bound: the index of its value among those that are bound, and its type
 abbrev pub BoundSlot : Type 0
 BoundSlot = slot_data.BoundSlot
 
--- a place in a body: the names that are bound there, the last one first, and how many values are bound
+-- a scope in a body: the names that are bound there, the last one first, and how many values are bound
 pub record CoreScope : Type 0 where
   pub known : BodyEnv
   pub locals : List BoundSlot

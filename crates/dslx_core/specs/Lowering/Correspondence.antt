@@ -1,5 +1,5 @@
--- What it means that a core expression stands for an expression of a text: wherever the names have values of their types at
--- their numbers, and the text's expression has a value, that value is of the type, and the core expression has it, without
+-- What it means that a core expression simulates an expression of a text: wherever the names have values of their types at
+-- their indices, and the text's expression has a value, that value is of the type, and the core expression has it, without
 -- signs and names.
 use Rattle.std.specs.Prelude.{◌≡◌, ℕ, List, [], ◌∷◌, map, true, Option, Some, None, length, slice_get}
 use Rattle.std.specs.List.{list_all}
@@ -15,13 +15,13 @@ use Rattle.dslx_core.specs.Lowering.Lowering.{LoweredExpr}
 use Rattle.dslx_core.specs.Lowering.Patterns.{ExprLowering, LoweredShape, PatternLowering}
 use Rattle.dslx_core.specs.Lowering.Trees.{TypeLowering}
 
--- ---- places
+-- ---- scopes
 
--- a value that is known is of its own type
+-- a value is of its own type
 abbrev pub IsOwn : DslxValue → Type 0
 IsOwn v = is_of (type_of_value v) v ≡ true
 
--- what a call comes to gives the value that the text's call has
+-- what a call resolves to gives the value that the text's call has
 abbrev pub CallsSimulate : BodyEnv → Functions → Type 0
 CallsSimulate known calls = (name : List ℕ) (given operands : List DslxValue) (types : List DslxType) (callee : CoreCallee) (v : DslxValue)
     → known.callee name given types ≡ Some callee → each_of (map is_of types) operands ≡ true → known.items.call name given operands ≡ Some v
@@ -31,8 +31,8 @@ CallsSimulate known calls = (name : List ℕ) (given operands : List DslxValue) 
 abbrev pub HidesNoConstant : Meanings → List Given → Type 0
 HidesNoConstant items bound = (name : List ℕ) → items.is_constant name ≡ true → given_in name bound ≡ None
 
--- what is known in all of a body: values are of their own types, no parametric has a constant's name, and calls give
--- what they mean
+-- the environment of a body: values are of their own types, no parametric has a constant's name, and calls give
+-- the values that they denote
 pub record BodyEnvSimulates (known : BodyEnv) (calls : Functions) : Type 0 where
   pub parametric_args : (name : List ℕ) (v : DslxValue) → given_in name known.parametric_args ≡ Some v → IsOwn v
   pub constants : (name : List ℕ) (v : DslxValue) → known.items.constant name ≡ Some v → IsOwn v
@@ -40,14 +40,14 @@ pub record BodyEnvSimulates (known : BodyEnv) (calls : Functions) : Type 0 where
   pub hides : HidesNoConstant known.items known.parametric_args
   pub callees : CallsSimulate known calls
 
--- each local has a value of its type, which stands at its number, and behind the locals are the parametrics
+-- each local has a value of its type, which is found at its index, and behind the locals are the parametrics
 abbrev pub SlotsSimulate : List BoundSlot → List Given → List Given → Bindings → Type 0
 SlotsSimulate [] parametric_args given bound = given ≡ parametric_args
 SlotsSimulate (l ∷ ls) parametric_args [] bound = ⊥
 SlotsSimulate (l ∷ ls) parametric_args (g ∷ gs) bound =
     (g.name ≡ l.name) × (is_of l.ty g.value ≡ true) × (slice_get bound l.slot ≡ Some (plain_value g.value)) × SlotsSimulate ls parametric_args gs bound
 
--- the place, where these names are bound in the text, and these values in what stands for it
+-- the scope, where these names are bound in the text, and these values in the core expression that simulates it
 pub record SimulatesInScope (place : CoreScope) (calls : Functions) (given : List Given) (bound : Bindings) : Type 0 where
   pub known : BodyEnvSimulates place.known calls
   pub count : length bound ≡ place.count
@@ -64,11 +64,11 @@ pub record HasPlainValue (e : LoweredExpr) (calls : Functions) (bound : Bindings
   pub of : is_of e.ty v ≡ true
   pub core : core_value e.core calls bound ≡ Some (plain_value v)
 
--- if something is lowered and the text's expression has a value
+-- if the text's expression is lowered and has a value, the core expression has this value
 abbrev pub KeepsValue : Functions → Bindings → Option LoweredExpr → Option DslxValue → Type 0
 KeepsValue calls bound l o = (e : LoweredExpr) → l ≡ Some e → (v : DslxValue) → o ≡ Some v → HasPlainValue e calls bound v
 
--- at each place
+-- in each scope
 abbrev pub LowerPreserves : ExprLowering → ValueDen → Type 0
 LowerPreserves l m = (place : CoreScope) (calls : Functions) (given : List Given) (bound : Bindings) → SimulatesInScope place calls given bound → KeepsValue calls bound (l place) (m (env_at place given))
 
@@ -78,12 +78,12 @@ abbrev pub TypeLowerPreserves : TypeLowering → TypeDen → Type 0
 TypeLowerPreserves l m = (place : CoreScope) (calls : Functions) (given : List Given) (bound : Bindings) → SimulatesInScope place calls given bound → (t : DslxType) → l place ≡ Some t
     → m (env_at place given) ≡ Some t
 
--- a value fits a pattern and its shape, and behind them the names stand at their numbers, or it fits neither
+-- a value fits a pattern and its shape, and behind them the names are bound at their indices, or it fits neither
 pub data FitLowerPreserves (place : CoreScope) (calls : Functions) (o : Option Env) (p : Option Bindings) : Type 0 where
   BothFit : (given : List Given) (bound : Bindings) → o ≡ Some (env_at place given) → p ≡ Some bound → SimulatesInScope place calls given bound → FitLowerPreserves place calls o p
   NeitherFits : o ≡ None → p ≡ None → FitLowerPreserves place calls o p
 
--- in a pattern whose own place is the outer one, behind what it bound so far
+-- in a pattern whose own scope is the outer one, behind what it bound so far
 pub record PatternLowerPreserves (l : PatternLowering) (m : PatternDen) : Type 0 where
   pub names : l.names ≡ m.names
   pub fits : (outer place : CoreScope) (t : DslxType) (s : LoweredShape) → l.lower outer place t ≡ Some s

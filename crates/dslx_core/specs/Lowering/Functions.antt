@@ -1,4 +1,4 @@
--- Which functions the instances of a text's functions become, and which of them a call comes to.
+-- Which functions the instances of a text's functions are lowered to, and which of them a call resolves to.
 use Rattle.std.specs.Prelude.{ℕ, suc, List, [], ◌∷◌, ◌++◌, ◌&&◌, map, Bool, not, Option, Some, None, length, if◌then◌else◌}
 use Rattle.std.specs.Str.{bytes_eq}
 use Rattle.std.specs.List.{list_all}
@@ -72,7 +72,7 @@ instance_in name parametric_args n (i ∷ is) = if is_instance name parametric_a
 abbrev pub callee_of : List DslxType → ℕ × CoreInstance → Option CoreCallee
 callee_of types p = where_true (pairwise equal_type p.1.function.arguments types) (Some (record { number = p.0; result = p.1.function.result }))
 
--- what a call comes to among these instances
+-- what a call resolves to among these instances
 abbrev pub callee_in : Module → Meanings → List CoreInstance → List ℕ → List DslxValue → List DslxType → Option CoreCallee
 callee_in m items instances name given types =
     and_then (as_function (item_named name m.items)) (λ f.

@@ -1,7 +1,7 @@
--- Which core expression an expression of a text becomes.
+-- Which core expression an expression of a text is lowered to.
 --
--- What is lowered carries its type, by which signs, fields and instances are found. Names become numbers of bound values,
--- parametrics and constants become literals, structs tuples, and enums bits. Where something isn't there, or a type
+-- What is lowered carries its type, by which signs, fields and instances are found. Names are lowered to indices of bound values,
+-- parametrics and constants to literals, structs to tuples, and enums to bits. Where something isn't found, or a type
 -- isn't the one that is wanted, nothing is lowered.
 use Rattle.std.specs.Prelude.{ℕ, List, [], ◌∷◌, ◌-◌, ◌+◌, ◌&&◌, nat_lt, nat_le, map, Bool, true, Option, Some, None, slice_get, if◌then◌else◌}
 use Rattle.dslx_tree.specs.declared.operator.Prefix.{Prefix}
@@ -42,7 +42,7 @@ LoweredExpr = expr_data.LoweredExpr
 abbrev pub lowered : CoreExpr → DslxType → Option LoweredExpr
 lowered e t = Some (record { core = e; ty = t })
 
--- a value that is known
+-- a value, as a literal
 abbrev pub literal : DslxValue → Option LoweredExpr
 literal v = lowered (core.Literal (plain_value v)) (type_of_value v)
 
@@ -157,7 +157,7 @@ lower_tuple es = and_then (all_some es) (λ es. lowered (core.Tuple (cores_of es
 abbrev pub lower_element : Option LoweredExpr → ℕ → Option LoweredExpr
 lower_element e k = and_then e (λ e. and_then (part_type e.ty k) (λ t. lowered (core.Element e.core k) t))
 
--- the place of a field, and its type
+-- the index of a field, and its type
 abbrev pub field_index : List ℕ → DslxType-F DslxType → Option (ℕ × DslxType)
 field_index field (DslxType-F.Struct name fields ts) = and_then (index_in field fields) (λ k. and_then (slice_get ts k) (λ t. Some (k, t)))
 field_index field _ = None

@@ -1,4 +1,4 @@
--- Which shape a pattern becomes, and what is bound behind it.
+-- Which shape a pattern is lowered to, and what is bound behind it.
 use Rattle.std.specs.Prelude.{ℕ, List, [], ◌∷◌, ◌++◌, ◌&&◌, ◌^◌, nat_lt, map, Option, Some, None, if◌then◌else◌}
 use Rattle.std.specs.List.{list_all}
 use Rattle.dslx_meaning.specs.Lists.{all_some, and_then, with_both, where_true}
@@ -17,22 +17,22 @@ use Rattle.dslx_core.specs.Lowering.CoreScopes.{CoreScope, with_local}
 use Rattle.dslx_core.specs.Lowering.Lowering.{LoweredExpr, lowered}
 use Rattle.dslx_core.specs.declared.lowering.expr.LoweredArm as arm_data
 
--- what an expression becomes at each place
+-- what an expression is lowered to in each scope
 abbrev pub ExprLowering : Type 0
 ExprLowering = CoreScope → Option LoweredExpr
 
--- a shape, and the place behind it
+-- a shape, and the scope behind it
 pub record LoweredShape : Type 0 where
   pub shape : Shape
   pub place : CoreScope
 
--- a pattern: the names in it, and what it becomes against values of a type, by the place of the whole pattern, where its numbers
--- are evaluated, and the place behind what is bound so far
+-- a pattern: the names in it, and what it is lowered to against values of a type, by the scope of the whole pattern, where its numbers
+-- are evaluated, and the scope behind what is bound so far
 pub record PatternLowering : Type 0 where
   pub names : List (List ℕ)
   pub lower : CoreScope → CoreScope → DslxType → Option LoweredShape
 
--- at its own place
+-- in its own scope
 abbrev pub lower_in_scope : PatternLowering → CoreScope → DslxType → Option LoweredShape
 lower_in_scope p place t = p.lower place place t
 
@@ -81,7 +81,7 @@ LoweredArm = arm_data.LoweredArm
 abbrev pub arm_of : List Shape → LoweredExpr → Option LoweredArm
 arm_of shapes e = Some (record { arm = roll-Arm (record { shapes = shapes; value = e.core }); ty = e.ty })
 
--- each alternative from the place
+-- each alternative in this scope
 abbrev pub alternatives_shaped : List PatternLowering → CoreScope → DslxType → Option (List Shape)
 alternatives_shaped [] place t = Some []
 alternatives_shaped (p ∷ ps) place t = with_both (lower_in_scope p place t) (alternatives_shaped ps place t) (λ s ss. Some (s.shape ∷ ss))

@@ -1,4 +1,4 @@
--- Which steps the statements of `next` become.
+-- Which steps the statements of `next` are lowered to.
 use Rattle.std.specs.Prelude.{ℕ, List, [], ◌∷◌, ◌&&◌, map, Bool, true, not, Option, Some, None, slice_get}
 use Rattle.std.specs.List.{list_all}
 use Rattle.xb_value.specs.declared.ty.Ty.{fold-Ty}
@@ -148,6 +148,6 @@ lower_next known p =
     where_true (parametric_args_are_well_typed known.items known.parametric_args && not (known.items.is_constant p.next.state.name))
     (and_then (lower_type_of_text p.next.ty (outer_scope known)) (λ t. where_true (is_sized t) (steps_from (outer_scope known) p t)))
 
--- what is known in an instance of a proc
+-- the environment of the body in an instance of a proc
 abbrev pub proc_globals : Module → Meanings → List CoreInstance → Proc → List DslxValue → BodyEnv
 proc_globals m items instances p parametric_args = record { items = items; parametric_args = parametric_args_bound [] p.parametrics parametric_args; callee = callee_in m items instances }

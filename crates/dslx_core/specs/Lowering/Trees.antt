@@ -1,4 +1,4 @@
--- Which core expression each tree of a text becomes, by recursion on the tree.
+-- Which core expression each tree of a text is lowered to, by recursion on the tree.
 use Rattle.std.specs.Prelude.{ℕ, suc, List, [], ◌∷◌, ◌++◌, ◌+◌, ◌-◌, ◌==◌, nat_le, map, Bool, true, false, Option, Some, None, length, if◌then◌else◌}
 use Rattle.std.specs.List.{list_all}
 use Rattle.dslx_tree.specs.declared.block.Stmt.TheOpen.{Stmt-F, Node-F, Shape-F, TypeNode-F}
@@ -27,7 +27,7 @@ use Rattle.dslx_core.specs.Lowering.CoreScopes.{CoreScope, with_unnamed, constan
 use Rattle.dslx_core.specs.Lowering.Lowering.{LoweredExpr, lowered, literal, cores_of, lower_name, lower_number, lower_prefix, lower_binary, lower_cast, lower_slice, lower_part, lower_tuple, lower_element, lower_field, lower_index, lower_choice, lower_call}
 use Rattle.dslx_core.specs.Lowering.Patterns.{ExprLowering, LoweredShape, PatternLowering, ArmLowering, shaped, value_shape, name_shape, tuple_shape, names_of_all, lower_match, lower_loop, lower_let}
 
--- what a written type means at each place
+-- the type that a written type denotes in each scope
 abbrev pub TypeLowering : Type 0
 TypeLowering = CoreScope → Option DslxType
 
@@ -53,7 +53,7 @@ lowering_sorts = record {
   type_expr = TypeLowering;
 }
 
--- an expression, and what it becomes
+-- an expression, and what it is lowered to
 abbrev pub LoweredPair : Type 0
 LoweredPair = Expr × ExprLowering
 
@@ -166,7 +166,7 @@ with_others place others written t fields ts =
 abbrev pub without_others : CoreScope → List FieldLowering → DslxType → List (List ℕ) → List DslxType → Option LoweredExpr
 without_others place written t fields ts = and_then (lower_fields place written None fields ts) (λ es. lowered (core.Tuple (cores_of es)) t)
 
--- what gives the others is needed only where a field isn't written
+-- the expression that has the other fields is lowered only where a field isn't written
 abbrev pub struct_fields : CoreScope → List FieldLowering → Option ExprLowering → DslxType → List (List ℕ) → List DslxType → Option LoweredExpr
 struct_fields place written None t fields ts = without_others place written t fields ts
 struct_fields place written (Some others) t fields ts =
@@ -260,7 +260,7 @@ lowering_steps = record {
   type_expr = λ t. t.node.1;
 }
 
--- the core expression that an expression of a text becomes at a place, with its type
+-- the core expression that an expression of a text is lowered to in a scope, with its type
 abbrev pub lower_expression : Expr → ExprLowering
 lower_expression e = (paired_expr lowering_sorts lowering_steps e).1
 

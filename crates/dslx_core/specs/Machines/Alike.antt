@@ -1,4 +1,4 @@
--- what is claimed of places at which calls come to different instances
+-- what is claimed of scopes in which calls resolve to different instances
 pub mod Alike
 -- what is claimed of tables of instances
 pub mod Tables

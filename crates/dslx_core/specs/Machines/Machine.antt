@@ -1,8 +1,8 @@
 -- what steps do with arms
 pub mod Arms
--- how steps change what is lowered in one place
+-- how steps change the body that is lowered
 pub mod Bodies
--- places that differ in what calls come to
+-- scopes that differ in what calls resolve to
 pub mod Callees
 -- how instances are opened and closed, and several steps
 pub mod Machines

@@ -1,4 +1,4 @@
--- Which channels, children and members a `config` of a text becomes in an instance of its proc.
+-- Which channels, children and members a `config` of a text is lowered to in an instance of its proc.
 use Rattle.std.specs.Prelude.{ℕ, suc, List, [], ◌∷◌, ◌&&◌, ◌==◌, ◌^◌, nat_lt, map, Bool, Option, Some, None, length, if◌then◌else◌}
 use Rattle.std.specs.Str.{bytes_eq}
 use Rattle.dslx_tree.specs.declared.expr.Arg.{Arg, out-Arg}
@@ -64,7 +64,7 @@ abbrev pub lower_spawn_parametrics : CoreScope → Proc → List Arg → Option 
 lower_spawn_parametrics place target arguments =
     and_then (all_some (map (λ (a : Arg). constant_at place (out-Arg a).value) arguments)) (all_parametric_args place.known.items [] [] target.parametrics)
 
--- a spawned proc, which has an instance already, with as many ends as its `config` is given
+-- a spawned proc, which has an instance already, with as many ends as its `config` takes
 abbrev pub lower_child : Module → CoreScope → List Held → List ProcInstance → Spawn → Option Child
 lower_child m place held procs s =
     and_then (as_proc (item_named s.target.name m.items)) (λ target.

@@ -1,4 +1,4 @@
--- The ends in a `config` by their numbers: first those that it is given, and behind these the channels that it makes, whose two
+-- The ends in a `config` by their numbers: first those that it takes, and behind these the channels that it makes, whose two
 -- ends have one number.
 use Rattle.std.specs.Prelude.{ℕ, List, [], ◌∷◌, ◌++◌, map, Option, Some, None, length, if◌then◌else◌}
 use Rattle.std.specs.Str.{bytes_eq}

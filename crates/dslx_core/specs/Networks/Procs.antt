@@ -1,4 +1,4 @@
--- Which instance of a checked text an instance of a proc becomes.
+-- Which instance of a checked text an instance of a proc is lowered to.
 use Rattle.std.specs.Prelude.{List, [], ◌∷◌, ◌++◌, Option, Some, length}
 use Rattle.dslx_tree.specs.declared.item.Module.{Module}
 use Rattle.dslx_tree.specs.declared.process.Proc.{Proc}

@@ -1,4 +1,4 @@
--- items of which the same is known
+-- items on which two global environments agree
 pub mod Alike
--- texts in which what is known settles
+-- texts whose global environments settle
 pub mod Settled

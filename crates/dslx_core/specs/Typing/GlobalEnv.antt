@@ -1,6 +1,6 @@
--- what is known of some items alone
+-- global environments of some items alone
 pub mod Filled
--- items that are known with all that they need
+-- items that are in the global environment with all that they need
 pub mod Passing
--- texts with whose constants and types nothing is wrong
+-- texts whose constants and types are well-typed
 pub mod WellTypedParts

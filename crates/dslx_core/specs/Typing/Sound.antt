@@ -1,4 +1,4 @@
--- parts that have values of their types where nothing is wrong with them
+-- parts that have values of their types where they are well-typed
 pub mod Sound
--- places at which all but locals are bound alike
+-- environments in which all but locals are bound alike
 pub mod Scopes

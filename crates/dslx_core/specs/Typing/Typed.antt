@@ -1,8 +1,8 @@
--- what is given where a type is known
+-- what expressions give that have a type
 pub mod Given
 -- types that the text declares
 pub mod Declared
--- what is known where nothing is left unknown
+-- global environments in which no item is left out
 pub mod Complete
 -- values of types
 pub mod Kinds

@@ -3,7 +3,7 @@ use base::texts::Name;
 use dslx_meaning::DslxType;
 use xb_value::Boxed;
 
-/// A core expression, and the type of its values. It stands in a box, as which it becomes a part of another.
+/// A core expression, and the type of its values. It is boxed, as it is where it is a part of another.
 #[derive(Drop)]
 pub struct LoweredExpr {
     pub core: Boxed<CoreExpr>,

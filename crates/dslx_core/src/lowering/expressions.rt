@@ -5,9 +5,9 @@ ghost use Rattle.dslx_meaning.specs.Meaning.{value_of, value_of_block, written_t
 ghost use Rattle.dslx_core.specs.Lowering.Correspondence.{LowerPreserves, TypeLowerPreserves};
 ghost use Rattle.dslx_core.specs.Lowering.Trees.{lower_block_of_text, lower_expression, lower_type_of_text};
 
-/// Where an expression becomes a core expression of a type, and it has a value at a place where each bound name has a value
-/// of its type, which stands at its number: that value is of the type, and the core expression has it, without signs and
-/// names. A written type means there the type that it becomes.
+/// Where an expression is lowered to a core expression of a type, and it has a value in a scope where each bound name has a value
+/// of its type, which is found at its index: that value is of the type, and the core expression has it, without signs and
+/// names. A written type denotes there the type that it is lowered to.
 pub fn lower_preserves_expressions()
     ensures expression { (e : Expr) → LowerPreserves (lower_expression e) (value_of e) }
     ensures block { (b : Block) → LowerPreserves (lower_block_of_text b) (value_of_block b) }

@@ -17,7 +17,7 @@ pub struct LoweredSteps {
     pub next: LoweredExpr,
 }
 
-/// What the `next` of an instance of a proc becomes: the state's type, the steps of an activation, and the state behind them.
+/// What the `next` of an instance of a proc is lowered to: the state's type, the steps of an activation, and the state behind them.
 #[derive(Drop)]
 pub struct LoweredNext {
     pub state: DslxType,

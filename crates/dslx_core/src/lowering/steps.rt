@@ -11,7 +11,7 @@ ghost use Rattle.dslx_core.specs.Lowering.Instances.{ItemsAreOwn, functions_of_i
 ghost use Rattle.dslx_core.specs.Lowering.Steps.{LoweredNext, lower_next, proc_globals};
 
 /// An activation of an instance of a proc, from each state of its type and over each list of words: what it does at a site
-/// the steps that its `next` becomes do too, and where it ends in a state they do just that and end in this state, without
+/// the steps that its `next` is lowered to do too, and where it ends in a state they do just that and end in this state, without
 /// signs and names. That type is the one that the text's state has.
 pub fn lower_preserves_steps()
     ensures activations { (m : Module) (items : Meanings) → meanings_over m items ≡ items → ItemsAreOwn items

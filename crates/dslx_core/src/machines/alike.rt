@@ -1,7 +1,7 @@
-//! What is lowered where calls come to different instances, and which instances tables have in common.
+//! What is lowered where calls resolve to different instances, and which instances tables have in common.
 //!
-//! There is no code here. An expression has one type wherever it is lowered, and it is lowered wherever calls come to more. So an
-//! instance has the same types in each table in which it stands, and two tables may be joined.
+//! There is no code here. An expression has one type wherever it is lowered, and it stays lowered where more calls resolve. So an
+//! instance has the same types in each table that has it, and two tables may be joined.
 ghost use Rattle.std.specs.Prelude.{◌≡◌, ℕ, List, Some};
 ghost use Rattle.dslx_tree.specs.declared.block.Block.{Block};
 ghost use Rattle.dslx_tree.specs.declared.expr.Expr.{Expr};
@@ -16,7 +16,7 @@ ghost use Rattle.dslx_core.specs.Machines.Machine.Reached.{IsTable};
 ghost use Rattle.dslx_core.specs.Machines.Alike.Alike.{Agree, KnowsMore, LowerAgree, LowerMono, MakesAlike, MakesMore, OfOneType};
 ghost use Rattle.dslx_core.specs.Machines.Alike.Tables.{JoinedTable};
 
-/// What is lowered at a place is lowered wherever calls come to more, and has the same type there.
+/// What is lowered in a scope is lowered where more calls resolve, and has the same type there.
 pub fn lower_mono()
     ensures expression { (e : Expr) (place : CoreScope) (c d : CalleesByName) → KnowsMore c d → LowerMono (lower_expression e (with_callee c place)) (lower_expression e (with_callee d place)) }
     ensures block { (b : Block) (place : CoreScope) (c d : CalleesByName) → KnowsMore c d → LowerMono (lower_block_of_text b (with_callee c place)) (lower_block_of_text b (with_callee d place)) }
@@ -24,8 +24,8 @@ pub fn lower_mono()
         → (i : Instantiated) → MakesMore (next_instance m items before i) (next_instance m items other i) }
 {}
 
-/// What is lowered at two places that differ in what calls come to has one type, if the calls that come to something at both
-/// places have the same types of results.
+/// What is lowered in two scopes that differ in what calls resolve to has one type, if the calls that resolve in both
+/// have the same types of results.
 pub fn lower_types_agree()
     ensures expression { (e : Expr) (place : CoreScope) (c d : CalleesByName) → Agree c d → LowerAgree (lower_expression e (with_callee c place)) (lower_expression e (with_callee d place)) }
     ensures block { (b : Block) (place : CoreScope) (c d : CalleesByName) → Agree c d → LowerAgree (lower_block_of_text b (with_callee c place)) (lower_block_of_text b (with_callee d place)) }
@@ -33,13 +33,13 @@ pub fn lower_types_agree()
         → (i : Instantiated) → MakesAlike (next_instance m items before i) (next_instance m items other i) }
 {}
 
-/// An instance that stands in two tables has the same types of arguments and of the result in both.
+/// An instance that is in two tables has the same types of arguments and of the result in both.
 pub fn instances_have_one_type()
     ensures { (m : Module) (items : Meanings) (first second : List CoreInstance) → IsTable m items first → IsTable m items second
         → (name : List ℕ) (parametric_args : List DslxValue) (p q : ℕ × CoreInstance) → instance_in name parametric_args 0 first ≡ Some p → instance_in name parametric_args 0 second ≡ Some q → OfOneType p.1 q.1 }
 {}
 
-/// Of two tables there is one that begins with the first and has the instances of both, and no others.
+/// Of two tables there is one that has the first as its prefix and the instances of both, and no others.
 pub fn tables_are_joined()
     ensures { (m : Module) (items : Meanings) (first second : List CoreInstance) → IsTable m items first → IsTable m items second → JoinedTable m items first second }
 {}

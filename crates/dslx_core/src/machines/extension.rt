@@ -1,4 +1,4 @@
-//! What comes of work by the instances of a text: a value by each table that begins with one, or nothing by any of at most so many.
+//! What work by the instances of a text results in: a value by each table that extends one, or nothing by any of at most so many.
 //!
 //! There is no code here. Work that makes instances as it goes sees only its own table. That it gives up has to say more: a text has many
 //! tables, which differ in the order of their instances, and an expression has one type by all of them.

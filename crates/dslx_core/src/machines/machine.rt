@@ -1,4 +1,4 @@
-//! A machine that lowers instances of functions, and that what it makes is what they become.
+//! A machine that lowers instances of functions, and that what it makes is what they are lowered to.
 //!
 //! There is no code here: `specs/` has what each step does, and code that takes these steps gives the instances by the
 //! definition.
@@ -17,7 +17,7 @@ ghost use Rattle.dslx_core.specs.Machines.Machine.Reached.{ExtendsTable, HasEnde
 ghost use Rattle.dslx_core.specs.Machines.Machine.Steps.{instance_of};
 ghost use Rattle.dslx_core.specs.Machines.Machine.Tasks.{InstanceMachine, InstanceEnv, OpenBody};
 
-/// The table that the machine has after however many steps begins with the one that it began with, and if that one is of
+/// The table that the machine has after however many steps extends the one that it started with, and if that one is of
 /// instances each of which calls those before it, it is, too.
 pub fn tables_are_of_instances()
     ensures { (context : InstanceEnv) → IsTable context.text context.items context.table → (limit n : ℕ) (root : OpenBody) (m : InstanceMachine)
@@ -30,14 +30,14 @@ pub fn needed_instances_are_done()
         → after_steps n (machine_at context limit (needing i)) ≡ Some m → HasEnded m → (p : ℕ × CoreInstance) × (instance_of m.context i ≡ Some p) }
 {}
 
-/// What the machine has made of an expression when nothing is left to do is what it becomes where calls are looked up in the
+/// What the machine has made of an expression when nothing is left to do is what it is lowered to where calls are looked up in the
 /// machine's table, or in a longer one.
 pub fn machine_lowers()
     ensures { (context : InstanceEnv) → IsTable context.text context.items context.table → (limit n : ℕ) (e : Expr) (body : OpenBody) (m : InstanceMachine)
         → after_steps n (machine_at context limit (lowering_alone e body)) ≡ Some m → HasEnded m → MakesExpression context e body m }
 {}
 
-/// Written types and patterns become the same whatever calls come to at their place.
+/// Written types and patterns are lowered to the same whatever calls resolve to in their scope.
 pub fn types_and_patterns_know_no_calls()
     ensures ty { (t : TypeExpr) (place : CoreScope) (c : CalleesByName) → lower_type_of_text t (with_callee c place) ≡ lower_type_of_text t place }
     ensures pattern { (p : Pattern) (place : CoreScope) (t : DslxType) (c : CalleesByName) → shaped_at p (with_callee c place) t ≡ moved c (shaped_at p place t) }

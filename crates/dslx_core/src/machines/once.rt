@@ -1,7 +1,7 @@
 //! That the machine which lowers instances makes each of them once.
 //!
 //! There is no code here. The machine closes an instance where its table has none of the same name and parametric arguments, so each
-//! instance of the table is found at its own place.
+//! instance of the table is found at its own index.
 ghost use Rattle.std.specs.Prelude.{◌≡◌, ℕ, List, [], Some};
 ghost use Rattle.dslx_core.specs.Lowering.Functions.{CoreInstance};
 ghost use Rattle.dslx_core.specs.Machines.Machine.Machines.{after_steps, machine_at};

@@ -13,7 +13,7 @@ ghost use Rattle.dslx_core.specs.Machines.Machine.Reached.{IsTable, at_table, lo
 ghost use Rattle.dslx_core.specs.Machines.Machine.Tasks.{InstanceMachine, InstanceEnv, OpenBody};
 ghost use Rattle.dslx_core.specs.Machines.Progress.Missing.{InNoTable, NoTableLowers};
 
-/// The machine that needs an instance which stands in some table never lacks a step, if as many instances may be open at once as
+/// The machine that needs an instance which is in some table never lacks a step, if as many instances may be open at once as
 /// that table has. Nor does the machine that lowers an expression which is lowered where calls are looked up in that table.
 pub fn instances_of_tables_are_made()
     ensures instance { (context : InstanceEnv) → IsTable context.text context.items context.table
@@ -27,7 +27,7 @@ pub fn instances_of_tables_are_made()
 {}
 
 /// Where the machine that needs an instance lacks a step, no table of at most so many instances as may be open has this instance.
-/// Where the machine that lowers an expression lacks one, the expression becomes nothing by any such table.
+/// Where the machine that lowers an expression lacks one, the expression isn't lowered by any such table.
 pub fn what_isnt_made_is_in_no_table()
     ensures instance { (context : InstanceEnv) → IsTable context.text context.items context.table → (limit n : ℕ) (i : Instantiated) (m : InstanceMachine)
         → after_steps n (machine_at context limit (needing i)) ≡ Some m → machine_stepped m ≡ None → InNoTable context limit i }

@@ -1,4 +1,4 @@
-//! That nothing is wrong with the items of an accepted text, nor with the instances that they reach.
+//! That the items of an accepted text are well-typed, and the instances that they reach.
 ghost use Rattle.std.specs.Prelude.{◌≡◌, ℕ, List, [], Option};
 ghost use Rattle.dslx_tree.specs.declared.item.Module.{Module};
 ghost use Rattle.dslx_meaning.specs.Items.{meanings_of};
@@ -7,8 +7,8 @@ ghost use Rattle.dslx_core.specs.Typing.Laws.Recursion.{HasNoCycle};
 ghost use Rattle.dslx_core.specs.Typing.Depends.Settled.{BindsNoConstant};
 ghost use Rattle.dslx_core.specs.Typing.GlobalEnv.WellTypedParts.{EachItemWellTyped};
 
-/// Where no part of a text breaks a rule or passes a limit, nothing is wrong with any constant, alias, struct or enum, nor with
-/// any instance that these reach; so what is known of the text's items is what they mean. No item may reach itself and no
+/// Where no part of a text breaks a rule or passes a limit, each constant, alias, struct and enum is well-typed, and so is
+/// any instance that these reach; and the global environment has of the text's items what they denote. No item may reach itself and no
 /// function bind the name of a constant, also where nothing calls a function and so nothing is checked of it.
 pub fn items_of_accepted_texts_are_well_typed()
     ensures well_typed { (m : Module) (top : Option (List ℕ)) → HasNoCycle m → BindsNoConstant m → faults_of m top ≡ [] → EachItemWellTyped m }

@@ -1,4 +1,4 @@
-//! Activations of procs with which nothing is wrong: no value is missing in them.
+//! Activations of well-typed procs: no value is missing in them.
 ghost use Rattle.std.specs.Prelude.{◌≡◌, ◌∷◌, [], false, length, List, Some, true};
 ghost use Rattle.xb_bits.specs.Word.{Word};
 ghost use Rattle.xb_value.specs.declared.value.Value.{Value};
@@ -19,7 +19,7 @@ ghost use Rattle.dslx_core.specs.Typing.Typed.WellTyped.{IsWellTypedEnv, types_a
 ghost use Rattle.dslx_core.specs.Typing.Activities.ActivityGoesOn.{ActivityGoesOn};
 ghost use Rattle.dslx_core.specs.Typing.Activities.Members.{IsWellTypedNext, ProcMembersHaveValues};
 
-/// The body of a `next` with which nothing is wrong, at a place where the type environment is well typed and members have the types
+/// The body of a well-typed `next`, in an environment where the type environment is well typed and members have the types
 /// of words that the rules know: over whatever words, it does something at each site and ends with a value of its type, or it
 /// has taken all words and the next site receives.
 pub fn activations_go_on()

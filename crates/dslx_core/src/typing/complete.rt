@@ -1,7 +1,7 @@
-//! What is known of items with whose text nothing is wrong, where what they mention is known.
+//! Items whose text is well-typed, where what they mention is in the global environment: their values and types.
 //!
-//! Each law is one step of an induction on chains of items: where what the rules know is complete, an item whose text breaks no
-//! rule and passes no limit is known itself, and what is known of it is what it means (`specs/Complete/HasValue.antt`).
+//! Each law is one step of an induction on chains of items: where the global environment is complete, typing finds the value or type
+//! of an item whose text breaks no rule and passes no limit, and it is what the item denotes (`specs/Typing/Complete/HasValue.antt`).
 mod functions;
 mod named;
 

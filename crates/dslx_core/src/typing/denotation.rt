@@ -1,4 +1,4 @@
-//! That what the rules know of items is what the items mean.
+//! That the global environment has of items what the items denote.
 ghost use Rattle.std.specs.Prelude.{◌≡◌};
 ghost use Rattle.dslx_tree.specs.declared.item.Module.{Module};
 ghost use Rattle.dslx_meaning.specs.Items.{meanings_of};
@@ -7,8 +7,8 @@ ghost use Rattle.dslx_core.specs.Typing.Laws.Recursion.{HasNoCycle};
 ghost use Rattle.dslx_core.specs.Typing.Depends.Settled.{BindsNoConstant};
 ghost use Rattle.dslx_core.specs.Typing.GlobalEnv.WellTypedParts.{EachItemWellTyped};
 
-/// Where no item reaches itself, no function binds the name of a constant, and nothing is wrong with any constant, alias, struct
-/// or enum, what is known of the items of a text is what they mean: what holds of what is known holds of the text's meaning.
+/// Where no item reaches itself, no function binds the name of a constant, and each constant, alias, struct and enum is
+/// well-typed, the global environment has of a text's items what they denote: what holds of it holds of the text's denotation.
 pub fn global_env_is_sound()
     ensures { (m : Module) → HasNoCycle m → BindsNoConstant m → EachItemWellTyped m → (globals_of m).items ≡ meanings_of m }
 {

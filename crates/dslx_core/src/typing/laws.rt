@@ -33,7 +33,7 @@ pub fn accepted_without_faults()
 {}
 
 /// Which fault is named doesn't depend on the order in which the parts of a text are visited, nor on how often: of lists
-/// with the same faults those that are named stand at one place of the order.
+/// with the same faults those that are named have one position in the order.
 pub fn any_order_names_one_fault()
     ensures { (fs gs : List Fault) (f g : Fault) → HaveSameFaults fs gs → first_of fs ≡ Some f → first_of gs ≡ Some g → key_of f ≡ key_of g }
 {}
@@ -51,9 +51,9 @@ pub fn a_value_depends_on_free_names()
         → value_of e (record { items = items; bound = bound }) ≡ value_of e (record { items = items; bound = others }) }
 {}
 
-/// Recursion between items ends where no item reaches itself: what the items mean, which is defined by chains of at most as
-/// many items as there are, is what they mean by longer chains, and so it is what they mean where what they mention means
-/// that. It is the only meaning of which this is so.
+/// Recursion between items ends where no item reaches itself: what the items denote, which is defined by chains of at most as
+/// many items as there are, is what they denote by longer chains, and so it is what they denote where what they mention denotes
+/// that. It is the only denotation of which this is so.
 pub fn recursion_ends()
     ensures longer { (m : Module) → HasNoCycle m → (n : ℕ) → length m.items ≤ n → meanings_within m n ≡ meanings_of m }
     ensures settled { (m : Module) → HasNoCycle m → meanings_over m (meanings_of m) ≡ meanings_of m }

@@ -1,7 +1,7 @@
 //! Whole expressions: what breaks no rule, and reaches nothing that does, has a type and a value of it.
 //!
 //! The law of whole expressions is `an_expression_has_its_value`. Each other law speaks of one construct: where its parts
-//! have values of their types wherever nothing is wrong with them, so has it (`specs/Sound.antt`).
+//! have values of their types wherever nothing is wrong with them, so has it (`specs/Typing/Sound.antt`).
 mod aggregates;
 mod calls;
 mod constants;

@@ -1,8 +1,8 @@
 //! What has a type has a value of that type: a law for each construct of the language.
 //!
 //! Each law speaks of one construct: where its parts give values of the types that the rules give them, it gives one of
-//! the type that the rules give it. The laws stand on one relation between what the rules know at a place and what is
-//! bound there (`specs/Typed/WellTyped.antt`).
+//! the type that the rules give it. The laws rest on one relation between a type environment and what is
+//! bound there (`specs/Typing/Typed/WellTyped.antt`).
 mod arrays;
 mod builtins;
 mod constants;

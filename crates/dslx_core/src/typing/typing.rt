@@ -1,7 +1,7 @@
 //! What judgements of a text depend on.
 //!
 //! The instances that a part reaches are of functions that it mentions, or of those that the parametrics of such a
-//! function reach (`specs/TypingRelations/Reached.antt`).
+//! function reach (`specs/Typing/TypingRelations/Reached.antt`).
 mod reached;
 
 pub use reached::{

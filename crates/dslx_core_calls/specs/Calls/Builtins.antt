@@ -1,4 +1,4 @@
--- What builtins become, of operands that are lowered.
+-- What builtins are lowered to, of operands that are lowered.
 use Rattle.std.specs.Prelude.{List, [], map, Option, Some, None}
 use Rattle.dslx_meaning.specs.Callees.{CallKind, Joins, CountsLeading, CountsTrailing, Reverses, AllOnes, SomeOne, Parity, Updates}
 use Rattle.dslx_meaning.specs.Lists.{all_some, and_then}
@@ -7,7 +7,7 @@ use Rattle.dslx_core.specs.declared.expr.CoreUnary.TheVariants as u
 use Rattle.dslx_core.specs.declared.expr.CoreExpr as core
 use Rattle.dslx_core.specs.Lowering.Lowering.{LoweredExpr, lower_counted, lowered, lower_reduced, lower_updated}
 
--- `lower_call` of each kind but calls of functions of the text: names, places and parametric arguments are nothing to it
+-- `lower_call` of each kind but calls of functions of the text: names, scopes and parametric arguments are nothing to it
 abbrev pub builtin_of : CallKind → List LoweredExpr → Option LoweredExpr
 builtin_of Joins es = and_then (all_some (map Some es)) (λ es. lowered (core.Tuple []) ty.Token)
 builtin_of CountsLeading es = lower_counted u.Clz (map Some es)

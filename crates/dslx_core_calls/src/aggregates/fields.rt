@@ -57,7 +57,7 @@ fn element_of_slot(alloc: Global, slot: u64, place: u64) -> Result<Boxed<CoreExp
     Boxed::new(alloc, CoreExpr::Element(tuple, place))
 }
 
-/// The place of the field of this name of a struct, and its type, copied.
+/// The index of the field of this name of a struct, and its type, copied.
 fn field_index(
     alloc: Global,
     ty: &DslxType,
@@ -73,7 +73,7 @@ fn field_index(
     }
 }
 
-/// The place of the first of the names that is this one, and the type there, copied.
+/// The index of the first of the names that is this one, and the type there, copied.
 fn type_beside(
     alloc: Global,
     names: &[Name],
@@ -88,7 +88,7 @@ fn type_beside(
     }
 }
 
-/// The place with the type there, copied, if there is one.
+/// The index with the type there, copied, if there is one.
 fn type_at(
     alloc: Global,
     types: &[DslxType],
@@ -102,7 +102,7 @@ fn type_at(
     }
 }
 
-/// The place of the first of the names that is this one.
+/// The index of the first of the names that is this one.
 fn index_of(name: &str, names: &[Name]) -> Option<usize>
     ensures { result ≡ index_in name.now names.now }
 {

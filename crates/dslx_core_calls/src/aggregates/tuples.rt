@@ -1,4 +1,4 @@
-//! Tuples, and structs, which become tuples of their fields.
+//! Tuples, and structs, which are lowered to tuples of their fields.
 
 ghost use Rattle.std.specs.Prelude.{◌≡◌, Some, IfOk};
 ghost use Rattle.dslx_core.specs.declared.expr.CoreExpr.{Tuple as tuple_core};

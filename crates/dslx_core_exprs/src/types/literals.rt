@@ -1,4 +1,4 @@
-//! Values that are known.
+//! Values as literals.
 
 ghost use Rattle.std.specs.Prelude.{◌≡◌, [], map, Some, IfOk};
 ghost use Rattle.dslx_core.specs.declared.expr.CoreExpr.{Tuple as tuple_of};
@@ -40,7 +40,7 @@ fn plain_values(alloc: Global, values: &[DslxValue]) -> Result<Seq<Value>, Alloc
     Ok(Seq::from_vec(plain))
 }
 
-/// A value that is known.
+/// A value as a literal.
 pub fn literal(alloc: Global, value: &DslxValue) -> Result<LoweredExpr, AllocError>
     ensures { IfOk result (λ e. Some e ≡ the_literal value.now) }
 {

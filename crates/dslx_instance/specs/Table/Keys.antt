@@ -1,4 +1,4 @@
--- What instances are known by, and what of it is hashed.
+-- Keys of instances, and what of a key is hashed.
 use Rattle.std.specs.Prelude.{ℕ, List, ◌++◌, ◌&&◌, Bool, Option, Some, None, length}
 use Rattle.std.specs.List.{flat_map}
 use Rattle.std.specs.Hash.{HashWrites, str, u128}
@@ -21,7 +21,7 @@ same_key a b = bytes_eq a.name b.name && pairwise equal_value a.parametric_args 
 abbrev pub key_sought : SoughtKey → InstanceKey
 key_sought q = record { name = q.name.now; parametric_args = q.parametric_args.now }
 
--- an instance, by what it is known by
+-- an instance, by its key and its function
 abbrev pub instance_of : InstanceKey × LoweredFunction → CoreInstance
 instance_of e = record { name = e.0.name; parametric_args = e.0.parametric_args; function = e.1 }
 

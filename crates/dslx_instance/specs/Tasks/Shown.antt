@@ -1,4 +1,4 @@
--- What is to be done where instances are lowered, and where the machine stands, without references.
+-- What is to be done where instances are lowered, and the state of the machine, without references.
 use Rattle.std.specs.Prelude.{List, Option, None, Some, map, reverse}
 use Rattle.dslx_tree.specs.declared.item.Module.{Module}
 use Rattle.dslx_meaning.specs.Items.{meanings_of}
@@ -93,7 +93,7 @@ task_shown (task.Loop t) = loop_task_shown t
 task_shown (task.Restore n count) = m.Restores n count
 task_shown (task.Call t) = call_task_shown t
 
--- ---- where the machine stands
+-- ---- the state of the machine
 
 abbrev pub body_shown : OpenBody → m.OpenBody
 body_shown b = record { given = reverse (map given b.given.items); todo = map task_shown b.todo; made = b.made; locals = b.locals; count = b.count }

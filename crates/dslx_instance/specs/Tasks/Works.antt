@@ -7,7 +7,7 @@ use Rattle.dslx_core.specs.Lowering.CoreScopes.{CoreScope}
 use Rattle.dslx_core.specs.Lowering.Functions.{CoreInstance, callee_in}
 use Rattle.dslx_instance.specs.declared.tasks.work.BodyWork.{BodyWork}
 
--- where calls come to the instances of a table
+-- the scope in which calls resolve to the instances of a table
 abbrev pub work_scope : Module → List CoreInstance → BodyWork → CoreScope
 work_scope m table w = record {
   known = record { items = meanings_of m; parametric_args = reverse (map given w.given.items); callee = callee_in m (meanings_of m) table };

@@ -1,4 +1,4 @@
-//! What an instance is known by: a name and parametric arguments.
+//! The key of an instance: a name and parametric arguments.
 
 ghost use Rattle.std.specs.Prelude.{◌≡◌};
 ghost use Rattle.std.specs.List.{fold, flat_map};

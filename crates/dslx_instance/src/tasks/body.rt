@@ -12,7 +12,7 @@ use dslx_scope::locals::Locals;
 use dslx_tree::Expr;
 use std::alloc::{AllocError, Global};
 
-/// What is lowered in one place.
+/// What is lowered in one body.
 #[derive(Drop)]
 pub struct OpenBody<'a> {
     /// The parametrics, in order.

@@ -14,7 +14,7 @@ pub struct OpenInstance<'a> {
     pub body: OpenBody<'a>,
 }
 
-/// Where the machine stands: what it lowers, and the instances that are open for it, the last one first.
+/// The state of the machine: what it lowers, and the instances that are open for it, the last one first.
 #[derive(Drop)]
 pub struct InstanceMachine<'a> {
     pub text: &'a Module,

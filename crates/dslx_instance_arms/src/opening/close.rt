@@ -23,7 +23,7 @@ pub fn close_instance<'a>(
     }
 }
 
-/// What an instance has become, if anything was made of its body.
+/// What an instance is lowered to, if anything was made of its body.
 fn finished(last: OpenInstance) -> Option<CoreInstance>
     ensures { result ≡ and_then (last_made (instance_shown last.entry).body.made) (λ e. Some (instance_done (instance_shown last.entry) e)) }
 {

@@ -19,7 +19,7 @@ use dslx_tree::{Function, Module};
 use std::alloc::{AllocError, Global};
 
 /// An instance with its arguments bound, whose body is to be lowered; `None` where the text has no such function, or its
-/// parametrics or arguments don't stand.
+/// parametrics or arguments aren't well-typed.
 pub fn open_instance<'a>(
     alloc: Global,
     text: &'a Module,

@@ -4,7 +4,7 @@ use dslx_instance::tasks::OpenBody;
 use dslx_scope_names::names::ScopeEnv;
 use dslx_tree::Module;
 
-/// What is in sight where a body stands, whichever instances are done.
+/// What is in scope in a body, whichever instances are done.
 pub fn scope_env_in<'b, 'a: 'b>(text: &'b Module, body: &'b OpenBody<'a>) -> ScopeEnv<'b>
     ensures text { result.text.now ≡ text.now }
     ensures parametric_args { result.parametric_args.now ≡ body.now.given.items }

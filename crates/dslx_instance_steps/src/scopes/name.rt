@@ -1,4 +1,4 @@
-//! What names and numbers become.
+//! What names and numbers are lowered to.
 
 ghost use Rattle.std.specs.Prelude.{◌≡◌, List, Some, IfOk};
 ghost use Rattle.dslx_core.specs.declared.expr.CoreExpr.{Slot as slot_of};
@@ -32,7 +32,7 @@ pub fn lower_slot(alloc: Global, local: &BoundSlot) -> Result<LoweredExpr, Alloc
     })
 }
 
-/// A value that is known, if there is one.
+/// A value as a literal, if there is one.
 pub fn literal_if(
     alloc: Global,
     value: Option<DslxValue>,

@@ -103,7 +103,7 @@ pub fn condition(value: &Option<Value>) -> Option<bool>
     }
 }
 
-/// The value at a place, if there is one.
+/// The value at an index, if there is one.
 pub fn value_at(alloc: Global, values: &[Value], place: u64) -> Result<Option<Value>, AllocError>
     ensures { IfOk result (λ v. v ≡ slice_get values.now place) }
 {
@@ -127,7 +127,7 @@ pub fn element(
     }
 }
 
-/// The element of an array at the place that a word is, the last one where the place is past the end.
+/// The element of an array at the index that a word is, the last one where the index is past the end.
 pub fn indexed(
     alloc: Global,
     array: &Option<Value>,
@@ -144,7 +144,7 @@ pub fn indexed(
     }
 }
 
-/// The array with another value at the place that a word is; past the end it stays as it is.
+/// The array with another value at the index that a word is; past the end it stays as it is.
 pub fn updated(array: Option<Value>, place: &Option<Value>, new: Option<Value>) -> Option<Value>
     ensures { result ≡ and_then new (λ new. with_both (and_then array (λ v. array_values_step (out-Value v))) (and_then place.now word_of_value)
         (λ vs k. Some (of_array (if nat_lt k.value (length vs) then set vs k.value new else vs)))) }
@@ -160,7 +160,7 @@ pub fn updated(array: Option<Value>, place: &Option<Value>, new: Option<Value>) 
     }
 }
 
-/// The place that a word is, or the last one of so many where it is past them.
+/// The index that a word is, or the last one of so many where it is past them.
 fn index_of(word: Bits, count: usize) -> u64
     ensures { result ≡ min word.value (pred count) }
 {

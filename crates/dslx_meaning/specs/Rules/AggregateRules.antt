@@ -21,17 +21,18 @@ use Rattle.dslx_meaning.specs.Rules.PatternRules.{is_there}
 use Rattle.dslx_meaning.specs.Rules.OperatorRules.{unless_type}
 use Rattle.dslx_meaning.specs.Rules.TypeRules.{unit_faults}
 use Rattle.dslx_meaning.specs.declared.value.UntypedLiteral.{UntypedLiteral}
+use Rattle.dslx_meaning.specs.Rules.RuleNumbers as rule
 
 -- ---- numbers
 
 -- rule 6: the number doesn't lie in the range of the type, or the type isn't bits
 abbrev pub range_faults : Span → Option DslxType → UntypedLiteral → List Fault
 range_faults span None number = []
-range_faults span (Some t) number = breaks_if (not (is_there (number_value t number))) 6 span
+range_faults span (Some t) number = breaks_if (not (is_there (number_value t number))) rule.NUMBER_FITS_TYPE span
 
--- rule 7: without a type a number stands in few places, which judge it themselves
+-- rule 7: an untyped literal without an expected type may stand in few positions, which type it themselves
 abbrev pub number_typing : Span → Option Judgement → UntypedLiteral → Judgement
-number_typing span None number = unlimited None (breaks 7 span ∷ []) [] (Some 1)
+number_typing span None number = unlimited None (breaks rule.NUMBER_HAS_TYPE span ∷ []) [] (Some 1)
 number_typing span (Some t) number = unlimited t.ty (t.faults ++ range_faults span t.ty number) t.reached (Some 1)
 
 -- ---- arrays
@@ -45,7 +46,7 @@ array_in t = array_parts (out-DslxType t)
 
 -- rule 9: a value that has a type hasn't the one that is wanted, where that is known
 abbrev pub wanted_faults : Span → Option DslxType → Option DslxType → List Fault
-wanted_faults span (Some wanted) (Some t) = breaks_if (not (same_type wanted t)) 9 span
+wanted_faults span (Some wanted) (Some t) = breaks_if (not (same_type wanted t)) rule.VALUE_HAS_ITS_TYPE span
 wanted_faults span _ _ = []
 
 -- an element of an array literal that has a type, which may be a number without one
@@ -64,8 +65,8 @@ count_wrong false n count = not (n == count)
 
 abbrev pub array_faults : Span → Option DslxType → Option (DslxType × ℕ) → ℕ → Bool → List Fault
 array_faults span None parts count dots = []
-array_faults span (Some t) None count dots = breaks 9 span ∷ []
-array_faults span (Some t) (Some parts) count dots = breaks_if (count_wrong dots parts.1 count) 21 span
+array_faults span (Some t) None count dots = breaks rule.VALUE_HAS_ITS_TYPE span ∷ []
+array_faults span (Some t) (Some parts) count dots = breaks_if (count_wrong dots parts.1 count) rule.ARRAY_ELEMENT_COUNT span
 
 abbrev pub element_type : Option (DslxType × ℕ) → Option DslxType
 element_type None = None
@@ -101,7 +102,7 @@ untyped_array span context es dots =
     let js = map (element_alone context) es in
     let first = first_type_of (types_of js) in
     settled span (when_all (types_of js) (and_then first (λ t. Some (ty.Array t (length es)))))
-    (faults_of_all js ++ like_first first es (types_of js) ++ breaks_if (dots || is_empty es) 21 span) (reached_of_all js) (one_and (size_of_all js))
+    (faults_of_all js ++ like_first first es (types_of js) ++ breaks_if (dots || is_empty es) rule.ARRAY_ELEMENT_COUNT span) (reached_of_all js) (one_and (size_of_all js))
 
 abbrev pub array_typing : Span → TypeEnv → Option Judgement → List ExprPair → Bool → Judgement
 array_typing span context None es dots = untyped_array span context es dots
@@ -116,7 +117,7 @@ index_typing span context e i =
     let whole = alone context e in
     let place = alone context i in
     settled span (and_then place.ty (λ k. element_type (and_then whole.ty array_in)))
-    (whole.faults ++ place.faults ++ unless_type is_array 19 span whole.ty ++ unless_type is_unsigned 19 span place.ty)
+    (whole.faults ++ place.faults ++ unless_type is_array rule.PART_IS_THERE span whole.ty ++ unless_type is_unsigned rule.PART_IS_THERE span place.ty)
     (whole.reached ++ place.reached) (one_and (plus_size whole.size place.size))
 
 -- ---- tuples
@@ -149,7 +150,7 @@ pair_alone context e = let j = within context e in if_pair j j.ty
 abbrev pub tuple_element_typing : Span → TypeEnv → ExprPair → ℕ → Judgement
 tuple_element_typing span context e k =
     let whole = pair_alone context e in
-    settled span (and_then whole.ty (λ t. part_type t k)) (whole.faults ++ unless_type (λ t. is_there (part_type t k)) 19 span whole.ty)
+    settled span (and_then whole.ty (λ t. part_type t k)) (whole.faults ++ unless_type (λ t. is_there (part_type t k)) rule.PART_IS_THERE span whole.ty)
     whole.reached (one_and whole.size)
 
 -- ---- structs
@@ -176,7 +177,7 @@ field_typing context struct f = by_value f.value
 -- rule 1: a field that the struct hasn't
 abbrev pub unknown_fields : List (List ℕ) → List FieldSeen → List Fault
 unknown_fields declared [] = []
-unknown_fields declared (f ∷ fs) = breaks_if (not (is_in f.name.name declared)) 1 f.name.span ++ unknown_fields declared fs
+unknown_fields declared (f ∷ fs) = breaks_if (not (is_in f.name.name declared)) rule.NAME_IS_DECLARED f.name.span ++ unknown_fields declared fs
 
 abbrev pub written_fields : List FieldSeen → List (List ℕ)
 written_fields fs = map (λ (f : FieldSeen). f.name.name) fs
@@ -201,15 +202,15 @@ struct_with span context name fields others struct declared =
     let rest = others_typing context struct others in
     let names = map name_of_field declared.fields in
     settled span (when_all (rest.ty ∷ types_of js) struct)
-    (breaks_if (is_cyclic context.known.whole context.owner name.name) 3 name.span ++ faults_of_all js ++ rest.faults ++ unknown_fields names fields
-    ++ breaks_if (has_twice (written_fields fields) || lacks_one names (written_fields fields) (is_there others)) 22 span)
+    (breaks_if (is_cyclic context.known.whole context.owner name.name) rule.NO_ITEM_REACHES_ITSELF name.span ++ faults_of_all js ++ rest.faults ++ unknown_fields names fields
+    ++ breaks_if (has_twice (written_fields fields) || lacks_one names (written_fields fields) (is_there others)) rule.STRUCT_FIELDS span)
     (reached_of_all js ++ rest.reached) (one_and (plus_size (size_of_all js) rest.size))
 
 abbrev pub struct_if : Span → TypeEnv → Ident → List FieldSeen → Option ExprPair → Option Struct → Judgement
 struct_if span context name fields others None =
     let js = map (field_typing context None) fields in
     let rest = others_typing context None others in
-    settled span None (breaks 1 name.span ∷ faults_of_all js ++ rest.faults) (reached_of_all js ++ rest.reached) (one_and (plus_size (size_of_all js) rest.size))
+    settled span None (breaks rule.NAME_IS_DECLARED name.span ∷ faults_of_all js ++ rest.faults) (reached_of_all js ++ rest.reached) (one_and (plus_size (size_of_all js) rest.size))
 struct_if span context name fields others (Some declared) = struct_with span context name fields others (context.known.items.struct_named name.name) declared
 
 abbrev pub struct_typing : Span → TypeEnv → Ident → List FieldSeen → Option ExprPair → Judgement
@@ -219,5 +220,5 @@ struct_typing span context name fields others = struct_if span context name fiel
 abbrev pub field_part_typing : Span → TypeEnv → ExprPair → Ident → Judgement
 field_part_typing span context e name =
     let whole = alone context e in
-    settled span (field_type whole.ty name.name) (whole.faults ++ unless_type (λ t. is_there (field_type (Some t) name.name)) 19 span whole.ty)
+    settled span (field_type whole.ty name.name) (whole.faults ++ unless_type (λ t. is_there (field_type (Some t) name.name)) rule.PART_IS_THERE span whole.ty)
     whole.reached (one_and whole.size)

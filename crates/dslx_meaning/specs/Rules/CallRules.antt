@@ -30,6 +30,7 @@ use Rattle.dslx_meaning.specs.Rules.Typings.{ArgPair}
 use Rattle.dslx_meaning.specs.Rules.ConstantRules.{ConstantSeen, constant_of, is_empty, is_unsigned}
 use Rattle.dslx_meaning.specs.Rules.OperatorRules.{unless_type, is_bits, is_bool}
 use Rattle.dslx_meaning.specs.Rules.AggregateRules.{wanted_faults, is_array, array_in, element_type, when_all}
+use Rattle.dslx_meaning.specs.Rules.RuleNumbers as rule
 
 -- ---- parametrics
 
@@ -84,7 +85,7 @@ pub record ParametricArgument : Type 0 where
   pub span : Span
   pub seen : ConstantSeen
 
--- the value of a parameter: known, unknown, or wrong, which rule 10 refuses
+-- the value of a parametric: known, unknown, or wrong, which rule 10 refuses
 pub data Resolved : Type 0 where
   Number : DslxValue → Resolved
   Unknown : Resolved
@@ -94,7 +95,7 @@ abbrev pub resolved_value : Option DslxValue → Resolved
 resolved_value None = Unknown
 resolved_value (Some v) = Number v
 
--- a number that is inferred lies in the parameter's type
+-- a number that is inferred lies in the parametric's type
 abbrev pub in_type : Option DslxType → ℕ → Resolved
 in_type None n = Unknown
 in_type (Some t) n = or_wrong (number_value t (record { is_negative = false; value = n }))
@@ -106,7 +107,7 @@ in_type (Some t) n = or_wrong (number_value t (record { is_negative = false; val
 abbrev pub of_type : Option DslxType → Option DslxValue → Option DslxValue
 of_type t v = with_both t v (λ t v. if same_type t (type_of_value v) then Some v else None)
 
--- the parameters before one: those with values, and the names of those of which no value is known
+-- the parametrics before one: those with values, and the names of those of which no value is known
 pub record Before : Type 0 where
   pub values : List Given
   pub unknown : List (List ℕ)
@@ -120,11 +121,11 @@ and_parametric before p (Number v) = record before { values = with_number before
 and_parametric before p Unknown = record before { unknown = p.name.name ∷ before.unknown }
 and_parametric before p Wrong = record before { unknown = p.name.name ∷ before.unknown }
 
--- the type that is declared for a parameter, an argument or an end, where () is none
+-- the type that is declared for a parametric, an argument or an end, where () is none
 abbrev pub declared_type : GlobalEnv → List ℕ → Before → TypeExpr → Option DslxType
 declared_type known owner before t = and_then (known.type_in owner before.values before.unknown t) (λ t. if is_unit t then None else Some t)
 
--- what is judged of another declaration: what it breaks and passes there, and the instances that it reaches
+-- the typing of another declaration: what it breaks and passes there, and the instances that it reaches
 pub record JudgedThere : Type 0 where
   pub faults : List Fault
   pub reached : List Instance
@@ -135,14 +136,14 @@ nothing_there = record { faults = []; reached = [] }
 abbrev pub and_there : JudgedThere → JudgedThere → JudgedThere
 and_there a b = record { faults = a.faults ++ b.faults; reached = a.reached ++ b.reached }
 
--- the type of a parameter is judged at a call, up to the first parameter without a value
+-- the typing of a parametric's type at a call, up to the first parametric without a value
 abbrev pub type_there : GlobalEnv → List ℕ → Before → Parametric → JudgedThere
 type_there known owner before p =
     if is_empty before.unknown
     then record { faults = (known.type_seen_in owner before.values p.ty).faults; reached = (known.type_seen_in owner before.values p.ty).reached }
     else nothing_there
 
--- a parameter that isn't given, with what is judged of its default where that is used
+-- a parametric that isn't given, with the typing of its default where that is used
 pub record NotGiven : Type 0 where
   pub value : Resolved
   pub typing : JudgedThere
@@ -158,7 +159,7 @@ default_there known owner values t e =
       typing = record { faults = default.judgement.faults ++ wanted_faults (out-Expr e).span t default.judgement.ty; reached = default.judgement.reached };
     }
 
--- behind a parameter without a value no default is looked at
+-- behind a parametric without a value no default is looked at
 abbrev pub default_value : GlobalEnv → List ℕ → Before → Option DslxType → Option Expr → NotGiven
 default_value known owner before t None = without_default Wrong
 default_value known owner before t (Some e) = if is_empty before.unknown then default_there known owner before.values t e else without_default Unknown
@@ -169,7 +170,7 @@ not_given known owner before p t maybe [] = if maybe then without_default Unknow
 not_given known owner before p t maybe (n ∷ ns) = without_default (if list_all (λ k. k == n) ns then in_type t n else Wrong)
 
 -- the parametrics of a call or a spawn: the values where all are known, those that are, whether rule 10 is broken, rule 9
--- at what is given, and what is judged of the other declaration
+-- at what is given, and the typing of the other declaration
 pub record ParametricArgsSeen : Type 0 where
   pub values : Option (List DslxValue)
   pub bound : Before
@@ -207,7 +208,7 @@ parametric_args_seen known owner inferred maybe before (p ∷ ps) [] =
     number_before r.value [] (and_there (type_there known owner before p) r.typing)
     (parametric_args_seen known owner inferred maybe (and_parametric before p r.value) ps [])
 
--- a call or a spawn that breaks rule 3 or 10 judges nothing of the other declaration, and reaches no instance of it
+-- a call or a spawn that breaks rule 3 or 10 types nothing of the other declaration, and reaches no instance of it
 abbrev pub is_refused : List Fault → ParametricArgsSeen → Bool
 is_refused cyclic parametric_args = has_broken cyclic || parametric_args.is_wrong
 
@@ -232,7 +233,7 @@ abbrev pub result_type : GlobalEnv → List ℕ → Before → Option TypeExpr �
 result_type known owner bound None = Some unit_type
 result_type known owner bound (Some t) = known.type_in owner bound.values bound.unknown t
 
--- the type of what a call gives: where all parametrics are known, and each operand has a type
+-- the type of a call's result: where all parametrics are known, and each operand has a type
 abbrev pub call_type : GlobalEnv → Function → ParametricArgsSeen → List Judgement → Option DslxType
 call_type known f parametric_args js = and_then parametric_args.values (λ vs. when_all (types_of js) (result_type known f.name.name parametric_args.bound f.result))
 
@@ -254,13 +255,13 @@ call_parts_reached given js = reached_of_all (given_judgements given) ++ reached
 -- rule 10: another number of arguments
 abbrev pub wrong_call : Span → List ParametricArgument → List Judgement → List Fault → Judgement
 wrong_call span given js more =
-    settled span None (call_parts_faults given js ++ breaks 10 span ∷ more) (call_parts_reached given js) None
+    settled span None (call_parts_faults given js ++ breaks rule.ARGUMENTS_FIT span ∷ more) (call_parts_reached given js) None
 
 abbrev pub right_call : Span → TypeEnv → Function → List ParametricArgument → List ExprPair → List Judgement → List Fault → ParametricArgsSeen → Judgement
 right_call span context f given es js cyclic parametric_args =
     let declared = typing_there cyclic parametric_args in
     settled span (call_type context.known f parametric_args js)
-    (call_parts_faults given js ++ cyclic ++ parametric_args.faults ++ declared.faults ++ breaks_if parametric_args.is_wrong 10 span
+    (call_parts_faults given js ++ cyclic ++ parametric_args.faults ++ declared.faults ++ breaks_if parametric_args.is_wrong rule.ARGUMENTS_FIT span
     ++ (if parametric_args.is_wrong then [] else operand_faults context.known f.name.name parametric_args.bound f.arguments es js))
     (call_parts_reached given js ++ declared.reached ++ reached_by (is_refused cyclic parametric_args) f.name.name parametric_args.values)
     (one_and (plus_size (size_of_all js) (callee_size context.known f.name.name parametric_args.values)))
@@ -273,9 +274,9 @@ abbrev pub has_right_count : Function → List ParametricArgument → List ExprP
 has_right_count f given es = length es == length f.arguments && not (nat_lt (length f.parametrics) (length given))
 
 abbrev pub function_call : Span → TypeEnv → Ident → List ParametricArgument → List ExprPair → List Judgement → Option Function → Judgement
-function_call span context name given es js None = settled span None (call_parts_faults given js ++ breaks 1 name.span ∷ []) (call_parts_reached given js) None
+function_call span context name given es js None = settled span None (call_parts_faults given js ++ breaks rule.NAME_IS_DECLARED name.span ∷ []) (call_parts_reached given js) None
 function_call span context name given es js (Some f) =
-    let cyclic = breaks_if (is_cyclic context.known.whole context.owner name.name) 3 span in
+    let cyclic = breaks_if (is_cyclic context.known.whole context.owner name.name) rule.NO_ITEM_REACHES_ITSELF span in
     if has_right_count f given es then
     right_call span context f given es js cyclic (call_parametric_args context.known f given (types_of js))
     else wrong_call span given js cyclic
@@ -283,7 +284,7 @@ function_call span context name given es js (Some f) =
 -- ---- builtins
 
 abbrev pub counting : Span → List ExprPair → List Judgement → Option DslxType → Judgement
-counting span (e ∷ []) (j ∷ []) result = settled span (and_then j.ty (λ t. result)) (j.faults ++ unless_type is_bits 27 (span_of e) j.ty) j.reached (one_and j.size)
+counting span (e ∷ []) (j ∷ []) result = settled span (and_then j.ty (λ t. result)) (j.faults ++ unless_type is_bits rule.BUILTIN_OPERANDS (span_of e) j.ty) j.reached (one_and j.size)
 counting span es js result = wrong_call span [] js []
 
 abbrev pub first_operand_type : List Judgement → Option DslxType
@@ -292,13 +293,13 @@ first_operand_type (j ∷ js) = j.ty
 
 -- a value of another type than the array's elements
 abbrev pub update_faults : Span → Option DslxType → Option DslxType → List Fault
-update_faults span (Some t) (Some u) = breaks_if (not (same_type t u)) 27 span
+update_faults span (Some t) (Some u) = breaks_if (not (same_type t u)) rule.BUILTIN_OPERANDS span
 update_faults span _ _ = []
 
 abbrev pub updating : Span → List ExprPair → List Judgement → Judgement
 updating span (e ∷ i ∷ v ∷ []) (a ∷ k ∷ w ∷ []) =
     settled span (and_then k.ty (λ t. and_then w.ty (λ u. a.ty)))
-    (a.faults ++ k.faults ++ w.faults ++ unless_type is_array 27 (span_of e) a.ty ++ unless_type is_unsigned 27 (span_of i) k.ty
+    (a.faults ++ k.faults ++ w.faults ++ unless_type is_array rule.BUILTIN_OPERANDS (span_of e) a.ty ++ unless_type is_unsigned rule.BUILTIN_OPERANDS (span_of i) k.ty
     ++ update_faults (span_of v) (element_type (and_then a.ty array_in)) w.ty)
     (a.reached ++ k.reached ++ w.reached) (one_and (plus_size a.size (plus_size k.size w.size)))
 updating span es js = wrong_call span [] js []
@@ -308,12 +309,12 @@ updating span es js = wrong_call span [] js []
 -- a receive's pair doesn't stand where a token may
 abbrev pub held_faults : Span → Option DslxType → List Fault
 held_faults span None = []
-held_faults span (Some t) = breaks_if (holds_token t && not (is_token_type t)) 28 span
+held_faults span (Some t) = breaks_if (holds_token t && not (is_token_type t)) rule.EFFECT_STANDS_ALONE span
 
 -- where a token has to stand
 abbrev pub token_faults : Span → Option DslxType → List Fault
 token_faults span None = []
-token_faults span (Some t) = held_faults span (Some t) ++ breaks_if (not (holds_token t)) 9 span
+token_faults span (Some t) = held_faults span (Some t) ++ breaks_if (not (holds_token t)) rule.VALUE_HAS_ITS_TYPE span
 
 abbrev pub token_typing : TypeEnv → ExprPair → Judgement
 token_typing context e = let j = within context e in record j { faults = j.faults ++ token_faults (span_of e) j.ty }
@@ -345,7 +346,7 @@ pub record ChannelSeen : Type 0 where
   pub name : Option (List ℕ)
 
 abbrev pub named_channel : Span → List ℕ → Option ChannelEnd → Judgement
-named_channel span name None = record { ty = None; faults = breaks 1 span ∷ []; reached = []; size = Some 1 }
+named_channel span name None = record { ty = None; faults = breaks rule.NAME_IS_DECLARED span ∷ []; reached = []; size = Some 1 }
 named_channel span name (Some channel_end) = record { ty = None; faults = []; reached = []; size = Some 1 }
 
 abbrev pub channel_named : TypeEnv → ExprPair → Option (List ℕ) → ChannelSeen
@@ -371,7 +372,7 @@ has_site context (Some name) = is_in name context.used
 
 -- rule 29: no member, of the other direction, or with a site before
 abbrev pub site_faults : Span → TypeEnv → Direction → ChannelSeen → List Fault
-site_faults span context direction c = breaks_if (not (goes_there direction c.channel_end) || has_site context c.name) 29 span
+site_faults span context direction c = breaks_if (not (goes_there direction c.channel_end) || has_site context c.name) rule.EFFECT_ON_FREE_MEMBER span
 
 abbrev pub word_of : ChannelSeen → Option DslxType
 word_of c = and_then c.channel_end (λ (o : ChannelEnd). o.word)
@@ -402,7 +403,7 @@ receiving_if span context (t ∷ c ∷ p ∷ e ∷ []) =
     let condition = alone context p in
     let default = alone context e in
     effect_with span context In (token_typing context t) channel (condition ∷ default ∷ [])
-    (unless_type is_bool 15 (span_of p) condition.ty ++ wanted_faults (span_of e) (word_of channel) default.ty)
+    (unless_type is_bool rule.CONDITION_IS_BOOL (span_of p) condition.ty ++ wanted_faults (span_of e) (word_of channel) default.ty)
     (and_then (word_of channel) (λ w. Some (received w)))
 receiving_if span context es = wrong_effect span context [] es
 
@@ -420,14 +421,14 @@ sending_if span context (t ∷ c ∷ p ∷ e ∷ []) =
     let condition = alone context p in
     let word = alone context e in
     effect_with span context Out (token_typing context t) channel (condition ∷ word ∷ [])
-    (unless_type is_bool 15 (span_of p) condition.ty ++ wanted_faults (span_of e) (word_of channel) word.ty)
+    (unless_type is_bool rule.CONDITION_IS_BOOL (span_of p) condition.ty ++ wanted_faults (span_of e) (word_of channel) word.ty)
     (and_then (word_of channel) (λ w. Some ty.Token))
 sending_if span context es = wrong_effect span context [] es
 
 -- rule 28: an effect stands at the top of `next` alone
 abbrev pub only_on_top : Bool → Span → Judgement → Judgement
 only_on_top true span j = j
-only_on_top false span j = record { ty = None; faults = j.faults ++ breaks 28 span ∷ []; reached = j.reached; size = j.size }
+only_on_top false span j = record { ty = None; faults = j.faults ++ breaks rule.EFFECT_STANDS_ALONE span ∷ []; reached = j.reached; size = j.size }
 
 -- ---- any call
 

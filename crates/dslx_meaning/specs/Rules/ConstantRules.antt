@@ -15,6 +15,7 @@ use Rattle.dslx_meaning.specs.Rules.Mentions.{free_names}
 use Rattle.dslx_meaning.specs.Rules.TypeEnvs.{GlobalEnv, Typed, TypeEnv, Judgement, ExprPair, breaks_if, has_broken, passes_count, span_of, untyped_of, alone, size_if_typed, constant_env}
 use Rattle.dslx_meaning.specs.declared.ty.BitKind.{BitKind}
 use Rattle.dslx_meaning.specs.declared.value.UntypedLiteral.{UntypedLiteral}
+use Rattle.dslx_meaning.specs.Rules.RuleNumbers as rule
 
 -- the most nodes that a body or a constant has
 abbrev pub most_nodes : ℕ
@@ -47,8 +48,8 @@ is_sound_here known j = is_empty j.faults && list_all known.is_sound j.reached
 abbrev pub names_a_local : TypeEnv → ExprPair → Bool
 names_a_local context e = list_any (λ name. is_in name (map (λ (l : Typed). l.name) context.locals)) (free_names e.0)
 
--- a constant: its judgement, and its value if it has one, without which it has no type either. A number without a type has a
--- value only by its place
+-- a constant: its judgement, and its value if it has one, without which it has no type either. An untyped literal has a
+-- value only by where it stands
 pub record ConstantSeen : Type 0 where
   pub judgement : Judgement
   pub bare : Option UntypedLiteral
@@ -57,7 +58,7 @@ pub record ConstantSeen : Type 0 where
 abbrev pub constant_typing : TypeEnv → ExprPair → Judgement
 constant_typing context e =
     let inner = alone context e in
-    with_size_limit context.known (span_of e).to (record inner { faults = inner.faults ++ breaks_if (names_a_local context e) 5 (span_of e) })
+    with_size_limit context.known (span_of e).to (record inner { faults = inner.faults ++ breaks_if (names_a_local context e) rule.CONSTANT_HAS_NO_LOCALS (span_of e) })
 
 -- where some part of it has no type, it has no value either: it names something that has none
 abbrev pub value_if_whole : Judgement → Option DslxValue → Option DslxValue
@@ -105,11 +106,11 @@ is_zero (suc n) = false
 -- rule 4: it is not unsigned, or it is 0
 abbrev pub count_type_faults : Span → Option DslxType → List Fault
 count_type_faults span None = []
-count_type_faults span (Some t) = breaks_if (not (is_unsigned t)) 4 span
+count_type_faults span (Some t) = breaks_if (not (is_unsigned t)) rule.COUNT_IS_POSITIVE span
 
 abbrev pub count_faults : Span → Option ℕ → List Fault
 count_faults span None = []
-count_faults span (Some n) = breaks_if (is_zero n) 4 span
+count_faults span (Some n) = breaks_if (is_zero n) rule.COUNT_IS_POSITIVE span
 
 abbrev pub number_of_value : Option DslxValue → Option ℕ
 number_of_value v = and_then (and_then v unsigned_of) (λ w. Some w.value)
@@ -120,7 +121,7 @@ count_with span c n = record {
   count = and_then n some_count;
 }
 
--- a negative number is no count, and so it is judged as 0 is
+-- a negative number is no count, and so it is taken as 0
 abbrev pub untyped_count : UntypedLiteral → ℕ
 untyped_count number = if number.is_negative then 0 else number.value
 

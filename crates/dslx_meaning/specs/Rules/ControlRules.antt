@@ -28,6 +28,7 @@ use Rattle.dslx_meaning.specs.Rules.PatternRules.{pattern_alone, is_there}
 use Rattle.dslx_meaning.specs.Rules.OperatorRules.{unless_type, unless_types, is_bool, one_bit_type}
 use Rattle.dslx_meaning.specs.Rules.AggregateRules.{wanted_faults}
 use Rattle.dslx_meaning.specs.Rules.EffectNames.{is_effect, effect_channel}
+use Rattle.dslx_meaning.specs.Rules.RuleNumbers as rule
 
 -- ---- statements
 
@@ -118,8 +119,8 @@ if_typing span context c a b =
     let first = block_alone context a in
     let second = alone context b in
     settled span (and_then condition.ty (λ t. with_both first.ty second.ty (λ u v. Some u)))
-    (condition.faults ++ first.faults ++ second.faults ++ unless_type is_bool 15 (span_of c) condition.ty
-    ++ unless_types same_type 25 span first.ty second.ty)
+    (condition.faults ++ first.faults ++ second.faults ++ unless_type is_bool rule.CONDITION_IS_BOOL (span_of c) condition.ty
+    ++ unless_types same_type rule.BRANCHES_OF_ONE_TYPE span first.ty second.ty)
     (condition.reached ++ first.reached ++ second.reached)
     (one_and (plus_size condition.size (plus_size first.size second.size)))
 
@@ -153,7 +154,7 @@ with_alternative first rest = record {
   binds = not (is_empty first.names) || rest.binds;
 }
 
--- what any of them binds is in sight behind them; where several bind one name, it is the first one's
+-- what any of them binds is in scope behind them; where several bind one name, it is the first one's
 abbrev pub alternatives_seen : TypeEnv → Option DslxType → List PatternPair → AlternativesSeen
 alternatives_seen context t [] = no_alternative context
 alternatives_seen context t (p ∷ ps) =
@@ -232,7 +233,7 @@ arm_values arms = map (λ (a : ArmTyping). a.value) arms
 -- rule 24
 abbrev pub match_faults : Span → TypeEnv → Option DslxType → List ArmTyping → List Fault
 match_faults span context t arms =
-    breaks_if (is_empty arms || some_binds arms || differ (all_some (types_of (arm_values arms))) || not_exhaustive context arms t) 24 span
+    breaks_if (is_empty arms || some_binds arms || differ (all_some (types_of (arm_values arms))) || not_exhaustive context arms t) rule.MATCH_IS_EXHAUSTIVE span
 
 abbrev pub arms_faults : List ArmTyping → List Fault
 arms_faults [] = []
@@ -316,7 +317,7 @@ loop_parts_faults l = l.from.judgement.faults ++ l.to.judgement.faults ++ l.star
 -- rules 26 and 9, and the limit on its turns
 abbrev pub loop_faults : Span → Span → LoopSeen → List Fault
 loop_faults span body_span l =
-    unless_types one_bit_type 26 span l.from.judgement.ty l.to.judgement.ty
+    unless_types one_bit_type rule.RANGE_OF_ONE_TYPE span l.from.judgement.ty l.to.judgement.ty
     ++ loop_annotation span l.written (index_type l) l.start.ty
     ++ wanted_faults body_span l.start.ty l.body.ty
     ++ turn_limit span.to (turns_of l.from.value l.to.value)

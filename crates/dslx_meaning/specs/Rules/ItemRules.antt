@@ -30,6 +30,7 @@ use Rattle.dslx_meaning.specs.Rules.OperatorRules.{unless_type, is_bits}
 use Rattle.dslx_meaning.specs.Rules.AggregateRules.{wanted_faults, range_faults}
 use Rattle.dslx_meaning.specs.Rules.NodeRules.{expr_pair, block_pair, type_pair}
 use Rattle.dslx_meaning.specs.declared.value.UntypedLiteral.{UntypedLiteral}
+use Rattle.dslx_meaning.specs.Rules.RuleNumbers as rule
 
 -- the faults of a declaration, and the instances that it reaches
 pub record Found : Type 0 where
@@ -65,7 +66,7 @@ typing_of_inner context t = inner_type context (type_pair t)
 
 -- ---- parametrics of an instance
 
--- a default is of the parameter's type
+-- a default is of the parametric's type
 abbrev pub default_found : TypeEnv → Option DslxType → Option Expr → Found
 default_found context t None = nothing_found
 default_found context t (Some e) =
@@ -185,7 +186,7 @@ abbrev pub struct_seen : GlobalEnv → Struct → TypeFound
 struct_seen known s =
     let context = item_type_env known s.name.name [] in
     let found = fields_found context [] s.fields in
-    let faults = found.faults ++ breaks_if (is_empty s.fields) 31 s.span in
+    let faults = found.faults ++ breaks_if (is_empty s.fields) rule.NO_UNIT_INSIDE s.span in
     let t = unless_broken faults (and_then (fields_types context s.fields) (λ ts. Some (ty.Struct s.name.name (map name_of_field s.fields) ts))) in
     record { found = record { faults = faults ++ type_limits s.span.to t; reached = found.reached }; ty = t }
 
@@ -237,14 +238,14 @@ abbrev pub enum_of_base : List ℕ → Option DslxType → Option DslxType
 enum_of_base name base = and_then base (λ t. and_then (bits_in t) (λ kind. Some (ty.Enum name kind.signed kind.width)))
 
 -- rule 23: the base isn't bits, there is no member, or two have one value. Of a base that isn't bits the members' values
--- aren't judged
+-- aren't typed
 abbrev pub enum_seen : GlobalEnv → Enum → TypeFound
 enum_seen known e =
     let context = item_type_env known e.name.name [] in
     let base = typing_of_type context e.base in
     let members = members_found context (base_if_bits base.ty) [] e.members in
-    let faults = base.faults ++ members.faults ++ unless_type is_bits 23 e.span base.ty
-    ++ breaks_if (is_empty e.members || has_equal_values (member_values context (base_if_bits base.ty) e.members)) 23 e.span in
+    let faults = base.faults ++ members.faults ++ unless_type is_bits rule.ENUM_MEMBERS e.span base.ty
+    ++ breaks_if (is_empty e.members || has_equal_values (member_values context (base_if_bits base.ty) e.members)) rule.ENUM_MEMBERS e.span in
     record { found = record { faults = faults; reached = base.reached ++ members.reached }; ty = unless_broken faults (enum_of_base e.name.name base.ty) }
 
 -- the value of a member, if the enum is a type and the member has a value

@@ -30,8 +30,9 @@ use Rattle.dslx_meaning.specs.Rules.NodeRules.{expr_pair}
 use Rattle.dslx_meaning.specs.Rules.ItemRules.{Found, nothing_found, and_found, only_faults, all_found, item_type_env, typing_of_type, typing_of_inner, function_seen, constant_seen, alias_seen, struct_seen, enum_seen, enum_member_value}
 use Rattle.dslx_meaning.specs.Rules.ProcRules.{proc_parametric_args, proc_seen}
 use Rattle.dslx_meaning.specs.Rules.Namesakes.{told_apart}
+use Rattle.dslx_meaning.specs.Rules.RuleNumbers as rule
 
--- ---- what is known of items, from what is known of those that they mention
+-- ---- the global environment: what is known of items, from what is known of those that they mention
 
 abbrev pub found_of_item : GlobalEnv → List DslxValue → Option Definition → Found
 found_of_item known parametric_args (Some (d.Function f)) = (function_seen known f parametric_args).found
@@ -63,7 +64,7 @@ default_known known owner parametric_args e =
     let c = constant_of (item_type_env known owner parametric_args) (expr_pair e) in
     record { judgement = c.judgement; value = c.value }
 
--- nothing is known
+-- the global environment in which nothing is known
 abbrev pub no_globals : Module → GlobalEnv
 no_globals m = record {
   whole = m;
@@ -95,7 +96,7 @@ globals_over known = record {
   default_in = default_known known;
 }
 
--- what is known to a use that stands at the head of a chain of at most so many items, each of which mentions the next. No
+-- the global environment of a use at the head of a chain of at most so many items, each of which mentions the next. No
 -- chain without a cycle is longer than the list of items, and rule 3 refuses cycles
 abbrev pub globals_within : Module → ℕ → GlobalEnv
 globals_within m zero = no_globals m
@@ -164,17 +165,17 @@ abbrev pub nowhere : Span
 nowhere = record { from = 0; to = 0 }
 
 abbrev pub not_a_proc : Option Definition → List Fault
-not_a_proc None = breaks 32 nowhere ∷ []
-not_a_proc (Some definition) = breaks 32 (ident_of definition).span ∷ []
+not_a_proc None = breaks rule.TOP_IS_A_PROC nowhere ∷ []
+not_a_proc (Some definition) = breaks rule.TOP_IS_A_PROC (ident_of definition).span ∷ []
 
 abbrev pub lacks_default : Parametric → Bool
 lacks_default p = not (is_there p.default)
 
--- rule 32: no proc of the text, or one with a parameter that has no default
+-- rule 32: no proc of the text, or one with a parametric that has no default
 abbrev pub top_faults : Module → Option (List ℕ) → Option Proc → List Fault
-top_faults m None None = breaks 32 nowhere ∷ []
+top_faults m None None = breaks rule.TOP_IS_A_PROC nowhere ∷ []
 top_faults m (Some name) None = not_a_proc (item_named name m.items)
-top_faults m top (Some p) = if list_any lacks_default p.parametrics then breaks 32 p.name.span ∷ [] else []
+top_faults m top (Some p) = if list_any lacks_default p.parametrics then breaks rule.TOP_IS_A_PROC p.name.span ∷ [] else []
 
 -- its defaults give its instance
 abbrev pub top_found : GlobalEnv → Option Proc → Found

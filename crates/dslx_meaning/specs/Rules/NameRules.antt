@@ -14,14 +14,15 @@ use Rattle.dslx_meaning.specs.declared.ty.DslxType.{DslxType}
 use Rattle.dslx_meaning.specs.declared.value.DslxValue.{DslxValue}
 use Rattle.dslx_meaning.specs.Rules.Mentions.{is_cyclic}
 use Rattle.dslx_meaning.specs.Rules.TypeEnvs.{TypeEnv, Judgement, breaks, breaks_if, unlimited, settled, typed_in, is_item}
+use Rattle.dslx_meaning.specs.Rules.RuleNumbers as rule
 
 -- ---- uses
 
 -- a constant of the text, or nothing that has a value
 abbrev pub item_value : Span → TypeEnv → List ℕ → Bool → Judgement
-item_value span context name false = settled span None (breaks 1 span ∷ []) [] (Some 1)
+item_value span context name false = settled span None (breaks rule.NAME_IS_DECLARED span ∷ []) [] (Some 1)
 item_value span context name true =
-    settled span (option_map type_of_value (context.known.items.constant name)) (breaks_if (is_cyclic context.known.whole context.owner name) 3 span) [] (Some 1)
+    settled span (option_map type_of_value (context.known.items.constant name)) (breaks_if (is_cyclic context.known.whole context.owner name) rule.NO_ITEM_REACHES_ITSELF span) [] (Some 1)
 
 -- a parametric has no type where no value of it is known
 abbrev pub parametric_or_item : Span → TypeEnv → List ℕ → Option DslxValue → Judgement
@@ -32,7 +33,7 @@ parametric_or_item span context name (Some v) = settled span (Some (type_of_valu
 
 -- an end of a `config` is no value, and hides parametrics and items of its name
 abbrev pub end_or_other : Span → TypeEnv → List ℕ → Bool → Judgement
-end_or_other span context name true = settled span None (breaks 1 span ∷ []) [] (Some 1)
+end_or_other span context name true = settled span None (breaks rule.NAME_IS_DECLARED span ∷ []) [] (Some 1)
 end_or_other span context name false = parametric_or_item span context name (given_in name context.parametric_args)
 
 abbrev pub local_or_other : Span → TypeEnv → List ℕ → Option (Option DslxType) → Judgement
@@ -52,10 +53,10 @@ abbrev pub member_type : TypeEnv → Ident → Ident → Option DslxType
 member_type context e a = and_then (context.known.items.member e.name a.name) (λ v. context.known.items.type_named e.name)
 
 abbrev pub member_of : TypeEnv → Ident → Ident → Option Enum → Judgement
-member_of context e a None = unlimited None (breaks 1 e.span ∷ []) [] (Some 1)
+member_of context e a None = unlimited None (breaks rule.NAME_IS_DECLARED e.span ∷ []) [] (Some 1)
 member_of context e a (Some declared) =
     unlimited (member_type context e a)
-    (breaks_if (is_cyclic context.known.whole context.owner e.name) 3 e.span ++ breaks_if (not (has_member declared a.name)) 1 a.span) [] (Some 1)
+    (breaks_if (is_cyclic context.known.whole context.owner e.name) rule.NO_ITEM_REACHES_ITSELF e.span ++ breaks_if (not (has_member declared a.name)) rule.NAME_IS_DECLARED a.span) [] (Some 1)
 
 -- `E::A`
 abbrev pub member_typing : TypeEnv → Ident → Ident → Judgement
@@ -65,8 +66,8 @@ member_typing context e a = member_of context e a (as_enum (item_named e.name co
 
 -- rule 2: a builtin's or an effect's name, or one that its list has before
 abbrev pub listed_name : List (List ℕ) → Ident → List Fault
-listed_name before ident = breaks_if (is_own_name ident.name || is_in ident.name before) 2 ident.span
+listed_name before ident = breaks_if (is_own_name ident.name || is_in ident.name before) rule.NAME_STANDS_ONCE ident.span
 
 -- the same of a local binding, which has no item's name either
 abbrev pub local_name : TypeEnv → List (List ℕ) → Ident → List Fault
-local_name context before ident = breaks_if (is_own_name ident.name || is_item context ident.name || is_in ident.name before) 2 ident.span
+local_name context before ident = breaks_if (is_own_name ident.name || is_item context ident.name || is_in ident.name before) rule.NAME_STANDS_ONCE ident.span

@@ -13,6 +13,7 @@ use Rattle.dslx_meaning.specs.Rules.ConstantRules.{ConstantSeen, constant_or_unt
 use Rattle.dslx_meaning.specs.Rules.PatternRules.{is_there}
 use Rattle.dslx_meaning.specs.declared.ty.BitKind.{BitKind}
 use Rattle.dslx_meaning.specs.declared.value.UntypedLiteral.{UntypedLiteral}
+use Rattle.dslx_meaning.specs.Rules.RuleNumbers as rule
 
 -- a part that has a type breaks the rule unless the type passes the test
 abbrev pub unless_type : (DslxType → Bool) → ℕ → Span → Option DslxType → List Fault
@@ -57,27 +58,27 @@ width_of_type t = width_in (bits_in t)
 abbrev pub joined_type : Option DslxType → Option DslxType → Option DslxType
 joined_type a b = with_both a b (λ t u. Some (unsigned (width_of_type t + width_of_type u)))
 
--- the rules of a binary operator: its own place, and those of its operands, with their types
+-- the rules of a binary operator: its own span, and those of its operands, with their types
 abbrev pub binary_faults : Binary → Span → Span → Option DslxType → Span → Option DslxType → List Fault
-binary_faults b.Mul span l t r u = unless_types one_bit_type 12 span t u
-binary_faults b.Add span l t r u = unless_types one_bit_type 12 span t u
-binary_faults b.Sub span l t r u = unless_types one_bit_type 12 span t u
-binary_faults b.And span l t r u = unless_types one_bit_type 12 span t u
-binary_faults b.Xor span l t r u = unless_types one_bit_type 12 span t u
-binary_faults b.Or span l t r u = unless_types one_bit_type 12 span t u
-binary_faults b.Div span l t r u = unless_types one_unsigned_type 13 span t u
-binary_faults b.Rem span l t r u = unless_types one_unsigned_type 13 span t u
-binary_faults b.Lt span l t r u = unless_types one_bit_type 14 span t u
-binary_faults b.Le span l t r u = unless_types one_bit_type 14 span t u
-binary_faults b.Gt span l t r u = unless_types one_bit_type 14 span t u
-binary_faults b.Ge span l t r u = unless_types one_bit_type 14 span t u
-binary_faults b.Eq span l t r u = unless_types one_comparable_type 14 span t u
-binary_faults b.Ne span l t r u = unless_types one_comparable_type 14 span t u
-binary_faults b.Both span l t r u = unless_type is_bool 15 l t ++ unless_type is_bool 15 r u
-binary_faults b.Either span l t r u = unless_type is_bool 15 l t ++ unless_type is_bool 15 r u
-binary_faults b.Shl span l t r u = unless_type is_bits 16 l t ++ unless_type is_unsigned 16 r u
-binary_faults b.Shr span l t r u = unless_type is_bits 16 l t ++ unless_type is_unsigned 16 r u
-binary_faults b.Concat span l t r u = unless_type is_unsigned 17 l t ++ unless_type is_unsigned 17 r u
+binary_faults b.Mul span l t r u = unless_types one_bit_type rule.OPERANDS_OF_ONE_TYPE span t u
+binary_faults b.Add span l t r u = unless_types one_bit_type rule.OPERANDS_OF_ONE_TYPE span t u
+binary_faults b.Sub span l t r u = unless_types one_bit_type rule.OPERANDS_OF_ONE_TYPE span t u
+binary_faults b.And span l t r u = unless_types one_bit_type rule.OPERANDS_OF_ONE_TYPE span t u
+binary_faults b.Xor span l t r u = unless_types one_bit_type rule.OPERANDS_OF_ONE_TYPE span t u
+binary_faults b.Or span l t r u = unless_types one_bit_type rule.OPERANDS_OF_ONE_TYPE span t u
+binary_faults b.Div span l t r u = unless_types one_unsigned_type rule.DIVISION_OF_ONE_UNSIGNED_TYPE span t u
+binary_faults b.Rem span l t r u = unless_types one_unsigned_type rule.DIVISION_OF_ONE_UNSIGNED_TYPE span t u
+binary_faults b.Lt span l t r u = unless_types one_bit_type rule.COMPARISON_OF_ONE_TYPE span t u
+binary_faults b.Le span l t r u = unless_types one_bit_type rule.COMPARISON_OF_ONE_TYPE span t u
+binary_faults b.Gt span l t r u = unless_types one_bit_type rule.COMPARISON_OF_ONE_TYPE span t u
+binary_faults b.Ge span l t r u = unless_types one_bit_type rule.COMPARISON_OF_ONE_TYPE span t u
+binary_faults b.Eq span l t r u = unless_types one_comparable_type rule.COMPARISON_OF_ONE_TYPE span t u
+binary_faults b.Ne span l t r u = unless_types one_comparable_type rule.COMPARISON_OF_ONE_TYPE span t u
+binary_faults b.Both span l t r u = unless_type is_bool rule.CONDITION_IS_BOOL l t ++ unless_type is_bool rule.CONDITION_IS_BOOL r u
+binary_faults b.Either span l t r u = unless_type is_bool rule.CONDITION_IS_BOOL l t ++ unless_type is_bool rule.CONDITION_IS_BOOL r u
+binary_faults b.Shl span l t r u = unless_type is_bits rule.SHIFT_BY_UNSIGNED l t ++ unless_type is_unsigned rule.SHIFT_BY_UNSIGNED r u
+binary_faults b.Shr span l t r u = unless_type is_bits rule.SHIFT_BY_UNSIGNED l t ++ unless_type is_unsigned rule.SHIFT_BY_UNSIGNED r u
+binary_faults b.Concat span l t r u = unless_type is_unsigned rule.CONCAT_OF_UNSIGNED l t ++ unless_type is_unsigned rule.CONCAT_OF_UNSIGNED r u
 
 abbrev pub left_type : Option DslxType → Option DslxType → Option DslxType
 left_type (Some t) (Some u) = Some t
@@ -116,14 +117,14 @@ binary_typing span context o l r =
 abbrev pub prefix_typing : Span → TypeEnv → ExprPair → Judgement
 prefix_typing span context e =
     let a = alone context e in
-    settled span a.ty (a.faults ++ unless_type is_bits 11 span a.ty) a.reached (one_and a.size)
+    settled span a.ty (a.faults ++ unless_type is_bits rule.PREFIX_OPERAND_IS_BITS span a.ty) a.reached (one_and a.size)
 
 -- rule 20: from bits or an enum to bits
 abbrev pub cast_typing : Span → TypeEnv → ExprPair → Judgement → Judgement
 cast_typing span context e target =
     let a = alone context e in
     settled span (and_then a.ty (λ t. target.ty))
-    (a.faults ++ target.faults ++ unless_type is_bits_or_enum 20 span a.ty ++ unless_type is_bits 20 span target.ty)
+    (a.faults ++ target.faults ++ unless_type is_bits_or_enum rule.CAST_TO_BITS span a.ty ++ unless_type is_bits rule.CAST_TO_BITS span target.ty)
     (a.reached ++ target.reached) (one_and a.size)
 
 -- ---- rule 18: slices
@@ -154,9 +155,9 @@ is_wrong_bound t c = is_negative_bound c || is_past t (bound_number c)
 
 abbrev pub slice_faults : Span → Option DslxType → ConstantSeen → ConstantSeen → List Fault
 slice_faults span t from to =
-    unless_type is_bits 18 span t
-    ++ unless_type is_bits 18 span from.judgement.ty ++ unless_type is_bits 18 span to.judgement.ty
-    ++ breaks_if (is_wrong_bound t from || is_wrong_bound t to || bounds_fall (bound_number from) (bound_number to)) 18 span
+    unless_type is_bits rule.SLICE_OF_BITS span t
+    ++ unless_type is_bits rule.SLICE_OF_BITS span from.judgement.ty ++ unless_type is_bits rule.SLICE_OF_BITS span to.judgement.ty
+    ++ breaks_if (is_wrong_bound t from || is_wrong_bound t to || bounds_fall (bound_number from) (bound_number to)) rule.SLICE_OF_BITS span
 
 abbrev pub slice_typing : Span → TypeEnv → ExprPair → ExprPair → ExprPair → Judgement
 slice_typing span context e a c =
@@ -175,6 +176,6 @@ part_typing span context e i target =
     let start = alone context i in
     settled span (and_then whole.ty (λ t. and_then start.ty (λ u. target.ty)))
     (whole.faults ++ start.faults ++ target.faults
-    ++ unless_type is_bits 18 span whole.ty ++ unless_type is_unsigned 18 span start.ty ++ unless_type is_unsigned 18 span target.ty)
+    ++ unless_type is_bits rule.SLICE_OF_BITS span whole.ty ++ unless_type is_unsigned rule.SLICE_OF_BITS span start.ty ++ unless_type is_unsigned rule.SLICE_OF_BITS span target.ty)
     (whole.reached ++ start.reached ++ target.reached)
     (one_and (plus_size whole.size start.size))

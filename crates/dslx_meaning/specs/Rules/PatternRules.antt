@@ -12,10 +12,11 @@ use Rattle.dslx_meaning.specs.Rules.Mentions.{is_cyclic}
 use Rattle.dslx_meaning.specs.Rules.TypeEnvs.{TypeEnv, Typed, Judgement, breaks, breaks_if, unlimited}
 use Rattle.dslx_meaning.specs.Rules.Typings.{PatternSeen, PatternTyping, PatternPair, ShapeLayer}
 use Rattle.dslx_meaning.specs.Rules.NameRules.{member_typing, local_name}
+use Rattle.dslx_meaning.specs.Rules.RuleNumbers as rule
 
 -- rule 8: it hasn't the value's shape
 abbrev pub shape_faults : Span → Option DslxType → Option DslxType → List Fault
-shape_faults span (Some t) (Some own) = breaks_if (not (same_type t own)) 8 span
+shape_faults span (Some t) (Some own) = breaks_if (not (same_type t own)) rule.PATTERN_FITS_TYPE span
 shape_faults span _ _ = []
 
 abbrev pub is_there : {A : Type 0} → Option A → Bool
@@ -27,7 +28,7 @@ abbrev pub one_value : Span → Bool → Option DslxType → List (List ℕ) →
 one_value span may_fail ty names locals own is_known = record {
   names = names;
   locals = locals;
-  faults = own.faults ++ shape_faults span ty own.ty ++ breaks_if (not may_fail) 8 span;
+  faults = own.faults ++ shape_faults span ty own.ty ++ breaks_if (not may_fail) rule.PATTERN_FITS_TYPE span;
   reached = own.reached;
   size = 1;
   is_known = is_known;
@@ -48,7 +49,7 @@ bound_name span context ty names locals name = record {
 
 -- no limit applies to a pattern's type
 abbrev pub constant_pattern : Span → TypeEnv → List ℕ → Option DslxValue → Judgement
-constant_pattern span context name v = unlimited (option_map type_of_value v) (breaks_if (is_cyclic context.known.whole context.owner name) 3 span) [] (Some 1)
+constant_pattern span context name v = unlimited (option_map type_of_value v) (breaks_if (is_cyclic context.known.whole context.owner name) rule.NO_ITEM_REACHES_ITSELF span) [] (Some 1)
 
 -- the types of the parts of a tuple, where it has as many
 abbrev pub part_types_in : ℕ → DslxType-F DslxType → Option (List DslxType)
@@ -61,7 +62,7 @@ part_types n (Some t) = part_types_in n (out-DslxType t)
 
 abbrev pub tuple_faults : Span → Option DslxType → Option (List DslxType) → List Fault
 tuple_faults span None parts = []
-tuple_faults span (Some t) None = breaks 8 span ∷ []
+tuple_faults span (Some t) None = breaks rule.PATTERN_FITS_TYPE span ∷ []
 tuple_faults span (Some t) (Some parts) = []
 
 abbrev pub nothing_bound : List (List ℕ) → List Typed → PatternSeen

@@ -34,6 +34,7 @@ use Rattle.dslx_meaning.specs.Rules.NameRules.{local_name}
 use Rattle.dslx_meaning.specs.Rules.CallRules.{ParametricArgument, Before, known_before, ParametricArgsSeen, parametric_args_seen, is_refused, typing_there, declared_type, given_parametric_args, given_judgements, same_direction, channel_end_in, reached_by}
 use Rattle.dslx_meaning.specs.Rules.NodeRules.{arg_pair}
 use Rattle.dslx_meaning.specs.Rules.ItemRules.{Found, nothing_found, and_found, only_faults, found_in, item_type_env, typing_of_type, typing_of_inner, parametrics_found, body_typing}
+use Rattle.dslx_meaning.specs.Rules.RuleNumbers as rule
 
 -- ---- ends of channels
 
@@ -62,7 +63,7 @@ end_names es = map (λ (e : End). e.name.name) es
 
 -- ---- channels that are made
 
--- what is known in a `config` so far: the names of its ends, the ends themselves, and its strings
+-- what is in scope in a `config` so far: the names of its ends, the ends themselves, and its strings
 pub record Made : Type 0 where
   pub names : List (List ℕ)
   pub channel_ends : List ChannelEnd
@@ -80,7 +81,7 @@ depth_found context (Some a) =
 
 -- rule 2 at a string that another channel of the `config` has
 abbrev pub string_faults : List (List ℕ) → Ident → List Fault
-string_faults before name = breaks_if (is_in name.name before) 2 name.span
+string_faults before name = breaks_if (is_in name.name before) rule.NAME_STANDS_ONCE name.span
 
 -- the type environment behind these ends, which are no values
 abbrev pub behind_ends : TypeEnv → Made → TypeEnv
@@ -105,7 +106,7 @@ made_with context made c =
 -- rule 1: an end that isn't declared before
 abbrev pub unknown_ends : List (List ℕ) → List Ident → List Fault
 unknown_ends names [] = []
-unknown_ends names (i ∷ is) = breaks_if (not (is_in i.name names)) 1 i.span ++ unknown_ends names is
+unknown_ends names (i ∷ is) = breaks_if (not (is_in i.name names)) rule.NAME_IS_DECLARED i.span ++ unknown_ends names is
 
 -- an end has another direction or other words than the one that it is handed over as
 abbrev pub misfits : Direction → Option DslxType → Option ChannelEnd → Bool
@@ -119,7 +120,7 @@ misfits direction word (Some o) = not (same_direction direction o.direction) || 
 -- rule 9 at the end's name
 abbrev pub handed_faults : GlobalEnv → List ℕ → Before → Made → List End → List Ident → List Fault
 handed_faults known owner bound made (e ∷ es) (i ∷ is) =
-    breaks_if (misfits e.direction (declared_type known owner bound e.word) (channel_end_in i.name made.channel_ends)) 9 i.span
+    breaks_if (misfits e.direction (declared_type known owner bound e.word) (channel_end_in i.name made.channel_ends)) rule.VALUE_HAS_ITS_TYPE i.span
     ++ handed_faults known owner bound made es is
 handed_faults known owner bound made _ _ = []
 
@@ -134,18 +135,18 @@ abbrev pub right_spawn : TypeEnv → Made → Spawn → Proc → List Fault → 
 right_spawn context made s target cyclic parametric_args =
     let declared = typing_there cyclic parametric_args in
     record {
-      faults = cyclic ++ parametric_args.faults ++ declared.faults ++ breaks_if parametric_args.is_wrong 10 s.span
+      faults = cyclic ++ parametric_args.faults ++ declared.faults ++ breaks_if parametric_args.is_wrong rule.ARGUMENTS_FIT s.span
           ++ (if parametric_args.is_wrong then [] else handed_faults context.known target.name.name parametric_args.bound made target.config.ends s.ends);
       reached = declared.reached ++ reached_by (is_refused cyclic parametric_args) target.name.name parametric_args.values;
     }
 
 abbrev pub spawn_of : TypeEnv → Made → Spawn → List ParametricArgument → Option Proc → Found
-spawn_of context made s given None = only_faults (breaks 1 s.target.span ∷ [])
+spawn_of context made s given None = only_faults (breaks rule.NAME_IS_DECLARED s.target.span ∷ [])
 spawn_of context made s given (Some target) =
-    let cyclic = breaks_if (is_cyclic context.known.whole context.owner target.name.name) 3 s.span in
+    let cyclic = breaks_if (is_cyclic context.known.whole context.owner target.name.name) rule.NO_ITEM_REACHES_ITSELF s.span in
     if length s.ends == length target.config.ends && not (nat_lt (length target.parametrics) (length given))
     then right_spawn context made s target cyclic (proc_parametric_args context.known target given)
-    else only_faults (cyclic ++ breaks 10 s.span ∷ [])
+    else only_faults (cyclic ++ breaks rule.ARGUMENTS_FIT s.span ∷ [])
 
 abbrev pub spawn_found : TypeEnv → Made → Spawn → Found
 spawn_found context made s =
@@ -192,7 +193,7 @@ is_members context (e ∷ es) (i ∷ is) made =
 -- rule 30: an end isn't used once, or the tuple isn't the members
 abbrev pub use_faults : TypeEnv → Proc → Made → List Fault
 use_faults context p made =
-    breaks_if (not (list_all (λ name. times_in name (used_ends p.config.config_statements p.config.result) == 1) made.names && is_members context p.members p.config.result made)) 30 p.config.span
+    breaks_if (not (list_all (λ name. times_in name (used_ends p.config.config_statements p.config.result) == 1) made.names && is_members context p.members p.config.result made)) rule.CONFIG_USES_EACH_END p.config.span
 
 abbrev pub config_found : TypeEnv → Proc → Found
 config_found context p =

@@ -1,4 +1,4 @@
--- What is known where a part of a text is judged, and what its judgement holds.
+-- The type environment in which a part of a text is typed, and what its judgement holds.
 --
 -- A part has a type only where neither it nor a part of it breaks a rule, and a rule that needs a type which isn't there
 -- doesn't apply.
@@ -25,6 +25,7 @@ use Rattle.dslx_meaning.specs.declared.ty.DslxType.TheOpen.{DslxType-F}
 use Rattle.dslx_meaning.specs.declared.value.DslxValue.{DslxValue}
 use Rattle.dslx_meaning.specs.declared.value.UntypedLiteral.{UntypedLiteral}
 use Rattle.dslx_meaning.specs.Rules.EqualValues.{equal_value}
+use Rattle.dslx_meaning.specs.Rules.RuleNumbers as rule
 
 -- ---- instances
 
@@ -36,9 +37,9 @@ pub record Instance : Type 0 where
 abbrev pub same_instance : Instance → Instance → Bool
 same_instance a b = bytes_eq a.name b.name && pairwise equal_value a.parametric_args b.parametric_args
 
--- ---- what is known
+-- ---- type environments
 
--- what a part comes to: its type, the rules that it and its parts break and the limits that they pass, the instances that
+-- the judgement of a part: its type, the rules that it and its parts break and the limits that they pass, the instances that
 -- its calls and spawns reach, and how many nodes it has, loops multiplied and bodies put in the place of calls. It has no
 -- size where some part of it, or of a body that it calls, has no type
 pub record Judgement : Type 0 where
@@ -52,8 +53,8 @@ pub record DefaultSeen : Type 0 where
   pub judgement : Judgement
   pub value : Option DslxValue
 
--- what is known of the items. A constant has a value only where nothing that it reaches breaks a rule or passes a limit; a
--- type is known only where its declaration breaks no rule. A call has the value that it means, whatever it reaches
+-- the global environment: what is known of the items. A constant has a value only where nothing that it reaches breaks a rule or passes a limit; a
+-- type is known only where its declaration breaks no rule. A call has the value that it denotes, whatever it reaches
 pub record GlobalEnv : Type 0 where
   pub whole : Module
   pub items : Meanings
@@ -63,9 +64,9 @@ pub record GlobalEnv : Type 0 where
   pub is_unbroken : Instance → Bool
   -- how many nodes the body of an instance has
   pub body_size : Instance → Option ℕ
-  -- what a type means in the text of an item, where these parametrics have values and of these no value is known
+  -- what a written type denotes in the text of an item, where these parametrics have values and of these no value is known
   pub type_in : List ℕ → List Given → List (List ℕ) → TypeExpr → Option DslxType
-  -- what a type where () may not stand and a default come to there, where all parameters before have values
+  -- the typings of a type where () may not stand and of a default there, where all parametrics before have values
   pub type_seen_in : List ℕ → List Given → TypeExpr → Judgement
   pub default_in : List ℕ → List Given → Expr → DefaultSeen
 
@@ -80,7 +81,7 @@ pub record ChannelEnd : Type 0 where
   pub direction : Direction
   pub word : Option DslxType
 
--- the type environment at a place
+-- the type environment of a part
 pub record TypeEnv : Type 0 where
   pub known : GlobalEnv
   -- the item in whose text it stands
@@ -113,7 +114,7 @@ constant_env context = record { items = context.known.items; bound = unhidden co
 
 -- ---- judgements
 
--- the rule of this number is broken by the part at this place
+-- the rule of this number is broken by the part at this span
 abbrev pub breaks : ℕ → Span → Fault
 breaks rule span = Broken (record { 0 = rule }) span
 
@@ -221,7 +222,7 @@ size_of_all js = sum_sizes (map (λ (j : Judgement). j.size) js)
 
 -- ---- expressions as what is around them sees them
 
--- an expression is judged where effects may stand or not; where they may, it is the whole value of a `let` or a statement at
+-- an expression is typed where effects may stand or not; where they may, it is the whole value of a `let` or a statement at
 -- the top of `next`
 abbrev pub ExprTyping : Type 0
 ExprTyping = Bool → TypeEnv → Judgement
@@ -249,7 +250,7 @@ no_token span j = without j.ty
   where
     without : Option DslxType → Judgement
     without None = j
-    without (Some t) = if holds_token t then record { ty = None; faults = j.faults ++ breaks 28 span ∷ []; reached = j.reached; size = j.size } else j
+    without (Some t) = if holds_token t then record { ty = None; faults = j.faults ++ breaks rule.EFFECT_STANDS_ALONE span ∷ []; reached = j.reached; size = j.size } else j
 
 -- its judgement where a value stands alone: a token and a receive's pair don't stand there
 abbrev pub alone : TypeEnv → ExprPair → Judgement

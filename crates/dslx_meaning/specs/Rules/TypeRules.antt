@@ -13,11 +13,12 @@ use Rattle.dslx_meaning.specs.Rules.Mentions.{is_of_use, AsType, is_cyclic}
 use Rattle.dslx_meaning.specs.Rules.TypeEnvs.{TypeEnv, Judgement, breaks, breaks_if, settled, faults_of_all, reached_of_all, types_of}
 use Rattle.dslx_meaning.specs.Rules.ConstantRules.{CountSeen, count_of, count_faults}
 use Rattle.dslx_meaning.specs.Rules.Typings.{TypePair, TypeNodeLayer}
+use Rattle.dslx_meaning.specs.Rules.RuleNumbers as rule
 
 -- rule 31: () stands inside another type
 abbrev pub unit_faults : Span → Option DslxType → List Fault
 unit_faults span None = []
-unit_faults span (Some t) = breaks_if (is_unit t) 31 span
+unit_faults span (Some t) = breaks_if (is_unit t) rule.NO_UNIT_INSIDE span
 
 abbrev pub span_of_type : TypePair → Span
 span_of_type t = (out-TypeExpr t.0).span
@@ -44,9 +45,9 @@ counted_type span t faults n = settled span t (faults ++ n.judgement.faults) n.j
 
 -- rule 1: no item, or none that names a type; rule 3: it reaches the item in whose text it stands
 abbrev pub named_type : Span → TypeEnv → List ℕ → Bool → Judgement
-named_type span context name false = settled span None (breaks 1 span ∷ []) [] (Some 0)
+named_type span context name false = settled span None (breaks rule.NAME_IS_DECLARED span ∷ []) [] (Some 0)
 named_type span context name true =
-    settled span (context.known.items.type_named name) (breaks_if (is_cyclic context.known.whole context.owner name) 3 span) [] (Some 0)
+    settled span (context.known.items.type_named name) (breaks_if (is_cyclic context.known.whole context.owner name) rule.NO_ITEM_REACHES_ITSELF span) [] (Some 0)
 
 abbrev pub joined_reached : Judgement → CountSeen → Judgement → Judgement
 joined_reached a n j = record j { reached = a.reached ++ n.judgement.reached }

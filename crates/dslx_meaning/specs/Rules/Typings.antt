@@ -1,4 +1,4 @@
--- What the parts of each sort come to where they are judged.
+-- The typings of the parts of each sort.
 use Rattle.std.specs.Prelude.{ℕ, List, Bool, Option}
 use Rattle.xb_span.specs.declared.span.Span.{Span}
 use Rattle.xb_span.specs.declared.fault.Fault.{Fault}
@@ -15,7 +15,7 @@ use Rattle.dslx_meaning.specs.Rules.Paired.{Sorts, NodePart, ShapePart, TypeNode
 abbrev pub TypeExprTyping : Type 0
 TypeExprTyping = TypeEnv → Judgement
 
--- what a pattern comes to: the names that the whole pattern has so far, all that is bound so far, its faults, what it
+-- the typing of a pattern: the names that the whole pattern has so far, all that is bound so far, its faults, what it
 -- reaches, how many nodes it has, and whether all that it needs is known
 pub record PatternSeen : Type 0 where
   pub names : List (List ℕ)
@@ -31,7 +31,7 @@ pub record PatternSeen : Type 0 where
 abbrev pub PatternTyping : Type 0
 PatternTyping = Bool → TypeEnv → Option DslxType → List (List ℕ) → List Typed → PatternSeen
 
--- what a statement comes to: the type environment behind it, and the rest
+-- the typing of a statement: the type environment behind it, and the rest
 pub record StatementSeen : Type 0 where
   pub context : TypeEnv
   pub faults : List Fault
@@ -42,7 +42,7 @@ pub record StatementSeen : Type 0 where
 abbrev pub StatementTyping : Type 0
 StatementTyping = Bool → TypeEnv → StatementSeen
 
--- an arm, and a field of a struct value, with what their parts come to
+-- an arm, and a field of a struct value, with the typings of their parts
 pub record ArmSeen : Type 0 where
   pub patterns : List (Pattern × PatternTyping)
   pub value : ExprPair
@@ -69,7 +69,7 @@ typing_sorts = record {
   type_expr = TypeExprTyping;
 }
 
--- the parts beside what they come to
+-- the parts beside their typings
 abbrev pub TypePair : Type 0
 TypePair = TypeExpr × TypeExprTyping
 

@@ -142,12 +142,12 @@ abbrev pub default_begins : Option Expr → ConstCall → Parametric → List Pa
 default_begins None call p ps run = call_fails call run
 default_begins (Some e) call p ps run = doing (ValueDen e ∷ GivesParametric call p ps ∷ []) run
 
--- a parameter that the operands infer, or else its default
+-- a parametric that the operands infer, or else its default
 abbrev pub parametric_begins : Option ℕ → ConstCall → Parametric → List Parametric → ConstState → ConstState
 parametric_begins (Some k) call p ps run = doing (FindsType p.ty ∷ Numbers (record { is_negative = false; value = k }) ∷ GivesParametric call p ps ∷ []) run
 parametric_begins None call p ps run = default_begins p.default call p ps run
 
--- the first parameter is bound
+-- the first parametric is bound
 abbrev pub parametrics_on : List DslxValue → ConstCall → List Parametric → ConstState → ConstState
 parametrics_on [] call [] run = call_begins call run
 parametrics_on [] call (p ∷ ps) run = parametric_begins (inferred_for p.name.name call.inferred) call p ps run

@@ -39,11 +39,11 @@ without_finding run = finds_value None run
 abbrev pub doing : List ConstTask → ConstState → ConstState
 doing more run = record run { todo = more ++ run.todo }
 
--- these things are done at an item, where only items are in sight and a chain of uses may go through so many others
+-- these things are done at an item, where only items are in scope and a chain of uses may go through so many others
 abbrev pub at_item : ℕ → List ConstTask → ConstState → ConstState
 at_item n more run = record run { todo = more ++ Returns run.bound run.left ∷ run.todo; bound = []; left = n }
 
--- back at a place
+-- back in a scope
 abbrev pub back_at : List Given → ℕ → ConstState → ConstState
 back_at bound n run = record run { bound = bound; left = n }
 

@@ -16,9 +16,9 @@ use Rattle.dslx_next.specs.Opening.Opened.{act_opened}
 use Rattle.dslx_next.specs.declared.opening.opened.OpenStep.{OpenStep}
 use Rattle.dslx_next.specs.declared.opening.work.NextScope.{NextScope}
 
--- ---- places
+-- ---- scopes
 
--- parametrics, the last one last, and what calls come to among these instances
+-- parametrics, the last one last, and what calls resolve to among these instances
 abbrev pub parametric_args_known : Module → List Binding → List CoreInstance → BodyEnv
 parametric_args_known m parametric_args table = record { items = meanings_of m; parametric_args = reverse (map given parametric_args); callee = callee_in m (meanings_of m) table }
 

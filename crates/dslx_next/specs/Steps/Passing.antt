@@ -65,7 +65,7 @@ statements_at k w ss table rest = statements_then (outer_at k w table) k ss rest
 abbrev pub HasState : Option LoweredSteps → Option LoweredSteps → Type 0
 HasState all behind = (r : LoweredSteps) → all ≡ Some r → (s : LoweredSteps) × (behind ≡ Some s) × (r.next ≡ s.next)
 
--- the steps of statements go behind others, and the body behind them; by a table that doesn't begin with that one they may be others
+-- the steps of statements go behind others, and the body behind them; by a table that doesn't extend that one they may be others
 pub record IsPassed (k : NextScope) (leads : Leads) (steps : List Step) (w : BodyWork) (new_steps : List Step) (after : BodyWork) : Type 0 where
   pub grows : TableExtends k.text.now w.table after.table
   pub parametric_args : map given after.given.items ≡ map given w.given.items

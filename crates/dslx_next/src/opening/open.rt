@@ -22,7 +22,7 @@ use dslx_tree::Expr;
 use std::alloc::{AllocError, Global};
 use xb_value::Boxed;
 
-/// What an expression becomes as a statement or as the whole value of a `let`: a step that binds nothing yet.
+/// What an expression is lowered to as a statement or as the whole value of a `let`: a step that binds nothing yet.
 pub fn open_step<'a>(
     alloc: Global,
     known: NextScope<'a>,

@@ -15,7 +15,7 @@ use dslx_tree::{End, Expr, Module};
 use std::alloc::{AllocError, Global};
 use xb_value::Boxed;
 
-/// What is known in all of a `next`: the text, how many instances of functions there may be, and the members.
+/// The environment of all of a `next`: the text, how many instances of functions there may be, and the members.
 #[derive(Clone, Copy)]
 pub struct NextScope<'a> {
     pub text: &'a Module,

@@ -30,8 +30,8 @@ use dslx_tree::{Module, Proc, TypeExpr};
 use dslx_values::{copy_name, copy_type};
 use std::alloc::{AllocError, Global};
 
-/// What the `next` of a proc becomes where these parametrics are bound, the last one last, with the instances of functions that
-/// it needs behind those that are made; `None` only where it becomes nothing by any table of at most `limit` instances.
+/// What the `next` of a proc is lowered to where these parametrics are bound, the last one last, with the instances of functions that
+/// it needs behind those that are made; `None` only where it has no lowering by any table of at most `limit` instances.
 pub fn next_there<'a>(
     alloc: Global,
     text: &'a Module,
@@ -61,7 +61,7 @@ pub fn next_there<'a>(
     }
 }
 
-/// Whether the parametrics stand, and the state has no constant's name.
+/// Whether the parametrics are well-typed, and the state has no constant's name.
 fn names_are_well_typed(
     alloc: Global,
     text: &Module,
@@ -94,7 +94,7 @@ fn state_type<'a>(
     }
 }
 
-/// What the `next` becomes where its state is of this type.
+/// What the `next` is lowered to where its state is of this type.
 fn next_from<'a>(
     alloc: Global,
     text: &'a Module,

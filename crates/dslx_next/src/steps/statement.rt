@@ -92,7 +92,7 @@ fn bind_step<'a>(
     }
 }
 
-/// What the pattern becomes; its names are bound then.
+/// What the pattern is lowered to; its names are bound then.
 fn bind_pattern<'a>(
     alloc: Global,
     known: NextScope<'a>,

@@ -1,4 +1,4 @@
--- an expression and its place
+-- an expression and its span
 pub mod Exprs
 -- what the rules of numbers, names, arrays and parentheses make
 pub mod Atoms

@@ -1,4 +1,4 @@
-//! Expressions that are known at once.
+//! Expressions that are lowered at once.
 
 ghost use Rattle.std.specs.Prelude.{◌≡◌, List, Some, IfOk};
 ghost use Rattle.dslx_meaning.specs.Items.{meanings_of};

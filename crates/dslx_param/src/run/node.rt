@@ -16,7 +16,7 @@ use dslx_instance_parts::{begin_array, gather};
 use dslx_tree::{Expr, Module, Node};
 use std::alloc::{AllocError, Global};
 
-/// An expression is to be lowered: what is known at once is given, the rest becomes tasks; whether there is such a step.
+/// An expression is to be lowered: an atom is lowered at once, the rest becomes tasks; whether there is such a step.
 pub(crate) fn begin_node<'a>(
     body: &mut OpenBody<'a>,
     alloc: Global,

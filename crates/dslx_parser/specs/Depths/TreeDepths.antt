@@ -1,6 +1,6 @@
--- How high a tree is: how many of its parts, each with a place of its own, stand one in another. Counted are expressions,
--- types, patterns, blocks, `let` and arguments between `<` and `>`, and of the items the definitions and what a `config`
--- makes. What stands between two of them (a loop's or an arm's fields, say) counts nothing.
+-- The depth of a tree: how many of its parts, each with a span of its own, stand one in another. Counted are expressions,
+-- types, patterns, blocks, `let` and arguments between `<` and `>`, and of the items the definitions, `config` with
+-- its statements, and `next`. What stands between two of them (a loop's or an arm's fields, say) counts nothing.
 use Rattle.std.specs.Prelude.{◌≡◌, ◌+◌, ℕ, zero, suc, List, [], ◌∷◌, ◌++◌, Option, None, Some, map, max}
 use Rattle.std.specs.Option.{option_map}
 use Rattle.grammar.specs.Derivation.{IsDerivation}
@@ -187,10 +187,10 @@ item_depth x = definition_depth x.definition
 abbrev pub tree_depth : Module → ℕ
 tree_depth m = highest (map item_depth m.items)
 
--- ---- how high it may be
+-- ---- how deep it may be
 
 -- The greatest depth of what stands in the outermost of so many brackets, heads and marks, where no more may be open at
--- one place. The marks of a bracket are those behind the bracket in it, so each bracket may have its own: 4 parts for a
+-- one position. The marks of a bracket are those behind the bracket in it, so each bracket may have its own: 4 parts for a
 -- bracket, and one for each mark that it leaves room for.
 abbrev pub depth_within : ℕ → ℕ
 depth_within zero = 0

@@ -1,4 +1,4 @@
--- The parts of a tree, each at its place: what stands inside a part stands inside its place, in the order of the text.
+-- The parts of a tree, each with its span: what stands inside a part has its span within that of the part, in the order of the text.
 use Rattle.std.specs.Prelude.{◌≢◌, ◌≤◌, ℕ, Bool, List, [], ◌∷◌, ◌++◌, Option, None, Some, map}
 use Rattle.xb_span.specs.declared.span.Span.{Span}
 use Rattle.dslx_tree.specs.declared.block.Block.{Block, roll-Block}
@@ -43,7 +43,7 @@ use Rattle.dslx_tree.specs.declared.type_expr.TypeExpr.{TypeExpr, roll-TypeExpr}
 use Rattle.dslx_tree.specs.declared.type_expr.TypeNode.{TypeNode}
 use Rattle.dslx_tree.specs.declared.type_expr.TypeNode as types
 
--- a part of a tree; `spot` is a place by itself
+-- a part of a tree; `spot` is a span by itself
 pub data Thing : Type 0 where
   spot : Span → Thing
   expr : Expr → Thing
@@ -95,8 +95,8 @@ pub data InSomeOrder (a b c : Thing) : List Thing → Type 0 where
   cab : InSomeOrder a b c (c ∷ a ∷ b ∷ [])
   cba : InSomeOrder a b c (c ∷ b ∷ a ∷ [])
 
--- The part has this place, and these parts inside, in the order of the text. No name is empty; of a channel's name, which
--- stands in quotes, there is only the place.
+-- The part has this span, and these parts inside, in the order of the text. No name is empty; of a channel's name, which
+-- stands in quotes, there is only the span.
 pub data Inside : Thing → Span → List Thing → Type 0 where
   of_spot : (span : Span) → Inside (spot span) span []
   of_ident : (name : Ident) → name.name ≢ [] → Inside (ident name) name.span []
@@ -152,7 +152,7 @@ pub data Inside : Thing → Span → List Thing → Type 0 where
   of_spawn : (s : Spawn) → Inside (config_statement (config_statements.Spawn s)) s.span (ident s.target ∷ (map arg s.arguments ++ map ident s.ends))
   of_next : (n : Next) → Inside (next n) n.span (ident n.state ∷ type_expr n.ty ∷ block n.body ∷ [])
 
--- The part has no place of its own: it is these parts.
+-- The part has no span of its own: it is these parts.
 pub data IsMadeOf : Thing → List Thing → Type 0 where
   of_bare : (value : Expr) → IsMadeOf (statement (stmts.Bare value)) (expr value ∷ [])
   of_arm : (patterns : List Pattern) (value : Expr) → IsMadeOf (arm (roll-Arm (record { patterns = patterns; value = value }))) (map pattern patterns ++ expr value ∷ [])

@@ -1,4 +1,4 @@
--- The nodes that the rules make, and their places.
+-- The nodes that the rules make, and their spans.
 use Rattle.std.specs.Prelude.{ℕ, Bool, false, List, [], ◌∷◌, Option, None, Some, ◌-◌, length, map, take, drop, codes, bytes_eq}
 use Rattle.xb_span.specs.declared.span.Span.{Span}
 use Rattle.dslx_token.specs.Lexeme.{Lexeme}
@@ -33,7 +33,7 @@ in_turn (f ∷ fs) x = in_turn fs (f x)
 abbrev pub ident_of : Lexeme → Ident
 ident_of l = record { span = l.span; name = l.bytes }
 
--- what stands between the quotes, with the place of the quotes
+-- what stands between the quotes, with the span of the quotes
 abbrev pub quoted_of : Lexeme → Ident
 quoted_of l = record { span = l.span; name = drop 1 (take (length l.bytes - 1) l.bytes) }
 
@@ -61,11 +61,11 @@ named_type name = type_at name.span (types.Name name.name)
 abbrev pub says_signed : List ℕ → Bool
 says_signed bytes = bytes_eq bytes (codes "sN")
 
--- the place of a number behind its type
+-- the span of a number with its type before it
 abbrev pub number_span : TypeExpr → Numeral → Span
 number_span ty n = from_to (out-TypeExpr ty).span n.span
 
--- ---- expressions, each with its place, which takes in the parentheses round it
+-- ---- expressions, each with its span, which takes in the parentheses round it
 
 abbrev pub operand_at : Span → Node → Operand
 operand_at span node = record { span = span; expr = roll-Expr (record { span = span; node = node }) }

@@ -35,7 +35,7 @@ pub data Sort : Type 0 where
 abbrev pub OfSort : Sort → Type 0
 -- nothing
 OfSort nothing = Unit {0}
--- the place of a token
+-- the span of a token
 OfSort mark = Span
 -- a text
 OfSort whole = Module
@@ -68,7 +68,7 @@ OfSort config_and_next = Config × Next
 OfSort config_and_init = Config × Block
 OfSort config_statement = ConfigStatement
 OfSort config_statements = List ConfigStatement
--- the words of a channel, its depth, its name, and the place of its last token
+-- the type of a channel's words, its depth, its name, and the span of its last token
 OfSort made = TypeExpr × Option Arg × Ident × Span
 -- the depth of a channel, which may be left out
 OfSort depth = Option Arg
@@ -105,7 +105,7 @@ OfSort pattern = Pattern
 OfSort patterns = List Pattern
 -- a pattern that begins with the name
 OfSort named_pattern = Ident → Pattern
--- an expression, with its place
+-- an expression, with its span
 OfSort operand = Operand
 OfSort operands = List Operand
 OfSort operator = Binary

@@ -33,7 +33,7 @@ pub enum Rule {
 pub enum CommonAction {
     /// So many tokens say nothing.
     Skip(usize),
-    /// Of so many tokens only the place of the last one matters.
+    /// Of so many tokens only the span of the last one matters.
     LastMark(usize),
     /// A list ends, and so far has no element.
     Start,

@@ -640,7 +640,7 @@ fn listed(production: u16) -> Rule
     rule_at(&RULES, usize::from(production))
 }
 
-/// What the rule at that place does; nothing is done where there is none.
+/// What the rule at that index does; nothing is done where there is none.
 fn rule_at(rules: &[(u16, Rule)], at: usize) -> Rule
     ensures { result ≡ entry_at rules.now at }
 {
@@ -650,7 +650,7 @@ fn rule_at(rules: &[(u16, Rule)], at: usize) -> Rule
     }
 }
 
-/// These are the rules of the definition, and each name there stands for the place of its rule.
+/// These are the rules of the definition, and each name there stands for the index of its rule.
 pub fn rules_are_those_of_the_table()
     ensures same { RULES ≡ table }
     ensures in_order { AreInOrder (map (λ entry. entry.0) table) }

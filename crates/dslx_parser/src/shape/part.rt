@@ -13,7 +13,7 @@ pub enum Part<'a> {
     Tail(&'a str),
     /// A number directly behind the word before.
     Digits(u128),
-    /// A place, which is a word where places are wanted.
+    /// A span, which is a word where spans are wanted.
     Place(Span),
     Type(&'a TypeExpr),
     Pattern(&'a Pattern),

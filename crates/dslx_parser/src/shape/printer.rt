@@ -16,7 +16,7 @@ pub fn shape(alloc: Global, module: &Module) -> Result<String, AllocError> {
     printed(alloc, module, false)
 }
 
-/// The shape of a tree, with places.
+/// The shape of a tree, with spans.
 pub fn spanned_shape(alloc: Global, module: &Module) -> Result<String, AllocError> {
     printed(alloc, module, true)
 }

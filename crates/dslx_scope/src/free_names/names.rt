@@ -6,7 +6,7 @@ use base::texts::Name;
 use std::alloc::{AllocError, Global};
 use std::marker::Model;
 
-/// Names that are bound at a place. Contracts see the list, the last name first.
+/// Names that are bound in a scope. Contracts see the list, the last name first.
 #[derive(Drop)]
 pub(crate) struct Names<'a> {
     names: Vec<&'a Name>,

@@ -8,7 +8,7 @@ use dslx_core::lowering::BoundSlot;
 use std::alloc::{AllocError, Global};
 use std::marker::Model;
 
-/// The names that are bound at a place. Contracts see the list, the last name first.
+/// The names that are bound in a scope. Contracts see the list, the last name first.
 pub struct Locals {
     slots: Vec<BoundSlot>,
 }

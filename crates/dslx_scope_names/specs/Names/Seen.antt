@@ -1,2 +1,2 @@
--- A place in a body, as the crate below defines it, passed on.
+-- A scope in a body, as the crate below defines it, passed on.
 pub use Rattle.dslx_scope_names.specs.Values.Seen.{scope_with}

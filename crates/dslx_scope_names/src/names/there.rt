@@ -1,4 +1,4 @@
-//! What a name or a number stands for at a place.
+//! What a name or a number stands for in a scope.
 
 ghost use Rattle.std.specs.Prelude.{◌≡◌, ℕ, IfOk};
 ghost use Rattle.dslx_meaning.specs.Environment.{given_in};
@@ -29,7 +29,7 @@ pub fn name_there<'a>(
     value_named(alloc, context.text, bound, name)
 }
 
-/// The value of a number that has a type, whatever calls come to there and however many values are bound.
+/// The value of a number that has a type, whatever calls are lowered to there and however many values are bound.
 pub fn number_there<'a>(
     alloc: Global,
     context: ScopeEnv<'a>,

@@ -7,7 +7,7 @@ use dslx_tree::Module;
 use dslx_values::copy_value;
 use std::alloc::{AllocError, Global};
 
-/// What is in sight at a place: a text, the parametrics, the last one last, and the names that are bound there.
+/// A scope: a text, the parametrics, the last one last, and the names that are bound in it.
 #[derive(Clone, Copy)]
 pub struct ScopeEnv<'a> {
     pub text: &'a Module,

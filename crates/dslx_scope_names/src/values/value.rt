@@ -68,7 +68,7 @@ pub fn bound_there<'a>(
     )
 }
 
-/// What a written type becomes, whatever calls come to there and however many values are bound.
+/// What a written type is lowered to, whatever calls are lowered to there and however many values are bound.
 pub fn type_there<'a>(
     alloc: Global,
     context: ScopeEnv<'a>,

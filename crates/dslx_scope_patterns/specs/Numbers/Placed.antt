@@ -1,4 +1,4 @@
--- The arguments of an instance: their types, and the place where they are bound.
+-- The arguments of an instance: their types, and the scope where they are bound.
 use Rattle.std.specs.Prelude.{ℕ, suc, List, [], ◌∷◌, Option, Some, None, map, reverse, if◌then◌else◌}
 use Rattle.std.specs.Option.{option_map}
 use Rattle.dslx_tree.specs.declared.item.Module.{Module}
@@ -14,11 +14,11 @@ use Rattle.dslx_core.specs.Lowering.Functions.{argument_types, arguments_in_scop
 use Rattle.dslx_core.specs.Machines.Machine.Callees.{CalleesByName}
 use Rattle.dslx_scope_patterns.specs.declared.parametric_args.arguments.Arguments.{Arguments}
 
--- what is known where these parametrics are bound, the last one last
+-- the environment of a body where these parametrics are bound, the last one last
 abbrev pub globals_with : CalleesByName → Module → List Binding → BodyEnv
 globals_with callee m parametric_args = record { items = meanings_of m; parametric_args = reverse (map given parametric_args); callee = callee }
 
--- the types of arguments, and the place where they are bound
+-- the types of arguments, and the scope where they are bound
 abbrev pub arguments_of : BodyEnv → List Field → Option (List DslxType × CoreScope)
 arguments_of known fields = and_then (argument_types known fields) (λ ts. and_then (arguments_in_scope fields ts (outer_scope known)) (λ place. Some (ts, place)))
 

@@ -1,4 +1,4 @@
--- Places behind names that patterns bind.
+-- Scopes behind names that patterns bind.
 use Rattle.std.specs.Prelude.{ℕ, List, ◌++◌, Option, Some, None, map, reverse}
 use Rattle.dslx_meaning.specs.Items.{meanings_of}
 use Rattle.dslx_meaning.specs.Lists.{and_then}
@@ -19,7 +19,7 @@ use Rattle.dslx_scope_patterns.specs.declared.patterns.there.Shaped.{Shaped}
 abbrev pub behind : List BoundSlot → ℕ → CoreScope → CoreScope
 behind names count place = record { known = place.known; locals = names ++ place.locals; count = count }
 
--- a shape, where there is one, and the place behind it
+-- a shape, where there is one, and the scope behind it
 abbrev pub shaped_to : Option Shape → CoreScope → Option LoweredShape
 shaped_to o place = and_then o (λ s. shaped s place)
 
@@ -27,17 +27,17 @@ shaped_to o place = and_then o (λ s. shaped s place)
 abbrev pub parts_to : Option (List Shape) → CoreScope → Option LoweredShapes
 parts_to o place = and_then o (λ shapes. Some (record { shapes = shapes; place = place }))
 
--- what comes of a pattern at a place
+-- what a pattern is lowered to in a scope
 abbrev pub shown_behind : Option Shaped → CoreScope → Option LoweredShape
 shown_behind o place = and_then o (λ s. shaped s.shape (behind s.fresh s.count place))
 
 -- ---- within a pattern
 
--- the place of the whole pattern; what calls come to doesn't matter
+-- the scope of the whole pattern; what calls are lowered to doesn't matter
 abbrev pub outer_scope : Outer → CoreScope
 outer_scope o = scope_with (λ name parametric_args types. None) o.count o.context
 
--- the place behind what is bound so far
+-- the scope behind what is bound so far
 abbrev pub fresh_scope : Outer → Fresh → CoreScope
 fresh_scope o f = behind f.names f.count (outer_scope o)
 

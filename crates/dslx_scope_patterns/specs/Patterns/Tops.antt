@@ -1,4 +1,4 @@
--- What a pattern becomes, by what stands at its top.
+-- What a pattern is lowered to, by what stands at its top.
 use Rattle.std.specs.Prelude.{ℕ, List, [], ◌∷◌, map, Option, Some}
 use Rattle.dslx_tree.specs.declared.block.Stmt.TheOpen.{Shape-F}
 use Rattle.dslx_meaning.specs.Lists.{and_then, where_true}

@@ -20,7 +20,7 @@ use dslx_values::{copy_name, copy_type};
 use std::alloc::{AllocError, Global};
 use xb_value::Seq;
 
-/// The arguments of an instance: their types, and the place where they alone are bound.
+/// The arguments of an instance: their types, and the scope where they alone are bound.
 #[derive(Drop)]
 pub struct Arguments {
     pub types: Seq<DslxType>,
@@ -29,8 +29,8 @@ pub struct Arguments {
     pub count: u64,
 }
 
-/// The arguments of a function where its parametrics are bound, the last one last, whatever calls come to there; `None` where
-/// a type has no meaning, and where an argument has a constant's name.
+/// The arguments of a function where its parametrics are bound, the last one last, whatever calls are lowered to there; `None` where
+/// a type denotes nothing, and where an argument has a constant's name.
 pub fn arguments_there<'a>(
     alloc: Global,
     text: &'a Module,
@@ -69,7 +69,7 @@ fn argument_types<'a>(
     Ok(Some(Seq::from_vec(types)))
 }
 
-/// The arguments of these types at the place where they alone are bound.
+/// The arguments of these types in the scope where they alone are bound.
 fn scope_arguments(
     alloc: Global,
     text: &Module,

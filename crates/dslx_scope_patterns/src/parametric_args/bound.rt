@@ -10,7 +10,7 @@ use dslx_tree::Parametric;
 use dslx_values::copy_value;
 use std::alloc::{AllocError, Global};
 
-/// The parameters with copies of their values, as many as there are of both.
+/// The parametrics with copies of their values, as many as there are of both.
 pub fn bindings_of<'a>(
     alloc: Global,
     parametrics: &'a [Parametric],
@@ -28,7 +28,7 @@ pub fn bindings_of<'a>(
     Ok(bound)
 }
 
-/// The place where these alone are bound.
+/// The scope where these alone are bound.
 pub fn scope_of<'a>(
     alloc: Global,
     parametrics: &'a [Parametric],

@@ -16,7 +16,7 @@ use dslx_tree::{Module, Parametric, TypeExpr};
 use dslx_values::inference::{Inference, inferred_for};
 use std::alloc::{AllocError, Global};
 
-/// The number that operands infer, or else the default of the parameter, where those before it are bound.
+/// The number that operands infer, or else the default of the parametric, where those before it are bound.
 pub(crate) fn find_number<'a>(
     alloc: Global,
     text: &'a Module,

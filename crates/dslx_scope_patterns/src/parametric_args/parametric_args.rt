@@ -34,7 +34,7 @@ pub fn parametric_args_of<'a>(
     )
 }
 
-/// All numbers of these parameters, from those that are given; `None` as for a call's. There are no operands that infer any.
+/// The values of all these parametrics, from those that are given; `None` as for a call's. There are no operands that infer any.
 pub fn all_parametric_args<'a>(
     alloc: Global,
     text: &'a Module,
@@ -47,7 +47,7 @@ pub fn all_parametric_args<'a>(
     complete(alloc, text, parametrics, inferences.as_slice(), given)
 }
 
-/// The numbers that are given, and behind them those of the parameters that are left.
+/// The values that are given, and behind them those of the parametrics that are left.
 fn complete<'a>(
     alloc: Global,
     text: &'a Module,

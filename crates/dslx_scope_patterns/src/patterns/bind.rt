@@ -15,7 +15,7 @@ use dslx_scope_names::names::ScopeEnv;
 use dslx_tree::{For, Module, Pattern};
 use std::alloc::{AllocError, Global};
 
-/// What is known in all of a body: a text, and the parametrics, the last one last.
+/// What is in scope in all of a body: a text, and the parametrics, the last one last.
 #[derive(Clone, Copy)]
 pub struct BodyScope<'a> {
     pub text: &'a Module,
@@ -37,7 +37,7 @@ pub struct BoundTurn {
     pub count: u64,
 }
 
-/// What a pattern becomes where so many values are bound, if anything; its names are bound then.
+/// What a pattern is lowered to where so many values are bound, if anything; its names are bound then.
 pub fn bind_there<'a>(
     alloc: Global,
     known: BodyScope<'a>,
@@ -65,7 +65,7 @@ pub fn bind_there<'a>(
     }
 }
 
-/// What the patterns of a turn become against an index and what is accumulated, one behind the other; their names are bound then.
+/// What the patterns of a turn are lowered to against an index and what is accumulated, one behind the other; their names are bound then.
 pub fn turn_there<'a>(
     alloc: Global,
     known: BodyScope<'a>,

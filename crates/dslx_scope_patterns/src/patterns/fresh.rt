@@ -9,7 +9,7 @@ use dslx_scope::locals::Locals;
 use dslx_scope_names::names::ScopeEnv;
 use std::alloc::{AllocError, Global};
 
-/// The place of a whole pattern, where its numbers are evaluated: what is in sight, and how many values are bound.
+/// The scope of a whole pattern, in which its numbers are evaluated: what names are visible, and how many values are bound.
 #[derive(Clone, Copy)]
 pub(crate) struct Outer<'a> {
     pub context: ScopeEnv<'a>,

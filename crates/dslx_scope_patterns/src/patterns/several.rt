@@ -14,7 +14,7 @@ use dslx_tree::Pattern;
 use std::alloc::{AllocError, Global};
 use xb_value::Seq;
 
-/// What the alternatives of an arm become, each at the same place, if all become something.
+/// What the alternatives of an arm are lowered to, each in the same scope, if all have a lowering.
 pub fn alternatives_there<'a>(
     alloc: Global,
     context: ScopeEnv<'a>,

@@ -1,4 +1,4 @@
-//! What a pattern becomes behind the names that it binds so far.
+//! What a pattern is lowered to behind the names that it binds so far.
 
 ghost use Rattle.std.specs.Prelude.{◌≡◌, Some, map, IfOk};
 ghost use Rattle.dslx_tree.specs.declared.pattern.Shape.{out-Shape};
@@ -22,7 +22,7 @@ use dslx_values::{bool_value, copy_name, copy_type};
 use std::alloc::{AllocError, Global};
 use xb_value::Seq;
 
-/// What a pattern becomes against values of the type, if anything; its names are bound behind those that are fresh.
+/// What a pattern is lowered to against values of the type, if anything; its names are bound behind those that are fresh.
 #[cycle(shapes)]
 #[tactic(auto, using(crate::proofs::OnPatterns::Opened::by_top))]
 pub(crate) fn pattern_shape<'a>(
@@ -65,7 +65,7 @@ fn bool_shape(alloc: Global, holds: bool, ty: &DslxType) -> Result<Option<Shape>
     value_shape(alloc, Some(bool_value(holds)), ty)
 }
 
-/// A number is evaluated at the place of the whole pattern.
+/// A number is evaluated in the scope of the whole pattern.
 fn number_shape<'a>(
     alloc: Global,
     outer: Outer<'a>,

@@ -1,4 +1,4 @@
-//! What a pattern becomes at a place.
+//! What a pattern is lowered to in a scope.
 
 ghost use Rattle.std.specs.Prelude.{◌≡◌, IfOk};
 ghost use Rattle.dslx_core.specs.Machines.Machine.Arms.{shaped_at};
@@ -23,9 +23,9 @@ pub struct Shaped {
     pub count: u64,
 }
 
-/// What a pattern becomes against values of the type where so many values are bound, if anything, whatever calls come to there.
+/// What a pattern is lowered to against values of the type where so many values are bound, if anything, whatever calls resolve to there.
 ///
-/// A constant is evaluated where its name stands, a number at the place of the whole pattern.
+/// A constant is evaluated in the scope at its name, a number in that of the whole pattern.
 pub fn shape_there<'a>(
     alloc: Global,
     context: ScopeEnv<'a>,

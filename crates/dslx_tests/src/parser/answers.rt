@@ -11,7 +11,7 @@ pub struct Frame<'a> {
     pub behind: &'a str,
     pub shape_before: &'a str,
     pub shape_behind: &'a str,
-    /// Whether shapes have places.
+    /// Whether shapes have spans.
     pub has_spans: bool,
 }
 
@@ -56,7 +56,7 @@ fn odd_answer(alloc: Global, text: &str, shape: &str, frame: &Frame<'_>) -> Resu
     }
 }
 
-/// The shape of the text's tree, with the places of its parts where they are wanted, or its refusal.
+/// The shape of the text's tree, with the spans of its parts where they are wanted, or its refusal.
 pub fn answer(alloc: Global, text: &str, has_spans: bool) -> Result<String, Fail> {
     if text.len() >= 4_294_967_296 {
         return Err(Fail::from("long"));

@@ -28,7 +28,7 @@ const A = #match x { _ => #1# }#;
 const A = #match #x# {}#;
 ";
 
-/// The same, and one more at the deepest place.
+/// The same, and one more where it is deepest.
 const ONE_MORE: &str = "
 const A = match x { #(#a#)# => 1 };
 const A = #if x { 1 } else #{ 1 }##;

@@ -1,4 +1,4 @@
-//! Places. Below each text stands its shape, with the place of each part before it; an expression that is a block has its place
+//! Spans. Below each text stands its shape, with the span of each part before it; an expression that is a block has its span
 //! twice.
 
 use crate::parser::answers::{Frame, first_odd};

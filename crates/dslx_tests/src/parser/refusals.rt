@@ -1,4 +1,4 @@
-//! Refusals. Below each text stands what is answered, with the place of the first token with which no text goes on.
+//! Refusals. Below each text stands what is answered, with the position of the first token with which no text goes on.
 
 use crate::parser::answers::{WHOLE, first_odd};
 use std::test::Fail;

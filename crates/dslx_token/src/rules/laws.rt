@@ -10,7 +10,7 @@ ghost use Rattle.dslx_token.specs.Rules.Rules.{kinds, named_rules, nonterminals}
 use crate::rules::reader::grammar;
 
 /// Different kinds of token have different numbers, and so have the nonterminals; the start is number 0. The
-/// name of a production stands for the place of its rule.
+/// name of a production stands for the index of its rule.
 pub fn names()
     ensures kinds { AreInOrder kinds }
     ensures nonterminals { AreInOrder nonterminals }
@@ -24,7 +24,7 @@ pub fn one_derivation()
     grammar::one_derivation(&grammar());
 }
 
-/// One list of productions leads to a front.
+/// At most one list of productions leads to a prefix.
 pub fn one_beginning()
     ensures { (ps qs ts : List ℕ) → IsBeginning dslx ps ts → IsBeginning dslx qs ts → ps ≡ qs }
 {

@@ -1,4 +1,4 @@
--- Instances of procs whose `config` becomes something, and the top proc.
+-- Instances of procs whose `config` is lowered, and the top proc.
 use Rattle.std.specs.Prelude.{◌≡◌, ℕ, List, Option, Some}
 use Rattle.dslx_tree.specs.declared.item.Module.{Module}
 use Rattle.dslx_tree.specs.declared.process.Proc.{Proc}
@@ -11,14 +11,14 @@ use Rattle.dslx_core.specs.Networks.Assembly.{lower_outers}
 use Rattle.dslx_total.specs.Configs.ReachedProcs.{IsReachedProc}
 use Rattle.dslx_total.specs.Configs.Spawned.{EachSpawn, HasItsInstance, SpawnsReached}
 
--- each of its spawns comes to an instance that is checked, and wherever all of these are at hand, its `config` becomes channels,
+-- each of its spawns is of an instance that is checked, and wherever all of these are at hand, its `config` is lowered to channels,
 -- children and members
 pub record ConfigLowers (m : Module) (items : Meanings) (top : Option (List ℕ)) (p : Proc) (parametric_args : List DslxValue) : Type 0 where
   pub spawns : EachSpawn (SpawnsReached m items top (config_scope items p parametric_args)) p.config.config_statements
   pub becomes : (procs : List ProcInstance) → EachSpawn (HasItsInstance m items (config_scope items p parametric_args) procs) p.config.config_statements → (config : LoweredConfig) × (lower_config m items procs p parametric_args ≡ Some config)
 
--- the instance of the top proc, whose parametric arguments are its defaults, is checked, and the ends of its `config` become the outer
--- channels
+-- the instance of the top proc, whose parametric arguments are its defaults, is checked, and the ends of its `config` are lowered to the
+-- outer channels
 pub record TopLowers (m : Module) (items : Meanings) (top : Option (List ℕ)) (p : Proc) : Type 0 where
   pub checked : IsReachedProc m items top p (top_parametric_args items p)
   pub outer : List Outer

@@ -13,7 +13,7 @@ use Rattle.dslx_core.specs.Networks.Configs.{ProcInstance}
 use Rattle.dslx_core.specs.Networks.Assembly.{IsDesignFrom, instances_alone}
 use Rattle.dslx_core.specs.Networks.Procs.{procs_from}
 
--- instances in an order in which each spawns those before it, and what they become where these functions are at hand. The last one is
+-- instances in an order in which each spawns those before it, and what they are lowered to where these functions are at hand. The last one is
 -- this proc's with its defaults
 pub record ProcsHaveTable (m : Module) (top : Option (List ℕ)) (functions : List CoreInstance) (p : Proc) : Type 0 where
   pub instances : List Instantiated
@@ -25,7 +25,7 @@ pub record ProcsHaveTable (m : Module) (top : Option (List ℕ)) (functions : Li
   pub of_parametric_args : last.parametric_args ≡ top_parametric_args (meanings_of m) p
   pub few : length table ≤ length (instances_of m top)
 
--- a checked text that is made of its instances, and that stands for it
+-- a checked text that is made of its instances, and that simulates it
 pub record HasDesign (m : Module) (top : Option (List ℕ)) : Type 0 where
   pub design : Design
   pub made : IsDesignFrom m top design

@@ -1,4 +1,4 @@
--- The place where something is lowered, beside the type environment where it is judged.
+-- The scope where something is lowered, which matches the type environment where it is typed.
 use Rattle.std.specs.Prelude.{◌≡◌, ℕ, nat_lt, List, [], ◌∷◌, map, Bool, true, Some}
 use Rattle.std.specs.List.{list_all}
 use Rattle.dslx_tree.specs.declared.item.Field.{Field}
@@ -24,14 +24,14 @@ AreDeclaredFor known owner parametric_args (f ∷ fs) (t ∷ ts) = ((u : DslxTyp
 AreDeclaredFor known owner parametric_args [] (t ∷ ts) = ⊥
 AreDeclaredFor known owner parametric_args (f ∷ fs) [] = ⊥
 
--- what a call comes to: a function, and the type that is declared for its result
+-- the callee of a call: a function, and the type that is declared for its result
 pub record HasCallee (known : GlobalEnv) (core : BodyEnv) (name : List ℕ) (f : Function) (given parametric_args : List DslxValue) (types : List DslxType) : Type 0 where
   pub callee : CoreCallee
   pub is : core.callee name given types ≡ Some callee
   pub result : result_type known f.name.name (known_before (parametric_args_bound [] f.parametrics parametric_args)) f.result ≡ Some callee.result
 
--- calls of these instances, whose parametrics have values of their own types, with operands of the types of the arguments, are
--- known
+-- calls of these instances, whose parametrics have values of their own types, with operands of the types of the arguments, have
+-- a callee
 abbrev pub CallsAreKnown : (Instance → Bool) → GlobalEnv → BodyEnv → Type 0
 CallsAreKnown here known core = (name : List ℕ) (f : Function) (given parametric_args : List DslxValue) (types : List DslxType)
     → as_function (item_named name known.whole.items) ≡ Some f → all_parametric_args known.items (inferred_from f.arguments types) [] f.parametrics given ≡ Some parametric_args
@@ -60,14 +60,14 @@ NamesHaveWidths known = (name : List ℕ) (t : DslxType) → known.items.type_na
 abbrev pub ConstantsAreDeclared : GlobalEnv → Type 0
 ConstantsAreDeclared known = (name : List ℕ) (v : DslxValue) → known.items.constant name ≡ Some v → IsDeclared known.items.type_named (type_of_value v)
 
--- ---- places
+-- ---- scopes
 
 -- the names that are bound, with their types
 abbrev pub typed_slots : List BoundSlot → List Typed
 typed_slots ls = map (λ (l : BoundSlot). record { name = l.name; ty = Some l.ty }) ls
 
--- the place stands beside the type environment: items and parametrics mean the same, the same names are bound with the same types,
--- and calls of these instances, with which nothing is wrong, are known
+-- the scope matches the type environment: items and parametrics have the same denotations, the same names are bound with the same types,
+-- and calls of these instances, which are well-typed, have a callee
 pub record ScopeMatchesEnv (here : Instance → Bool) (context : TypeEnv) (place : CoreScope) : Type 0 where
   pub items : place.known.items ≡ context.known.items
   pub parametric_args : place.known.parametric_args ≡ context.parametric_args

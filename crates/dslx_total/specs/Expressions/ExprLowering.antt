@@ -1,6 +1,6 @@
--- Parts of a text that become something wherever nothing is wrong with them: what they become has the type that they have.
+-- Parts of a text that are lowered wherever they are well-typed: what they are lowered to has the type that they have.
 --
--- Each claim is an equation of what is lowered and what is judged. That a part has a type where nothing is wrong with it is a law
+-- Each claim is an equation between what a part is lowered to and its typing. That a part has a type where it is well-typed is a law
 -- of its own, of `dslx_typing::sound`.
 use Rattle.std.specs.Prelude.{◌≡◌, ℕ, nat_le, List, [], Bool, true, false, Option, Some, None, option_map}
 use Rattle.std.specs.List.{list_all}
@@ -34,18 +34,18 @@ type_of_lowered (Some e) = Some e.ty
 abbrev pub reaching : GlobalEnv → (Instance → Bool) → GlobalEnv
 reaching known here = record known { is_sound = here }
 
--- an expression, a block or a loop: where nothing is wrong with it, what it becomes has its type
+-- an expression, a block or a loop: where it is well-typed, what it is lowered to has its type
 abbrev pub PartLowers : TypeExprTyping → ExprLowering → Type 0
 PartLowers j l = (here : Instance → Bool) (context : TypeEnv) (env : Env) (place : CoreScope) → IsWellTypedEnv context env → ScopeMatchesEnv here context place → IsWellTypedPart (reaching context.known here) (j context)
     → type_of_lowered (l place) ≡ (j context).ty
 
--- it becomes something, of the type that it has
+-- it is lowered to an expression of the type that it has
 pub record LowersAsTyped (j : Judgement) (o : Option LoweredExpr) : Type 0 where
   pub expr : LoweredExpr
   pub is : o ≡ Some expr
   pub typed : j.ty ≡ Some expr.ty
 
--- in each place that stands beside the type environment, where nothing is wrong with it
+-- in each scope that matches the type environment, where it is well-typed
 abbrev pub LowersWhereWellTyped : TypeExprTyping → ExprLowering → Type 0
 LowersWhereWellTyped j l = (here : Instance → Bool) (context : TypeEnv) (env : Env) (place : CoreScope) → IsWellTypedEnv context env → ScopeMatchesEnv here context place → IsWellTypedPart (reaching context.known here) (j context)
     → LowersAsTyped (j context) (l place)
@@ -57,7 +57,7 @@ KeepsLimits faults ty = faults ≡ [] → (t : DslxType) → ty ≡ Some t → n
 abbrev pub IsLimited : TypeExprTyping → Type 0
 IsLimited j = (context : TypeEnv) → KeepsLimits (j context).faults (j context).ty
 
--- an expression that has a value of its type, and becomes something of this type
+-- an expression that has a value of its type, and is lowered to an expression of this type
 pub record ExprLowers (e : ExprPair) (l : ExprLowering) : Type 0 where
   pub meaning : ExprDen
   pub gives : ExprGives e meaning
@@ -75,7 +75,7 @@ TypeLowers j l = (here : Instance → Bool) (context : TypeEnv) (env : Env) (pla
 abbrev pub IsWide : TypeExprTyping → Type 0
 IsWide j = (context : TypeEnv) → NamesHaveWidths context.known → (t : DslxType) → (j context).ty ≡ Some t → has_widths t ≡ true
 
--- it becomes the type that it is judged to be
+-- it is lowered to the type that its judgement has
 pub record TypeLowersAsTyped (j : Judgement) (o : Option DslxType) : Type 0 where
   pub ty : DslxType
   pub is : o ≡ Some ty
@@ -103,13 +103,13 @@ pub record IsClean (here : Instance → Bool) (named : List Fault) (found : List
   pub faults : named ≡ []
   pub reached : list_all here found ≡ true
 
--- a pattern becomes a shape, and the place behind it stands beside the type environment behind it
+-- a pattern is lowered to a shape, and the scope behind it matches the type environment behind it
 pub record ShapeExists (here : Instance → Bool) (context : TypeEnv) (o : Option LoweredShape) : Type 0 where
   pub shape : LoweredShape
   pub is : o ≡ Some shape
   pub behind : ScopeMatchesEnv here context shape.place
 
--- a pattern, in a pattern that stands at an outer place, behind what is bound so far
+-- a pattern, within a pattern that stands in an outer scope, behind what is bound so far
 pub record PatternLowers (p : PatternTyping) (l : PatternLowering) : Type 0 where
   pub lowers : (here : Instance → Bool) (may_fail : Bool) (context : TypeEnv) (t : DslxType) (names : List (List ℕ)) (locals : List Typed) (env : Env) (outer place : CoreScope)
       → IsWellTypedEnv context env → ScopeMatchesEnv here context outer → ScopeMatchesEnv here (with_typed context locals) place → IsDeclared (types_at context) t

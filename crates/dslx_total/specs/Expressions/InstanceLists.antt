@@ -1,4 +1,4 @@
--- Instances in an order in which each reaches those before it alone, and what they become.
+-- Instances in an order in which each reaches those before it alone, and what they are lowered to.
 use Rattle.std.specs.Prelude.{◌≡◌, ◌&&◌, ◌++◌, ℕ, List, [], ◌∷◌, Bool, true, Some, length}
 use Rattle.std.specs.List.{list_any}
 use Rattle.std.specs.Str.{bytes_eq}
@@ -22,17 +22,17 @@ use Rattle.dslx_total.specs.Expressions.ExprLowering.{IsClean}
 abbrev pub is_among : List Instantiated → Instance → Bool
 is_among is i = list_any (λ (j : Instantiated). bytes_eq i.name j.name && pairwise equal_value i.parametric_args j.parametric_args) is
 
--- each type is known to be what it is judged to be, in the text of this item
+-- each written type denotes the type that its typing has, in the text of this item
 abbrev pub AreAsTyped : GlobalEnv → List ℕ → List Field → Type 0
 AreAsTyped known owner [] = Unit {0}
 AreAsTyped known owner (f ∷ fs) = ((bound : List Given) → known.type_in owner bound [] f.ty ≡ (typing_of_type (item_type_env known owner bound) f.ty).ty) × AreAsTyped known owner fs
 
--- the types of a function's arguments and of its result are known to be what they are judged to be in its text
+-- the types of a function's arguments and of its result denote what their typings have, in its text
 pub record TypesAreAsTyped (known : GlobalEnv) (f : Function) : Type 0 where
   pub arguments : AreAsTyped known f.name.name f.arguments
   pub result : (bound : List Given) → result_type known f.name.name (known_before bound) f.result ≡ (result_typing (item_type_env known f.name.name bound) f.result).ty
 
--- what is known of the items, for what is lowered
+-- what must hold of the global environment, for what is lowered
 pub record CanLower (known : GlobalEnv) : Type 0 where
   pub complete : IsComplete known
   pub typed : AreTyped known
@@ -43,7 +43,7 @@ pub record CanLower (known : GlobalEnv) : Type 0 where
 abbrev pub AreThere : (Instance → Bool) → GlobalEnv → List Instantiated → Type 0
 AreThere here known is = (i : Instance) (f : Function) → as_function (item_named i.name known.whole.items) ≡ Some f → AllOwn known.items.type_named i.parametric_args → here i ≡ true → is_among is i ≡ true
 
--- an instance of a function with which nothing is wrong, and what it reaches: sound instances, which stand before it
+-- a well-typed instance of a function, and what it reaches: sound instances, which stand before it
 pub record ReachesThese (known : GlobalEnv) (before : List Instantiated) (i : Instantiated) : Type 0 where
   pub function : Function
   pub is : as_function (item_named i.name known.whole.items) ≡ Some function
@@ -57,7 +57,7 @@ abbrev pub EachReachesThoseBefore : GlobalEnv → List Instantiated → List Ins
 EachReachesThoseBefore known before [] = Unit {0}
 EachReachesThoseBefore known before (i ∷ is) = ReachesThese known before i × EachReachesThoseBefore known (before ++ i ∷ []) is
 
--- what instances become: a table, one for each, and where it is at hand, calls of those that stand in the list are known
+-- what instances are lowered to: a table, one for each, and where it is at hand, calls of those that stand in the list have a callee
 pub record HaveTable (known : GlobalEnv) (is : List Instantiated) : Type 0 where
   pub table : List CoreInstance
   pub lowered : instances_from known.whole known.items [] is ≡ Some table

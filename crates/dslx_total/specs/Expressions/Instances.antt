@@ -1,4 +1,4 @@
--- Instances of functions that become something.
+-- Instances of functions that are lowered.
 use Rattle.std.specs.Prelude.{◌≡◌, List, map, true, not, Option, Some}
 use Rattle.dslx_meaning.specs.Types.{is_unit}
 use Rattle.std.specs.List.{list_all}
@@ -9,7 +9,7 @@ use Rattle.dslx_meaning.specs.Rules.ItemRules.{function_type_env, typing_of_inne
 use Rattle.dslx_meaning.specs.Rules.TypeEnvs.{GlobalEnv}
 use Rattle.dslx_core.specs.Lowering.Functions.{LoweredFunction}
 
--- an instance becomes a function of the types that are declared for its arguments, none of which is (), and for its result
+-- an instance is lowered to a function of the types that are declared for its arguments, none of which is (), and for its result
 pub record InstanceLowers (known : GlobalEnv) (f : Function) (parametric_args : List DslxValue) (o : Option LoweredFunction) : Type 0 where
   pub function : LoweredFunction
   pub is : o ≡ Some function

@@ -1,4 +1,4 @@
--- The `next` of an instance of a proc that becomes something.
+-- The lowered `next` of an instance of a proc.
 use Rattle.std.specs.Prelude.{◌≡◌, List, map, Option, Some}
 use Rattle.dslx_tree.specs.declared.process.Proc.{Proc}
 use Rattle.dslx_meaning.specs.declared.value.DslxValue.{DslxValue}
@@ -11,7 +11,7 @@ use Rattle.dslx_core.specs.Lowering.Steps.{LoweredNext}
 abbrev pub members_type_env : GlobalEnv → Proc → List DslxValue → TypeEnv
 members_type_env known p parametric_args = let context = proc_type_env known p parametric_args in record context { members = map (channel_end_of context) p.members }
 
--- it becomes steps and a next state, of the type that is declared for its state
+-- it is lowered to steps and a next state, of the type that is declared for its state
 pub record NextLowersAsTyped (known : GlobalEnv) (p : Proc) (parametric_args : List DslxValue) (o : Option LoweredNext) : Type 0 where
   pub next : LoweredNext
   pub is : o ≡ Some next

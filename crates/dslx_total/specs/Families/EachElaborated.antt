@@ -1,4 +1,4 @@
--- What is so of each proc of a network, and what the `next` of a proc becomes.
+-- What is so of each proc of a network, and what the `next` of a proc is lowered to.
 use Rattle.std.specs.Prelude.{◌≡◌, List, [], ◌∷◌, Some, true}
 use Rattle.dslx_tree.specs.declared.item.Module.{Module}
 use Rattle.dslx_tree.specs.declared.process.Proc.{Proc}
@@ -15,7 +15,7 @@ abbrev pub EachElaborated : (Proc → List DslxValue → Type 0) → List Elabor
 EachElaborated Q [] = Unit {0}
 EachElaborated Q (a ∷ as') = Q a.proc a.parametric_args × EachElaborated Q as'
 
--- its `next` becomes steps and a next state, where these functions are there to be called, and its `init` has a value of the type of
+-- its `next` is lowered to steps and a next state, where these functions are there to be called, and its `init` has a value of the type of
 -- its state
 pub record NextLowers (m : Module) (functions : List CoreInstance) (p : Proc) (parametric_args : List DslxValue) : Type 0 where
   pub next : LoweredNext

@@ -6,8 +6,8 @@ use Rattle.dslx_meaning.specs.Rules.ModuleRules.{instances_of, is_reached, globa
 use Rattle.dslx_core.specs.Lowering.Functions.{Instantiated, instances_from}
 use Rattle.dslx_total.specs.Expressions.InstanceLists.{AreThere, HaveTable}
 
--- instances in an order in which each calls those before it, and what they become by what is known of the items, which is what these
--- mean. Each instance of a function that is checked stands in it, if its parametrics have values of their own types
+-- instances in an order in which each calls those before it, and what they are lowered to by the global environment, and so by what the
+-- items denote. Each instance of a function that is checked stands in it, if its parametrics have values of their own types
 pub record FunctionsHaveTable (m : Module) (top : Option (List ℕ)) : Type 0 where
   pub instances : List Instantiated
   pub known : HaveTable (globals_of m) instances

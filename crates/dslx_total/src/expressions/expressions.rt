@@ -6,8 +6,8 @@ ghost use Rattle.dslx_tree.specs.declared.block.Block.{Block};
 ghost use Rattle.dslx_tree.specs.declared.expr.Expr.{Expr};
 ghost use Rattle.dslx_tree.specs.declared.type_expr.TypeExpr.{TypeExpr};
 
-/// An expression, a block or a written type with which nothing is wrong, where the type environment is well typed: at a place
-/// that stands beside the type environment it becomes something, of the type that it has. All bits in a written type that is known
+/// A well-typed expression, block or written type, where the type environment is well-typed: in a scope that matches
+/// the type environment it is lowered to something of the type that it has. All bits in a written type whose type is known
 /// have a width.
 pub fn lower_total_expression()
     ensures expression { (e : Expr) → LowersWhereWellTyped ((expr_pair e).1 false) (lower_expression e) }

@@ -13,8 +13,8 @@ ghost use Rattle.dslx_tree.specs.declared.item.Function.{Function};
 ghost use Rattle.dslx_core.specs.Typing.Typed.Numbers.{AllOwn};
 ghost use Rattle.dslx_core.specs.Typing.Typed.WellTyped.{IsWellTypedEnv};
 
-/// An instance of a function with whose text nothing is wrong: where its parametrics have values of their own types, and
-/// all instances that it calls are known with the types of their results, it becomes a function of the types that are
+/// An instance of a function whose text is well-typed: where its parametrics have values of their own types, and calls of
+/// all instances that it reaches have a callee with the type of the result, it is lowered to a function of the types that are
 /// declared for its arguments and its result.
 pub fn lower_total_instance()
     ensures { (here : Instance → Bool) (known : GlobalEnv) (f : Function) (parametric_args : List DslxValue) (core : BodyEnv) → AllOwn known.items.type_named parametric_args
@@ -24,8 +24,8 @@ pub fn lower_total_instance()
         → InstanceLowers known f parametric_args (lower_instance core f) }
 {}
 
-/// Instances of functions with whose texts nothing is wrong, in an order in which each reaches those before it alone: all of
-/// them become functions, each of which calls those before it, and where this table is at hand calls of them are known.
+/// Instances of functions whose texts are well-typed, in an order in which each reaches those before it alone: all of them
+/// are lowered to functions, each of which calls those before it, and where this table is at hand calls of them have a callee.
 pub fn lower_total_instances()
     ensures { (known : GlobalEnv) → CanLower known → (is : List Instantiated) → EachReachesThoseBefore known [] is → HaveTable known is }
 {}

@@ -19,17 +19,17 @@ ghost use Rattle.dslx_core.specs.Typing.Typed.Complete.{IsWellTypedPart};
 ghost use Rattle.dslx_core.specs.Typing.Typed.Numbers.{AllOwn};
 ghost use Rattle.dslx_core.specs.Typing.Typed.WellTyped.{IsWellTypedEnv, types_at};
 
-/// The block of `next`, in which effects may stand, with which nothing is wrong, where each member in sight is an end of the
-/// proc whose words a channel holds: it becomes steps, and the next state has the type that the block has.
+/// The well-typed block of `next`, in which effects may stand, where each member in scope is an end of the
+/// proc whose words a channel holds: it is lowered to steps, and the next state has the type that the block has.
 pub fn lower_total_next_block()
     ensures { (b : Block) (here : Instance → Bool) (context : TypeEnv) (env : Env) (outer place : CoreScope) (ends : List End)
         → IsWellTypedEnv context env → ScopeMatchesEnv here context place → MembersExist context outer ends → IsWellTypedPart (reaching context.known here) ((block_pair b).1 true context)
         → LowersToSteps (types_at context) ((block_pair b).1 true context) (statements_steps outer ends (out-Block b).statements (out-Block b).value place) }
 {}
 
-/// The `next` of an instance of a proc with whose text outside its `config` nothing is wrong: where its parametrics have
-/// values of their own types, each of its members is an end whose words a channel holds, and all instances that it calls are
-/// known with the types of their results, it becomes steps and a next state of the type that is declared for its state.
+/// The `next` of an instance of a proc whose text outside its `config` is well-typed: where its parametrics have values
+/// of their own types, each of its members is an end whose words a channel holds, and calls of all instances that it reaches have a
+/// callee with the type of the result, it is lowered to steps and a next state of the type that is declared for its state.
 pub fn lower_total_next()
     ensures { (here : Instance → Bool) (known : GlobalEnv) (p : Proc) (parametric_args : List DslxValue) (env : Env) (core : BodyEnv) → AllOwn known.items.type_named parametric_args
         → IsWellTypedEnv (proc_type_env known p parametric_args) env → ScopeMatchesEnv here (proc_type_env known p parametric_args) (outer_scope core) → MembersExist (members_type_env known p parametric_args) (outer_scope core) p.members

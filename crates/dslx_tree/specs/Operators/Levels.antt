@@ -16,7 +16,7 @@ pub record Operands : Type 0 where
   pub first : Operand
   pub links : List Link
 
--- two operands and the operator between them; its place is that of all tokens of both
+-- two operands and the operator between them; its span is that of all tokens of both
 abbrev pub joined : Binary → Operand → Operand → Operand
 joined operator left right =
     let span : Span = record { from = left.span.from; to = right.span.to } in

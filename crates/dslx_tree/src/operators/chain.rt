@@ -6,7 +6,7 @@ use std::alloc::{AllocError, Global};
 use xb_span::Span;
 use xb_value::Boxed;
 
-/// An operand, with the place of all its tokens: parentheses round it are no part of the expression. It is moved at each level of
+/// An operand, with the span of all its tokens: parentheses round it are no part of the expression. It is moved at each level of
 /// operators, so it stands in a box.
 #[derive(Drop)]
 pub struct Operand {

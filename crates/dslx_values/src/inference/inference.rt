@@ -11,7 +11,7 @@ use dslx_meaning::DslxType;
 use dslx_tree::Field;
 use std::alloc::{AllocError, Global};
 
-/// A name, and the number that stands at its place in the type of an operand.
+/// A name, and the number that the type of an operand has at its position.
 #[derive(Drop)]
 pub struct Inference<'a> {
     pub name: &'a Name,

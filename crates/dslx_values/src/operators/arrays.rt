@@ -9,7 +9,7 @@ use std::alloc::{AllocError, Global};
 use xb_bits::Bits;
 use xb_value::Seq;
 
-/// The element of an array at a place, copied: the last one where the place is past the end.
+/// The element of an array at an index, copied: the last one where the index is past the end.
 pub fn index_value(
     alloc: Global,
     value: &DslxValue,
@@ -25,7 +25,7 @@ pub fn index_value(
     }
 }
 
-/// The place that a word is, or the last one of so many where it is past them.
+/// The index that a word is, or the last one of so many where it is past them.
 fn index_of(word: Bits, count: usize) -> u128
     ensures { result ≡ min word.value (pred count) }
 {
@@ -51,7 +51,7 @@ pub fn element_value(
     }
 }
 
-/// The array with another value at a place; past the end it stays as it is.
+/// The array with another value at an index; past the end it stays as it is.
 pub fn update_value(value: DslxValue, index: &DslxValue, new: DslxValue) -> Option<DslxValue>
     ensures { result ≡ the_update value index.now new }
 {
@@ -66,7 +66,7 @@ pub fn update_value(value: DslxValue, index: &DslxValue, new: DslxValue) -> Opti
     }
 }
 
-/// The same of an array, a place and a value, if there are these three.
+/// The same of an array, an index and a value, if there are these three.
 pub fn updated(arguments: Seq<DslxValue>) -> Option<DslxValue>
     ensures { result ≡ the_builtin arguments }
 {

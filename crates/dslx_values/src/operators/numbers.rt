@@ -73,7 +73,7 @@ pub fn turns(from: &SignedWord, to: &SignedWord) -> Option<u128>
     }
 }
 
-/// The place of a word among all of its type, the least one first.
+/// The index of a word among all of its type, the least one first.
 fn rank(x: &SignedWord) -> u128
     ensures rank { result ≡ rank_of x.now }
     ensures is_word { IsWord x.now.word }

@@ -6,7 +6,7 @@ use Rattle.grammar.specs.Syntax.{Rule}
 use Rattle.grammar.specs.Derivation.{IsRule}
 use Rattle.grammar.specs.Tree.{Forest, Grows, IsNode, productions_of, leaves_of}
 
--- A tree stands at this place, and its tokens can be counted.
+-- A tree stands at this index, and its tokens can be counted.
 pub record HasTree (rules : List Rule) (productions : List ℕ) (place : ℕ) : Type 0 where
   pub number : ℕ
   pub head : ℕ
@@ -18,7 +18,7 @@ pub record HasTree (rules : List Rule) (productions : List ℕ) (place : ℕ) : 
   pub here : drop place productions ≡ number ∷ (productions_of below ++ rest)
   pub counted : length (leaves_of below) < 2 ^ 64
 
--- From this place on there is a node for each production.
+-- From this index on there is a node for each production.
 pub record AreNodesFrom (rules : List Rule) (productions : List ℕ) (nodes : List Node) (from : ℕ) : Type 0 where
   pub all : length nodes ≡ length productions
   pub each : (place : ℕ) (n : Node) → from ≤ place → slice_get nodes place ≡ Some n → IsNode rules productions place n

@@ -62,7 +62,7 @@ abbrev pub widths_if : Op → List IrType → List ℕ
 widths_if op.Concat ts = map bits_width ts
 widths_if _ ts = []
 
--- the widths of the parts of a concatenation, the first in the high places
+-- the widths of the parts of a concatenation, the first in the high bits
 abbrev pub parts_in : Option Making → List ℕ
 parts_in None = []
 parts_in (Some m) = widths_if m.op m.types
@@ -116,7 +116,7 @@ abbrev pub is_narrower : Option ℕ → ℕ → Bool
 is_narrower None k = false
 is_narrower (Some p) k = nat_lt p k
 
--- bits from a place on that lie in one part
+-- so many bits from a bit index on lie in one part
 abbrev pub lie_in_one : ℕ → ℕ → List ℕ → Bool
 lie_in_one start w [] = false
 lie_in_one start w (p ∷ ps) = nat_le (sum ps) start && nat_le (start + w) (sum ps + p) || lie_in_one start w ps
@@ -155,7 +155,7 @@ part_pattern (x ∷ y ∷ os) = false
 
 -- ---- the table
 
--- by the operation, its width, the place from which it slices, and its operands
+-- by the operation, its width, the bit index from which it slices, and its operands
 abbrev pub node_pattern : Op → ℕ → ℕ → List Origin → Bool
 node_pattern (op.Binary kind) w start os = binary_pattern kind w os
 node_pattern (op.Compare kind) w start os = compare_pattern kind os

@@ -35,7 +35,7 @@ pub record Reads (ls : List Lexeme) (spanned : Spanned) : Type 0 where
 abbrev pub AreShallow : List Lexeme → Type 0
 AreShallow ls = first_past (bracket_classes_of ls) ≡ None
 
--- This is the place of the first token with which no text of the grammar goes on.
+-- This is the index of the first token with which no text of the grammar goes on.
 abbrev pub LeaveGrammarAt : List Lexeme → ℕ → Type 0
 LeaveGrammarAt ls place = IsFirstFault (IsSentence ir) (kinds_of ls) place
 

@@ -29,7 +29,7 @@ pub fn read_tokens(alloc: Global, tokens: &[Token]) -> Result<Spanned, ReadError
     judged(alloc, tokens, &kinds, deep)
 }
 
-/// [`read_tokens`], with the kinds of the tokens, and the place of the first one that is nested too deep.
+/// [`read_tokens`], with the kinds of the tokens, and the index of the first one that is nested too deep.
 fn judged(
     alloc: Global,
     tokens: &[Token],
@@ -86,7 +86,7 @@ const NESTING: Limit = Limit {
     most: 128,
 };
 
-/// Why tokens are refused with a fault at this place, and perhaps one that is nested too deep.
+/// Why tokens are refused with a fault at this index, and perhaps one that is nested too deep.
 fn refusal(tokens: &[Token], kinds: &[u8], deep: Option<usize>, place: usize) -> ReadError
     requires same { kinds.now ≡ kinds_of tokens.now }
     requires within { place < length kinds.now }
@@ -106,7 +106,7 @@ fn refusal(tokens: &[Token], kinds: &[u8], deep: Option<usize>, place: usize) ->
     }
 }
 
-/// The refusal of tokens with a fault at this place, before which none is nested too deep.
+/// The refusal of tokens with a fault at this index, before which none is nested too deep.
 fn syntax_fault(tokens: &[Token], kinds: &[u8], place: usize) -> ReadError
     requires same { kinds.now ≡ kinds_of tokens.now }
     requires within { place < length kinds.now }
@@ -117,7 +117,7 @@ fn syntax_fault(tokens: &[Token], kinds: &[u8], place: usize) -> ReadError
     ReadError::Syntax(start_of(tokens, place))
 }
 
-/// Where the token at a place begins.
+/// Where the token at an index begins.
 fn start_of(tokens: &[Token], place: usize) -> u32
     requires { place < length tokens.now }
     ensures { IfSome (slice_get tokens.now place) (λ token. result ≡ token.span.from) }
@@ -131,7 +131,7 @@ fn kinds(alloc: Global, tokens: &[Token]) -> Result<Vec<u8>, AllocError>
     tokens.iter().map(|token| token.kind()).collect(alloc)
 }
 
-/// The place of the first token that is nested too deep.
+/// The index of the first token that is nested too deep.
 fn too_deep(alloc: Global, tokens: &[Token]) -> Result<Option<usize>, AllocError>
     ensures { IfOk result (λ place. place ≡ first_past (bracket_classes_of tokens.now)) }
 {

@@ -1,4 +1,4 @@
--- Which values stand behind nodes, and what is known of a proc of a verified package.
+-- That each node has a value of its type, and what the rules and limits say of a proc of a verified package.
 use Rattle.std.specs.Prelude.{◌≡◌, ℕ, ◌≤◌, Bool, not, List, [], length, get_or, slice_get, Some, IsTrue}
 use Rattle.std.specs.List.{list_all}
 use Rattle.xb_span.specs.declared.span.Span.{Span}

@@ -48,14 +48,14 @@ abbrev pub first_of : List Word → Option Word
 first_of [] = None
 first_of (w ∷ ws) = Some w
 
--- what is driven at each channel
+-- what is asserted at each channel
 pub record ShowsAsserted (sites : List Site) (asserted : Asserted) (events : List Event) : Type 0 where
   pub ready : (c : ℕ) → c < 4 → get_or asserted.ready c false ≡ not (count_received sites c events == 0)
   pub words : (c : ℕ) → c < 4 → get_or asserted.words c None ≡ first_of (words_sent sites c events)
   pub ready_size : length asserted.ready ≡ 4
   pub words_size : length asserted.words ≡ 4
 
--- the word that a receive of a place receives
+-- the word that the receive with an index receives
 abbrev pub taken_at : ℕ → List Transfer → Option Word
 taken_at i [] = None
 taken_at i (Takes k w ∷ transfers) = if k == i then Some w else taken_at i transfers
@@ -84,7 +84,7 @@ pub record Keeps (sample : Sample) (machine : Machine) (done : ℕ → Bool) (ke
   pub is_done : (i : ℕ) → i < length sample.sites.now → get_or machine.done i false ≡ done i
   pub is_kept : (i : ℕ) → i < length sample.sites.now → get_or machine.kept i no_word ≡ kept i
 
--- what happens at the site of a place
+-- what happens at the site with an index
 abbrev pub site_step : Circuit → Sample → Ports → StageEntry → Bool → Word → ℕ → Step
 site_step x sample ports stage_entry done kept place =
     let site = slice_get sample.sites.now place in

@@ -23,15 +23,15 @@ pub struct Ports {
     pub room: [bool; 4],
 }
 
-/// What a pipeline drives in a cycle, by channel: whether it asks for a word, and the word that it offers.
+/// What a pipeline asserts in a cycle, by channel: whether it is ready for a word, and its valid word.
 #[derive(Clone, Copy)]
 pub struct Asserted {
     pub ready: [bool; 4],
     pub words: [Option<Bits>; 4],
 }
 
-/// How far an activation comes in a stage in a cycle: the words that it takes, which sites go, whether it waits, and
-/// what it drives.
+/// How far an activation comes in a stage in a cycle: the words that it takes, which sites go, whether it stalls, and
+/// what it asserts.
 #[derive(Clone, Copy)]
 struct Walk {
     stage_entry: StageEntry,
@@ -148,7 +148,7 @@ impl Asserted {
         }
     }
 
-    /// This, and what is asked further on.
+    /// This, and what is asserted further on.
     fn and(self, other: Asserted) -> Asserted
         ensures { (sites : List Site) (es fs : List Event) → ShowsAsserted sites self es → ShowsAsserted sites other fs → ShowsAsserted sites result (es ++ fs) }
     {
@@ -195,7 +195,7 @@ impl Walk {
         }
     }
 
-    /// It asks for a word, and waits.
+    /// It is ready for a word, and stalls.
     fn awaiting_word(stage_entry: StageEntry, chan: usize) -> Walk
         ensures stage_entry { result.stage_entry ≡ stage_entry }
         ensures shows { (sites : List Site) (i : ℕ) (got : List Word) → chan ≡ chan_at sites i → stage_entry.got ≡ last_word got → ShowsWalk sites result (stopped i got (Some (Recv i))) }
@@ -206,7 +206,7 @@ impl Walk {
         walk
     }
 
-    /// It offers this word, and waits.
+    /// It has this word valid, and stalls.
     fn awaiting_room(stage_entry: StageEntry, chan: usize, word: Bits) -> Walk
         ensures stage_entry { result.stage_entry ≡ stage_entry }
         ensures shows { (sites : List Site) (i : ℕ) (got : List Word) → chan ≡ chan_at sites i → stage_entry.got ≡ last_word got → ShowsWalk sites result (stopped i got (Some (Send i word))) }
@@ -217,7 +217,7 @@ impl Walk {
         walk
     }
 
-    /// The same, behind a word that is received at a place.
+    /// The same, behind a word that is received at the site with this index.
     fn take(&mut self, place: usize, chan: usize, word: Bits)
         ensures stage_entry { self.new.stage_entry ≡ self.old.stage_entry }
         ensures shows { (sites : List Site) (of : cycle.Walk) → chan ≡ chan_at sites place → ShowsWalk sites self.old of → ShowsWalk sites self.new (behind_transfer (Takes place word) of) }
@@ -252,7 +252,7 @@ impl Machine {
         }
     }
 
-    /// One clock cycle by this logic: what it drives.
+    /// One clock cycle by this logic: what it asserts.
     pub fn cycle(&mut self, logic: &Logic, sample: &Sample, ports: &Ports) -> Asserted
         ensures registers { (opening : Word) (c : Registers) → FitsMachine sample.now → ShowsMachine sample.now self.old c → ShowsMachine sample.now self.new (cycle_by (circuit_of logic.now) (pipeline_of sample.now opening) c (ports_of ports.now)) }
         ensures asserted { (opening : Word) (c : Registers) → FitsMachine sample.now → ShowsMachine sample.now self.old c → ShowsAsserted (map site_of sample.now.sites.now) result (asserts_by (circuit_of logic.now) (pipeline_of sample.now opening) c (ports_of ports.now)) }
@@ -291,7 +291,7 @@ impl Machine {
         )
     }
 
-    /// Along so many sites from a place on.
+    /// Along so many sites from an index on.
     fn walk(
         &self,
         logic: &Logic,
@@ -394,7 +394,7 @@ impl Machine {
         }
     }
 
-    /// What so many stages ask, from one on.
+    /// What so many stages assert, from one on.
     fn asserted_from(
         &self,
         logic: &Logic,
@@ -413,7 +413,7 @@ impl Machine {
         here.and(self.asserted_from(logic, sample, ports, stage + 1, left - 1))
     }
 
-    /// What all stages ask.
+    /// What all stages assert.
     fn asserted(&self, logic: &Logic, sample: &Sample, ports: &Ports) -> Asserted
         ensures { (opening : Word) (c : Registers) → FitsMachine sample.now → ShowsMachine sample.now self.now c → ShowsAsserted (map site_of sample.now.sites.now) result (asserts_by (circuit_of logic.now) (pipeline_of sample.now opening) c (ports_of ports.now)) }
     {

@@ -93,7 +93,7 @@ impl StageEntry {
 }
 
 impl Sample<'_> {
-    /// The place of the first site of a stage: how many stand in earlier stages.
+    /// The index of the first site of a stage: how many sites are in earlier stages.
     pub fn first(&self, stage: usize) -> usize
         ensures { result ≡ count_before (λ i. stage_at (slice_get self.now.sites.now i)) stage (length self.now.sites.now) }
     {
@@ -108,7 +108,7 @@ impl Sample<'_> {
         count
     }
 
-    /// The stage of the site of a place.
+    /// The stage of the site with an index.
     pub fn stage(&self, place: usize) -> usize
         ensures { result ≡ stage_at (slice_get self.now.sites.now place) }
     {
@@ -118,7 +118,7 @@ impl Sample<'_> {
         }
     }
 
-    /// What an activation does at the site of a place.
+    /// What an activation does at the site with an index.
     pub fn turn(&self, stage_entry: &StageEntry, place: usize) -> SiteTurn
         ensures { result ≡ turn_at (slice_get self.now.sites.now place) stage_entry.now.state stage_entry.now.got }
     {
@@ -128,7 +128,7 @@ impl Sample<'_> {
         }
     }
 
-    /// The channel of the site of a place.
+    /// The channel of the site with an index.
     pub fn chan(&self, place: usize) -> usize
         ensures { result ≡ chan_of (slice_get self.now.sites.now place) }
     {

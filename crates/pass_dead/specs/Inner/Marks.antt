@@ -18,7 +18,7 @@ abbrev pub marked_all : List Bool → List Operand → List Bool
 marked_all kept [] = kept
 marked_all kept (o ∷ os) = marked_all (marked kept o) os
 
--- the node of a place is visited: if it is marked or a site, it is marked with all its operands
+-- the node of an index is visited: if it is marked or a site, it is marked with all its operands
 abbrev pub visited_if : Bool → List Bool → ℕ → Node → List Bool
 visited_if true kept place n = marked_all (slice_set kept place true) (operands_in n)
 visited_if false kept place n = kept
@@ -33,7 +33,7 @@ pub record Marks (old new : List Bool) (os : List Operand) : Type 0 where
   pub marks : list_all (is_there (length old)) os ≡ true → list_all (is_kept new) os ≡ true
   pub stays : (i j : ℕ) → list_all (is_there i) os ≡ true → i ≤ j → get_or new j false ≡ get_or old j false
 
--- the node of a place was visited: it is marked if it is a site, and what it needs is marked if it is marked
+-- the node of an index was visited: it is marked if it is a site, and its operands are marked if it is marked
 pub record IsVisited (place : ℕ) (n : Node) (old new : List Bool) : Type 0 where
   pub count : length new ≡ length old
   pub keeps : (o : Operand) → is_kept old o ≡ true → is_kept new o ≡ true

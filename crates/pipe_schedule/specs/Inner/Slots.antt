@@ -88,7 +88,7 @@ no_slot = record { stage = 0; time = 0 }
 abbrev pub slot_at : List Slot → ℕ → Slot
 slot_at slots i = get_or slots i no_slot
 
--- what the nodes before the one of place i leave to its sites
+-- what the nodes before the one of index i leave to its sites
 abbrev pub floor_at : List TimedNode → List Slot → ℕ → Floor
 floor_at nodes slots zero = no_floor
 floor_at nodes slots (suc i) = raised (floor_at nodes slots i) (node_at nodes i).role (slot_at slots i).stage

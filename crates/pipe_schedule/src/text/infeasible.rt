@@ -112,7 +112,7 @@ fn push_rare(text: &mut String, need: u64, interval: u32) -> Result<(), AllocErr
     push_count(text, ", given ", u64::from(interval))
 }
 
-/// Appends the name of the node of a place, if there is one.
+/// Appends the name of the node of an index, if there is one.
 fn push_node(text: &mut String, nodes: &[Node], node: usize) -> Result<(), AllocError>
     ensures { OnOk result (string_bytes text.new ≡ string_bytes text.old ++ name_there (slice_get nodes.now node)) }
 {

@@ -1,4 +1,4 @@
--- The ends of channels of one proc, and the places of its sites' ends.
+-- The ends of channels of one proc, and the indices of its sites' ends.
 use Rattle.std.specs.Prelude.{◌≡◌, ◌<◌, ◌≤◌, ℕ, true, false, List, [], length, Option, Some, slice_get}
 use Rattle.chan_queue.specs.declared.pass.SendPass.{SendPass}
 use Rattle.chan_queue.specs.declared.pass.RecvPass.{RecvPass}
@@ -8,7 +8,7 @@ use Rattle.proc_task.specs.declared.port.Inlet.{Inlet}
 use Rattle.proc_task.specs.Moving.{HasOutlet, HasInlet}
 
 module _ {E : Type 0} (chan : E → ℕ) where
-  -- the end of channel c stands at this place
+  -- the end of channel c stands at this index
   abbrev pub IsEndAt : List E → ℕ → ℕ → Type 0
   IsEndAt ends c place = (end : E) × (slice_get ends place ≡ Some end) × (chan end ≡ c)
 
@@ -31,7 +31,7 @@ module _ {S : Type 0} where
   abbrev pub in_chan : Inlet S → ℕ
   in_chan inlet = inlet.chan
 
-  -- no word was sent there, and it has the right that stands in the place of its channel
+  -- no word was sent there, and it has the right that stands at the index of its channel
   abbrev pub IsNewOutlet : List (Option (SendPass S)) → Outlet S → Type 0
   IsNewOutlet sends outlet = (slice_get sends outlet.chan ≡ Some outlet.pass) × (outlet.words.items ≡ [])
 
@@ -50,7 +50,7 @@ module _ {S : Type 0} where
     pub sends : (i : ℕ) (site : Site) → slice_get sites i ≡ Some site → site.sends ≡ true → HasEndOn out_chan outlets site.chan
     pub receives : (i : ℕ) (site : Site) → slice_get sites i ≡ Some site → site.sends ≡ false → HasEndOn in_chan inlets site.chan
 
-  -- and these are their places
+  -- and these are the indices of the sites' ends
   pub record AreSiteIndices (sites : List Site) (indices : List ℕ) (outlets : List (Outlet S)) (inlets : List (Inlet S)) : Type 0 where
     pub senders : (i : ℕ) (site : Site) → slice_get sites i ≡ Some site → site.sends ≡ true → HasOutlet sites indices outlets i site
     pub receivers : (i : ℕ) (site : Site) → slice_get sites i ≡ Some site → site.sends ≡ false → HasInlet sites indices inlets i site

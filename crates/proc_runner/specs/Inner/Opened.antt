@@ -31,7 +31,7 @@ module _ {S : Type 0} where
   IsLine Output stream depth line = (line.send ≡ None) × (line.recv ≡ None)
   IsLine Inner stream depth line = IsInnerLine stream depth line
 
-  -- the right to send on a channel stands in its place, and the right to receive
+  -- the right to send on a channel stands at the channel's index, and the right to receive
   abbrev pub HasSend : Run → List (Option (ChanQueue S)) → List (Option (SendPass S)) → ℕ → Chan → Type 0
   HasSend run queues sends c chan = (pass : Option (SendPass S)) × (slice_get sends c ≡ Some pass) × OutRight run queues c chan.kind 0 pass
 

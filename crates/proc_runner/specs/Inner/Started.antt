@@ -23,7 +23,7 @@ abbrev pub AreHeads : Run → List ProcHead → Type 0
 AreHeads run heads = (p : ℕ) (head : ProcHead) → slice_get heads p ≡ Some head → IsHead run p head
 
 module _ {S : Type 0} where
-  -- the rights of the procs from p on stand in their places, and the procs at the ends of channels are these
+  -- the rights of the procs from p on stand at their channels' indices, and the procs at the ends of channels are these
   pub record AreLeft (run : Run) (queues : List (Option (ChanQueue S))) (p : ℕ) (senders receivers : List ℕ) (sends : List (Option (SendPass S))) (recvs : List (Option (RecvPass S))) : Type 0 where
     pub few : length run.chans < 2 ^ 32
     pub senders_count : length senders ≡ length run.chans

@@ -4,7 +4,7 @@ ghost use Rattle.proc_task.specs.Outcome.Places.{head_sends, head_receives};
 
 use net_core::ProcHead;
 
-/// The place of the proc that sends on a channel, or the number of procs.
+/// The index of the proc that sends on a channel, or the number of procs.
 pub fn sender(heads: &[ProcHead], chan: u32) -> usize
     ensures { result ≡ index_of (head_sends chan) heads.now }
 {
@@ -16,7 +16,7 @@ pub fn sender(heads: &[ProcHead], chan: u32) -> usize
     heads.len()
 }
 
-/// The place of the proc that receives from a channel, or the number of procs.
+/// The index of the proc that receives from a channel, or the number of procs.
 pub fn receiver(heads: &[ProcHead], chan: u32) -> usize
     ensures { result ≡ index_of (head_receives chan) heads.now }
 {

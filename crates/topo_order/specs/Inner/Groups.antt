@@ -16,7 +16,7 @@ position_of positions i = unwrap_or (slice_get positions i) 0
 abbrev pub flag_of : List Bool → ℕ → Bool
 flag_of loops i = unwrap_or (slice_get loops i) false
 
--- no group begins behind place p and up to place o
+-- no group begins behind position p and up to position o
 abbrev pub IsNotBelow : List ℕ → ℕ → ℕ → Type 0
 IsNotBelow starts o p = (q b : ℕ) → slice_get starts q ≡ Some b → b ≤ o → b ≤ p
 
@@ -31,7 +31,7 @@ pub record IsGrouping (needs : List (List ℕ)) (marks : List Mark) (taken posit
   pub taken_size : length taken ≡ length needs
   pub positions_size : length positions ≡ length needs
   pub loops_size : length loops ≡ length needs
-  -- the stack has the open things, each at its place
+  -- the stack has the open things, each at its position
   pub open_on : (i : ℕ) → mark_of marks i ≡ Open → slice_get stack (position_of positions i) ≡ Some i
   pub on_open : (p i : ℕ) → slice_get stack p ≡ Some i → mark_of marks i ≡ Open
   pub placed : (p i : ℕ) → slice_get stack p ≡ Some i → position_of positions i ≡ p
@@ -57,11 +57,11 @@ pub record IsGrouping (needs : List (List ℕ)) (marks : List Mark) (taken posit
 abbrev pub Rises : List ℕ → Type 0
 Rises starts = (q r b c : ℕ) → q < r → slice_get starts q ≡ Some b → slice_get starts r ≡ Some c → b < c
 
--- the last start, if there is one, isn't at this place
+-- the last start, if there is one, isn't at this position
 abbrev pub IsNoLast : List ℕ → ℕ → Type 0
 IsNoLast starts at = (front : List ℕ) (b : ℕ) → starts ≡ front ++ b ∷ [] → b ≢ at
 
--- the groups from place `at` on have become one with the group that stands there
+-- the groups that begin behind position `at` have become one with the last one before
 pub record AreJoined (starts joined : List ℕ) (at : ℕ) : Type 0 where
   pub kept : (q b : ℕ) → slice_get starts q ≡ Some b → b ≤ at → slice_get joined q ≡ Some b
   pub only : (q b : ℕ) → slice_get joined q ≡ Some b → (slice_get starts q ≡ Some b) × (b ≤ at)

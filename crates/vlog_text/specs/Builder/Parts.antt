@@ -1,4 +1,4 @@
--- What a parsed text is made of while it is read: names with their places, widths, literals, and signals by name.
+-- What a parsed text is made of while it is read: names with their spans, widths, literals, and signals by name.
 use Rattle.std.specs.Prelude.{ℕ, suc, ◌+◌, ◌≤◌, ◌^◌, ◌&&◌, nat_le, nat_lt, min, max, if◌then◌else◌, List, [], ◌∷◌, Option, None, Some, unwrap_or}
 use Rattle.std.specs.Str.{bytes_eq, is_utf8}
 use Rattle.std.proofs.Common.{arith}
@@ -51,7 +51,7 @@ literal_of bytes = literal_said (min (width_said bytes) most) (value_said bytes)
 abbrev pub undeclared : ℕ
 undeclared = 4294967295
 
--- the place of the first of these names that is q, where the first one has place i
+-- the index of the first of these names that is q, where the first one has index i
 abbrev pub index_from : ℕ → List (List ℕ) → List ℕ → Option ℕ
 index_from i [] q = None
 index_from i (name ∷ names) q = if bytes_eq q name then Some (min i undeclared) else index_from (suc i) names q

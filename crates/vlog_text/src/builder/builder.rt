@@ -115,7 +115,7 @@ fn design_of<'a>(alloc: Global, name: Name, state: &mut State<'a>) -> VModule
     }
 }
 
-/// Takes the places of the parts. The parts stay.
+/// Takes the spans of the parts. The parts stay.
 fn spans_of<'a>(alloc: Global, state: &mut State<'a>) -> PartSpans
     ensures part_spans { result ≡ spans_by state.old }
     ensures design { (name : List ℕ) → design_by name state.new ≡ design_by name state.old }

@@ -3,7 +3,7 @@ ghost use Rattle.std.specs.Prelude.{◌≡◌};
 use std::marker::Model;
 use xb_span::Span;
 
-/// A name in a text. Contracts see its place and its bytes.
+/// A name in a text. Contracts see its span and its bytes.
 #[derive(Drop)]
 pub struct Ident<'a> {
     span: Span,

@@ -135,7 +135,7 @@ pub fn rule_of(production: u16) -> Rule
     rule_at(&RULES, usize::from(production))
 }
 
-/// The rule at that place; nothing is done where there is none.
+/// The rule at that index; nothing is done where there is none.
 fn rule_at(rules: &[Rule], at: usize) -> Rule
     ensures { result ≡ slice_index_or rules.now at Rule.Keep }
 {

@@ -59,7 +59,7 @@ impl<'a> Signals<'a> {
     }
 }
 
-/// Puts a place under a name that has none.
+/// Puts an index under a name that has none.
 fn put_new<'a>(
     places: &mut HashMap<&'a str, u32>,
     name: &'a str,

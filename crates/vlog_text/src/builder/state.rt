@@ -19,7 +19,7 @@ use xb_span::Span;
 
 /// The parts that have been built and not been used, a stack for each sort, and the finished parts of the module.
 pub struct State<'a> {
-    /// The place of the last token.
+    /// The span of the last token.
     pub last: Span,
     /// Where the ports, declarations and assignments begin that are open.
     pub starts: Stack<u32>,

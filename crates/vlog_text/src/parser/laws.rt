@@ -6,7 +6,7 @@ ghost use Rattle.vlog_text.specs.declared.builder.parsed.Parsed.{Parsed};
 ghost use Rattle.vlog_text.specs.Parser.Reads.{IsParsing};
 ghost use Rattle.xb_span.specs.declared.read_error.ReadError.{ReadError};
 
-/// Tokens have one module, or are refused at one place, and not both.
+/// Tokens have one module or one refusal, and not both.
 pub fn one_parsing()
     ensures { (ls : List Lexeme) (a b : Result Parsed ReadError) → IsParsing ls a → IsParsing ls b → a ≡ b }
 {

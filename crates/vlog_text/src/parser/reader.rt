@@ -77,7 +77,7 @@ fn tree(
     build(alloc, &steps, tokens)
 }
 
-/// The refusal of tokens with a fault at this place.
+/// The refusal of tokens with a fault at this index.
 fn refusal(tokens: &[Token], kinds: &[u8], place: usize) -> ReadError
     requires same { kinds.now ≡ kinds_of tokens.now }
     requires within { place < length kinds.now }
@@ -87,7 +87,7 @@ fn refusal(tokens: &[Token], kinds: &[u8], place: usize) -> ReadError
     ReadError::Syntax(start_of(tokens, place))
 }
 
-/// Where the token at a place begins.
+/// Where the token at an index begins.
 fn start_of(tokens: &[Token], place: usize) -> u32
     requires { place < length tokens.now }
     ensures { IfSome (slice_get tokens.now place) (λ token. result ≡ token.span.from) }

@@ -9,8 +9,7 @@ ghost use Rattle.vlog_token.specs.Rules.Rules.{kinds, named_rules, nonterminals}
 use crate::rules::reader::grammar;
 
 /// Different kinds of token have different numbers, and so have the nonterminals; the start is number 0. The name of a
-/// production stands for the
-/// place of its rule.
+/// production stands for the index of its rule.
 pub fn names()
     ensures kinds { AreInOrder kinds }
     ensures nonterminals { AreInOrder nonterminals }

@@ -29,7 +29,7 @@ abbrev pub noted : Option Fault → List PartCheck → Option Fault
 noted held [] = held
 noted held (c ∷ cs) = noted (note c.broken c.fault held) cs
 
--- the checks of each part of a list in turn. What was seen before a part, and its place, may matter to it
+-- the checks of each part of a list in turn. What was seen before a part, and its index, may matter to it
 abbrev pub walk : {S A : Type 0} → (S → ℕ → A → List PartCheck) → (S → A → S) → S → ℕ → List A → List PartCheck
 walk checks see seen i [] = []
 walk checks see seen i (x ∷ xs) = checks seen i x ++ walk checks see (see seen x) (suc i) xs

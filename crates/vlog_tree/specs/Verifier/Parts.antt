@@ -58,7 +58,7 @@ abbrev pub is_signal : Atom → Bool
 is_signal (atom.Signal _) = true
 is_signal (atom.Literal _) = false
 
--- the place of the port `clk`
+-- the index of the port `clk`
 abbrev pub clock_port : ℕ
 clock_port = 0
 

@@ -62,7 +62,7 @@ pub data Loops (m : VModule) (part_spans : PartSpans) : List PartCheck → Type 
       → ((j : ℕ) (b : Assignment) → j < i → slice_get m.assignments j ≡ Some b → ¬ (Depends m b.target.0 b.target.0))
       → Loops m part_spans (rule_at (get_or part_spans.assignments i nowhere) 75 true ∷ [])
 
--- the fault that is named of a module whose parts stand at these places: none where it breaks no rule and passes no limit
+-- the fault that is named of a module whose parts have these spans: none where it breaks no rule and passes no limit
 pub record IsVerdict (m : VModule) (part_spans : PartSpans) (named : Option Fault) : Type 0 where
   pub loops : List PartCheck
   pub looped : Loops m part_spans loops

@@ -4,13 +4,13 @@ use Rattle.xb_span.specs.declared.span.Span.{Span}
 use Rattle.vlog_tree.specs.declared.module.VModule.{VModule}
 use Rattle.vlog_tree.specs.declared.verifier.part_spans.PartSpans.{PartSpans}
 
--- the place of what has none
+-- the span of what has none
 abbrev pub nowhere : Span
 nowhere = record { from = 0; to = 0 }
 
 abbrev pub no_spans : PartSpans
 no_spans = record { ports = []; declarations = []; assignments = []; at_reset = []; at_clock = []; literals = [] }
 
--- the place of a port or a declaration
+-- the span of a port or a declaration
 abbrev pub signal_span : VModule → PartSpans → ℕ → Span
 signal_span m part_spans s = if nat_lt s (length m.ports) then get_or part_spans.ports s nowhere else get_or part_spans.declarations (s - length m.ports) nowhere

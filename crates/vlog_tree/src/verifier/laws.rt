@@ -7,7 +7,7 @@ ghost use Rattle.vlog_tree.specs.WellFormed.{CanRun};
 ghost use Rattle.vlog_tree.specs.declared.verifier.part_spans.PartSpans.{PartSpans};
 ghost use Rattle.vlog_tree.specs.Verifier.Verified.{IsVerdict};
 
-/// One thing is named of a module whose parts stand at some places: one fault, or none.
+/// One thing is named of a module with the spans of its parts: one fault, or none.
 pub fn one_judgement()
     ensures { (m : VModule) (part_spans : PartSpans) (one other : Option Fault) → IsVerdict m part_spans one → IsVerdict m part_spans other → one ≡ other }
 {}

@@ -14,7 +14,7 @@ use topo_order::needing_themselves;
 /// The most signals and assignments that are numbered.
 const MOST: usize = u32::MAX as usize;
 
-/// The place of the first assignment whose target depends on itself, if there is one.
+/// The index of the first assignment whose target depends on itself, if there is one.
 ///
 /// It takes time and memory linear in the module.
 pub fn first_loop(alloc: Global, design: &VModule) -> Result<Option<usize>, AllocError>
@@ -38,7 +38,7 @@ fn loops_of(alloc: Global, design: &VModule) -> Result<Vec<bool>, AllocError>
     Ok(loops)
 }
 
-/// The place of the first assignment whose target is one of these.
+/// The index of the first assignment whose target is one of these.
 fn first_among(design: &VModule, loops: &[bool]) -> Option<usize>
     requires { AreLoops design.now loops.now }
     ensures { IsFirstLoop design.now result }
@@ -75,7 +75,7 @@ fn needs_of(alloc: Global, design: &VModule) -> Result<Vec<Items<u32>>, AllocErr
     Ok(needs)
 }
 
-/// Nothing is needed, by so many signals.
+/// The needs of so many signals, all empty.
 fn no_needs(alloc: Global, count: usize) -> Result<Vec<Items<u32>>, AllocError>
     ensures { IfOk result (λ needs. needs.items ≡ replicate count []) }
 {

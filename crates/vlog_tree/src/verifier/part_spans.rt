@@ -6,7 +6,7 @@ use sqlite_items::Items;
 use std::alloc::Global;
 use xb_span::Span;
 
-/// Where the parts of a module stand in its text, in the order of the parts. A part that has no place here counts as
+/// Where the parts of a module stand in its text, in the order of the parts. A part that has no span here counts as
 /// standing at 0..0.
 #[derive(Drop)]
 pub struct PartSpans {
@@ -23,7 +23,7 @@ impl PartSpans {
     ghost use Rattle.std.specs.Prelude.{◌≡◌};
     ghost use Rattle.vlog_tree.specs.Verifier.WithSpans.{no_spans};
 
-    /// No part has a place.
+    /// No part has a span.
     pub fn none(alloc: Global) -> PartSpans
         ensures { result ≡ no_spans }
     {
@@ -38,7 +38,7 @@ impl PartSpans {
     }
 }
 
-/// The place of a part.
+/// The span of a part.
 pub fn span_at(spans: &[Span], place: usize) -> Span
     ensures { result ≡ get_or spans.now place nowhere }
 {
@@ -58,7 +58,7 @@ pub fn end_at(ends: &[u32], place: usize) -> u32
     }
 }
 
-/// The place of a port or a declaration.
+/// The span of a port or a declaration.
 pub fn signal_span(design: &VModule, part_spans: &PartSpans, signal: usize) -> Span
     ensures { result ≡ signal_span design.now part_spans.now signal }
 {

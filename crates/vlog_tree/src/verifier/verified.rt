@@ -32,7 +32,7 @@ pub fn verify(alloc: Global, design: &VModule) -> Result<(), ReadError>
     check(alloc, design, &PartSpans::none(alloc))
 }
 
-/// The same for a module that stands in a text, its parts at these places.
+/// The same for a module that stands in a text, whose parts have these spans.
 pub fn check(alloc: Global, design: &VModule, part_spans: &PartSpans) -> Result<(), ReadError>
     ensures ok { OnOk result (IsVerdict design.now part_spans.now None) }
     ensures runs { OnOk result (CanRun design.now) }

@@ -68,6 +68,6 @@ nestings bracket_classes = nestings_from at_start bracket_classes
 abbrev pub is_past : ℕ → Bool
 is_past n = nat_lt MOST n
 
--- the place of the first token whose nesting is more than the limit
+-- the index of the first token whose nesting is more than the limit
 abbrev pub first_past : List BracketClass → Option ℕ
 first_past bracket_classes = position_from is_past 0 (nestings bracket_classes)

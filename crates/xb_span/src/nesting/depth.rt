@@ -8,7 +8,7 @@ use std::marker::Model;
 /// The greatest nesting that a token may have.
 pub const MOST: u64 = 128;
 
-/// The place of the first token whose nesting passes [`MOST`], if there is one.
+/// The index of the first token whose nesting passes [`MOST`], if there is one.
 ///
 /// The work is linear, and the memory is bounded by `MOST`.
 pub fn first_over(
@@ -62,7 +62,7 @@ impl Around {
         }
     }
 
-    /// The nesting of a token of this role.
+    /// The nesting of a token of this bracket class.
     fn nesting(&self, role: BracketClass) -> u64
         ensures { result ≡ nesting_in self.now role }
     {
@@ -72,7 +72,7 @@ impl Around {
         }
     }
 
-    /// Goes on behind a token of this role.
+    /// Goes on behind a token of this bracket class.
     fn read(&mut self, role: BracketClass) -> Result<(), AllocError>
         requires { nesting_in self.old role ≤ MOST }
         ensures { OnOk result (self.new ≡ behind self.old role) }

@@ -20,13 +20,13 @@ IsFaultOrNoMemory (Syntax at) r = ⊥
 IsFaultOrNoMemory (Shape at) r = r ≡ Err at
 IsFaultOrNoMemory OutOfMemory r = Unit {0}
 
--- the place to name where no such bracket opens
+-- the position to name where no such bracket opens
 abbrev pub IsNoBracket : List Token → Bracket → ValueError → Type 0
 IsNoBracket (Number at n ∷ ts) b e = e ≡ Shape at
 IsNoBracket (Open at k ∷ ts) b e = (e ≡ Shape at) × (k ≢ b)
 IsNoBracket _ b e = e ≡ Shape 0
 
--- the place to name where no bracket closes
+-- the position to name where no bracket closes
 abbrev pub IsUnclosed : ValueError → ℕ → List Token → Type 0
 IsUnclosed e at (Close ∷ ts) = ⊥
 IsUnclosed e at _ = e ≡ Shape at

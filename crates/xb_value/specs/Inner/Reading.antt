@@ -1,4 +1,4 @@
--- Which value of a type the numbers and brackets of a text say, or the place of the first that does not fit.
+-- Which value of a type the numbers and brackets of a text say, or the position of the first that does not fit.
 use Rattle.std.specs.Prelude.{ℕ, zero, suc, ◌==◌, List, [], ◌∷◌, length, if◌then◌else◌, Result, Ok, Err}
 use Rattle.xb_bits.specs.Word.{word}
 use Rattle.xb_value.specs.declared.ty.Ty.{Ty, fold-Ty}
@@ -9,7 +9,7 @@ use Rattle.xb_value.specs.declared.token.Token.TheVariants.{Number, Open, Close}
 use Rattle.xb_value.specs.declared.value.Value.{Value, Bits, Tuple, Array}
 use Rattle.xb_value.specs.Typing.{is_word_of}
 
--- the value and what stands behind it, or the place of what does not fit
+-- the value and what stands behind it, or the position of what does not fit
 abbrev pub Answer : Type 0
 Answer = Result (Value × List Token) ℕ
 
@@ -48,7 +48,7 @@ abbrev pub read_times : ℕ → Reader → List Token → ListAnswer
 read_times zero r ts = Ok ([], ts)
 read_times (suc n) r ts = and_more (read_times n r) (r ts)
 
--- the values in brackets that open at a place
+-- the values in brackets that open at a position
 abbrev pub left : ℕ → (List Value → Value) → List Value → List Token → Answer
 left at make vs (Close ∷ ts) = Ok (make vs, ts)
 left at make vs _ = Err at
@@ -94,6 +94,6 @@ abbrev pub value_in : Answer → Result Value ℕ
 value_in (Ok r) = whole r.0 r.1
 value_in (Err at) = Err at
 
--- the value that the numbers and brackets say at the type, or the place of the first that is no value of its part of it
+-- the value that the numbers and brackets say at the type, or the position of the first that is no value of its part of it
 abbrev pub reading : Ty → List Token → Result Value ℕ
 reading t ts = value_in (read_as t ts)

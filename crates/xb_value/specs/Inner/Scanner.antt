@@ -83,7 +83,7 @@ step_in (Hex at) ks ts p _ = None
 step_in (Digits at n v) ks ts p c = digits ks ts at n v c
 step_in After ks ts p c = follow ks ts c
 
--- the byte at the place `p`, or nothing where no value text goes on so
+-- the byte at the position `p`, or nothing where no value text goes on so
 abbrev pub step : Scan → ℕ → Class → Option Scan
 step s p c = step_in s.mode s.stack s.tokens p c
 
@@ -91,7 +91,7 @@ abbrev pub then_run : (Scan → Option Scan) → Option Scan → Option Scan
 then_run f None = None
 then_run f (Some s) = f s
 
--- the bytes from the place `p` on
+-- the bytes from the position `p` on
 abbrev pub run : Scan → ℕ → List ℕ → Option Scan
 run s p [] = Some s
 run s p (b ∷ bs) = then_run (λ t. run t (p + 1) bs) (step s p (class_of b))

@@ -15,7 +15,7 @@ use Rattle.chan_file.specs.OutcomeText.{outcome_text}
 abbrev pub accepted : Net → List ℕ
 accepted net = codes "ok procs " ++ decimal (length net.procs) ++ codes " channels " ++ decimal (length net.chans) ++ codes "\n"
 
--- the depth of a channel, 1 at least: where one is said, that is the depth of inner channels
+-- the depth of a channel, 1 at least: where the arguments have one, that is the depth of inner channels
 abbrev pub depth_by : Option ℕ → Kind → ℕ → ℕ
 depth_by None kind depth = max depth 1
 depth_by (Some d) Input depth = max depth 1

@@ -14,7 +14,7 @@ pub data Answers (expected : Result (List ℕ) Fault → Type 0) (files : FileEv
   no_memory : files.sound → out.untouched → PutsOrBreaksOff err (codes "out of memory\n") → Answers expected files names out err 3
   -- the last file that was asked for couldn't be read
   unread : (name : List ℕ) → IsLast names name → files.faulted → out.untouched → PutsOrBreaksOff err (codes "cannot read " ++ name ++ codes "\n") → Answers expected files names out err 4
-  -- the text that is expected couldn't be written, or a front of it alone
+  -- the text that is expected couldn't be written, or a prefix of it alone
   unwritten : (text : List ℕ) → expected (Ok text) → files.sound → out.breaks_off text → PutsOrBreaksOff err (codes "cannot write\n") → Answers expected files names out err 5
 
 -- Of the files that the words name, the program asked for the first ones in their order, each once, and answered so.

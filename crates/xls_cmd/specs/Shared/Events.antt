@@ -26,7 +26,7 @@ pub record SinkEvents : Type 1 where
   pub untouched : Type 0
   -- these bytes were added, without a fault
   pub puts : List ℕ → Type 0
-  -- a front of them was added, and a fault was counted
+  -- a prefix of them was added, and a fault was counted
   pub breaks_off : List ℕ → Type 0
 
 abbrev pub sink_events : {S : Type 0} → (S → Option (List ℕ)) → (S → ℕ) → S → S → SinkEvents
@@ -36,6 +36,6 @@ sink_events written faults old new = record {
   breaks_off = λ bytes. AppendsPrefix (written old) (written new) bytes × HasRisen (faults old) (faults new);
 }
 
--- the bytes were added, or a front of them where a fault was counted
+-- the bytes were added, or a prefix of them where a fault was counted
 abbrev pub PutsOrBreaksOff : SinkEvents → List ℕ → Type 0
 PutsOrBreaksOff sink line = sink.puts line ⊎ sink.breaks_off line

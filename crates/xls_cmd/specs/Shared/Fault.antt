@@ -14,7 +14,7 @@ use Rattle.xls_cmd.specs.declared.shared.fault.Fault.TheVariants.{Usage, TooBig,
 abbrev pub Fault : Type 0
 Fault = code.Fault (List ℕ)
 
--- a fault whose names lie somewhere in memory, without the places
+-- a fault, without where its names lie in memory
 abbrev pub named : code.Fault (Bor (List ℕ)) → Fault
 named Usage = Usage
 named (TooBig name) = TooBig name.now

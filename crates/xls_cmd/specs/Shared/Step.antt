@@ -12,7 +12,7 @@ Step A = Result A Fault → Type 0
 abbrev pub Gives : {A : Type 0} → Result A Fault → Step A
 Gives wanted given = given ≡ wanted
 
--- The first step gives x, and the next one goes on from there; or the first gives a fault, and that is what is given.
+-- The first step gives x, and the next one goes on from there; or the first gives a fault, and that is the result.
 pub data Then {A B : Type 0} (first : Result A Fault → Type 0) (next : A → Result B Fault → Type 0) : Result B Fault → Type 0 where
   goes_on : (x : A) (given : Result B Fault) → first (Ok x) → next x given → Then first next given
   stops : (fault : Fault) → first (Err fault) → Then first next (Err fault)
@@ -30,6 +30,6 @@ abbrev pub IsGivenByCommand : {A : Type 0} → Result A Fault → Type 0
 IsGivenByCommand (Ok x) = Unit {0}
 IsGivenByCommand (Err fault) = IsOfCommand fault
 
--- What is expected of a command by what the files hold, where that is told. No command refuses its words.
+-- What is expected of a command by the contents of the files, where these are known. No command refuses its words.
 abbrev pub ExpectedBy : {A : Type 0} → Option Contents → (Contents → Result A Fault → Type 0) → Result A Fault → Type 0
 ExpectedBy known_contents command given = IsGivenByCommand given × IfSome known_contents (λ holds. command holds given)

@@ -27,7 +27,7 @@ pub struct Ready {
     pub inputs: Inputs,
 }
 
-/// `run FILE INPUTS --activations N` of a design, with a depth of its inner channels perhaps, by as many workers as are said.
+/// `run FILE INPUTS --activations N` of a design, with a depth of its inner channels perhaps, by as many workers as the arguments say.
 pub fn run_design<'a, R: Threads + Wait + Sync, F: Files, G: Gate + Sync>(
     rt: &R,
     alloc: Global,
@@ -47,7 +47,7 @@ pub fn run_design<'a, R: Threads + Wait + Sync, F: Files, G: Gate + Sync>(
     }
 }
 
-/// [`run_design`], in one thread whatever the number of workers that is said.
+/// [`run_design`], in one thread whatever number of workers the arguments say.
 pub fn run_design_alone<'a, F: Files>(
     alloc: Global,
     files: &mut F,

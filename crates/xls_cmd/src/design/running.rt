@@ -47,7 +47,7 @@ pub fn run_text<B: Body + Sync, R: Threads + Wait + Sync, G: Gate + Sync>(
     Ok(text.into_bytes())
 }
 
-/// [`run_text`], in one thread whatever the number of workers that is said.
+/// [`run_text`], in one thread whatever number of workers the arguments say.
 pub fn run_text_alone<B: Body>(
     alloc: Global,
     net: &Net,
@@ -73,7 +73,7 @@ pub fn run_text_alone<B: Body>(
     Ok(text.into_bytes())
 }
 
-/// The depth that each channel of a network has, 1 at least: where one is said, that is the depth of inner channels.
+/// The depth that each channel of a network has, 1 at least: where the arguments have one, that is the depth of inner channels.
 fn depths(alloc: Global, net: &Net, arguments: Option<u32>) -> Result<Vec<u32>, AllocError>
     ensures depths { IfOk result (λ depths. depths.items ≡ depths_by arguments net.now) }
     ensures fit { IfOk result (λ depths. IsDepths net.now depths.items) }

@@ -27,7 +27,7 @@ pub struct Ready {
     pub inputs: Inputs,
 }
 
-/// `run FILE INPUTS --activations N --from ir`, with a depth of inner channels perhaps, by as many workers as are said.
+/// `run FILE INPUTS --activations N --from ir`, with a depth of inner channels perhaps, by as many workers as the arguments say.
 pub fn run_package<'a, R: Threads + Wait + Sync, F: Files, G: Gate + Sync>(
     rt: &R,
     alloc: Global,
@@ -47,7 +47,7 @@ pub fn run_package<'a, R: Threads + Wait + Sync, F: Files, G: Gate + Sync>(
     }
 }
 
-/// [`run_package`], in one thread whatever the number of workers that is said.
+/// [`run_package`], in one thread whatever number of workers the arguments say.
 pub fn run_package_alone<'a, F: Files>(
     alloc: Global,
     files: &mut F,

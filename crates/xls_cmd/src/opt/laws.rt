@@ -7,7 +7,7 @@ ghost use Rattle.xls_cmd.specs.Opt.Commands.{opt};
 ghost use Rattle.xls_cmd.specs.Opt.Agrees.{Agrees};
 
 /// What the file holds determines whether there is a text, and else the cause for which there is none. What holds of each text stands in
-/// `specs/Commands`.
+/// `specs/Opt/Commands`.
 pub fn answers_agree()
     ensures { (holds : Contents) (arguments : Opt (List ℕ)) → Agrees (opt holds arguments) }
 {

@@ -1,4 +1,4 @@
--- What is lowered at two places that differ in what calls come to.
+-- What is lowered in two scopes that differ in what calls resolve to.
 use Rattle.std.specs.Prelude.{◌≡◌, ℕ, List, Option, Some}
 use Rattle.dslx_meaning.specs.declared.ty.DslxType.{DslxType}
 use Rattle.dslx_meaning.specs.declared.value.DslxValue.{DslxValue}
@@ -9,12 +9,12 @@ use Rattle.dslx_core.specs.Machines.Machine.Callees.{CalleesByName}
 
 -- ---- calls
 
--- a call that comes to an instance by the first comes to one by the second, too, and that has the same type of result
+-- a call that resolves to an instance by the first resolves to one by the second, too, and that has the same type of result
 abbrev pub KnowsMore : CalleesByName → CalleesByName → Type 0
 KnowsMore c d = (name : List ℕ) (given : List DslxValue) (types : List DslxType) (callee : CoreCallee) → c name given types ≡ Some callee
     → (other : CoreCallee) × (d name given types ≡ Some other) × (callee.result ≡ other.result)
 
--- a call that comes to an instance by both has one type of result
+-- a call that resolves to an instance by both has one type of result
 abbrev pub Agree : CalleesByName → CalleesByName → Type 0
 Agree c d = (name : List ℕ) (given : List DslxValue) (types : List DslxType) (callee other : CoreCallee) → c name given types ≡ Some callee → d name given types ≡ Some other
     → callee.result ≡ other.result

@@ -1,4 +1,4 @@
--- Tables of instances, and which instances stand in them.
+-- Tables of instances, and which instances are in them.
 use Rattle.std.specs.Prelude.{◌≡◌, ◌||◌, ℕ, List, Bool}
 use Rattle.std.specs.List.{list_any}
 use Rattle.dslx_tree.specs.declared.item.Module.{Module}
@@ -7,11 +7,11 @@ use Rattle.dslx_meaning.specs.declared.value.DslxValue.{DslxValue}
 use Rattle.dslx_core.specs.Lowering.Functions.{CoreInstance, is_instance}
 use Rattle.dslx_core.specs.Machines.Machine.Reached.{ExtendsTable, IsTable}
 
--- an instance of this name and these parametric arguments stands in the table
+-- an instance of this name and these parametric arguments is in the table
 abbrev pub has_instance : List ℕ → List DslxValue → List CoreInstance → Bool
 has_instance name parametric_args table = list_any (is_instance name parametric_args) table
 
--- a table that begins with the first, and has the instances of both and no others
+-- a table that has the first as its prefix, and the instances of both and no others
 pub record JoinedTable (m : Module) (items : Meanings) (first second : List CoreInstance) : Type 0 where
   pub table : List CoreInstance
   pub is_table : IsTable m items table

@@ -5,7 +5,7 @@ use Rattle.dslx_meaning.specs.Items.{meanings_of}
 use Rattle.dslx_core.specs.Lowering.Functions.{CoreInstance}
 use Rattle.dslx_core.specs.Machines.Machine.Reached.{ExtendsTable, IsTable}
 
--- a table of a text's instances that begins with another
+-- a table of a text's instances that extends another
 pub record TableExtends (m : Module) (before after : List CoreInstance) : Type 0 where
   pub is_table : IsTable m (meanings_of m) after
   pub begins : ExtendsTable after before
@@ -14,7 +14,7 @@ pub record TableExtends (m : Module) (before after : List CoreInstance) : Type 0
 abbrev pub NoTableGives : {A : Type 0} → Module → ℕ → (List CoreInstance → Option A) → Type 0
 NoTableGives m limit meaning = (table : List CoreInstance) → IsTable m (meanings_of m) table → length table ≤ limit → meaning table ≡ None
 
--- by each table that begins with the one behind there is this
+-- the table behind extends the one before, and by each table that extends the one behind there is this
 pub record StableFrom {A : Type 0} (m : Module) (before after : List CoreInstance) (meaning : List CoreInstance → Option A) (a : A) : Type 0 where
   pub grows : TableExtends m before after
   pub some : (table : List CoreInstance) → ExtendsTable table after → meaning table ≡ Some a

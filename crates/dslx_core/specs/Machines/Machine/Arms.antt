@@ -13,7 +13,7 @@ use Rattle.dslx_core.specs.Lowering.Steps.{lower_pattern_of_text}
 use Rattle.dslx_core.specs.Machines.Machine.Tasks.{MatchWork, LowersExpr, TakesArm, OpenBody, InstanceEnv}
 use Rattle.dslx_core.specs.Machines.Machine.Bodies.{bound_as, doing, gives, scope_in, restores}
 
--- a pattern at its place, against values of a type
+-- a pattern in its scope, against values of a type
 abbrev pub shaped_at : Pattern → CoreScope → DslxType → Option LoweredShape
 shaped_at p place t = lower_in_scope (lower_pattern_of_text p) place t
 

@@ -6,7 +6,7 @@ use Rattle.dslx_core.specs.Lowering.Functions.{callee_in}
 use Rattle.dslx_core.specs.Lowering.Lowering.{LoweredExpr}
 use Rattle.dslx_core.specs.Machines.Machine.Tasks.{LowerTask, Restores, OpenBody, InstanceEnv}
 
--- the place there
+-- the scope there
 abbrev pub scope_in : InstanceEnv → OpenBody → CoreScope
 scope_in context body = record {
   known = record { items = context.items; parametric_args = body.given; callee = callee_in context.text context.items context.table };
@@ -34,7 +34,7 @@ abbrev pub with_last : {A : Type 0} → List LoweredExpr → (LoweredExpr → Li
 with_last [] f = None
 with_last (e ∷ made) f = f e made
 
--- with what is bound at another place
+-- with what is bound in another scope
 abbrev pub bound_as : CoreScope → OpenBody → OpenBody
 bound_as place body = record body { locals = place.locals; count = place.count }
 

@@ -1,4 +1,4 @@
--- Places that differ in what calls come to.
+-- Scopes that differ in what calls resolve to.
 use Rattle.std.specs.Prelude.{ℕ, List, Option, Some}
 use Rattle.dslx_meaning.specs.Lists.{and_then}
 use Rattle.dslx_meaning.specs.declared.ty.DslxType.{DslxType}
@@ -6,13 +6,13 @@ use Rattle.dslx_meaning.specs.declared.value.DslxValue.{DslxValue}
 use Rattle.dslx_core.specs.Lowering.CoreScopes.{CoreCallee, CoreScope}
 use Rattle.dslx_core.specs.Lowering.Patterns.{LoweredShape}
 
--- what calls come to
+-- what calls resolve to
 abbrev pub CalleesByName : Type 0
 CalleesByName = List ℕ → List DslxValue → List DslxType → Option CoreCallee
 
 abbrev pub with_callee : CalleesByName → CoreScope → CoreScope
 with_callee c place = record { known = record { items = place.known.items; parametric_args = place.known.parametric_args; callee = c }; locals = place.locals; count = place.count }
 
--- the same shape, behind which calls come to this
+-- the same shape, behind which calls resolve to this
 abbrev pub moved : CalleesByName → Option LoweredShape → Option LoweredShape
 moved c o = and_then o (λ s. Some (record { shape = s.shape; place = with_callee c s.place }))

@@ -17,7 +17,7 @@ use Rattle.dslx_core.specs.Machines.Machine.Steps.{instance_of, stepped}
 abbrev pub globals_of : InstanceEnv → Function → Instantiated → BodyEnv
 globals_of context f i = instance_globals context.text context.items context.table f i.parametric_args
 
--- its body at a place where its arguments are bound
+-- its body in a scope where its arguments are bound
 abbrev pub body_open : Function → Instantiated → CoreScope → OpenBody
 body_open f i place = record {
   given = parametric_args_bound [] f.parametrics i.parametric_args;

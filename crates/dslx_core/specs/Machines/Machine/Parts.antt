@@ -26,7 +26,7 @@ use Rattle.dslx_core.specs.Machines.Machine.Bodies.{doing, gives, scope_in, rest
 
 -- ---- calls
 
--- an instance is called, once its parametric arguments are all known
+-- an instance is called, once all its parametric arguments are found
 abbrev pub calls_function : InstanceEnv → List ℕ → List LoweredExpr → List DslxValue → OpenBody → Option OpenBody
 calls_function context name es given body =
     and_then (as_function (item_named name context.text.items)) (λ f.
@@ -93,7 +93,7 @@ fields_on context work before (field ∷ fields) [] body = None
 abbrev pub names_of_fields : List FieldValue → List (List ℕ)
 names_of_fields fs = map (λ (f : FieldValue). (out-FieldValue f).name.name) fs
 
--- what has the others is lowered only where a field isn't written
+-- the expression that has the other fields is lowered only where a field isn't written
 abbrev pub fields_begin : InstanceEnv → List FieldValue → Option Expr → DslxType → List (List ℕ) → List DslxType → OpenBody → Option OpenBody
 fields_begin context written None t fields ts body = fields_on context (record { ty = t; written = written; others = None }) [] fields ts body
 fields_begin context written (Some e) t fields ts body =

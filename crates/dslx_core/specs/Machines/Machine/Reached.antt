@@ -14,7 +14,7 @@ use Rattle.dslx_core.specs.Machines.Machine.Machines.{last_made}
 abbrev pub IsTable : Module → Meanings → List CoreInstance → Type 0
 IsTable m items table = (is : List Instantiated) × (instances_from m items [] is ≡ Some table)
 
--- a table that begins with another
+-- a table that extends another
 pub record ExtendsTable (table before : List CoreInstance) : Type 0 where
   pub more : List CoreInstance
   pub is : table ≡ before ++ more
@@ -28,10 +28,10 @@ pub record HasEnded (m : InstanceMachine) : Type 0 where
   pub root : m.root.todo ≡ []
   pub opened : m.opened ≡ []
 
--- what is to be lowered in a body, and nothing else
+-- an expression that is to be lowered in a body, and nothing else
 abbrev pub lowering_alone : Expr → OpenBody → OpenBody
 lowering_alone e body = record { given = body.given; todo = task.LowersExpr e ∷ []; made = []; locals = body.locals; count = body.count }
 
--- what the machine has made is what the expression becomes, however many more instances are done later
+-- what the machine has made is what the expression is lowered to, however many more instances are done later
 abbrev pub MakesExpression : InstanceEnv → Expr → OpenBody → InstanceMachine → Type 0
 MakesExpression context e body m = (table : List CoreInstance) → ExtendsTable table m.context.table → lower_expression e (scope_in (at_table context table) body) ≡ last_made m.root.made

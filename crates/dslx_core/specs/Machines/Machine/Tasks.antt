@@ -1,4 +1,4 @@
--- What is still to be done where an instance of a function is lowered, and where the machine stands.
+-- What is still to be done where an instance of a function is lowered, and the state of the machine.
 use Rattle.std.specs.Prelude.{ℕ, List, Bool, Option}
 use Rattle.dslx_tree.specs.declared.operator.Binary.{Binary}
 use Rattle.dslx_tree.specs.declared.operator.Prefix.{Prefix}
@@ -44,7 +44,7 @@ pub data PartsMaker : Type 0 where
   -- a call of this name with these parametric arguments
   CallsWith : List ℕ → List Arg → PartsMaker
 
--- a struct value of a type, while its fields are lowered: the fields that are written, and what has the others
+-- a struct value of a type, while its fields are lowered: the fields that are written, and the expression that has the others
 pub record StructWork : Type 0 where
   pub ty : DslxType
   pub written : List FieldValue
@@ -88,7 +88,7 @@ pub data LowerTask : Type 0 where
   NeedsInstance : Instantiated → LowerTask
   CallsInstance : Instantiated → List LoweredExpr → LowerTask
 
--- what is lowered in one place: the parametrics, what is still to be done, what was made so far, the last one first,
+-- a body while it is lowered: the parametrics, what is still to be done, what was made so far, the last one first,
 -- the names that are bound, the last one first, and how many values are bound
 pub record OpenBody : Type 0 where
   pub given : List Given

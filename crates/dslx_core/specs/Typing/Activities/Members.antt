@@ -17,7 +17,7 @@ use Rattle.dslx_core.specs.Typing.Typed.Declared.{IsDeclared}
 use Rattle.dslx_core.specs.Typing.Typed.Kinds.{is_of}
 use Rattle.dslx_core.specs.Typing.Typed.WellTyped.{IsWellTypedEnv, types_at}
 
--- the type of its words is known, and is what it means; each word is a value of it
+-- the end's words have a type, the one that it denotes; each word is a value of it
 pub record ProcMemberHasValues (context : TypeEnv) (site : SiteEnv) (name : List ℕ) (o : ChannelEnd) : Type 0 where
   pub word : DslxType
   pub typed : o.word ≡ Some word
@@ -35,7 +35,7 @@ inner_type_env known p parametric_args = let context = proc_type_env known p par
 abbrev pub inner_env : GlobalEnv → Proc → List DslxValue → Env
 inner_env known p parametric_args = instance_env known.items p.parametrics parametric_args
 
--- an instance of a proc with whose `next` nothing is wrong, where states are of this type
+-- an instance of a proc whose `next` is well-typed, where states are of this type
 pub record IsWellTypedNext (known : GlobalEnv) (p : Proc) (parametric_args : List DslxValue) (t : DslxType) : Type 0 where
   pub typed : IsWellTypedEnv (inner_type_env known p parametric_args) (inner_env known p parametric_args)
   pub members : ProcMembersHaveValues (inner_type_env known p parametric_args) (record { members = p.members; env = inner_env known p parametric_args })

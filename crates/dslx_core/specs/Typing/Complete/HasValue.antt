@@ -1,4 +1,4 @@
--- Items with whose text nothing is wrong, where what they mention is known: what is known of them.
+-- Items whose text is well-typed, where what they mention is in the global environment: their values and types.
 use Rattle.std.specs.Prelude.{◌≡◌, ℕ, List, [], map, true, Bool, Some}
 use Rattle.std.specs.List.{list_all}
 use Rattle.dslx_tree.specs.declared.expr.Expr.{Expr}
@@ -27,7 +27,7 @@ use Rattle.dslx_core.specs.Typing.Typed.Kinds.{is_of}
 use Rattle.dslx_core.specs.Typing.Typed.Numbers.{AreOwn}
 use Rattle.dslx_core.specs.Typing.Typed.WellTyped.{AreOperandsOf}
 
--- constants that are known have values of their own types, and members of enums values of their enum
+-- constants in the global environment have values of their own types, and members of enums values of their enum
 pub record AreTyped (known : GlobalEnv) : Type 0 where
   pub constants : (name : List ℕ) (v : DslxValue) → known.items.constant name ≡ Some v → GivesOf known.items.type_named (type_of_value v) (Some v)
   pub members : (name member : List ℕ) (e : Enum) (t : DslxType) → as_enum (item_named name known.whole.items) ≡ Some e → has_member e member ≡ true → known.items.type_named name ≡ Some t
@@ -38,21 +38,21 @@ pub record IsWellTypedFound (known : GlobalEnv) (found : Found) : Type 0 where
   pub faults : found.faults ≡ []
   pub reached : list_all known.is_sound found.reached ≡ true
 
--- a constant has a value, which is of its own type and the one that is meant
+-- a constant has a value, which is of its own type and the one that it denotes
 pub record ConstantHasValue (known : GlobalEnv) (c : Constant) : Type 0 where
   pub value : DslxValue
   pub is : (constant_seen known c).value ≡ Some value
   pub own : GivesOf known.items.type_named (type_of_value value) (Some value)
   pub means : constant_value known.items c ≡ Some value
 
--- an alias names a type of the text, the one that is meant
+-- an alias names a type of the text, the one that it denotes
 pub record AliasHasType (known : GlobalEnv) (a : Alias) : Type 0 where
   pub names : DslxType
   pub is : (alias_seen known a).ty ≡ Some names
   pub declared : IsDeclared known.items.type_named names
   pub means : written_type a.ty (outside known.items) ≡ Some names
 
--- a struct has the fields that are written, each of a type of the text and with no name twice, as it is meant to
+-- a struct has the fields that are written, each of a type of the text and with no name twice, and is the type that it denotes
 pub record StructHasType (known : GlobalEnv) (s : Struct) : Type 0 where
   pub fields : List DslxType
   pub is : (struct_seen known s).ty ≡ Some (ty.Struct s.name.name (map name_of_field s.fields) fields)
@@ -60,14 +60,14 @@ pub record StructHasType (known : GlobalEnv) (s : Struct) : Type 0 where
   pub declared : AllDeclared known.items.type_named fields
   pub means : struct_type known.items s ≡ Some (ty.Struct s.name.name (map name_of_field s.fields) fields)
 
--- the member of this name has a value of its enum, the one that is meant
+-- the member of this name has a value of its enum, the one that it denotes
 pub record MemberHasValue (known : GlobalEnv) (e : Enum) (signed : Bool) (width : ℕ) (name : List ℕ) : Type 0 where
   pub value : DslxValue
   pub is : enum_member_value known e name (member_named name e.members) ≡ Some value
   pub of : is_of (ty.Enum e.name.name signed width) value ≡ true
   pub means : and_then (member_named name e.members) (member_value known.items e) ≡ Some value
 
--- an enum has bits of a width, those that are meant, and each member a value
+-- an enum has bits of a width, those that it denotes, and each member a value
 pub record EnumHasType (known : GlobalEnv) (e : Enum) : Type 0 where
   pub signed : Bool
   pub width : ℕ
@@ -75,8 +75,8 @@ pub record EnumHasType (known : GlobalEnv) (e : Enum) : Type 0 where
   pub means : enum_type known.items e ≡ Some (ty.Enum e.name.name signed width)
   pub members : (name : List ℕ) → has_member e name ≡ true → MemberHasValue known e signed width name
 
--- a parametric, behind parameters with values of their own types: what is known of its type and its default is what is
--- meant, and where nothing is wrong with them, they are known
+-- a parametric, behind parametrics with values of their own types: the type and the default that typing finds are those that
+-- it denotes, and typing finds them where they are well-typed
 pub record ParametricHasValue (known : GlobalEnv) (owner : List ℕ) (p : Parametric) : Type 0 where
   pub means : (so_far : List Given) (t : DslxType) → AreOwn known.items.type_named so_far → (typing_of_type (item_type_env known owner so_far) p.ty).ty ≡ Some t
       → (written_type p.ty (record { items = known.items; bound = so_far }) ≡ Some t) × IsDeclared known.items.type_named t

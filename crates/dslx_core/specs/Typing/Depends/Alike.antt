@@ -1,4 +1,4 @@
--- Items of a text of which the same is known in two ways.
+-- Items of a text on which two global environments agree.
 use Rattle.std.specs.Prelude.{◌≡◌, ℕ, List, [], ◌∷◌, Bool, true, Some}
 use Rattle.dslx_tree.specs.declared.expr.Expr.{Expr}
 use Rattle.dslx_tree.specs.declared.item.Enum.{Enum}
@@ -13,13 +13,13 @@ use Rattle.dslx_meaning.specs.Rules.TypeEnvs.{Instance, GlobalEnv, TypeEnv}
 use Rattle.dslx_meaning.specs.Rules.Mentions.{Use, AsValue, AsPattern, AsType, AsFunction, AsProc, AsEnum, AsStruct, Mention, item_reaches}
 use Rattle.dslx_core.specs.Typing.TypingRelations.Reached.{MentionsReach}
 
--- the place, where this is known
+-- the type environment, with this global environment
 abbrev pub in_globals : TypeEnv → GlobalEnv → TypeEnv
 in_globals context known = record context { known = known }
 
 -- ---- functions
 
--- a parametric: what its type and its default come to, whatever is known of the parameters before it
+-- a parametric: its type and its default are the same by both, whatever is bound of the parametrics before it
 pub record ParametricAlike (a b : GlobalEnv) (owner : List ℕ) (p : Parametric) : Type 0 where
   pub ty : (so_far : List Given) (unknown : List (List ℕ)) → a.type_in owner so_far unknown p.ty ≡ b.type_in owner so_far unknown p.ty
   pub seen : (so_far : List Given) → a.type_seen_in owner so_far p.ty ≡ b.type_seen_in owner so_far p.ty
@@ -72,15 +72,15 @@ abbrev pub NamesAlike : GlobalEnv → GlobalEnv → List (List ℕ) → Type 0
 NamesAlike a b [] = Unit {0}
 NamesAlike a b (n ∷ ns) = (a.items.constant n ≡ b.items.constant n) × NamesAlike a b ns
 
--- one text, with the same names of constants, and the same said of instances whose names pass the test
+-- one text, with the same names of constants; instances whose names pass the test are sound, and unbroken, in both or in neither
 pub record GlobalsAgree (P : List ℕ → Bool) (a b : GlobalEnv) : Type 0 where
   pub whole : a.whole ≡ b.whole
   pub kinds : (name : List ℕ) → a.items.is_constant name ≡ b.items.is_constant name
   pub sound : (i : Instance) → P i.name ≡ true → a.is_sound i ≡ b.is_sound i
   pub unbroken : (i : Instance) → P i.name ≡ true → a.is_unbroken i ≡ b.is_unbroken i
 
--- what a part needs that mentions this behind these names, in the text of this item: of what it mentions the same is known, of the
--- enums that the item reaches and of the constants that are hidden; and it reaches instances alone whose names pass the test
+-- what a part needs that mentions this behind these names, in the text of this item: both agree on what it mentions, on the enums
+-- that the item reaches and on the constants that are hidden; and it reaches only instances whose names pass the test
 pub record SeesAlike (P : List ℕ → Bool) (bound : List (List ℕ)) (owner : List ℕ) (a b : GlobalEnv) (ms : List Mention) : Type 0 where
   pub known : GlobalsAgree P a b
   pub enums : (name member : List ℕ) → item_reaches a.whole owner name ≡ true → a.items.member name member ≡ b.items.member name member

@@ -1,4 +1,4 @@
--- Texts of which the same is known by all chains that are long enough.
+-- Texts on which global environments agree, if their chains of items are long enough.
 use Rattle.std.specs.Prelude.{◌≡◌, ℕ, List, [], ◌∷◌, false, Some}
 use Rattle.dslx_tree.specs.declared.item.Function.{Function}
 use Rattle.dslx_tree.specs.declared.item.Module.{Module}

@@ -1,4 +1,4 @@
--- What is known of items whose names pass a test, with something else in the place of all other items.
+-- The global environment of items whose names pass a test, with something else in the place of all other items.
 use Rattle.std.specs.Prelude.{ℕ, List, [], ◌∷◌, ◌&&◌, map, Bool, false, Option, Some, None, if◌then◌else◌}
 use Rattle.xb_bits.specs.Word.{word}
 use Rattle.dslx_tree.specs.declared.item.Definition.{Definition}
@@ -42,7 +42,7 @@ member_filler w _ = None
 abbrev pub refused : Judgement
 refused = record untyped_typing { faults = breaks 1 nowhere ∷ [] }
 
--- the items whose names pass as they are known; in the place of all others bits of this width, and no sound instances
+-- the items whose names pass as they are; in the place of all others bits of this width, and no sound instances
 abbrev pub filled : ℕ → (List ℕ → Bool) → GlobalEnv → GlobalEnv
 filled w P known = record known {
   items = record known.items {

@@ -1,4 +1,4 @@
--- Items whose names pass a test, which are known with all that they need.
+-- Items whose names pass a test, which are in the global environment with all that they need.
 use Rattle.std.specs.Prelude.{◌≡◌, ℕ, List, Bool, true, false, Some, None}
 use Rattle.dslx_tree.specs.declared.item.Enum.{Enum}
 use Rattle.dslx_tree.specs.declared.item.Function.{Function}

@@ -1,4 +1,4 @@
--- Two places at which all but locals are bound alike: what types and patterns mean there.
+-- Two environments in which all but locals are bound alike: what types and patterns denote there.
 use Rattle.std.specs.Prelude.{◌≡◌, ℕ, List, [], ◌∷◌, Bool, true, false, Option, Some, None}
 use Rattle.std.specs.List.{list_all}
 use Rattle.dslx_meaning.specs.Lists.{is_in}
@@ -12,7 +12,7 @@ use Rattle.dslx_core.specs.Typing.Laws.Agreement.{BindConstantsAlike}
 use Rattle.dslx_core.specs.Typing.Typed.Complete.{IsWellTypedPart}
 use Rattle.dslx_core.specs.Typing.Typed.InTypeEnv.{local_names}
 
--- items mean what is known of them in both, and a name that is no local, or is a constant's, is bound alike
+-- items denote in both what the global environment has of them, and a name that is no local, or is a constant's, is bound alike
 pub record SeeAlike (context : TypeEnv) (a b : Env) : Type 0 where
   pub items : a.items ≡ context.known.items
   pub others : b.items ≡ context.known.items
@@ -34,13 +34,13 @@ pub record IsWellTypedPattern (context : TypeEnv) (seen : PatternSeen) : Type 0 
   pub faults : seen.faults ≡ []
   pub reached : list_all context.known.is_sound seen.reached ≡ true
 
--- a value fits in both or in neither, and behind the pattern all but locals are bound alike again: at two places, behind the names of
--- the whole pattern that are bound so far
+-- a value fits in both or in neither, and behind the pattern all but locals are bound alike again: in two environments, behind the names
+-- of the whole pattern that are bound so far
 abbrev pub PatternSeesAlike : PatternTyping → PatternDen → Type 0
 PatternSeesAlike p meaning = (may_fail : Bool) (context : TypeEnv) (t : Option DslxType) (names : List (List ℕ)) (locals : List Typed) (place other a b : Env) (v : DslxValue) → SeeAlike context place other → SeeAlike context a b
     → IsWellTypedPattern context (p may_fail context t names locals) → FitsAlike context (meaning.fits place v a) (meaning.fits other v b)
 
--- each pattern, beside what its tree means
+-- each pattern, beside what its tree denotes
 abbrev pub EachPatternSeesAlike : List PatternPair → List PatternDen → Type 0
 EachPatternSeesAlike [] [] = Unit {0}
 EachPatternSeesAlike (p ∷ ps) (x ∷ xs) = ((pattern_denotation p.0 ≡ x) × PatternSeesAlike p.1 x) × EachPatternSeesAlike ps xs

@@ -26,7 +26,7 @@ use Rattle.dslx_core.specs.Typing.Typed.WellTyped.{GoesOnTyped, IsWellTypedEnv, 
 abbrev pub HasTypedValue : Declarations → Judgement → Option DslxValue → Type 0
 HasTypedValue types j o = (t : DslxType) × (j.ty ≡ Some t) × GivesOf types t o × IsSized j.size
 
--- an expression that means this, and has a value of its type in each place where nothing is wrong with it
+-- an expression that denotes this, and has a value of its type in each environment where it is well-typed
 pub record ExprGives (e : ExprPair) (meaning : ExprDen) : Type 0 where
   pub is : m.denotation e.0 ≡ meaning
   pub gives : (context : TypeEnv) (env : Env) → IsWellTypedEnv context env → IsWellTypedPart context.known (within context e) → HasTypedValue (types_at context) (within context e) (meaning.value env)
@@ -52,7 +52,7 @@ BlockGives j f = (context : TypeEnv) (env : Env) → IsWellTypedEnv context env 
 abbrev pub PartGives : TypeExprTyping → ValueDen → Type 0
 PartGives j f = (context : TypeEnv) (env : Env) → IsWellTypedEnv context env → IsWellTypedPart context.known (j context) → HasTypedValue (types_at context) (j context) (f env)
 
--- a written type: it means what is known of it, and where nothing is wrong with it, it is known
+-- a written type: the type that typing gives it is the one that it denotes, and where it is well-typed, it has one
 pub record TypeHasDen (j : TypeExprTyping) (f : TypeDen) : Type 0 where
   pub means : (context : TypeEnv) (env : Env) → IsWellTypedEnv context env → TypeMeans (types_at context) (j context) (f env)
   pub known : (context : TypeEnv) (env : Env) → IsWellTypedEnv context env → IsWellTypedPart context.known (j context) → (t : DslxType) × ((j context).ty ≡ Some t)
@@ -135,11 +135,11 @@ EachArmHasValue (a ∷ as') (x ∷ xs) = ArmHasValue a x × EachArmHasValue as' 
 EachArmHasValue [] (x ∷ xs) = ⊥
 EachArmHasValue (a ∷ as') [] = ⊥
 
--- a value of a tuple of at most 8 bits comes to an arm, where each word of its type is matched
+-- a value of a tuple of at most 8 bits reaches an arm, where each word of its type is matched
 abbrev pub NarrowComes : TypeEnv → Env → DslxType → List ArmSeen → List ArmDen → DslxValue → Type 0
 NarrowComes context env t arms ms v = is_some_tuple (out-DslxType t) ≡ true → nat_le (flat_bits t) 8 ≡ true → is_exhaustive context (map (arm_typing context (Some t)) arms) t ≡ true → comes_to_an_arm ms v env ≡ true
 
--- so does each value of its type, in each place
+-- so does each value of its type, in each environment
 abbrev pub NarrowMatchesCome : Type 0
 NarrowMatchesCome = (context : TypeEnv) (env : Env) (t : DslxType) (arms : List ArmSeen) (ms : List ArmDen) (v : DslxValue) → IsWellTypedEnv context env → EachArmHasValue arms ms
     → arms_faults (map (arm_typing context (Some t)) arms) ≡ [] → list_all context.known.is_sound (arms_reached (map (arm_typing context (Some t)) arms)) ≡ true → GivesOf (types_at context) t (Some v)
@@ -147,7 +147,7 @@ NarrowMatchesCome = (context : TypeEnv) (env : Env) (t : DslxType) (arms : List 
 
 -- ---- constants, loops and calls
 
--- the value that is known of a constant, which is the one that it has at its place
+-- the value that typing gives a constant expression, which is the one that it has in its environment
 pub record HasKnownValue (context : TypeEnv) (env : Env) (e : ExprPair) (x : ExprDen) : Type 0 where
   pub ty : DslxType
   pub typed : (constant_of context e).judgement.ty ≡ Some ty
@@ -155,7 +155,7 @@ pub record HasKnownValue (context : TypeEnv) (env : Env) (e : ExprPair) (x : Exp
   pub known : (constant_of context e).value ≡ Some gives.value
   pub sized : IsSized (constant_of context e).judgement.size
 
--- what the patterns of a loop come to, against values of these types, and its body behind them
+-- the typing of a loop's patterns, against values of these types, and of its body behind them
 abbrev pub index_seen : TypeEnv → PatternPair → Option DslxType → PatternSeen
 index_seen context index k = pattern_alone false context k index
 

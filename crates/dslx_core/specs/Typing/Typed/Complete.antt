@@ -1,4 +1,4 @@
--- Where all that a text declares is known, so that nothing in it is left without a type.
+-- Global environments that have all that a text declares, so that nothing in it is left without a type.
 use Rattle.std.specs.Prelude.{◌≡◌, ℕ, List, [], ◌∷◌, map, true, false, Option, Some}
 use Rattle.std.specs.List.{list_all}
 use Rattle.dslx_tree.specs.declared.item.Field.{Field}
@@ -43,7 +43,7 @@ FitArguments known owner bound (f ∷ fs) (v ∷ vs) =
 FitArguments known owner bound [] (v ∷ vs) = ⊥
 FitArguments known owner bound (f ∷ fs) [] = ⊥
 
--- an instance of a function that nothing is wrong with: calls give values of the type of its result
+-- a well-typed instance of a function: calls give values of the type of its result
 pub record IsCallable (known : GlobalEnv) (f : Function) (name : List ℕ) (parametric_args : List DslxValue) : Type 0 where
   pub result : DslxType
   pub typed : result_type known f.name.name (known_before (parametric_args_bound [] f.parametrics parametric_args)) f.result ≡ Some result
@@ -55,15 +55,15 @@ pub record IsCallable (known : GlobalEnv) (f : Function) (name : List ℕ) (para
 abbrev pub IsTypeKnown : Option DslxType → Type 0
 IsTypeKnown o = (t : DslxType) × (o ≡ Some t) × (is_unit t ≡ false)
 
--- a default that is known: its value, which is of its own type
+-- a default that has a value, which is of its own type
 pub record IsDefaultKnown (types : Declarations) (seen : DefaultSeen) : Type 0 where
   pub value : DslxValue
   pub is : seen.value ≡ Some value
   pub typed : seen.judgement.ty ≡ Some (type_of_value value)
   pub own : GivesOf types (type_of_value value) (Some value)
 
--- a parametric of a function, behind these: its type is one of the text, and where nothing is wrong with its type and its
--- default, both are known
+-- a parametric of a function, behind these: its type is one of the text, and where its type and its default are well-typed,
+-- typing finds both
 pub record IsParametricKnown (known : GlobalEnv) (owner : List ℕ) (so_far : List Given) (p : Parametric) : Type 0 where
   pub declared : (t : DslxType) → known.type_in owner so_far [] p.ty ≡ Some t → IsDeclared known.items.type_named t
   pub typed : IsWellTypedPart known (known.type_seen_in owner so_far p.ty) → IsTypeKnown (known.type_in owner so_far [] p.ty)
@@ -76,20 +76,20 @@ EachParametricKnown known owner so_far (p ∷ ps) =
     IsParametricKnown known owner so_far p
     × ((t : DslxType) (v : DslxValue) → declared_type known owner (known_before so_far) p.ty ≡ Some t → GivesOf known.items.type_named t (Some v) → EachParametricKnown known owner (with_number so_far p v) ps)
 
--- the types of arguments, where they are known, are types of the text
+-- the types of arguments, where these have one, are types of the text
 abbrev pub EachArgumentDeclared : GlobalEnv → List ℕ → List Given → List Field → Type 0
 EachArgumentDeclared known owner bound [] = Unit {0}
 EachArgumentDeclared known owner bound (f ∷ fs) = ((t : DslxType) → known.type_in owner bound [] f.ty ≡ Some t → IsDeclared known.items.type_named t) × EachArgumentDeclared known owner bound fs
 
 -- a function of the text: its parametrics by their types and defaults, its arguments by their types, and what its instances
--- give with which nothing is wrong, where the parametrics have values of their types
+-- give that are well-typed, where the parametrics have values of their types
 pub record IsFunctionKnown (known : GlobalEnv) (name : List ℕ) (f : Function) : Type 0 where
   pub mean : ParametricsMean known known.items f.name.name [] f.parametrics
   pub parametrics : EachParametricKnown known f.name.name [] f.parametrics
   pub arguments : (parametric_args : List DslxValue) → FitParametricArgs known f.name.name [] f.parametrics parametric_args → EachArgumentDeclared known f.name.name (parametric_args_bound [] f.parametrics parametric_args) f.arguments
   pub calls : (parametric_args : List DslxValue) → FitParametricArgs known f.name.name [] f.parametrics parametric_args → known.is_sound (record { name = f.name.name; parametric_args = parametric_args }) ≡ true → IsCallable known f name parametric_args
 
--- all items of the text are known: constants by their values, types, enums and structs by what they name, and functions
+-- all items of the text are in it: constants by their values, types, enums and structs by what they name, and functions
 pub record IsComplete (known : GlobalEnv) : Type 0 where
   pub kinds : (name : List ℕ) → known.items.is_constant name ≡ is_constant_item (item_named name known.whole.items)
   pub constants : (name : List ℕ) → known.items.is_constant name ≡ true → (v : DslxValue) × (known.items.constant name ≡ Some v)

@@ -5,7 +5,7 @@ use Rattle.dslx_meaning.specs.Types.{unit_type}
 use Rattle.dslx_meaning.specs.declared.ty.DslxType.{DslxType, Bits, Tuple, Array, Struct, Token, fold-DslxType}
 use Rattle.dslx_meaning.specs.declared.ty.DslxType.TheOpen.{DslxType-F}
 
--- what types names stand for
+-- the types that names denote
 abbrev pub Declarations : Type 0
 Declarations = List ℕ → Option DslxType
 
@@ -21,7 +21,7 @@ declared_step types (DslxType-F.Struct name fields ts) = unwrap_or (types name) 
 declared_step types (DslxType-F.Enum name s w) = unwrap_or (types name) unit_type
 declared_step types DslxType-F.Token = Token
 
--- the type with each struct and enum replaced by what its name stands for, and () in the place of arrays without an element
+-- the type with each struct and enum replaced by what its name denotes, and () in the place of arrays without an element
 abbrev pub as_declared : Declarations → DslxType → DslxType
 as_declared types = fold-DslxType DslxType (declared_step types)
 

@@ -1,4 +1,4 @@
--- What an expression gives where its type is known.
+-- What an expression gives where it has a type.
 use Rattle.std.specs.Prelude.{◌≡◌, ℕ, List, [], ◌∷◌, true, Option, Some, None}
 use Rattle.dslx_meaning.specs.declared.ty.DslxType.{DslxType}
 use Rattle.dslx_meaning.specs.declared.value.DslxValue.{DslxValue}
@@ -22,7 +22,7 @@ pub record GivesOf (types : Declarations) (t : DslxType) (o : Option DslxValue) 
 abbrev pub IsSized : Option ℕ → Type 0
 IsSized o = (n : ℕ) × (o ≡ Some n)
 
--- where the judgement has a type, a value of that type is given
+-- where the judgement has a type, there is a value of that type
 abbrev pub GivesItsType : Declarations → Judgement → Option DslxValue → Type 0
 GivesItsType types j o = (t : DslxType) → j.ty ≡ Some t → GivesOf types t o
 
@@ -33,7 +33,7 @@ EachGives types context (e ∷ es) (o ∷ os) = GivesItsType types (alone contex
 EachGives types context [] (o ∷ os) = ⊥
 EachGives types context (e ∷ es) [] = ⊥
 
--- where the type is known, it is what is meant, and one of the text
+-- where the judgement has a type, it is the one that is denoted, and one of the text
 abbrev pub TypeMeans : Declarations → Judgement → Option DslxType → Type 0
 TypeMeans types j u = (t : DslxType) → j.ty ≡ Some t → (u ≡ Some t) × IsDeclared types t
 
@@ -43,7 +43,7 @@ EachTypeMeans types context (p ∷ ps) (u ∷ us) = TypeMeans types (p.1 context
 EachTypeMeans types context [] (u ∷ us) = ⊥
 EachTypeMeans types context (p ∷ ps) [] = ⊥
 
--- an expression as it is judged, and as it means something: the number without a type that it is, and its value
+-- an expression as it is typed, and its denotation: the untyped literal that it is, and its value
 pub record MeansThere (types : Declarations) (context : TypeEnv) (env : Env) (e : ExprPair) (m : ExprDen) : Type 0 where
   pub bare : untyped_of e ≡ m.bare
   pub gives : GivesItsType types (alone context e) (m.value env)
@@ -69,7 +69,7 @@ OwnTypes names types (n ∷ ns) (t ∷ ts) = (beside n names types ≡ Some t) �
 OwnTypes names types [] (t ∷ ts) = ⊥
 OwnTypes names types (n ∷ ns) [] = ⊥
 
--- fields that are written, each with what it means
+-- fields that are written, each with its denotation
 abbrev pub FieldsMean : Declarations → TypeEnv → Env → Option DslxType → List FieldSeen → List FieldDen → Type 0
 FieldsMean types context env struct [] [] = Unit {0}
 FieldsMean types context env struct (f ∷ fs) (m ∷ ms) = (f.name.name ≡ m.name) × GivesItsType types (field_typing context struct f) (m.value env) × FieldsMean types context env struct fs ms

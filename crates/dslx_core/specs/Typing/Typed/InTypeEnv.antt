@@ -1,4 +1,4 @@
--- What is bound at a place, as constants there see it.
+-- What is bound in an environment, as constants there see it.
 use Rattle.std.specs.Prelude.{◌≡◌, ℕ, List, map, true, false}
 use Rattle.dslx_meaning.specs.Lists.{is_in}
 use Rattle.dslx_meaning.specs.Environment.{Given, Env, given_in}
@@ -13,6 +13,6 @@ pub record IsInTypeEnv (context : TypeEnv) (bound : List Given) : Type 0 where
   pub others : (name : List ℕ) → is_in name (local_names context) ≡ false → given_in name bound ≡ given_in name context.parametric_args
   pub hides : (name : List ℕ) → context.known.items.is_constant name ≡ true → is_in name (local_names context) ≡ false
 
--- the place itself, where items mean what is known of them
+-- the environment itself, where items denote what the global environment has of them
 abbrev pub env_there : TypeEnv → List Given → Env
 env_there context bound = record { items = context.known.items; bound = bound }

@@ -1,4 +1,4 @@
--- Parametrics, where what is known of them is what they mean.
+-- Parametrics whose typing agrees with what they denote.
 use Rattle.std.specs.Prelude.{◌≡◌, ℕ, List, [], ◌∷◌, Some}
 use Rattle.dslx_tree.specs.declared.expr.Expr.{Expr}
 use Rattle.dslx_tree.specs.declared.item.Parametric.{Parametric}
@@ -22,7 +22,7 @@ AllOwn types (v ∷ vs) = GivesOf types (type_of_value v) (Some v) × AllOwn typ
 abbrev pub AreOwn : Declarations → List Given → Type 0
 AreOwn types bound = (name : List ℕ) (v : DslxValue) → given_in name bound ≡ Some v → GivesOf types (type_of_value v) (Some v)
 
--- values of parametrics, each of the type that is known of its parameter behind those before it
+-- values of parametrics, each of the type that its parametric has behind those before it
 abbrev pub FitParametricArgs : GlobalEnv → List ℕ → List Given → List Parametric → List DslxValue → Type 0
 FitParametricArgs known owner so_far [] [] = Unit {0}
 FitParametricArgs known owner so_far (p ∷ ps) (v ∷ vs) =
@@ -30,7 +30,7 @@ FitParametricArgs known owner so_far (p ∷ ps) (v ∷ vs) =
 FitParametricArgs known owner so_far [] (v ∷ vs) = ⊥
 FitParametricArgs known owner so_far (p ∷ ps) [] = ⊥
 
--- the type and the default that are known of a parametric in the text of its item, behind these, are those that are meant
+-- the type and the default that typing finds of a parametric in the text of its item, behind these, are those that it denotes
 pub record ParametricMeans (known : GlobalEnv) (items : Meanings) (owner : List ℕ) (so_far : List Given) (p : Parametric) : Type 0 where
   pub types : (t : DslxType) → known.type_in owner so_far [] p.ty ≡ Some t → written_type p.ty (record { items = items; bound = so_far }) ≡ Some t
   pub defaults : (e : Expr) (v : DslxValue) → p.default ≡ Some e → (known.default_in owner so_far e).value ≡ Some v → value_of e (record { items = items; bound = so_far }) ≡ Some v

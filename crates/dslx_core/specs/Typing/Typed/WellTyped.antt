@@ -20,16 +20,16 @@ use Rattle.dslx_core.specs.Typing.Typed.Given.{GivesOf, GivesItsType}
 use Rattle.dslx_core.specs.Typing.Typed.InTypeEnv.{IsInTypeEnv}
 use Rattle.dslx_core.specs.Typing.Typed.Complete.{IsComplete}
 
--- what type names stand for at a place
+-- what type names denote in a type environment
 abbrev pub types_at : TypeEnv → Declarations
 types_at context = context.known.items.type_named
 
--- a value that is known, and is of its own type
+-- a value, which is of its own type
 pub record IsKnownValue (types : Declarations) (v : DslxValue) (o : Option DslxValue) : Type 0 where
   pub is : o ≡ Some v
   pub gives : GivesOf types (type_of_value v) o
 
--- names have the values that are known of them, and values of the types that are known of them
+-- names have the values that the type environment has of them, and values of the types that it has of them
 pub record IsWellTypedEnv (context : TypeEnv) (env : Env) : Type 0 where
   -- a bound name that has a type
   pub locals : (name : List ℕ) (t : DslxType) → typed_in name context.locals ≡ Some (Some t) → GivesOf (types_at context) t (given_in name env.bound)
@@ -46,7 +46,7 @@ pub record IsWellTypedEnv (context : TypeEnv) (env : Env) : Type 0 where
   -- each bound name has a type, and each parametric a value
   pub typed : (name : List ℕ) → typed_in name context.locals ≡ Some None → ⊥
   pub valued : context.unknown ≡ []
-  -- constants see what is bound, and items mean what is known of them, which is all of them
+  -- constants see what is bound, and items denote what the global environment has of them, which has all of them
   pub place : IsInTypeEnv context env.bound
   pub items : env.items ≡ context.known.items
   pub known : IsComplete context.known
@@ -58,7 +58,7 @@ pub data FitsOrFails (may_fail : Bool) (context : TypeEnv) (seen : PatternSeen) 
   Fits : (inner : Env) → o ≡ Some inner → IsWellTypedEnv (with_typed context seen.locals) inner → FitsOrFails may_fail context seen o
   Fails : o ≡ None → may_fail ≡ true → seen.is_sure ≡ false → FitsOrFails may_fail context seen o
 
--- of a pattern that breaks no rule, in a pattern at a place, whose other names are bound so far
+-- of a pattern that breaks no rule, in a pattern in an environment, whose other names are bound so far
 abbrev pub PatternKeeps : PatternTyping → MatchDen → Type 0
 PatternKeeps p fits = (may_fail : Bool) (context : TypeEnv) (t : DslxType) (names : List (List ℕ)) (locals : List Typed) (place env : Env) (v : DslxValue)
     → IsWellTypedEnv context place → IsWellTypedEnv (with_typed context locals) env → GivesOf (types_at context) t (Some v) → has_broken (p may_fail context (Some t) names locals).faults ≡ false
@@ -94,7 +94,7 @@ AllKeep context (s ∷ ss) (g ∷ gs) = StatementKeeps context s g × AllKeep (s
 AllKeep context [] (g ∷ gs) = ⊥
 AllKeep context (s ∷ ss) [] = ⊥
 
--- a last expression, in each place where the type environment is well typed
+-- a last expression, in each environment where the type environment is well typed
 abbrev pub LastGives : TypeEnv → Option ExprPair → Option ExprDen → Type 0
 LastGives context None None = Unit {0}
 LastGives context (Some e) (Some m) = (env : Env) → IsWellTypedEnv context env → GivesItsType (types_at context) (alone context e) (m.value env)
@@ -103,13 +103,13 @@ LastGives context (Some e) None = ⊥
 
 -- ---- arms
 
--- the value comes to an arm: a pattern of it fits, or it is the last one and binds nothing
+-- the value reaches an arm: a pattern of it fits, or it is the last one and binds nothing
 abbrev pub comes_to_an_arm : List ArmDen → DslxValue → Env → Bool
 comes_to_an_arm [] v env = false
 comes_to_an_arm (a ∷ []) v env = is_there (first_fit a.patterns v env) || list_all env.items.is_constant (all_names a.patterns)
 comes_to_an_arm (a ∷ b ∷ as') v env = is_there (first_fit a.patterns v env) || comes_to_an_arm (b ∷ as') v env
 
--- an arm gives a value of its type behind a pattern that fits, and where it binds nothing also at the place of the `match`
+-- an arm gives a value of its type behind a pattern that fits, and where it binds nothing also in the environment of the `match`
 pub record ArmGives (context : TypeEnv) (t : Option DslxType) (a : ArmSeen) (m : ArmDen) (v : DslxValue) (env : Env) : Type 0 where
   pub behind : (inner : Env) → first_fit m.patterns v env ≡ Some inner → GivesItsType (types_at context) (arm_typing context t a).value (m.value inner)
   pub here : list_all env.items.is_constant (all_names m.patterns) ≡ true → GivesItsType (types_at context) (arm_typing context t a).value (m.value env)

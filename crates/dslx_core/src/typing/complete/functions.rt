@@ -9,8 +9,8 @@ ghost use Rattle.dslx_core.specs.Typing.Typed.Complete.{IsComplete};
 ghost use Rattle.dslx_core.specs.Typing.Typed.Numbers.{AllOwn, FitParametricArgs};
 ghost use Rattle.std.specs.Prelude.{List, ℕ};
 
-/// A parametric of any function: its type and its default are known where nothing is wrong with them, and are those that
-/// are meant. An instance with whose text nothing is wrong gives values of the type of its result, where its parametrics
+/// A parametric of any function: typing finds its type and its default where they are well-typed, and they are those that
+/// it denotes. An instance whose text is well-typed gives values of the type of its result, where its parametrics
 /// have values of their own types, as those have that fit.
 pub fn functions_are_known()
     ensures parametric { (known : GlobalEnv) → IsComplete known → AreTyped known → (owner : List ℕ) (p : Parametric) → ParametricHasValue known owner p }

@@ -12,12 +12,12 @@ ghost use Rattle.dslx_core.specs.Typing.Typed.Declared.{Declarations, IsDeclared
 ghost use Rattle.dslx_core.specs.Typing.Typed.Given.{GivesOf};
 ghost use Rattle.std.specs.Prelude.{Option};
 
-/// A constant with whose text nothing is wrong has a value, which is of its own type and the one that is meant.
+/// A constant whose text is well-typed has a value, which is of its own type and the one that it denotes.
 pub fn constants_are_known()
     ensures { (known : GlobalEnv) → IsComplete known → AreTyped known → (c : Constant) → IsWellTypedFound known (constant_seen known c).found → ConstantHasValue known c }
 {}
 
-/// An alias, a struct and an enum with whose text nothing is wrong name a type of the text, the one that is meant, and each
+/// An alias, a struct and an enum whose text is well-typed name a type of the text, the one that they denote, and each
 /// member of the enum has a value.
 pub fn types_are_known()
     ensures of_alias { (known : GlobalEnv) → IsComplete known → AreTyped known → (a : Alias) → IsWellTypedFound known (alias_seen known a).found → AliasHasType known a }

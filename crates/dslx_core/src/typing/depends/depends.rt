@@ -13,7 +13,7 @@ ghost use Rattle.dslx_tree.specs.declared.item.Module.{Module};
 ghost use Rattle.dslx_tree.specs.declared.type_expr.TypeExpr.{TypeExpr};
 ghost use Rattle.std.specs.Prelude.{◌≡◌, ◌≤◌, Bool, List, ℕ, Some, length};
 
-/// Where the same is known in two ways of what a part of a text mentions, of the enums that its item reaches, and of the
+/// Where two global environments agree on what a part of a text mentions, on the enums that its item reaches, and on the
 /// constants that bound names hide, the part has one judgement by both: its type, what it breaks and passes, the instances
 /// that it reaches, and its size.
 pub fn a_judgement_depends_on_what_is_mentioned()
@@ -25,8 +25,8 @@ pub fn a_judgement_depends_on_what_is_mentioned()
         → SeesAlike P bound context.owner context.known other (mentioned_in_type t bound) → (type_pair t).1 context ≡ (type_pair t).1 (in_globals context other) }
 {}
 
-/// Where no item reaches itself and no function binds the name of a constant, what is known settles: by chains of as many
-/// items as the text has, and by all longer ones, the same is known of each constant, type, enum and function, and of the
+/// Where no item reaches itself and no function binds the name of a constant, global environments settle: by chains of as many
+/// items as the text has, and by all longer ones, they have the same of each constant, type, enum and function, and of the
 /// instances of functions.
 pub fn what_is_known_settles()
     ensures items { (m : Module) → HasNoCycle m → BindsNoConstant m → (a b : ℕ) → length m.items ≤ a → length m.items ≤ b

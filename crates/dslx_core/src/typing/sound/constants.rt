@@ -7,7 +7,7 @@ ghost use Rattle.dslx_core.specs.Typing.Typed.Complete.{IsWellTypedPart};
 ghost use Rattle.dslx_core.specs.Typing.Typed.WellTyped.{IsWellTypedEnv};
 ghost use Rattle.std.specs.Prelude.{Some, ℕ, ◌≡◌};
 
-/// What must be constant has a value that is known, and a width, a size or a depth a number.
+/// For what must be constant, typing finds the value, and for a width, a size or a depth a number.
 pub fn constants_have_values()
     ensures value { (context : TypeEnv) (env : Env) (e : ExprPair) (x : ExprDen) → ExprGives e x → IsWellTypedEnv context env → IsWellTypedPart context.known (constant_of context e).judgement → HasKnownValue context env e x }
     ensures count { (context : TypeEnv) (env : Env) (e : ExprPair) (x : ExprDen) → ExprGives e x → IsWellTypedEnv context env → IsWellTypedPart context.known (count_of context e).judgement → (n : ℕ) × ((count_of context e).count ≡ Some n) }

@@ -11,7 +11,7 @@ ghost use Rattle.dslx_core.specs.Typing.Sound.Sound.{EachTypeHasDen, ExprGives, 
 ghost use Rattle.std.specs.Prelude.{Bool, List, Some, [], map, ℕ};
 ghost use Rattle.xb_span.specs.declared.span.Span.{Span};
 
-/// Written types: each means what is known of it, and is known where nothing is wrong with it.
+/// Written types: the type that typing gives each is the one that it denotes, and it has one where it is well-typed.
 pub fn written_types_are_known()
     ensures plain { (span : Span) (s : Bool) (w : ℕ) → TypeHasDen (λ context. named_bits span s w) (λ env. Some (ty.Bits s w)) }
     ensures wide { (span : Span) (s : Bool) (e : ExprPair) (x : ExprDen) → ExprGives e x

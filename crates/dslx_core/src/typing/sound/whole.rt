@@ -17,8 +17,8 @@ ghost use Rattle.dslx_core.specs.Typing.Typed.Given.{GivesOf};
 ghost use Rattle.dslx_core.specs.Typing.Typed.WellTyped.{AreOperandsOf, IsWellTypedEnv, NameNoConstant, types_at};
 
 /// Whole expressions, blocks and instances of functions: what breaks no rule and passes no limit, and reaches nothing that
-/// does, has a type and a value of it, at each place where the type environment is well typed and all items of the text are
-/// known. An effect isn't judged so: it breaks a rule anywhere but at the top of `next`.
+/// does, has a type and a value of it, in each environment where the type environment is well typed and has all items of the
+/// text. An effect isn't typed so: it breaks a rule anywhere but at the top of `next`.
 pub fn an_expression_has_its_value()
     ensures expression { (e : Expr) (context : TypeEnv) (env : Env) → IsWellTypedEnv context env → IsWellTypedPart context.known ((expr_pair e).1 false context)
         → HasTypedValue (types_at context) ((expr_pair e).1 false context) (value_of e env) }

@@ -9,7 +9,7 @@ ghost use Rattle.dslx_meaning.specs.Rules.OperatorRules.{bound_number};
 ghost use Rattle.dslx_core.specs.Typing.Typed.Complete.{IsWellTypedPart};
 ghost use Rattle.dslx_core.specs.Typing.Typed.InTypeEnv.{IsInTypeEnv, env_there};
 
-/// What the rules know of an expression that must be constant is what it means at its place, whatever is bound there: a
+/// The value that typing finds for an expression that must be constant is the one that it denotes there, whatever is bound: a
 /// constant's value, a width, a size or a depth, and a bound of a slice. It stays so behind names that are bound, which are
 /// no constants'.
 pub fn known_constants_are_sound()

@@ -30,9 +30,9 @@ pub fn functions_give_values_of_their_types()
         → GivesOf known.items.type_named result (function_value items f parametric_args operands) }
 {}
 
-/// Parametrics: where the rules know all of them, those that are given, inferred and defaulted, a call finds the same
-/// ones, provided that they are of the types of their parameters, and that the types and defaults that are known of those are
-/// the ones that are meant. Operands that all have types infer the same for both.
+/// Parametrics: where typing finds all of them, those that are given, inferred and defaulted, a call finds the same
+/// ones, provided that they are of the types of their parameters, and that the types and defaults that typing finds of those are
+/// the ones that they denote. Operands that all have types infer the same for both.
 pub fn calls_find_their_parametrics()
     ensures found { (known : GlobalEnv) (items : Meanings) (owner : List ℕ)
         → (inferred : List Inferred) (maybe : List (List ℕ)) (so_far : List Given) (ps : List Parametric) (gs : List ParametricArgument) (vs ws : List DslxValue)

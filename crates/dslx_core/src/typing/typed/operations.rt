@@ -11,8 +11,8 @@ ghost use Rattle.dslx_meaning.specs.Rules.OperatorRules.{binary_typing, prefix_t
 ghost use Rattle.dslx_core.specs.Typing.Typed.Declared.{Declarations};
 ghost use Rattle.dslx_core.specs.Typing.Typed.Given.{GivesItsType};
 
-/// Operators and casts, where their operands give values of their types and a cast's written type means the type that is
-/// known of it.
+/// Operators and casts, where their operands give values of their types and a cast's written type denotes the type that
+/// typing gives it.
 pub fn operations_give_values_of_their_types()
     ensures binary { (types : Declarations) (span : Span) (context : TypeEnv) (o : Binary) (l r : ExprPair) (x y : Option DslxValue)
         → GivesItsType types (alone context l) x → GivesItsType types (alone context r) y

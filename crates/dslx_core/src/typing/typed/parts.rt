@@ -28,7 +28,7 @@ pub fn tuples_give_values_of_their_types()
         → GivesOf types whole x → part_type whole k ≡ Some t → GivesOf types t (and_then x (λ v. element_value v k)) }
 {}
 
-/// Elements of arrays, slices and parts of bits, where bounds and types mean what is known of them.
+/// Elements of arrays, slices and parts of bits, where the typing of bounds and types agrees with what they denote.
 pub fn parts_give_values_of_their_types()
     ensures index { (types : Declarations) (span : Span) (context : TypeEnv) (e i : ExprPair) (x y : Option DslxValue)
         → GivesItsType types (alone context e) x → GivesItsType types (alone context i) y

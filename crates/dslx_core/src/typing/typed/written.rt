@@ -11,8 +11,8 @@ ghost use Rattle.dslx_core.specs.Typing.Typed.Declared.{Declarations, IsDeclared
 ghost use Rattle.dslx_core.specs.Typing.Typed.Given.{EachTypeMeans, TypeMeans};
 ghost use Rattle.dslx_core.specs.Typing.Typed.WellTyped.{types_at};
 
-/// Written types: where a type is known, it is the one that is meant, and each of its structs and enums is the text's. Sizes
-/// have to mean what is known of them, as they do (`known_constants_are_sound`).
+/// Written types: where one has a type, it is the one that it denotes, and each of its structs and enums is the text's. Sizes
+/// have to denote the numbers that typing finds, as they do (`known_constants_are_sound`).
 pub fn known_types_are_sound()
     ensures bits { (types : Declarations) (span : Span) (s : Bool) (w : ℕ) → TypeMeans types (named_bits span s w) (Some (ty.Bits s w)) }
     ensures wide { (types : Declarations) (span : Span) (s : Bool) (n : CountSeen) (m : Option ℕ) → ((k : ℕ) → n.count ≡ Some k → m ≡ Some k)

@@ -3,7 +3,7 @@ use Rattle.dslx_tree.specs.declared.item.Parametric.{Parametric}
 use Rattle.dslx_meaning.specs.Items.{parametric_args_bound}
 use Rattle.dslx_core.specs.Lowering.Steps.{LoweredNext, lower_next}
 use Rattle.dslx_core.specs.Machines.Extension.Results.{TableResult}
-use Rattle.dslx_next.specs.Steps.GlobalEnv.{parametric_args_known}
+use Rattle.dslx_next.specs.Steps.BodyEnvs.{parametric_args_known}
 use Rattle.dslx_elab.specs.Behind.{behind_next}
 use Rattle.dslx_elab.proofs.Whole.{nothing_behind, nothing_of_next, whole_comes}
 use Rattle.dslx_elab.proofs.instance.proc_there.Goals as goal

@@ -48,7 +48,7 @@ last_element s = record s { counts = 0 ∷ s.counts; flags = false ∷ s.flags }
 abbrev pub repeated : SemanticStacks → SemanticStacks
 repeated s = record s { token_spans = drop 1 s.token_spans; counts = 0 ∷ s.counts; flags = true ∷ s.flags }
 
--- the elements of an array at this place, with this type
+-- the elements of an array with this span and this type
 abbrev pub array_at : Span → Option TypeExpr → SemanticStacks → SemanticStacks
 array_at span ty s =
     let count = top_or 0 s.counts in
@@ -98,7 +98,7 @@ unit_expr s =
     let span = across 2 s.token_spans in
     record s { token_spans = drop 2 s.token_spans; expr_spans = span ∷ s.expr_spans; exprs = expr_at span (nodes.Tuple []) ∷ s.exprs }
 
--- `( expr )`: the expression stays, and its place takes in the parentheses
+-- `( expr )`: the expression stays, and its span takes in the parentheses
 abbrev pub grouped : SemanticStacks → SemanticStacks
 grouped s = record s {
   token_spans = drop 2 s.token_spans;

@@ -1,4 +1,4 @@
--- An expression and its place on the stacks.
+-- An expression and its span on the stacks.
 use Rattle.std.specs.Prelude.{drop}
 use Rattle.xb_span.specs.declared.span.Span.{Span}
 use Rattle.dslx_tree.specs.declared.expr.Expr.{Expr, roll-Expr}
@@ -10,7 +10,7 @@ use Rattle.base.specs.Stacks.Tops.{top_or}
 abbrev pub expr_at : Span → Node → Expr
 expr_at span node = roll-Expr (record { span = span; node = node })
 
--- the expression on top, and its place
+-- the expression on top, and its span
 abbrev pub first_expr : SemanticStacks → Expr
 first_expr s = top_or no_expr s.exprs
 

@@ -86,7 +86,7 @@ pub fn typed_array(parts: &mut SemanticStacks, alloc: Global) -> Result<(), Allo
     array_at(parts, span, Some(ty))
 }
 
-/// The elements of an array at this place, with this type.
+/// The elements of an array with this span and this type.
 fn array_at(
     parts: &mut SemanticStacks,
     span: Span,
@@ -131,7 +131,7 @@ pub fn unit_expr(parts: &mut SemanticStacks, alloc: Global) -> Result<(), AllocE
     push_expr(parts, span, Node::Tuple(Seq::new(alloc)))
 }
 
-/// `( expr )`: the expression stays, and its place takes in the parentheses.
+/// `( expr )`: the expression stays, and its span takes in the parentheses.
 pub fn grouped(parts: &mut SemanticStacks) -> Result<(), AllocError>
     ensures { OnOk result (parts.new ≡ grouped parts.old) }
 {

@@ -1,4 +1,4 @@
-//! An expression and its place on the stacks.
+//! An expression and its span on the stacks.
 
 ghost use Rattle.std.specs.Prelude.{◌≡◌, ◌∷◌, drop, IfOk, OnOk};
 ghost use Rattle.dslx_node_actions.specs.Exprs.Atoms.Exprs.{expr_at, first_expr, first_span};
@@ -9,7 +9,7 @@ use std::alloc::{AllocError, Global};
 use xb_span::Span;
 use xb_value::Boxed;
 
-/// Adds an expression and its place.
+/// Adds an expression and its span.
 pub fn push_expr(parts: &mut SemanticStacks, span: Span, node: Node) -> Result<(), AllocError>
     ensures { OnOk result (parts.new ≡ record parts.old {
       expr_spans = span ∷ parts.old.expr_spans;
@@ -20,7 +20,7 @@ pub fn push_expr(parts: &mut SemanticStacks, span: Span, node: Node) -> Result<(
     parts.expr_spans.push(span)
 }
 
-/// Takes the expression on top, with its place.
+/// Takes the expression on top, with its span.
 pub fn pop_expr(parts: &mut SemanticStacks) -> (Span, Expr)
     ensures place { result.0 ≡ first_span parts.old }
     ensures expr { result.1 ≡ first_expr parts.old }

@@ -10,7 +10,7 @@ use std::alloc::{AllocError, Global};
 use xb_span::Span;
 use xb_value::Boxed;
 
-/// Takes the two expressions on top, the lower one first, with its place.
+/// Takes the two expressions on top, the lower one first, with its span.
 pub fn pop_pair(
     parts: &mut SemanticStacks,
     alloc: Global,

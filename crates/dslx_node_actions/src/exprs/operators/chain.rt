@@ -24,7 +24,7 @@ pub fn chain(parts: &mut SemanticStacks, alloc: Global) -> Result<(), AllocError
     parts.expr_spans.push(span)
 }
 
-/// The tree of a chain with its place, at once where it has no operator, as most have none.
+/// The tree of a chain with its span, at once where it has no operator, as most have none.
 fn joined(
     alloc: Global,
     span: Span,

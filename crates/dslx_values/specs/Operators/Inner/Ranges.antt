@@ -14,6 +14,6 @@ is_small_below signed w (suc n) = signed && nat_lt n (2 ^ (w - 1))
 abbrev pub rank_in : Bool → ℕ → ℕ → ℕ
 rank_in signed half n = if signed then (if nat_lt n half then n + half else (n - half)) else n
 
--- the place of a word among all of its type, the least one first
+-- the index of a word among all of its type, the least one first
 abbrev pub rank_of : SignedWord → ℕ
 rank_of x = rank_in x.signed (2 ^ (x.word.width - 1)) x.word.value

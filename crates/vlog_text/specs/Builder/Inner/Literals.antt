@@ -1,4 +1,4 @@
--- Literals that are said in a text have a width, and are below 2 to the power of it.
+-- Literals of a text have a width, and are below 2 to the power of it.
 use Rattle.std.specs.Prelude.{◌≡◌, ℕ, ◌<◌, ◌≤◌, ◌^◌, ◌&&◌, nat_le, nat_lt, max, if◌then◌else◌, true}
 use Rattle.std.proofs.Common.{arith}
 use Rattle.std.proofs.lemmas.Bool.{cond_both}

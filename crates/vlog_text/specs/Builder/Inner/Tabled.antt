@@ -1,4 +1,4 @@
--- A table that has the place of each name.
+-- A table that has the index of each name.
 use Rattle.std.specs.Prelude.{◌≡◌, ℕ, List, Option}
 use Rattle.std.specs.Str.{bytes_eq}
 use Rattle.std.specs.HashMap.{HashMap, get_by}

@@ -10,7 +10,7 @@ use Rattle.vlog_tree.specs.Verifier.Loops.{ReadsWire, Depends}
 abbrev pub IsFree : VModule → Assignment → Type 0
 IsFree m a = ¬ (Depends m a.target.0 a.target.0)
 
--- the assignments before place i have targets that don't depend on themselves
+-- the assignments before index i have targets that don't depend on themselves
 abbrev pub AreFreeBefore : VModule → ℕ → Type 0
 AreFreeBefore m i = (j : ℕ) (b : Assignment) → j < i → slice_get m.assignments j ≡ Some b → IsFree m b
 
@@ -18,7 +18,7 @@ abbrev pub IsFirstLoop : VModule → Option ℕ → Type 0
 IsFirstLoop m None = (i : ℕ) (a : Assignment) → slice_get m.assignments i ≡ Some a → IsFree m a
 IsFirstLoop m (Some i) = (a : Assignment) × (slice_get m.assignments i ≡ Some a) × Depends m a.target.0 a.target.0 × AreFreeBefore m i
 
--- the needs of each signal are the wires that it reads, by assignments before place i
+-- the needs of each signal are the wires that it reads, by assignments before index i
 pub record AreNeedsBefore (m : VModule) (i : ℕ) (needs : List (List ℕ)) : Type 0 where
   pub size : length needs ≡ count_of m
   pub sound : (t s : ℕ) → Needs needs t s → ReadsWire m t s

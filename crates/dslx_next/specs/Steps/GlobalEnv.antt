@@ -1,2 +1,0 @@
--- What is known in the body of a `next`, as the crate below defines it, passed on.
-pub use Rattle.dslx_next.specs.Opening.Works.{parametric_args_known}
