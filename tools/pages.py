@@ -24,7 +24,7 @@ import sys
 MAP, PROVED, TOOLS = 'docs/ARCHITECTURE.md', 'docs/PROVED.md', 'tools/README.md'
 FROM, TO = '<!-- crates: written by tools/pages.py -->', '<!-- crates: end -->'
 MOST = 95
-SIZES = {'docs/DECISIONS.md': 26000, 'docs/PROVING.md': 20000, 'README.md': 8_000, MAP: 24_000, PROVED: 40_000}
+SIZES = {'docs/DECISIONS.md': 26000, 'docs/PROVING.md': 20000, 'README.md': 8_000, MAP: 20_480, PROVED: 40_000}
 LINK = re.compile(r'\[([^\]]*)\]\(([^)\s]+)\)')
 NAME = re.compile(r'`(\w+)`')
 PATH = re.compile(r'`((?:crates|docs|tools|examples|\.ci)/[^`\s]*|crates\.txt|HANDLES)[^`]*`')
@@ -68,7 +68,7 @@ def table():
         if name not in tests and name not in narrow:
             direct = [it for it in below if not any(it in closed[other] for other in below)]
             rows.append(f'| `{name}` | {what_it_is(name)} | {" ".join(direct)} |')
-    return '\n'.join([*rows, '', f'Tests alone: {", ".join(f"`{name}`" for name in tests)}. The narrowed language: {", ".join(f"`{name}`" for name in narrow)}.'])
+    return '\n'.join([*rows, '', f'Tests alone: {", ".join(f"`{name}`" for name in tests)}. The narrowed language: {len(narrow)} crates, `dslx_narrow_*`.'])
 
 
 def slugs(page):

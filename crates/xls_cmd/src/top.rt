@@ -38,13 +38,13 @@ pub fn xls_main<R: Threads + Wait + Sync, F: Files, O: Sink, E: Sink, G: Gate + 
     gate: &G,
 ) -> u8
     ensures answered { let texts = map string_bytes words.now in
-        IsAnswered (expected texts (F.known_contents files.old)) (named_files texts)
+        IsAnswered (expected texts (F.told files.old)) (named_files texts)
         (file_events F.asked F.faults F.taken files.old files.new)
         (sink_events O.written O.faults out.old out.new)
         (sink_events E.written E.faults err.old err.new) result }
 
     // So what is expected is answered, but for want of memory, where no fault was counted.
-    ensures complete { IfSome (F.known_contents files.old) (λ holds. (given : Result (List ℕ) Cause) → expected (map string_bytes words.now) (Some holds) given →
+    ensures complete { IfSome (F.told files.old) (λ holds. (given : Result (List ℕ) Cause) → expected (map string_bytes words.now) (Some holds) given →
         ¬ HasRisen (F.faults files.old) (F.faults files.new) → ¬ HasRisen (O.faults out.old) (O.faults out.new) →
         (result ≡ status_for given) ⊎ (result ≡ 3)) }
 {
@@ -65,11 +65,11 @@ pub fn answer_alone<F: Files, O: Sink, E: Sink>(
 ) -> Option<u8>
     ensures answered { let texts = map string_bytes words.now in
         MatchOption result (IsLeftToWorkers texts (files.new ≡ files.old) (out.new ≡ out.old) (err.new ≡ err.old))
-        (λ status. IsAnswered (expected texts (F.known_contents files.old)) (named_files texts)
+        (λ status. IsAnswered (expected texts (F.told files.old)) (named_files texts)
         (file_events F.asked F.faults F.taken files.old files.new)
         (sink_events O.written O.faults out.old out.new)
         (sink_events E.written E.faults err.old err.new) status) }
-    ensures complete { IfSome result (λ status. IfSome (F.known_contents files.old) (λ holds. (given : Result (List ℕ) Cause) → expected (map string_bytes words.now) (Some holds) given →
+    ensures complete { IfSome result (λ status. IfSome (F.told files.old) (λ holds. (given : Result (List ℕ) Cause) → expected (map string_bytes words.now) (Some holds) given →
         ¬ HasRisen (F.faults files.old) (F.faults files.new) → ¬ HasRisen (O.faults out.old) (O.faults out.new) →
         (status ≡ status_for given) ⊎ (status ≡ 3))) }
 {
@@ -91,11 +91,11 @@ fn answer<R: Threads + Wait + Sync, F: Files, O: Sink, E: Sink, G: Gate + Sync>(
     gate: &G,
 ) -> u8
     ensures answered { let texts = map string_bytes words.now in
-        IsAnswered (expected texts (F.known_contents files.old)) (named_files texts)
+        IsAnswered (expected texts (F.told files.old)) (named_files texts)
         (file_events F.asked F.faults F.taken files.old files.new)
         (sink_events O.written O.faults out.old out.new)
         (sink_events E.written E.faults err.old err.new) result }
-    ensures complete { IfSome (F.known_contents files.old) (λ holds. (given : Result (List ℕ) Cause) → expected (map string_bytes words.now) (Some holds) given →
+    ensures complete { IfSome (F.told files.old) (λ holds. (given : Result (List ℕ) Cause) → expected (map string_bytes words.now) (Some holds) given →
         ¬ HasRisen (F.faults files.old) (F.faults files.new) → ¬ HasRisen (O.faults out.old) (O.faults out.new) →
         (result ≡ status_for given) ⊎ (result ≡ 3)) }
 {
@@ -112,7 +112,7 @@ fn execute_alone<'a, F: Files>(
 ) -> Option<Result<Vec<u8>, Refusal<'a>>>
     ensures { let texts = map string_bytes words.entry.now in
         MatchOption result (wants_workers texts ≡ true × (files.new ≡ files.old))
-        (IsDone (λ text. text.items) (expected texts (F.known_contents files.old)) (named_files texts)
+        (IsDone (λ text. text.items) (expected texts (F.told files.old)) (named_files texts)
         (file_events F.asked F.faults F.taken files.old files.new)) }
 {
     match read_words(alloc, words) {
@@ -130,7 +130,7 @@ fn requested_alone<'a, F: Files>(
 ) -> Option<Result<Vec<u8>, Refusal<'a>>>
     requires bounds { IsInBounds arguments }
     ensures { MatchOption result (is_by_workers (named arguments.entry) ≡ true × (files.new ≡ files.old))
-        (IsDone (λ text. text.items) (expected_of (named arguments.entry) (F.known_contents files.old)) (files_of (named arguments.entry))
+        (IsDone (λ text. text.items) (expected_of (named arguments.entry) (F.told files.old)) (files_of (named arguments.entry))
         (file_events F.asked F.faults F.taken files.old files.new)) }
 {
     match arguments {
@@ -149,7 +149,7 @@ fn run_alone<'a, F: Files>(
     arguments: Run<&'a str>,
 ) -> Option<Result<Vec<u8>, Refusal<'a>>>
     ensures { MatchOption result (has_workers (named_run arguments.entry) ≡ true × (files.new ≡ files.old))
-        (IsDone (λ text. text.items) (expected_of_run (named_run arguments.entry) (F.known_contents files.old)) (run_files (named_run arguments.entry))
+        (IsDone (λ text. text.items) (expected_of_run (named_run arguments.entry) (F.told files.old)) (run_files (named_run arguments.entry))
         (file_events F.asked F.faults F.taken files.old files.new)) }
 {
     if arguments.how.workers > 1 {
@@ -165,7 +165,7 @@ fn run_in_turn<'a, F: Files>(
     files: &mut F,
     arguments: Run<&'a str>,
 ) -> Result<Vec<u8>, Refusal<'a>>
-    ensures { IsDone (λ text. text.items) (expected_of_run (named_run arguments.entry) (F.known_contents files.old)) (run_files (named_run arguments.entry))
+    ensures { IsDone (λ text. text.items) (expected_of_run (named_run arguments.entry) (F.told files.old)) (run_files (named_run arguments.entry))
         (file_events F.asked F.faults F.taken files.old files.new) result }
 {
     match arguments.how.source {
@@ -183,7 +183,7 @@ fn execute<'a, R: Threads + Wait + Sync, F: Files, G: Gate + Sync>(
     gate: &G,
 ) -> Result<Vec<u8>, Refusal<'a>>
     ensures { let texts = map string_bytes words.entry.now in
-        IsDone (λ text. text.items) (expected texts (F.known_contents files.old)) (named_files texts)
+        IsDone (λ text. text.items) (expected texts (F.told files.old)) (named_files texts)
         (file_events F.asked F.faults F.taken files.old files.new) result }
 {
     match read_words(alloc, words) {
@@ -202,7 +202,7 @@ fn requested<'a, R: Threads + Wait + Sync, F: Files, G: Gate + Sync>(
     gate: &G,
 ) -> Result<Vec<u8>, Refusal<'a>>
     requires bounds { IsInBounds arguments }
-    ensures { IsDone (λ text. text.items) (expected_of (named arguments.entry) (F.known_contents files.old)) (files_of (named arguments.entry))
+    ensures { IsDone (λ text. text.items) (expected_of (named arguments.entry) (F.told files.old)) (files_of (named arguments.entry))
         (file_events F.asked F.faults F.taken files.old files.new) result }
 {
     match arguments {
@@ -223,7 +223,7 @@ fn run<'a, R: Threads + Wait + Sync, F: Files, G: Gate + Sync>(
     gate: &G,
 ) -> Result<Vec<u8>, Refusal<'a>>
     requires { IsWorkerCount arguments.how.workers }
-    ensures { IsDone (λ text. text.items) (expected_of_run (named_run arguments.entry) (F.known_contents files.old)) (run_files (named_run arguments.entry))
+    ensures { IsDone (λ text. text.items) (expected_of_run (named_run arguments.entry) (F.told files.old)) (run_files (named_run arguments.entry))
         (file_events F.asked F.faults F.taken files.old files.new) result }
 {
     match arguments.how.source {
@@ -239,7 +239,7 @@ fn schedule<'a, F: Files>(
     arguments: Schedule<&'a str>,
 ) -> Result<Vec<u8>, Refusal<'a>>
     requires { 1 ≤ arguments.timing.stages }
-    ensures { IsDone (λ text. text.items) (expected_of_schedule (named_schedule arguments.entry) (F.known_contents files.old)) (files_of_schedule (named_schedule arguments.entry))
+    ensures { IsDone (λ text. text.items) (expected_of_schedule (named_schedule arguments.entry) (F.told files.old)) (files_of_schedule (named_schedule arguments.entry))
         (file_events F.asked F.faults F.taken files.old files.new) result }
 {
     match arguments.source {
@@ -254,7 +254,7 @@ fn opt<'a, F: Files>(
     files: &mut F,
     arguments: Opt<&'a str>,
 ) -> Result<Vec<u8>, Refusal<'a>>
-    ensures { IsDone (λ text. text.items) (expected_of_opt (named_opt arguments.entry) (F.known_contents files.old)) (files_of_opt (named_opt arguments.entry))
+    ensures { IsDone (λ text. text.items) (expected_of_opt (named_opt arguments.entry) (F.told files.old)) (files_of_opt (named_opt arguments.entry))
         (file_events F.asked F.faults F.taken files.old files.new) result }
 {
     match arguments.source {

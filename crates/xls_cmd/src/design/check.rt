@@ -20,7 +20,7 @@ pub fn check_design<'a, F: Files>(
     arguments: Check<&'a str>,
 ) -> Result<Vec<u8>, Refusal<'a>>
     ensures { let asked = named_check arguments.entry in
-        IsDone (λ text. text.items) (ExpectedBy (F.known_contents files.old) (λ holds. check holds asked)) (check_files asked)
+        IsDone (λ text. text.items) (ExpectedBy (F.told files.old) (λ holds. check holds asked)) (check_files asked)
         (file_events F.asked F.faults F.taken files.old files.new) result }
 {
     let design = load(alloc, files, arguments.design)?;

@@ -37,7 +37,7 @@ pub fn run_package<'a, R: Threads + Wait + Sync, F: Files, G: Gate + Sync>(
 ) -> Result<Vec<u8>, Refusal<'a>>
     requires { IsWorkerCount arguments.how.workers }
     ensures { let asked = named_run arguments.entry in
-        IsDone (λ text. text.items) (ExpectedBy (F.known_contents files.old) (λ holds. run holds asked)) (run_files asked)
+        IsDone (λ text. text.items) (ExpectedBy (F.told files.old) (λ holds. run holds asked)) (run_files asked)
         (file_events F.asked F.faults F.taken files.old files.new) result }
 {
     let how = arguments.how;
@@ -54,7 +54,7 @@ pub fn run_package_alone<'a, F: Files>(
     arguments: Run<&'a str>,
 ) -> Result<Vec<u8>, Refusal<'a>>
     ensures { let asked = named_run arguments.entry in
-        IsDone (λ text. text.items) (ExpectedBy (F.known_contents files.old) (λ holds. run holds asked)) (run_files asked)
+        IsDone (λ text. text.items) (ExpectedBy (F.told files.old) (λ holds. run holds asked)) (run_files asked)
         (file_events F.asked F.faults F.taken files.old files.new) result }
 {
     let how = arguments.how;
@@ -71,7 +71,7 @@ fn prepare<'a, F: Files>(
     arguments: Run<&'a str>,
 ) -> Result<Ready, Refusal<'a>>
     ensures done { let asked = named_run arguments.entry in
-        IsDone (shown asked.how) (ExpectedBy (F.known_contents files.old) (λ holds. run holds asked)) (run_files asked)
+        IsDone (shown asked.how) (ExpectedBy (F.told files.old) (λ holds. run holds asked)) (run_files asked)
         (file_events F.asked F.faults F.taken files.old files.new) result }
     ensures fits { IfOk result IsReady }
 {

@@ -19,7 +19,7 @@ pub fn opt_ir<'a, F: Files>(
     arguments: Opt<&'a str>,
 ) -> Result<Vec<u8>, Refusal<'a>>
     ensures { let asked = named_opt arguments.entry in
-        IsDone (λ text. text.items) (ExpectedBy (F.known_contents files.old) (λ holds. opt holds asked)) (opt_files asked)
+        IsDone (λ text. text.items) (ExpectedBy (F.told files.old) (λ holds. opt holds asked)) (opt_files asked)
         (file_events F.asked F.faults F.taken files.old files.new) result }
 {
     let design = load(alloc, files, arguments.design)?;

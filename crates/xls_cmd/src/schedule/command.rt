@@ -21,7 +21,7 @@ pub fn schedule_ir<'a, F: Files>(
 ) -> Result<Vec<u8>, Refusal<'a>>
     requires { 1 ≤ arguments.timing.stages }
     ensures { let asked = named_schedule arguments.entry in
-        IsDone (λ text. text.items) (ExpectedBy (F.known_contents files.old) (λ holds. schedule holds asked)) (schedule_files asked)
+        IsDone (λ text. text.items) (ExpectedBy (F.told files.old) (λ holds. schedule holds asked)) (schedule_files asked)
         (file_events F.asked F.faults F.taken files.old files.new) result }
 {
     let design = load(alloc, files, arguments.design)?;

@@ -17,13 +17,13 @@ pub fn load<'a, F: Files>(
     files: &mut F,
     name: &'a str,
 ) -> Result<Vec<u8>, Refusal<'a>>
-    ensures told_stays { F.known_contents files.new ≡ F.known_contents files.old }
+    ensures told_stays { F.told files.new ≡ F.told files.old }
     ensures asks { F.asked files.new ≡ F.asked files.old ++ name.entry.now ∷ [] }
     ensures taken_never_falls { F.taken files.old ≤ F.taken files.new }
-    ensures loaded { IfOk result (λ bytes. ExpectedBy (F.known_contents files.old) (λ holds. Loads holds name.entry.now) (Ok bytes.items)) }
+    ensures loaded { IfOk result (λ bytes. ExpectedBy (F.told files.old) (λ holds. Loads holds name.entry.now) (Ok bytes.items)) }
     ensures short { IfOk result (λ bytes. length bytes.items < 2 ^ 32) }
     ensures sound { OnOk result (F.faults files.new ≡ F.faults files.old) }
-    ensures refused { IfErr result (IsRefused (ExpectedBy (F.known_contents files.old) (λ holds. Loads holds name.entry.now))
+    ensures refused { IfErr result (IsRefused (ExpectedBy (F.told files.old) (λ holds. Loads holds name.entry.now))
         (file_events F.asked F.faults F.taken files.old files.new) (name.entry.now ∷ [])) }
 {
     match files.load(alloc, name) {

@@ -19,7 +19,7 @@ pub fn sim_design<'a, F: Files>(
     arguments: Sim<&'a str>,
 ) -> Result<Vec<u8>, Refusal<'a>>
     ensures { let asked = named_sim arguments.entry in
-        IsDone (λ text. text.items) (ExpectedBy (F.known_contents files.old) (λ holds. sim holds asked)) (sim_files asked)
+        IsDone (λ text. text.items) (ExpectedBy (F.told files.old) (λ holds. sim holds asked)) (sim_files asked)
         (file_events F.asked F.faults F.taken files.old files.new) result }
 {
     let design = load(alloc, files, arguments.design)?;

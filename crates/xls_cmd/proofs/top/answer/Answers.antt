@@ -8,18 +8,18 @@ use Rattle.xls_cmd.proofs.top.answer.Goals as goal
 
 pub returns-clause-answered : goal.returns-clause-answered
 returns-clause-answered g c =
-    answered (λ text. text.items) (expected (map string_bytes c.args.words.now) (g.F.Files.known_contents c.args.files.now)) (named_files (map string_bytes c.args.words.now))
+    answered (λ text. text.items) (expected (map string_bytes c.args.words.now) (g.F.Files.told c.args.files.now)) (named_files (map string_bytes c.args.words.now))
     (file_events g.F.Files.asked g.F.Files.faults g.F.Files.taken c.args.files.now c.execute-given.new.files)
     (sink_events g.O.Sink.written g.O.Sink.faults c.args.out.now c.respond.new.out) (sink_events g.E.Sink.written g.E.Sink.faults c.args.err.now c.respond.new.err)
     c.execute-given.result c.respond.result c.execute-given.ensures c.respond.ensures
 
 pub returns-clause-complete : goal.returns-clause-complete
 returns-clause-complete g c =
-    let all = answered (λ text. text.items) (expected (map string_bytes c.args.words.now) (g.F.Files.known_contents c.args.files.now)) (named_files (map string_bytes c.args.words.now))
+    let all = answered (λ text. text.items) (expected (map string_bytes c.args.words.now) (g.F.Files.told c.args.files.now)) (named_files (map string_bytes c.args.words.now))
     (file_events g.F.Files.asked g.F.Files.faults g.F.Files.taken c.args.files.now c.execute-given.new.files)
     (sink_events g.O.Sink.written g.O.Sink.faults c.args.out.now c.respond.new.out) (sink_events g.E.Sink.written g.E.Sink.faults c.args.err.now c.respond.new.err)
     c.execute-given.result c.respond.result c.execute-given.ensures c.respond.ensures in
-    completely c.one_answer.ensures.agrees (map string_bytes c.args.words.now) (g.F.Files.known_contents c.args.files.now)
+    completely c.one_answer.ensures.agrees (map string_bytes c.args.words.now) (g.F.Files.told c.args.files.now)
     (file_events g.F.Files.asked g.F.Files.faults g.F.Files.taken c.args.files.now c.execute-given.new.files) all.names
     (sink_events g.O.Sink.written g.O.Sink.faults c.args.out.now c.respond.new.out) (sink_events g.E.Sink.written g.E.Sink.faults c.args.err.now c.respond.new.err)
     c.respond.result (HasRisen (g.F.Files.faults c.args.files.now) (g.F.Files.faults c.execute-given.new.files)) (HasRisen (g.O.Sink.faults c.args.out.now) (g.O.Sink.faults c.respond.new.out))

@@ -7,10 +7,10 @@ use Rattle.xls_cmd.proofs.top.run_in_turn.Goals as goal
 
 pub returns-in-Dslx : goal.returns-in-Dslx
 returns-in-Dslx g c =
-    done_by_source (λ text. text.items) [] (g.F.Files.known_contents c.args.files.now) (file_events g.F.Files.asked g.F.Files.faults g.F.Files.taken c.args.files.now c.run_design_alone.new.files) c.run_design_alone.result
+    done_by_source (λ text. text.items) [] (g.F.Files.told c.args.files.now) (file_events g.F.Files.asked g.F.Files.faults g.F.Files.taken c.args.files.now c.run_design_alone.new.files) c.run_design_alone.result
     Dslx (named_run c.args.arguments) c.in-Dslx.is c.run_design_alone.ensures
 
 pub returns-in-Ir : goal.returns-in-Ir
 returns-in-Ir g c =
-    done_by_source (λ text. text.items) [] (g.F.Files.known_contents c.args.files.now) (file_events g.F.Files.asked g.F.Files.faults g.F.Files.taken c.args.files.now c.run_package_alone.new.files) c.run_package_alone.result
+    done_by_source (λ text. text.items) [] (g.F.Files.told c.args.files.now) (file_events g.F.Files.asked g.F.Files.faults g.F.Files.taken c.args.files.now c.run_package_alone.new.files) c.run_package_alone.result
     Ir (named_run c.args.arguments) c.in-Ir.is c.run_package_alone.ensures

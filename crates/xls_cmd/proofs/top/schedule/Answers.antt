@@ -9,10 +9,10 @@ use Rattle.xls_cmd.proofs.top.schedule.Goals as goal
 
 pub returns-in-Dslx : goal.returns-in-Dslx
 returns-in-Dslx g c =
-    schedule_by_source (λ text. text.items) [] (g.F.Files.known_contents c.args.files.now) (file_events g.F.Files.asked g.F.Files.faults g.F.Files.taken c.args.files.now c.args.files.now) (Err (Fault Usage)) Dslx (named_schedule c.args.arguments) (sym c.in-Dslx.is)
+    schedule_by_source (λ text. text.items) [] (g.F.Files.told c.args.files.now) (file_events g.F.Files.asked g.F.Files.faults g.F.Files.taken c.args.files.now c.args.files.now) (Err (Fault Usage)) Dslx (named_schedule c.args.arguments) (sym c.in-Dslx.is)
     (record { names = []; in_order = tt; asked = nothing_asked (g.F.Files.asked c.args.files.now); gives = (refl, refl, tt) })
 
 pub returns-in-Ir : goal.returns-in-Ir
 returns-in-Ir g c =
-    schedule_by_source (λ text. text.items) [] (g.F.Files.known_contents c.args.files.now) (file_events g.F.Files.asked g.F.Files.faults g.F.Files.taken c.args.files.now c.schedule_ir.new.files) c.schedule_ir.result Ir (named_schedule c.args.arguments) (sym c.in-Ir.is)
+    schedule_by_source (λ text. text.items) [] (g.F.Files.told c.args.files.now) (file_events g.F.Files.asked g.F.Files.faults g.F.Files.taken c.args.files.now c.schedule_ir.new.files) c.schedule_ir.result Ir (named_schedule c.args.arguments) (sym c.in-Ir.is)
     c.schedule_ir.ensures

@@ -8,10 +8,10 @@ use Rattle.xls_cmd.proofs.design.run.run_design.Goals as goal
 
 pub returns-in-Ok : goal.returns-in-Ok
 returns-in-Ok g c =
-    done_from (shown c.args.arguments.how) (λ text. text.items) (ExpectedBy (g.F.Files.known_contents c.args.files.now) (λ holds. run holds (named_run c.args.arguments))) (run_files (named_run c.args.arguments))
+    done_from (shown c.args.arguments.how) (λ text. text.items) (ExpectedBy (g.F.Files.told c.args.files.now) (λ holds. run holds (named_run c.args.arguments))) (run_files (named_run c.args.arguments))
     (file_events g.F.Files.asked g.F.Files.faults g.F.Files.taken c.args.files.now c.prepare.new.files) c.in-Ok.ready c.ran.result c.or_no_memory.result c.in-Ok.ensures.done c.ran.ensures c.or_no_memory.ensures
 
 pub returns-in-Err : goal.returns-in-Err
 returns-in-Err g c =
-    done_refused (shown c.args.arguments.how) (λ text. text.items) (ExpectedBy (g.F.Files.known_contents c.args.files.now) (λ holds. run holds (named_run c.args.arguments))) (run_files (named_run c.args.arguments))
+    done_refused (shown c.args.arguments.how) (λ text. text.items) (ExpectedBy (g.F.Files.told c.args.files.now) (λ holds. run holds (named_run c.args.arguments))) (run_files (named_run c.args.arguments))
     (file_events g.F.Files.asked g.F.Files.faults g.F.Files.taken c.args.files.now c.prepare.new.files) c.in-Err.refusal c.in-Err.ensures.done

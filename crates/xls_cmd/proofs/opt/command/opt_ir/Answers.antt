@@ -10,15 +10,15 @@ use Rattle.xls_cmd.proofs.opt.command.opt_ir.Goals as goal
 pub returns-in_err-design : goal.returns-in_err-design
 returns-in_err-design g c =
     all_handed c.from_residual.result c.in_err-design.field-0.0
-    (λ given. IsDone (λ text. text.items) (ExpectedBy (g.F.Files.known_contents c.args.files.now) (λ holds. opt holds (named_opt c.args.arguments))) (opt_files (named_opt c.args.arguments))
+    (λ given. IsDone (λ text. text.items) (ExpectedBy (g.F.Files.told c.args.files.now) (λ holds. opt holds (named_opt c.args.arguments))) (opt_files (named_opt c.args.arguments))
     (file_events g.F.Files.asked g.F.Files.faults g.F.Files.taken c.args.files.now c.load.new.files) given)
     c.from_residual.ensures.1
-    (done_at_load g.F.Files.asked g.F.Files.faults g.F.Files.taken (λ text. text.items) (g.F.Files.known_contents c.args.files.now) c.args.arguments.design.now (λ holds bytes. opt_loaded (named_opt c.args.arguments) bytes) []
+    (done_at_load g.F.Files.asked g.F.Files.faults g.F.Files.taken (λ text. text.items) (g.F.Files.told c.args.files.now) c.args.arguments.design.now (λ holds bytes. opt_loaded (named_opt c.args.arguments) bytes) []
     c.args.files.now c.load.new.files c.in_err-design.field-0.0 c.load.ensures.asks c.in_err-design.ensures.refused)
 
 pub returns : goal.returns
 returns g c =
-    done_after_load g.F.Files.asked g.F.Files.faults g.F.Files.taken (λ text. text.items) (g.F.Files.known_contents c.args.files.now) c.args.arguments.design.now c.in_ok-design.design.items (λ holds bytes. opt_loaded (named_opt c.args.arguments) bytes) []
+    done_after_load g.F.Files.asked g.F.Files.faults g.F.Files.taken (λ text. text.items) (g.F.Files.told c.args.files.now) c.args.arguments.design.now c.in_ok-design.design.items (λ holds bytes. opt_loaded (named_opt c.args.arguments) bytes) []
     c.args.files.now c.load.new.files c.load.new.files c.opt_loaded.result c.load.ensures.asks c.in_ok-design.ensures.sound c.load.ensures.taken_never_falls c.in_ok-design.ensures.loaded
-    (done_behind_loads g.F.Files.asked g.F.Files.faults g.F.Files.taken (λ text. text.items) (g.F.Files.known_contents c.args.files.now) (opt_loaded (named_opt c.args.arguments) c.in_ok-design.design.items) [] c.load.new.files
+    (done_behind_loads g.F.Files.asked g.F.Files.faults g.F.Files.taken (λ text. text.items) (g.F.Files.told c.args.files.now) (opt_loaded (named_opt c.args.arguments) c.in_ok-design.design.items) [] c.load.new.files
     c.opt_loaded.result (rw c.deref.ensures.value at c.opt_loaded.ensures.gives) (rw c.deref.ensures.value at c.opt_loaded.ensures.refused))
