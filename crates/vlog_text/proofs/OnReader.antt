@@ -1,1 +1,2 @@
+pub mod AtParts
 pub mod OneModule

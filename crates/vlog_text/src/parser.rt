@@ -7,7 +7,9 @@
 //! brackets open.
 mod laws;
 mod reader;
+mod spans;
 
 pub use crate::builder::Parsed;
 pub use laws::one_parsing;
 pub use reader::parse;
+pub use spans::spans_are_those_of_tokens;

@@ -1,0 +1,11 @@
+pub mod Along
+pub mod Effects
+pub mod Going
+pub mod KeepsExprs
+pub mod KeepsItems
+pub mod KeepsLists
+pub mod KeepsPlain
+pub mod Marks
+pub mod TokensAlong
+pub mod Whole
+pub mod Widths
