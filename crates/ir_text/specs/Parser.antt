@@ -4,3 +4,5 @@ pub mod Reads
 pub mod BracketClasses
 -- which texts are which packages, and how others are refused
 pub mod Texts
+-- where the lines of a text stand
+pub mod Spans

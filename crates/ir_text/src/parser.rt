@@ -7,6 +7,8 @@
 mod laws;
 mod read;
 mod reader;
+mod spans;
 
 pub use laws::one_package;
 pub use read::read_ir;
+pub use spans::spans_are_of_lines;

@@ -1,0 +1,14 @@
+pub mod Faults
+pub mod Going
+pub mod InOrder
+pub mod KeepsNames
+pub mod KeepsOperands
+pub mod KeepsProcs
+pub mod KeepsTypes
+pub mod OpIds
+pub mod Parts
+pub mod Pieces
+pub mod TokensAlong
+pub mod View
+pub mod Views
+pub mod Whole
