@@ -8,6 +8,8 @@ pub mod OnExpressions
 pub mod OnFamilies
 -- instances
 pub mod OnInstances
+-- networks of accepted texts
+pub mod OnNets
 -- the same meaning, the same outcomes
 pub mod OnOutcomes
 -- tables of functions

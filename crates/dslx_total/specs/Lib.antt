@@ -8,6 +8,8 @@ pub mod Expressions
 pub mod Families
 -- instances
 pub mod Instances
+-- networks
+pub mod Nets
 -- tables of functions
 pub mod Tables
 -- texts

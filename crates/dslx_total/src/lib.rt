@@ -7,6 +7,7 @@ pub mod designs;
 pub mod expressions;
 pub mod families;
 pub mod instances;
+pub mod nets;
 pub mod outcomes;
 pub mod tables;
 pub mod texts;

@@ -2,7 +2,6 @@
 use Rattle.std.proofs.Common.{◌≡◌, ◌≤◌, ◌&&◌, ◌++◌, ℕ, length, Bool, true, false, List, [], ◌∷◌, map, Option, Some, arith, refl, sym, subst, ◌∙◌}
 use Rattle.std.specs.List.{list_all}
 use Rattle.dslx_tree.specs.declared.block.Block.{out-Block}
-use Rattle.dslx_tree.specs.declared.item.Definition.TheVariants as d
 use Rattle.dslx_tree.specs.declared.item.Module.{Module}
 use Rattle.dslx_tree.specs.declared.process.End.{End}
 use Rattle.dslx_tree.specs.declared.process.Proc.{Proc}
@@ -61,6 +60,50 @@ NextsLower = (here : Instance → Bool) (known : GlobalEnv) (p : Proc) (parametr
     → IsWellTypedEnv (proc_type_env known p parametric_args) env → ScopeMatchesEnv here (proc_type_env known p parametric_args) (outer_scope core) → MembersExist (members_type_env known p parametric_args) (outer_scope core) p.members
     → IsClean here (acts_found known p parametric_args).faults (acts_found known p parametric_args).reached → NextLowersAsTyped known p parametric_args (lower_next core p)
 
+module _ (m : Module) (top : Option (List ℕ)) (s : IsAccepted m top) where
+  abbrev globals : GlobalEnv
+  globals = K m top s
+
+  -- the value of `init`
+  pub record Opens (p : Proc) (parametric_args : List DslxValue) (t : DslxType) : Type 0 where
+    pub value : DslxValue
+    pub is : value_of_block p.init (item_env globals (parametric_args_bound [] p.parametrics parametric_args)) ≡ Some value
+    pub of : is_of t value ≡ true
+
+  pub opening_there : (p : Proc) (parametric_args : List DslxValue) → AllOwn globals.items.type_named parametric_args → IsWellTypedEnv (proc_type_env globals p parametric_args) (item_env globals (parametric_args_bound [] p.parametrics parametric_args)) → IsWellTypedFound globals (acts_found globals p parametric_args)
+      → (t : DslxType) → (typing_of_type (proc_type_env globals p parametric_args) p.next.ty).ty ≡ Some t → Opens p parametric_args t
+  opening_there p parametric_args own place acts t is =
+      let context = proc_type_env globals p parametric_args in
+      let env = item_env globals (parametric_args_bound [] p.parametrics parametric_args) in
+      let inside = members_type_env globals p parametric_args in
+      let state = typing_of_type context p.next.ty in
+      let span = (out-Block p.init).span in
+      let j = (block_pair p.init).1 false inside in
+      let wrong = wanted_faults span state.ty j.ty in
+      let size = size_faults globals span.to (record j { faults = j.faults ++ wrong }) in
+      let init = body_typing false inside state.ty p.init in
+      let parametrics = parametrics_found globals p.name.name [] [] p.parametrics parametric_args in
+      let ends = ends_found context [] p.members in
+      let a = none_in init.faults _ (none_in ends.faults (init.faults ++ _) (none_in parametrics.faults (ends.faults ++ (init.faults ++ _)) acts.faults).1).1 in
+      let b = all_in globals.is_sound init.reached _ (all_in globals.is_sound ends.reached (init.reached ++ _) (all_in globals.is_sound parametrics.reached (ends.reached ++ (init.reached ++ _)) acts.reached).1).1 in
+      let c = none_in j.faults wrong (none_in (j.faults ++ wrong) size a.0).0 in
+      let within : IsWellTypedEnv inside env = record {
+        locals = place.locals;
+        parametric_args = place.parametric_args;
+        constants = place.constants;
+        members = place.members;
+        kinds = place.kinds;
+        typed = place.typed;
+        valued = place.valued;
+        place = record { others = place.place.others; hides = place.place.hides };
+        items = place.items;
+        known = place.known;
+      } in
+      let g = block_of_text_has p.init inside env within (record { faults = c.0; reached = b.0 }) in
+      let alike = passed (same_type t g.0) 9 span ((λ i. wanted_faults span (sym is i) (sym g.1 i)) ∙ c.1) in
+      let one = one_of_text (types_at context) t g.0 alike ((type_has_den p.next.ty).means context env place t is).1 g.2.declared in
+      record { value = g.2.value; is = g.2.is; of = subst (λ u. is_of u g.2.value ≡ true) (sym one) g.2.of }
+
 module _ (m : Module) (top : Option (List ℕ)) (s : IsAccepted m top) (complete : IsComplete (K m top s)) (typed : AreTyped (K m top s)) (names : NamesHaveWidths (K m top s))
     (widths : WordsHaveWidths) (members : MembersThere) (nexts : NextsLower) (same : (K m top s).items ≡ meanings_of m) (f : FunctionsHaveTable m top) where
   abbrev known : GlobalEnv
@@ -85,46 +128,6 @@ module _ (m : Module) (top : Option (List ℕ)) (s : IsAccepted m top) (complete
   here_there : AreThere here known f.instances
   here_there i g n own h = f.reached i g n own (and_true (is_reached i (all m top s)) (Passing m top s i.name) h).0
 
-  -- the value of `init`
-  record Opens (p : Proc) (parametric_args : List DslxValue) (t : DslxType) : Type 0 where
-    value : DslxValue
-    is : value_of_block p.init (item_env known (parametric_args_bound [] p.parametrics parametric_args)) ≡ Some value
-    of : is_of t value ≡ true
-
-  opening_there : (p : Proc) (parametric_args : List DslxValue) → AllOwn known.items.type_named parametric_args → IsWellTypedEnv (proc_type_env known p parametric_args) (item_env known (parametric_args_bound [] p.parametrics parametric_args)) → IsWellTypedFound known (acts_found known p parametric_args)
-      → (t : DslxType) → (typing_of_type (proc_type_env known p parametric_args) p.next.ty).ty ≡ Some t → Opens p parametric_args t
-  opening_there p parametric_args own place acts t is =
-      let context = proc_type_env known p parametric_args in
-      let env = item_env known (parametric_args_bound [] p.parametrics parametric_args) in
-      let inside = members_type_env known p parametric_args in
-      let state = typing_of_type context p.next.ty in
-      let span = (out-Block p.init).span in
-      let j = (block_pair p.init).1 false inside in
-      let wrong = wanted_faults span state.ty j.ty in
-      let size = size_faults known span.to (record j { faults = j.faults ++ wrong }) in
-      let init = body_typing false inside state.ty p.init in
-      let parametrics = parametrics_found known p.name.name [] [] p.parametrics parametric_args in
-      let ends = ends_found context [] p.members in
-      let a = none_in init.faults _ (none_in ends.faults (init.faults ++ _) (none_in parametrics.faults (ends.faults ++ (init.faults ++ _)) acts.faults).1).1 in
-      let b = all_in known.is_sound init.reached _ (all_in known.is_sound ends.reached (init.reached ++ _) (all_in known.is_sound parametrics.reached (ends.reached ++ (init.reached ++ _)) acts.reached).1).1 in
-      let c = none_in j.faults wrong (none_in (j.faults ++ wrong) size a.0).0 in
-      let within : IsWellTypedEnv inside env = record {
-        locals = place.locals;
-        parametric_args = place.parametric_args;
-        constants = place.constants;
-        members = place.members;
-        kinds = place.kinds;
-        typed = place.typed;
-        valued = place.valued;
-        place = record { others = place.place.others; hides = place.place.hides };
-        items = place.items;
-        known = place.known;
-      } in
-      let g = block_of_text_has p.init inside env within (record { faults = c.0; reached = b.0 }) in
-      let alike = passed (same_type t g.0) 9 span ((λ i. wanted_faults span (sym is i) (sym g.1 i)) ∙ c.1) in
-      let one = one_of_text (types_at context) t g.0 alike ((type_has_den p.next.ty).means context env place t is).1 g.2.declared in
-      record { value = g.2.value; is = g.2.is; of = subst (λ u. is_of u g.2.value ≡ true) (sym one) g.2.of }
-
   pub next_lowers_to : (p : Proc) (parametric_args : List DslxValue) → IsThere m top s p parametric_args → NextLowers m f.known.table p parametric_args
   next_lowers_to p parametric_args there =
       let context = proc_type_env known p parametric_args in
@@ -148,7 +151,7 @@ module _ (m : Module) (top : Option (List ℕ)) (s : IsAccepted m top) (complete
       let listed = (all_in here ends.reached _ (all_in here parametrics.reached (ends.reached ++ _) whole).1).0 in
       let stand = members here context env (outer_scope core) p.members elaborated at (widths context env elaborated names [] p.members parts.members) (record { faults = parts.members; reached = listed }) in
       let next = nexts here known p parametric_args env core there.own elaborated at stand (record { faults = parts.acts.faults; reached = whole }) in
-      let first = opening_there p parametric_args there.own elaborated parts.acts next.next.state next.state in
+      let first = opening_there m top s p parametric_args there.own elaborated parts.acts next.next.state next.state in
       record {
         next = next.next;
         is = (λ t. lower_next (record { items = sym same t; parametric_args = bound; callee = callee_in (sym (whole_is m (length m.items)) t) (sym same t) f.known.table }) p) ∙ next.is;

@@ -7,11 +7,13 @@ use Rattle.dslx_tree.specs.declared.item.Definition.{Definition}
 use Rattle.dslx_tree.specs.declared.item.Definition.TheVariants as d
 use Rattle.dslx_tree.specs.declared.item.Module.{Module}
 use Rattle.dslx_tree.specs.declared.item.Parametric.{Parametric}
+use Rattle.dslx_tree.specs.declared.process.End.{End}
 use Rattle.dslx_tree.specs.declared.process.Proc.{Proc}
 use Rattle.dslx_meaning.specs.Environment.{Given}
 use Rattle.dslx_meaning.specs.Items.{item_named, with_number}
 use Rattle.dslx_meaning.specs.Rules.TypeEnvs.{DefaultSeen, Judgement, GlobalEnv, TypeEnv}
-use Rattle.dslx_meaning.specs.Rules.Mentions.{AsEnum, Mention, expr_if, is_of_use, item_reaches, mentioned, mentioned_in_type, mentions_of, names_mentioned, parametric_names, parametrics_mentions}
+use Rattle.dslx_meaning.specs.Rules.ItemRules.{item_type_env, typing_of_type}
+use Rattle.dslx_meaning.specs.Rules.Mentions.{AsEnum, Mention, ends_mentions, expr_if, is_of_use, item_reaches, mentioned, mentioned_in_type, mentions_of, names_mentioned, parametric_names, parametrics_mentions}
 use Rattle.dslx_meaning.specs.Rules.ModuleRules.{globals_of, globals_over, globals_within}
 use Rattle.dslx_meaning.specs.Rules.NodeRules.{expr_pair, type_pair}
 use Rattle.dslx_core.specs.Typing.TypingRelations.Closed.{ends_within}
@@ -25,7 +27,12 @@ use Rattle.dslx_core.specs.Typing.Typed.Numbers.{AreOwn, ParametricsMean}
 use Rattle.dslx_core.proofs.Lemmas.Typing.Typed.{own_more, own_value}
 use Rattle.dslx_core.specs.Typing.Complete.HasValue.{AreTyped}
 use Rattle.dslx_core.proofs.Lemmas.Typing.Complete.{parametric_has_value}
-use Rattle.dslx_total.proofs.OnFamilies.Reached.{IsProcOf, proc_within}
+use Rattle.dslx_total.proofs.OnFamilies.Reached.{IsProcOf, ends_none, proc_within}
+
+-- what is known of the types of the words of ends is what they are typed to
+abbrev pub EachEndAlike : GlobalEnv → List ℕ → List End → Type 0
+EachEndAlike known owner [] = Unit {0}
+EachEndAlike known owner (e ∷ es) = ((so_far : List Given) → known.type_in owner so_far [] e.word ≡ (typing_of_type (item_type_env known owner so_far) e.word).ty) × EachEndAlike known owner es
 
 -- ---- by one item more in chains
 
@@ -79,6 +86,15 @@ module _ (m : Module) (plain : BindsNoConstant m) (k : ℕ) (owner : List ℕ) (
         parametrics_alike ps (p.name.name ∷ bound) (hidden.0, n) hidden.1 front.1,
       )
 
+  -- the types of the words of ends, at the item and one item further
+  pub ends_alike : (es : List End) (bound : List (List ℕ)) → NamesAlike a b bound → ExprDen (ends_mentions es bound) → EachEndAlike b owner es
+  ends_alike [] bound n h = tt
+  ends_alike (e ∷ es) bound n h =
+      let both = den_parts Passing m (mentioned_in_type e.word bound) (ends_mentions es bound) h in (
+        λ so_far. ap (λ (j : Judgement). j.ty) (written_type_alike Passing e.word bound (type_env_at so_far []) b (sees bound n (mentioned_in_type e.word bound) both.0)),
+        ends_alike es bound n both.1,
+      )
+
 -- ---- of the whole text
 
 -- where something is there, chains have an item
@@ -106,6 +122,20 @@ module _ (m : Module) (plain : BindsNoConstant m) (p : Proc) (named : IsProcOf m
       subst (λ n. EachParametricAlike (globals_within m n) (globals_over (globals_within m n)) p.name.name p.parametrics) (sym e)
       (parametrics_alike m plain k p.name.name h p.parametrics [] tt
       (plain_alike (passes m k) m (globals_within m k) (globals_within m (suc k)) (passes_closed m k) (stage m plain k k (suc k) less more) (parametric_names p.parametrics) hidden) (own_parametrics k h)))
+
+  own_ends : (k : ℕ) → mentions_at k → list_all (passes m k) (names_mentioned m (ends_mentions p.config.ends (parametric_names p.parametrics))) ≡ true
+  own_ends k h =
+      let bound = parametric_names p.parametrics in
+      names_no_procs m k (ends_mentions p.config.ends bound) (ends_none p.config.ends bound) (proc_within m k p ((λ i. list_all (ends_within m k) (mentions_of m (sym named i))) ∙ h)).ends
+
+  pub own_ends_alike : AreNoConstants m (parametric_names p.parametrics) → EachEndAlike (globals_of m) p.name.name p.config.ends
+  own_ends_alike hidden = one_longer m p.name.name ends (λ k e.
+      let h : mentions_at k = (λ i. ends_within m (sym e i) p.name.name) ∙ ends in
+      let less : k ≤ k = omega arith in
+      let more : k ≤ suc k = omega arith in
+      subst (λ n. EachEndAlike (globals_within m n) p.name.name p.config.ends) (sym e)
+      (ends_alike m plain k p.name.name h p.config.ends (parametric_names p.parametrics)
+      (plain_alike (passes m k) m (globals_within m k) (globals_within m (suc k)) (passes_closed m k) (stage m plain k k (suc k) less more) (parametric_names p.parametrics) hidden) (own_ends k h)))
 
   -- what their types and defaults reach passes
   pub parametrics_pass : EachParametricReaches (passes m (length m.items)) (globals_of m) p.name.name p.parametrics

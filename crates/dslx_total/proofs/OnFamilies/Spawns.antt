@@ -98,6 +98,7 @@ module _ (m : Module) (top : Option (List ℕ)) (s : IsAccepted m top) (procs : 
     pub is : (proc_parametric_args known target gs).values ≡ Some parametric_args
     pub own : AllOwn known.items.type_named parametric_args
     pub found : all_parametric_args known.items [] [] target.parametrics given ≡ Some parametric_args
+    pub shown : (proc_parametric_args known target gs).bound ≡ known_before (parametric_args_bound [] target.parametrics parametric_args)
 
   pub target_ends : (target : Proc) → IsProcOf m target → ends_within m (length m.items) target.name.name ≡ true
   target_ends target named = every_item m s.free target.name.name (d.Proc target) named
@@ -118,10 +119,11 @@ module _ (m : Module) (top : Option (List ℕ)) (s : IsAccepted m top) (procs : 
         is = k.all;
         own = own_parametric_args known owner [] target.parametrics k.parametric_args k.fit;
         found = parametric_args_found known known.items owner [] [] [] target.parametrics gs vs k.parametric_args (parametrics_mean known complete typed owner [] (none_own known) target.parametrics alike) k.fit mean k.all;
+        shown = k.shown;
       }
 
-  -- what a spawn comes to
-  pub record SpawnThere (env : Env) (sp : Spawn) : Type 0 where
+  -- what a spawn comes to, behind what was made before: each end fits what it is handed over as
+  pub record SpawnThere (made : Made) (env : Env) (sp : Spawn) : Type 0 where
     pub target : Proc
     pub is : as_proc (item_named sp.target.name m.items) ≡ Some target
     pub parametric_args : List DslxValue
@@ -129,6 +131,8 @@ module _ (m : Module) (top : Option (List ℕ)) (s : IsAccepted m top) (procs : 
     pub own : AllOwn known.items.type_named parametric_args
     pub among : test (record { name = target.name.name; parametric_args = parametric_args }) ≡ true
     pub many : (length sp.ends == length target.config.ends) ≡ true
+    pub ends : unknown_ends made.names sp.ends ≡ []
+    pub handed : handed_faults known target.name.name (known_before (parametric_args_bound [] target.parametrics parametric_args)) made target.config.ends sp.ends ≡ []
 
   module _ (p : Proc) (own : List DslxValue) (well : IsWellTypedEnv (proc_type_env known p own) (item_env known (parametric_args_bound [] p.parametrics own))) where
     abbrev context : TypeEnv
@@ -149,9 +153,9 @@ module _ (m : Module) (top : Option (List ℕ)) (s : IsAccepted m top) (procs : 
     abbrev handed : Made → Spawn → Proc → List Fault
     handed made sp target = if (seen made sp target).is_wrong then [] else handed_faults known target.name.name (seen made sp target).bound made target.config.ends sp.ends
 
-    right : (made : Made) (sp : Spawn) (bound : List (List ℕ)) (target : Proc) → as_proc (item_named sp.target.name m.items) ≡ Some target → (length sp.ends == length target.config.ends) ≡ true → AreGiven (behind_ends context made) env (map arg_pair sp.arguments) (map arg_denotation sp.arguments)
-        → (right_spawn context made sp target (cyclic sp target) (seen made sp target)).faults ≡ [] → Listed m top s (right_spawn context made sp target (cyclic sp target) (seen made sp target)).reached → SpawnThere env sp
-    right made sp bound target is many g f r =
+    right : (made : Made) (sp : Spawn) (bound : List (List ℕ)) (target : Proc) → as_proc (item_named sp.target.name m.items) ≡ Some target → (length sp.ends == length target.config.ends) ≡ true → unknown_ends made.names sp.ends ≡ [] → AreGiven (behind_ends context made) env (map arg_pair sp.arguments) (map arg_denotation sp.arguments)
+        → (right_spawn context made sp target (cyclic sp target) (seen made sp target)).faults ≡ [] → Listed m top s (right_spawn context made sp target (cyclic sp target) (seen made sp target)).reached → SpawnThere made env sp
+    right made sp bound target is many ends g f r =
         let n = seen made sp target in
         let wrong = breaks_if n.is_wrong 10 sp.span in
         let declared = typing_there (cyclic sp target) n in
@@ -174,10 +178,12 @@ module _ (m : Module) (top : Option (List ℕ)) (s : IsAccepted m top) (procs : 
           own = k.own;
           among = one.0;
           many = many;
+          ends = ends;
+          handed = (λ t. if sym no_wrong t then [] else handed_faults known target.name.name (sym k.shown t) made target.config.ends sp.ends) ∙ a.1;
         }
 
     pub spawn_there : (made : Made) (sp : Spawn) (bound : List (List ℕ)) → Within m (most m top s) (config_statement_mentions (config_statement.Spawn sp) bound) → (spawn_found context made sp).faults ≡ [] → Listed m top s (spawn_found context made sp).reached
-        → SpawnThere env sp
+        → SpawnThere made env sp
     spawn_there made sp bound within f r =
         let given = given_judgements (gs made sp) in
         let unknown = unknown_ends made.names sp.ends in
@@ -189,19 +195,19 @@ module _ (m : Module) (top : Option (List ℕ)) (s : IsAccepted m top) (procs : 
         let denotation = (den_parts (ends_within m (most m top s)) m (mention AsProc sp.target.name) arguments within).1 in
         let passing = given_reach (Passing m top s) (behind_ends context made) (map arg_pair sp.arguments) (arguments_reach (Passing m top s) (behind_ends context made) sp.arguments bound (reaching m top s arguments (arguments_none sp.arguments bound) denotation)) in
         let g = parametric_args_given (behind_ends context made) env (well_behind context env made well) (map arg_pair sp.arguments) (map arg_denotation sp.arguments) (each_argument sp.arguments) a.0 (all_sound m top s (reached_of_all given) passing c.0) in
-        by_proc (as_proc (item_named sp.target.name known.whole.items)) refl g b.1 c.1
+        by_proc (as_proc (item_named sp.target.name known.whole.items)) refl b.0 g b.1 c.1
       where
         enough : Proc → Bool
         enough target = length sp.ends == length target.config.ends && not (nat_lt (length target.parametrics) (length (gs made sp)))
 
-        by_count : (target : Proc) → as_proc (item_named sp.target.name m.items) ≡ Some target → (t : Bool) → enough target ≡ t → AreGiven (behind_ends context made) env (map arg_pair sp.arguments) (map arg_denotation sp.arguments)
+        by_count : (target : Proc) → as_proc (item_named sp.target.name m.items) ≡ Some target → (t : Bool) → enough target ≡ t → unknown_ends made.names sp.ends ≡ [] → AreGiven (behind_ends context made) env (map arg_pair sp.arguments) (map arg_denotation sp.arguments)
             → (if t then right_spawn context made sp target (cyclic sp target) (seen made sp target) else only_faults (cyclic sp target ++ breaks 10 sp.span ∷ [])).faults ≡ []
-            → Listed m top s (if t then right_spawn context made sp target (cyclic sp target) (seen made sp target) else only_faults (cyclic sp target ++ breaks 10 sp.span ∷ [])).reached → SpawnThere env sp
-        by_count target is false q g f r = some_fault (breaks 10 sp.span) [] (none_in (cyclic sp target) (breaks 10 sp.span ∷ []) f).1
-        by_count target is true q g f r = right made sp bound target is (and_true (length sp.ends == length target.config.ends) (not (nat_lt (length target.parametrics) (length (gs made sp)))) q).0 g f r
+            → Listed m top s (if t then right_spawn context made sp target (cyclic sp target) (seen made sp target) else only_faults (cyclic sp target ++ breaks 10 sp.span ∷ [])).reached → SpawnThere made env sp
+        by_count target is false q ends g f r = some_fault (breaks 10 sp.span) [] (none_in (cyclic sp target) (breaks 10 sp.span ∷ []) f).1
+        by_count target is true q ends g f r = right made sp bound target is (and_true (length sp.ends == length target.config.ends) (not (nat_lt (length target.parametrics) (length (gs made sp)))) q).0 ends g f r
 
-        by_proc : (o : Option Proc) → as_proc (item_named sp.target.name known.whole.items) ≡ o → AreGiven (behind_ends context made) env (map arg_pair sp.arguments) (map arg_denotation sp.arguments) → (spawn_of context made sp (gs made sp) o).faults ≡ []
-            → Listed m top s (spawn_of context made sp (gs made sp) o).reached → SpawnThere env sp
-        by_proc None q g f r = some_fault (breaks 1 sp.target.span) [] f
-        by_proc (Some target) q g f r =
-            by_count target ((λ t. as_proc (item_named sp.target.name (sym (whole_is m (length m.items)) t).items)) ∙ q) (enough target) refl g f r
+        by_proc : (o : Option Proc) → as_proc (item_named sp.target.name known.whole.items) ≡ o → unknown_ends made.names sp.ends ≡ [] → AreGiven (behind_ends context made) env (map arg_pair sp.arguments) (map arg_denotation sp.arguments) → (spawn_of context made sp (gs made sp) o).faults ≡ []
+            → Listed m top s (spawn_of context made sp (gs made sp) o).reached → SpawnThere made env sp
+        by_proc None q ends g f r = some_fault (breaks 1 sp.target.span) [] f
+        by_proc (Some target) q ends g f r =
+            by_count target ((λ t. as_proc (item_named sp.target.name (sym (whole_is m (length m.items)) t).items)) ∙ q) (enough target) refl ends g f r

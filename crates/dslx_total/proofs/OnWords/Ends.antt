@@ -36,7 +36,7 @@ abbrev pub TypesAreWide : Type 0
 TypesAreWide = (t : TypeExpr) → IsWide (type_pair t).1
 
 -- no more bits than the limit
-within_limit : (at n : ℕ) → passes what.Word 128 at n ≡ [] → n ≤ 128
+pub within_limit : (at n : ℕ) → passes what.Word 128 at n ≡ [] → n ≤ 128
 within_limit at n e = by_test (nat_lt 128 n) refl e
   where
     by_test : (b : Bool) → nat_lt 128 n ≡ b → (if b then Passed at (record { what = what.Word; found = found_number n; most = 128 }) ∷ [] else []) ≡ [] → n ≤ 128

@@ -25,7 +25,7 @@ use Rattle.dslx_core.specs.Lowering.Steps.{is_sized, sized_step}
 use Rattle.dslx_total.specs.Expressions.Beside.{has_widths}
 use Rattle.dslx_total.proofs.Lemmas.Expressions.{in_array, in_bits, in_enum, in_struct, in_tuple}
 
-abbrev are_narrow : Ty → Bool
+abbrev pub are_narrow : Ty → Bool
 are_narrow = fold-Ty Bool widths_step
 
 -- bits with a width, and arrays with elements, in no more than 128 bits
@@ -34,17 +34,17 @@ IsNarrow t = has_widths t ≡ true → is_sized t ≡ true → flat_bits t ≤ 1
 
 -- ---- the kinds of types
 
-plain_is : (l : DslxType-F DslxType) (t : DslxType) → views.roll-DslxType l ≡ t → plain_type t ≡ plain_step (map-DslxType DslxType Ty plain_type l)
+pub plain_is : (l : DslxType-F DslxType) (t : DslxType) → views.roll-DslxType l ≡ t → plain_type t ≡ plain_step (map-DslxType DslxType Ty plain_type l)
 plain_is l t e = ap plain_type (sym e) ∙ fold-roll-DslxType Ty plain_step l
 
-bits_are : (l : DslxType-F DslxType) (t : DslxType) → views.roll-DslxType l ≡ t → flat_bits t ≡ flat_bits_in (map-DslxType DslxType ℕ flat_bits l)
+pub bits_are : (l : DslxType-F DslxType) (t : DslxType) → views.roll-DslxType l ≡ t → flat_bits t ≡ flat_bits_in (map-DslxType DslxType ℕ flat_bits l)
 bits_are l t e = ap flat_bits (sym e) ∙ fold-roll-DslxType ℕ flat_bits_in l
 
 sized_is : (l : DslxType-F DslxType) (t : DslxType) → views.roll-DslxType l ≡ t → is_sized t ≡ sized_step (map-DslxType DslxType Bool is_sized l)
 sized_is l t e = ap is_sized (sym e) ∙ fold-roll-DslxType Bool sized_step l
 
 -- bits of a width
-width_narrow : (w : ℕ) → nat_lt 0 w ≡ true → w ≤ 128 → are_narrow (plain.Bits w) ≡ true
+pub width_narrow : (w : ℕ) → nat_lt 0 w ≡ true → w ≤ 128 → are_narrow (plain.Bits w) ≡ true
 width_narrow w some few =
     let there = (Decides-ltb 0 w).0 some in
     fold-Bits Bool widths_step w ∙ (λ i. le-leb 1 w (omega (arith, there)) i && le-leb w 128 few i)

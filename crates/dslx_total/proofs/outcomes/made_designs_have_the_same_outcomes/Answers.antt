@@ -1,4 +1,4 @@
-use Rattle.std.proofs.Common.{◌≡◌, sym, ap, ◌∙◌}
+use Rattle.std.proofs.Common.{sym, ap, ◌∙◌}
 use Rattle.net_core.specs.Cuts.{final_cut}
 use Rattle.net_core.specs.Outcomes.{outcome_of}
 use Rattle.net_core.specs.WellFormed.{run_of}
