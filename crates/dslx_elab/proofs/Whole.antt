@@ -24,9 +24,10 @@ use Rattle.dslx_core.proofs.Lemmas.Machines.Machine.Instances.{begins_itself}
 use Rattle.dslx_core.proofs.Lemmas.Machines.Machine.Steady.{type_anywhere}
 use Rattle.dslx_core.specs.Networks.Configs.{LoweredConfig, ProcInstance, lower_config}
 use Rattle.dslx_core.specs.Networks.Procs.{instance_of, lower_proc}
-use Rattle.dslx_core.specs.Machines.Extension.Results.{TableResult}
+use Rattle.dslx_param.specs.Needed.{TableMakes}
 use Rattle.dslx_next.specs.Steps.BodyEnvs.{parametric_args_known}
-use Rattle.dslx_core.proofs.Lemmas.Machines.Extension.Coming.{comes_as, never_as, never_behind, never_then, value_comes}
+use Rattle.dslx_core.proofs.Lemmas.Machines.Extension.Coming.{never_as, never_behind, never_then}
+use Rattle.dslx_param.proofs.Lemmas.Growing.{makes_as, value_makes}
 use Rattle.dslx_elab.specs.Behind.{behind_next}
 
 -- two parts, one after the other
@@ -46,16 +47,16 @@ module _ (m : Module) (limit : ℕ) (table : List CoreInstance) (procs : List Pr
       (λ next config. and_then (opening_state (meanings_of m) p parametric_args) (λ v. where_true (is_of next.state v) (Some (instance_of p next config v))))
       ∙ ap (λ (n : List Given). and_then (lower_next (record { items = meanings_of m; parametric_args = n; callee = callee_in m (meanings_of m) t }) p) (behind_next m procs p parametric_args)) (sym is_bound)
 
-  pub nothing_of_next : TableResult m limit table next_with None → TableResult m limit table (λ t. lower_proc m (meanings_of m) t procs p parametric_args) None
+  pub nothing_of_next : TableMakes m limit table next_with None → TableMakes m limit table (λ t. lower_proc m (meanings_of m) t procs p parametric_args) None
   nothing_of_next never =
       never_as m limit (λ t. and_then (next_with t) (behind_next m procs p parametric_args)) (λ t. lower_proc m (meanings_of m) t procs p parametric_args) by_next
       (never_then m limit next_with (λ n t. behind_next m procs p parametric_args n) never)
 
-  pub whole_comes : (next : LoweredNext) (after : List CoreInstance) (i : Instance) → TableResult m limit table next_with (Some (next, after)) → Some i ≡ behind_next m procs p parametric_args next
-      → TableResult m limit table (λ t. lower_proc m (meanings_of m) t procs p parametric_args) (Some (i, after))
+  pub whole_comes : (next : LoweredNext) (after : List CoreInstance) (i : Instance) → TableMakes m limit table next_with (Some (next, after)) → Some i ≡ behind_next m procs p parametric_args next
+      → TableMakes m limit table (λ t. lower_proc m (meanings_of m) t procs p parametric_args) (Some (i, after))
   whole_comes next after i comes is =
-      comes_as m limit table (λ t. and_then (next_with t) (behind_next m procs p parametric_args)) (λ t. lower_proc m (meanings_of m) t procs p parametric_args) (Some (i, after)) by_next
-      (value_comes m limit table after next_with (behind_next m procs p parametric_args) next i comes (sym is))
+      makes_as m limit table (λ t. and_then (next_with t) (behind_next m procs p parametric_args)) (λ t. lower_proc m (meanings_of m) t procs p parametric_args) (Some (i, after)) by_next
+      (value_makes m limit table after next_with (behind_next m procs p parametric_args) next i comes (sym is))
 
   -- the state has the type that is written, which is the same by all tables
   state_type : (t : List CoreInstance) (n : LoweredNext) → next_with t ≡ Some n → lower_type_of_text p.next.ty (outer_scope (parametric_args_known m bound t)) ≡ Some n.state
@@ -91,9 +92,9 @@ module _ (m : Module) (limit : ℕ) (table : List CoreInstance) (procs : List Pr
       by (Some c) None h = refl
       by (Some c) (Some v) h = by_is (is_of a.state v) (is_of b.state v) c v (ap (λ t. is_of t v) same) h
 
-  pub nothing_behind : (next : LoweredNext) (after : List CoreInstance) → TableResult m limit table next_with (Some (next, after)) → None ≡ behind_next m procs p parametric_args next
-      → TableResult m limit table (λ t. lower_proc m (meanings_of m) t procs p parametric_args) None
+  pub nothing_behind : (next : LoweredNext) (after : List CoreInstance) → TableMakes m limit table next_with (Some (next, after)) → None ≡ behind_next m procs p parametric_args next
+      → TableMakes m limit table (λ t. lower_proc m (meanings_of m) t procs p parametric_args) None
   nothing_behind next after comes is =
       never_as m limit (λ t. and_then (next_with t) (behind_next m procs p parametric_args)) (λ t. lower_proc m (meanings_of m) t procs p parametric_args) by_next
       (never_behind m limit next_with (λ n t. behind_next m procs p parametric_args n)
-      (λ t is_table small a e. none_behind a next (one_state t after a next e (comes.some after (begins_itself after))) (sym is)))
+      (λ t is_table small a e. none_behind a next (one_state t after a next e (comes.0.some after (begins_itself after))) (sym is)))

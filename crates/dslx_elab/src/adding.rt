@@ -4,7 +4,7 @@ ghost use Rattle.std.specs.Prelude.{◌≡◌, ◌∷◌, ◌++◌, [], IfOk};
 ghost use Rattle.dslx_core.specs.Machines.Machine.Reached.{IsTable};
 ghost use Rattle.dslx_meaning.specs.Items.{meanings_of};
 ghost use Rattle.dslx_core.specs.Networks.Procs.{next_proc};
-ghost use Rattle.dslx_core.specs.Machines.Extension.Results.{TableResult};
+ghost use Rattle.dslx_param.specs.Needed.{TableMakes};
 ghost use Rattle.dslx_elab.specs.Adding.{AddsMissing, AddsProc, KeepsTable};
 
 use crate::instance::proc_there;
@@ -23,8 +23,8 @@ pub struct MadeInstances {
     pub procs: Vec<ProcInstance>,
 }
 
-/// The instances with one of a proc, which is made where it isn't there yet; `None` only where it has no lowering by any table of at
-/// most `limit` instances of functions, as where a proc that it spawns isn't there.
+/// The instances with one of a proc, which is made where it isn't there yet, with the instances of functions that it needs, each once, and no
+/// others; `None` only where it has no lowering by any table of at most `limit` instances of functions, as where a proc that it spawns isn't there.
 ///
 /// It looks at all procs that are there, and takes the time of `instance` and of the constants for what is made.
 pub fn add_proc(
@@ -82,7 +82,7 @@ fn next_instance(
     wanted: Instantiated,
 ) -> Result<Option<(ProcInstance, InstanceTable)>, AllocError>
     requires is_table { IsTable text.now (meanings_of text.now) functions }
-    ensures { IfOk result (λ o. TableResult text.now limit functions (λ table. next_proc text.now (meanings_of text.now) table procs.now wanted) o) }
+    ensures { IfOk result (λ o. TableMakes text.now limit functions (λ table. next_proc text.now (meanings_of text.now) table procs.now wanted) o) }
 {
     let Some(process) = find_proc(text.items.as_slice(), &wanted.name) else {
         return Ok(None);

@@ -6,7 +6,7 @@ ghost use Rattle.dslx_meaning.specs.Items.{meanings_of};
 ghost use Rattle.dslx_meaning.specs.Lists.{and_then, where_true};
 ghost use Rattle.dslx_meaning.specs.Activation.{opening_state};
 ghost use Rattle.dslx_core.specs.Networks.Procs.{instance_of as the_instance, lower_proc};
-ghost use Rattle.dslx_core.specs.Machines.Extension.Results.{TableResult};
+ghost use Rattle.dslx_param.specs.Needed.{TableMakes};
 ghost use Rattle.dslx_elab.specs.Behind.{behind_config, behind_next};
 
 use dslx_config::channels::plain_type;
@@ -25,7 +25,8 @@ use std::alloc::{AllocError, Global};
 use xb_value::Boxed;
 
 /// What a proc with these parametric arguments is lowered to where these instances of procs are there to be spawned, with the instances of
-/// functions that it needs behind those that are made; `None` only where it has no lowering by any table of at most `limit` of those.
+/// functions that it needs, and no others, behind those that are made; `None` only where it has no lowering by any table of at most `limit`
+/// of those.
 pub fn proc_there<'a>(
     alloc: Global,
     text: &'a Module,
@@ -36,7 +37,7 @@ pub fn proc_there<'a>(
     parametric_args: &[DslxValue],
 ) -> Result<Option<(Instance, InstanceTable)>, AllocError>
     requires is_table { IsTable text.now (meanings_of text.now) table }
-    ensures { IfOk result (λ o. TableResult text.now limit table (λ functions. lower_proc text.now (meanings_of text.now) functions procs.now process.now parametric_args.now) o) }
+    ensures { IfOk result (λ o. TableMakes text.now limit table (λ functions. lower_proc text.now (meanings_of text.now) functions procs.now process.now parametric_args.now) o) }
 {
     let bound = bindings_of(alloc, process.parametrics.as_slice(), parametric_args)?;
     match next_there(alloc, text, limit, table, process, bound)? {

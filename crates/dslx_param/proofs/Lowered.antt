@@ -20,9 +20,15 @@ use Rattle.dslx_core.proofs.Lemmas.Typing.Typed.{none_some, same_some}
 use Rattle.dslx_core.proofs.Lemmas.Machines.Progress.Stops.{lowered_by_no_table}
 use Rattle.dslx_param.specs.Run.Runs.{MachineRuns, Ends, Lacks}
 use Rattle.dslx_instance.specs.Tasks.Shown.{machine_shown, instance_env_of}
+use Rattle.dslx_instance.specs.Tasks.Works.{work_scope}
 use Rattle.dslx_instance.specs.declared.tasks.machine.InstanceMachine as code
 use Rattle.dslx_names.specs.Bound.{given}
 use Rattle.dslx_param.specs.Works.{LowerResult, IsLowered, IsNone, taken_from}
+use Rattle.dslx_param.proofs.Adding.{MachineOnce}
+use Rattle.dslx_param.proofs.OnNeeded.Called.{adds_by}
+use Rattle.dslx_param.proofs.OnNeeded.Machines.{machine_calls}
+use Rattle.dslx_param.proofs.OnNeeded.More.{ExprsAreMono, InstancesAreMono}
+use Rattle.dslx_param.proofs.OnNeeded.Roots.{expression_comes}
 use Rattle.dslx_instance.specs.declared.tasks.work.BodyWork.{BodyWork}
 
 -- where a root ends that lowers an expression alone: this was made, and what is bound stays
@@ -76,15 +82,17 @@ turned_back xs ys h = sym (reverse-reverse xs) ∙ ap reverse h ∙ reverse-reve
 
 -- the machine ended
 pub lowers_made : (m : Module) (limit : ℕ) (w : BodyWork) (e : Expr) (x : code.InstanceMachine) (o : Option (LoweredExpr × BodyWork))
-    → MachineRuns (machine_at (instance_env_of m w.table) limit (root_of w e)) (machine_shown x) true → IsTable m (meanings_of m) w.table → o ≡ taken_from x.table x.root x.root.made → LowerResult m limit w e o
-lowers_made m limit w e x o (Ends n steps done) is h =
+    → MachineRuns (machine_at (instance_env_of m w.table) limit (root_of w e)) (machine_shown x) true → IsTable m (meanings_of m) w.table → o ≡ taken_from x.table x.root x.root.made → MachineOnce → ExprsAreMono → InstancesAreMono → LowerResult m limit w e o
+lowers_made m limit w e x o (Ends n steps done) is h once exprs instances =
     let began = instance_env_of m w.table in
     let reached = reached_by_steps began (root_of w e) limit n (machine_shown x) is steps in
     let ends = ends_with began e (root_of w e) (machine_shown x) reached done in
     subst (LowerResult m limit w e) (sym (h ∙ ap (taken_from x.table x.root) ends.is_made))
     (IsLowered ends.made (record { table = x.table; given = x.root.given; locals = x.root.locals; count = x.root.count })
     (reached_table began (root_of w e) (machine_shown x) reached) (reached_longer began (root_of w e) (machine_shown x) reached)
-    (turned_back (map given x.root.given.items) (map given w.given.items) ends.given) ends.locals ends.count ends.becomes)
+    (turned_back (map given x.root.given.items) (map given w.given.items) ends.given) ends.locals ends.count ends.becomes
+    (adds_by m limit w.table x.table (λ t. lower_expression e (work_scope m t w)) (λ each. once began each limit n (root_of w e) (machine_shown x) steps)
+    (machine_calls m w.table limit (root_of w e) (λ t. lower_expression e (work_scope m t w)) (expression_comes exprs m e (root_of w e)) instances n (machine_shown x) is steps)))
 
 -- it lacks a step
 pub lowers_none : (m : Module) (limit : ℕ) (w : BodyWork) (e : Expr) (end : InstanceMachine) → MachineRuns (machine_at (instance_env_of m w.table) limit (root_of w e)) end false

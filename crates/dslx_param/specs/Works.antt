@@ -11,14 +11,16 @@ use Rattle.dslx_core.specs.Machines.Machine.Reached.{ExtendsTable, IsTable}
 use Rattle.dslx_instance.specs.declared.tasks.body.OpenBody.{OpenBody}
 use Rattle.dslx_instance.specs.Tasks.Works.{work_scope}
 use Rattle.dslx_instance.specs.declared.tasks.work.BodyWork.{BodyWork}
+use Rattle.dslx_param.specs.Needed.{AddsNeeded}
 
 -- what an expression is lowered to, with the instances that are made then: nothing by any table of at most so many instances,
--- or this by each that extends theirs, and what is bound stays as it is
+-- or this by each that extends theirs, where only what is needed for it was added, and what is bound stays as it is
 pub data LowerResult (m : Module) (limit : ℕ) (w : BodyWork) (e : Expr) : Option (LoweredExpr × BodyWork) → Type 0 where
   IsNone : ((table : List CoreInstance) → IsTable m (meanings_of m) table → length table ≤ limit → lower_expression e (work_scope m table w) ≡ None) → LowerResult m limit w e None
   IsLowered : (r : LoweredExpr) (after : BodyWork) → IsTable m (meanings_of m) after.table → ExtendsTable after.table w.table
       → map given after.given.items ≡ map given w.given.items → after.locals ≡ w.locals → after.count ≡ w.count
-      → ((table : List CoreInstance) → ExtendsTable table after.table → lower_expression e (work_scope m table w) ≡ Some r) → LowerResult m limit w e (Some (r, after))
+      → ((table : List CoreInstance) → ExtendsTable table after.table → lower_expression e (work_scope m table w) ≡ Some r)
+      → AddsNeeded m limit w.table after.table (λ table. lower_expression e (work_scope m table w)) → LowerResult m limit w e (Some (r, after))
 
 -- ---- within the crate
 

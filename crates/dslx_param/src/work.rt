@@ -8,13 +8,15 @@ ghost use Rattle.dslx_param.specs.Works.{LowerResult, taken_from};
 use crate::run::run;
 use base::stacks::Stack;
 use dslx_core::lowering::LoweredExpr;
+use dslx_core::machines::alike::lower_mono;
+use dslx_core::machines::once::each_instance_stands_once;
 use dslx_instance::table::InstanceTable;
 use dslx_instance::tasks::{BodyWork, InstanceMachine, LowerTask, OpenBody};
 use dslx_tree::{Expr, Module};
 use std::alloc::{AllocError, Global};
 
-/// What an expression is lowered to, with the instances that it needs; `None` only where it has no lowering by any table of at most so many
-/// instances.
+/// What an expression is lowered to, with the instances that it needs and no others; `None` only where it has no lowering by any table of at
+/// most so many instances.
 #[tactic(auto, using(crate::proofs::Lowered::lowers_made, crate::proofs::Lowered::lowers_none))]
 pub fn lower_in<'a>(
     alloc: Global,
@@ -25,6 +27,8 @@ pub fn lower_in<'a>(
 ) -> Result<Option<(LoweredExpr, BodyWork<'a>)>, AllocError>
     ensures { IsTable text.now (meanings_of text.now) work.entry.table → IfOk result (λ o. LowerResult text.now limit work.entry expr.now o) }
 {
+    each_instance_stands_once();
+    lower_mono();
     let mut todo = Stack::new(alloc);
     todo.push(LowerTask::Expr(expr))?;
     let mut machine = InstanceMachine {

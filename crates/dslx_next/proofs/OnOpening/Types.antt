@@ -16,10 +16,10 @@ use Rattle.dslx_core.specs.Lowering.Lowering.{LoweredExpr}
 use Rattle.dslx_core.specs.Lowering.Steps.{CoreMember, can_travel, end_names, member_in}
 use Rattle.dslx_core.specs.Lowering.Trees.{lower_expression, of_type, lower_type_of_text}
 use Rattle.dslx_core.proofs.Lemmas.Lowering.{from_then}
-use Rattle.dslx_core.specs.Machines.Machine.Reached.{IsTable}
 use Rattle.dslx_core.proofs.Lemmas.Machines.Machine.Steady.{type_anywhere}
 use Rattle.dslx_instance.specs.declared.tasks.work.BodyWork.{BodyWork}
-use Rattle.dslx_core.proofs.Lemmas.Machines.Extension.OneType.{one_type}
+use Rattle.dslx_param.specs.Needed.{AreOfTable}
+use Rattle.dslx_param.proofs.Lemmas.OneType.{ExprsAreMono, one_type_of}
 use Rattle.dslx_next.specs.Opening.Opened.{computing, conditional, opened, receiving, sending}
 use Rattle.dslx_next.specs.Opening.Works.{opened_at, outer_at, scope_at}
 use Rattle.dslx_next.specs.declared.opening.opened.OpenStep.{OpenStep}
@@ -82,17 +82,17 @@ module _ (k : NextScope) (w : BodyWork) where
 
   -- ---- the whole
 
-  pub opens_one_type : (t u : List CoreInstance) → IsTable k.text.now (meanings_of k.text.now) t → IsTable k.text.now (meanings_of k.text.now) u → (a : SiteAct) (e : Expr) (o q : OpenStep)
+  pub opens_one_type : ExprsAreMono → (t u : List CoreInstance) → AreOfTable k.text.now t → AreOfTable k.text.now u → (a : SiteAct) (e : Expr) (o q : OpenStep)
       → opened_at k w a e t ≡ Some o → opened_at k w a e u ≡ Some q → o.ty ≡ q.ty
-  opens_one_type t u is other Computes e o q at_t at_u =
+  opens_one_type mono t u is other Computes e o q at_t at_u =
       let x = from_then (lower_expression e (scope_at k w t)) computing o at_t in
       let y = from_then (lower_expression e (scope_at k w u)) computing q at_u in
-      sym (type_of _ x.0.ty o x.2) ∙ one_type k.text.now t u is other e (scope_at k w t) x.0 y.0 x.1 y.1 ∙ type_of _ y.0.ty q y.2
-  opens_one_type t u is other (TakesWord c) e o q at_t at_u =
+      sym (type_of _ x.0.ty o x.2) ∙ one_type_of mono k.text.now t u is other e (scope_at k w t) x.0 y.0 x.1 y.1 ∙ type_of _ y.0.ty q y.2
+  opens_one_type mono t u is other (TakesWord c) e o q at_t at_u =
       both_taken t u c (λ m. receiving m None) (λ m. receiving m None) o q (λ m h. type_of _ (received m.word) o h) (λ m h. type_of _ (received m.word) q h) at_t at_u
-  opens_one_type t u is other (TakesWordIf c p word) e o q at_t at_u =
+  opens_one_type mono t u is other (TakesWordIf c p word) e o q at_t at_u =
       both_taken t u c _ _ o q (λ m. takes_if m (conditional m.word p word (scope_at k w t)) o) (λ m. takes_if m (conditional m.word p word (scope_at k w u)) q) at_t at_u
-  opens_one_type t u is other (SendsWord c word) e o q at_t at_u =
+  opens_one_type mono t u is other (SendsWord c word) e o q at_t at_u =
       sym (sends t c (λ m. of_type m.word (lower_expression word (scope_at k w t))) o at_t) ∙ sends u c (λ m. of_type m.word (lower_expression word (scope_at k w u))) q at_u
-  opens_one_type t u is other (SendsWordIf c p word) e o q at_t at_u =
+  opens_one_type mono t u is other (SendsWordIf c p word) e o q at_t at_u =
       sym (sends_if t c (λ m. conditional m.word p word (scope_at k w t)) o at_t) ∙ sends_if u c (λ m. conditional m.word p word (scope_at k w u)) q at_u

@@ -23,11 +23,14 @@ use Rattle.dslx_core.proofs.Lemmas.Lowering.{from_then}
 use Rattle.dslx_core.specs.Machines.Machine.Reached.{IsTable}
 use Rattle.dslx_core.proofs.Lemmas.Machines.Machine.Instances.{begins_further, begins_itself}
 use Rattle.dslx_instance.specs.declared.tasks.work.BodyWork.{BodyWork}
-use Rattle.dslx_core.specs.Machines.Extension.Results.{TableResult}
+use Rattle.dslx_param.specs.Needed.{TableMakes}
 use Rattle.dslx_next.specs.Opening.Works.{BodyMakes, parametric_args_known, outer_at, scope_at}
 use Rattle.dslx_next.specs.Steps.Passing.{HasOneState, HasState, IsPassed, BodyPasses, behind_steps, body_at, last_at, statements_at, statements_then}
 use Rattle.dslx_next.specs.declared.opening.work.NextScope.{NextScope}
-use Rattle.dslx_core.proofs.Lemmas.Machines.Extension.Coming.{comes_as, never_as, never_behind, never_then, value_comes}
+use Rattle.dslx_core.proofs.Lemmas.Machines.Extension.Coming.{never_as, never_behind, never_then}
+use Rattle.dslx_param.specs.Needed.{AreOfTable}
+use Rattle.dslx_param.proofs.Lemmas.Growing.{adds_then, makes_as, value_makes}
+use Rattle.dslx_param.proofs.Lemmas.OneType.{are_all}
 use Rattle.dslx_core.proofs.Lemmas.Machines.Extension.Growing.{grows_on}
 use Rattle.dslx_next.proofs.OnOpening.Sequels.{lowered_types}
 use Rattle.dslx_next.proofs.OnSteps.Passed.{no_state}
@@ -54,28 +57,34 @@ by_statements : (k : NextScope) (w : BodyWork) (b : Block) (t : List CoreInstanc
 by_statements k w b t = in_order (outer_at k w t) k (out-Block b).statements (out-Block b).value (scope_at k w t) ∙ sym (behind_none (statements_at k w (out-Block b).statements t (ended (out-Block b).value)))
 
 -- a body, and what comes behind all its statements
-state_of_last : (k : NextScope) (w after : BodyWork) (b : Block) (steps : List Step) → IsPassed k (statements_at k w (out-Block b).statements) [] w steps after → (t : List CoreInstance) → IsTable k.text.now (meanings_of k.text.now) t
+state_of_last : (k : NextScope) (w after : BodyWork) (b : Block) (steps : List Step) → IsPassed k (statements_at k w (out-Block b).statements) [] w steps after → (t : List CoreInstance) → AreOfTable k.text.now t
     → HasState (body_at k w b t) (and_then (last_at k after (out-Block b).value t) state_alone)
 state_of_last k w after b steps passed t is =
     subst (λ (o : Option LoweredSteps). HasState o (and_then (last_at k after (out-Block b).value t) state_alone)) (sym (in_order (outer_at k w t) k (out-Block b).statements (out-Block b).value (scope_at k w t)))
     (passed.state t is (ended (out-Block b).value))
 
-pub body_stopped : (k : NextScope) (w : BodyWork) (b : Block) (steps : List Step) → BodyPasses k (statements_at k w (out-Block b).statements) [] w steps None → TableResult k.text.now k.limit w.table (body_at k w b) None
+pub body_stopped : (k : NextScope) (w : BodyWork) (b : Block) (steps : List Step) → BodyPasses k (statements_at k w (out-Block b).statements) [] w steps None → TableMakes k.text.now k.limit w.table (body_at k w b) None
 body_stopped k w b steps never t is small = in_order (outer_at k w t) k (out-Block b).statements (out-Block b).value (scope_at k w t) ∙ never (λ t. ended (out-Block b).value) t is small
 
 pub body_endless : (k : NextScope) (w after : BodyWork) (b : Block) (steps : List Step) → IsPassed k (statements_at k w (out-Block b).statements) [] w steps after
-    → BodyMakes k after (last_at k after (out-Block b).value) None → TableResult k.text.now k.limit w.table (body_at k w b) None
+    → BodyMakes k after (last_at k after (out-Block b).value) None → TableMakes k.text.now k.limit w.table (body_at k w b) None
 body_endless k w after b steps passed never t is small =
-    no_state (body_at k w b t) (and_then (last_at k after (out-Block b).value t) state_alone) (state_of_last k w after b steps passed t is) (ap (λ o. and_then o state_alone) (never t is small))
+    no_state (body_at k w b t) (and_then (last_at k after (out-Block b).value t) state_alone) (state_of_last k w after b steps passed t (are_all k.text.now t is)) (ap (λ o. and_then o state_alone) (never t is small))
 
 pub body_ended : (k : NextScope) (w after last : BodyWork) (b : Block) (steps : List Step) (next : LoweredExpr) → IsPassed k (statements_at k w (out-Block b).statements) [] w steps after
-    → BodyMakes k after (last_at k after (out-Block b).value) (Some (next, last)) → TableResult k.text.now k.limit w.table (body_at k w b) (Some (record { steps = steps; next = next }, last.table))
-body_ended k w after last b steps next passed made = record {
-  grows = grows_on k.text.now w.table after.table last.table passed.grows made.0.grows;
-  some = λ t from. by_statements k w b t ∙ passed.passed t (begins_further after.table last.table t made.0.grows.begins from) (ended (out-Block b).value)
-      ∙ ap (λ o. behind_steps steps (and_then o state_alone)) (made.0.some t from)
-      ∙ ap (λ (l : List Step). Some (record { steps = l; next = next })) (append-nil steps);
-}
+    → BodyMakes k after (last_at k after (out-Block b).value) (Some (next, last)) → TableMakes k.text.now k.limit w.table (body_at k w b) (Some (record { steps = steps; next = next }, last.table))
+body_ended k w after last b steps next passed made = (
+  record {
+    grows = grows_on k.text.now w.table after.table last.table passed.grows made.0.grows;
+    some = λ t from. by_statements k w b t ∙ passed.passed t (begins_further after.table last.table t made.0.grows.begins from) (ended (out-Block b).value)
+        ∙ ap (λ o. behind_steps steps (and_then o state_alone)) (made.0.some t from)
+        ∙ ap (λ (l : List Step). Some (record { steps = l; next = next })) (append-nil steps);
+  },
+  adds_then k.text.now k.limit w.table after.table last.table (λ t. statements_at k w (out-Block b).statements t (ended (out-Block b).value)) (last_at k after (out-Block b).value) (body_at k w b)
+      (λ t is none. in_order (outer_at k w t) k (out-Block b).statements (out-Block b).value (scope_at k w t) ∙ none)
+      (λ t is none. no_state (body_at k w b t) (and_then (last_at k after (out-Block b).value t) state_alone) (state_of_last k w after b steps passed t is) (ap (λ o. and_then o state_alone) none))
+      (passed.adds (λ t. ended (out-Block b).value)) made.2,
+)
 
 -- the last expression has one type by all tables
 last_types : (k : NextScope) (w last : BodyWork) (o : Option Expr) (r s : LoweredExpr) (t : List CoreInstance) → BodyMakes k w (last_at k w o) (Some (r, last)) → IsTable k.text.now (meanings_of k.text.now) t
@@ -86,7 +95,7 @@ last_types k w last (Some e) r s t made is by_table = lowered_types k w last e r
 pub body_of_one_type : (k : NextScope) (w after last : BodyWork) (b : Block) (steps : List Step) (next : LoweredExpr) → IsPassed k (statements_at k w (out-Block b).statements) [] w steps after
     → BodyMakes k after (last_at k after (out-Block b).value) (Some (next, last)) → HasOneState k w b (Some (record { steps = steps; next = next }, last.table))
 body_of_one_type k w after last b steps next passed made t is r e =
-    let x = state_of_last k w after b steps passed t is r e in
+    let x = state_of_last k w after b steps passed t (are_all k.text.now t is) r e in
     let y = from_then (last_at k after (out-Block b).value t) state_alone x.0 x.1 in
     ap (λ (l : LoweredExpr). l.ty) x.2 ∙ ap (λ (l : LoweredSteps). l.next.ty) (sym (same_some (record { steps = []; next = y.0 }) x.0 y.2)) ∙ last_types k after last (out-Block b).value next y.0 t made is y.1
 
@@ -123,15 +132,15 @@ module _ (m : Module) (limit : ℕ) (before : List CoreInstance) (parametric_arg
       ap (λ b. where_true b (and_then (lower_type_of_text p.next.ty (outer t)) (λ ty. where_true (is_sized ty) (steps_from (outer t) p ty)))) stands
       ∙ by_sized (lower_type_of_text p.next.ty (outer t)) (steps_from (outer t) p) ∙ ap (λ o. and_then o (steps_from (outer t) p)) (sym is)
 
-  pub without_names : stand ≡ false → TableResult m limit before (λ t. lower_next (parametric_args_known m parametric_args t) p) None
+  pub without_names : stand ≡ false → TableMakes m limit before (λ t. lower_next (parametric_args_known m parametric_args t) p) None
   without_names none t is small = ap (λ b. where_true b (and_then (lower_type_of_text p.next.ty (outer t)) (λ ty. where_true (is_sized ty) (steps_from (outer t) p ty)))) none
 
-  pub without_state : stand ≡ true → ((t : List CoreInstance) → None ≡ declared t) → TableResult m limit before (λ t. lower_next (parametric_args_known m parametric_args t) p) None
+  pub without_state : stand ≡ true → ((t : List CoreInstance) → None ≡ declared t) → TableMakes m limit before (λ t. lower_next (parametric_args_known m parametric_args t) p) None
   without_state stands none t is small = by_state t None stands (none t)
 
   pub with_state : (state : DslxType) (o : Option (LoweredNext × List CoreInstance)) → stand ≡ true → ((t : List CoreInstance) → Some state ≡ declared t)
-      → TableResult m limit before (λ t. steps_from (outer t) p state) o → TableResult m limit before (λ t. lower_next (parametric_args_known m parametric_args t) p) o
-  with_state state o stands is comes = comes_as m limit before (λ t. steps_from (outer t) p state) (λ t. lower_next (parametric_args_known m parametric_args t) p) o (λ t. by_state t (Some state) stands (is t)) comes
+      → TableMakes m limit before (λ t. steps_from (outer t) p state) o → TableMakes m limit before (λ t. lower_next (parametric_args_known m parametric_args t) p) o
+  with_state state o stands is comes = makes_as m limit before (λ t. steps_from (outer t) p state) (λ t. lower_next (parametric_args_known m parametric_args t) p) o (λ t. by_state t (Some state) stands (is t)) comes
 
 -- ---- the steps behind the state
 
@@ -149,17 +158,17 @@ module _ (k : NextScope) (w : BodyWork) (p : Proc) (state : DslxType) (ends : k.
   by_body : (t : List CoreInstance) → from_state t ≡ and_then (body_at k w p.next.body t) whole
   by_body t = λ i. and_then (statements_steps (outer_at k w t) (sym ends i) (out-Block p.next.body).statements (out-Block p.next.body).value (sym (state_scope t) i)) whole
 
-  pub without_body : (limit : ℕ) → TableResult k.text.now limit w.table (body_at k w p.next.body) None → TableResult k.text.now limit w.table from_state None
+  pub without_body : (limit : ℕ) → TableMakes k.text.now limit w.table (body_at k w p.next.body) None → TableMakes k.text.now limit w.table from_state None
   without_body limit never = never_as k.text.now limit (λ t. and_then (body_at k w p.next.body t) whole) from_state by_body (never_then k.text.now limit (body_at k w p.next.body) (λ s t. whole s) never)
 
-  pub with_body : (limit : ℕ) (s : LoweredSteps) (after : List CoreInstance) → TableResult k.text.now limit w.table (body_at k w p.next.body) (Some (s, after)) → equal_type state s.next.ty ≡ true
-      → TableResult k.text.now limit w.table from_state (Some (record { state = state; steps = s.steps; next = s.next.core }, after))
+  pub with_body : (limit : ℕ) (s : LoweredSteps) (after : List CoreInstance) → TableMakes k.text.now limit w.table (body_at k w p.next.body) (Some (s, after)) → equal_type state s.next.ty ≡ true
+      → TableMakes k.text.now limit w.table from_state (Some (record { state = state; steps = s.steps; next = s.next.core }, after))
   with_body limit s after comes same =
-      comes_as k.text.now limit w.table (λ t. and_then (body_at k w p.next.body t) whole) from_state (Some (record { state = state; steps = s.steps; next = s.next.core }, after)) by_body
-      (value_comes k.text.now limit w.table after (body_at k w p.next.body) whole s (record { state = state; steps = s.steps; next = s.next.core }) comes
+      makes_as k.text.now limit w.table (λ t. and_then (body_at k w p.next.body t) whole) from_state (Some (record { state = state; steps = s.steps; next = s.next.core }, after)) by_body
+      (value_makes k.text.now limit w.table after (body_at k w p.next.body) whole s (record { state = state; steps = s.steps; next = s.next.core }) comes
       (ap (λ b. where_true b (Some (record { state = state; steps = s.steps; next = s.next.core }))) same))
 
-  pub with_other : (limit : ℕ) (s : LoweredSteps) (after : List CoreInstance) → HasOneState k w p.next.body (Some (s, after)) → equal_type state s.next.ty ≡ false → TableResult k.text.now limit w.table from_state None
+  pub with_other : (limit : ℕ) (s : LoweredSteps) (after : List CoreInstance) → HasOneState k w p.next.body (Some (s, after)) → equal_type state s.next.ty ≡ false → TableMakes k.text.now limit w.table from_state None
   with_other limit s after one other =
       never_as k.text.now limit (λ t. and_then (body_at k w p.next.body t) whole) from_state by_body
       (never_behind k.text.now limit (body_at k w p.next.body) (λ s t. whole s)

@@ -17,7 +17,7 @@ use Rattle.dslx_core.specs.Lowering.Patterns.{LoweredShape}
 use Rattle.dslx_core.proofs.Lemmas.Lowering.{from_then}
 use Rattle.dslx_core.specs.Lowering.Steps.{BindsInScope, LoweredSteps, StepsLowering, binds_nothing, statement_steps, step_then}
 use Rattle.dslx_core.specs.Machines.Machine.Arms.{shaped_at}
-use Rattle.dslx_core.specs.Machines.Machine.Reached.{ExtendsTable, IsTable}
+use Rattle.dslx_core.specs.Machines.Machine.Reached.{ExtendsTable}
 use Rattle.dslx_core.proofs.Lemmas.Machines.Machine.Instances.{begins_further, begins_itself}
 use Rattle.dslx_instance.specs.declared.tasks.work.BodyWork.{BodyWork}
 use Rattle.dslx_core.specs.Machines.Extension.Results.{TableExtends}
@@ -28,6 +28,9 @@ use Rattle.dslx_next.specs.declared.opening.opened.OpenStep.{OpenStep}
 use Rattle.dslx_next.specs.declared.opening.work.NextScope.{NextScope}
 use Rattle.dslx_core.proofs.Lemmas.Machines.Extension.Coming.{never_as, never_behind}
 use Rattle.dslx_core.proofs.Lemmas.Machines.Extension.Growing.{grows_itself, grows_on}
+use Rattle.dslx_param.specs.Needed.{AddsNeeded, AreOfTable}
+use Rattle.dslx_param.proofs.Lemmas.Growing.{adds_for, adds_nothing, adds_then}
+use Rattle.dslx_param.proofs.Lemmas.OneType.{ExprsAreMono, are_all}
 use Rattle.dslx_next.proofs.OnSteps.Opens.{act_opens, pushed_behind}
 use Rattle.dslx_next.proofs.OnOpening.Sequels.{same_scope}
 use Rattle.dslx_next.proofs.OnOpening.Types.{opens_one_type}
@@ -61,11 +64,11 @@ pub never_passed : (k : NextScope) (w : BodyWork) (e : Expr) (binds : BindsInSco
     → BodyPasses k (act_at k w e binds) steps w new_steps None
 never_passed k w e binds steps new_steps never rest t is small = act_by k w e binds t (rest t) None (never t is small)
 
-module _ (k : NextScope) (w w' : BodyWork) (e : Expr) (binds : BindsInScope) (o : OpenStep) (made : BodyMakes k w (opened_at k w (act_of e) e) (Some (o, w'))) where
+module _ (k : NextScope) (w w' : BodyWork) (e : Expr) (binds : BindsInScope) (o : OpenStep) (made : BodyMakes k w (opened_at k w (act_of e) e) (Some (o, w'))) (mono : ExprsAreMono) where
   -- by each table what is bound is of the type of this step
-  binds_type : (t : List CoreInstance) → IsTable k.text.now (meanings_of k.text.now) t → (q : OpenStep) → opened_at k w (act_of e) e t ≡ Some q → binds (scope_at k w t) q.ty ≡ binds (scope_at k w' t) o.ty
+  binds_type : (t : List CoreInstance) → AreOfTable k.text.now t → (q : OpenStep) → opened_at k w (act_of e) e t ≡ Some q → binds (scope_at k w t) q.ty ≡ binds (scope_at k w' t) o.ty
   binds_type t is q by_table =
-      ap (binds (scope_at k w t)) (opens_one_type k w t w'.table is made.0.grows.is_table (act_of e) e q o by_table (made.0.some w'.table (begins_itself w'.table)))
+      ap (binds (scope_at k w t)) (opens_one_type k w mono t w'.table is (are_all k.text.now w'.table made.0.grows.is_table) (act_of e) e q o by_table (made.0.some w'.table (begins_itself w'.table)))
       ∙ ap (λ p. binds p o.ty) (sym (same_scope k w w' t made.1))
 
   -- a step by any table, and the rest behind it
@@ -77,10 +80,10 @@ module _ (k : NextScope) (w w' : BodyWork) (e : Expr) (binds : BindsInScope) (o 
       never_as k.text.now k.limit (λ t. binds_then (opened_at k w (act_of e) e t) binds (rest t) (scope_at k w t)) (λ t. act_at k w e binds t (rest t))
       (λ t. act_by k w e binds t (rest t) (opened_at k w (act_of e) e t) refl)
       (never_behind k.text.now k.limit (opened_at k w (act_of e) e) (λ q t. binds_rest t (rest t) q (binds (scope_at k w t) q.ty))
-      (λ t is small q by_table. ap (binds_rest t (rest t) q) (binds_type t is q by_table ∙ none t)))
+      (λ t is small q by_table. ap (binds_rest t (rest t) q) (binds_type t (are_all k.text.now t is) q by_table ∙ none t)))
 
   -- what comes of the rest behind the step
-  state_behind : (steps new_steps : List Step) (after : BodyWork) → IsBound k binds o steps w' new_steps after → (t : List CoreInstance) → IsTable k.text.now (meanings_of k.text.now) t
+  state_behind : (steps new_steps : List Step) (after : BodyWork) → IsBound k binds o steps w' new_steps after → (t : List CoreInstance) → AreOfTable k.text.now t
       → (rest : StepsLowering) → HasState (act_at k w e binds t rest) (rest (scope_at k after t))
   state_behind steps new_steps after bound t is rest r comes =
       let q = from_then (opened_at k w (act_of e) e t) (λ (q : OpenStep). binds_rest t rest q (binds (scope_at k w t) q.ty)) r (sym (act_by k w e binds t rest (opened_at k w (act_of e) e t) refl) ∙ comes) in
@@ -99,12 +102,15 @@ module _ (k : NextScope) (w w' : BodyWork) (e : Expr) (binds : BindsInScope) (o 
         ∙ pushed_behind steps (with_shape o.step bound.shape) (rest (scope_at k after t))
         ∙ ap (λ l. behind_steps l (rest (scope_at k after t))) (sym bound.pushed);
     state = state_behind steps new_steps after bound;
+    adds = λ rest.
+        subst (λ (l : List CoreInstance). AddsNeeded k.text.now k.limit w.table l (λ t. act_at k w e binds t (rest t))) (sym bound.table)
+        (adds_for k.text.now k.limit w.table w'.table (opened_at k w (act_of e) e) (λ t. act_at k w e binds t (rest t)) (λ t is none. act_by k w e binds t (rest t) None none) made.2);
   }
 
 pub bound_passed : (k : NextScope) (w w' : BodyWork) (e : Expr) (binds : BindsInScope) (o : OpenStep) (steps new_steps : List Step) (r : Option BodyWork)
-    → BodyMakes k w (opened_at k w (act_of e) e) (Some (o, w')) → StepBinds k binds o steps w' new_steps r → BodyPasses k (act_at k w e binds) steps w new_steps r
-bound_passed k w w' e binds o steps new_steps None made none = unbound_passed k w w' e binds o made steps new_steps none
-bound_passed k w w' e binds o steps new_steps (Some after) made bound = shape_passed k w w' e binds o made steps new_steps after bound
+    → BodyMakes k w (opened_at k w (act_of e) e) (Some (o, w')) → ExprsAreMono → StepBinds k binds o steps w' new_steps r → BodyPasses k (act_at k w e binds) steps w new_steps r
+bound_passed k w w' e binds o steps new_steps None made mono none = unbound_passed k w w' e binds o made mono steps new_steps none
+bound_passed k w w' e binds o steps new_steps (Some after) made mono bound = shape_passed k w w' e binds o made mono steps new_steps after bound
 
 -- ---- several
 
@@ -114,10 +120,17 @@ pub record IsPassedTo (k : NextScope) (w : BodyWork) (ss : List Stmt) (steps : L
   pub parametric_args : map given after.given.items ≡ map given w.given.items
   pub passed : (t : List CoreInstance) → ExtendsTable t after.table → (rest : StepsLowering)
       → behind_steps steps (statements_at k w ss t rest) ≡ behind_steps new_steps (statements_then (outer_at k w t) k left rest (scope_at k after t))
-  pub state : (t : List CoreInstance) → IsTable k.text.now (meanings_of k.text.now) t → (rest : StepsLowering) → HasState (statements_at k w ss t rest) (statements_then (outer_at k w t) k left rest (scope_at k after t))
+  pub state : (t : List CoreInstance) → AreOfTable k.text.now t → (rest : StepsLowering) → HasState (statements_at k w ss t rest) (statements_then (outer_at k w t) k left rest (scope_at k after t))
+  pub adds : (rest : List CoreInstance → StepsLowering) → AddsNeeded k.text.now k.limit w.table after.table (λ t. statements_at k w ss t (rest t))
 
 pub begun : (k : NextScope) (w : BodyWork) (ss : List Stmt) (steps : List Step) → HasTable k w → IsPassedTo k w ss steps ss steps w
-begun k w ss steps has = record { grows = grows_itself k.text.now w.table has; parametric_args = refl; passed = λ t from rest. refl; state = λ t is rest. same_state (statements_at k w ss t rest) }
+begun k w ss steps has = record {
+  grows = grows_itself k.text.now w.table has;
+  parametric_args = refl;
+  passed = λ t from rest. refl;
+  state = λ t is rest. same_state (statements_at k w ss t rest);
+  adds = λ rest. adds_nothing k.text.now k.limit w.table (λ t. statements_at k w ss t (rest t));
+}
 
 same_outer : (k : NextScope) (w after : BodyWork) (t : List CoreInstance) → map given after.given.items ≡ map given w.given.items → outer_at k after t ≡ outer_at k w t
 same_outer k w after t e = λ i. outer_scope (record { items = meanings_of k.text.now; parametric_args = reverse (e i); callee = callee_in k.text.now (meanings_of k.text.now) t })
@@ -131,7 +144,7 @@ module _ (k : NextScope) (w : BodyWork) (ss : List Stmt) (steps : List Step) (s 
   from_here : (t : List CoreInstance) (rest : StepsLowering) → statement_steps (outer_at k w t) k.ends.now (out-Stmt s) (rest_left t rest) (scope_at k behind t) ≡ statement_at k behind s t (rest_left t rest)
   from_here t rest = ap (λ outer. statement_steps outer k.ends.now (out-Stmt s) (rest_left t rest) (scope_at k behind t)) (sym (same_outer k w behind t so_far.parametric_args))
 
-  state_here : (t : List CoreInstance) → IsTable k.text.now (meanings_of k.text.now) t → (rest : StepsLowering) → HasState (statements_at k w ss t rest) (statement_at k behind s t (rest_left t rest))
+  state_here : (t : List CoreInstance) → AreOfTable k.text.now t → (rest : StepsLowering) → HasState (statements_at k w ss t rest) (statement_at k behind s t (rest_left t rest))
   state_here t is rest = subst (HasState (statements_at k w ss t rest)) (from_here t rest) (so_far.state t is rest)
 
   pub advanced : (more_steps : List Step) (after : BodyWork) → IsPassed k (statement_at k behind s) new_steps behind more_steps after → IsPassedTo k w ss steps left more_steps after
@@ -140,14 +153,18 @@ module _ (k : NextScope) (w : BodyWork) (ss : List Stmt) (steps : List Step) (s 
     parametric_args = one.parametric_args ∙ so_far.parametric_args;
     passed = λ t from rest. so_far.passed t (begins_further behind.table after.table t one.grows.begins from) rest ∙ ap (behind_steps new_steps) (from_here t rest) ∙ one.passed t from (rest_left t rest);
     state = λ t is rest. state_on (statements_at k w ss t rest) (statement_at k behind s t (rest_left t rest)) (rest_left t rest (scope_at k after t)) (state_here t is rest) (one.state t is (rest_left t rest));
+    adds = λ rest.
+        adds_then k.text.now k.limit w.table behind.table after.table (λ t. statements_at k w ss t (rest t)) (λ t. statement_at k behind s t (rest_left t (rest t))) (λ t. statements_at k w ss t (rest t))
+        (λ t is none. none) (λ t is none. no_state (statements_at k w ss t (rest t)) (statement_at k behind s t (rest_left t (rest t))) (state_here t is (rest t)) none)
+        (so_far.adds rest) (one.adds (λ t. rest_left t (rest t)));
   }
 
   pub stopped : (more_steps last_steps : List Step) → BodyPasses k (statement_at k behind s) new_steps behind more_steps None → BodyPasses k (statements_at k w ss) steps w last_steps None
   stopped more_steps last_steps never rest t is small =
-      no_state (statements_at k w ss t (rest t)) (statement_at k behind s t (rest_left t (rest t))) (state_here t is (rest t)) (never (λ t. rest_left t (rest t)) t is small)
+      no_state (statements_at k w ss t (rest t)) (statement_at k behind s t (rest_left t (rest t))) (state_here t (are_all k.text.now t is) (rest t)) (never (λ t. rest_left t (rest t)) t is small)
 
 pub all_passed : (k : NextScope) (w : BodyWork) (ss : List Stmt) (steps new_steps : List Step) (after : BodyWork) → IsPassedTo k w ss steps [] new_steps after → IsPassed k (statements_at k w ss) steps w new_steps after
-all_passed k w ss steps new_steps after so_far = record { grows = so_far.grows; parametric_args = so_far.parametric_args; passed = so_far.passed; state = so_far.state }
+all_passed k w ss steps new_steps after so_far = record { grows = so_far.grows; parametric_args = so_far.parametric_args; passed = so_far.passed; state = so_far.state; adds = so_far.adds }
 
 -- ---- the two kinds of statements
 

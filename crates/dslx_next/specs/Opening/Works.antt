@@ -12,6 +12,7 @@ use Rattle.dslx_core.specs.Machines.Machine.Reached.{IsTable}
 use Rattle.dslx_instance.specs.Tasks.Works.{work_scope}
 use Rattle.dslx_instance.specs.declared.tasks.work.BodyWork.{BodyWork}
 use Rattle.dslx_core.specs.Machines.Extension.Results.{StableFrom, NoTableGives}
+use Rattle.dslx_param.specs.Needed.{AddsNeeded}
 use Rattle.dslx_next.specs.Opening.Opened.{act_opened}
 use Rattle.dslx_next.specs.declared.opening.opened.OpenStep.{OpenStep}
 use Rattle.dslx_next.specs.declared.opening.work.NextScope.{NextScope}
@@ -41,10 +42,10 @@ pub record IsThere (before after : BodyWork) : Type 0 where
 
 -- ---- expressions
 
--- nothing, or a value and the body behind it, where the same is bound
+-- nothing, or a value and the body behind it, where the same is bound and what was added is needed for the value
 abbrev pub BodyMakes : {A : Type 0} → NextScope → BodyWork → (List CoreInstance → Option A) → Option (A × BodyWork) → Type 0
 BodyMakes k w meaning None = NoTableGives k.text.now k.limit meaning
-BodyMakes k w meaning (Some (a, after)) = StableFrom k.text.now w.table after.table meaning a × IsThere w after
+BodyMakes k w meaning (Some (a, after)) = StableFrom k.text.now w.table after.table meaning a × IsThere w after × AddsNeeded k.text.now k.limit w.table after.table meaning
 
 -- a step that binds nothing yet
 abbrev pub opened_at : NextScope → BodyWork → SiteAct → Expr → List CoreInstance → Option OpenStep

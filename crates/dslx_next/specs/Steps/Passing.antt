@@ -17,6 +17,7 @@ use Rattle.dslx_core.specs.Lowering.Steps.{BindsInScope, LoweredSteps, StepsLowe
 use Rattle.dslx_core.specs.Machines.Machine.Reached.{ExtendsTable, IsTable}
 use Rattle.dslx_instance.specs.declared.tasks.work.BodyWork.{BodyWork}
 use Rattle.dslx_core.specs.Machines.Extension.Results.{TableExtends, NoTableGives}
+use Rattle.dslx_param.specs.Needed.{AddsNeeded, AreOfTable}
 use Rattle.dslx_next.specs.Opening.Opened.{with_shape}
 use Rattle.dslx_next.specs.declared.opening.opened.OpenStep.{OpenStep}
 use Rattle.dslx_next.specs.declared.opening.work.NextScope.{NextScope}
@@ -65,12 +66,14 @@ statements_at k w ss table rest = statements_then (outer_at k w table) k ss rest
 abbrev pub HasState : Option LoweredSteps → Option LoweredSteps → Type 0
 HasState all behind = (r : LoweredSteps) → all ≡ Some r → (s : LoweredSteps) × (behind ≡ Some s) × (r.next ≡ s.next)
 
--- the steps of statements go behind others, and the body behind them; by a table that doesn't extend that one they may be others
+-- the steps of statements go behind others, and the body behind them; by a table that doesn't extend that one they may be others.
+-- What was added is needed for them, whatever comes behind
 pub record IsPassed (k : NextScope) (leads : Leads) (steps : List Step) (w : BodyWork) (new_steps : List Step) (after : BodyWork) : Type 0 where
   pub grows : TableExtends k.text.now w.table after.table
   pub parametric_args : map given after.given.items ≡ map given w.given.items
   pub passed : (t : List CoreInstance) → ExtendsTable t after.table → (rest : StepsLowering) → behind_steps steps (leads t rest) ≡ behind_steps new_steps (rest (scope_at k after t))
-  pub state : (t : List CoreInstance) → IsTable k.text.now (meanings_of k.text.now) t → (rest : StepsLowering) → HasState (leads t rest) (rest (scope_at k after t))
+  pub state : (t : List CoreInstance) → AreOfTable k.text.now t → (rest : StepsLowering) → HasState (leads t rest) (rest (scope_at k after t))
+  pub adds : (rest : List CoreInstance → StepsLowering) → AddsNeeded k.text.now k.limit w.table after.table (λ t. leads t (rest t))
 
 abbrev pub BodyPasses : NextScope → Leads → List Step → BodyWork → List Step → Option BodyWork → Type 0
 BodyPasses k leads steps w new_steps None = (rest : List CoreInstance → StepsLowering) → NoTableGives k.text.now k.limit (λ t. leads t (rest t))

@@ -73,6 +73,7 @@ fn open_compute<'a>(
     }
 }
 
+#[tactic(auto, using(crate::proofs::OnOpening::Sequels::nothing_added))]
 fn open_receive<'a>(
     alloc: Global,
     known: NextScope<'a>,

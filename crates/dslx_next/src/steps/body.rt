@@ -1,7 +1,7 @@
 //! The body of a `next`.
 
 ghost use Rattle.std.specs.Prelude.{IfOk};
-ghost use Rattle.dslx_core.specs.Machines.Extension.Results.{TableResult};
+ghost use Rattle.dslx_param.specs.Needed.{TableMakes};
 ghost use Rattle.dslx_next.specs.Opening.Works.{HasTable, BodyMakes};
 ghost use Rattle.dslx_next.specs.Steps.Passing.{BodyPasses, HasOneState, body_at, last_at, statements_at};
 
@@ -24,7 +24,7 @@ pub(crate) fn lower_body<'a>(
     body: &'a Block,
 ) -> Result<Option<(LoweredSteps, InstanceTable)>, AllocError>
     requires has_table { HasTable known work }
-    ensures comes { IfOk result (λ o. TableResult known.entry.text.now known.entry.limit work.entry.table (body_at known.entry work.entry body.now) o) }
+    ensures comes { IfOk result (λ o. TableMakes known.entry.text.now known.entry.limit work.entry.table (body_at known.entry work.entry body.now) o) }
     ensures one_state { IfOk result (λ o. HasOneState known.entry work.entry body.now o) }
 {
     let mut steps = Vec::new(alloc);
@@ -65,6 +65,7 @@ fn pass_statements<'a>(
 }
 
 /// The value of the last expression; `()` without one.
+#[tactic(auto, using(crate::proofs::OnOpening::Sequels::nothing_added))]
 fn lower_last<'a>(
     alloc: Global,
     known: NextScope<'a>,

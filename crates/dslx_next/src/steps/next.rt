@@ -10,7 +10,7 @@ ghost use Rattle.dslx_meaning.specs.Items.{meanings_of};
 ghost use Rattle.dslx_meaning.specs.Lists.{and_then, where_true};
 ghost use Rattle.dslx_names.specs.Bound.{given};
 ghost use Rattle.dslx_scope_patterns.specs.Patterns.Behind.{body_scope};
-ghost use Rattle.dslx_core.specs.Machines.Extension.Results.{TableResult};
+ghost use Rattle.dslx_param.specs.Needed.{TableMakes};
 ghost use Rattle.dslx_next.specs.Opening.Works.{parametric_args_known};
 
 use crate::opening::{NextScope, outer_type};
@@ -31,7 +31,7 @@ use dslx_values::{copy_name, copy_type};
 use std::alloc::{AllocError, Global};
 
 /// What the `next` of a proc is lowered to where these parametrics are bound, the last one last, with the instances of functions that
-/// it needs behind those that are made; `None` only where it has no lowering by any table of at most `limit` instances.
+/// it needs, and no others, behind those that are made; `None` only where it has no lowering by any table of at most `limit` instances.
 pub fn next_there<'a>(
     alloc: Global,
     text: &'a Module,
@@ -41,7 +41,7 @@ pub fn next_there<'a>(
     parametric_args: Vec<Binding<'a>>,
 ) -> Result<Option<(LoweredNext, InstanceTable)>, AllocError>
     requires is_table { IsTable text.now (meanings_of text.now) table }
-    ensures { IfOk result (λ o. TableResult text.now limit table (λ instances. lower_next (parametric_args_known text.now parametric_args.entry.items instances) proc.now) o) }
+    ensures { IfOk result (λ o. TableMakes text.now limit table (λ instances. lower_next (parametric_args_known text.now parametric_args.entry.items instances) proc.now) o) }
 {
     if !names_are_well_typed(
         alloc,
@@ -105,7 +105,7 @@ fn next_from<'a>(
     state: DslxType,
 ) -> Result<Option<(LoweredNext, InstanceTable)>, AllocError>
     requires is_table { IsTable text.now (meanings_of text.now) table }
-    ensures { IfOk result (λ o. TableResult text.now limit table (λ instances. steps_from (outer_scope (parametric_args_known text.now parametric_args.entry.items instances)) proc.now state) o) }
+    ensures { IfOk result (λ o. TableMakes text.now limit table (λ instances. steps_from (outer_scope (parametric_args_known text.now parametric_args.entry.items instances)) proc.now state) o) }
 {
     let known = NextScope {
         text,

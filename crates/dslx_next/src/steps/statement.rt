@@ -11,6 +11,7 @@ ghost use Rattle.dslx_next.specs.Opening.Works.{HasTable, scope_at};
 ghost use Rattle.dslx_next.specs.Steps.Passing.{StepBinds, BodyPasses, act_at, statement_at};
 
 use crate::opening::{NextScope, OpenStep, open_step, with_shape};
+use dslx_core::machines::alike::lower_mono;
 use dslx_core::{Shape, Step};
 use dslx_instance::tasks::BodyWork;
 use dslx_meaning::DslxType;
@@ -46,6 +47,7 @@ fn pass_let<'a>(
     requires has_table { HasTable known work }
     ensures { IfOk result (λ o. BodyPasses known.entry (act_at known.entry work.entry value.now (shaped_at pattern.now)) steps.old.items work.entry steps.new.items o) }
 {
+    lower_mono();
     match open_step(alloc, known, work, value)? {
         Some((opened, work)) => bind_step(alloc, known, steps, work, opened, pattern),
         None => Ok(None),
@@ -63,6 +65,7 @@ fn pass_bare<'a>(
     requires has_table { HasTable known work }
     ensures { IfOk result (λ o. BodyPasses known.entry (act_at known.entry work.entry value.now binds_nothing) steps.old.items work.entry steps.new.items o) }
 {
+    lower_mono();
     match open_step(alloc, known, work, value)? {
         Some((opened, work)) => {
             steps.push(with_shape(opened.step, Shape::Wild))?;

@@ -10,7 +10,7 @@ use Rattle.dslx_next.proofs.steps.statement.pass_bare.Goals as goal
 pub returns-in_ok-push-in-Some : goal.returns-in_ok-push-in-Some
 returns-in_ok-push-in-Some c =
     bound_passed c.args.known c.args.work c.in-Some.work c.args.value.now binds_nothing c.in-Some.opened c.args.steps.now.items c.push.new.self.items (Some c.in-Some.work)
-    (subst (BodyMakes c.args.known c.args.work (opened_at c.args.known c.args.work (act_of c.args.value.now) c.args.value.now)) c.in-Some.is c.in_ok-opened.ensures)
+    (subst (BodyMakes c.args.known c.args.work (opened_at c.args.known c.args.work (act_of c.args.value.now) c.args.value.now)) c.in-Some.is c.in_ok-opened.ensures) c.lower_mono.ensures.expression
     (record {
       table = refl;
       parametric_args = refl;

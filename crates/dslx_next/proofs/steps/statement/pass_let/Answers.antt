@@ -12,7 +12,7 @@ returns-in-Some c =
     IfOk-weaker c.bind_step.result (StepBinds c.args.known (shaped_at c.args.pattern.now) c.in-Some.opened c.args.steps.now.items c.in-Some.work c.bind_step.new.steps.items)
     (BodyPasses c.args.known (act_at c.args.known c.args.work c.args.value.now (shaped_at c.args.pattern.now)) c.args.steps.now.items c.args.work c.bind_step.new.steps.items)
     (λ r bound. bound_passed c.args.known c.args.work c.in-Some.work c.args.value.now (shaped_at c.args.pattern.now) c.in-Some.opened c.args.steps.now.items c.bind_step.new.steps.items r
-    (subst (BodyMakes c.args.known c.args.work (opened_at c.args.known c.args.work (act_of c.args.value.now) c.args.value.now)) c.in-Some.is c.in_ok-opened.ensures) bound)
+    (subst (BodyMakes c.args.known c.args.work (opened_at c.args.known c.args.work (act_of c.args.value.now) c.args.value.now)) c.in-Some.is c.in_ok-opened.ensures) c.lower_mono.ensures.expression bound)
     c.bind_step.ensures
 
 pub returns-in-None : goal.returns-in-None
