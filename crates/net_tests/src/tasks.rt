@@ -28,9 +28,9 @@ struct Idle<'a> {
 }
 
 impl<'a> Runtime<NoWords> for Idle<'a> {
-    ghost run = { λ home. idle_run };
+    ghost run = { λ runtime. idle_run };
 
-    ghost lines = { λ home. home.lines.now };
+    ghost lines = { λ runtime. runtime.lines.now };
 
     fn activations(&self) -> u32 {
         3
@@ -61,7 +61,7 @@ impl<'a> Runtime<NoWords> for Idle<'a> {
 
 /// The task of its proc.
 fn idle_task<'a>(alloc: Global, lines: &'a [Option<ChanQueue<NoWords>>]) -> Task<NoWords, Idle<'a>>
-    ensures { IsTask idle_run result.home.lines.now result }
+    ensures { IsTask idle_run result.runtime.lines.now result }
 {
     let state = Value::Bits(Bits::new(8, 5));
     Task::new(

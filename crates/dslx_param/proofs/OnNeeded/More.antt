@@ -39,8 +39,7 @@ callee_more : (types : List DslxType) (p q : ℕ × CoreInstance) (callee : Core
     → (other : CoreCallee) × (callee_of types q ≡ Some other) × (callee.result ≡ other.result)
 callee_more types p q callee one e =
     let c = from_where (pairwise equal_type p.1.function.arguments types) (Some (record { number = p.0; result = p.1.function.result })) callee e in
-    let other : CoreCallee = record { number = q.0; result = q.1.function.result } in
-    (
+    let other : CoreCallee = record { number = q.0; result = q.1.function.result } in (
       other,
       ap (λ b. where_true b (Some other)) (ap (λ (ts : List DslxType). pairwise equal_type ts types) (sym one.arguments) ∙ c.0),
       ap (λ (c : CoreCallee). c.result) (sym (same_some (record { number = p.0; result = p.1.function.result }) callee c.1)) ∙ one.result,
@@ -54,8 +53,7 @@ knows_more m items these more among name given types callee e =
     let a = from_then (all_parametric_args items (inferred_from f.0.arguments types) [] f.0.parametrics given) (called these) callee f.2 in
     let p = from_then (instance_in name a.0 0 these) (callee_of types) callee a.2 in
     let q = among name a.0 p.0 p.1 in
-    let other = callee_more types p.0 q.0 callee q.2 p.2 in
-    (
+    let other = callee_more types p.0 q.0 callee q.2 p.2 in (
       other.0,
       then_is (as_function (item_named name m.items)) (by_args more) f.0 other.0 f.1
           (then_is (all_parametric_args items (inferred_from f.0.arguments types) [] f.0.parametrics given) (called more) a.0 other.0 a.1

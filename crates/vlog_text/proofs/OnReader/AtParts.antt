@@ -28,7 +28,7 @@ use Rattle.vlog_tree.specs.Verifier.WithSpans.{nowhere, signal_span}
 use Rattle.vlog_tree.specs.Verifier.Verified.{IsVerdict, Loops, assignments_checks, clocks_checks, end_check, first, literals_checks, module_checks, module_literals, none, ports_checks, resets_checks, set_targets, signals_checks, targets}
 use Rattle.vlog_text.specs.declared.builder.parsed.Parsed.{Parsed}
 use Rattle.vlog_text.specs.Parser.Reads.{IsParsing, Reads, misplaced, whole}
-use Rattle.vlog_text.specs.Parser.Spans.{AreParts, AreTokensOf, IsSpanOfPart, ModuleTokens, all_parts, assignment_tokens, clock_tokens, declaration_tokens, first_name, port_tokens, reset_tokens, span_of, spans_of}
+use Rattle.vlog_text.specs.Parser.Spans.{AreParts, AreModuleTokens, IsSpanOfPart, ModuleTokens, all_parts, assignment_tokens, clock_tokens, declaration_tokens, first_name, port_tokens, reset_tokens, span_of, spans_of}
 use Rattle.vlog_text.specs.Reader.Given.{GivesModule, faulty, no_sentence, no_token, sound}
 use Rattle.vlog_text.proofs.OnRoundTrip.WithSpans.{both_hold}
 
@@ -208,10 +208,10 @@ module _ (x : ModuleTokens) (d : VModule) (parts : AreParts x d) where
 
 -- what reads has parts
 abbrev TellsParts : Type 0
-TellsParts = (ls : List Lexeme) (p : Parsed) → Reads ls p → (m : ModuleTokens) × AreTokensOf ls m × (p.part_spans ≡ spans_of m) × AreParts m p.design
+TellsParts = (ls : List Lexeme) (p : Parsed) → Reads ls p → (m : ModuleTokens) × AreModuleTokens ls m × (p.part_spans ≡ spans_of m) × AreParts m p.design
 
 abbrev AtSomePart : List ℕ → Span → Type 0
-AtSomePart text span = (ls : List Lexeme) × (m : ModuleTokens) × HasTokens text text ls × AreTokensOf ls m × IsSpanOfPart m span
+AtSomePart text span = (ls : List Lexeme) × (m : ModuleTokens) × HasTokens text text ls × AreModuleTokens ls m × IsSpanOfPart m span
 
 by_fault : (fault : Fault) (rule : Rule) (span : Span) → error_of fault ≡ Broken rule span → fault ≡ faults.Broken rule span
 by_fault (faults.Whole limit) rule span e = absurd (cc)

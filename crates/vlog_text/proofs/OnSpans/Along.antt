@@ -3,7 +3,7 @@ use Rattle.std.proofs.Common.{◌≡◌, ◌≤◌, ℕ, Bool, true, false, List
 use Rattle.std.specs.Prelude.{◌==◌, ◌≢◌, if◌then◌else◌}
 use Rattle.dslx_token.specs.Lexeme.{Lexeme}
 use Rattle.vlog_token.specs.declared.rules.generated.kind.TheConstants.{LITERAL}
-use Rattle.vlog_text.specs.Parser.Spans.{LexemesAlong, EndsAlong, AreTokensOf, Clocked, ModuleTokens, NextPort, PartsAlong, Phrase, all_parts, assignment_tokens, block, clocked_tokens, clocks_in, declaration_tokens, last_to, literal_ends, literals_in, missing, phrases, ports_with_commas, resets_in, span_of}
+use Rattle.vlog_text.specs.Parser.Spans.{LexemesAlong, EndsAlong, AreModuleTokens, Clocked, ModuleTokens, NextPort, PartsAlong, Phrase, all_parts, assignment_tokens, block, clocked_tokens, clocks_in, declaration_tokens, last_to, literal_ends, literals_in, missing, phrases, ports_with_commas, resets_in, span_of}
 
 through : (a b c : ℕ) → a ≤ b → b ≤ c → a ≤ c
 through a b c le more = omega (arith, le, more)
@@ -94,7 +94,7 @@ clocked_along (block opening resets otherwise clocks end) others a b k =
     skipped otherwise.tokens (phrases clocks ++ behind) clock_runs d b rest
     (λ e rest. subst (λ xs. PartsAlong xs e b) (append-nil clock_runs) (some_parts clocks behind [] e b rest (λ f rest. none_along behind f b rest)))))
 
-pub parts_along : (ls : List Lexeme) (x : ModuleTokens) (a b : ℕ) → LexemesAlong ls a b → AreTokensOf ls x → PartsAlong (all_parts x) a b
+pub parts_along : (ls : List Lexeme) (x : ModuleTokens) (a b : ℕ) → LexemesAlong ls a b → AreModuleTokens ls x → PartsAlong (all_parts x) a b
 parts_along ls x a b k are =
     let last = x.end.tokens ++ are.mark.tokens in
     let block_on = clocked_tokens x.clocked ++ last in

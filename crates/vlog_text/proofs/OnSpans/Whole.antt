@@ -17,7 +17,7 @@ use Rattle.vlog_text.specs.declared.builder.state.State.{State}
 use Rattle.vlog_text.specs.Builder.Building.{built, parsed_of}
 use Rattle.vlog_text.specs.Builder.Empty.{empty}
 use Rattle.vlog_text.specs.Parser.Reads.{Reads}
-use Rattle.vlog_text.specs.Parser.Spans.{AreParts, AreTokensOf, Clocked, HaveLiterals, ModuleTokens, Phrase, assignment_tokens, block, clocks_in, declaration_tokens, first_name, literal_ends, literal_widths, missing, port_tokens, resets_in, signal_names, span_of, spans_of, target_of}
+use Rattle.vlog_text.specs.Parser.Spans.{AreParts, AreModuleTokens, Clocked, HaveLiterals, ModuleTokens, Phrase, assignment_tokens, block, clocks_in, declaration_tokens, first_name, literal_ends, literal_widths, missing, port_tokens, resets_in, signal_names, span_of, spans_of, target_of}
 use Rattle.vlog_text.proofs.OnSpans.Effects.{clocked_widths, ends_in, items_of, items_widths, widths_in, with_assignments, with_clocked, with_declarations, with_name, with_ports}
 use Rattle.vlog_text.proofs.OnSpans.Going.{go}
 use Rattle.vlog_text.proofs.OnSpans.KeepsLists.{one_word}
@@ -164,7 +164,7 @@ starts_so : Grows verilog.rules (start_of verilog) ≡ Grows verilog.rules (Nont
 unfolding verilog
 starts_so = refl
 
-pub text_is_placed : (ls : List Lexeme) (p : Parsed) → Reads ls p → (m : ModuleTokens) × AreTokensOf ls m × (p.part_spans ≡ spans_of m) × (p.part_spans.literals ≡ literal_ends ls) × AreParts m p.design × (length ls < 2 ^ 64 → HaveLiterals m p.design)
+pub text_is_placed : (ls : List Lexeme) (p : Parsed) → Reads ls p → (m : ModuleTokens) × AreModuleTokens ls m × (p.part_spans ≡ spans_of m) × (p.part_spans.literals ≡ literal_ends ls) × AreParts m p.design × (length ls < 2 ^ 64 → HaveLiterals m p.design)
 text_is_placed ls p reads =
     let grows : Grows verilog.rules (Nonterminal MODULE ∷ Terminal END ∷ []) reads.forest = subst (λ T. T reads.forest) starts_so reads.derived.grows in
     let ran = go grows ls (sym reads.derived.tokens) in

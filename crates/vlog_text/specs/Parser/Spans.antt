@@ -127,7 +127,7 @@ tokens_of m =
     ++ (phrases m.declarations ++ (phrases m.assignments ++ (clocked_tokens m.clocked ++ m.end.tokens))))))))
 
 -- The text's tokens are those of the module, and the mark at the end.
-pub record AreTokensOf (ls : List Lexeme) (m : ModuleTokens) : Type 0 where
+pub record AreModuleTokens (ls : List Lexeme) (m : ModuleTokens) : Type 0 where
   pub mark : WordTokens (END ∷ [])
   pub are : ls ≡ tokens_of m ++ mark.tokens
 

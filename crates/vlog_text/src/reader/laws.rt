@@ -3,7 +3,7 @@
 ghost use Rattle.std.specs.Prelude.{◌≡◌, ℕ, Err, List, Result};
 ghost use Rattle.dslx_token.specs.Lexeme.{Lexeme};
 ghost use Rattle.vlog_tree.specs.declared.module.VModule.{VModule};
-ghost use Rattle.vlog_text.specs.Parser.Spans.{AreTokensOf, IsSpanOfPart, ModuleTokens};
+ghost use Rattle.vlog_text.specs.Parser.Spans.{AreModuleTokens, IsSpanOfPart, ModuleTokens};
 ghost use Rattle.vlog_text.specs.Reader.Given.{GivesModule};
 ghost use Rattle.vlog_token.specs.Tokens.{HasTokens};
 ghost use Rattle.xb_span.specs.declared.read_error.ReadError.{ReadError};
@@ -23,7 +23,7 @@ pub fn one_module()
 /// A text that breaks a rule is refused at one of its parts, from the start of its first token to the end of its last one.
 pub fn rules_are_broken_at_parts()
     ensures { (text : List ℕ) (rule : Rule) (span : Span) → GivesModule text (Err (Broken rule span))
-        → (ls : List Lexeme) × (m : ModuleTokens) × HasTokens text text ls × AreTokensOf ls m × IsSpanOfPart m span }
+        → (ls : List Lexeme) × (m : ModuleTokens) × HasTokens text text ls × AreModuleTokens ls m × IsSpanOfPart m span }
 {
     crate::parser::spans_are_those_of_tokens();
 }
