@@ -68,7 +68,7 @@ def table():
         if name not in tests and name not in narrow:
             direct = [it for it in below if not any(it in closed[other] for other in below)]
             rows.append(f'| `{name}` | {what_it_is(name)} | {" ".join(direct)} |')
-    return '\n'.join([*rows, '', f'Tests alone: {", ".join(f"`{name}`" for name in tests)}. The narrowed language: {len(narrow)} crates, `dslx_narrow_*`.'])
+    return '\n'.join([*rows, '', f'Tests alone: {", ".join(f"`{name}`" for name in tests)}. The narrowed language: {", ".join(f"`{name}`" for name in narrow)}.'])
 
 
 def slugs(page):
