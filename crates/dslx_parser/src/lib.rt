@@ -9,7 +9,6 @@ pub mod built;
 pub mod depths;
 mod laws;
 mod reader;
-pub mod shape;
 pub mod spans;
 pub mod syntax;
 mod text;

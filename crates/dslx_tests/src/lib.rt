@@ -7,4 +7,6 @@ mod nesting;
 mod operators;
 pub mod parser;
 #[cfg(test)]
+mod shape;
+#[cfg(test)]
 mod tokens;

@@ -1,7 +1,7 @@
 //! What is answered for texts, compared with tables.
 
+use crate::shape::{shape, spanned_shape};
 use dslx_parser::read;
-use dslx_parser::shape::{shape, spanned_shape};
 use std::alloc::Global;
 use std::test::Fail;
 
