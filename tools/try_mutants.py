@@ -5,9 +5,11 @@ usage: try_mutants.py [--jobs N] [--ci] [NAME..]
 
 A mutant is an edit crates/NAME/mutants/*.edit, in the form of a must-fail edit. The crates are copied to a temporary folder, and
 there the mutants of the crates NAME (of all, if none is named) stand in place of their must-fail edits; the checkout isn't touched.
-`rt check` then proves each crate as it stands, and `rt must-fail` tries its mutants. They take libraries that a checkout on this
-machine built of the same text, and build the others one by one. With --ci it is one `rt ci NAME..` of the copy: that proves the crates and all
-below them side by side, tests included, and keeps on this machine what it proved. N is how many processors to use, else as many as there are.
+Each is first tried by the proof of the function that it changes alone (`rt check --only`), which refuses most in seconds. Then `rt check`
+proves a crate of which some are left as it stands, and `rt must-fail` tries these by the whole crate. They take libraries that a checkout
+on this machine built of the same text, and build the others one by one. With --ci it is one `rt ci NAME..` of the copy, with all mutants: that
+proves the crates and all below them side by side, tests included, and keeps on this machine what it proved. N is how many processors to use,
+else as many as there are.
 
 For each mutant it prints what it came to: refused, by the function whose proof failed (or the file of specs or lemmas); refused at a limit of
 the prover; refused for a name that a proof file cites and the edit took away, which says little; not refused; or not applicable: it can't be
@@ -32,6 +34,13 @@ MISSED, NOT_APPLICABLE = 'NOT REFUSED', 'NOT APPLICABLE'
 # A line of rt on one edit, and the place that it names.
 RESULT = re.compile(r'rt: must-fail (\w+)/(\S+)\.edit: (.*)')
 PLACE = re.compile(r'(?:\./)?((?:src|specs|proofs)/\S+?\.(?:rt|antt)):(\d+):\d+:')
+
+# A function of a source file with its indent, and the type and trait of an impl.
+FUNCTION = re.compile(r'^( *)(?:pub(?:\([a-z]+\))? )?(?:const )?fn (\w+)', re.M)
+IMPL = re.compile(r'^impl(?:<[^{]*?>)? (?:(\w+)(?:<[^{]*?>)? for )?(\w+)', re.M)
+# What the prover says of a place, and of one in a proof file that lost a name.
+TOLD = re.compile(r'(note: )?\S+:\d+:\d+: (error|it is not proved)|note: \S+:\d+:\d+: ')
+OF_A_NAME = re.compile(r'(note: )?(\./)?proofs/.*(has no field|is not in scope|has no `|was not admitted)')
 
 Tried = collections.namedtuple('Tried', 'crate mutant outcome where')
 
@@ -95,6 +104,56 @@ def tried(line):
     return Tried(crate, mutant, outcome, where(crate, said))
 
 
+def path_of(source, text, at):
+    """The path of the function in which an offset of a source file stands, below its crate, as `rt check --only` takes it."""
+    path = os.path.splitext(source)[0].split('/')[1:]
+    path = path[:-1] if path[-1] in ('lib', 'main') else path
+    function = [found for found in FUNCTION.finditer(text) if found.start() <= at]
+    if not function:
+        return '::'.join(path)
+    owner = [found for found in IMPL.finditer(text[:function[-1].start()])] if function[-1][1] else []
+    return '::'.join(path + [(found[2] + (found[1] or '')) for found in owner[-1:]] + [function[-1][2]])
+
+
+def changed(room, crate, mutant):
+    """The files of a crate as a mutant leaves them, and the paths of the functions that it changes; none where it can't be applied."""
+    folder, path, old, texts, paths = os.path.join(room, 'crates', crate), '', '', {}, []
+    for line in open(os.path.join(folder, 'must-fail', mutant + '.edit'), encoding='utf-8').read().split('\n'):
+        word, _, rest = line.partition(': ') if line.startswith(('file: ', 'old: ', 'new: ')) else ('', '', '')
+        if word == 'file':
+            path = rest.strip()
+            texts.setdefault(path, open(os.path.join(folder, path), encoding='utf-8').read())
+        elif word == 'old':
+            old = rest
+        elif word == 'new':
+            if texts[path].count(old) != 1 or not path.startswith('src/'):
+                return {}, []
+            paths.append(path_of(path, texts[path], texts[path].index(old)))
+            texts[path] = texts[path].replace(old, rest)
+    return texts, paths
+
+
+def by_function(crate, mutant, room, jobs):
+    """What a mutant comes to by the proofs of the functions that it changes; None where these don't refuse it."""
+    texts, paths = changed(room, crate, mutant)
+    folder = os.path.join(room, 'crates', crate)
+    before = {path: open(os.path.join(folder, path), encoding='utf-8').read() for path in texts}
+    command = ['rt', 'check'] + (['--jobs', str(jobs)] if jobs else []) + [word for path in paths for word in ('--only', path)]
+    try:
+        for path, text in texts.items():
+            open(os.path.join(folder, path), 'w', encoding='utf-8').write(text)
+        ran = subprocess.run(command, cwd=folder, stdout=subprocess.PIPE, stderr=subprocess.STDOUT, text=True, errors='replace') if paths else None
+    finally:
+        for path, text in before.items():
+            open(os.path.join(folder, path), 'w', encoding='utf-8').write(text)
+    refused = re.findall(r'^fn (\S+): not proved$', ran.stdout, re.M) if ran and ran.returncode == 1 else []
+    told = [line for line in ran.stdout.split('\n') if TOLD.match(line)] if refused else []
+    if not any(not OF_A_NAME.match(line) for line in told):
+        return None
+    print('rt: %s/%s: refused' % (crate, mutant), flush=True)
+    return Tried(crate, mutant, REFUSED, refused[0].partition('::')[2].replace('::', '.'))
+
+
 def is_proved(crate, room, jobs):
     """Whether the crate is proved as it stands; the mutants are then tried over what this check keeps."""
     print('%s: checking it as it stands' % crate, flush=True)
@@ -117,6 +176,15 @@ def run(command, room, jobs):
                 print(line, end='', flush=True)
             found.append(tried(line))
     return [one for one in found if one]
+
+
+def tried_by_function(crate, mutants, room, jobs):
+    """Tries each mutant of a crate by the functions that it changes; those that are refused leave the copy."""
+    print('%s: trying each mutant by the functions that it changes' % crate, flush=True)
+    found = [one for one in (by_function(crate, mutant, room, jobs) for mutant in mutants) if one]
+    for one in found:
+        os.remove(os.path.join(room, 'crates', crate, 'must-fail', one.mutant + '.edit'))
+    return found
 
 
 def completed(found, wanted):
@@ -155,9 +223,9 @@ def main():
     with tempfile.TemporaryDirectory(prefix='mutants-') as room:
         copy_crates(room, names)
         for part in parts:
-            new = []
-            if said.ci or is_proved(part[0], room, said.jobs):
-                new = run(['rt', 'ci' if said.ci else 'must-fail', *part], room, said.jobs)
+            new = [] if said.ci else tried_by_function(part[0], every[part[0]], room, said.jobs)
+            if said.ci or len(new) < len(every[part[0]]) and is_proved(part[0], room, said.jobs):
+                new += run(['rt', 'ci' if said.ci else 'must-fail', *part], room, said.jobs)
             new = completed(new, {name: every[name] for name in part})
             keep(new, every)
             found += new

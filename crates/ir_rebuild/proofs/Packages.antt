@@ -11,6 +11,7 @@ use Rattle.ir_tree.specs.Activations.{activation, sites_of}
 use Rattle.ir_tree.specs.Networks.{head_of, chan_of}
 use Rattle.ir_tree.specs.SameBehavior.{SameActivations, SameBehavior}
 use Rattle.ir_verify.specs.Checks.{Check, rule_at}
+use Rattle.ir_verify.specs.RuleNumbers as rule
 use Rattle.ir_verify.specs.Lines.{Seen, package_checks, head_checks, next_checks, is_name, is_plain, is_some_proc}
 use Rattle.xb_span.specs.declared.fault.Fault.TheVariants.{Passed}
 use Rattle.xb_span.specs.declared.limit.What.TheVariants as what
@@ -131,7 +132,7 @@ all_verified ir qs h r =
     let count : none_broken (counts ir.channels qs) ≡ true = and_both _ _ (ap (λ n. not (nat_lt 256 n)) (count_same ir.channels ir.procs qs r) ∙ d.0) d.1 in
     let last = quiet_join (procs_checks ir.channels [] [] 0 (nothing_seen ir.channels) qs) (counts ir.channels qs) procs count in
     let next = quiet_join (channels_checks [] [] 0 ir.channels) (procs_checks ir.channels [] [] 0 (nothing_seen ir.channels) qs ++ counts ir.channels qs) all.channels last in
-    let name : none_broken (package_checks nowhere ir.name qs) ≡ true = subst (λ b. none_broken (rule_at nowhere 51 (not (is_name ir.name && (is_plain ir.name && b))) ∷ []) ≡ true) (some_same ir.channels ir.procs qs r) all.name in
+    let name : none_broken (package_checks nowhere ir.name qs) ≡ true = subst (λ b. none_broken (rule_at nowhere rule.NODES_ARE_NAMED (not (is_name ir.name && (is_plain ir.name && b))) ∷ []) ≡ true) (some_same ir.channels ir.procs qs r) all.name in
     checks_verified (with_procs ir qs)
     (quiet_join (package_checks nowhere ir.name qs) (channels_checks [] [] 0 ir.channels ++ (procs_checks ir.channels [] [] 0 (nothing_seen ir.channels) qs ++ counts ir.channels qs)) name next)
 

@@ -2,6 +2,8 @@
 pub mod Checks
 -- which nodes fit the table of operations
 pub mod Fitting
+-- the numbers of the rules, by name
+pub mod RuleNumbers
 -- the rules and limits of each line
 pub mod Lines
 -- the rules and limits of a package

@@ -1,4 +1,4 @@
--- The rules and limits of each line. Rules are numbered as in the reference of the IR.
+-- The rules and limits of each line.
 use Rattle.std.specs.Prelude.{ℕ, ◌-◌, ◌==◌, nat_lt, nat_eq, Bool, true, false, ◌&&◌, ◌||◌, not, List, [], ◌∷◌, ◌++◌, length, map, slice_get, slice_index, slice_set, Option, Some, None}
 use Rattle.std.specs.List.{list_all, list_any}
 use Rattle.std.specs.Str.{bytes_eq}
@@ -27,6 +27,7 @@ use Rattle.ir_verify.specs.Checks.{Check, rule_at, limit_at, bounded}
 use Rattle.ir_tree.specs.NodeTypes.Constants.{constant_fits}
 use Rattle.ir_verify.specs.Fitting.{type_in, types_behind, node_fits}
 use Rattle.ir_tree.specs.NodeTypes.Types.{marks_of, levels_of, widths_in, same_type}
+use Rattle.ir_verify.specs.RuleNumbers as rule
 
 -- ---- what lines share
 
@@ -73,7 +74,7 @@ abbrev pub is_package_named : List ℕ → List Proc → Bool
 is_package_named name ps = is_name name && (is_plain name && is_some_proc ps)
 
 abbrev pub package_checks : Span → List ℕ → List Proc → List Check
-package_checks span name ps = rule_at span 51 (not (is_package_named name ps)) ∷ []
+package_checks span name ps = rule_at span rule.NODES_ARE_NAMED (not (is_package_named name ps)) ∷ []
 
 -- ---- `chan NAME(..)`
 
@@ -102,8 +103,8 @@ is_channel_typed c =
 
 abbrev pub channel_checks : Span → List (List ℕ) → ℕ → Channel → List Check
 channel_checks span names place c =
-    rule_at span 51 (not (is_channel_named names place c))
-    ∷ rule_at span 55 (not (is_channel_typed c))
+    rule_at span rule.NODES_ARE_NAMED (not (is_channel_named names place c))
+    ∷ rule_at span rule.TYPES_ARE_SOUND (not (is_channel_typed c))
     ∷ limit_at span.to what.Word (width_of (ty_of c.ty)) 128
     ∷ limit_at span.to what.Depth (depth_in c.ends) 4096
     ∷ type_limits span.to c.ty 0
@@ -119,8 +120,8 @@ is_proc_named names p = not (is_among names p.name) && is_name p.name
 
 abbrev pub head_checks : Span → List (List ℕ) → Proc → List Check
 head_checks span names p =
-    rule_at span 51 (not (is_proc_named names p))
-    ∷ rule_at span 55 (not (is_state p))
+    rule_at span rule.NODES_ARE_NAMED (not (is_proc_named names p))
+    ∷ rule_at span rule.TYPES_ARE_SOUND (not (is_state p))
     ∷ type_limits span.to p.state 0
 
 -- ---- nodes
@@ -148,7 +149,7 @@ see_op o seen = record { after_all = is_after_all o || seen.after_all; site = se
 abbrev pub see : ℕ → Node → Seen → Seen
 see i n seen = see_op n.op (see_role i (role_of n) seen)
 
--- 51: ids rise, and operands are there
+-- rule.NODES_ARE_NAMED: ids rise, and operands are there
 
 abbrev pub is_id_after : Option Node → ℕ → Bool
 is_id_after None id = true
@@ -179,7 +180,7 @@ attributes_there place (attributes.Channel predicate c) = is_there_if place pred
 abbrev pub is_named : Option Node → ℕ → Node → Bool
 is_named previous place n = is_id_after previous n.id && (are_there place n.operands && attributes_there place n.attributes)
 
--- 53: the tokens lead from the one `after_all` from site to site
+-- rule.TOKENS_ARE_CHAINED: the tokens lead from the one `after_all` from site to site
 
 abbrev pub is_operand : ℕ → Operand → Bool
 is_operand i operand.State = false
@@ -231,7 +232,7 @@ abbrev pub is_chained : List Node → Seen → Node → Bool
 is_chained before seen n =
     not (is_after_all n.op && seen.after_all) && is_chained_role before seen.site n.operands (role_of n)
 
--- 54: the end is one of a channel that is there, in its direction, and has no site yet
+-- rule.SITE_FITS_CHANNEL: the end is one of a channel that is there, in its direction, and has no site yet
 
 abbrev pub may_receive : Option Channel → Bool
 may_receive None = false
@@ -263,7 +264,7 @@ is_at_end channels seen role.Pure = true
 is_at_end channels seen (role.Receive predicate c) = may_receive (slice_get channels c) && is_free seen.received c
 is_at_end channels seen (role.Send predicate c) = may_send (slice_get channels c) && is_free seen.sent c
 
--- 55: the type is sound, and a literal has it
+-- rule.TYPES_ARE_SOUND: the type is sound, and a literal has it
 
 abbrev pub is_literal_of : IrType → Attributes → Bool
 is_literal_of t (attributes.Value c) = is_value_of t c
@@ -281,17 +282,17 @@ own_levels (role.Send predicate c) = 0
 -- the checks of the node of index i, behind these, with what was seen before it
 abbrev pub node_checks : List Channel → IrType → List Node → Span → ℕ → Seen → Node → List Check
 node_checks channels state before span i seen n =
-    rule_at span 51 (not (is_named (slice_get before (i - 1)) i n))
-    ∷ rule_at span 52 (not (node_fits channels (types_behind state before) n))
-    ∷ rule_at span 53 (not (is_chained before seen n))
-    ∷ rule_at span 54 (not (is_at_end channels seen (role_of n)))
-    ∷ rule_at span 55 (not (is_typed n))
+    rule_at span rule.NODES_ARE_NAMED (not (is_named (slice_get before (i - 1)) i n))
+    ∷ rule_at span rule.NODE_FITS_TABLE (not (node_fits channels (types_behind state before) n))
+    ∷ rule_at span rule.TOKENS_ARE_CHAINED (not (is_chained before seen n))
+    ∷ rule_at span rule.SITE_FITS_CHANNEL (not (is_at_end channels seen (role_of n)))
+    ∷ rule_at span rule.TYPES_ARE_SOUND (not (is_typed n))
     ∷ type_limits span.to n.ty (own_levels (role_of n))
 
 -- ---- `next(..)`
 
 abbrev pub next_checks : Span → Proc → List Check
 next_checks span p =
-    rule_at span 51 (not (is_there (length p.nodes) p.next))
-    ∷ rule_at span 55 (not (same_type p.state (type_in (types_behind p.state p.nodes) p.next)))
+    rule_at span rule.NODES_ARE_NAMED (not (is_there (length p.nodes) p.next))
+    ∷ rule_at span rule.TYPES_ARE_SOUND (not (same_type p.state (type_in (types_behind p.state p.nodes) p.next)))
     ∷ []

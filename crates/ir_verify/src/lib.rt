@@ -8,6 +8,7 @@ mod fitting;
 mod line_spans;
 mod lines;
 mod names;
+mod rule;
 pub mod same;
 pub mod typed;
 mod verified;

@@ -11,6 +11,7 @@ ghost use Rattle.ir_verify.specs.Lines.{is_plain, is_among, type_limits, is_valu
 use crate::checks::{note_limit, note_rule};
 use crate::fitting::{Scope, node_fits};
 use crate::names::is_name;
+use crate::rule;
 use delay_model::Op;
 use ir_tree::node_types::{
     bounded, constant_fits, leaves_of, levels_of, marks_of, same_type, width_of,
@@ -75,7 +76,7 @@ pub fn note_package(held: Option<Fault>, span: Span, name: &str, procs: &[Proc])
     ensures { result ≡ noted held (package_checks span name.now procs.now) }
 {
     let named = is_name(name) && (is_plain(name) && is_some_proc(procs));
-    note_rule(held, span, 51, !named)
+    note_rule(held, span, rule::NODES_ARE_NAMED, !named)
 }
 
 fn is_some_proc(procs: &[Proc]) -> bool
@@ -135,8 +136,13 @@ pub fn note_channel(
     let name = channel.name.as_str();
     let named = is_new
         && (channel.id as usize == place && (is_name(name) && is_named_well(channel.ends, name)));
-    let held = note_rule(held, span, 51, !named);
-    let held = note_rule(held, span, 55, !is_channel_typed(channel));
+    let held = note_rule(held, span, rule::NODES_ARE_NAMED, !named);
+    let held = note_rule(
+        held,
+        span,
+        rule::TYPES_ARE_SOUND,
+        !is_channel_typed(channel),
+    );
     let held = note_limit(held, span.to, What::Word, width_of(&channel.ty), 128);
     let held = note_limit(
         held,
@@ -160,8 +166,8 @@ pub fn note_head(held: Option<Fault>, span: Span, is_new: bool, proc: &Proc) -> 
         result ≡ noted held (head_checks span names proc.now) }
 {
     let named = is_new && is_name(proc.name.as_str());
-    let held = note_rule(held, span, 51, !named);
-    let held = note_rule(held, span, 55, !is_state(proc));
+    let held = note_rule(held, span, rule::NODES_ARE_NAMED, !named);
+    let held = note_rule(held, span, rule::TYPES_ARE_SOUND, !is_state(proc));
     note_type(held, span.to, &proc.state, 0)
 }
 
@@ -422,11 +428,31 @@ pub fn note_node(
     let place = before.len();
     let previous = before.get(before.len().saturating_sub(1));
     let role = node.role();
-    let held = note_rule(held, span, 51, !is_named(previous, place, node));
-    let held = note_rule(held, span, 52, !node_fits(channels, scope, node));
-    let held = note_rule(held, span, 53, !is_chained(before, seen, node));
-    let held = note_rule(held, span, 54, !is_at_end(channels, seen, role));
-    let held = note_rule(held, span, 55, !is_typed(node));
+    let held = note_rule(
+        held,
+        span,
+        rule::NODES_ARE_NAMED,
+        !is_named(previous, place, node),
+    );
+    let held = note_rule(
+        held,
+        span,
+        rule::NODE_FITS_TABLE,
+        !node_fits(channels, scope, node),
+    );
+    let held = note_rule(
+        held,
+        span,
+        rule::TOKENS_ARE_CHAINED,
+        !is_chained(before, seen, node),
+    );
+    let held = note_rule(
+        held,
+        span,
+        rule::SITE_FITS_CHANNEL,
+        !is_at_end(channels, seen, role),
+    );
+    let held = note_rule(held, span, rule::TYPES_ARE_SOUND, !is_typed(node));
     note_type(held, span.to, &node.ty, own_levels(role))
 }
 
@@ -438,7 +464,12 @@ pub fn note_next(held: Option<Fault>, span: Span, scope: &Scope, proc: &Proc) ->
     ensures { result ≡ noted held (next_checks span proc.now) }
 {
     let place = scope.before.len();
-    let held = note_rule(held, span, 51, !is_there(place, proc.next));
+    let held = note_rule(
+        held,
+        span,
+        rule::NODES_ARE_NAMED,
+        !is_there(place, proc.next),
+    );
     let same = same_type(scope.state, scope.type_of(proc.next));
-    note_rule(held, span, 55, !same)
+    note_rule(held, span, rule::TYPES_ARE_SOUND, !same)
 }

@@ -7,7 +7,6 @@ pub mod Ready
 pub mod Several
 pub mod Placing
 pub mod Operands
-pub mod Widths
 -- laws
 pub mod OnLaws
 -- the text of schedules

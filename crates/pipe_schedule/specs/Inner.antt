@@ -1,4 +1,3 @@
 pub mod Delays
 pub mod Slots
 pub mod Pushes
-pub mod Scaled

@@ -4,8 +4,8 @@ ghost use Rattle.std.specs.Prelude.{◌≡◌};
 ghost use Rattle.pipe_schedule.specs.Timed.{first_type};
 ghost use Rattle.pipe_schedule.specs.Inner.Delays.{type_width, delay_within};
 
-use crate::width::width_of;
 use delay_model::TimedBy;
+use ir_tree::node_types::width_of;
 use ir_tree::{IrType, Node, Operand};
 
 /// How wide the types of verified packages are at most: 256 leaves of 128 bits.

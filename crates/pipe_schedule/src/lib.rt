@@ -11,7 +11,6 @@ mod schedule;
 mod slot;
 mod slots;
 pub mod text;
-mod width;
 
 pub use package::{Infeasible, schedule_package};
 pub use schedule::{Demands, NoSchedule, Schedule, schedule_proc};

@@ -4,6 +4,8 @@ pub mod Checks
 pub mod WithSpans
 -- the ports that a module must have
 pub mod Ports
+-- the numbers of the rules, by name
+pub mod RuleNumbers
 -- the rules and limits of each part
 pub mod Parts
 -- which wires depend on themselves

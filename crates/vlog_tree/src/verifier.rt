@@ -9,6 +9,7 @@ mod marks;
 mod part_spans;
 mod parts;
 mod ports;
+mod rule;
 mod verified;
 mod walks;
 

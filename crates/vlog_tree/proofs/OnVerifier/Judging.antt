@@ -10,6 +10,7 @@ use Rattle.vlog_tree.specs.Verifier.Checks.{PartCheck, note, noted, rule_at}
 use Rattle.vlog_tree.specs.Verifier.Verified.{module_checks, Loops, none, first, IsVerdict}
 use Rattle.vlog_tree.specs.Verifier.Inner.Firsts.{IsFirstLoop}
 use Rattle.vlog_tree.proofs.OnVerifier.Steps.{noted-append}
+use Rattle.vlog_tree.specs.Verifier.RuleNumbers as rule
 
 pub all_noted : (ss ps as_ rs cs ls : List PartCheck) (e : PartCheck) (held h1 h2 h3 h4 h5 : Option Fault) → h1 ≡ noted held ss → h2 ≡ noted h1 (ps ++ e ∷ []) → h3 ≡ noted h2 as_ → h4 ≡ noted h3 (rs ++ cs) → h5 ≡ noted h4 ls
     → h5 ≡ noted held (ss ++ (ps ++ (e ∷ (as_ ++ (rs ++ (cs ++ ls))))))
@@ -33,12 +34,12 @@ pub verdict_free : (m : VModule) (part_spans : PartSpans) (held : Option Fault) 
 verdict_free m part_spans held e free = record { loops = []; looped = none free; is = e ∙ ap (noted None) (sym (nothing_more (module_checks m part_spans))) }
 
 pub verdict_looped : (m : VModule) (part_spans : PartSpans) (held named : Option Fault) (i : ℕ) (span : Span) → held ≡ noted None (module_checks m part_spans) → IsFirstLoop m (Some i)
-    → span ≡ get_or part_spans.assignments i nowhere → named ≡ noted held (rule_at span 75 true ∷ []) → IsVerdict m part_spans named
+    → span ≡ get_or part_spans.assignments i nowhere → named ≡ noted held (rule_at span rule.NO_COMBINATIONAL_LOOP true ∷ []) → IsVerdict m part_spans named
 verdict_looped m part_spans held named i span e (a, at, depends, before) s n = record {
-  loops = rule_at (get_or part_spans.assignments i nowhere) 75 true ∷ [];
+  loops = rule_at (get_or part_spans.assignments i nowhere) rule.NO_COMBINATIONAL_LOOP true ∷ [];
   looped = first i a at depends before;
-  is = n ∙ ap (λ sp. noted held (rule_at sp 75 true ∷ [])) s ∙ ap (λ h. noted h (rule_at (get_or part_spans.assignments i nowhere) 75 true ∷ [])) e
-      ∙ sym (noted-append (module_checks m part_spans) (rule_at (get_or part_spans.assignments i nowhere) 75 true ∷ []) None);
+  is = n ∙ ap (λ sp. noted held (rule_at sp rule.NO_COMBINATIONAL_LOOP true ∷ [])) s ∙ ap (λ h. noted h (rule_at (get_or part_spans.assignments i nowhere) rule.NO_COMBINATIONAL_LOOP true ∷ [])) e
+      ∙ sym (noted-append (module_checks m part_spans) (rule_at (get_or part_spans.assignments i nowhere) rule.NO_COMBINATIONAL_LOOP true ∷ []) None);
 }
 
 -- one assignment is the first whose target depends on itself
@@ -46,7 +47,7 @@ pub one_loop : (m : VModule) (part_spans : PartSpans) (one other : List PartChec
 one_loop m part_spans _ _ (none free) (none also) = refl
 one_loop m part_spans _ _ (none free) (first i a at d before) = absurd (free i a at d)
 one_loop m part_spans _ _ (first i a at d before) (none free) = absurd (free i a at d)
-one_loop m part_spans _ _ (first i a at d before) (first j b bt e earlier) = ap (λ k. rule_at (get_or part_spans.assignments k nowhere) 75 true ∷ []) (same (cases_lt i j))
+one_loop m part_spans _ _ (first i a at d before) (first j b bt e earlier) = ap (λ k. rule_at (get_or part_spans.assignments k nowhere) rule.NO_COMBINATIONAL_LOOP true ∷ []) (same (cases_lt i j))
   where
     same : (i < j) ⊎ (j ≤ i) → i ≡ j
     same (inl h) = absurd (earlier i a h at d)

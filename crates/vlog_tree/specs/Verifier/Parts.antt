@@ -15,6 +15,7 @@ use Rattle.vlog_tree.specs.Signals.{Declared, signals, declared_widths}
 use Rattle.vlog_tree.specs.Forms.{atom_width, atom_reads, reads, fits}
 use Rattle.vlog_tree.specs.Verifier.Checks.{PartCheck, rule_at, width_at}
 use Rattle.vlog_tree.specs.Verifier.Ports.{Due, port_fits}
+use Rattle.vlog_tree.specs.Verifier.RuleNumbers as rule
 
 -- a name is one of these
 abbrev pub is_among : List (List ℕ) → List ℕ → Bool
@@ -66,8 +67,8 @@ clock_port = 0
 
 abbrev pub signal_checks : VModule → List ℕ → Span → List (List ℕ) → ℕ → Declared → List PartCheck
 signal_checks m targets span names s d =
-    rule_at span 71 (is_among names d.name)
-    ∷ rule_at span 73 (is_driven (Some d.role) && not (is_target (count_of m) targets s))
+    rule_at span rule.SIGNAL_IS_DECLARED_ONCE (is_among names d.name)
+    ∷ rule_at span rule.ONE_DRIVER (is_driven (Some d.role) && not (is_target (count_of m) targets s))
     ∷ width_at span.to d.width
     ∷ []
 
@@ -77,7 +78,7 @@ see_name names d = names ++ d.name ∷ []
 -- ---- a port, where this one must come next
 
 abbrev pub port_checks : Span → Due → Port → List PartCheck
-port_checks span due p = rule_at span 76 (not (port_fits due p)) ∷ []
+port_checks span due p = rule_at span rule.PORTS_ARE_CHANNELS (not (port_fits due p)) ∷ []
 
 -- ---- an assignment, behind others to these targets
 
@@ -86,11 +87,11 @@ is_declared_assignment count a = nat_lt a.target.0 count && are_declared count (
 
 abbrev pub assignment_checks : VModule → Span → List ℕ → Assignment → List PartCheck
 assignment_checks m span earlier a =
-    rule_at span 71 (not (is_declared_assignment (count_of m) a))
-    ∷ rule_at span 72 (bars_assignment (role_at m a.target.0))
-    ∷ rule_at span 73 (is_target (count_of m) earlier a.target.0)
-    ∷ rule_at span 74 (is_declared_assignment (count_of m) a && not (fits (declared_widths m) (declared_widths m a.target.0) a.value))
-    ∷ rule_at span 76 (is_listed (reads a.value) clock_port)
+    rule_at span rule.SIGNAL_IS_DECLARED_ONCE (not (is_declared_assignment (count_of m) a))
+    ∷ rule_at span rule.TARGET_MAY_BE_SET (bars_assignment (role_at m a.target.0))
+    ∷ rule_at span rule.ONE_DRIVER (is_target (count_of m) earlier a.target.0)
+    ∷ rule_at span rule.WIDTHS_AGREE (is_declared_assignment (count_of m) a && not (fits (declared_widths m) (declared_widths m a.target.0) a.value))
+    ∷ rule_at span rule.PORTS_ARE_CHANNELS (is_listed (reads a.value) clock_port)
     ∷ []
 
 abbrev pub see_target : List ℕ → Assignment → List ℕ
@@ -110,11 +111,11 @@ is_wrong_set m is_reset others set =
 
 abbrev pub set_checks : VModule → Bool → List ℕ → Span → List ℕ → Set → List PartCheck
 set_checks m is_reset others span earlier set =
-    rule_at span 71 (not (is_declared_set (count_of m) set))
-    ∷ rule_at span 72 (is_wrong_set m is_reset others set)
-    ∷ rule_at span 73 (is_target (count_of m) earlier set.target.0)
-    ∷ rule_at span 74 (is_declared_set (count_of m) set && not (atom_width (declared_widths m) set.value == declared_widths m set.target.0))
-    ∷ rule_at span 76 (is_listed (atom_reads set.value) clock_port)
+    rule_at span rule.SIGNAL_IS_DECLARED_ONCE (not (is_declared_set (count_of m) set))
+    ∷ rule_at span rule.TARGET_MAY_BE_SET (is_wrong_set m is_reset others set)
+    ∷ rule_at span rule.ONE_DRIVER (is_target (count_of m) earlier set.target.0)
+    ∷ rule_at span rule.WIDTHS_AGREE (is_declared_set (count_of m) set && not (atom_width (declared_widths m) set.value == declared_widths m set.target.0))
+    ∷ rule_at span rule.PORTS_ARE_CHANNELS (is_listed (atom_reads set.value) clock_port)
     ∷ []
 
 abbrev pub see_set : List ℕ → Set → List ℕ

@@ -13,6 +13,7 @@ use Rattle.vlog_tree.specs.Verifier.Checks.{PartCheck, rule_at, width_at, noted,
 use Rattle.vlog_tree.specs.Verifier.Ports.{Clock, due_behind, may_end}
 use Rattle.vlog_tree.specs.Verifier.Parts.{signal_checks, see_name, port_checks, assignment_checks, see_target, set_checks, see_set}
 use Rattle.vlog_tree.specs.Verifier.Loops.{Depends}
+use Rattle.vlog_tree.specs.Verifier.RuleNumbers as rule
 
 abbrev pub targets : List Assignment → List ℕ
 targets assignments = map (λ a. a.target.0) assignments
@@ -28,7 +29,7 @@ ports_checks m part_spans = walk (λ due i p. port_checks (get_or part_spans.por
 
 -- the ports end too early
 abbrev pub end_check : VModule → PartSpans → PartCheck
-end_check m part_spans = rule_at (get_or part_spans.ports (length m.ports - 1) nowhere) 76 (not (may_end (seen_after due_behind Clock m.ports)))
+end_check m part_spans = rule_at (get_or part_spans.ports (length m.ports - 1) nowhere) rule.PORTS_ARE_CHANNELS (not (may_end (seen_after due_behind Clock m.ports)))
 
 abbrev pub assignments_checks : VModule → PartSpans → List PartCheck
 assignments_checks m part_spans = walk (λ earlier i a. assignment_checks m (get_or part_spans.assignments i nowhere) earlier a) see_target [] 0 m.assignments
@@ -60,7 +61,7 @@ pub data Loops (m : VModule) (part_spans : PartSpans) : List PartCheck → Type 
   none : ((i : ℕ) (a : Assignment) → slice_get m.assignments i ≡ Some a → ¬ (Depends m a.target.0 a.target.0)) → Loops m part_spans []
   first : (i : ℕ) (a : Assignment) → slice_get m.assignments i ≡ Some a → Depends m a.target.0 a.target.0
       → ((j : ℕ) (b : Assignment) → j < i → slice_get m.assignments j ≡ Some b → ¬ (Depends m b.target.0 b.target.0))
-      → Loops m part_spans (rule_at (get_or part_spans.assignments i nowhere) 75 true ∷ [])
+      → Loops m part_spans (rule_at (get_or part_spans.assignments i nowhere) rule.NO_COMBINATIONAL_LOOP true ∷ [])
 
 -- the fault that is named of a module whose parts have these spans: none where it breaks no rule and passes no limit
 pub record IsVerdict (m : VModule) (part_spans : PartSpans) (named : Option Fault) : Type 0 where

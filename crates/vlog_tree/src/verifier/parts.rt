@@ -11,6 +11,7 @@ ghost use Rattle.vlog_tree.specs.Verifier.Parts.{count_of, role_at, is_listed, i
 use crate::verifier::checks::{note_rule, note_width};
 use crate::verifier::fitting::{atom_width, fits};
 use crate::verifier::ports::{Due, port_fits};
+use crate::verifier::rule;
 use crate::{Assignment, Atom, Port, Role, Set, VModule};
 use xb_span::{Fault, Span};
 
@@ -78,8 +79,8 @@ pub fn note_signal(
     ensures { (m : Module) (targets : List ℕ) (names : List (List ℕ)) (s : ℕ) (d : Declared) → is_again ≡ is_among names d.name → is_aim ≡ is_target (count_of m) targets s
         → role ≡ Some d.role → width ≡ d.width → result ≡ noted held (signal_checks m targets span names s d) }
 {
-    let held = note_rule(held, span, 71, is_again);
-    let held = note_rule(held, span, 73, is_driven(role) && !is_aim);
+    let held = note_rule(held, span, rule::SIGNAL_IS_DECLARED_ONCE, is_again);
+    let held = note_rule(held, span, rule::ONE_DRIVER, is_driven(role) && !is_aim);
     note_width(held, span.to, width)
 }
 
@@ -87,7 +88,7 @@ pub fn note_signal(
 pub fn note_port(held: Option<Fault>, span: Span, due: Due<'_>, port: &Port) -> Option<Fault>
     ensures { result ≡ noted held (port_checks span (due_of due.entry) port.now) }
 {
-    note_rule(held, span, 76, !port_fits(due, port))
+    note_rule(held, span, rule::PORTS_ARE_CHANNELS, !port_fits(due, port))
 }
 
 /// Notes the faults of an assignment: an earlier one has its target or not, and it reads these signals.
@@ -106,12 +107,17 @@ pub fn note_assignment(
     let target = assignment.target.0 as usize;
     let count = design.signal_count();
     let known = target < count && are_declared(count, read);
-    let held = note_rule(held, span, 71, !known);
-    let held = note_rule(held, span, 72, bars_assignment(design.role_of(target)));
-    let held = note_rule(held, span, 73, is_second);
+    let held = note_rule(held, span, rule::SIGNAL_IS_DECLARED_ONCE, !known);
+    let held = note_rule(
+        held,
+        span,
+        rule::TARGET_MAY_BE_SET,
+        bars_assignment(design.role_of(target)),
+    );
+    let held = note_rule(held, span, rule::ONE_DRIVER, is_second);
     let unfit = known && !fits(design, design.width_of(target), &assignment.value);
-    let held = note_rule(held, span, 74, unfit);
-    note_rule(held, span, 76, lists_clock(read))
+    let held = note_rule(held, span, rule::WIDTHS_AGREE, unfit);
+    note_rule(held, span, rule::PORTS_ARE_CHANNELS, lists_clock(read))
 }
 
 /// Notes the faults of a set: an earlier one of its branch has its target or not, the other branch has it or not, and its
@@ -133,13 +139,13 @@ pub fn note_set(
     let target = set.target.0 as usize;
     let count = design.signal_count();
     let known = target < count && are_declared(count, read);
-    let held = note_rule(held, span, 71, !known);
+    let held = note_rule(held, span, rule::SIGNAL_IS_DECLARED_ONCE, !known);
     let wrong = bars_set(design.role_of(target))
         || (target < count && !is_in_other)
         || (is_reset && is_signal(set.value));
-    let held = note_rule(held, span, 72, wrong);
-    let held = note_rule(held, span, 73, is_second);
+    let held = note_rule(held, span, rule::TARGET_MAY_BE_SET, wrong);
+    let held = note_rule(held, span, rule::ONE_DRIVER, is_second);
     let unfit = known && atom_width(design, set.value) != design.width_of(target);
-    let held = note_rule(held, span, 74, unfit);
-    note_rule(held, span, 76, lists_clock(read))
+    let held = note_rule(held, span, rule::WIDTHS_AGREE, unfit);
+    note_rule(held, span, rule::PORTS_ARE_CHANNELS, lists_clock(read))
 }

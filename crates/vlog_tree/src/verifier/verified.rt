@@ -14,6 +14,7 @@ use crate::verifier::checks::note_rule;
 use crate::verifier::loops::first_loop;
 use crate::verifier::marks::Marks;
 use crate::verifier::part_spans::{PartSpans, span_at};
+use crate::verifier::rule;
 use crate::verifier::walks::{
     note_assignments, note_branches, note_literals, note_ports, note_signals,
 };
@@ -59,7 +60,7 @@ fn first_fault(
         None => Ok(held),
         Some(place) => {
             let span = span_at(part_spans.assignments.as_slice(), place);
-            Ok(note_rule(held, span, 75, true))
+            Ok(note_rule(held, span, rule::NO_COMBINATIONAL_LOOP, true))
         }
     }
 }

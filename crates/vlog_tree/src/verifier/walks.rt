@@ -13,6 +13,7 @@ use crate::verifier::marks::Marks;
 use crate::verifier::part_spans::{PartSpans, end_at, signal_span, span_at};
 use crate::verifier::parts::{note_assignment, note_port, note_set, note_signal};
 use crate::verifier::ports::{Due, due_behind, may_end};
+use crate::verifier::rule;
 use crate::{Set, VModule};
 use base::name_table::Table;
 use sqlite_items::Items;
@@ -64,7 +65,7 @@ pub fn note_ports(held: Option<Fault>, design: &VModule, part_spans: &PartSpans)
         due = due_behind(due, port);
     }
     let last = span_at(spans, ports.len().saturating_sub(1));
-    note_rule(held, last, 76, !may_end(due))
+    note_rule(held, last, rule::PORTS_ARE_CHANNELS, !may_end(due))
 }
 
 /// Notes the faults of the assignments.

@@ -8,6 +8,7 @@ use Rattle.vlog_tree.specs.Verifier.Verified.{ports_checks, end_check}
 use Rattle.vlog_tree.specs.Verifier.Inner.Seen.{due_of}
 use Rattle.vlog_tree.proofs.OnVerifier.Steps.{walk_end, see_end, noted-append}
 use Rattle.vlog_tree.proofs.verifier.walks.note_ports.Goals as goal
+use Rattle.vlog_tree.specs.Verifier.RuleNumbers as rule
 
 pub returns : goal.returns
 returns c =
@@ -29,7 +30,7 @@ returns c =
     ∙ ap (λ ys. get_or ss (length ys - 1) nowhere) c.as_slice-ports.ensures
     ∙ ap (λ zs. get_or zs (length m.ports - 1) nowhere) c.as_slice-spans.ensures in
     c.note_rule.ensures
-    ∙ ap (λ s. noted c.ports.held (rule_at s 76 (not c.may_end.result) ∷ [])) span
-    ∙ ap (λ b. noted c.ports.held (rule_at (get_or pl.ports (length m.ports - 1) nowhere) 76 (not b) ∷ [])) (c.may_end.ensures ∙ ap may_end due)
+    ∙ ap (λ s. noted c.ports.held (rule_at s rule.PORTS_ARE_CHANNELS (not c.may_end.result) ∷ [])) span
+    ∙ ap (λ b. noted c.ports.held (rule_at (get_or pl.ports (length m.ports - 1) nowhere) rule.PORTS_ARE_CHANNELS (not b) ∷ [])) (c.may_end.ensures ∙ ap may_end due)
     ∙ ap (λ h. noted h (end_check m pl ∷ [])) walked
     ∙ sym (noted-append (ports_checks m pl) (end_check m pl ∷ []) c.args.held)
