@@ -1,11 +1,11 @@
 #!/usr/bin/env python3
-"""Writes the table of crates of docs/ARCHITECTURE.md, and says whether the pages speak of what is there.
+"""Writes the tables of the pages that stand between two markers, and says whether the pages speak of what is there.
 
 usage: pages.py [--check]
 
-The table, between two markers, has each crate of crates.txt with the first sentence of its source and the crates that it stands
-on (but for those that stand below another one of them). With --check nothing is written, and it fails where the table isn't
-that. It also fails where a page (README.md, docs/*.md, tools/README.md)
+The table of crates of docs/ARCHITECTURE.md has each crate of crates.txt with the first sentence of its source and the crates that it
+stands on (but for those that stand below another one of them). All others are those of docs/rules.txt, each in one page. With --check
+nothing is written, and it fails where a table isn't that. It also fails where a page (README.md, docs/*.md, tools/README.md)
 
 - has a link to a file or a heading that isn't there, or to a source that lacks a name in backticks of the link's text;
 - names a path in backticks that isn't there;
@@ -21,8 +21,12 @@ import os
 import re
 import sys
 
+sys.dont_write_bytecode = True
+import rules
+
 MAP, PROVED, TOOLS = 'docs/ARCHITECTURE.md', 'docs/PROVED.md', 'tools/README.md'
-FROM, TO = '<!-- crates: written by tools/pages.py -->', '<!-- crates: end -->'
+CRATES, RULES = 'crates', 'docs/rules.txt'
+WRITTEN = re.compile(r'(<!-- ([\w ]+): written by tools/pages\.py(?: from docs/rules\.txt)? -->\n\n).*?(\n\n<!-- \2: end -->)', re.S)
 MOST = 95
 SIZES = {'docs/DECISIONS.md': 26000, 'docs/PROVING.md': 20000, 'README.md': 8_000, MAP: 20_480, PROVED: 40_000}
 LINK = re.compile(r'\[([^\]]*)\]\(([^)\s]+)\)')
@@ -163,26 +167,36 @@ def kit_at_fault():
             yield f'{TOOLS}: no {path}'
 
 
-def write_table(checks):
-    """Writes the table of crates, or says that it isn't what it should be."""
-    page = text_of(MAP)
-    before, _, rest = page.partition(FROM)
-    wanted = f'{before}{FROM}\n\n{table()}\n\n{TO}{rest.partition(TO)[2]}'
-    if wanted == page:
-        return []
-    if checks:
-        return [f'{MAP}: the table of crates is not what tools/pages.py writes']
-    with open(MAP, 'w', encoding='utf-8') as file:
-        file.write(wanted)
-    return []
+def written(name):
+    """The table of this name, as a page has it; None where there is none."""
+    if name == CRATES:
+        return table()
+    return rules.markdown(name) if name in rules.tables() else None
+
+
+def write_tables(pages, checks):
+    """Writes the tables, or says which aren't what they should be."""
+    wrong, found = [f'{RULES}: {it}' for it in rules.faults()], []
+    for page in pages:
+        text = text_of(page)
+        names = [name for _, name, _ in WRITTEN.findall(text)]
+        wrong += [f'{page}: no table {name}' for name in names if written(name) is None]
+        wanted = WRITTEN.sub(lambda it: f'{it[1]}{written(it[2])}{it[3]}', text)
+        if wanted != text and checks:
+            wrong.append(f'{page}: a table is not what tools/pages.py writes')
+        elif wanted != text:
+            with open(page, 'w', encoding='utf-8') as file:
+                file.write(wanted)
+        found += names
+    return wrong + [f'the table {name} is in {found.count(name)} pages' for name in [CRATES, *rules.tables()] if found.count(name) != 1]
 
 
 def main():
     os.chdir(os.path.join(os.path.dirname(os.path.abspath(__file__)), '..'))
     checks = sys.argv[1:] == ['--check']
-    wrong = write_table(checks)
-    text_of.cache_clear()
     pages = ['README.md', *sorted(glob.glob('docs/*.md')), TOOLS]
+    wrong = write_tables(pages, checks)
+    text_of.cache_clear()
     wrong += [line for page in pages for line in links_at_fault(page)]
     wrong += [*contracts_at_fault(), *sizes_at_fault(), *kit_at_fault()]
     print('\n'.join(wrong + [f'{len(pages)} pages, {len(wrong)} wrong']))
